@@ -1,0 +1,5 @@
+pub mod Fields
+pub mod Numerals
+pub mod Readers
+pub mod Shown
+pub mod Texts

@@ -1,0 +1,8 @@
+use Rattle.mr_ids.proofs.Texts.{task_text_plain}
+use Rattle.mr_ids.proofs.id.TaskId.write.Goals as goal
+
+pub returns-clause-plain : goal.returns-clause-plain
+returns-clause-plain c = task_text_plain c.args.self.now c.ranges-2.ensures
+
+pub returns-in_err-text-clause-plain : goal.returns-in_err-text-clause-plain
+returns-in_err-text-clause-plain c = task_text_plain c.args.self.now c.ranges-2.ensures

@@ -1,0 +1,5 @@
+pub mod Attempt
+pub mod Faults
+pub mod Reading
+pub mod Text
+pub mod Laws
