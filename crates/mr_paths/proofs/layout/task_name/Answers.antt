@@ -1,0 +1,9 @@
+use Rattle.std.proofs.Common.{◌++◌, ◌∙◌, ap, sym, subst, arith}
+use Rattle.mr_ids.specs.Text.{task_text}
+use Rattle.mr_paths.specs.Path.{IsName}
+use Rattle.mr_paths.proofs.NameBytes.{plain_name}
+use Rattle.mr_paths.proofs.layout.task_name.Goals as goal
+
+pub from_bytes-requires : goal.from_bytes-requires
+from_bytes-requires c =
+    subst IsName (sym (c.in_ok-write.ensures.ok ∙ ap (λ text. text ++ task_text c.args.task) c.new-text.ensures.items)) (plain_name 49 (task_text c.args.task) (omega arith) c.write.ensures.plain)

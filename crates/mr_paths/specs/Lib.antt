@@ -1,0 +1,4 @@
+pub mod Path
+pub mod Text
+pub mod Layout
+pub mod Laws
