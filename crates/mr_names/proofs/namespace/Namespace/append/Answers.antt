@@ -1,0 +1,13 @@
+use Rattle.std.proofs.Common.{◌∙◌, ap, subst, rules}
+use Rattle.mr_names.specs.declared.op.Op.TheVariants as op
+use Rattle.mr_names.specs.Calls.{State, effect}
+use Rattle.mr_names.specs.Content.{IsTree}
+use Rattle.mr_names.proofs.TreeLaws.{tree_after}
+use Rattle.mr_names.proofs.namespace.Namespace.append.Goals as goal
+
+pub invariant_of-self-2 : goal.invariant_of-self-2
+invariant_of-self-2 c =
+    let call = op.Append c.args.path.now c.args.more.now in
+    let tree : IsTree c.args.self.now.content = subst (λ (s : State). IsTree s.content) c.self.view_is c.self.invariant.tree in
+    let left = tree_after c.args.self.now c.args.caller.app call c.append.new.self c.in_ok-check_append.ensures tree ((search rules) ∙ ap (λ (s : State). effect s.content call) c.self.view_is) in
+    record { tree = left; fence = c.self.invariant.fence }

@@ -1,0 +1,72 @@
+//! Laws of the calls, which follow from their definitions alone: these functions do nothing.
+ghost use Rattle.mr_names.specs.Rows.{NamespaceRefusals, RootRefusals, ReadAndForesee};
+ghost use Rattle.mr_names.specs.Laws.{EachPath, MadeThere, CreatedThere, AppendedThere, ClosedThere, DeletedThere, RenamedThere, RenamedAway, RenameMoves, DeleteTakesOut, OthersStay, OnlyMakersMake, DirsStay, ClosedFilesStay, StaysTree, OpeningIsTree, NothingBeneath, FilesAreLeaves, AnsweredOnly, AnsweredAlways, BelowTheFence, AtTheFence, AnsweredAtTheFence, RefusedStays, AnsweredIsMade, FenceStays, TreeStays, SoundStays, ListsChildren, ListsInOrder};
+
+/// What each path holds after a call that is answered.
+pub fn each_path()
+    ensures each { EachPath }
+    ensures mkdirs { MadeThere }
+    ensures create { CreatedThere }
+    ensures append { AppendedThere }
+    ensures close { ClosedThere }
+    ensures delete { DeletedThere }
+    ensures rename_to { RenamedThere }
+    ensures rename_from { RenamedAway }
+{}
+
+/// What each path holds after a rename.
+pub fn rename_moves()
+    ensures { RenameMoves }
+{}
+
+/// What each path holds after a delete.
+pub fn delete_takes_out()
+    ensures { DeleteTakesOut }
+{}
+
+/// A call leaves as it was whatever it does not name; what it does not make or take away comes and goes by no call.
+pub fn others_stay()
+    ensures others { OthersStay }
+    ensures absent { OnlyMakersMake }
+    ensures directories { DirsStay }
+    ensures closed_files { ClosedFilesStay }
+{}
+
+/// The content stays a tree, in which nothing is beneath a file or where nothing is.
+pub fn stays_tree()
+    ensures stays { StaysTree }
+    ensures opening { OpeningIsTree }
+    ensures absent { NothingBeneath }
+    ensures files { FilesAreLeaves }
+{}
+
+/// When a call is answered, the fence aside.
+pub fn answered()
+    ensures only { AnsweredOnly }
+    ensures always { AnsweredAlways }
+{}
+
+/// What a call answers and leaves, by the fence and by its refusal.
+pub fn settles()
+    ensures below { BelowTheFence }
+    ensures at_or_above { AtTheFence }
+    ensures not_below { AnsweredAtTheFence }
+    ensures refused { RefusedStays }
+    ensures made { AnsweredIsMade }
+    ensures fence { FenceStays }
+    ensures tree { TreeStays }
+    ensures sound { SoundStays }
+{}
+
+/// A listing has what is directly beneath its path, each name once, by its bytes.
+pub fn listings()
+    ensures children { ListsChildren }
+    ensures order { ListsInOrder }
+{}
+
+/// Some runs of calls on a new namespace, with their answers.
+pub fn runs()
+    ensures refusals { NamespaceRefusals }
+    ensures root { RootRefusals }
+    ensures reading { ReadAndForesee }
+{}

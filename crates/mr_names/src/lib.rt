@@ -1,0 +1,20 @@
+//! The namespace: directories and files by their paths.
+#![tactic(auto)]
+
+mod fault;
+mod laws;
+mod namespace;
+mod node;
+mod op;
+mod table;
+mod walk;
+
+pub use fault::NameFault;
+pub use laws::{
+    answered, delete_takes_out, each_path, listings, others_stay, rename_moves, runs, settles,
+    stays_tree,
+};
+pub use namespace::{MAX_ENTRIES, MAX_FILE_LEN, Namespace};
+pub use node::{Bytes, Entries, Entry, Kind, Node};
+pub use op::{Answer, Caller, Op};
+pub use walk::{Found, Walk};

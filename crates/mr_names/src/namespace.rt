@@ -1,0 +1,357 @@
+ghost use Rattle.std.specs.Prelude.{IsOkUnless, ◌≡◌, ◌+◌, ℕ, [], ◌∷◌, ◌++◌, IfOk, OnOk, OnErr, length, nat_lt, ◌<◌, ◌^◌, if◌then◌else◌, Some, None, false};
+ghost use Rattle.mr_names.specs.Walk.{walk};
+ghost use Rattle.mr_names.specs.Calls.{State, IsSound, opening, raised, Makes, MakesAlways, Refuses, refused, entry_count, takes_memory};
+
+use crate::fault::NameFault;
+use crate::node::{Bytes, Entries, Kind, Node};
+use crate::op::{Answer, Caller, Op};
+use crate::table::Table;
+use crate::walk::Walk;
+use mr_ids::AppAttempt;
+use mr_paths::{Path, copy_names, is_within, parent};
+use std::alloc::{AllocError, Global};
+use std::marker::Model;
+
+/// The most entries that a namespace has, the root aside.
+pub const MAX_ENTRIES: usize = 65536;
+
+/// The most bytes that a file has.
+pub const MAX_FILE_LEN: usize = 16777216;
+
+/// The directories and files of a cluster, and the fence below which no caller is heard.
+///
+/// Contracts see its content, a finite map from paths to nodes, and its fence. The root is always a directory, and so
+/// is the parent of each other entry. Each call first compares its caller with the fence, then answers the first of
+/// its own refusals that applies, then [`NameFault::Full`], and [`NameFault::NoMemory`] last. A refusal changes
+/// nothing.
+#[derive(Drop)]
+pub struct Namespace {
+    table: Table,
+    fence: u32,
+    alloc: Global,
+}
+
+impl Model for Namespace {
+    ghost use Rattle.mr_names.specs.Calls.{State, state_code};
+
+    ghost Value = { State };
+
+    ghost coded = { state_code };
+
+    ghost view = { λ n. record { content = n.table; fence = n.fence } };
+
+    ghost use Rattle.mr_names.specs.Calls.{IsSound};
+
+    ghost invariant = { λ n. IsSound (record { content = n.table; fence = n.fence }) };
+}
+
+impl Namespace {
+    /// A namespace with the root alone, and fence 0. The root is an entry, so that this may want memory.
+    pub fn new(alloc: Global) -> Result<Namespace, NameFault>
+        ensures made { IfOk result (λ names. names ≡ opening) }
+        ensures memory { IsOkUnless result NameFault.NoMemory }
+    {
+        let mut table = Table::empty(alloc);
+        table.insert(Vec::new(alloc), Node::Dir)?;
+        Ok(Namespace {
+            table,
+            fence: 0,
+            alloc,
+        })
+    }
+
+    /// The generation below which no caller is heard: 0 at first, and never above 1,000, so that a caller of
+    /// generation 1,000 is always heard.
+    pub fn fence(&self) -> u32
+        ensures value { result ≡ self.now.fence }
+        ensures sound { IsSound self.now }
+    {
+        self.fence
+    }
+
+    /// Sets the fence to a generation, if that is greater.
+    pub fn raise(&mut self, app: AppAttempt)
+        ensures { self.new ≡ raised self.old app }
+    {
+        self.fence = self.fence.max(app.number());
+    }
+
+    /// Makes a directory, and each directory that is missing on the way, all or none. Nothing happens where it is
+    /// there. Refused `NotDir` where the path or one above it is a file, `Full`.
+    pub fn mkdirs(&mut self, caller: Caller, path: &Path) -> Result<(), NameFault>
+        ensures { Makes (λ _. Answer.Done) self.old caller.app (Op.Mkdirs path.now) result self.new }
+    {
+        self.check_mkdirs(caller, path)?;
+        self.table.make_dirs(self.alloc, path.names(), 0)?;
+        Ok(())
+    }
+
+    /// Makes an empty file, closed at once if asked. Refused `Exists`, `NoParent`, `NotDir` where the parent is a
+    /// file, `Full`.
+    pub fn create(&mut self, caller: Caller, path: &Path, closed: bool) -> Result<(), NameFault>
+        ensures { Makes (λ _. Answer.Done) self.old caller.app (Op.Create path.now closed) result self.new }
+    {
+        self.check_create(caller, path, closed)?;
+        let names = copy_names(self.alloc, path.names())?;
+        self.table
+            .insert(names, Node::File(Bytes::new(self.alloc), closed))?;
+        Ok(())
+    }
+
+    /// Adds bytes at the end of a file. Refused `Missing`, `NotFile`, `Closed`, `Full`.
+    pub fn append(&mut self, caller: Caller, path: &Path, more: &[u8]) -> Result<(), NameFault>
+        ensures { Makes (λ _. Answer.Done) self.old caller.app (Op.Append path.now more.now) result self.new }
+    {
+        self.check_append(caller, path, more)?;
+        self.table.append(path.names(), more)?;
+        Ok(())
+    }
+
+    /// Closes a file: nothing more is added to it. Refused `Missing`, `NotFile`, `Closed`.
+    pub fn close(&mut self, caller: Caller, path: &Path) -> Result<(), NameFault>
+        ensures { MakesAlways (λ _. Answer.Done) self.old caller.app (Op.Close path.now) result self.new }
+    {
+        self.check_close(caller, path)?;
+        self.table.close(path.names());
+        Ok(())
+    }
+
+    /// Removes a path and all beneath it. Refused `NoParent` where nothing is at the parent or the path is the root,
+    /// `Missing`.
+    pub fn delete(&mut self, caller: Caller, path: &Path) -> Result<(), NameFault>
+        ensures { MakesAlways (λ _. Answer.Done) self.old caller.app (Op.Delete path.now) result self.new }
+    {
+        self.check_delete(caller, path)?;
+        self.table.take_out(path.names());
+        Ok(())
+    }
+
+    /// Moves all that is at and beneath `from`, in one step. Refused `Missing` where nothing is at `from`,
+    /// `IntoItself` where `to` is `from` or beneath it, `Exists` where something is at `to`, `NoParent` and `NotDir`
+    /// for the parent of `to`.
+    pub fn rename(&mut self, caller: Caller, from: &Path, to: &Path) -> Result<(), NameFault>
+        ensures { Makes (λ _. Answer.Done) self.old caller.app (Op.Rename from.now to.now) result self.new }
+    {
+        self.check_rename(caller, from, to)?;
+        let table = self.table.renamed(self.alloc, from.names(), to.names())?;
+        self.table = table;
+        Ok(())
+    }
+
+    /// The entries of a directory, by the bytes of their names. Refused `Missing`, `NotDir`.
+    pub fn list(&self, caller: Caller, path: &Path) -> Result<Entries, NameFault>
+        ensures { Makes Answer.Listed self.now caller.app (Op.List path.now) result self.now }
+    {
+        self.check_list(caller, path)?;
+        Ok(self.table.children(self.alloc, path.names())?)
+    }
+
+    /// What is at a path, if anything is. Only the fence refuses it.
+    pub fn exists(&self, caller: Caller, path: &Path) -> Result<Option<Kind>, NameFault>
+        ensures { MakesAlways Answer.Found self.now caller.app (Op.Exists path.now) result self.now }
+    {
+        self.check_fence(caller)?;
+        match self.table.get(path.names()) {
+            None => Ok(None),
+            Some(node) => Ok(Some(node.kind())),
+        }
+    }
+
+    /// The bytes of a file so far. Refused `Missing`, `NotFile`.
+    pub fn read(&self, caller: Caller, path: &Path) -> Result<Bytes, NameFault>
+        ensures { Makes Answer.Contents self.now caller.app (Op.Read path.now) result self.now }
+    {
+        self.check_fence(caller)?;
+        match self.table.get(path.names()) {
+            None => Err(NameFault::Missing),
+            Some(Node::Dir) => Err(NameFault::NotFile),
+            Some(Node::File(bytes, _closed)) => Ok(bytes.copy()?),
+        }
+    }
+
+    /// Makes a call that is given as a value, and gives its answer as one.
+    pub fn perform(&mut self, caller: Caller, op: &Op) -> Result<Answer, NameFault>
+        ensures made { Makes (λ answer. answer) self.old caller.app op.now result self.new }
+        // A call that takes no memory never wants any.
+        ensures always { takes_memory op.now ≡ false → MakesAlways (λ answer. answer) self.old caller.app op.now result self.new }
+    {
+        match op {
+            Op::Mkdirs(path) => self.mkdirs(caller, path)?,
+            Op::Create(path, closed) => self.create(caller, path, *closed)?,
+            Op::Append(path, bytes) => self.append(caller, path, bytes.as_slice())?,
+            Op::Close(path) => self.close(caller, path)?,
+            Op::Delete(path) => self.delete(caller, path)?,
+            Op::Rename(from, to) => self.rename(caller, from, to)?,
+            Op::List(path) => return Ok(Answer::Listed(self.list(caller, path)?)),
+            Op::Exists(path) => return Ok(Answer::Found(self.exists(caller, path)?)),
+            Op::Read(path) => return Ok(Answer::Contents(self.read(caller, path)?)),
+        }
+        Ok(Answer::Done)
+    }
+
+    /// The refusal that a call would meet now, want of memory aside. It changes nothing.
+    pub fn foresee(&self, caller: Caller, op: &Op) -> Option<NameFault>
+        ensures { result ≡ refused self.now caller.app op.now }
+    {
+        self.check(caller, op).err()
+    }
+
+    /// What stands at each path, in the order of the paths: for programs that print what a namespace holds. It has no
+    /// caller, so nothing refuses it.
+    pub fn walk(&self) -> Result<Walk, AllocError>
+        ensures { IfOk result (λ found. found ≡ walk self.now.content) }
+    {
+        self.table.walk(self.alloc)
+    }
+}
+
+// The refusals, memory aside.
+impl Namespace {
+    fn check(&self, caller: Caller, op: &Op) -> Result<(), NameFault>
+        ensures { Refuses (refused self.now caller.app op.now) result }
+    {
+        match op {
+            Op::Mkdirs(path) => self.check_mkdirs(caller, path),
+            Op::Create(path, closed) => self.check_create(caller, path, *closed),
+            Op::Append(path, bytes) => self.check_append(caller, path, bytes.as_slice()),
+            Op::Close(path) => self.check_close(caller, path),
+            Op::Delete(path) => self.check_delete(caller, path),
+            Op::Rename(from, to) => self.check_rename(caller, from, to),
+            Op::List(path) => self.check_list(caller, path),
+            Op::Exists(_path) => self.check_fence(caller),
+            Op::Read(path) => self.check_read(caller, path),
+        }
+    }
+
+    fn check_fence(&self, caller: Caller) -> Result<(), NameFault>
+        ensures { Refuses (if nat_lt caller.app self.now.fence then Some (NameFault.Superseded self.now.fence) else None) result }
+    {
+        if caller.app.number() < self.fence {
+            Err(NameFault::Superseded(self.fence))
+        } else {
+            Ok(())
+        }
+    }
+
+    // Whether there is room for some more entries.
+    fn check_room(&self, more: usize) -> Result<(), NameFault>
+        ensures { Refuses (if nat_lt MAX_ENTRIES (entry_count self.now.content + more) then Some NameFault.Full else None) result }
+    {
+        let count = self.table.len().saturating_sub(1);
+        if MAX_ENTRIES < count || MAX_ENTRIES - count < more {
+            Err(NameFault::Full)
+        } else {
+            Ok(())
+        }
+    }
+
+    fn check_mkdirs(&self, caller: Caller, path: &Path) -> Result<(), NameFault>
+        ensures { Refuses (refused self.now caller.app (Op.Mkdirs path.now)) result }
+    {
+        self.check_fence(caller)?;
+        match self.table.missing_from(path.names(), 0) {
+            None => Err(NameFault::NotDir),
+            Some(missing) => self.check_room(missing),
+        }
+    }
+
+    fn check_create(&self, caller: Caller, path: &Path, closed: bool) -> Result<(), NameFault>
+        ensures { Refuses (refused self.now caller.app (Op.Create path.now closed)) result }
+    {
+        self.check_fence(caller)?;
+        if self.table.get(path.names()).is_some() {
+            return Err(NameFault::Exists);
+        }
+        match self.table.get(parent(path.names())) {
+            None => Err(NameFault::NoParent),
+            Some(Node::File(_bytes, _closed)) => Err(NameFault::NotDir),
+            Some(Node::Dir) => self.check_room(1),
+        }
+    }
+
+    fn check_append(&self, caller: Caller, path: &Path, more: &[u8]) -> Result<(), NameFault>
+        ensures { Refuses (refused self.now caller.app (Op.Append path.now more.now)) result }
+    {
+        self.check_fence(caller)?;
+        match self.table.get(path.names()) {
+            None => Err(NameFault::Missing),
+            Some(Node::Dir) => Err(NameFault::NotFile),
+            Some(Node::File(bytes, closed)) => {
+                if *closed {
+                    Err(NameFault::Closed)
+                } else if MAX_FILE_LEN < bytes.len() || MAX_FILE_LEN - bytes.len() < more.len() {
+                    Err(NameFault::Full)
+                } else {
+                    Ok(())
+                }
+            }
+        }
+    }
+
+    fn check_close(&self, caller: Caller, path: &Path) -> Result<(), NameFault>
+        ensures { Refuses (refused self.now caller.app (Op.Close path.now)) result }
+    {
+        self.check_fence(caller)?;
+        match self.table.get(path.names()) {
+            None => Err(NameFault::Missing),
+            Some(Node::Dir) => Err(NameFault::NotFile),
+            Some(Node::File(_bytes, true)) => Err(NameFault::Closed),
+            Some(Node::File(_bytes, false)) => Ok(()),
+        }
+    }
+
+    fn check_delete(&self, caller: Caller, path: &Path) -> Result<(), NameFault>
+        ensures { Refuses (refused self.now caller.app (Op.Delete path.now)) result }
+    {
+        self.check_fence(caller)?;
+        if path.len() == 0 || self.table.get(parent(path.names())).is_none() {
+            return Err(NameFault::NoParent);
+        }
+        if self.table.get(path.names()).is_none() {
+            return Err(NameFault::Missing);
+        }
+        Ok(())
+    }
+
+    fn check_rename(&self, caller: Caller, from: &Path, to: &Path) -> Result<(), NameFault>
+        ensures { Refuses (refused self.now caller.app (Op.Rename from.now to.now)) result }
+    {
+        self.check_fence(caller)?;
+        if self.table.get(from.names()).is_none() {
+            return Err(NameFault::Missing);
+        }
+        if is_within(to.names(), from.names()) {
+            return Err(NameFault::IntoItself);
+        }
+        if self.table.get(to.names()).is_some() {
+            return Err(NameFault::Exists);
+        }
+        match self.table.get(parent(to.names())) {
+            None => Err(NameFault::NoParent),
+            Some(Node::File(_bytes, _closed)) => Err(NameFault::NotDir),
+            Some(Node::Dir) => Ok(()),
+        }
+    }
+
+    fn check_list(&self, caller: Caller, path: &Path) -> Result<(), NameFault>
+        ensures { Refuses (refused self.now caller.app (Op.List path.now)) result }
+    {
+        self.check_fence(caller)?;
+        match self.table.get(path.names()) {
+            None => Err(NameFault::Missing),
+            Some(Node::File(_bytes, _closed)) => Err(NameFault::NotDir),
+            Some(Node::Dir) => Ok(()),
+        }
+    }
+
+    fn check_read(&self, caller: Caller, path: &Path) -> Result<(), NameFault>
+        ensures { Refuses (refused self.now caller.app (Op.Read path.now)) result }
+    {
+        self.check_fence(caller)?;
+        match self.table.get(path.names()) {
+            None => Err(NameFault::Missing),
+            Some(Node::Dir) => Err(NameFault::NotFile),
+            Some(Node::File(_bytes, _closed)) => Ok(()),
+        }
+    }
+}

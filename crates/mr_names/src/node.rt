@@ -1,0 +1,204 @@
+ghost use Rattle.std.specs.Prelude.{◌≡◌, ◌↔◌, ◌++◌, ◌∷◌, [], IfOk, OnOk, OnErr, length, IsTrue};
+ghost use Rattle.mr_names.specs.Walk.{length_of};
+ghost use Rattle.mr_names.specs.Node.{appended, closed_of, kind_of};
+
+use mr_paths::Name;
+use std::alloc::{AllocError, Global};
+use std::marker::Model;
+
+/// The bytes of a file. Contracts see them as a list.
+#[derive(Drop)]
+pub struct Bytes {
+    items: Vec<u8>,
+}
+
+impl Model for Bytes {
+    ghost use Rattle.std.specs.Prelude.{List, ℕ};
+
+    ghost Value = { List ℕ };
+
+    ghost view = { λ b. b.items.items };
+}
+
+impl Bytes {
+    /// No bytes.
+    pub fn new(alloc: Global) -> Bytes
+        ensures { result ≡ [] }
+    {
+        Bytes {
+            items: Vec::new(alloc),
+        }
+    }
+
+    pub fn from_vec(items: Vec<u8>) -> Bytes
+        ensures { result ≡ items.items }
+    {
+        Bytes { items }
+    }
+
+    pub fn into_vec(self) -> Vec<u8>
+        ensures { result.items ≡ self }
+    {
+        self.items
+    }
+
+    pub fn as_slice(&self) -> &[u8]
+        ensures { result.now ≡ self.now }
+    {
+        &self.items
+    }
+
+    pub fn len(&self) -> usize
+        ensures { result ≡ length self.now }
+    {
+        self.items.len()
+    }
+
+    /// Whether there are none.
+    pub fn is_empty(&self) -> bool
+        ensures { IsTrue result ↔ (self.now ≡ []) }
+    {
+        self.items.is_empty()
+    }
+
+    /// Adds bytes at the end.
+    pub fn extend(&mut self, more: &[u8]) -> Result<(), AllocError>
+        ensures ok { OnOk result (self.new ≡ self.old ++ more.now) }
+        ensures err { OnErr result (self.new ≡ self.old) }
+    {
+        self.items.extend_from_slice(more)
+    }
+
+    pub fn copy(&self) -> Result<Bytes, AllocError>
+        ensures { IfOk result (λ bytes. bytes ≡ self.now) }
+    {
+        Ok(Bytes {
+            items: Vec::from_slice(*self.items.allocator(), &self.items)?,
+        })
+    }
+}
+
+/// What is at a path: a directory, or a file with its bytes and whether it is closed.
+#[derive(Drop)]
+pub enum Node {
+    Dir,
+    File(Bytes, bool),
+}
+
+impl Node {
+    /// Adds bytes at the end of a file. A directory stays as it is.
+    pub fn append(&mut self, more: &[u8]) -> Result<(), AllocError>
+        ensures ok { OnOk result (self.new ≡ appended more.now self.old) }
+        ensures err { OnErr result (self.new ≡ self.old) }
+    {
+        match self {
+            Node::Dir => Ok(()),
+            Node::File(bytes, _closed) => bytes.extend(more),
+        }
+    }
+
+    /// Closes a file. A directory stays as it is.
+    pub fn close(&mut self)
+        ensures { self.new ≡ closed_of self.old }
+    {
+        if let Node::File(_bytes, closed) = self {
+            *closed = true;
+        }
+    }
+
+    /// Whether this is a directory or a file.
+    pub fn kind(&self) -> Kind
+        ensures { result ≡ kind_of self.now }
+    {
+        match self {
+            Node::Dir => Kind::Dir,
+            Node::File(_, _) => Kind::File,
+        }
+    }
+
+    /// A file's length in bytes, and none for a directory.
+    pub fn length(&self) -> Option<usize>
+        ensures { result ≡ length_of self.now }
+    {
+        match self {
+            Node::Dir => None,
+            Node::File(bytes, _closed) => Some(bytes.len()),
+        }
+    }
+
+    pub fn copy(&self) -> Result<Node, AllocError>
+        ensures { IfOk result (λ node. node ≡ self.now) }
+    {
+        match self {
+            Node::Dir => Ok(Node::Dir),
+            Node::File(bytes, closed) => Ok(Node::File(bytes.copy()?, *closed)),
+        }
+    }
+}
+
+/// Which of the two is at a path.
+#[derive(Clone, Copy, Debug, PartialEq, Eq)]
+pub enum Kind {
+    Dir,
+    File,
+}
+
+/// One entry of a listed directory: its last name, and what it is.
+#[derive(Drop)]
+pub struct Entry {
+    pub name: Name,
+    pub kind: Kind,
+}
+
+/// The entries of a listed directory, by the bytes of their names. Contracts see them as a list.
+#[derive(Drop)]
+pub struct Entries {
+    items: Vec<Entry>,
+}
+
+impl Model for Entries {
+    ghost use Rattle.std.specs.Prelude.{List, ℕ};
+    ghost use Rattle.mr_names.specs.declared.node.Entry.{Entry};
+
+    ghost Value = { List Entry };
+
+    ghost view = { λ e. e.items.items };
+}
+
+impl Entries {
+    /// No entries.
+    pub fn new(alloc: Global) -> Entries
+        ensures { result ≡ [] }
+    {
+        Entries {
+            items: Vec::new(alloc),
+        }
+    }
+
+    pub fn from_vec(items: Vec<Entry>) -> Entries
+        ensures { result ≡ items.items }
+    {
+        Entries { items }
+    }
+
+    pub fn into_vec(self) -> Vec<Entry>
+        ensures { result.items ≡ self }
+    {
+        self.items
+    }
+
+    /// Adds an entry at the end.
+    pub fn push(&mut self, entry: Entry) -> Result<(), AllocError>
+        ensures ok { OnOk result (self.new ≡ self.old ++ entry ∷ []) }
+        ensures err { OnErr result (self.new ≡ self.old) }
+    {
+        self.items.push(entry)?;
+        Ok(())
+    }
+
+    pub fn as_slice(&self) -> &[Entry]
+        ensures { result.now ≡ self.now }
+    {
+        &self.items
+    }
+}

@@ -1,0 +1,198 @@
+ghost use Rattle.std.specs.Prelude.{◌≡◌, ◌+◌, ℕ, [], ◌∷◌, ◌++◌, IfOk, OnOk, OnErr, length, ◌<◌, ◌≤◌, ◌^◌, drop, filter, IfSome};
+ghost use Rattle.std.specs.FinMap as map;
+ghost use Rattle.std.specs.Option.{option_copied};
+ghost use Rattle.mr_names.specs.Content.{IsTree, without, without_one, renamed, changed_at, with_dirs};
+ghost use Rattle.mr_names.specs.Node.{appended, closed_of};
+ghost use Rattle.mr_names.specs.Held.{missing_count, is_absent};
+ghost use Rattle.mr_paths.specs.Path.{prefixes};
+ghost use Rattle.mr_names.specs.Listing.{children};
+ghost use Rattle.mr_names.specs.Walk.{walk};
+
+use crate::node::{Entries, Entry, Node};
+use crate::walk::{Found, Walk, path_of};
+use mr_paths::{Name, child_of, copy_names, is_path, is_within, rebase};
+use std::alloc::{AllocError, Global};
+use std::collections::BTreeMap;
+use std::marker::Model;
+
+/// Nodes by their paths.
+#[derive(Drop)]
+pub struct Table {
+    entries: BTreeMap<Vec<Name>, Node>,
+}
+
+impl Model for Table {
+    ghost use Rattle.std.specs.Prelude.{List, ℕ};
+    ghost use Rattle.std.specs.FinMap as map;
+    ghost use Rattle.mr_paths.specs.Path.{path_cmp};
+    ghost use Rattle.mr_names.specs.declared.node.Node.{Node};
+    ghost use Rattle.mr_names.specs.Content.{Content, content_code, content_of};
+
+    ghost Value = { Content };
+
+    ghost coded = { content_code };
+
+    ghost view = { λ t. content_of t.entries.entries };
+}
+
+impl Table {
+    pub fn empty(alloc: Global) -> Table
+        ensures { result ≡ map.empty }
+    {
+        Table {
+            entries: BTreeMap::new(alloc),
+        }
+    }
+
+    pub fn get(&self, names: &[Name]) -> Option<&Node>
+        ensures { option_copied result ≡ map.get self.now names.now }
+    {
+        self.entries.get(names)
+    }
+
+    pub fn len(&self) -> usize
+        ensures len { result ≡ map.len self.now }
+        ensures small { result < 2 ^ 63 }
+    {
+        self.entries.len()
+    }
+
+    pub fn insert(&mut self, names: Vec<Name>, node: Node) -> Result<(), AllocError>
+        ensures ok { OnOk result (self.new ≡ map.insert self.old names.items node) }
+        ensures err { OnErr result (self.new ≡ self.old) }
+    {
+        self.entries.insert(names, node)?;
+        Ok(())
+    }
+
+    /// Adds bytes at the end of a file.
+    pub fn append(&mut self, names: &[Name], more: &[u8]) -> Result<(), AllocError>
+        ensures ok { OnOk result (self.new ≡ changed_at self.old names.now (appended more.now)) }
+        ensures err { OnErr result (self.new ≡ self.old) }
+    {
+        match self.entries.get_mut(names) {
+            Some(node) => node.append(more),
+            None => Ok(()),
+        }
+    }
+
+    /// Closes a file.
+    pub fn close(&mut self, names: &[Name])
+        ensures { self.new ≡ changed_at self.old names.now closed_of }
+    {
+        match self.entries.get_mut(names) {
+            Some(node) => node.close(),
+            None => {}
+        }
+    }
+
+    /// Takes out what is at a path and beneath it. One file costs a look-up, all else a walk over the map.
+    pub fn take_out(&mut self, top: &[Name])
+        requires { IsTree self.old }
+        ensures { self.new ≡ without top.now self.old }
+    {
+        match self.get(top) {
+            // Nothing is beneath a file.
+            Some(Node::File(_bytes, _closed)) => self.remove(top),
+            _ => self.remove_within(top),
+        }
+    }
+
+    fn remove_within(&mut self, top: &[Name])
+        ensures { self.new ≡ without top.now self.old }
+    {
+        self.entries.retain(|names, _node| !is_within(names, top));
+    }
+
+    /// The same nodes, those at and beneath `from` now at and beneath `to`.
+    pub fn renamed(&self, alloc: Global, from: &[Name], to: &[Name]) -> Result<Table, AllocError>
+        ensures { IfOk result (λ table. table ≡ renamed from.now to.now self.now) }
+    {
+        let mut table = Table::empty(alloc);
+        for (names, node) in self.entries.iter() {
+            table.insert(rebase(alloc, names, from, to)?, node.copy()?)?;
+        }
+        Ok(table)
+    }
+
+    /// How many of the directories on the way down to a path are missing, from the one with `n` names on.
+    /// None where one is a file.
+    #[tactic(auto, using(crate::proofs::ContentLaws::none_left, crate::proofs::ContentLaws::count_first))]
+    pub fn missing_from(&self, names: &[Name], n: usize) -> Option<usize>
+        requires { n ≤ length names.now + 1 }
+        ensures count { result ≡ missing_count self.now (drop n (prefixes names.now)) }
+        ensures bound { IfSome result (λ m. m + n ≤ length names.now + 1) }
+    {
+        if names.len() < n {
+            return Some(0);
+        }
+        let later = self.missing_from(names, n + 1)?;
+        match self.get(&names[..n]) {
+            None => Some(later + 1),
+            Some(Node::Dir) => Some(later),
+            Some(Node::File(_, _)) => None,
+        }
+    }
+
+    /// Makes what is missing on the way down to a path, from the directory with `n` names on, all or none.
+    #[tactic(auto, using(crate::proofs::ContentLaws::none_left, crate::proofs::ContentLaws::made_first, crate::proofs::ContentLaws::there_first, crate::proofs::ContentLaws::without_one_insert))]
+    pub fn make_dirs(&mut self, alloc: Global, names: &[Name], n: usize) -> Result<(), AllocError>
+        requires { n ≤ length names.now + 1 }
+        ensures ok { OnOk result (self.new ≡ with_dirs self.old (filter (is_absent self.old) (drop n (prefixes names.now)))) }
+        ensures err { OnErr result (self.new ≡ self.old) }
+    {
+        if names.len() < n {
+            return Ok(());
+        }
+        if self.get(&names[..n]).is_some() {
+            return self.make_dirs(alloc, names, n + 1);
+        }
+        self.insert(copy_names(alloc, &names[..n])?, Node::Dir)?;
+        match self.make_dirs(alloc, names, n + 1) {
+            Ok(()) => Ok(()),
+            Err(error) => {
+                self.remove(&names[..n]);
+                Err(error)
+            }
+        }
+    }
+
+    // Takes out what is at a path, and nothing beneath it.
+    fn remove(&mut self, names: &[Name])
+        ensures { self.new ≡ without_one names.now self.old }
+    {
+        // `len` tells the proof that the keys ascend.
+        let _len = self.entries.len();
+        self.entries.remove(names);
+    }
+
+    /// The entries directly beneath a path, by the bytes of their names.
+    pub fn children(&self, alloc: Global, top: &[Name]) -> Result<Entries, AllocError>
+        ensures { IfOk result (λ entries. entries ≡ children self.now top.now) }
+    {
+        let mut entries = Entries::new(alloc);
+        for (names, node) in self.entries.iter() {
+            if let Some(name) = child_of(names, top) {
+                entries.push(Entry {
+                    name: name.copy()?,
+                    kind: node.kind(),
+                })?;
+            }
+        }
+        Ok(entries)
+    }
+
+    /// What stands at each path, in the order of the paths.
+    pub fn walk(&self, alloc: Global) -> Result<Walk, AllocError>
+        ensures { IfOk result (λ found. found ≡ walk self.now) }
+    {
+        let mut found = Walk::new(alloc);
+        for (names, node) in self.entries.iter() {
+            found.push(Found {
+                path: path_of(alloc, names)?,
+                length: node.length(),
+            })?;
+        }
+        Ok(found)
+    }
+}
