@@ -1,0 +1,72 @@
+-- What calls of the namespace answer and leave.
+use Rattle.std.proofs.Common.{◌≡◌, ℕ, Bool, true, false, List, [], ◌∷◌, refl, ap, Option, Some, None, Result, Ok, Err, nat_lt, unwrap_or, if◌then◌else◌}
+use Rattle.mr_names.specs.declared.fault.NameFault.{NameFault}
+use Rattle.mr_names.specs.declared.fault.NameFault.TheVariants as names
+use Rattle.mr_names.specs.declared.op.Op.{Op}
+use Rattle.mr_names.specs.declared.op.Op.TheVariants as op
+use Rattle.mr_names.specs.declared.op.Answer.{Answer}
+use Rattle.mr_names.specs.Calls.{State, first_of, refusal, refused, settled, call_of, answer, Makes, MakesAlways, takes_memory}
+use Rattle.mr_names.specs.Content.{Content}
+
+abbrev pub is_memory : NameFault → Bool
+is_memory names.NoMemory = true
+is_memory f = false
+
+abbrev pub wants : Option NameFault → Bool
+wants None = false
+wants (Some f) = is_memory f
+
+abbrev AllOwn : List (Bool × NameFault) → Type 0
+AllOwn [] = Unit {0}
+AllOwn (row ∷ rows) = (is_memory row.1 ≡ false) × AllOwn rows
+
+first_own : (rows : List (Bool × NameFault)) → AllOwn rows → wants (first_of rows) ≡ false
+first_own [] h = refl
+first_own (row ∷ rows) h = by row.0 (first_own rows h.1)
+  where
+    by : (b : Bool) → wants (first_of rows) ≡ false → wants (if b then Some row.1 else first_of rows) ≡ false
+    by true e = h.0
+    by false e = e
+
+refusal_own : (c : Content) (call : Op) → wants (refusal c call) ≡ false
+refusal_own c (op.Mkdirs path) = first_own ((_, names.NotDir) ∷ (_, names.Full) ∷ []) (refl, (refl, tt))
+refusal_own c (op.Create path closed) = first_own ((_, names.Exists) ∷ (_, names.NoParent) ∷ (_, names.NotDir) ∷ (_, names.Full) ∷ []) (refl, (refl, (refl, (refl, tt))))
+refusal_own c (op.Append path bytes) = first_own ((_, names.Missing) ∷ (_, names.NotFile) ∷ (_, names.Closed) ∷ (_, names.Full) ∷ []) (refl, (refl, (refl, (refl, tt))))
+refusal_own c (op.Close path) = first_own ((_, names.Missing) ∷ (_, names.NotFile) ∷ (_, names.Closed) ∷ []) (refl, (refl, (refl, tt)))
+refusal_own c (op.Delete path) = first_own ((_, names.NoParent) ∷ (_, names.Missing) ∷ []) (refl, (refl, tt))
+refusal_own c (op.Rename from to) = first_own ((_, names.Missing) ∷ (_, names.IntoItself) ∷ (_, names.Exists) ∷ (_, names.NoParent) ∷ (_, names.NotDir) ∷ []) (refl, (refl, (refl, (refl, (refl, tt)))))
+refusal_own c (op.List path) = first_own ((_, names.Missing) ∷ (_, names.NotDir) ∷ []) (refl, (refl, tt))
+refusal_own c (op.Exists path) = refl
+refusal_own c (op.Read path) = first_own ((_, names.Missing) ∷ (_, names.NotFile) ∷ []) (refl, (refl, tt))
+
+-- no call is refused for want of memory
+pub refused_own : (s : State) (app : ℕ) (call : Op) → wants (refused s app call) ≡ false
+refused_own s app call = by (nat_lt app s.fence)
+  where
+    by : (b : Bool) → wants (if b then Some (names.Superseded s.fence) else refusal s.content call) ≡ false
+    by true = refl
+    by false = refusal_own s.content call
+
+pub true_or_false : {A : Type 0} → true ≡ false → A
+true_or_false e = cc
+
+abbrev pub is_want : Result Answer NameFault → Bool
+is_want (Ok a) = false
+is_want (Err f) = is_memory f
+
+-- what a function that makes a call answered: the call's answer, or want of memory
+pub data Made (s : State) (app : ℕ) (call : Op) (r : Result Answer NameFault) (t : State) : Type 0 where
+  as_call : call_of s app call ≡ (r, t) → is_want r ≡ false → Made s app call r t
+  no_memory : r ≡ Err names.NoMemory → t ≡ s → refused s app call ≡ None → takes_memory call ≡ true → Made s app call r t
+
+pub made : (s : State) (app : ℕ) (call : Op) (r : Result Answer NameFault) (t : State) → Makes (λ a. a) s app call r t → (takes_memory call ≡ false → MakesAlways (λ a. a) s app call r t) → Made s app call r t
+made s app call (Ok a) t m always = as_call m refl
+made s app call (Err f) t m always = by (refused s app call) refl (refused_own s app call) m always
+  where
+    by : (o : Option NameFault) → refused s app call ≡ o → wants o ≡ false → (f ≡ unwrap_or o names.NoMemory) × (t ≡ s) → (takes_memory call ≡ false → settled o s call ≡ (Err f, t)) → Made s app call (Err f) t
+    by (Some g) e own h always = as_call (rw e cc) (rw h.0 own)
+    by None e own h always = memory (takes_memory call) refl
+      where
+        memory : (b : Bool) → takes_memory call ≡ b → Made s app call (Err f) t
+        memory true k = no_memory (ap (λ g. Err g) h.0) h.1 e k
+        memory false k = let z : settled None s call ≡ (Err f, t) = always k in let y : Ok (answer s.content call) ≡ Err f = ap (λ p. p.0) z in absurd cc

@@ -1,0 +1,36 @@
+-- Laws of the committer effect.
+use Rattle.std.specs.Prelude.{◌≡◌, ℕ, false, List, ◌++◌, None, Result, Ok}
+use Rattle.mr_ids.specs.Attempt.{Attempt}
+use Rattle.mr_paths.specs.Layout.{task_attempt, committed}
+use Rattle.mr_names.specs.Content.{Content, IsTree, within}
+use Rattle.mr_names.specs.Held.{node_at}
+use Rattle.mr_names.specs.Calls.{State}
+use Rattle.mr_commit.specs.declared.fault.CommitFault.{CommitFault}
+use Rattle.mr_commit.specs.Line.{Line}
+use Rattle.mr_commit.specs.Settles.{Settles}
+use Rattle.mr_commit.specs.Tables.{setup_job, commit_task, commit_job}
+use Rattle.mr_commit.specs.Whole.{LeadsTo, whole}
+
+-- steps lead to one answer and one namespace
+abbrev pub OneResult : Type 0
+OneResult = (lines : List Line) (s t u : State) (app : ℕ) (r q : Result (Unit {0}) CommitFault) → LeadsTo lines s app r t → LeadsTo lines s app q u → ◌≡◌ {A = Result (Unit {0}) CommitFault × State} (r, t) (q, u)
+
+-- the steps of a table lead somewhere, and that is what a whole form gives
+abbrev pub WholeFormsEnd : Type 0
+WholeFormsEnd = (lines : List Line) (s : State) (app : ℕ) → Settles lines → LeadsTo lines s app (whole lines s app).0 (whole lines s app).1
+
+pub record TablesSettle : Type 0 where
+  pub setup : (dest : List (List ℕ)) (k : ℕ) → Settles (setup_job dest k)
+  pub task : (dest : List (List ℕ)) (k : ℕ) (attempt : Attempt) → Settles (commit_task dest k attempt)
+  pub job : (dest : List (List ℕ)) (k : ℕ) → Settles (commit_job dest k)
+
+-- the committed path holds what the attempt path held, the attempt path holds nothing, and nothing else changed
+pub record IsCommitted (dest : List (List ℕ)) (k : ℕ) (attempt : Attempt) (before after : Content) : Type 0 where
+  pub held : (rest : List (List ℕ)) → node_at after (committed dest k attempt.task ++ rest) ≡ node_at before (task_attempt dest k attempt ++ rest)
+  pub gone : (rest : List (List ℕ)) → node_at after (task_attempt dest k attempt ++ rest) ≡ None
+  pub others : (path : List (List ℕ)) → within (committed dest k attempt.task) path ≡ false → within (task_attempt dest k attempt) path ≡ false → node_at after path ≡ node_at before path
+
+-- a task commit that was answered
+abbrev pub TaskCommits : Type 0
+TaskCommits = (dest : List (List ℕ)) (k : ℕ) (attempt : Attempt) (s t : State) (app : ℕ) → IsTree s.content
+    → whole (commit_task dest k attempt) s app ≡ (Ok tt, t) → IsCommitted dest k attempt s.content t.content × (t.fence ≡ s.fence)

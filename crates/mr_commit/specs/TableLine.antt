@@ -1,0 +1,32 @@
+-- The line that a line of the code is.
+use Rattle.std.specs.Prelude.{ℕ, List}
+use Rattle.mr_names.specs.declared.op.Op.{Op}
+use Rattle.mr_names.specs.declared.op.Op.TheVariants as op
+use Rattle.mr_commit.specs.declared.line.TableLine.TheInside.{Inside}
+use Rattle.mr_commit.specs.declared.line.Rule.{Rule}
+use Rattle.mr_commit.specs.declared.line.Rule.TheVariants as rule
+use Rattle.mr_commit.specs.Line.{Line}
+use Rattle.mr_commit.specs.Line.Line.{Does, Clears, Needs, Merges, MergesEach, MergesTasks}
+
+-- the path of a call
+abbrev pub path_of : Op → List (List ℕ)
+path_of (op.Mkdirs path) = path
+path_of (op.Create path closed) = path
+path_of (op.Append path bytes) = path
+path_of (op.Close path) = path
+path_of (op.Delete path) = path
+path_of (op.Rename from to) = from
+path_of (op.List path) = path
+path_of (op.Exists path) = path
+path_of (op.Read path) = path
+
+abbrev pub line_by : Op → Rule → Line
+line_by call rule.Plain = Does call
+line_by call rule.MissingPasses = Clears (path_of call)
+line_by call rule.Needed = Needs (path_of call)
+line_by call (rule.Merge taken from to) = Merges taken from to
+line_by call (rule.MergeEach from to) = MergesEach from to
+line_by call (rule.MergeTasks from to) = MergesTasks from to
+
+abbrev pub line_of : Inside → Line
+line_of l = line_by l.op l.rule

@@ -1,0 +1,117 @@
+-- The committer effect: the calls of a table made in order until it is over.
+use Rattle.std.specs.Prelude.{◌≡◌, ℕ, zero, suc, ◌+◌, ◌-◌, ◌*◌, Bool, true, false, List, [], ◌∷◌, length, max, Option, Some, None, Result, Ok, Err, is_some, nat_lt}
+use Rattle.std.specs.FinMap as finite
+use Rattle.mr_names.specs.Content.{Content}
+use Rattle.mr_names.specs.Calls.{State, call_of}
+use Rattle.mr_names.specs.declared.fault.NameFault.{NameFault}
+use Rattle.mr_names.specs.declared.fault.NameFault.TheVariants as names
+use Rattle.mr_names.specs.declared.node.Kind.{Kind}
+use Rattle.mr_names.specs.declared.op.Answer.{Answer}
+use Rattle.mr_names.specs.declared.op.Op.TheVariants as op
+use Rattle.mr_ids.specs.Attempt.{Attempt}
+use Rattle.mr_paths.specs.Layout.{task_attempt}
+use Rattle.mr_commit.specs.declared.fault.CommitFault.{CommitFault}
+use Rattle.mr_commit.specs.declared.fault.CommitFault.TheVariants as fault
+use Rattle.mr_commit.specs.declared.fault.StepDone.{StepDone}
+use Rattle.mr_commit.specs.declared.fault.StepDone.TheVariants as done
+use Rattle.mr_commit.specs.Line.{Line, found, fault_of}
+use Rattle.mr_commit.specs.Line.Line.{Does, Clears, Needs, Merges, MergesEach, MergesTasks}
+use Rattle.mr_commit.specs.Steps.{step_of}
+
+-- ---- where steps lead
+
+-- Steps lead from some lines and a namespace to others: none yet, or one more that was not the last.
+pub data Reaches (app : ℕ) (lines : List Line) (s : State) : List Line → State → Type 0 where
+  none_yet : Reaches app lines s lines s
+  one_more : (mid left : List Line) (u t : State) → Reaches app lines s mid u → step_of mid u app ≡ ((Ok done.More, left), t) → Reaches app lines s left t
+
+-- the last step
+abbrev pub Ends : List Line → State → ℕ → Result (Unit {0}) CommitFault → State → Type 0
+Ends mid u app (Ok x) t = (left : List Line) × (step_of mid u app ≡ ((Ok done.Finished, left), t))
+Ends mid u app (Err f) t = (left : List Line) × (step_of mid u app ≡ ((Err f, left), t))
+
+-- All steps lead to an answer and a namespace: the committer effect.
+abbrev pub LeadsTo : List Line → State → ℕ → Result (Unit {0}) CommitFault → State → Type 0
+LeadsTo lines s app r t = (mid : List Line) × (u : State) × Reaches app lines s mid u × Ends mid u app r t
+
+-- A whole form made all steps. Where it had no memory, it made some and left what they did, and its caller is not
+-- superseded.
+abbrev pub Commits : List Line → State → ℕ → Result (Unit {0}) CommitFault → State → Type 0
+Commits lines s app (Err fault.NoMemory) t = (nat_lt app t.fence ≡ false) × (mid : List Line) × Reaches app lines s mid t
+Commits lines s app r t = LeadsTo lines s app r t
+
+-- ---- the same as a function
+
+-- the length of the longest path that holds something
+abbrev pub longest : List (List (List ℕ)) → ℕ
+longest [] = 0
+longest (path ∷ paths) = max (length path) (longest paths)
+
+abbrev pub deepest : Content → ℕ
+deepest c = longest (finite.keys c)
+
+-- at most how many calls it takes to merge the children of a directory that has so many levels beneath it, where no
+-- directory has more than so many entries: for each child at most three calls, and what is beneath it
+unfoldable pub merge_calls : ℕ → ℕ → ℕ
+merge_calls entries zero = 1
+merge_calls entries (suc levels) = suc (entries * (3 + merge_calls entries levels))
+
+-- at most how many calls a line takes, where no path that holds something is longer than depth
+abbrev pub line_calls : ℕ → ℕ → Line → ℕ
+line_calls entries depth (Does call) = 1
+line_calls entries depth (Clears path) = 1
+line_calls entries depth (Needs path) = 1
+line_calls entries depth (Merges taken from to) = 3 + merge_calls entries (suc depth - length from)
+line_calls entries depth (MergesEach from to) = merge_calls entries (suc depth - length from)
+line_calls entries depth (MergesTasks from to) = merge_calls entries (suc depth - length from)
+
+unfoldable pub most_calls : ℕ → ℕ → List Line → ℕ
+most_calls entries depth [] = 0
+most_calls entries depth (line ∷ rest) = line_calls entries depth line + most_calls entries depth rest
+
+-- an answer that was not the last goes on
+abbrev pub going_on : Result StepDone CommitFault → List Line → State → (List Line → State → Result (Unit {0}) CommitFault × State) → Result (Unit {0}) CommitFault × State
+going_on (Ok done.More) left t on = on left t
+going_on (Ok done.Finished) left t on = (Ok tt, t)
+going_on (Err f) left t on = (Err f, t)
+
+-- at most n calls. No table gets to the first equation
+unfoldable pub run : ℕ → List Line → State → ℕ → Result (Unit {0}) CommitFault × State
+run zero lines s app = (Err fault.Over, s)
+run (suc n) lines s app = going_on (step_of lines s app).0.0 (step_of lines s app).0.1 (step_of lines s app).1 (λ left t. run n left t app)
+
+-- the answer of a whole form and the namespace after it
+abbrev pub whole : List Line → State → ℕ → Result (Unit {0}) CommitFault × State
+whole lines s app = run (most_calls (finite.len s.content) (deepest s.content) lines) lines s app
+
+-- A whole form has its effect, but for want of memory.
+abbrev pub HasEffect : List Line → State → ℕ → Result (Unit {0}) CommitFault → State → Type 0
+HasEffect lines s app (Err fault.NoMemory) t = Unit {0}
+HasEffect lines s app r t = whole lines s app ≡ (r, t)
+
+-- the fault of a caller below the fence
+abbrev pub IsSuperseded : ℕ → ℕ → CommitFault → Type 0
+IsSuperseded app fence f = (nat_lt app fence ≡ true) × (f ≡ fault.Names (names.Superseded fence))
+
+-- ---- two calls that look
+
+-- whether a task's attempt has output that could be committed
+abbrev pub has_output : Result Answer NameFault → Result Bool CommitFault
+has_output (Ok a) = Ok (is_some (found a))
+has_output (Err f) = Err (fault_of f)
+
+abbrev pub NeedsTaskCommit : List (List ℕ) → Attempt → State → ℕ → Result Bool CommitFault → Type 0
+NeedsTaskCommit dest attempt s app (Err fault.NoMemory) = nat_lt app s.fence ≡ false
+NeedsTaskCommit dest attempt s app r = r ≡ has_output (call_of s app (op.Exists (task_attempt dest app attempt))).0
+
+-- a destination that is there already is refused
+abbrev pub absent_by : Option Kind → Result (Unit {0}) CommitFault
+absent_by None = Ok tt
+absent_by (Some there) = Err fault.DestinationExists
+
+abbrev pub absent : Result Answer NameFault → Result (Unit {0}) CommitFault
+absent (Ok a) = absent_by (found a)
+absent (Err f) = Err (fault_of f)
+
+abbrev pub checked : List (List ℕ) → State → ℕ → Result (Unit {0}) CommitFault
+checked dest s app = absent (call_of s app (op.Exists dest)).0

@@ -1,0 +1,100 @@
+ghost use Rattle.std.specs.Prelude.{◌≡◌, [], ◌∷◌, IfOk};
+ghost use Rattle.std.specs.Option.{option_copied};
+ghost use Rattle.mr_commit.specs.Steps.{next_call, Hears, Steps};
+ghost use Rattle.mr_commit.specs.Whole.{Commits, HasEffect};
+ghost use Rattle.mr_commit.specs.Tables.{commit_job};
+
+use crate::checks::check_heard;
+use crate::fault::{CommitFault, StepDone};
+use crate::line::TableLine;
+use crate::lines::Lines;
+use mr_ids::AppAttempt;
+use mr_names::{Answer, Caller, NameFault, Namespace, Op};
+use mr_paths::Layout;
+use std::alloc::AllocError;
+use std::marker::Model;
+
+/// A job's commit, one call at a time: all committed output is merged onto the destination, then what was temporary
+/// is deleted, and the marker is created last.
+///
+/// It is not to be made twice: a marker that is there already is `Names(Exists)`.
+#[derive(Drop)]
+pub struct CommitJob {
+    lines: Lines,
+}
+
+impl Model for CommitJob {
+    ghost use Rattle.std.specs.Prelude.{List};
+    ghost use Rattle.mr_commit.specs.Line.{Line};
+
+    ghost Value = { List Line };
+
+    ghost view = { λ s. s.lines };
+}
+
+impl CommitJob {
+    /// The commit of what the master's generation `k` holds.
+    pub fn new(layout: &Layout, k: AppAttempt) -> Result<CommitJob, AllocError>
+        ensures { IfOk result (λ step. step ≡ commit_job layout.now.dest k) }
+    {
+        let alloc = layout.dest.allocator();
+        let tasks = layout.job_attempt(k)?;
+        let table = Vec::from_array(
+            alloc,
+            [
+                TableLine::merges_tasks(tasks, layout.dest.copy()?)?,
+                TableLine::clears(layout.temporary()?),
+                TableLine::does(Op::Create(layout.marker()?, true)),
+            ],
+        )?;
+        let lines = Lines::new(table);
+        Ok(CommitJob { lines })
+    }
+
+    /// The next call, or none where it is over. It takes no memory.
+    pub fn call(&self) -> Option<&Op>
+        ensures { option_copied result ≡ next_call self.now }
+    {
+        self.lines.call()
+    }
+
+    /// Hears the answer of the next call, and tells whether calls are left.
+    ///
+    /// A fault is the end: from then on the answer is `Over`, as after `Finished`. But after `NoMemory` all is as
+    /// before.
+    pub fn took(&mut self, answer: Result<Answer, NameFault>) -> Result<StepDone, CommitFault>
+        ensures { Hears self.old answer result self.new }
+    {
+        self.lines.took(answer)
+    }
+
+    /// Makes the next call and hears its answer: `call`, `Namespace::perform` and `took` in one.
+    ///
+    /// After `NoMemory` the step value and the namespace are as before.
+    pub fn next(&mut self, names: &mut Namespace, caller: Caller) -> Result<StepDone, CommitFault>
+        ensures { Steps self.old names.old caller.app result self.new names.new }
+    {
+        self.lines.next(names, caller)
+    }
+
+    /// An equal value.
+    pub fn copy(&self) -> Result<CommitJob, AllocError>
+        ensures { IfOk result (λ step. step ≡ self.now) }
+    {
+        let lines = self.lines.copy()?;
+        Ok(CommitJob { lines })
+    }
+}
+
+/// Commits a job in the caller's generation: all calls of `CommitJob`.
+///
+/// A fault, `NoMemory` too, leaves what the earlier calls did.
+pub fn commit_job(names: &mut Namespace, caller: Caller, layout: &Layout) -> Result<(), CommitFault>
+    ensures effect { HasEffect (commit_job layout.now.dest caller.app) names.old caller.app result names.new }
+    ensures made { Commits (commit_job layout.now.dest caller.app) names.old caller.app result names.new }
+{
+    let app = caller.app;
+    check_heard(names.fence(), app)?;
+    let mut step = CommitJob::new(layout, app)?;
+    step.lines.finish(names, caller)
+}

@@ -1,0 +1,19 @@
+//! Laws of the definitions: these functions do nothing.
+ghost use Rattle.mr_commit.specs.Laws.{OneResult, WholeFormsEnd, TablesSettle, TaskCommits};
+
+/// The steps of a table lead to one answer and one namespace.
+pub fn one_result()
+    ensures { OneResult }
+{}
+
+/// Whole forms end, and give what their steps lead to.
+pub fn whole_forms_end()
+    ensures end { WholeFormsEnd }
+    ensures tables { TablesSettle }
+{}
+
+/// After a task commit that was answered the committed path holds what the attempt path held, and nothing else
+/// changed.
+pub fn task_commits()
+    ensures { TaskCommits }
+{}

@@ -1,0 +1,90 @@
+ghost use Rattle.std.specs.Prelude.{◌≡◌, [], ◌∷◌, IfOk};
+ghost use Rattle.std.specs.Option.{option_copied};
+ghost use Rattle.mr_commit.specs.Steps.{next_call, Hears, Steps};
+ghost use Rattle.mr_commit.specs.Whole.{Commits, HasEffect};
+ghost use Rattle.mr_commit.specs.Tables.{setup_job};
+
+use crate::checks::check_heard;
+use crate::fault::{CommitFault, StepDone};
+use crate::line::TableLine;
+use crate::lines::Lines;
+use mr_ids::AppAttempt;
+use mr_names::{Answer, Caller, NameFault, Namespace, Op};
+use mr_paths::Layout;
+use std::alloc::AllocError;
+use std::marker::Model;
+
+/// The setup of a job, one call at a time: the job attempt path is made.
+#[derive(Drop)]
+pub struct SetupJob {
+    lines: Lines,
+}
+
+impl Model for SetupJob {
+    ghost use Rattle.std.specs.Prelude.{List};
+    ghost use Rattle.mr_commit.specs.Line.{Line};
+
+    ghost Value = { List Line };
+
+    ghost view = { λ s. s.lines };
+}
+
+impl SetupJob {
+    /// The setup by the master's generation `k`.
+    pub fn new(layout: &Layout, k: AppAttempt) -> Result<SetupJob, AllocError>
+        ensures { IfOk result (λ step. step ≡ setup_job layout.now.dest k) }
+    {
+        let alloc = layout.dest.allocator();
+        let path = layout.job_attempt(k)?;
+        let table = Vec::from_array(alloc, [TableLine::does(Op::Mkdirs(path))])?;
+        let lines = Lines::new(table);
+        Ok(SetupJob { lines })
+    }
+
+    /// The next call, or none where it is over. It takes no memory.
+    pub fn call(&self) -> Option<&Op>
+        ensures { option_copied result ≡ next_call self.now }
+    {
+        self.lines.call()
+    }
+
+    /// Hears the answer of the next call, and tells whether calls are left.
+    ///
+    /// A fault is the end: from then on the answer is `Over`, as after `Finished`. But after `NoMemory` all is as
+    /// before.
+    pub fn took(&mut self, answer: Result<Answer, NameFault>) -> Result<StepDone, CommitFault>
+        ensures { Hears self.old answer result self.new }
+    {
+        self.lines.took(answer)
+    }
+
+    /// Makes the next call and hears its answer: `call`, `Namespace::perform` and `took` in one.
+    ///
+    /// After `NoMemory` the step value and the namespace are as before.
+    pub fn next(&mut self, names: &mut Namespace, caller: Caller) -> Result<StepDone, CommitFault>
+        ensures { Steps self.old names.old caller.app result self.new names.new }
+    {
+        self.lines.next(names, caller)
+    }
+
+    /// An equal value.
+    pub fn copy(&self) -> Result<SetupJob, AllocError>
+        ensures { IfOk result (λ step. step ≡ self.now) }
+    {
+        let lines = self.lines.copy()?;
+        Ok(SetupJob { lines })
+    }
+}
+
+/// Sets a job up in the caller's generation: all calls of `SetupJob`.
+///
+/// After `NoMemory` nothing has changed.
+pub fn setup_job(names: &mut Namespace, caller: Caller, layout: &Layout) -> Result<(), CommitFault>
+    ensures effect { HasEffect (setup_job layout.now.dest caller.app) names.old caller.app result names.new }
+    ensures made { Commits (setup_job layout.now.dest caller.app) names.old caller.app result names.new }
+{
+    let app = caller.app;
+    check_heard(names.fence(), app)?;
+    let mut step = SetupJob::new(layout, app)?;
+    step.lines.finish(names, caller)
+}

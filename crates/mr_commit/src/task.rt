@@ -1,0 +1,103 @@
+ghost use Rattle.std.specs.Prelude.{◌≡◌, [], ◌∷◌, IfOk};
+ghost use Rattle.std.specs.Option.{option_copied};
+ghost use Rattle.mr_commit.specs.Steps.{next_call, Hears, Steps};
+ghost use Rattle.mr_commit.specs.Whole.{Commits, HasEffect};
+ghost use Rattle.mr_commit.specs.Tables.{commit_task};
+
+use crate::checks::check_heard;
+use crate::fault::{CommitFault, StepDone};
+use crate::line::TableLine;
+use crate::lines::Lines;
+use mr_ids::{AppAttempt, AttemptId};
+use mr_names::{Answer, Caller, NameFault, Namespace, Op};
+use mr_paths::Layout;
+use std::alloc::AllocError;
+use std::marker::Model;
+
+/// A task's commit, one call at a time: the attempt's output takes the place of what the task had committed.
+#[derive(Drop)]
+pub struct CommitTask {
+    lines: Lines,
+}
+
+impl Model for CommitTask {
+    ghost use Rattle.std.specs.Prelude.{List};
+    ghost use Rattle.mr_commit.specs.Line.{Line};
+
+    ghost Value = { List Line };
+
+    ghost view = { λ s. s.lines };
+}
+
+impl CommitTask {
+    /// The commit of an attempt's output in the master's generation `k`.
+    pub fn new(layout: &Layout, k: AppAttempt, attempt: AttemptId) -> Result<CommitTask, AllocError>
+        ensures { IfOk result (λ step. step ≡ commit_task layout.now.dest k attempt) }
+    {
+        let alloc = layout.dest.allocator();
+        let from = layout.task_attempt(k, attempt)?;
+        let to = layout.committed(k, attempt.task())?;
+        let table = Vec::from_array(
+            alloc,
+            [
+                TableLine::needs(from.copy()?),
+                TableLine::clears(to.copy()?),
+                TableLine::does(Op::Rename(from, to)),
+            ],
+        )?;
+        let lines = Lines::new(table);
+        Ok(CommitTask { lines })
+    }
+
+    /// The next call, or none where it is over. It takes no memory.
+    pub fn call(&self) -> Option<&Op>
+        ensures { option_copied result ≡ next_call self.now }
+    {
+        self.lines.call()
+    }
+
+    /// Hears the answer of the next call, and tells whether calls are left.
+    ///
+    /// A fault is the end: from then on the answer is `Over`, as after `Finished`. But after `NoMemory` all is as
+    /// before.
+    pub fn took(&mut self, answer: Result<Answer, NameFault>) -> Result<StepDone, CommitFault>
+        ensures { Hears self.old answer result self.new }
+    {
+        self.lines.took(answer)
+    }
+
+    /// Makes the next call and hears its answer: `call`, `Namespace::perform` and `took` in one.
+    ///
+    /// After `NoMemory` the step value and the namespace are as before.
+    pub fn next(&mut self, names: &mut Namespace, caller: Caller) -> Result<StepDone, CommitFault>
+        ensures { Steps self.old names.old caller.app result self.new names.new }
+    {
+        self.lines.next(names, caller)
+    }
+
+    /// An equal value.
+    pub fn copy(&self) -> Result<CommitTask, AllocError>
+        ensures { IfOk result (λ step. step ≡ self.now) }
+    {
+        let lines = self.lines.copy()?;
+        Ok(CommitTask { lines })
+    }
+}
+
+/// Commits an attempt's output in the caller's generation: all calls of `CommitTask`.
+///
+/// A fault, `NoMemory` too, leaves what the earlier calls did.
+pub fn commit_task(
+    names: &mut Namespace,
+    caller: Caller,
+    layout: &Layout,
+    attempt: AttemptId,
+) -> Result<(), CommitFault>
+    ensures effect { HasEffect (commit_task layout.now.dest caller.app attempt) names.old caller.app result names.new }
+    ensures made { Commits (commit_task layout.now.dest caller.app attempt) names.old caller.app result names.new }
+{
+    let app = caller.app;
+    check_heard(names.fence(), app)?;
+    let mut step = CommitTask::new(layout, app, attempt)?;
+    step.lines.finish(names, caller)
+}
