@@ -1,0 +1,69 @@
+-- Segments by their numbers.
+use Rattle.std.proofs.Common.{◌≡◌, ◌≢◌, ◌<◌, ◌≤◌, ◌+◌, ◌-◌, ℕ, zero, suc, Bool, true, false, ◌&&◌, cond, nat_lt, List, [], ◌∷◌, ◌++◌, length, take, drop, map, set, get_or, replicate, refl, sym, ap, ◌∙◌, arith, append_assoc, append-nil, add-one}
+use Rattle.std.proofs.lemmas.List.{get_or-set_same, get_or-set_other}
+use Rattle.std.proofs.lemmas.Bool.Decides.{nat_tests}
+use Rattle.mr_history.specs.State.{SegmentState, State}
+use Rattle.mr_history.specs.Segment.{fresh, sealed}
+use Rattle.mr_history.specs.Reading.{records_of}
+use Rattle.mr_history.specs.Calls.{records_in, segment, with_segment, raised}
+
+pub replicate-more : {A : Type 0} (n : ℕ) (x : A) → replicate n x ++ x ∷ [] ≡ replicate (suc n) x
+replicate-more zero x = refl
+replicate-more (suc n) x = ap (λ l. x ∷ l) (replicate-more n x)
+
+-- one segment more is changed
+changed : (f : SegmentState → SegmentState) (xs : List SegmentState) (i : ℕ) (d : SegmentState) → i < length xs → set (map f (take i xs) ++ drop i xs) i (f (get_or (map f (take i xs) ++ drop i xs) i d)) ≡ map f (take (suc i) xs) ++ drop (suc i) xs
+changed f [] i d h = absurd (omega arith)
+changed f (x ∷ xs) zero d h = refl
+changed f (x ∷ xs) (suc i) d h = ap (λ l. f x ∷ l) (changed f xs i d (omega arith))
+
+pub changed_more : (f : SegmentState → SegmentState) (xs ys : List SegmentState) (i : ℕ) (d : SegmentState) → i < length xs → ys ≡ map f (take i xs) ++ drop i xs → set ys i (f (get_or ys i d)) ≡ map f (take (i + 1) xs) ++ drop (i + 1) xs
+changed_more f xs ys i d h is = ap (λ l. set l i (f (get_or l i d))) is ∙ changed f xs i d h ∙ ap (λ n. map f (take n xs) ++ drop n xs) (sym (add-one i))
+
+-- one segment more is read
+read : (xs : List SegmentState) (i : ℕ) (d : SegmentState) → i < length xs → records_in (take (suc i) xs) ≡ records_in (take i xs) ++ records_of (get_or xs i d).stable
+read [] i d h = absurd (omega arith)
+read (x ∷ xs) zero d h = append-nil (records_of x.stable)
+read (x ∷ xs) (suc i) d h = ap (λ l. records_of x.stable ++ l) (read xs i d (omega arith)) ∙ sym (append_assoc (records_of x.stable) (records_in (take i xs)) (records_of (get_or xs i d).stable))
+
+pub read_more : (xs : List SegmentState) (i : ℕ) (d : SegmentState) → i < length xs → records_in (take (i + 1) xs) ≡ records_in (take i xs) ++ records_of (get_or xs i d).stable
+read_more xs i d h = ap (λ n. records_in (take n xs)) (add-one i) ∙ read xs i d h
+
+-- ---- one segment is changed
+
+pub named : (h : State) (k : ℕ) (s : SegmentState) → 1 ≤ k → k ≤ length h.segments → segment (with_segment h k s) k ≡ s
+named h k s low high = get_or-set_same h.segments (k - 1) s fresh (omega arith)
+
+pub others : (h : State) (j k : ℕ) (s : SegmentState) → 1 ≤ j → 1 ≤ k → j ≢ k → segment (with_segment h k s) j ≡ segment h j
+others h j k s lj lk apart = get_or-set_other h.segments (k - 1) (j - 1) s fresh (λ e. apart (omega arith))
+
+-- the first ones changed
+get_or-front : (f : SegmentState → SegmentState) (xs : List SegmentState) (n i : ℕ) (d : SegmentState) → i < length xs → get_or (map f (take n xs) ++ drop n xs) i d ≡ cond (nat_lt i n) (f (get_or xs i d)) (get_or xs i d)
+get_or-front f [] n i d h = absurd (omega arith)
+get_or-front f (x ∷ xs) zero zero d h = refl
+get_or-front f (x ∷ xs) zero (suc i) d h = let e : nat_lt (suc i) 0 ≡ false = grind (arith, nat_tests) in rw e refl
+get_or-front f (x ∷ xs) (suc n) zero d h = let e : nat_lt 0 (suc n) ≡ true = grind (arith, nat_tests) in rw e refl
+get_or-front f (x ∷ xs) (suc n) (suc i) d h = let e : nat_lt (suc i) (suc n) ≡ nat_lt i n = grind (arith, nat_tests) in get_or-front f xs n i d (omega arith) ∙ ap (λ t. cond t (f (get_or xs i d)) (get_or xs i d)) (sym e)
+
+length-front : (f : SegmentState → SegmentState) (xs : List SegmentState) (n : ℕ) → length (map f (take n xs) ++ drop n xs) ≡ length xs
+length-front f [] zero = refl
+length-front f [] (suc n) = refl
+length-front f (x ∷ xs) zero = refl
+length-front f (x ∷ xs) (suc n) = ap suc (length-front f xs n)
+
+before : (j k : ℕ) → 1 ≤ j → nat_lt (j - 1) (k - 1) ≡ nat_lt j k
+before j k h = grind (arith, nat_tests)
+
+pub segment-raised : (h : State) (j k kept : ℕ) → 1 ≤ j → j ≤ length h.segments → segment (raised k kept h) j ≡ cond (nat_lt h.fence k && nat_lt j k) (sealed kept (segment h j)) (segment h j)
+segment-raised h j k kept low high = by (nat_lt h.fence k) refl
+  where
+    by : (b : Bool) → nat_lt h.fence k ≡ b → segment (raised k kept h) j ≡ cond (b && nat_lt j k) (sealed kept (segment h j)) (segment h j)
+    by true e = rw e (get_or-front (sealed kept) h.segments (k - 1) (j - 1) fresh (omega arith) ∙ ap (λ t. cond t (sealed kept (segment h j)) (segment h j)) (before j k low))
+    by false e = rw e refl
+
+pub length-raised : (h : State) (k kept : ℕ) → length (raised k kept h).segments ≡ length h.segments
+length-raised h k kept = by (nat_lt h.fence k) refl
+  where
+    by : (b : Bool) → nat_lt h.fence k ≡ b → length (raised k kept h).segments ≡ length h.segments
+    by true e = rw e (length-front (sealed kept) h.segments (k - 1))
+    by false e = rw e refl

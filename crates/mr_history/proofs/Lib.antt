@@ -1,0 +1,9 @@
+pub mod Texts
+pub mod Widths
+pub mod Lines
+pub mod Told
+pub mod Splits
+pub mod Replays
+pub mod Segments
+pub mod Histories
+pub mod Winners

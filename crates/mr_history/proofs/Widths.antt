@@ -1,0 +1,56 @@
+-- How many bytes a record takes.
+use Rattle.std.proofs.Common.{◌≡◌, ◌<◌, ◌≤◌, ◌^◌, ◌+◌, ◌-◌, ◌/◌, ℕ, List, ◌++◌, length, map, replicate, codes, decimal, ap, ap₂, ◌∙◌, arith, length-append, refl}
+use Rattle.std.proofs.lemmas.List.{length-map, length-replicate}
+use Rattle.std.specs.Int.Digits.{digits_of}
+use Rattle.std.proofs.lemmas.Int.Digits.{length-digits_of_step, length-digits_of-le}
+use Rattle.mr_ids.specs.Attempt.{Attempt}
+use Rattle.mr_ids.specs.Text.{numeral, attempt_text}
+use Rattle.mr_ids.proofs.Shown.{decimal-numeral}
+use Rattle.mr_history.specs.declared.record.Record.TheVariants.{AttemptStarted, MapSucceeded, ReduceSucceeded, AttemptFailed, JobUnsuccessful}
+use Rattle.mr_history.specs.Line.{line_of, width}
+
+pub digits_step : (n : ℕ) → 0 < n → length (digits_of 10 n) ≡ length (digits_of 10 (n / 10)) + 1
+digits_step n h = length-digits_of_step 10 n (omega arith) h
+
+pub digits_few : (n : ℕ) → n < 2 ^ 64 → length (digits_of 10 n) ≤ 20
+digits_few n h = length-digits_of-le 10 20 n (omega arith) (omega arith)
+
+pub length-numeral : (w n : ℕ) → length (numeral w n) ≡ (w - length (digits_of 10 n)) + length (digits_of 10 n)
+length-numeral w n =
+    length-append (replicate (w - length (digits_of 10 n)) 48) (map (λ d. 48 + d) (digits_of 10 n))
+    ∙ ap₂ (λ x y. x + y) (length-replicate (w - length (digits_of 10 n)) 48) (length-map (digits_of 10 n) (λ d. 48 + d))
+
+number : (n : ℕ) → n < 2 ^ 32 → length (decimal n) ≡ length (numeral 1 n)
+number n h = ap length (decimal-numeral n (omega arith))
+
+told : (a : Attempt) (rest : List ℕ) → length (codes "{\"attempt\":\"" ++ (attempt_text a ++ rest)) ≡ 12 + length (attempt_text a) + length rest
+told a rest = let e = length-append (attempt_text a) rest in omega arith
+
+last : (n : ℕ) → n < 2 ^ 32 → length (decimal n ++ codes "}") ≡ length (numeral 1 n) + 1
+last n h = length-append (decimal n) (codes "}") ∙ ap (λ l. l + 1) (number n h)
+
+pub width-started : (a : Attempt) (node : ℕ) → node < 2 ^ 32 → width (AttemptStarted a node) ≡ 41 + length (attempt_text a) + length (numeral 1 node)
+unfolding width line_of
+width-started a node h = let e = told a (codes "\",\"event\":\"started\",\"node\":" ++ (decimal node ++ codes "}")) in let f = last node h in omega arith
+
+pub width-mapped : (a : Attempt) (node incarnation : ℕ) → node < 2 ^ 32 → incarnation < 2 ^ 32 → width (MapSucceeded a node incarnation) ≡ 52 + length (attempt_text a) + length (numeral 1 node) + length (numeral 1 incarnation)
+unfolding width line_of
+width-mapped a node incarnation h k =
+    let ending = codes ",\"node\":" ++ (decimal node ++ codes "}") in
+    let e = told a (codes "\",\"event\":\"map\",\"incarnation\":" ++ (decimal incarnation ++ ending)) in
+    let f = length-append (decimal incarnation) ending in
+    let g = last node h in
+    let n = number incarnation k in
+    omega arith
+
+pub width-reduced : (a : Attempt) → width (ReduceSucceeded a) ≡ 32 + length (attempt_text a)
+unfolding width line_of
+width-reduced a = let e = told a (codes "\",\"event\":\"reduce\"}") in omega arith
+
+pub width-failed : (a : Attempt) → width (AttemptFailed a) ≡ 32 + length (attempt_text a)
+unfolding width line_of
+width-failed a = let e = told a (codes "\",\"event\":\"failed\"}") in omega arith
+
+pub width-unsuccessful : width JobUnsuccessful ≡ 25
+unfolding width line_of
+width-unsuccessful = refl

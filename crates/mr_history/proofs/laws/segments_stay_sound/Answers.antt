@@ -1,0 +1,13 @@
+use Rattle.mr_history.proofs.Splits.{records_are}
+use Rattle.mr_history.proofs.Segments.{sound_fresh, sound_appended, sound_flushed, sound_sealed, sound_good}
+use Rattle.mr_history.proofs.laws.segments_stay_sound.Goals as goal
+
+pub returns : goal.returns
+returns c = record {
+  of_fresh = sound_fresh;
+  of_appended = sound_appended;
+  of_flushed = sound_flushed;
+  of_sealed = sound_sealed;
+  no_bad_line = sound_good;
+  are_records = records_are;
+}

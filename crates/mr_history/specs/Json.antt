@@ -1,0 +1,18 @@
+-- The record as a JSON value: its line is that value's compact text, and nothing else is.
+use Rattle.std.specs.Prelude.{List, ℕ, codes}
+use Rattle.serde_json.specs.Data.{Data, number, unsigned, string, object, Members, member, no_members}
+use Rattle.mr_ids.specs.Attempt.{Attempt}
+use Rattle.mr_ids.specs.Text.{attempt_text}
+use Rattle.mr_history.specs.declared.record.Record.{Record}
+use Rattle.mr_history.specs.declared.record.Record.TheVariants.{AttemptStarted, MapSucceeded, ReduceSucceeded, AttemptFailed, JobUnsuccessful}
+
+-- an object that tells of an attempt: the attempt, what happened, and more
+abbrev pub told : Attempt → List ℕ → Members → Data
+told a event more = object (member (codes "attempt") (string (attempt_text a)) (member (codes "event") (string event) more))
+
+abbrev pub value_of : Record → Data
+value_of (AttemptStarted a node) = told a (codes "started") (member (codes "node") (number (unsigned node)) no_members)
+value_of (MapSucceeded a node incarnation) = told a (codes "map") (member (codes "incarnation") (number (unsigned incarnation)) (member (codes "node") (number (unsigned node)) no_members))
+value_of (ReduceSucceeded a) = told a (codes "reduce") no_members
+value_of (AttemptFailed a) = told a (codes "failed") no_members
+value_of JobUnsuccessful = object (member (codes "event") (string (codes "unsuccessful")) no_members)

@@ -1,0 +1,13 @@
+-- A segment and a history as what they hold.
+use Rattle.std.specs.Prelude.{ℕ, Bool, List}
+
+-- stable bytes, the unflushed tail, and whether the segment is sealed
+pub record SegmentState : Type 0 where
+  pub stable : List ℕ
+  pub tail : List ℕ
+  pub is_sealed : Bool
+
+-- the segments of all application attempts by rising number, from 1, and the fence
+pub record State : Type 0 where
+  pub segments : List SegmentState
+  pub fence : ℕ

@@ -1,0 +1,161 @@
+ghost use Rattle.std.specs.Prelude.{◌≡◌, ◌≤◌, ◌<◌, ◌-◌, ℕ, [], length, replicate, IfOk, IsOkUnless, true, Option, if◌then◌else◌, nat_le, Some, None};
+ghost use Rattle.mr_history.specs.Line.{fits};
+ghost use Rattle.mr_history.specs.State.{State};
+ghost use Rattle.mr_history.specs.Segment.{fresh};
+ghost use Rattle.mr_history.specs.Calls.{Append, Flush, Read, Done, Told, Makes, MakesAlways, segment, sealed_at, raised, superseded};
+
+use crate::fault::HistoryFault;
+use crate::record::{Record, Records};
+use crate::segment::Segment;
+use mr_ids::AppAttempt;
+use std::alloc::Global;
+use std::marker::Model;
+
+/// Most application attempts, each of which has a segment.
+pub const MAX_APP_ATTEMPTS: usize = 1000;
+
+/// The segments of all application attempts, and the fence below which no master is heard.
+#[derive(Drop)]
+pub struct History {
+    segments: Vec<Segment>,
+    fence: u32,
+    alloc: Global,
+}
+
+impl Model for History {
+    ghost use Rattle.std.specs.Prelude.{◌≡◌, ◌≤◌, length};
+    ghost use Rattle.mr_history.specs.State.{State};
+
+    ghost Value = { State };
+
+    ghost view = { λ h. record { segments = h.segments.items; fence = h.fence } };
+
+    ghost invariant = { λ h. (length h.segments.items ≡ 1000) × (h.fence ≤ 1000) };
+}
+
+impl History {
+    /// Empty segments, and fence 0.
+    pub fn new(alloc: Global) -> Result<History, HistoryFault>
+        ensures made { IfOk result (λ history. history ≡ record { segments = replicate MAX_APP_ATTEMPTS fresh; fence = 0 }) }
+        ensures memory { IsOkUnless result HistoryFault.NoMemory }
+    {
+        let mut segments = Vec::new(alloc);
+        for _ in 0..MAX_APP_ATTEMPTS {
+            segments.push(Segment::new(alloc))?;
+        }
+        Ok(History {
+            segments,
+            fence: 0,
+            alloc,
+        })
+    }
+
+    /// The application attempt below which calls are refused, 0 at first.
+    pub fn fence(&self) -> u32
+        ensures value { result ≡ self.now.fence }
+        ensures range { result ≤ 1000 }
+    {
+        self.fence
+    }
+
+    /// Whether an application attempt has been raised to, which the other calls ask for.
+    pub fn is_raised(&self, k: AppAttempt) -> bool
+        ensures { result ≡ nat_le k self.now.fence }
+    {
+        k.number() <= self.fence
+    }
+
+    /// Sets the fence to `k` and seals every older segment, each with the first `kept` bytes of its tail.
+    /// Where `k` is not above the fence nothing changes.
+    pub fn raise(&mut self, k: AppAttempt, kept: usize)
+        ensures { self.new ≡ raised k kept self.old }
+    {
+        if k.number() <= self.fence {
+            return;
+        }
+        for i in 0..place(k) {
+            self.segments[i].seal(kept);
+        }
+        self.fence = k.number();
+    }
+
+    /// Adds the line of a record to the tail of the segment of `k`.
+    ///
+    /// Refusals in order: `Superseded` where `k` is below the fence, `Sealed`, `Full`, `NoMemory`.
+    pub fn append(&mut self, k: AppAttempt, record: Record) -> Result<(), HistoryFault>
+        requires raised { k ≤ self.old.fence }
+        requires fits { fits «record» ≡ true }
+        ensures { Makes (λ _. Done) self.old k (Append «record») result self.new }
+    {
+        if let Some(fault) = self.superseded(k) {
+            return Err(fault);
+        }
+        self.segments[place(k)].append(record)
+    }
+
+    /// Makes the tail of the segment of `k` stable.
+    ///
+    /// Refusals in order: `Superseded` where `k` is below the fence, `Sealed`.
+    pub fn flush(&mut self, k: AppAttempt) -> Result<(), HistoryFault>
+        requires { k ≤ self.old.fence }
+        ensures { MakesAlways (λ _. Done) self.old k Flush result self.new }
+    {
+        if let Some(fault) = self.superseded(k) {
+            return Err(fault);
+        }
+        self.segments[place(k)].flush()
+    }
+
+    /// Seals the segment of `k` alone, with the first `kept` bytes of its tail. A sealed one stays as it is.
+    pub fn seal(&mut self, k: AppAttempt, kept: usize)
+        requires { k ≤ self.old.fence }
+        ensures { self.new ≡ sealed_at k kept self.old }
+    {
+        self.segments[place(k)].seal(kept);
+    }
+
+    /// The length of the tail of the segment of `k`.
+    pub fn tail(&self, k: AppAttempt) -> usize
+        requires { k ≤ self.now.fence }
+        ensures { result ≡ length (segment self.now k).tail }
+    {
+        self.segments[place(k)].tail()
+    }
+
+    /// The records of all segments before that of `k`, from stable bytes alone.
+    ///
+    /// Refusals in order: `Superseded` where `k` is below the fence, `NoMemory`.
+    pub fn read(&self, k: AppAttempt) -> Result<Records, HistoryFault>
+        requires { k ≤ self.now.fence }
+        ensures { Makes (λ records. Told records) self.now k Read result self.now }
+    {
+        if let Some(fault) = self.superseded(k) {
+            return Err(fault);
+        }
+        let mut records = Records::new(self.alloc);
+        for i in 0..place(k) {
+            let more = self.segments[i].records()?;
+            records.extend(more.as_slice())?;
+        }
+        Ok(records)
+    }
+
+    // Why a call of `k` is refused for the fence.
+    fn superseded(&self, k: AppAttempt) -> Option<HistoryFault>
+        ensures { result ≡ superseded self.now k }
+    {
+        if k.number() < self.fence {
+            Some(HistoryFault::Superseded(self.fence))
+        } else {
+            None
+        }
+    }
+}
+
+// Where the segment of an application attempt stands.
+fn place(k: AppAttempt) -> usize
+    ensures place { result ≡ k - 1 }
+    ensures bound { result < 1000 }
+{
+    k.number() as usize - 1
+}

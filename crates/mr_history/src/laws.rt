@@ -1,0 +1,37 @@
+//! Laws of lines, segments and histories, for the layers above: these functions do nothing.
+ghost use Rattle.mr_history.specs.Laws.{LinesReadBack, LinesReplay, FrontsReplay, SegmentsRecord, SegmentsStaySound, OthersStay, WinnersStay};
+
+/// A line is read back as its record, and nothing else is read as a record.
+pub fn lines_read_back()
+    ensures { LinesReadBack }
+{}
+
+/// Whole lines and more bytes tell the records of both; lines tell their records, and what has no line feed is torn.
+pub fn lines_replay()
+    ensures { LinesReplay }
+{}
+
+/// The first bytes of lines tell the records that lie whole in them, which are the first ones.
+pub fn fronts_replay()
+    ensures { FrontsReplay }
+{}
+
+/// What each change of a segment does to its records.
+pub fn segments_record()
+    ensures { SegmentsRecord }
+{}
+
+/// Each change keeps a segment made of the lines of records.
+pub fn segments_stay_sound()
+    ensures { SegmentsStaySound }
+{}
+
+/// A change of one segment changes no other, and raising only seals.
+pub fn others_stay()
+    ensures { OthersStay }
+{}
+
+/// A winner that is there stays when records are added behind.
+pub fn winners_stay()
+    ensures { WinnersStay }
+{}

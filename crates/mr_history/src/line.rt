@@ -1,0 +1,218 @@
+//! The line of a record, written and read as JSON.
+ghost use Rattle.std.specs.Prelude.{◌≡◌, ◌<◌, ◌≤◌, ◌^◌, ◌+◌, codes, string_bytes, IfOk, IfSome, Some, ℕ, length, option_map, option_and_then};
+ghost use Rattle.std.specs.Int.Digits.{digits_of};
+ghost use Rattle.serde_json.specs.Data.{Data, number, unsigned, string, object, member, no_members};
+ghost use Rattle.serde_json.specs.Find.{get, as_str};
+ghost use Rattle.serde_json.specs.View.{view};
+ghost use Rattle.mr_ids.specs.Attempt.{Attempt};
+ghost use Rattle.mr_ids.specs.Text.{attempt_text, numeral, IsAttempt};
+ghost use Rattle.mr_history.specs.Json.{told, value_of};
+ghost use Rattle.mr_history.specs.Line.{line_of, whole_line, width, fits, IsRecord, InRange};
+ghost use Rattle.mr_history.specs.Reading.{record_of};
+
+use crate::record::Record;
+use mr_ids::AttemptId;
+use serde_json::{Value, json};
+use std::alloc::{AllocError, Global};
+
+// The record as a JSON value.
+fn value(alloc: Global, record: &Record) -> Result<Value, AllocError>
+    ensures { IfOk result (λ v. view v ≡ value_of «record».now) }
+{
+    match *record {
+        Record::AttemptStarted { attempt, node } => started(alloc, attempt, node),
+        Record::MapSucceeded {
+            attempt,
+            node,
+            incarnation,
+        } => mapped(alloc, attempt, node, incarnation),
+        Record::ReduceSucceeded { attempt } => reduced(alloc, attempt),
+        Record::AttemptFailed { attempt } => failed(alloc, attempt),
+        Record::JobUnsuccessful => json!(in alloc; {"event": "unsuccessful"}),
+    }
+}
+
+fn text_of(alloc: Global, attempt: AttemptId) -> Result<String, AllocError>
+    ensures { IfOk result (λ s. string_bytes s ≡ attempt_text attempt) }
+{
+    format!(in alloc; "{attempt}")
+}
+
+fn started(alloc: Global, attempt: AttemptId, node: u32) -> Result<Value, AllocError>
+    ensures { IfOk result (λ v. view v ≡ told attempt (codes "started") (member (codes "node") (number (unsigned node)) no_members)) }
+{
+    let text = text_of(alloc, attempt)?;
+    let text = text.as_str();
+    json!(in alloc; {"attempt": text, "event": "started", "node": node})
+}
+
+fn mapped(
+    alloc: Global,
+    attempt: AttemptId,
+    node: u32,
+    incarnation: u32,
+) -> Result<Value, AllocError>
+    ensures { IfOk result (λ v. view v ≡ told attempt (codes "map") (member (codes "incarnation") (number (unsigned incarnation)) (member (codes "node") (number (unsigned node)) no_members))) }
+{
+    let text = text_of(alloc, attempt)?;
+    let text = text.as_str();
+    json!(in alloc; {"attempt": text, "event": "map", "incarnation": incarnation, "node": node})
+}
+
+fn reduced(alloc: Global, attempt: AttemptId) -> Result<Value, AllocError>
+    ensures { IfOk result (λ v. view v ≡ told attempt (codes "reduce") no_members) }
+{
+    let text = text_of(alloc, attempt)?;
+    let text = text.as_str();
+    json!(in alloc; {"attempt": text, "event": "reduce"})
+}
+
+fn failed(alloc: Global, attempt: AttemptId) -> Result<Value, AllocError>
+    ensures { IfOk result (λ v. view v ≡ told attempt (codes "failed") no_members) }
+{
+    let text = text_of(alloc, attempt)?;
+    let text = text.as_str();
+    json!(in alloc; {"attempt": text, "event": "failed"})
+}
+
+/// The line of a record, without its line feed.
+pub fn line(alloc: Global, record: &Record) -> Result<String, AllocError>
+    ensures { IfOk result (λ s. string_bytes s ≡ line_of «record».now) }
+{
+    value(alloc, record)?.to_string(alloc)
+}
+
+/// The line of a record, ended by its line feed.
+pub fn whole_line(alloc: Global, record: &Record) -> Result<String, AllocError>
+    ensures { IfOk result (λ s. string_bytes s ≡ whole_line «record».now) }
+{
+    let mut text = line(alloc, record)?;
+    text.push('\n')?;
+    Ok(text)
+}
+
+/// How many bytes the line of a record takes, with its line feed. It takes no memory.
+pub fn width(record: &Record) -> usize
+    ensures width { result ≡ width «record».now }
+    ensures ranges { InRange «record».now }
+{
+    match *record {
+        Record::AttemptStarted { attempt, node } => 41
+            + text_len(attempt)
+            + number_len(node as u64, 1),
+        Record::MapSucceeded {
+            attempt,
+            node,
+            incarnation,
+        } => 52
+            + text_len(attempt)
+            + number_len(node as u64, 1)
+            + number_len(incarnation as u64, 1),
+        Record::ReduceSucceeded { attempt } => 32 + text_len(attempt),
+        Record::AttemptFailed { attempt } => 32 + text_len(attempt),
+        Record::JobUnsuccessful => 25,
+    }
+}
+
+// How many bytes the text of an attempt has.
+fn text_len(attempt: AttemptId) -> usize
+    ensures len { result ≡ length (attempt_text attempt) }
+    ensures small { result ≤ 93 }
+    ensures ranges { IsAttempt attempt }
+{
+    let task = attempt.task();
+    let job = task.job;
+    13 + number_len(job.start, 1)
+        + number_len(job.number as u64, 4)
+        + number_len(task.number as u64, 6)
+        + number_len(attempt.number() as u64, 1)
+}
+
+// How many bytes a number has in at least this many digits.
+fn number_len(n: u64, width: usize) -> usize
+    requires { width ≤ 20 }
+    ensures len { result ≡ length (numeral width n) }
+    ensures small { result ≤ 20 }
+{
+    digit_count(n).max(width)
+}
+
+fn digit_count(n: u64) -> usize
+    ensures len { result ≡ length (digits_of 10 n) }
+    ensures small { result ≤ 20 }
+{
+    if n == 0 { 0 } else { digit_count(n / 10) + 1 }
+}
+
+fn text_in<'v>(value: &'v Value, name: &str) -> Option<&'v str>
+    ensures { option_map (λ s. s.now) result ≡ option_and_then as_str (get name.now (view value.now)) }
+{
+    value.get(name).and_then(Value::as_str)
+}
+
+fn number_in(value: &Value, name: &str) -> Option<u32>
+    ensures { (n : ℕ) → n < 2 ^ 32 → get name.now (view value.now) ≡ Some (number (unsigned n)) → result ≡ Some n }
+{
+    match value.get(name).and_then(Value::as_u64) {
+        None => None,
+        Some(n) => u32::try_from(n).ok(),
+    }
+}
+
+fn attempt_in(text: &str) -> Option<AttemptId>
+    ensures reads { (a : Attempt) → IsAttempt a → text.now ≡ attempt_text a → result ≡ Some a }
+    ensures ranges { IfSome result IsAttempt }
+{
+    AttemptId::parse(text).ok()
+}
+
+// A value that is no record's gives none, or some record that has another text.
+fn record_in(value: &Value) -> Option<Record>
+    ensures reads { (r : Record) → IsRecord r → view value.now ≡ value_of r → result ≡ Some r }
+    ensures ranges { IfSome result InRange }
+{
+    let event = text_in(value, "event")?;
+    if event == "unsuccessful" {
+        return Some(Record::JobUnsuccessful);
+    }
+    let attempt = attempt_in(text_in(value, "attempt")?)?;
+    if event == "reduce" {
+        return Some(Record::ReduceSucceeded { attempt });
+    }
+    if event == "failed" {
+        return Some(Record::AttemptFailed { attempt });
+    }
+    let node = number_in(value, "node")?;
+    if event == "started" {
+        return Some(Record::AttemptStarted { attempt, node });
+    }
+    let incarnation = number_in(value, "incarnation")?;
+    Some(Record::MapSucceeded {
+        attempt,
+        node,
+        incarnation,
+    })
+}
+
+/// The record whose line these bytes are, if there is one.
+pub fn record_of(alloc: Global, text: &[u8]) -> Result<Option<Record>, AllocError>
+    ensures { IfOk result (λ o. o ≡ record_of text.now) }
+{
+    let value = match Value::from_slice(alloc, text) {
+        Ok(value) => value,
+        Err(error) => {
+            if error.is_memory() {
+                return Err(AllocError);
+            }
+            return Ok(None);
+        }
+    };
+    let Some(record) = record_in(&value) else {
+        return Ok(None);
+    };
+    if record.fits() && line(alloc, &record)?.as_bytes() == text {
+        Ok(Some(record))
+    } else {
+        Ok(None)
+    }
+}

@@ -1,0 +1,130 @@
+ghost use Rattle.std.specs.Prelude.{◌≡◌, ◌++◌, ◌∷◌, [], OnOk, OnErr, IfOk, length};
+ghost use Rattle.mr_history.specs.Line.{fits, is_map};
+
+use mr_ids::{AttemptId, TaskKind};
+use std::alloc::{AllocError, Global};
+use std::marker::Model;
+
+/// What a master writes down: one line of the history.
+#[derive(Clone, Copy, Debug, PartialEq, Eq)]
+pub enum Record {
+    /// The attempt was launched on a node.
+    AttemptStarted {
+        attempt: AttemptId,
+        node: u32,
+    },
+    /// A map attempt has its output on a node of this incarnation, from 1.
+    MapSucceeded {
+        attempt: AttemptId,
+        node: u32,
+        incarnation: u32,
+    },
+    /// A reduce attempt has committed its output.
+    ReduceSucceeded {
+        attempt: AttemptId,
+    },
+    /// The attempt failed.
+    AttemptFailed {
+        attempt: AttemptId,
+    },
+    /// The job failed.
+    JobUnsuccessful,
+}
+
+impl Record {
+    /// Whether the record has a line: the attempt is of the kind that the record speaks of, and an incarnation is
+    /// not 0.
+    pub fn fits(&self) -> bool
+        ensures { result ≡ fits self.now }
+    {
+        match *self {
+            Record::MapSucceeded {
+                attempt,
+                node: _,
+                incarnation,
+            } => is_map(attempt.task().kind) && 1 <= incarnation,
+            Record::ReduceSucceeded { attempt } => !is_map(attempt.task().kind),
+            _ => true,
+        }
+    }
+}
+
+fn is_map(kind: TaskKind) -> bool
+    ensures { result ≡ is_map kind }
+{
+    match kind {
+        TaskKind::Map => true,
+        TaskKind::Reduce => false,
+    }
+}
+
+/// Records in the order in which they were written.
+#[derive(Drop)]
+pub struct Records {
+    items: Vec<Record>,
+}
+
+impl Model for Records {
+    ghost use Rattle.std.specs.Prelude.{List};
+    ghost use Rattle.mr_history.specs.declared.record.Record.{Record};
+
+    ghost Value = { List Record };
+
+    ghost view = { λ r. r.items.items };
+}
+
+impl Records {
+    /// No record.
+    pub fn new(alloc: Global) -> Records
+        ensures { result ≡ [] }
+    {
+        Records {
+            items: Vec::new(alloc),
+        }
+    }
+
+    /// These records, without taking memory.
+    pub fn from_vec(items: Vec<Record>) -> Records
+        ensures { result ≡ items.items }
+    {
+        Records { items }
+    }
+
+    /// The records as a vector, without taking memory.
+    pub fn into_vec(self) -> Vec<Record>
+        ensures { result.items ≡ self }
+    {
+        self.items
+    }
+
+    /// The records as a slice.
+    pub fn as_slice(&self) -> &[Record]
+        ensures { result.now ≡ self.now }
+    {
+        &self.items
+    }
+
+    /// How many records there are.
+    pub fn len(&self) -> usize
+        ensures { result ≡ length self.now }
+    {
+        self.items.len()
+    }
+
+    /// Adds a record at the end.
+    pub fn push(&mut self, item: Record) -> Result<(), AllocError>
+        ensures ok { OnOk result (self.new ≡ self.old ++ item ∷ []) }
+        ensures err { OnErr result (self.new ≡ self.old) }
+    {
+        self.items.push(item)?;
+        Ok(())
+    }
+
+    /// Adds records at the end.
+    pub fn extend(&mut self, more: &[Record]) -> Result<(), AllocError>
+        ensures ok { OnOk result (self.new ≡ self.old ++ more.now) }
+        ensures err { OnErr result (self.new ≡ self.old) }
+    {
+        self.items.extend_from_slice(more)
+    }
+}
