@@ -1,0 +1,16 @@
+pub mod CodecProofs
+pub mod Codecs
+pub mod Computation
+pub mod Faults
+pub mod Groups
+pub mod Laws
+pub mod LineIndex
+pub mod LineIndexProofs
+pub mod MaxByKey
+pub mod MaxByKeyProofs
+pub mod Meaning
+pub mod Sequential
+pub mod WordCount
+pub mod WordCountProofs
+pub mod Words
+pub mod WordsProofs

@@ -1,0 +1,12 @@
+//! Laws of the definitions: these functions do nothing.
+ghost use Rattle.mr_user.specs.Meaning.{LinesArePieces, KeysRise};
+
+/// The lines of a split are the pieces before each line feed, and the rest after the last one if that is not empty.
+pub fn lines_are_pieces()
+    ensures { LinesArePieces }
+{}
+
+/// The rising keys of a list are its own, each once, and each less than the next.
+pub fn keys_rise<K: Ord>()
+    ensures { KeysRise K.cmp }
+{}
