@@ -1,0 +1,65 @@
+-- The verbs, and the two parts of a command's line.
+use Rattle.std.proofs.Common.{◌≡◌, ℕ, List, length, cond, eqb, slice_index, IfNone, Some, None, Option, refl, sym, ap, ◌∙◌}
+use Rattle.mr_sim.specs.declared.order.Verb.{Verb}
+use Rattle.mr_sim.specs.declared.order.Verb.TheVariants as verb
+use Rattle.mr_sim.specs.Lines.{word_of, after_word}
+use Rattle.mr_sim.specs.declared.order.Order.{Order}
+use Rattle.mr_sim.specs.declared.order.Order.TheVariants.{As, Raise, Check, Setup, Write, Needs, Commit, CommitJob}
+use Rattle.mr_sim.specs.Script.{line_of, IsCommand, IsBad}
+use Rattle.mr_sim.specs.Verb.{verb_text, verb_of, rest_of}
+
+pub word_of-line_of : (o : Order) → word_of (line_of o) ≡ verb_text (verb_of o)
+word_of-line_of (As k) = refl
+word_of-line_of (Raise k) = refl
+word_of-line_of Check = refl
+word_of-line_of Setup = refl
+word_of-line_of (Write a text) = refl
+word_of-line_of (Needs a) = refl
+word_of-line_of (Commit a) = refl
+word_of-line_of CommitJob = refl
+
+pub after_word-line_of : (o : Order) → after_word (line_of o) ≡ rest_of o
+after_word-line_of (As k) = refl
+after_word-line_of (Raise k) = refl
+after_word-line_of Check = refl
+after_word-line_of Setup = refl
+after_word-line_of (Write a text) = refl
+after_word-line_of (Needs a) = refl
+after_word-line_of (Commit a) = refl
+after_word-line_of CommitJob = refl
+
+-- no two verbs have one text
+verb_back : List ℕ → Verb
+verb_back w =
+    cond (eqb (length w) 2) verb.As
+    (cond (eqb (length w) 6) verb.Commit
+    (cond (eqb (length w) 9) verb.CommitJob
+    (cond (eqb (slice_index w 0) 114) verb.Raise
+    (cond (eqb (slice_index w 0) 99) verb.Check
+    (cond (eqb (slice_index w 0) 115) verb.Setup
+    (cond (eqb (slice_index w 0) 119) verb.Write verb.Needs))))))
+
+back : (v : Verb) → verb_back (verb_text v) ≡ v
+unfolding verb_back
+back verb.As = refl
+back verb.Raise = refl
+back verb.Check = refl
+back verb.Setup = refl
+back verb.Write = refl
+back verb.Needs = refl
+back verb.Commit = refl
+back verb.CommitJob = refl
+
+pub verb_text-injective : (v w : Verb) → verb_text v ≡ verb_text w → v ≡ w
+verb_text-injective v w e = sym (back v) ∙ ap verb_back e ∙ back w
+
+-- what is not the command of a line's verb and rest is no command of the line
+pub bad_from_rest : {A : Type 0} (r : Option A) (line : List ℕ) (v : Verb) (rest : Option (List ℕ)) → word_of line ≡ verb_text v → after_word line ≡ rest
+    → IfNone r ((o : Order) → IsCommand o → verb_of o ≡ v → rest_of o ≡ rest → ⊥) → IfNone r (IsBad line)
+bad_from_rest None line v rest w r none = λ o h.
+    none o h.0 (verb_text-injective (verb_of o) v (sym (word_of-line_of o) ∙ ap word_of (sym h.1) ∙ w)) (sym (after_word-line_of o) ∙ ap after_word (sym h.1) ∙ r)
+bad_from_rest (Some x) line v rest w r none = tt
+
+-- a line whose first word is no verb
+pub bad_from_word : (line word : List ℕ) → word_of line ≡ word → ((v : Verb) → word ≡ verb_text v → ⊥) → IsBad line
+bad_from_word line word w none = λ o h. none (verb_of o) (sym w ∙ ap word_of h.1 ∙ word_of-line_of o)

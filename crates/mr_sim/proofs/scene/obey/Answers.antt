@@ -1,0 +1,64 @@
+use Rattle.std.proofs.Common.{◌≡◌, ap, ◌∙◌, sym}
+use Rattle.mr_commit.specs.Tables.{setup_job, commit_task, commit_job}
+use Rattle.mr_commit.specs.Whole.{whole, checked}
+use Rattle.mr_sim.specs.declared.order.Order.{Order}
+use Rattle.mr_sim.specs.Effect.{outcome, silent, in_turn, writes}
+use Rattle.mr_sim.proofs.Obeying.{obeyed, obeyed_from, form_has, turn_has, obeyed_needs}
+use Rattle.mr_sim.proofs.scene.obey.Goals as goal
+
+pub returns-in-As : goal.returns-in-As
+unfolding outcome
+returns-in-As c = ap (λ (o : Order). outcome c.args.layout.now.dest o c.args.scene.now) c.in-As.is
+
+pub returns-in-Raise : goal.returns-in-Raise
+unfolding outcome
+returns-in-Raise c = rw c.raise.ensures (ap (λ (o : Order). outcome c.args.layout.now.dest o c.args.scene.now) c.in-Raise.is)
+
+pub returns-in-Check : goal.returns-in-Check
+unfolding outcome
+returns-in-Check c =
+    let s = c.args.scene.now in
+    let is : silent (checked c.args.layout.now.dest s.names s.app) ≡ c.silent.result = ap silent (sym c.check_output.ensures) ∙ sym c.silent.ensures in
+    obeyed_from c.args.layout.now.dest c.args.order.now s c.silent.result s (ap (λ (o : Order). outcome c.args.layout.now.dest o s) c.in-Check.is ∙ ap (λ q. (q, s)) is)
+
+pub returns-in-Setup : goal.returns-in-Setup
+unfolding outcome
+returns-in-Setup c =
+    let s = c.args.scene.now in
+    let dest = c.args.layout.now.dest in
+    rw c.silent-in-Setup.ensures (obeyed dest c.args.order.now s (whole (setup_job dest s.app) s.names s.app) c.setup_job.result c.setup_job.new.names
+    (ap (λ (o : Order). outcome dest o s) c.in-Setup.is) (form_has (setup_job dest s.app) s.names s.app c.setup_job.result c.setup_job.new.names c.setup_job.ensures.effect))
+
+pub returns-in-Write : goal.returns-in-Write
+unfolding outcome
+returns-in-Write c =
+    let s = c.args.scene.now in
+    let dest = c.args.layout.now.dest in
+    let calls = writes dest s.app c.in-Write.attempt c.in-Write.text in
+    rw c.silent-in-Write.ensures (obeyed dest c.args.order.now s (in_turn calls s.names s.app) c.write.result c.write.new.names
+    (ap (λ (o : Order). outcome dest o s) c.in-Write.is) (turn_has calls s.names s.app c.write.result c.write.new.names c.write.ensures))
+
+pub returns-in-Needs : goal.returns-in-Needs
+unfolding outcome
+returns-in-Needs c =
+    let s = c.args.scene.now in
+    let dest = c.args.layout.now.dest in
+    rw c.told.ensures (obeyed_needs dest c.args.order.now c.in-Needs.attempt s c.needs_task_commit.result
+    (ap (λ (o : Order). outcome dest o s) c.in-Needs.is) c.needs_task_commit.ensures)
+
+pub returns-in-Commit : goal.returns-in-Commit
+unfolding outcome
+returns-in-Commit c =
+    let s = c.args.scene.now in
+    let dest = c.args.layout.now.dest in
+    let lines = commit_task dest s.app c.in-Commit.attempt in
+    rw c.silent-in-Commit.ensures (obeyed dest c.args.order.now s (whole lines s.names s.app) c.commit_task.result c.commit_task.new.names
+    (ap (λ (o : Order). outcome dest o s) c.in-Commit.is) (form_has lines s.names s.app c.commit_task.result c.commit_task.new.names c.commit_task.ensures.effect))
+
+pub returns-in-CommitJob : goal.returns-in-CommitJob
+unfolding outcome
+returns-in-CommitJob c =
+    let s = c.args.scene.now in
+    let dest = c.args.layout.now.dest in
+    rw c.silent-in-CommitJob.ensures (obeyed dest c.args.order.now s (whole (commit_job dest s.app) s.names s.app) c.commit_job.result c.commit_job.new.names
+    (ap (λ (o : Order). outcome dest o s) c.in-CommitJob.is) (form_has (commit_job dest s.app) s.names s.app c.commit_job.result c.commit_job.new.names c.commit_job.ensures.effect))

@@ -1,0 +1,100 @@
+-- What a command of a script answers, and what it leaves. The committer's part is the committer effect: setupJob,
+-- commitTask, commitJob and needsTaskCommit of the Hadoop OutputCommitter API, with FileOutputCommitter's algorithm
+-- version 1 and `checkOutputSpecs`. Fence and generations are our own profile.
+use Rattle.std.specs.Prelude.{◌≡◌, ℕ, Bool, true, false, List, [], ◌∷◌, ◌++◌, Result, Ok, Err, codes}
+use Rattle.mr_ids.specs.Attempt.{Attempt}
+use Rattle.mr_paths.specs.Layout.{task_attempt, part}
+use Rattle.mr_names.specs.declared.fault.NameFault.{NameFault}
+use Rattle.mr_names.specs.declared.op.Op.{Op}
+use Rattle.mr_names.specs.declared.op.Op.TheVariants as op
+use Rattle.mr_names.specs.declared.op.Answer.{Answer}
+use Rattle.mr_names.specs.Calls.{State, opening, raised, call_of}
+use Rattle.mr_commit.specs.declared.fault.CommitFault.{CommitFault}
+use Rattle.mr_commit.specs.declared.fault.CommitFault.TheVariants as fault
+use Rattle.mr_commit.specs.Line.{fault_of}
+use Rattle.mr_commit.specs.Tables.{setup_job, commit_task, commit_job}
+use Rattle.mr_commit.specs.Whole.{whole, has_output, checked}
+use Rattle.mr_sim.specs.declared.order.Order.{Order}
+use Rattle.mr_sim.specs.declared.order.Order.TheVariants.{As, Raise, Check, Setup, Write, Needs, Commit, CommitJob}
+use Rattle.mr_sim.specs.declared.scene.Scene.{Scene}
+use Rattle.mr_sim.specs.declared.scene.Reply.{Reply}
+use Rattle.mr_sim.specs.declared.scene.Reply.TheVariants.{Silent, Yes, No}
+
+-- the destination of a script's job
+abbrev pub out : List (List ℕ)
+out = codes "out" ∷ []
+
+-- before the first command: an empty namespace with fence 0, and generation 1
+abbrev pub start : Scene
+start = record { names = opening; app = 1 }
+
+-- ---- the calls of a write
+
+-- the answer of one call
+abbrev pub done : Result (Unit {0}) NameFault → Result (Unit {0}) CommitFault
+done (Ok x) = Ok tt
+done (Err f) = Err (fault_of f)
+
+-- an answered call goes on, a refused one ends all
+abbrev pub then_on : Result Answer NameFault → State → (State → Result (Unit {0}) CommitFault × State) → Result (Unit {0}) CommitFault × State
+then_on (Ok a) t on = on t
+then_on (Err f) t on = (Err (fault_of f), t)
+
+-- calls made in turn until one is refused: what those before it did stays
+abbrev pub in_turn : List Op → State → ℕ → Result (Unit {0}) CommitFault × State
+in_turn [] s app = (Ok tt, s)
+in_turn (call ∷ calls) s app = then_on (call_of s app call).0 (call_of s app call).1 (λ t. in_turn calls t app)
+
+-- the part file of an attempt
+abbrev pub part_file : List (List ℕ) → ℕ → Attempt → List (List ℕ)
+part_file dest k a = task_attempt dest k a ++ part a.task.number ∷ []
+
+-- a folder is made, and a file created, filled and closed
+abbrev pub puts : List (List ℕ) → List (List ℕ) → List ℕ → List Op
+puts folder file bytes = op.Mkdirs folder ∷ op.Create file false ∷ op.Append file bytes ∷ op.Close file ∷ []
+
+-- an attempt writes its part file: a text and a line feed
+abbrev pub writes : List (List ℕ) → ℕ → Attempt → List ℕ → List Op
+writes dest k a text = puts (task_attempt dest k a) (part_file dest k a) (text ++ 10 ∷ [])
+
+-- ---- what is answered
+
+abbrev pub silent : Result (Unit {0}) CommitFault → Result Reply CommitFault
+silent (Ok done) = Ok Silent
+silent (Err f) = Err f
+
+abbrev pub reply_of : Bool → Reply
+reply_of true = Yes
+reply_of false = No
+
+abbrev pub told : Result Bool CommitFault → Result Reply CommitFault
+told (Ok b) = Ok (reply_of b)
+told (Err f) = Err f
+
+-- the same generation at another namespace
+abbrev pub at_names : Scene → State → Scene
+at_names s t = record s { names = t }
+
+abbrev pub by_calls : Scene → Result (Unit {0}) CommitFault × State → Result Reply CommitFault × Scene
+by_calls s r = (silent r.0, at_names s r.1)
+
+-- what a command answers, and the scene after it. All paths take the generation that makes the calls.
+unfoldable pub outcome : List (List ℕ) → Order → Scene → Result Reply CommitFault × Scene
+outcome dest (As k) s = (Ok Silent, record s { app = k })
+outcome dest (Raise k) s = (Ok Silent, at_names s (raised s.names k))
+outcome dest Check s = (silent (checked dest s.names s.app), s)
+outcome dest Setup s = by_calls s (whole (setup_job dest s.app) s.names s.app)
+outcome dest (Write a text) s = by_calls s (in_turn (writes dest s.app a text) s.names s.app)
+outcome dest (Needs a) s = (told (has_output (call_of s.names s.app (op.Exists (task_attempt dest s.app a))).0), s)
+outcome dest (Commit a) s = by_calls s (whole (commit_task dest s.app a) s.names s.app)
+outcome dest CommitJob s = by_calls s (whole (commit_job dest s.app) s.names s.app)
+
+-- A function did what the command says, but for want of memory.
+abbrev pub Obeys : List (List ℕ) → Order → Scene → Result Reply CommitFault → Scene → Type 0
+Obeys dest o s (Err fault.NoMemory) t = Unit {0}
+Obeys dest o s r t = outcome dest o s ≡ (r, t)
+
+-- Calls in turn were made, but for want of memory.
+abbrev pub InTurn : List Op → State → ℕ → Result (Unit {0}) CommitFault → State → Type 0
+InTurn calls s app (Err fault.NoMemory) t = Unit {0}
+InTurn calls s app r t = in_turn calls s app ≡ (r, t)

@@ -1,0 +1,22 @@
+-- The faults of a run: their statuses, and which of them reading answers.
+use Rattle.std.specs.Prelude.{ℕ}
+use Rattle.mr_sim.specs.declared.fault.SimFault.{SimFault}
+use Rattle.mr_sim.specs.declared.fault.SimFault.TheVariants.{NoMemory, Read, Write, TooLong, BadCommand, BadRecord}
+
+-- the exit status of the program
+abbrev pub status_of : SimFault → ℕ
+status_of NoMemory = 5
+status_of Read = 4
+status_of Write = 4
+status_of TooLong = 3
+status_of (BadCommand n) = 3
+status_of (BadRecord n) = 3
+
+-- the faults of reading the input
+abbrev pub IsReadFault : SimFault → Type 0
+IsReadFault NoMemory = Unit {0}
+IsReadFault Read = Unit {0}
+IsReadFault Write = ⊥
+IsReadFault TooLong = Unit {0}
+IsReadFault (BadCommand n) = ⊥
+IsReadFault (BadRecord n) = ⊥

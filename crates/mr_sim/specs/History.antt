@@ -1,0 +1,40 @@
+-- What `history` prints for the bytes of a segment.
+use Rattle.std.specs.Prelude.{◌≡◌, ℕ, List, [], ◌∷◌, ◌++◌, length, flat_map, codes, decimal, Some, None}
+use Rattle.mr_ids.specs.Text.{attempt_text}
+use Rattle.mr_history.specs.declared.record.Record.{Record}
+use Rattle.mr_history.specs.declared.record.Record.TheVariants.{AttemptStarted, MapSucceeded, ReduceSucceeded, AttemptFailed, JobUnsuccessful}
+use Rattle.mr_history.specs.declared.fault.HistoryFault.{HistoryFault}
+use Rattle.mr_history.specs.declared.fault.HistoryFault.TheVariants.{Superseded, Sealed, BadLine, Full, NoMemory}
+use Rattle.mr_history.specs.Reading.{records_of, torn_of, bad_line}
+
+-- one record
+abbrev pub record_text : Record → List ℕ
+record_text (AttemptStarted a node) = codes "started " ++ attempt_text a ++ codes " node " ++ decimal node
+record_text (MapSucceeded a node incarnation) = codes "map " ++ attempt_text a ++ codes " node " ++ decimal node ++ codes " incarnation " ++ decimal incarnation
+record_text (ReduceSucceeded a) = codes "reduce " ++ attempt_text a
+record_text (AttemptFailed a) = codes "failed " ++ attempt_text a
+record_text JobUnsuccessful = codes "unsuccessful"
+
+abbrev pub record_line : Record → List ℕ
+record_line r = record_text r ++ 10 ∷ []
+
+-- how many bytes were dropped
+abbrev pub torn_line : ℕ → List ℕ
+torn_line n = codes "torn " ++ decimal n ++ 10 ∷ []
+
+-- all records, and then what is torn
+abbrev pub history_text : List ℕ → List ℕ
+history_text bytes = flat_map record_line (records_of bytes) ++ torn_line (length (torn_of bytes))
+
+-- bytes in which each whole line is a record, and what is printed for them
+pub record PrintsHistory (bytes text : List ℕ) : Type 0 where
+  pub good : bad_line bytes ≡ None
+  pub is : text ≡ history_text bytes
+
+-- why nothing is printed: the first bad line, or want of memory
+abbrev pub RefusesHistory : List ℕ → HistoryFault → Type 0
+RefusesHistory bytes (BadLine n) = bad_line bytes ≡ Some n
+RefusesHistory bytes NoMemory = Unit {0}
+RefusesHistory bytes (Superseded fence) = ⊥
+RefusesHistory bytes Sealed = ⊥
+RefusesHistory bytes Full = ⊥

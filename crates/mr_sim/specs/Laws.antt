@@ -1,0 +1,17 @@
+-- Laws of the definitions.
+use Rattle.std.specs.Prelude.{◌≡◌, ℕ, List}
+use Rattle.mr_sim.specs.declared.order.Order.{Order}
+use Rattle.mr_sim.specs.Lines.{lines_of}
+use Rattle.mr_sim.specs.Script.{AreCommands, IsFirstBad}
+
+-- a script has at most one reading
+abbrev pub OneReading : Type 0
+OneReading = (bytes : List ℕ) (os ps : List (ℕ × Order)) → AreCommands 1 (lines_of bytes) os → AreCommands 1 (lines_of bytes) ps → os ≡ ps
+
+-- a script that has a reading has no bad line
+abbrev pub ReadOrBad : Type 0
+ReadOrBad = (bytes : List ℕ) (os : List (ℕ × Order)) (k : ℕ) → AreCommands 1 (lines_of bytes) os → IsFirstBad 1 (lines_of bytes) k → ⊥
+
+-- a script has at most one first bad line
+abbrev pub OneFirstBad : Type 0
+OneFirstBad = (bytes : List ℕ) (j k : ℕ) → IsFirstBad 1 (lines_of bytes) j → IsFirstBad 1 (lines_of bytes) k → j ≡ k

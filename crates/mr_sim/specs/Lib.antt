@@ -1,0 +1,10 @@
+pub mod Effect
+pub mod Fault
+pub mod History
+pub mod Laws
+pub mod Lines
+pub mod Listing
+pub mod Printed
+pub mod Script
+pub mod ScriptFault
+pub mod Verb

@@ -1,0 +1,111 @@
+-- What a subcommand prints for its input, and which faults it answers.
+use Rattle.std.specs.Prelude.{◌≡◌, ◌<◌, ◌≤◌, ◌^◌, Option, Some, ℕ, List, [], ◌∷◌, ◌++◌, Result, Ok, Err, codes, decimal, length}
+use Rattle.std.specs.Io.KnownBytes.{Appends}
+use Rattle.mr_names.specs.declared.fault.NameFault.{NameFault}
+use Rattle.mr_names.specs.declared.fault.NameFault.TheVariants as names
+use Rattle.mr_commit.specs.declared.fault.CommitFault.{CommitFault}
+use Rattle.mr_commit.specs.declared.fault.CommitFault.TheVariants as commits
+use Rattle.mr_sim.specs.declared.fault.SimFault.{SimFault}
+use Rattle.mr_sim.specs.declared.fault.SimFault.TheVariants.{NoMemory, Read, Write, TooLong, BadCommand, BadRecord}
+use Rattle.mr_sim.specs.declared.order.Order.{Order}
+use Rattle.mr_sim.specs.declared.scene.Scene.{Scene}
+use Rattle.mr_sim.specs.declared.scene.Reply.{Reply}
+use Rattle.mr_sim.specs.declared.scene.Reply.TheVariants.{Silent, Yes, No}
+use Rattle.mr_sim.specs.declared.subcommand.Command.{Command}
+use Rattle.mr_sim.specs.declared.subcommand.Command.TheVariants.{Committer, History}
+use Rattle.mr_history.specs.Reading.{bad_line}
+use Rattle.mr_sim.specs.Effect.{out, start, outcome}
+use Rattle.mr_sim.specs.History.{PrintsHistory}
+use Rattle.mr_sim.specs.Lines.{lines_of}
+use Rattle.mr_sim.specs.Listing.{listing}
+use Rattle.mr_sim.specs.Script.{AreCommands, IsFirstBad}
+
+-- ---- `committer`
+
+-- the variant of a refusal
+abbrev pub name_fault_text : NameFault → List ℕ
+name_fault_text (names.Superseded fence) = codes "Superseded " ++ decimal fence
+name_fault_text names.Missing = codes "Missing"
+name_fault_text names.Exists = codes "Exists"
+name_fault_text names.NotDir = codes "NotDir"
+name_fault_text names.NotFile = codes "NotFile"
+name_fault_text names.Closed = codes "Closed"
+name_fault_text names.NoParent = codes "NoParent"
+name_fault_text names.IntoItself = codes "IntoItself"
+name_fault_text names.Full = codes "Full"
+name_fault_text names.NoMemory = codes "NoMemory"
+
+abbrev pub fault_text : CommitFault → List ℕ
+fault_text (commits.Names f) = name_fault_text f
+fault_text commits.OutputMissing = codes "OutputMissing"
+fault_text commits.DestinationExists = codes "DestinationExists"
+fault_text commits.Over = codes "Over"
+fault_text commits.NoMemory = codes "NoMemory"
+
+-- one line of what is printed
+abbrev pub said : ℕ → List ℕ → List ℕ
+said line text = decimal line ++ codes ": " ++ text ++ 10 ∷ []
+
+-- what the command of a line prints
+unfoldable pub reply_text : ℕ → Result Reply CommitFault → List ℕ
+reply_text line (Ok Silent) = []
+reply_text line (Ok Yes) = said line (codes "yes")
+reply_text line (Ok No) = said line (codes "no")
+reply_text line (Err f) = said line (fault_text f)
+
+-- what commands with their lines print in turn, and where they lead
+abbrev pub replies : List (List ℕ) → List (ℕ × Order) → Scene → List ℕ
+replies dest [] s = []
+replies dest (o ∷ os) s = reply_text o.0 (outcome dest o.1 s).0 ++ replies dest os (outcome dest o.1 s).1
+
+abbrev pub scene_after : List (List ℕ) → List (ℕ × Order) → Scene → Scene
+scene_after dest [] s = s
+scene_after dest (o ∷ os) s = scene_after dest os (outcome dest o.1 s).1
+
+-- the replies, and then what the namespace holds
+abbrev pub committer_text : List (ℕ × Order) → List ℕ
+committer_text os = replies out os start ++ listing (scene_after out os start).names.content
+
+-- ---- all subcommands
+
+-- the text is what the subcommand prints for the input
+abbrev pub Prints : Command → List ℕ → List ℕ → Type 0
+Prints Committer input text = (os : List (ℕ × Order)) × AreCommands 1 (lines_of input) os × (text ≡ committer_text os)
+Prints History input text = PrintsHistory input text
+
+-- the first line of a script that is no command
+abbrev pub IsBadLine : Command → List ℕ → ℕ → Type 0
+IsBadLine Committer input n = IsFirstBad 1 (lines_of input) n
+IsBadLine History input n = ⊥
+
+-- the first whole line of a segment that is no record
+abbrev pub IsBadRecord : Command → List ℕ → ℕ → Type 0
+IsBadRecord Committer input n = ⊥
+IsBadRecord History input n = bad_line input ≡ Some n
+
+-- the text is formed or refused only of an input within the limit
+abbrev pub IsWithin : List ℕ → Type 0
+IsWithin input = length input ≤ 2 ^ 24
+
+-- Which faults a subcommand answers. Want of memory and a failed read may come at any input; a failed write only
+-- where there is a text to be written.
+abbrev pub Refuses : Command → List ℕ → SimFault → Type 0
+Refuses command input NoMemory = Unit {0}
+Refuses command input Read = Unit {0}
+Refuses command input Write = IsWithin input × ((text : List ℕ) × Prints command input text)
+Refuses command input TooLong = 2 ^ 24 < length input
+Refuses command input (BadCommand n) = IsWithin input × IsBadLine command input n
+Refuses command input (BadRecord n) = IsWithin input × IsBadRecord command input n
+
+-- The text was written behind what the writer had.
+abbrev pub Writes : Command → List ℕ → Option (List ℕ) → Option (List ℕ) → Type 0
+Writes command input old new = IsWithin input × ((text : List ℕ) × Prints command input text × Appends old new text)
+
+-- The faults of forming the text.
+abbrev pub RefusesText : Command → List ℕ → SimFault → Type 0
+RefusesText command input NoMemory = Unit {0}
+RefusesText command input Read = ⊥
+RefusesText command input Write = ⊥
+RefusesText command input TooLong = ⊥
+RefusesText command input (BadCommand n) = IsBadLine command input n
+RefusesText command input (BadRecord n) = IsBadRecord command input n

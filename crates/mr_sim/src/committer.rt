@@ -1,0 +1,101 @@
+//! The subcommand `committer`.
+ghost use Rattle.std.specs.Prelude.{◌≡◌, ◌++◌, ◌∷◌, [], codes, ℕ, IfOk, IfErr, OnOk, IsOkUnless};
+ghost use Rattle.mr_sim.specs.Effect.{out, start, outcome};
+ghost use Rattle.mr_sim.specs.Listing.{listing};
+ghost use Rattle.mr_sim.specs.Printed.{Prints, RefusesText, replies, reply_text, scene_after};
+
+use crate::fault::SimFault;
+use crate::listing::print_listing;
+use crate::order::Order;
+use crate::reply::print_reply;
+use crate::scene::{Scene, obey};
+use crate::script::{ScriptFault, script_of};
+use crate::subcommand::Command;
+use mr_commit::CommitFault;
+use mr_ids::AppAttempt;
+use mr_names::Namespace;
+use mr_paths::{Layout, Name, Path};
+use std::alloc::{AllocError, Global};
+
+/// The layout of a script's job, whose destination is `/out`.
+fn layout(alloc: Global) -> Result<Layout, AllocError>
+    ensures { IfOk result (λ layout. layout.dest ≡ out) }
+{
+    let mut dest = Path::root(alloc);
+    dest.push(Name::new(alloc, b"out")?)?;
+    Ok(Layout { dest })
+}
+
+/// An empty namespace with fence 0, and generation 1.
+fn start(alloc: Global) -> Result<Scene, SimFault>
+    ensures made { IfOk result (λ scene. scene ≡ start) }
+    ensures memory { IsOkUnless result SimFault.NoMemory }
+{
+    let app = AppAttempt::new(1).unwrap();
+    match Namespace::new(alloc) {
+        Ok(names) => Ok(Scene { names, app }),
+        Err(_) => Err(SimFault::NoMemory),
+    }
+}
+
+/// Does what one command says, and prints its reply.
+fn take(
+    alloc: Global,
+    layout: &Layout,
+    scene: &mut Scene,
+    out: &mut Vec<u8>,
+    line: usize,
+    order: &Order,
+) -> Result<(), SimFault>
+    ensures printed { OnOk result (out.new.items ≡ out.old.items ++ reply_text line (outcome layout.now.dest order.now scene.old).0) }
+    ensures after { OnOk result (scene.new ≡ (outcome layout.now.dest order.now scene.old).1) }
+    ensures memory { IsOkUnless result SimFault.NoMemory }
+{
+    match obey(scene, layout, order) {
+        Err(CommitFault::NoMemory) => Err(SimFault::NoMemory),
+        reply => Ok(print_reply(alloc, out, line, reply)?),
+    }
+}
+
+/// Does what all commands say in turn, and prints their replies.
+fn replies(
+    alloc: Global,
+    layout: &Layout,
+    scene: &mut Scene,
+    out: &mut Vec<u8>,
+    orders: &[(usize, Order)],
+) -> Result<(), SimFault>
+    ensures printed { OnOk result (out.new.items ≡ out.old.items ++ replies layout.now.dest orders.now scene.old) }
+    ensures after { OnOk result (scene.new ≡ scene_after layout.now.dest orders.now scene.old) }
+    ensures memory { IsOkUnless result SimFault.NoMemory }
+{
+    for (line, order) in orders {
+        take(alloc, layout, scene, out, *line, order)?;
+    }
+    Ok(())
+}
+
+/// What the commands of a script print, and then the listing of what they left.
+fn text_of(alloc: Global, orders: &[(usize, Order)]) -> Result<Vec<u8>, SimFault>
+    ensures printed { IfOk result (λ v. v.items ≡ replies out orders.now start ++ listing (scene_after out orders.now start).names.content) }
+    ensures memory { IsOkUnless result SimFault.NoMemory }
+{
+    let layout = layout(alloc)?;
+    let mut scene = start(alloc)?;
+    let mut text = Vec::new(alloc);
+    replies(alloc, &layout, &mut scene, &mut text, orders)?;
+    print_listing(&scene.names, &mut text)?;
+    Ok(text)
+}
+
+/// What `committer` prints for a script.
+pub fn committer(alloc: Global, input: &[u8]) -> Result<Vec<u8>, SimFault>
+    ensures ok { IfOk result (λ v. Prints Command.Committer input.now v.items) }
+    ensures fault { IfErr result (RefusesText Command.Committer input.now) }
+{
+    match script_of(alloc, input) {
+        Ok(orders) => text_of(alloc, &orders),
+        Err(ScriptFault::NoMemory) => Err(SimFault::NoMemory),
+        Err(ScriptFault::BadCommand(line)) => Err(SimFault::BadCommand(line)),
+    }
+}

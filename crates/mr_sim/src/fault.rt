@@ -1,0 +1,58 @@
+ghost use Rattle.std.specs.Prelude.{◌≡◌};
+ghost use Rattle.mr_sim.specs.declared.fault.SimFault.TheVariants.{NoMemory};
+ghost use Rattle.mr_sim.specs.Fault.{status_of};
+
+use std::alloc::{AllocError, AllocFailed};
+use thiserror::Error;
+
+/// Why a subcommand gave no output. Its text is what the program prints to standard error.
+#[derive(Clone, Copy, Debug, PartialEq, Eq, Error)]
+pub enum SimFault {
+    /// There was no memory for a part of the run.
+    #[error("mrsim: no memory")]
+    NoMemory,
+    /// A read failed, or the input did not end within the most reads.
+    #[error("mrsim: read")]
+    Read,
+    /// A write failed.
+    #[error("mrsim: write")]
+    Write,
+    /// The input has more than 16,777,216 bytes.
+    #[error("mrsim: input too long")]
+    TooLong,
+    /// This line of a script, counted from 1, is the first that is no command.
+    #[error("mrsim: line {0}: bad command")]
+    BadCommand(usize),
+    /// This whole line of a history segment, counted from 1, is the first that is no record.
+    #[error("mrsim: history: bad line {0}")]
+    BadRecord(usize),
+}
+
+impl SimFault {
+    /// The exit status of the program: 3 for a refused input, 4 for a stream that failed, 5 for want of memory.
+    pub fn status(&self) -> u8
+        ensures { result ≡ status_of self.now }
+    {
+        match self {
+            SimFault::TooLong | SimFault::BadCommand(_) | SimFault::BadRecord(_) => 3,
+            SimFault::Read | SimFault::Write => 4,
+            SimFault::NoMemory => 5,
+        }
+    }
+}
+
+impl From<AllocError> for SimFault {
+    ghost from_gives = { λ _ e. e ≡ NoMemory };
+
+    fn from(_e: AllocError) -> SimFault {
+        SimFault::NoMemory
+    }
+}
+
+impl<T: Drop> From<AllocFailed<T>> for SimFault {
+    ghost from_gives = { λ _ e. e ≡ NoMemory };
+
+    fn from(_e: AllocFailed<T>) -> SimFault {
+        SimFault::NoMemory
+    }
+}

@@ -1,0 +1,227 @@
+//! One line of a script.
+ghost use Rattle.std.specs.Prelude.{◌≡◌, ◌≢◌, ◌<◌, ◌≤◌, ◌^◌, ℕ, List, ◌∷◌, ◌++◌, All, IfSome, IfNone, IfOk, Some, None, decimal};
+ghost use Rattle.mr_ids.specs.Attempt.{Attempt};
+ghost use Rattle.mr_ids.specs.Text.{IsAttempt};
+ghost use Rattle.mr_sim.specs.Lines.{word_of, after_word};
+ghost use Rattle.mr_sim.specs.Script.{attempt_word, IsGeneration, IsCommand, IsLine, IsBad};
+ghost use Rattle.mr_sim.specs.Verb.{verb_of, verb_text, rest_of};
+
+use itoa::Buffer;
+use mr_ids::{AppAttempt, AttemptId, TaskKind};
+use mr_names::Bytes;
+use std::alloc::{AllocError, Global};
+use std::str;
+
+/// A command of a committer script.
+#[derive(Drop)]
+pub enum Order {
+    /// The generation that makes the calls from here on.
+    As(AppAttempt),
+    /// Raises the fence of the namespace to this generation.
+    Raise(AppAttempt),
+    /// Tests that the destination does not exist.
+    Check,
+    /// Sets the job up.
+    Setup,
+    /// An attempt of a reduce writes its part file: this text and a line feed.
+    Write(AttemptId, Bytes),
+    /// Asks whether the attempt has output to be committed.
+    Needs(AttemptId),
+    /// Commits the attempt's output as its task's.
+    Commit(AttemptId),
+    /// Commits the job.
+    CommitJob,
+}
+
+/// The first word of a command.
+#[derive(Clone, Copy, Debug, PartialEq, Eq)]
+pub enum Verb {
+    As,
+    Raise,
+    Check,
+    Setup,
+    Write,
+    Needs,
+    Commit,
+    CommitJob,
+}
+
+/// The bytes before the first of these bytes, and those after it.
+pub fn cut(bytes: &[u8], at: u8) -> Option<(&[u8], &[u8])>
+    ensures some { IfSome result (λ p. All (λ b. b ≢ at) p.0.now × (bytes.now ≡ p.0.now ++ at ∷ p.1.now)) }
+    ensures none { IfNone result (All (λ b. b ≢ at) bytes.now) }
+{
+    let at = bytes.iter().position(|b| *b == at)?;
+    Some((&bytes[..at], &bytes[at + 1..]))
+}
+
+/// The bytes before the first space, and those after it.
+fn split_word(line: &[u8]) -> Option<(&[u8], &[u8])>
+    ensures whole { IfSome result (λ p. line.now ≡ p.0.now ++ 32 ∷ p.1.now) }
+    ensures some { IfSome result (λ p. (word_of line.now ≡ p.0.now) × (after_word line.now ≡ Some p.1.now)) }
+    ensures none { IfNone result ((word_of line.now ≡ line.now) × (after_word line.now ≡ None)) }
+{
+    match cut(line, b' ') {
+        Some((word, rest)) => Some((word, rest)),
+        None => None,
+    }
+}
+
+/// The verb that the word is.
+fn verb_named(word: &[u8]) -> Option<Verb>
+    ensures some { IfSome result (λ v. word.now ≡ verb_text v) }
+    ensures none { IfNone result ((v : Verb) → word.now ≡ verb_text v → ⊥) }
+{
+    if word == b"as".as_slice() {
+        return Some(Verb::As);
+    }
+    if word == b"raise".as_slice() {
+        return Some(Verb::Raise);
+    }
+    if word == b"check".as_slice() {
+        return Some(Verb::Check);
+    }
+    if word == b"setup".as_slice() {
+        return Some(Verb::Setup);
+    }
+    if word == b"write".as_slice() {
+        return Some(Verb::Write);
+    }
+    if word == b"needs".as_slice() {
+        return Some(Verb::Needs);
+    }
+    if word == b"commit".as_slice() {
+        return Some(Verb::Commit);
+    }
+    if word == b"commitjob".as_slice() {
+        return Some(Verb::CommitJob);
+    }
+    None
+}
+
+/// The number that the word is in decimal, with no zero in front.
+fn number(word: &[u8]) -> Option<u32>
+    ensures found { IfSome result (λ n. word.now ≡ decimal n) }
+    ensures only { (n : ℕ) → n < 2 ^ 32 → word.now ≡ decimal n → result ≡ Some n }
+{
+    let Ok(text) = str::from_utf8(word) else {
+        return None;
+    };
+    let Ok(n) = text.parse::<u32>() else {
+        return None;
+    };
+    let mut buffer = Buffer::new();
+    if buffer.format(n) != text {
+        return None;
+    }
+    Some(n)
+}
+
+/// The generation that the word numbers.
+fn generation(word: &[u8]) -> Option<AppAttempt>
+    ensures found { IfSome result (λ k. IsGeneration k × (word.now ≡ decimal k)) }
+    ensures only { (k : ℕ) → IsGeneration k → word.now ≡ decimal k → result ≡ Some k }
+{
+    let n = number(word)?;
+    AppAttempt::new(n)
+}
+
+/// The attempt that the word names.
+fn attempt(word: &[u8]) -> Option<AttemptId>
+    ensures found { IfSome result (λ a. IsAttempt a × (word.now ≡ attempt_word a)) }
+    ensures only { (a : Attempt) → IsAttempt a → word.now ≡ attempt_word a → result ≡ Some a }
+{
+    let Ok(text) = str::from_utf8(word) else {
+        return None;
+    };
+    match AttemptId::parse(text) {
+        Ok(attempt) => Some(attempt),
+        Err(_) => None,
+    }
+}
+
+/// The attempt, if it is one of a reduce.
+fn reduce_attempt(word: &[u8]) -> Option<AttemptId>
+    ensures found { IfSome result (λ a. IsAttempt a × (a.task.kind ≡ TaskKind.Reduce) × (word.now ≡ attempt_word a)) }
+    ensures only { (a : Attempt) → IsAttempt a → a.task.kind ≡ TaskKind.Reduce → word.now ≡ attempt_word a → result ≡ Some a }
+{
+    match attempt(word) {
+        Some(attempt) => match attempt.task().kind {
+            TaskKind::Reduce => Some(attempt),
+            TaskKind::Map => None,
+        },
+        None => None,
+    }
+}
+
+/// The attempt that writes, and the text that it writes.
+fn writing(alloc: Global, rest: &[u8]) -> Result<Option<Order>, AllocError>
+    ensures some { IfOk result (λ r. IfSome r (λ c. IsCommand c × (verb_of c ≡ Verb.Write) × (rest_of c ≡ Some rest.now))) }
+    ensures none { IfOk result (λ r. IfNone r ((a : Attempt) (text : List ℕ) → IsAttempt a → a.task.kind ≡ TaskKind.Reduce → rest.now ≡ attempt_word a ++ 32 ∷ text → ⊥)) }
+{
+    let Some((word, text)) = split_word(rest) else {
+        return Ok(None);
+    };
+    let Some(attempt) = reduce_attempt(word) else {
+        return Ok(None);
+    };
+    let bytes = Vec::from_slice(alloc, text)?;
+    Ok(Some(Order::Write(attempt, Bytes::from_vec(bytes))))
+}
+
+/// The command of one word.
+fn alone(verb: Verb) -> Option<Order>
+    ensures some { IfSome result (λ c. IsCommand c × (verb_of c ≡ verb) × (rest_of c ≡ None)) }
+    ensures none { IfNone result ((o : Order) → IsCommand o → verb_of o ≡ verb → rest_of o ≡ None → ⊥) }
+{
+    match verb {
+        Verb::Check => Some(Order::Check),
+        Verb::Setup => Some(Order::Setup),
+        Verb::CommitJob => Some(Order::CommitJob),
+        _ => None,
+    }
+}
+
+/// The command of this verb and what stands after it.
+fn with_rest(alloc: Global, verb: Verb, rest: &[u8]) -> Result<Option<Order>, AllocError>
+    ensures some { IfOk result (λ r. IfSome r (λ c. IsCommand c × (verb_of c ≡ verb) × (rest_of c ≡ Some rest.now))) }
+    ensures none { IfOk result (λ r. IfNone r ((o : Order) → IsCommand o → verb_of o ≡ verb → rest_of o ≡ Some rest.now → ⊥)) }
+{
+    match verb {
+        Verb::As => match generation(rest) {
+            Some(k) => Ok(Some(Order::As(k))),
+            None => Ok(None),
+        },
+        Verb::Raise => match generation(rest) {
+            Some(k) => Ok(Some(Order::Raise(k))),
+            None => Ok(None),
+        },
+        Verb::Write => writing(alloc, rest),
+        Verb::Needs => match attempt(rest) {
+            Some(attempt) => Ok(Some(Order::Needs(attempt))),
+            None => Ok(None),
+        },
+        Verb::Commit => match attempt(rest) {
+            Some(attempt) => Ok(Some(Order::Commit(attempt))),
+            None => Ok(None),
+        },
+        Verb::Check | Verb::Setup | Verb::CommitJob => Ok(None),
+    }
+}
+
+/// The command that the line is.
+pub fn order_in(alloc: Global, line: &[u8]) -> Result<Option<Order>, AllocError>
+    ensures some { IfOk result (λ r. IfSome r (IsLine line.now)) }
+    ensures none { IfOk result (λ r. IfNone r (IsBad line.now)) }
+{
+    match split_word(line) {
+        Some((word, rest)) => match verb_named(word) {
+            Some(verb) => with_rest(alloc, verb, rest),
+            None => Ok(None),
+        },
+        None => match verb_named(line) {
+            Some(verb) => Ok(alone(verb)),
+            None => Ok(None),
+        },
+    }
+}

@@ -1,0 +1,81 @@
+//! The subcommands, from what they read to what they write.
+ghost use Rattle.std.specs.Prelude.{◌≡◌, ◌≢◌, IfOk, IfErr, IfSome, OnOk};
+ghost use Rattle.std.specs.Io.KnownBytes.{Keeps};
+ghost use Rattle.mr_sim.specs.Printed.{Prints, Refuses, RefusesText, Writes};
+
+use crate::committer::committer;
+use crate::fault::SimFault;
+use crate::history::history;
+use crate::input::read_input;
+use std::alloc::Global;
+use std::io::{Read, Write};
+use std::rt::Clock;
+use std::sync::Wait;
+use std::thread::Threads;
+
+/// What the program does.
+#[derive(Clone, Copy, Debug, PartialEq, Eq)]
+pub enum Command {
+    /// Runs a script of committer calls, and lists what the namespace holds then.
+    Committer,
+    /// Prints the records of one segment of a job history, and how many bytes after the last whole line were dropped.
+    History,
+}
+
+/// What a subcommand prints for its input.
+fn answer(alloc: Global, command: Command, input: &[u8]) -> Result<Vec<u8>, SimFault>
+    ensures ok { IfOk result (λ v. Prints command input.now v.items) }
+    ensures fault { IfErr result (RefusesText command input.now) }
+{
+    match command {
+        Command::Committer => committer(alloc, input),
+        Command::History => history(alloc, input),
+    }
+}
+
+/// Reads all there is, forms the whole output, and then writes it.
+fn run_alone<R: Read, W: Write>(
+    alloc: Global,
+    command: Command,
+    reader: &mut R,
+    writer: &mut W,
+) -> Result<(), SimFault>
+    ensures ok { OnOk result (IfSome (R.remaining reader.old) (λ input.
+        Writes command input (W.contents writer.old) (W.contents writer.new))) }
+    ensures fault { IfErr result (λ e. IfSome (R.remaining reader.old) (λ input. Refuses command input e)) }
+    ensures nothing { IfErr result (λ e. e ≢ SimFault.Write → Keeps (W.contents writer.old) (W.contents writer.new)) }
+{
+    let input = read_input(alloc, reader)?;
+    let text = answer(alloc, command, &input)?;
+    match writer.write_all(&text) {
+        Ok(()) => match writer.flush() {
+            Ok(()) => Ok(()),
+            Err(_) => Err(SimFault::Write),
+        },
+        Err(_) => Err(SimFault::Write),
+    }
+}
+
+/// Runs a subcommand: reads the input to its end, forms the whole output, and then writes it.
+///
+/// At most 16,777,216 bytes are read, by at most 33,554,432 reads; an interrupted read is tried again. Where the reader
+/// and the writer tell their bytes, what is written is what the subcommand prints for what was read. A fault about
+/// the input comes exactly where it is named, but for want of memory and a failed read, and then nothing is written.
+pub fn run<H: AllocGlobal + Clock + Threads + Wait + Sync, R: Read, W: Write>(
+    rt: &H,
+    command: &Command,
+    reader: &mut R,
+    writer: &mut W,
+) -> Result<(), SimFault>
+    // Ok: the writer has what it had, then what is printed for what was read, and nothing else.
+    ensures printed { OnOk result (IfSome (R.remaining reader.old) (λ input.
+        Writes command.now input (W.contents writer.old) (W.contents writer.new))) }
+
+    // A fault about the input is one that the input has.
+    ensures fault { IfErr result (λ e. IfSome (R.remaining reader.old) (λ input. Refuses command.now input e)) }
+
+    // Only a failed write leaves anything in the writer.
+    ensures nothing { IfErr result (λ e. e ≢ SimFault.Write → Keeps (W.contents writer.old) (W.contents writer.new)) }
+{
+    run_alone(rt.alloc(), *command, reader, writer)
+}

@@ -1,0 +1,224 @@
+use mr_commit::{
+    CommitFault, CommitJob, CommitTask, SetupJob, StepDone, check_output, commit_job, commit_task,
+    needs_task_commit, setup_job,
+};
+use mr_ids::{AppAttempt, AttemptId, JobId, TaskId, TaskKind};
+use mr_names::{Caller, Kind, NameFault, Namespace};
+use mr_paths::{Layout, Path, PathFault};
+use std::alloc::{AllocError, Global};
+use std::process::Abort;
+
+const TASK: TaskId = TaskId {
+    job: JobId {
+        start: 200707121733,
+        number: 3,
+    },
+    kind: TaskKind::Reduce,
+    number: 0,
+};
+
+fn generation(rt: &impl Abort, number: u32) -> AppAttempt {
+    match AppAttempt::new(number) {
+        Some(app) => app,
+        None => panic!(rt; "no generation"),
+    }
+}
+
+fn attempt(rt: &impl Abort) -> AttemptId {
+    match AttemptId::new(TASK, 0) {
+        Some(attempt) => attempt,
+        None => panic!(rt; "no attempt"),
+    }
+}
+
+fn path(rt: &impl Abort, alloc: Global, text: &str) -> Path {
+    match Path::parse(alloc, text) {
+        Ok(path) => path,
+        Err(PathFault::NoMemory) => panic!(rt; "no memory"),
+        Err(PathFault::BadName) => panic!(rt; "no path"),
+    }
+}
+
+// What was made, where memory was not wanting.
+fn made<T: Drop>(rt: &impl Abort, value: Result<T, AllocError>) -> T {
+    match value {
+        Ok(value) => value,
+        Err(_) => panic!(rt; "no memory"),
+    }
+}
+
+// An answer, where memory was not wanting.
+fn told<T: Drop>(rt: &impl Abort, answer: Result<T, CommitFault>) -> Result<T, CommitFault> {
+    match answer {
+        Err(CommitFault::NoMemory) => panic!(rt; "no memory"),
+        answered => answered,
+    }
+}
+
+// A call that prepares a test.
+fn prepared(rt: &impl Abort, answer: Result<(), NameFault>) {
+    match answer {
+        Ok(()) => {}
+        Err(NameFault::NoMemory) => panic!(rt; "no memory"),
+        Err(_) => panic!(rt; "refused"),
+    }
+}
+
+fn new_namespace(rt: &impl Abort, alloc: Global) -> Namespace {
+    match Namespace::new(alloc) {
+        Ok(names) => names,
+        Err(_) => panic!(rt; "no memory"),
+    }
+}
+
+fn out(rt: &impl Abort, alloc: Global) -> Layout {
+    Layout {
+        dest: path(rt, alloc, "/out"),
+    }
+}
+
+// What stands at a path.
+fn stands(
+    rt: &impl Abort,
+    alloc: Global,
+    names: &Namespace,
+    caller: Caller,
+    text: &str,
+) -> Option<Kind> {
+    let place = path(rt, alloc, text);
+    match names.exists(caller, &place) {
+        Ok(found) => found,
+        Err(_) => panic!(rt; "refused"),
+    }
+}
+
+// The text of a fault.
+fn prints(rt: &impl Abort, alloc: Global, fault: CommitFault, text: &str) -> bool {
+    let printed = made(rt, fault.to_string(alloc));
+    printed.as_str() == text
+}
+
+#[test]
+fn output_missing_then_over(rt: HostRuntime) {
+    let alloc = rt.alloc();
+    let app = generation(&rt, 1);
+    let caller = &Caller { app };
+    let layout = out(&rt, alloc);
+    let mut names = new_namespace(&rt, alloc);
+    let mut setup = made(&rt, SetupJob::new(&layout, app));
+    assert!(rt; told(&rt, setup.next(&mut names, *caller)) == Ok(StepDone::Finished));
+    assert!(rt; told(&rt, setup.next(&mut names, *caller)) == Err(CommitFault::Over));
+    let mut step = made(&rt, CommitTask::new(&layout, app, attempt(&rt)));
+    assert!(rt; told(&rt, step.next(&mut names, *caller)) == Err(CommitFault::OutputMissing));
+    let mut copy = made(&rt, step.copy());
+    assert!(rt; copy.call().is_none());
+    assert!(rt; told(&rt, copy.next(&mut names, *caller)) == Err(CommitFault::Over));
+    assert!(rt; told(&rt, step.next(&mut names, *caller)) == Err(CommitFault::Over));
+}
+
+#[test]
+fn two_level_merge(rt: HostRuntime) {
+    let alloc = rt.alloc();
+    let app = generation(&rt, 1);
+    let caller = &Caller { app };
+    let layout = out(&rt, alloc);
+    let mut names = new_namespace(&rt, alloc);
+    let task = "/out/_temporary/1/task_200707121733_0003_r_000000";
+    let committed = path(&rt, alloc, task);
+    for text in [
+        "/out/_temporary/1/task_200707121733_0003_r_000000/a",
+        "/out/_temporary/1/task_200707121733_0003_r_000000/b",
+        "/out/_temporary/1/_temporary",
+        "/out/b",
+    ] {
+        prepared(&rt, names.mkdirs(*caller, &path(&rt, alloc, text)));
+    }
+    for text in [
+        "/out/_temporary/1/task_200707121733_0003_r_000000/a/f",
+        "/out/_temporary/1/task_200707121733_0003_r_000000/b/g",
+        "/out/a",
+        "/out/b/old",
+    ] {
+        prepared(&rt, names.create(*caller, &path(&rt, alloc, text), true));
+    }
+    let mut first = made(&rt, CommitJob::new(&layout, app));
+    // list, exists /out, list, exists /out/a, delete, rename
+    for _ in 0..6 {
+        assert!(rt; told(&rt, first.next(&mut names, *caller)) == Ok(StepDone::More));
+    }
+    assert!(rt; stands(&rt, alloc, &names, *caller, "/out/a/f") == Some(Kind::File));
+    // exists /out/b, list, exists /out/b/g, rename, delete /out/_temporary
+    let mut step = made(&rt, first.copy());
+    for _ in 0..5 {
+        let Some(call) = step.call() else {
+            panic!(rt; "over");
+        };
+        let answer = names.perform(*caller, call);
+        assert!(rt; told(&rt, step.took(answer)) == Ok(StepDone::More));
+    }
+    assert!(rt; stands(&rt, alloc, &names, *caller, "/out/_temporary") == None);
+    assert!(rt; stands(&rt, alloc, &names, *caller, "/out/_SUCCESS") == None);
+    assert!(rt; told(&rt, step.next(&mut names, *caller)) == Ok(StepDone::Finished));
+    assert!(rt; step.call().is_none());
+    assert!(rt; told(&rt, step.next(&mut names, *caller)) == Err(CommitFault::Over));
+    assert!(rt; stands(&rt, alloc, &names, *caller, "/out/a") == Some(Kind::Dir));
+    assert!(rt; stands(&rt, alloc, &names, *caller, "/out/b/g") == Some(Kind::File));
+    assert!(rt; stands(&rt, alloc, &names, *caller, "/out/b/old") == Some(Kind::File));
+    assert!(rt; stands(&rt, alloc, &names, *caller, "/out/_SUCCESS") == Some(Kind::File));
+    assert!(rt; names.exists(*caller, &committed) == Ok(None));
+}
+
+#[test]
+fn file_beneath_the_job_attempt(rt: HostRuntime) {
+    let alloc = rt.alloc();
+    let app = generation(&rt, 1);
+    let caller = &Caller { app };
+    let layout = out(&rt, alloc);
+    let mut names = new_namespace(&rt, alloc);
+    assert!(rt; told(&rt, setup_job(&mut names, *caller, &layout)) == Ok(()));
+    let file = path(&rt, alloc, "/out/_temporary/1/f");
+    prepared(&rt, names.create(*caller, &file, true));
+    let mut step = made(&rt, CommitJob::new(&layout, app));
+    assert!(rt; told(&rt, step.next(&mut names, *caller)) == Ok(StepDone::More));
+    assert!(rt; told(&rt, step.next(&mut names, *caller)) == Ok(StepDone::More));
+    let refused = CommitFault::Names(NameFault::NotDir);
+    assert!(rt; told(&rt, step.next(&mut names, *caller)) == Err(refused));
+    assert!(rt; told(&rt, step.next(&mut names, *caller)) == Err(CommitFault::Over));
+    assert!(rt; names.exists(*caller, &file) == Ok(Some(Kind::File)));
+}
+
+#[test]
+fn committed_and_checked(rt: HostRuntime) {
+    let alloc = rt.alloc();
+    let caller = &Caller {
+        app: generation(&rt, 1),
+    };
+    let layout = out(&rt, alloc);
+    let a = attempt(&rt);
+    let mut names = new_namespace(&rt, alloc);
+    assert!(rt; check_output(&names, *caller, &layout) == Ok(()));
+    assert!(rt; told(&rt, setup_job(&mut names, *caller, &layout)) == Ok(()));
+    assert!(rt; check_output(&names, *caller, &layout) == Err(CommitFault::DestinationExists));
+    assert!(rt; told(&rt, needs_task_commit(&names, *caller, &layout, a)) == Ok(false));
+    let missing = Err(CommitFault::OutputMissing);
+    assert!(rt; told(&rt, commit_task(&mut names, *caller, &layout, a)) == missing);
+    let attempt_path = "/out/_temporary/1/_temporary/attempt_200707121733_0003_r_000000_0";
+    prepared(&rt, names.mkdirs(*caller, &path(&rt, alloc, attempt_path)));
+    assert!(rt; told(&rt, needs_task_commit(&names, *caller, &layout, a)) == Ok(true));
+    assert!(rt; told(&rt, commit_task(&mut names, *caller, &layout, a)) == Ok(()));
+    let committed = "/out/_temporary/1/task_200707121733_0003_r_000000";
+    assert!(rt; stands(&rt, alloc, &names, *caller, committed) == Some(Kind::Dir));
+    assert!(rt; stands(&rt, alloc, &names, *caller, attempt_path) == None);
+    assert!(rt; told(&rt, commit_job(&mut names, *caller, &layout)) == Ok(()));
+    assert!(rt; stands(&rt, alloc, &names, *caller, "/out/_SUCCESS") == Some(Kind::File));
+    let again = Err(CommitFault::Names(NameFault::Missing));
+    assert!(rt; told(&rt, commit_job(&mut names, *caller, &layout)) == again);
+    assert!(rt; told(&rt, setup_job(&mut names, *caller, &layout)) == Ok(()));
+    let marked = Err(CommitFault::Names(NameFault::Exists));
+    assert!(rt; told(&rt, commit_job(&mut names, *caller, &layout)) == marked);
+    names.raise(generation(&rt, 2));
+    let late = CommitFault::Names(NameFault::Superseded(2));
+    assert!(rt; commit_task(&mut names, *caller, &layout, a) == Err(late));
+    assert!(rt; prints(&rt, alloc, late, "Superseded 2"));
+    assert!(rt; prints(&rt, alloc, CommitFault::OutputMissing, "OutputMissing"));
+}

@@ -1,0 +1,371 @@
+//! What `committer` prints, and what it does of streams that fail.
+use crate::{Command, SimFault, run};
+use std::io;
+use std::io::{Error, ErrorKind, Read, Write};
+use std::process::Abort;
+use std::rt::Clock;
+use std::sync::Wait;
+use std::test::Fail;
+use std::thread::Threads;
+
+const HELLO: &[u8] = b"setup\n\
+write attempt_200707121733_0003_r_000000_0 hello\n\
+commit attempt_200707121733_0003_r_000000_0\n\
+commitjob\n";
+
+const HELLO_TEXT: &[u8] = b"out/\nout/_SUCCESS 0\nout/part-r-00000 6\n";
+
+/// Gives a few bytes at a time, and answers an error at one of the reads.
+#[derive(Drop)]
+struct FaultyReader<'a> {
+    bytes: &'a [u8],
+    piece: usize,
+    good: u32,
+    error: ErrorKind,
+}
+
+impl Read for FaultyReader<'_> {
+    fn read(&mut self, buf: &mut [u8]) -> io::Result<usize> {
+        if self.good == 0 {
+            return Err(Error::from(self.error));
+        }
+        self.good -= 1;
+        let room = buf.len().min(self.piece);
+        let mut bytes = self.bytes;
+        let n = bytes.read(&mut buf[..room])?;
+        self.bytes = bytes;
+        Ok(n)
+    }
+}
+
+/// Gives one byte again and again, so many times.
+#[derive(Drop)]
+struct SameBytes {
+    byte: u8,
+    left: usize,
+}
+
+impl Read for SameBytes {
+    fn read(&mut self, buf: &mut [u8]) -> io::Result<usize> {
+        let n = buf.len().min(self.left);
+        for place in &mut buf[..n] {
+            *place = self.byte;
+        }
+        self.left = self.left.saturating_sub(n);
+        Ok(n)
+    }
+}
+
+/// Takes a few bytes at a time into a fixed place, and answers an error at one of the writes.
+#[derive(Drop)]
+struct FaultyWriter {
+    taken: [u8; 512],
+    len: usize,
+    piece: usize,
+    good: u32,
+}
+
+impl FaultyWriter {
+    fn new(piece: usize, good: u32) -> FaultyWriter {
+        FaultyWriter {
+            taken: [0; 512],
+            len: 0,
+            piece,
+            good,
+        }
+    }
+
+    fn take(&mut self, bytes: &[u8]) {
+        for byte in bytes {
+            if self.len < 512 {
+                self.taken[self.len] = *byte;
+                self.len += 1;
+            }
+        }
+    }
+
+    /// Whether these are the bytes that were taken.
+    fn took(&self, text: &[u8]) -> bool {
+        match self.taken.get(..self.len) {
+            Some(taken) => taken == text,
+            None => false,
+        }
+    }
+}
+
+impl Write for FaultyWriter {
+    fn write(&mut self, buf: &[u8]) -> io::Result<usize> {
+        if self.good == 0 {
+            return Err(Error::from(ErrorKind::Other));
+        }
+        self.good -= 1;
+        let n = buf.len().min(self.piece);
+        self.take(&buf[..n]);
+        Ok(n)
+    }
+
+    fn flush(&mut self) -> io::Result<()> {
+        Ok(())
+    }
+}
+
+/// A subcommand prints this text, or there is no memory and nothing is written.
+pub fn gives<H: AllocGlobal + Clock + Threads + Wait + Sync + Abort>(
+    rt: &H,
+    command: Command,
+    bytes: &[u8],
+    text: &[u8],
+) -> Result<(), Fail> {
+    let mut input = bytes;
+    let mut output = FaultyWriter::new(512, 1000);
+    match run(rt, &command, &mut input, &mut output) {
+        Ok(()) => assert!(rt; output.took(text)),
+        Err(SimFault::NoMemory) => {
+            assert_eq!(rt; output.len, 0);
+            panic!(rt; "no memory");
+        }
+        Err(fault) => panic!(rt; "{fault}"),
+    }
+    Ok(())
+}
+
+/// The input is refused so, and nothing is written.
+pub fn is_refused<H: AllocGlobal + Clock + Threads + Wait + Sync + Abort>(
+    rt: &H,
+    command: Command,
+    bytes: &[u8],
+    fault: SimFault,
+) -> Result<(), Fail> {
+    let mut input = bytes;
+    let mut output = FaultyWriter::new(512, 1000);
+    let answer = run(rt, &command, &mut input, &mut output);
+    assert_eq!(rt; output.len, 0);
+    if answer == Err(SimFault::NoMemory) {
+        panic!(rt; "no memory");
+    }
+    assert!(rt; answer == Err(fault), "at {bytes:?}");
+    Ok(())
+}
+
+/// The script prints this text.
+pub fn prints<H: AllocGlobal + Clock + Threads + Wait + Sync + Abort>(
+    rt: &H,
+    script: &[u8],
+    text: &[u8],
+) -> Result<(), Fail> {
+    gives(rt, Command::Committer, script, text)
+}
+
+/// The script is refused so.
+fn refuses<H: AllocGlobal + Clock + Threads + Wait + Sync + Abort>(
+    rt: &H,
+    script: &[u8],
+    fault: SimFault,
+) -> Result<(), Fail> {
+    is_refused(rt, Command::Committer, script, fault)
+}
+
+#[test]
+fn committer_hello(rt: HostRuntime) -> Result<(), Fail> {
+    prints(&rt, HELLO, HELLO_TEXT)
+}
+
+#[test]
+fn committer_refusals(rt: HostRuntime) -> Result<(), Fail> {
+    prints(
+        &rt,
+        b"setup\ncheck\n\
+needs attempt_200707121733_0003_r_000000_0\n\
+commit attempt_200707121733_0003_r_000000_0\n\
+write attempt_200707121733_0003_r_000000_0 x\n\
+needs attempt_200707121733_0003_r_000000_0\n\
+write attempt_200707121733_0003_r_000000_0 y\n\
+commitjob\ncommitjob",
+        b"2: DestinationExists\n3: no\n4: OutputMissing\n6: yes\n7: Exists\n9: Missing\n\
+out/\nout/_SUCCESS 0\n",
+    )
+}
+
+#[test]
+fn two_attempts_commit(rt: HostRuntime) -> Result<(), Fail> {
+    prints(
+        &rt,
+        b"setup\n\
+write attempt_200707121733_0003_r_000000_0 one\n\
+write attempt_200707121733_0003_r_000000_1 three\n\
+commit attempt_200707121733_0003_r_000000_0\n\
+commit attempt_200707121733_0003_r_000000_1\n\
+commitjob\n",
+        b"out/\nout/_SUCCESS 0\nout/part-r-00000 6\n",
+    )
+}
+
+#[test]
+fn bad_command(rt: HostRuntime) -> Result<(), Fail> {
+    let second = SimFault::BadCommand(2);
+    let a = b"setup\nwrte attempt_200707121733_0003_r_000000_0 x";
+    refuses(&rt, a, second)?;
+    let first_lines: [&[u8]; 22] = [
+        b"as 01",
+        b"as 0",
+        b"as 1001",
+        b"as +1",
+        b"as",
+        b"as ",
+        b"as 1 ",
+        b"raise 1001",
+        b"check ",
+        b" check",
+        b"setup\r",
+        b"commitjob now",
+        b"needs",
+        b"needs attempt_1_0001_r_000000_00",
+        b"commit attempt_1_0001_r_00000_0",
+        b"write attempt_1_0001_r_000000_0",
+        b"write attempt_1_0001_m_000000_0 x",
+        b"write attempt_1_0001_r_000000_1000000 x",
+        b"recover task_1_0001_r_000000",
+        b"abort attempt_1_0001_r_000000_0",
+        b"abortjob",
+        b"as \xff",
+    ];
+    for line in first_lines {
+        refuses(&rt, line, SimFault::BadCommand(1))?;
+    }
+    // The whole script is read before anything runs.
+    refuses(
+        &rt,
+        b"check\n\nsetup\nneeds x\ncommitjob\nbad",
+        SimFault::BadCommand(4),
+    )
+}
+
+#[test]
+fn empty_script(rt: HostRuntime) -> Result<(), Fail> {
+    prints(&rt, b"", b"")?;
+    prints(&rt, b"\n\n", b"")?;
+    prints(
+        &rt,
+        b"as 1000\nraise 1000\ncheck\nas 1\n\ncheck",
+        b"6: Superseded 1000\n",
+    )
+}
+
+// A text may be empty or no text at all, and its spaces count.
+#[test]
+fn any_text(rt: HostRuntime) -> Result<(), Fail> {
+    prints(
+        &rt,
+        b"setup\n\
+write attempt_1_0001_r_000000_0 \n\
+write attempt_1_0001_r_000001_0  a \xff \n\
+commit attempt_1_0001_r_000000_0\n\
+commit attempt_1_0001_r_000001_0\n\
+commitjob",
+        b"out/\nout/_SUCCESS 0\nout/part-r-00000 1\nout/part-r-00001 6\n",
+    )
+}
+
+// A read that fails is answered at once, and nothing is written; one that is interrupted is tried again.
+#[test]
+fn a_read_fails(rt: HostRuntime) -> Result<(), Fail> {
+    let mut whole = 0u32;
+    for good in 0..60 {
+        let mut input = FaultyReader {
+            bytes: HELLO,
+            piece: 3,
+            good,
+            error: ErrorKind::Other,
+        };
+        let mut output = FaultyWriter::new(3, 1000);
+        match run(&rt, &Command::Committer, &mut input, &mut output) {
+            Ok(()) => {
+                assert!(rt; output.took(HELLO_TEXT));
+                whole = whole.saturating_add(1);
+            }
+            Err(SimFault::NoMemory) => panic!(rt; "no memory"),
+            Err(fault) => {
+                assert_eq!(rt; fault, SimFault::Read);
+                assert_eq!(rt; output.len, 0);
+            }
+        }
+    }
+    // 109 bytes take 37 reads of 3 bytes, and one that finds the end.
+    assert_eq!(rt; whole, 22);
+    Ok(())
+}
+
+#[test]
+fn a_write_fails(rt: HostRuntime) -> Result<(), Fail> {
+    let mut whole = 0u32;
+    for good in 0..20 {
+        let mut input = HELLO;
+        let mut output = FaultyWriter::new(3, good);
+        match run(&rt, &Command::Committer, &mut input, &mut output) {
+            Ok(()) => whole = whole.saturating_add(1),
+            Err(SimFault::NoMemory) => panic!(rt; "no memory"),
+            Err(fault) => assert_eq!(rt; fault, SimFault::Write),
+        }
+        // What was taken is the text's beginning: nothing is lost between, nothing doubled.
+        let taken = output.len.min(HELLO_TEXT.len());
+        assert!(rt; output.took(&HELLO_TEXT[..taken]));
+    }
+    // 39 bytes take 13 writes of 3 bytes.
+    assert_eq!(rt; whole, 7);
+    Ok(())
+}
+
+#[test]
+fn always_interrupted(rt: HostRuntime) -> Result<(), Fail> {
+    let mut input = FaultyReader {
+        bytes: HELLO,
+        piece: 3,
+        good: 2,
+        error: ErrorKind::Interrupted,
+    };
+    let mut output = FaultyWriter::new(3, 1000);
+    let answer = run(&rt, &Command::Committer, &mut input, &mut output);
+    if answer == Err(SimFault::NoMemory) {
+        panic!(rt; "no memory");
+    }
+    assert!(rt; answer == Err(SimFault::Read));
+    Ok(())
+}
+
+// 2^24 bytes are read, one more is too many.
+#[test]
+fn input_too_long(rt: HostRuntime) -> Result<(), Fail> {
+    for (left, want) in [
+        (1usize << 24, Ok(())),
+        ((1 << 24) + 1, Err(SimFault::TooLong)),
+    ] {
+        let mut input = SameBytes { byte: b'\n', left };
+        let mut output = FaultyWriter::new(3, 1000);
+        let answer = run(&rt, &Command::Committer, &mut input, &mut output);
+        if answer == Err(SimFault::NoMemory) {
+            panic!(rt; "no memory");
+        }
+        assert!(rt; answer == want);
+        assert_eq!(rt; output.len, 0);
+    }
+    Ok(())
+}
+
+#[test]
+fn statuses(rt: HostRuntime) -> Result<(), Fail> {
+    let faults = [
+        (SimFault::BadCommand(2), 3, "mrsim: line 2: bad command"),
+        (SimFault::TooLong, 3, "mrsim: input too long"),
+        (SimFault::Read, 4, "mrsim: read"),
+        (SimFault::Write, 4, "mrsim: write"),
+        (SimFault::NoMemory, 5, "mrsim: no memory"),
+    ];
+    for (fault, status, text) in faults {
+        assert_eq!(rt; fault.status(), status);
+        match format!(in rt.alloc(); "{fault}") {
+            Ok(shown) => assert!(rt; shown.as_str() == text),
+            Err(_) => panic!(rt; "no memory"),
+        }
+    }
+    Ok(())
+}

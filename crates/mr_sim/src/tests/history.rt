@@ -1,0 +1,283 @@
+//! The job history: lines, segments, seals and replay.
+
+use mr_history::{History, HistoryFault, Record, Records, Replayed, Segment, replay};
+use mr_ids::{AppAttempt, AttemptId, JobId, TaskId, TaskKind};
+use std::alloc::Global;
+use std::process::Abort;
+
+const JOB: JobId = JobId {
+    start: 200707121733,
+    number: 3,
+};
+
+const STARTED: &str =
+    "{\"attempt\":\"attempt_200707121733_0003_m_000000_0\",\"event\":\"started\",\"node\":0}\n";
+
+const REDUCED: &str =
+    "{\"attempt\":\"attempt_200707121733_0003_r_000000_0\",\"event\":\"reduce\"}\n";
+
+const UNSUCCESSFUL: &str = "{\"event\":\"unsuccessful\"}\n";
+
+fn attempt(rt: &impl Abort, kind: TaskKind, task: u32, number: u32) -> AttemptId {
+    let task = TaskId {
+        job: JOB,
+        kind,
+        number: task,
+    };
+    match AttemptId::new(task, number) {
+        Some(attempt) => attempt,
+        None => panic!(rt; "no attempt has the number {number}"),
+    }
+}
+
+fn started(rt: &impl Abort) -> Record {
+    Record::AttemptStarted {
+        attempt: attempt(rt, TaskKind::Map, 0, 0),
+        node: 0,
+    }
+}
+
+fn reduced(rt: &impl Abort) -> Record {
+    Record::ReduceSucceeded {
+        attempt: attempt(rt, TaskKind::Reduce, 0, 0),
+    }
+}
+
+fn generation(rt: &impl Abort, number: u32) -> AppAttempt {
+    match AppAttempt::new(number) {
+        Some(app) => app,
+        None => panic!(rt; "no generation has the number {number}"),
+    }
+}
+
+// What a call answered, where memory was given.
+fn answered<T>(rt: &impl Abort, given: Result<T, HistoryFault>) -> Result<T, HistoryFault> {
+    match given {
+        Err(HistoryFault::NoMemory) => panic!(rt; "no memory"),
+        Ok(value) => Ok(value),
+        Err(fault) => Err(fault),
+    }
+}
+
+fn done(rt: &impl Abort, given: Result<(), HistoryFault>) -> Option<HistoryFault> {
+    answered(rt, given).err()
+}
+
+fn add(rt: &impl Abort, segment: &mut Segment, record: Record) -> Option<HistoryFault> {
+    assert!(rt; record.fits());
+    done(rt, segment.append(record))
+}
+
+fn write(
+    rt: &impl Abort,
+    history: &mut History,
+    k: AppAttempt,
+    record: Record,
+) -> Option<HistoryFault> {
+    assert!(rt; history.is_raised(k));
+    assert!(rt; record.fits());
+    done(rt, history.append(k, record))
+}
+
+fn replayed(rt: &impl Abort, alloc: Global, bytes: &[u8]) -> Replayed {
+    match answered(rt, replay(alloc, bytes)) {
+        Ok(replayed) => replayed,
+        Err(fault) => panic!(rt; "{fault}"),
+    }
+}
+
+fn records_before(rt: &impl Abort, history: &History, k: AppAttempt) -> Records {
+    assert!(rt; history.is_raised(k));
+    match answered(rt, history.read(k)) {
+        Ok(records) => records,
+        Err(fault) => panic!(rt; "{fault}"),
+    }
+}
+
+fn tail(rt: &impl Abort, history: &History, k: AppAttempt) -> usize {
+    assert!(rt; history.is_raised(k));
+    history.tail(k)
+}
+
+#[test]
+fn record_lines(rt: HostRuntime) {
+    let alloc = rt.alloc();
+    let mut segment = Segment::new(alloc);
+    let mut records = Records::new(alloc);
+    for record in [
+        started(&rt),
+        Record::MapSucceeded {
+            attempt: attempt(&rt, TaskKind::Map, 12, 1001),
+            node: 4294967295,
+            incarnation: 1,
+        },
+        reduced(&rt),
+        Record::AttemptFailed {
+            attempt: attempt(&rt, TaskKind::Reduce, 0, 1),
+        },
+        Record::JobUnsuccessful,
+    ] {
+        assert!(rt; add(&rt, &mut segment, record).is_none());
+        records.push(record).expect(&rt, "no memory");
+    }
+    assert!(rt; segment.stable().len() == 0);
+    let len = segment.tail();
+    assert!(rt; done(&rt, segment.flush()).is_none());
+    let mapped =
+        "{\"attempt\":\"attempt_200707121733_0003_m_000012_1001\",\"event\":\"map\",\"incarnation\":1,\"node\":4294967295}\n";
+    let failed = "{\"attempt\":\"attempt_200707121733_0003_r_000000_1\",\"event\":\"failed\"}\n";
+    let wanted = format!(in alloc; "{STARTED}{mapped}{REDUCED}{failed}{UNSUCCESSFUL}").expect(
+        &rt,
+        "no memory",
+    );
+    assert!(rt; segment.stable() == wanted.as_bytes());
+    assert!(rt; segment.tail() == 0 && len == wanted.len());
+    let read = replayed(&rt, alloc, segment.stable());
+    assert!(rt; read.torn == 0 && read.records.len() == 5);
+    assert!(rt; read.records.as_slice() == records.as_slice());
+    let mut copy = Records::from_vec(Vec::new(alloc));
+    copy.extend(records.as_slice()).expect(&rt, "no memory");
+    assert!(rt; copy.as_slice() == records.as_slice());
+}
+
+#[test]
+fn segment_seal(rt: HostRuntime) {
+    let alloc = rt.alloc();
+    for (kept, count, torn) in [(67, 1, 67), (68, 2, 0), (0, 1, 0), (1000, 2, 0)] {
+        let mut segment = Segment::new(alloc);
+        assert!(rt; add(&rt, &mut segment, started(&rt)).is_none());
+        assert!(rt; done(&rt, segment.flush()).is_none());
+        assert!(rt; add(&rt, &mut segment, reduced(&rt)).is_none());
+        assert!(rt; segment.tail() == 68);
+        segment.seal(kept);
+        let read = replayed(&rt, alloc, segment.stable());
+        assert!(rt;
+            read.records.len() == count && read.torn == torn,
+            "kept {kept}"
+        );
+        assert!(rt; add(&rt, &mut segment, started(&rt)) == Some(HistoryFault::Sealed));
+        assert!(rt; done(&rt, segment.flush()) == Some(HistoryFault::Sealed));
+        segment.seal(0);
+        let again = replayed(&rt, alloc, segment.stable());
+        assert!(rt;
+            again.records.len() == count && again.torn == torn,
+            "kept {kept}, sealed twice"
+        );
+    }
+}
+
+#[test]
+fn history_raise(rt: HostRuntime) {
+    let alloc = rt.alloc();
+    let (one, two) = (generation(&rt, 1), generation(&rt, 2));
+    for (kept, count) in [(24, 0), (25, 1)] {
+        let mut history = answered(&rt, History::new(alloc)).expect(&rt, "a fault");
+        history.raise(one, 0);
+        assert!(rt; write(&rt, &mut history, one, Record::JobUnsuccessful).is_none());
+        assert!(rt; tail(&rt, &history, one) == 25);
+        history.raise(two, kept);
+        history.raise(one, 0);
+        assert!(rt; history.fence() == 2);
+        let records = records_before(&rt, &history, two);
+        assert!(rt; records.len() == count, "kept {kept}");
+        for record in records.into_vec() {
+            assert!(rt; record == Record::JobUnsuccessful);
+        }
+        let late = write(&rt, &mut history, one, Record::JobUnsuccessful);
+        assert!(rt; late == Some(HistoryFault::Superseded(2)));
+    }
+}
+
+#[test]
+fn history_segments(rt: HostRuntime) {
+    let alloc = rt.alloc();
+    let (one, two, four) = (generation(&rt, 1), generation(&rt, 2), generation(&rt, 4));
+    let mut history = answered(&rt, History::new(alloc)).expect(&rt, "a fault");
+    history.raise(two, 0);
+    assert!(rt; write(&rt, &mut history, two, started(&rt)).is_none());
+    assert!(rt; history.is_raised(two) && !history.is_raised(four));
+    let flushed = history.flush(two);
+    assert!(rt; done(&rt, flushed).is_none());
+    assert!(rt; records_before(&rt, &history, two).len() == 0);
+    assert!(rt; write(&rt, &mut history, two, reduced(&rt)).is_none());
+    assert!(rt; history.is_raised(two));
+    history.seal(two, 1000);
+    let late = write(&rt, &mut history, two, reduced(&rt));
+    assert!(rt; late == Some(HistoryFault::Sealed));
+    history.raise(four, 0);
+    assert!(rt; write(&rt, &mut history, four, started(&rt)).is_none());
+    let read = records_before(&rt, &history, four);
+    assert!(rt; read.as_slice() == [started(&rt), reduced(&rt)].as_slice());
+    assert!(rt; history.is_raised(one));
+    let below = history.flush(one);
+    assert!(rt; done(&rt, below) == Some(HistoryFault::Superseded(4)));
+}
+
+#[test]
+fn every_prefix(rt: HostRuntime) {
+    let alloc = rt.alloc();
+    let text = format!(in alloc; "{STARTED}{REDUCED}").expect(&rt, "no memory");
+    let bytes = text.as_bytes();
+    for end in 0..bytes.len() + 1 {
+        let read = replayed(&rt, alloc, &bytes[..end]);
+        let (count, torn) = if end < STARTED.len() {
+            (0, end)
+        } else if end < bytes.len() {
+            (1, end - STARTED.len())
+        } else {
+            (2, 0)
+        };
+        assert!(rt;
+            read.records.len() == count && read.torn == torn,
+            "at {end}"
+        );
+    }
+}
+
+#[test]
+fn bad_lines(rt: HostRuntime) {
+    let alloc = rt.alloc();
+    for line in [
+        "",
+        "[]",
+        " {\"event\":\"unsuccessful\"}",
+        "{\"event\":\"unsuccessful\"}\r",
+        "{\"event\":\"Unsuccessful\"}",
+        "{\"event\":\"unsuccessful\",\"event\":\"unsuccessful\"}",
+        "{\"event\":\"reduce\",\"attempt\":\"attempt_200707121733_0003_r_000000_0\"}",
+        "{\"attempt\":\"attempt_200707121733_0003_m_000000_0\",\"event\":\"reduce\"}",
+        "{\"attempt\":\"attempt_200707121733_0003_r_00000_0\",\"event\":\"reduce\"}",
+        "{\"attempt\":\"\\u0061ttempt_200707121733_0003_r_000000_0\",\"event\":\"reduce\"}",
+        "{\"attempt\":\"attempt_200707121733_0003_m_000000_0\",\"event\":\"started\",\"node\":4294967296}",
+        "{\"attempt\":\"attempt_200707121733_0003_m_000000_0\",\"event\":\"started\",\"node\":0.0}",
+        "{\"attempt\":\"attempt_200707121733_0003_m_000000_0\",\"event\":\"map\",\"incarnation\":0,\"node\":0}",
+        "{\"attempt\":\"attempt_200707121733_0003_r_000000_0\",\"event\":\"map\",\"incarnation\":1,\"node\":0}",
+        "{\"attempt\":\"attempt_200707121733_0003_m_000000_0\",\"event\":\"map\",\"node\":0,\"incarnation\":1}",
+    ] {
+        let text = format!(in alloc; "{UNSUCCESSFUL}{line}\n{UNSUCCESSFUL}").expect(
+            &rt,
+            "no memory",
+        );
+        let fault = answered(&rt, replay(alloc, text.as_bytes())).err();
+        assert!(rt; fault == Some(HistoryFault::BadLine(2)), "{line}");
+    }
+}
+
+// A segment of 2^24 bytes: 246,723 lines of 68 bytes, two of 25, and no room for one more.
+#[test]
+fn full_segment(rt: HostRuntime) {
+    let alloc = rt.alloc();
+    let mut segment = Segment::new(alloc);
+    let record = reduced(&rt);
+    for _ in 0..246723 {
+        assert!(rt; add(&rt, &mut segment, record).is_none());
+    }
+    assert!(rt; add(&rt, &mut segment, record) == Some(HistoryFault::Full));
+    assert!(rt; add(&rt, &mut segment, Record::JobUnsuccessful).is_none());
+    assert!(rt; add(&rt, &mut segment, Record::JobUnsuccessful).is_none());
+    assert!(rt; add(&rt, &mut segment, Record::JobUnsuccessful) == Some(HistoryFault::Full));
+    assert!(rt; done(&rt, segment.flush()).is_none());
+    assert!(rt; segment.stable().len() == 16777214);
+    let read = replayed(&rt, alloc, segment.stable());
+    assert!(rt; read.records.len() == 246725 && read.torn == 0);
+}

@@ -1,0 +1,157 @@
+//! Identifiers and their texts.
+
+use mr_ids::{AppAttempt, AttemptId, IdFault, JobId, TaskId, TaskKind};
+use std::alloc::Global;
+use std::fmt::Display;
+use std::process::Abort;
+
+const JOB: JobId = JobId {
+    start: 200707121733,
+    number: 3,
+};
+
+const LAST_JOB: JobId = JobId {
+    start: 18446744073709551615,
+    number: 4294967295,
+};
+
+fn task(job: JobId, kind: TaskKind, number: u32) -> TaskId {
+    TaskId { job, kind, number }
+}
+
+fn attempt(rt: &impl Abort, task: TaskId, number: u32) -> AttemptId {
+    match AttemptId::new(task, number) {
+        Some(attempt) => attempt,
+        None => panic!(rt; "no attempt has the number {number}"),
+    }
+}
+
+fn generation(rt: &impl Abort, number: u32) -> AppAttempt {
+    match AppAttempt::new(number) {
+        Some(app) => app,
+        None => panic!(rt; "no generation has the number {number}"),
+    }
+}
+
+// Whether `{}` writes this text of a value.
+fn shows<T: Display>(rt: &impl Abort, alloc: Global, value: &T, text: &str) -> bool {
+    value.to_string(alloc).expect(rt, "no memory").as_str() == text
+}
+
+#[test]
+fn attempt_text(rt: HostRuntime) {
+    let read = AttemptId::parse("attempt_200707121733_0003_r_000005_1000");
+    let wanted = attempt(&rt, task(JOB, TaskKind::Reduce, 5), 1000);
+    assert!(rt; read == Ok(wanted));
+    assert!(rt; wanted.generation().number() == 2);
+    let short = AttemptId::parse("attempt_200707121733_0003_r_00005_1000");
+    assert!(rt; short == Err(IdFault::Width));
+}
+
+#[test]
+fn identifier_faults(rt: HostRuntime) {
+    for (text, fault) in [
+        ("job_0200707121733_0003", IdFault::Width),
+        ("job_200707121733_003", IdFault::Width),
+        ("job_200707121733_00003", IdFault::Width),
+        ("job_200707121733_0003_1", IdFault::Trailing),
+        ("job_18446744073709551616_0001", IdFault::Number),
+        ("jobs_1_0001", IdFault::Prefix),
+        ("", IdFault::Prefix),
+        ("job", IdFault::Number),
+        ("job_1_", IdFault::Number),
+        ("job_1_+001", IdFault::Number),
+        ("job_1_4294967296", IdFault::Number),
+        ("job_00_0001", IdFault::Width),
+        ("job_01_001_1", IdFault::Width),
+    ] {
+        assert!(rt; JobId::parse(text) == Err(fault), "{text}");
+    }
+    let more = JobId {
+        start: 200707121733,
+        number: 10000,
+    };
+    assert!(rt; JobId::parse("job_200707121733_10000") == Ok(more));
+    let kind = TaskId::parse("task_200707121733_0003_x_000005");
+    assert!(rt; kind == Err(IdFault::Kind));
+    let first = TaskId::parse("task_200707121733_003_x_000005");
+    assert!(rt; first == Err(IdFault::Width));
+    let missing = AttemptId::parse("attempt_200707121733_0003_m_000005");
+    assert!(rt; missing == Err(IdFault::Number));
+    let beyond = AttemptId::parse("attempt_200707121733_0003_m_000005_1000000");
+    assert!(rt; beyond == Err(IdFault::Number));
+}
+
+#[test]
+fn identifiers_are_written(rt: HostRuntime) {
+    let alloc = rt.alloc();
+    let map = task(JOB, TaskKind::Map, 5);
+    let last = task(LAST_JOB, TaskKind::Reduce, 4294967295);
+    let mut out = Vec::new(alloc);
+    out.extend_from_slice(b"<").expect(&rt, "no memory");
+    JOB.write(&mut out).expect(&rt, "no memory");
+    out.push(b' ').expect(&rt, "no memory");
+    map.write(&mut out).expect(&rt, "no memory");
+    out.push(b' ').expect(&rt, "no memory");
+    attempt(&rt, map, 0)
+        .write(&mut out)
+        .expect(&rt, "no memory");
+    out.push(b' ').expect(&rt, "no memory");
+    attempt(&rt, last, 999999)
+        .write(&mut out)
+        .expect(&rt, "no memory");
+    out.push(b' ').expect(&rt, "no memory");
+    generation(&rt, 1000)
+        .write(&mut out)
+        .expect(&rt, "no memory");
+    let wanted = "<job_200707121733_0003 task_200707121733_0003_m_000005 \
+        attempt_200707121733_0003_m_000005_0 \
+        attempt_18446744073709551615_4294967295_r_4294967295_999999 1000";
+    assert!(rt; out.as_slice() == wanted.as_bytes());
+}
+
+#[test]
+fn identifiers_are_shown_and_read(rt: HostRuntime) {
+    let alloc = rt.alloc();
+    let zero = JobId {
+        start: 0,
+        number: 0,
+    };
+    for (job, text) in [(zero, "job_0_0000"), (JOB, "job_200707121733_0003")] {
+        assert!(rt; shows(&rt, alloc, &job, text), "{text}");
+        assert!(rt; text.parse::<JobId>() == Ok(job), "{text}");
+    }
+    let reduce = task(zero, TaskKind::Reduce, 1234567);
+    assert!(rt; shows(&rt, alloc, &reduce, "task_0_0000_r_1234567"));
+    assert!(rt; "task_0_0000_r_1234567".parse::<TaskId>() == Ok(reduce));
+    let tried = attempt(&rt, reduce, 7);
+    assert!(rt; shows(&rt, alloc, &tried, "attempt_0_0000_r_1234567_7"));
+    assert!(rt; "attempt_0_0000_r_1234567_7".parse::<AttemptId>() == Ok(tried));
+    assert!(rt; "task_0_0000_r_1234567".parse::<AttemptId>() == Err(IdFault::Prefix));
+    assert!(rt; shows(&rt, alloc, &generation(&rt, 1), "1"));
+    assert!(rt; shows(&rt, alloc, &TaskKind::Map, "m"));
+    assert!(rt; shows(&rt, alloc, &IdFault::Trailing, "a field is left over"));
+}
+
+#[test]
+fn generations_of_attempts(rt: HostRuntime) {
+    assert!(rt; AppAttempt::new(0).is_none());
+    assert!(rt; AppAttempt::new(1001).is_none());
+    let map = task(JOB, TaskKind::Map, 0);
+    assert!(rt; AttemptId::new(map, 1_000_000).is_none());
+    for (number, wanted) in [(0, 1), (999, 1), (1000, 2), (999_999, 1000)] {
+        let tried = attempt(&rt, map, number);
+        assert!(rt; tried.generation() == generation(&rt, wanted));
+        assert!(rt; tried.task() == map && tried.number() == number);
+    }
+}
+
+#[test]
+fn identifiers_in_order(rt: HostRuntime) {
+    let map = task(JOB, TaskKind::Map, 9);
+    let reduce = task(JOB, TaskKind::Reduce, 0);
+    assert!(rt; JOB < LAST_JOB && map < reduce);
+    assert!(rt; attempt(&rt, map, 2) < attempt(&rt, map, 10));
+    assert!(rt; attempt(&rt, map, 10) < attempt(&rt, reduce, 0));
+    assert!(rt; generation(&rt, 2) < generation(&rt, 10));
+}

@@ -1,0 +1,183 @@
+use mr_ids::AppAttempt;
+use mr_names::{Answer, Bytes, Caller, Entries, Kind, NameFault, Namespace, Op};
+use mr_paths::{Path, PathFault};
+use std::alloc::Global;
+use std::process::Abort;
+
+fn generation(rt: &impl Abort, number: u32) -> AppAttempt {
+    match AppAttempt::new(number) {
+        Some(app) => app,
+        None => panic!(rt; "no generation"),
+    }
+}
+
+fn path(rt: &impl Abort, alloc: Global, text: &str) -> Path {
+    match Path::parse(alloc, text) {
+        Ok(path) => path,
+        Err(PathFault::NoMemory) => panic!(rt; "no memory"),
+        Err(PathFault::BadName) => panic!(rt; "no path"),
+    }
+}
+
+fn bytes(rt: &impl Abort, alloc: Global, text: &[u8]) -> Bytes {
+    match Vec::from_slice(alloc, text) {
+        Ok(items) => Bytes::from_vec(items),
+        Err(_) => panic!(rt; "no memory"),
+    }
+}
+
+// An answer, where memory was not wanting.
+fn told<T: Drop>(rt: &impl Abort, answer: Result<T, NameFault>) -> Result<T, NameFault> {
+    match answer {
+        Err(NameFault::NoMemory) => panic!(rt; "no memory"),
+        answered => answered,
+    }
+}
+
+fn new_namespace(rt: &impl Abort, alloc: Global) -> Namespace {
+    match Namespace::new(alloc) {
+        Ok(names) => names,
+        Err(_) => panic!(rt; "no memory"),
+    }
+}
+
+// Whether a listing has these names, of these kinds.
+fn lists(entries: &Entries, wanted: &[(&[u8], Kind)]) -> bool {
+    let entries = entries.as_slice();
+    entries.len() == wanted.len()
+        && entries.iter().zip(wanted).all(|(entry, (name, kind))| entry.name.as_bytes() == *name
+            && entry.kind == *kind)
+}
+
+#[test]
+fn namespace_refusals(rt: HostRuntime) {
+    let alloc = rt.alloc();
+    let one = &Caller {
+        app: generation(&rt, 1),
+    };
+    let mut names = new_namespace(&rt, alloc);
+    let a = path(&rt, alloc, "/a");
+    let a_b = path(&rt, alloc, "/a/b");
+    let a_b_c = path(&rt, alloc, "/a/b/c");
+    let f = path(&rt, alloc, "/f");
+    let f_g = path(&rt, alloc, "/f/g");
+    let x = path(&rt, alloc, "/x");
+    let y = path(&rt, alloc, "/y");
+    let root = path(&rt, alloc, "/");
+    assert!(rt; told(&rt, names.create(*one, &a_b, false)) == Err(NameFault::NoParent));
+    assert!(rt; told(&rt, names.mkdirs(*one, &a_b)) == Ok(()));
+    assert!(rt; told(&rt, names.rename(*one, &a, &a_b_c)) == Err(NameFault::IntoItself));
+    assert!(rt; told(&rt, names.rename(*one, &x, &y)) == Err(NameFault::Missing));
+    assert!(rt; told(&rt, names.create(*one, &f, true)) == Ok(()));
+    assert!(rt; told(&rt, names.append(*one, &f, b"1")) == Err(NameFault::Closed));
+    assert!(rt; told(&rt, names.mkdirs(*one, &f_g)) == Err(NameFault::NotDir));
+    assert!(rt; told(&rt, names.rename(*one, &a, &f)) == Err(NameFault::Exists));
+    assert!(rt; names.delete(*one, &root) == Err(NameFault::NoParent));
+    names.raise(generation(&rt, 2));
+    assert!(rt; names.exists(*one, &a) == Err(NameFault::Superseded(2)));
+}
+
+#[test]
+fn namespace_read_and_foresee(rt: HostRuntime) {
+    let alloc = rt.alloc();
+    let one = &Caller {
+        app: generation(&rt, 1),
+    };
+    let mut names = new_namespace(&rt, alloc);
+    let f = path(&rt, alloc, "/f");
+    assert!(rt; told(&rt, names.create(*one, &f, false)) == Ok(()));
+    assert!(rt; told(&rt, names.append(*one, &f, b"x")) == Ok(()));
+    match told(&rt, names.read(*one, &f)) {
+        Ok(bytes) => assert!(rt; bytes.as_slice() == b"x".as_slice()),
+        Err(_) => panic!(rt; "not read"),
+    }
+    match told(&rt, names.read(*one, &path(&rt, alloc, "/"))) {
+        Ok(_) => panic!(rt; "a directory was read"),
+        Err(fault) => assert!(rt; fault == NameFault::NotFile),
+    }
+    let read_g = Op::Read(path(&rt, alloc, "/g"));
+    assert!(rt; names.foresee(*one, &read_g) == Some(NameFault::Missing));
+    match told(&rt, names.perform(*one, &Op::List(path(&rt, alloc, "/")))) {
+        Ok(Answer::Listed(entries)) => assert!(rt; lists(&entries, &[(b"f", Kind::File)])),
+        _ => panic!(rt; "not listed"),
+    }
+}
+
+// Each call once by name, with its answer.
+#[test]
+fn namespace_calls(rt: HostRuntime) {
+    let alloc = rt.alloc();
+    let two = &Caller {
+        app: generation(&rt, 2),
+    };
+    let mut names = new_namespace(&rt, alloc);
+    names.raise(two.app);
+    names.raise(generation(&rt, 1));
+    assert!(rt; names.fence() == 2);
+    let d = path(&rt, alloc, "/d");
+    let b = path(&rt, alloc, "/d/b");
+    let moved = path(&rt, alloc, "/e/d");
+    assert!(rt; told(&rt, names.mkdirs(*two, &path(&rt, alloc, "/d/c/x"))) == Ok(()));
+    assert!(rt; told(&rt, names.create(*two, &b, false)) == Ok(()));
+    assert!(rt; told(&rt, names.append(*two, &b, b"12")) == Ok(()));
+    assert!(rt; names.close(*two, &b) == Ok(()));
+    assert!(rt; names.close(*two, &b) == Err(NameFault::Closed));
+    assert!(rt; told(&rt, names.mkdirs(*two, &path(&rt, alloc, "/e"))) == Ok(()));
+    assert!(rt; told(&rt, names.rename(*two, &d, &moved)) == Ok(()));
+    assert!(rt; names.exists(*two, &d) == Ok(None));
+    assert!(rt; names.exists(*two, &path(&rt, alloc, "/e/d/c/x")) == Ok(Some(Kind::Dir)));
+    match told(&rt, names.list(*two, &moved)) {
+        Ok(entries) => assert!(rt; lists(&entries, &[(b"b", Kind::File), (b"c", Kind::Dir)])),
+        Err(_) => panic!(rt; "not listed"),
+    }
+    match told(&rt, names.read(*two, &path(&rt, alloc, "/e/d/b"))) {
+        Ok(bytes) => assert!(rt; bytes.as_slice() == b"12".as_slice()),
+        Err(_) => panic!(rt; "not read"),
+    }
+    assert!(rt; names.delete(*two, &moved) == Ok(()));
+    assert!(rt; names.exists(*two, &path(&rt, alloc, "/e/d/b")) == Ok(None));
+    assert!(rt; names.delete(*two, &moved) == Err(NameFault::Missing));
+}
+
+// Each call once as a value, with its answer.
+#[test]
+fn namespace_calls_as_values(rt: HostRuntime) {
+    let alloc = rt.alloc();
+    let one = &Caller {
+        app: generation(&rt, 1),
+    };
+    let mut names = new_namespace(&rt, alloc);
+    let changes = [
+        Op::Mkdirs(path(&rt, alloc, "/a/b")),
+        Op::Create(path(&rt, alloc, "/a/f"), false),
+        Op::Append(path(&rt, alloc, "/a/f"), bytes(&rt, alloc, b"xy")),
+        Op::Close(path(&rt, alloc, "/a/f")),
+        Op::Delete(path(&rt, alloc, "/a/b")),
+        Op::Rename(path(&rt, alloc, "/a"), path(&rt, alloc, "/c")),
+    ];
+    for op in &changes {
+        assert!(rt; names.foresee(*one, op).is_none());
+        match told(&rt, names.perform(*one, op)) {
+            Ok(Answer::Done) => {}
+            _ => panic!(rt; "not done"),
+        }
+    }
+    match told(
+        &rt,
+        names.perform(*one, &Op::Exists(path(&rt, alloc, "/c"))),
+    ) {
+        Ok(Answer::Found(kind)) => assert!(rt; kind == Some(Kind::Dir)),
+        _ => panic!(rt; "not found"),
+    }
+    match told(
+        &rt,
+        names.perform(*one, &Op::Read(path(&rt, alloc, "/c/f"))),
+    ) {
+        Ok(Answer::Contents(bytes)) => assert!(rt; bytes.into_vec().as_slice() == b"xy".as_slice()),
+        _ => panic!(rt; "not read"),
+    }
+    match told(&rt, names.perform(*one, &Op::List(path(&rt, alloc, "/c")))) {
+        Ok(Answer::Listed(entries)) => assert!(rt; lists(&entries, &[(b"f", Kind::File)])),
+        _ => panic!(rt; "not listed"),
+    }
+}

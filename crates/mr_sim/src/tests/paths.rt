@@ -1,0 +1,170 @@
+//! Names, paths and their texts, and the paths of a job's committer.
+
+use mr_ids::{AppAttempt, AttemptId, JobId, TaskId, TaskKind};
+use mr_paths::{
+    Layout, Name, Path, PathFault, child_of, copy_names, is_hidden, is_name, is_within, parent,
+    rebase, staging,
+};
+use std::alloc::Global;
+use std::process::Abort;
+
+// The path with this text.
+fn path(rt: &impl Abort, alloc: Global, text: &str) -> Path {
+    match Path::parse(alloc, text) {
+        Ok(path) => path,
+        Err(PathFault::NoMemory) => panic!(rt; "no memory"),
+        Err(PathFault::BadName) => panic!(rt; "{text} is no path"),
+    }
+}
+
+fn name(rt: &impl Abort, alloc: Global, bytes: &[u8]) -> Name {
+    match Name::parse(alloc, bytes) {
+        Ok(name) => name,
+        Err(PathFault::NoMemory) => panic!(rt; "no memory"),
+        Err(PathFault::BadName) => panic!(rt; "no name"),
+    }
+}
+
+// Whether this is the path's text.
+fn shows(rt: &impl Abort, alloc: Global, path: &Path, text: &str) -> bool {
+    path.to_string(alloc).expect(rt, "no memory").as_str() == text
+}
+
+#[test]
+fn path_texts(rt: HostRuntime) {
+    let alloc = rt.alloc();
+    let long = [b'n'; 255];
+    for (text, names) in [
+        ("/", 0),
+        ("/a", 1),
+        ("/a/b", 2),
+        ("/out/part-r-00000", 2),
+        ("/é/./..", 3),
+    ] {
+        let path = path(&rt, alloc, text);
+        assert!(rt; path.len() == names, "{text}");
+        assert!(rt; shows(&rt, alloc, &path, text), "{text}");
+    }
+    assert!(rt; is_name(&long));
+    assert!(rt; name(&rt, alloc, &long).as_bytes() == long.as_slice());
+    let shown = name(&rt, alloc, b"a\xff").to_string(alloc);
+    assert!(rt; shown.expect(&rt, "no memory").as_str() == "a\u{fffd}");
+}
+
+#[test]
+fn path_refusals(rt: HostRuntime) {
+    let alloc = rt.alloc();
+    for text in ["", "a", "a/b", "//", "/a/", "/a//b", "//a"] {
+        assert!(rt;
+            Path::parse(alloc, text) == Err(PathFault::BadName),
+            "{text}"
+        );
+    }
+    let long = [b'n'; 256];
+    let mut text = String::new(alloc);
+    text.push('/').expect(&rt, "no memory");
+    for _i in 0..256 {
+        text.push('n').expect(&rt, "no memory");
+    }
+    assert!(rt; Path::parse(alloc, &text) == Err(PathFault::BadName));
+    for bytes in [b"".as_slice(), b"a/b".as_slice(), long.as_slice()] {
+        assert!(rt; !is_name(bytes));
+        assert!(rt; Name::parse(alloc, bytes) == Err(PathFault::BadName));
+    }
+}
+
+#[test]
+fn committer_layout(rt: HostRuntime) {
+    let alloc = rt.alloc();
+    let job = JobId {
+        start: 200707121733,
+        number: 3,
+    };
+    let task = TaskId {
+        job,
+        kind: TaskKind::Reduce,
+        number: 5,
+    };
+    let attempt = AttemptId::new(task, 0).expect(&rt, "an attempt");
+    let last = AttemptId::new(task, 999_000).expect(&rt, "an attempt");
+    let k = AppAttempt::new(1).expect(&rt, "a generation");
+    let k1000 = AppAttempt::new(1000).expect(&rt, "a generation");
+    let layout = Layout {
+        dest: path(&rt, alloc, "/out"),
+    };
+    let layout = layout.copy().expect(&rt, "no memory");
+    for (path, text) in [
+        (layout.temporary(), "/out/_temporary"),
+        (layout.job_attempt(k), "/out/_temporary/1"),
+        (layout.job_attempt(k1000), "/out/_temporary/1000"),
+        (
+            layout.task_attempt(k, attempt),
+            "/out/_temporary/1/_temporary/attempt_200707121733_0003_r_000005_0",
+        ),
+        (
+            layout.task_attempt(k1000, last),
+            "/out/_temporary/1000/_temporary/attempt_200707121733_0003_r_000005_999000",
+        ),
+        (
+            layout.committed(k, task),
+            "/out/_temporary/1/task_200707121733_0003_r_000005",
+        ),
+        (layout.marker(), "/out/_SUCCESS"),
+        (
+            staging(alloc, name(&rt, alloc, b"COMMIT_STARTED")),
+            "/staging/COMMIT_STARTED",
+        ),
+    ] {
+        let path = path.expect(&rt, "no memory");
+        assert!(rt; shows(&rt, alloc, &path, text), "{text}");
+    }
+    for (reduce, text) in [
+        (0, "part-r-00000"),
+        (5, "part-r-00005"),
+        (99_999, "part-r-99999"),
+        (123_456, "part-r-123456"),
+    ] {
+        let part = layout.part(reduce).expect(&rt, "no memory");
+        assert!(rt; part.as_bytes() == text.as_bytes(), "{text}");
+        assert!(rt; !is_hidden(&part), "{text}");
+    }
+}
+
+#[test]
+fn hidden_names(rt: HostRuntime) {
+    let alloc = rt.alloc();
+    for (bytes, hidden) in [
+        (b"_SUCCESS".as_slice(), true),
+        (b"_temporary".as_slice(), true),
+        (b".crc".as_slice(), true),
+        (b"_".as_slice(), true),
+        (b"part-r-00000".as_slice(), false),
+        (b"a_b.c".as_slice(), false),
+    ] {
+        assert!(rt; is_hidden(&name(&rt, alloc, bytes)) == hidden);
+    }
+}
+
+#[test]
+fn paths_are_made(rt: HostRuntime) {
+    let alloc = rt.alloc();
+    let a = Name::new(alloc, b"a").expect(&rt, "no memory");
+    let b = a.copy().expect(&rt, "no memory");
+    assert!(rt; a == b && a.clone().expect(&rt, "no memory") == b);
+    let top = Path::root(alloc).child(a).expect(&rt, "no memory");
+    let mut leaf = top.copy().expect(&rt, "no memory");
+    leaf.push(b).expect(&rt, "no memory");
+    assert!(rt; shows(&rt, alloc, &leaf, "/a/a"));
+    assert!(rt; top < leaf && leaf.clone().expect(&rt, "no memory") == leaf);
+    assert!(rt; is_within(leaf.names(), top.names()) && parent(leaf.names()) == top.names());
+    assert!(rt; child_of(leaf.names(), top.names()) == leaf.names().last());
+    assert!(rt; leaf.len() == 2);
+    assert!(rt; leaf.front(1).expect(&rt, "no memory") == top);
+    let names = copy_names(alloc, leaf.names()).expect(&rt, "no memory");
+    assert!(rt; names.as_slice() == leaf.names());
+    let to = path(&rt, alloc, "/x/y");
+    let moved = rebase(alloc, leaf.names(), top.names(), to.names()).expect(&rt, "no memory");
+    assert!(rt; moved.as_slice() == path(&rt, alloc, "/x/y/a").names());
+    let kept = rebase(alloc, top.names(), leaf.names(), to.names()).expect(&rt, "no memory");
+    assert!(rt; kept.as_slice() == top.names());
+}
