@@ -1,0 +1,68 @@
+//! What the command line takes, what it refuses, and its help.
+use crate::words::{command_line, command_of};
+use clap::error::ErrorKind;
+use std::alloc::Global;
+use std::process::Abort;
+use std::test::Fail;
+
+/// The subcommand that the words name.
+fn named(alloc: Global, words: &[&str]) -> Result<mr_sim::Command, clap::Error> {
+    let command = command_line(alloc)?;
+    let matches = command.try_get_matches_from(words)?;
+    Ok(command_of(&matches))
+}
+
+/// The words ask for help: it goes to standard output, and holds this text.
+fn helps(rt: &impl Abort, alloc: Global, words: &[&str], text: &str) -> Result<(), Fail> {
+    match named(alloc, words) {
+        Ok(_) => panic!(rt; "no help"),
+        Err(error) => {
+            assert!(rt; error.kind() == ErrorKind::DisplayHelp);
+            assert!(rt; !error.use_stderr());
+            assert!(rt; error.to_string(alloc)?.contains(text));
+        }
+    }
+    Ok(())
+}
+
+/// The words are refused, and the refusal goes to standard error.
+fn refuses(rt: &impl Abort, alloc: Global, words: &[&str]) {
+    match named(alloc, words) {
+        Ok(_) => panic!(rt; "not refused"),
+        Err(error) => assert!(rt; error.use_stderr()),
+    }
+}
+
+#[test]
+fn subcommands(rt: HostRuntime) -> Result<(), Fail> {
+    let alloc = rt.alloc();
+    assert!(rt; named(alloc, &["mrsim", "committer"])? == mr_sim::Command::Committer);
+    assert!(rt; named(alloc, &["mrsim", "history"])? == mr_sim::Command::History);
+    Ok(())
+}
+
+#[test]
+fn help(rt: HostRuntime) -> Result<(), Fail> {
+    let alloc = rt.alloc();
+    helps(&rt, alloc, &["mrsim", "--help"], "Statuses:")?;
+    helps(&rt, alloc, &["mrsim", "-h"], "committer")?;
+    helps(
+        &rt,
+        alloc,
+        &["mrsim", "committer", "--help"],
+        "write A TEXT",
+    )?;
+    helps(&rt, alloc, &["mrsim", "history", "--help"], "torn B")
+}
+
+#[test]
+fn refused_words(rt: HostRuntime) {
+    let alloc = rt.alloc();
+    refuses(&rt, alloc, &["mrsim"]);
+    refuses(&rt, alloc, &["mrsim", "help"]);
+    refuses(&rt, alloc, &["mrsim", "play"]);
+    refuses(&rt, alloc, &["mrsim", "comitter"]);
+    refuses(&rt, alloc, &["mrsim", "committer", "x"]);
+    refuses(&rt, alloc, &["mrsim", "--turns", "committer"]);
+    refuses(&rt, alloc, &["mrsim", "history", "--hold"]);
+}

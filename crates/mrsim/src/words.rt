@@ -1,0 +1,84 @@
+//! The words of the command line.
+use clap::{ArgMatches, Command};
+use std::alloc::{AllocError, Global};
+
+const ABOUT: &str =
+    "Simulates the part of a Hadoop MapReduce cluster that decides whose output counts.";
+
+const STATUSES: &str = "\
+Each subcommand reads standard input to its end, and then writes standard output.
+
+Statuses:
+  0  done
+  2  the command line was refused
+  3  the input was refused: `mrsim: line N: bad command`, `mrsim: history: bad line N`,
+     `mrsim: input too long`
+  4  a stream failed: `mrsim: read`, `mrsim: write`
+  5  `mrsim: no memory`";
+
+const COMMITTER: &str = "Runs a script of committer calls and lists the directory that they leave";
+
+const COMMITTER_HELP: &str = "\
+Reads a script from standard input, one command a line:
+  as K            the generation K of the master makes the calls from here on (1 at first)
+  raise K         raises the fence to K: calls of older generations are refused
+  check           refuses a destination that exists
+  setup           sets the job up
+  write A TEXT    the reduce attempt A writes TEXT and a line feed as its part file
+  needs A         tells whether the attempt A has output to be committed
+  commit A        commits the attempt A as its task's output
+  commitjob       commits the job: publishes what was committed, and the marker _SUCCESS
+Writes a line for each refused command and each `needs`, and then each path with its length.
+
+Example:
+  setup
+  write attempt_200707121733_0003_r_000000_0 hello
+  commit attempt_200707121733_0003_r_000000_0
+  commitjob
+prints
+  out/
+  out/_SUCCESS 0
+  out/part-r-00000 6";
+
+const HISTORY: &str = "Prints the records of one segment of a job history";
+
+const HISTORY_HELP: &str = "\
+Reads the bytes of one segment from standard input: records as compact JSON, one a line.
+Writes a line for each record of a whole line, in order:
+  started A node N                 the attempt A was launched on node N
+  map A node N incarnation I       the map attempt A succeeded, its output lies on node N
+  reduce A                         the reduce attempt A succeeded
+  failed A                         the attempt A failed
+  unsuccessful                     the job failed
+and last `torn B`: the B bytes behind the last line feed, which are no record.
+
+Example:
+  {\"attempt\":\"attempt_200707121733_0003_r_000000_0\",\"event\":\"reduce\"}
+prints
+  reduce attempt_200707121733_0003_r_000000_0
+  torn 0";
+
+/// The program's command line.
+pub fn command_line<'a>(alloc: Global) -> Result<Command<'a>, AllocError> {
+    let committer = Command::new(alloc, "committer")
+        .about(COMMITTER)
+        .after_help(COMMITTER_HELP);
+    let history = Command::new(alloc, "history")
+        .about(HISTORY)
+        .after_help(HISTORY_HELP);
+    Command::new(alloc, "mrsim")
+        .about(ABOUT)
+        .after_help(STATUSES)
+        .disable_help_subcommand(true)
+        .subcommand_required(true)
+        .subcommand(committer)?
+        .subcommand(history)
+}
+
+/// The subcommand that the words name. Words without one are refused before.
+pub fn command_of(matches: &ArgMatches<'_>) -> mr_sim::Command {
+    match matches.subcommand() {
+        Some(("history", _)) => mr_sim::Command::History,
+        _ => mr_sim::Command::Committer,
+    }
+}
