@@ -53,7 +53,7 @@ content_of-insert_entry es k v = finite.same_map path_total path_exact _ _ (λ q
     ∙ sym (finite.get-insert path_total (content_of es) k.items v q))
 
 -- a filter by the keys
-filter-by_names : (p : List (List ℕ) → Bool) (es : List (Vec Name Global × Node)) → map by_names (filter (λ e. p e.0.items) es) ≡ where_key path_cmp p (map by_names es)
+pub filter-by_names : (p : List (List ℕ) → Bool) (es : List (Vec Name Global × Node)) → map by_names (filter (λ e. p e.0.items) es) ≡ where_key path_cmp p (map by_names es)
 filter-by_names p [] = refl
 filter-by_names p (e ∷ es) =
     elim (p e.0.items) as (λ b. map by_names (cond b (e ∷ filter (λ e. p e.0.items) es) (filter (λ e. p e.0.items) es)) ≡ cond b (by_names e ∷ where_key path_cmp p (map by_names es)) (where_key path_cmp p (map by_names es))) [
@@ -76,7 +76,7 @@ below : (k : Vec Name Global) (es : List (Vec Name Global × Node)) → AllByRec
 below k [] h = tt
 below k (e ∷ es) h = let e : is_lt (path_cmp k.items e.0.items) ≡ true = ap is_lt h.0 in rw e (below k es h.1)
 
-rising : (es : List (Vec Name Global × Node)) → IsStrictlySortedBy key_cmp (keys_of es) → T (is_sorted path_cmp (map by_names es))
+pub rising : (es : List (Vec Name Global × Node)) → IsStrictlySortedBy key_cmp (keys_of es) → T (is_sorted path_cmp (map by_names es))
 rising [] h = tt
 rising (e ∷ es) h = both _ _ (below e.0 es (sorted_head key_cmp e.0 (keys_of es) h)) (rising es (sorted_tail key_cmp e.0 (keys_of es) h))
   where

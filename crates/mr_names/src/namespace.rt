@@ -133,8 +133,7 @@ impl Namespace {
         ensures { Makes (λ _. Answer.Done) self.old caller.app (Op.Rename from.now to.now) result self.new }
     {
         self.check_rename(caller, from, to)?;
-        let table = self.table.renamed(self.alloc, from.names(), to.names())?;
-        self.table = table;
+        self.table.rename(self.alloc, from.names(), to.names())?;
         Ok(())
     }
 
@@ -150,11 +149,8 @@ impl Namespace {
     pub fn exists(&self, caller: Caller, path: &Path) -> Result<Option<Kind>, NameFault>
         ensures { MakesAlways Answer.Found self.now caller.app (Op.Exists path.now) result self.now }
     {
-        self.check_fence(caller)?;
-        match self.table.get(path.names()) {
-            None => Ok(None),
-            Some(node) => Ok(Some(node.kind())),
-        }
+        let found = self.table.get(path.names()).map(|node| node.kind());
+        self.check_fence(caller).map(|()| found)
     }
 
     /// The bytes of a file so far. Refused `Missing`, `NotFile`.

@@ -1,7 +1,10 @@
-ghost use Rattle.std.specs.Prelude.{◌≡◌, ◌+◌, ℕ, [], ◌∷◌, ◌++◌, IfOk, OnOk, OnErr, length, ◌<◌, ◌≤◌, ◌^◌, drop, filter, IfSome};
+ghost use Rattle.std.specs.Prelude.{◌≡◌, ◌+◌, ℕ, [], ◌∷◌, ◌++◌, IfOk, OnOk, OnErr, length, ◌<◌, ◌≤◌, ◌^◌, drop, filter, IfSome, take};
+ghost use Rattle.std.specs.Prelude.{map as list_map};
 ghost use Rattle.std.specs.FinMap as map;
 ghost use Rattle.std.specs.Option.{option_copied};
 ghost use Rattle.mr_names.specs.Content.{IsTree, without, without_one, renamed, changed_at, with_dirs};
+ghost use Rattle.mr_names.specs.Moving.{move_of, with_places, moves_of, carried, all_carried, shown, entries_within};
+ghost use Rattle.mr_names.specs.Laws.{MayRename};
 ghost use Rattle.mr_names.specs.Node.{appended, closed_of};
 ghost use Rattle.mr_names.specs.Held.{missing_count, is_absent};
 ghost use Rattle.mr_paths.specs.Path.{prefixes};
@@ -14,6 +17,13 @@ use mr_paths::{Name, child_of, copy_names, is_path, is_within, rebase};
 use std::alloc::{AllocError, Global};
 use std::collections::BTreeMap;
 use std::marker::Model;
+
+// Where a node stands, and where it is to stand.
+#[derive(Drop)]
+struct Move {
+    from: Vec<Name>,
+    to: Vec<Name>,
+}
 
 /// Nodes by their paths.
 #[derive(Drop)]
@@ -104,15 +114,104 @@ impl Table {
         self.entries.retain(|names, _node| !is_within(names, top));
     }
 
-    /// The same nodes, those at and beneath `from` now at and beneath `to`.
-    pub fn renamed(&self, alloc: Global, from: &[Name], to: &[Name]) -> Result<Table, AllocError>
-        ensures { IfOk result (λ table. table ≡ renamed from.now to.now self.now) }
+    /// Moves what is at and beneath `from` to `to`, where nothing is, all or nothing. It costs look-ups for what is
+    /// moved, and no byte of a file is copied.
+    pub fn rename(&mut self, alloc: Global, from: &[Name], to: &[Name]) -> Result<(), AllocError>
+        requires tree { IsTree self.old }
+        requires may { MayRename self.old from.now to.now }
+        ensures ok { OnOk result (self.new ≡ renamed from.now to.now self.old) }
+        ensures err { OnErr result (self.new ≡ self.old) }
     {
-        let mut table = Table::empty(alloc);
-        for (names, node) in self.entries.iter() {
-            table.insert(rebase(alloc, names, from, to)?, node.copy()?)?;
+        let moves = self.moves(alloc, from, to)?;
+        match self.add_places(alloc, &moves) {
+            Ok(()) => {
+                self.carry_all(&moves);
+                Ok(())
+            }
+            Err(error) => {
+                self.remove_within(to);
+                Err(error)
+            }
         }
-        Ok(table)
+    }
+
+    // Where each node at and beneath `from` stands, and where it is to stand.
+    fn moves(&self, alloc: Global, from: &[Name], to: &[Name]) -> Result<Vec<Move>, AllocError>
+        ensures { IfOk result (λ moves. list_map move_of moves.items ≡ moves_of from.now to.now self.now) }
+    {
+        let mut moves = Vec::new(alloc);
+        for &(names, _node) in &self.within(alloc, from)? {
+            moves.push(Move {
+                from: copy_names(alloc, names)?,
+                to: rebase(alloc, names, from, to)?,
+            })?;
+        }
+        Ok(moves)
+    }
+
+    // Makes a directory where each node is to stand. Refused, it has made the first of them.
+    fn add_places(&mut self, alloc: Global, moves: &[Move]) -> Result<(), AllocError>
+        ensures ok { OnOk result (self.new ≡ with_places self.old (list_map move_of moves.now)) }
+        ensures err { OnErr result ((n : ℕ) × (self.new ≡ with_places self.old (list_map move_of (take n moves.now)))) }
+    {
+        for step in moves {
+            self.insert(copy_names(alloc, &step.to)?, Node::Dir)?;
+        }
+        Ok(())
+    }
+
+    // Carries each node to its place.
+    fn carry_all(&mut self, moves: &[Move])
+        ensures { self.new ≡ all_carried self.old (list_map move_of moves.now) }
+    {
+        for step in moves {
+            self.carry(&step.from, &step.to);
+        }
+    }
+
+    // Carries a node to a place.
+    fn carry(&mut self, from: &[Name], to: &[Name])
+        ensures { self.new ≡ carried self.old (from.now, to.now) }
+    {
+        if let Some(node) = self.take(from) {
+            self.replace(to, node);
+        }
+    }
+
+    // Takes out what is at a path, and nothing beneath it.
+    fn take(&mut self, names: &[Name]) -> Option<Node>
+        ensures node { result ≡ map.get self.old names.now }
+        ensures left { self.new ≡ without_one names.now self.old }
+    {
+        // `len` tells the proof that the keys ascend.
+        let _len = self.entries.len();
+        self.entries.remove(names)
+    }
+
+    // Puts a node in the place of the one that is at a path, where there is one.
+    fn replace(&mut self, names: &[Name], node: Node)
+        ensures { self.new ≡ changed_at self.old names.now (λ _. node) }
+    {
+        match self.entries.get_mut(names) {
+            Some(place) => *place = node,
+            None => {}
+        }
+    }
+
+    // What is at and beneath a path, by rising paths. It costs a look-up, and a walk over what it finds.
+    fn within(&self, alloc: Global, top: &[Name]) -> Result<Vec<(&Vec<Name>, &Node)>, AllocError>
+        ensures { IfOk result (λ found. list_map shown found.items ≡ entries_within top.now self.now) }
+    {
+        let mut found = Vec::new(alloc);
+        let start = copy_names(alloc, top)?;
+        for (names, node) in self.entries.range(&start..) {
+            // What is beneath a path stands together.
+            if !is_within(names, top) {
+                break;
+            }
+            found.push((names, node))?;
+        }
+        Ok(found)
     }
 
     /// How many of the directories on the way down to a path are missing, from the one with `n` names on.
@@ -157,13 +256,10 @@ impl Table {
         }
     }
 
-    // Takes out what is at a path, and nothing beneath it.
     fn remove(&mut self, names: &[Name])
         ensures { self.new ≡ without_one names.now self.old }
     {
-        // `len` tells the proof that the keys ascend.
-        let _len = self.entries.len();
-        self.entries.remove(names);
+        self.take(names);
     }
 
     /// The entries directly beneath a path, by the bytes of their names.
@@ -171,7 +267,7 @@ impl Table {
         ensures { IfOk result (λ entries. entries ≡ children self.now top.now) }
     {
         let mut entries = Entries::new(alloc);
-        for (names, node) in self.entries.iter() {
+        for &(names, node) in &self.within(alloc, top)? {
             if let Some(name) = child_of(names, top) {
                 entries.push(Entry {
                     name: name.copy()?,
