@@ -72,8 +72,9 @@ fn all_pairs<J: Job>(
     Ok(pairs)
 }
 
-// The pairs of a split.
-fn split_pairs<J: Job>(
+/// The pairs of a split, which has at most `MAX_SPLIT_LEN` bytes: by line, and as `map` gives them.
+/// Answers `Refused` where the job refuses a line, and `NoMemory` only where a growth was refused.
+pub fn split_pairs<J: Job>(
     alloc: Global,
     job: &J,
     number: u32,
@@ -97,8 +98,9 @@ fn split_pairs<J: Job>(
     Ok(pairs)
 }
 
-// The pairs of each reduce, in order.
-fn shares<J: Job>(
+/// The pairs of each reduce, in order of the reduces, each pair where it stood among those of its reduce.
+/// Answers no fault but want of memory.
+pub fn shares<J: Job>(
     alloc: Global,
     job: &J,
     pairs: Vec<(J::Key, J::Value)>,
@@ -131,8 +133,9 @@ fn empty_shares<T: Drop>(alloc: Global, count: u32) -> Result<Vec<Vec<T>>, Alloc
     Ok(shares)
 }
 
-// The text of the pairs of one reduce.
-fn text_of<J: Job>(
+/// The text of a reduce: the lines of each key of the pairs, rising, reduced with all its values in order.
+/// Answers no fault but want of memory.
+pub fn text_of<J: Job>(
     alloc: Global,
     job: &J,
     pairs: Vec<(J::Key, J::Value)>,

@@ -16,7 +16,9 @@ mod wire;
 mod word;
 mod word_count;
 
-pub use execution::{MAX_REDUCES, MAX_SPLIT_LEN, MAX_SPLITS, sequential};
+pub use execution::{
+    MAX_REDUCES, MAX_SPLIT_LEN, MAX_SPLITS, sequential, shares, split_pairs, text_of,
+};
 pub use fault::{GateFault, UserFault};
 pub use gate::{Gate, OpenGate};
 pub use group::groups;
