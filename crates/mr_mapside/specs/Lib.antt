@@ -1,0 +1,4 @@
+pub mod Block
+pub mod Cutting
+pub mod Laws
+pub mod Work

@@ -1,0 +1,145 @@
+-- The shelf's entries, seen as a finite map by attempts.
+use Rattle.std.proofs.Common.{◌≡◌, ℕ, ◌==◌, ◌&&◌, Bool, true, false, cond, List, [], ◌∷◌, Some, None, refl, sym, ap, subst, ◌∙◌}
+use Rattle.std.proofs.lemmas.Bool.{eqb-true, eq-eqb}
+use Rattle.std.proofs.lemmas.Cmp.{nat_list_cmp_total, tied_itself}
+use Rattle.std.specs.Cmp.{IsTotalOrder}
+use Rattle.std.specs.FinMap as finite
+use Rattle.std.specs.FinMap.Entries.{find}
+use Rattle.std.specs.List.{slice_get}
+use Rattle.std.specs.Map.{lookup}
+use Rattle.std.specs.Option.{option_and_then}
+use Rattle.std.specs.Ordering.{eq_by_cmp, is_eq}
+use Rattle.std.specs.declared.cmp.Ordering.{Ordering}
+use Rattle.std.specs.declared.cmp.Ordering.TheVariants.{Less, Equal, Greater}
+use Rattle.mr_ids.specs.Attempt.{Attempt}
+use Rattle.mr_ids.specs.declared.id.TaskKind.{TaskKind}
+use Rattle.mr_ids.specs.declared.id.TaskKind.TheVariants.{Map, Reduce}
+use Rattle.mr_ids.specs.contracts.id.AttemptIdPartialEq.TheImpl.{eq-value}
+use Rattle.mr_mapside.specs.Cutting.{cut}
+use Rattle.mr_shuffle.specs.Shelf.{kind_number, numbers_of, attempt_cmp, AttemptsAreApart, Outputs, block_there}
+
+-- the order of the numbers, at attempts
+attempt_order : IsTotalOrder attempt_cmp
+attempt_order = record {
+  antisymm = λ a b. nat_list_cmp_total.antisymm (numbers_of a) (numbers_of b);
+  trans = λ a b c. nat_list_cmp_total.trans (numbers_of a) (numbers_of b) (numbers_of c);
+  congr = λ a b c. nat_list_cmp_total.congr (numbers_of a) (numbers_of b) (numbers_of c);
+}
+
+kind_is : (k l : TaskKind) → kind_number k ≡ kind_number l → k ≡ l
+kind_is Map Map e = refl
+kind_is Map Reduce e = cc
+kind_is Reduce Map e = cc
+kind_is Reduce Reduce e = refl
+
+numbers_are : (a b : Attempt) → numbers_of a ≡ numbers_of b → a ≡ b
+numbers_are a b e =
+    let start : a.task.job.start ≡ b.task.job.start = cc in
+    let job : a.task.job.number ≡ b.task.job.number = cc in
+    let number : kind_number a.task.kind ≡ kind_number b.task.kind = cc in
+    let kind : a.task.kind ≡ b.task.kind = kind_is a.task.kind b.task.kind number in
+    let task : a.task.number ≡ b.task.number = cc in
+    let attempt : a.number ≡ b.number = cc in
+    λ i. record { task = record { job = record { start = start i; number = job i }; kind = kind i; number = task i }; number = attempt i }
+
+-- attempts that tie are one
+attempt_exact : finite.IsAntisymmetric attempt_cmp
+attempt_exact a b e = numbers_are a b (finite.slice_cmp-IsAntisymmetric finite.nat_cmp-IsAntisymmetric (numbers_of a) (numbers_of b) e)
+
+equal : (o : Ordering) → is_eq o ≡ true → o ≡ Equal
+equal Less e = cc
+equal Equal e = refl
+equal Greater e = cc
+
+tied_are : (a b : Attempt) → eq_by_cmp attempt_cmp a b ≡ true → a ≡ b
+tied_are a b e = attempt_exact a b (equal (attempt_cmp a b) e)
+
+are_tied : (a b : Attempt) → a ≡ b → eq_by_cmp attempt_cmp a b ≡ true
+are_tied a b e = ap (λ b. eq_by_cmp attempt_cmp a b) (sym e) ∙ ap is_eq (tied_itself attempt_order a)
+
+pub attempts_are_apart : AttemptsAreApart
+attempts_are_apart a b = (tied_are a b, are_tied a b)
+
+-- the code's `==` of attempts
+
+five : (s j k t n : Bool) → (((s && j) && (k && t)) && n) ≡ true → (s ≡ true) × (j ≡ true) × (t ≡ true) × (n ≡ true)
+five true true true true true e = (refl, refl, refl, refl)
+five false j k t n e = cc
+five true false k t n e = cc
+five true true false t n e = cc
+five true true true false n e = cc
+five true true true true false e = cc
+
+no_kind : (s j t n : Bool) → (((s && j) && (false && t)) && n) ≡ true → ⊥
+no_kind false j t n e = cc
+no_kind true false t n e = cc
+no_kind true true t n e = cc
+
+abbrev with_kind : Attempt → TaskKind → Attempt
+with_kind a k = record { task = record { job = a.task.job; kind = k; number = a.task.number }; number = a.number }
+
+same_kind : (a b : Attempt) (k : TaskKind) → (((a.task.job.start == b.task.job.start) && (a.task.job.number == b.task.job.number)) && (true && (a.task.number == b.task.number))) && (a.number == b.number) ≡ true → with_kind a k ≡ with_kind b k
+same_kind a b k e =
+    let p = five (a.task.job.start == b.task.job.start) (a.task.job.number == b.task.job.number) true (a.task.number == b.task.number) (a.number == b.number) e in
+    let start : a.task.job.start ≡ b.task.job.start = eqb-true _ _ p.0 in
+    let job : a.task.job.number ≡ b.task.job.number = eqb-true _ _ p.1 in
+    let task : a.task.number ≡ b.task.number = eqb-true _ _ p.2 in
+    let attempt : a.number ≡ b.number = eqb-true _ _ p.3 in
+    λ i. record { task = record { job = record { start = start i; number = job i }; kind = k; number = task i }; number = attempt i }
+
+by_kind : (a b : Attempt) (k l : TaskKind) → eq-value.it (with_kind a k) (with_kind b l) ≡ true → with_kind a k ≡ with_kind b l
+by_kind a b Map Map e = same_kind a b Map e
+by_kind a b Map Reduce e = absurd (no_kind (a.task.job.start == b.task.job.start) (a.task.job.number == b.task.job.number) (a.task.number == b.task.number) (a.number == b.number) e)
+by_kind a b Reduce Map e = absurd (no_kind (a.task.job.start == b.task.job.start) (a.task.job.number == b.task.job.number) (a.task.number == b.task.number) (a.number == b.number) e)
+by_kind a b Reduce Reduce e = same_kind a b Reduce e
+
+eqb-itself : (n : ℕ) → (n == n) ≡ true
+eqb-itself n = eq-eqb n n refl
+
+itself : (a : Attempt) (k : TaskKind) → eq-value.it (with_kind a k) (with_kind a k) ≡ true
+itself a Map = rw (eqb-itself a.task.job.start, eqb-itself a.task.job.number, eqb-itself a.task.number, eqb-itself a.number) refl
+itself a Reduce = rw (eqb-itself a.task.job.start, eqb-itself a.task.job.number, eqb-itself a.task.number, eqb-itself a.number) refl
+
+both_ways : (s t : Bool) → (s ≡ true → t ≡ true) → (t ≡ true → s ≡ true) → s ≡ t
+both_ways true t f g = sym (f refl)
+both_ways false true f g = g refl
+both_ways false false f g = refl
+
+eq_is : (a b : Attempt) → eq-value.it a b ≡ eq_by_cmp attempt_cmp a b
+eq_is a b = both_ways _ _ (λ e. are_tied a b (by_kind a b a.task.kind b.task.kind e)) (λ e. subst (λ b. eq-value.it a b ≡ true) (tied_are a b e) (itself a a.task.kind))
+
+swapped : (a b : Attempt) → eq_by_cmp attempt_cmp a b ≡ eq_by_cmp attempt_cmp b a
+swapped a b = both_ways _ _ (λ e. are_tied b a (sym (tied_are a b e))) (λ e. are_tied a b (sym (tied_are b a e)))
+
+-- what is at an attempt
+lookup_is : (es : List (Attempt × List ℕ)) (q : Attempt) → lookup (eq-value.it q) es ≡ find attempt_cmp q es
+lookup_is [] q = refl
+lookup_is (e ∷ es) q = (λ i. cond (eq_is q e.0 i) (Some e.1) (lookup_is es q i))
+
+pub output_at : (es : List (Attempt × List ℕ)) (q : Attempt) → lookup (eq-value.it q) es ≡ finite.get (finite.from_entries {R = attempt_cmp} es) q
+output_at es q = lookup_is es q ∙ sym (finite.get-from_entries attempt_order es q)
+
+-- an output that was put
+pub output_put : (es fs : List (Attempt × List ℕ)) (a : Attempt) (bytes : List ℕ) → ((q : Attempt) → lookup (eq-value.it q) fs ≡ cond (eq-value.it a q) (Some bytes) (lookup (eq-value.it q) es)) →
+    ◌≡◌ {A = Outputs} (finite.from_entries fs) (finite.insert (finite.from_entries es) a bytes)
+output_put es fs a bytes h = finite.same_map attempt_order attempt_exact _ _ (λ q.
+    sym (output_at fs q)
+    ∙ h q
+    ∙ (λ i. cond ((eq_is a q ∙ swapped a q) i) (Some bytes) (output_at es q i))
+    ∙ sym (finite.get-insert attempt_order (finite.from_entries es) a bytes q))
+
+-- nothing was put of an attempt
+pub nothing_there : (es : List (Attempt × List ℕ)) (reduces : ℕ) (a : Attempt) (reduce : ℕ) → None ≡ lookup (eq-value.it a) es → None ≡ block_there (record { reduces = reduces; outputs = finite.from_entries es }) a reduce
+nothing_there es reduces a reduce none = ap (option_and_then (λ bytes. option_and_then (λ blocks. slice_get blocks reduce) (cut reduces bytes))) (none ∙ output_at es a)
+
+-- something was put that is no blocks
+pub no_blocks_there : (es : List (Attempt × List ℕ)) (reduces : ℕ) (a : Attempt) (reduce : ℕ) (bytes : List ℕ) → Some bytes ≡ lookup (eq-value.it a) es → None ≡ cut reduces bytes → None ≡ block_there (record { reduces = reduces; outputs = finite.from_entries es }) a reduce
+no_blocks_there es reduces a reduce bytes some none =
+    ap (option_and_then (λ blocks. slice_get blocks reduce)) none
+    ∙ ap (option_and_then (λ bytes. option_and_then (λ blocks. slice_get blocks reduce) (cut reduces bytes))) (some ∙ output_at es a)
+
+-- blocks were put
+pub blocks_there : (es : List (Attempt × List ℕ)) (reduces : ℕ) (a : Attempt) (reduce : ℕ) (bytes : List ℕ) (blocks : List (List ℕ)) → Some bytes ≡ lookup (eq-value.it a) es → Some blocks ≡ cut reduces bytes → slice_get blocks reduce ≡ block_there (record { reduces = reduces; outputs = finite.from_entries es }) a reduce
+blocks_there es reduces a reduce bytes blocks some is =
+    ap (option_and_then (λ (blocks : List (List ℕ)). slice_get blocks reduce)) is
+    ∙ ap (option_and_then (λ bytes. option_and_then (λ blocks. slice_get blocks reduce) (cut reduces bytes))) (some ∙ output_at es a)

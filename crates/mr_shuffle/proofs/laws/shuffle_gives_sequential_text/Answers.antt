@@ -1,0 +1,9 @@
+use Rattle.mr_user.specs.Computation.{computation}
+use Rattle.mr_shuffle.proofs.Composing.{composition}
+use Rattle.mr_shuffle.proofs.laws.shuffle_gives_sequential_text.Goals as goal
+
+pub returns : goal.returns
+returns g c splits reduces r h =
+    composition (computation g.J.Key.Ord.cmp g.J.Key.Wire.codec g.J.Value.Wire.codec g.J.Job.functions)
+    (record { job_laws = g.met.J.Job.laws; key_laws = g.met.J.Key.Wire.laws; value_laws = g.met.J.Value.Wire.laws; order = g.met.J.Key.Ord.total })
+    reduces r splits h

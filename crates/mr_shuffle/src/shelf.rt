@@ -1,0 +1,67 @@
+//! The map outputs that lie on a node.
+ghost use Rattle.std.specs.Prelude.{◌≡◌, OnOk, OnErr};
+ghost use Rattle.std.specs.Option.{option_map};
+ghost use Rattle.mr_shuffle.specs.Shelf.{with_output, without_outputs, block_there};
+
+use indexmap::IndexMap;
+use mr_ids::AttemptId;
+use mr_mapside::{MapOutput, blocks};
+use std::alloc::{AllocError, Global};
+use std::marker::Model;
+
+/// The outputs of the map attempts that ran on a node, from where reduces fetch their blocks.
+/// Contracts see how many reduces the outputs are cut for, and a finite map from attempts to the bytes that were put of them.
+#[derive(Drop)]
+pub struct ShelfOfNode {
+    reduces: u32,
+    outputs: IndexMap<AttemptId, MapOutput>,
+}
+
+impl Model for ShelfOfNode {
+    ghost use Rattle.std.specs.FinMap as finite;
+    ghost use Rattle.mr_shuffle.specs.Shelf.{Shelf, shelf_code};
+
+    ghost Value = { Shelf };
+
+    ghost coded = { shelf_code };
+
+    ghost view = { λ s. record { reduces = s.reduces; outputs = finite.from_entries s.outputs.entries } };
+}
+
+impl ShelfOfNode {
+    /// An empty shelf, for outputs that are cut for so many reduces. It takes no memory until something is put.
+    pub fn new(alloc: Global, reduces: u32) -> ShelfOfNode
+        ensures { result ≡ without_outputs reduces }
+    {
+        ShelfOfNode {
+            reduces,
+            outputs: IndexMap::new(alloc),
+        }
+    }
+
+    /// Puts the output of an attempt, in place of one that was put of it before.
+    /// Answers no fault but want of memory, and then nothing has changed.
+    pub fn put(&mut self, a: AttemptId, output: MapOutput) -> Result<(), AllocError>
+        ensures ok { OnOk result (self.new ≡ with_output self.old a output) }
+        ensures err { OnErr result (self.new ≡ self.old) }
+    {
+        self.outputs.insert(a, output)?;
+        Ok(())
+    }
+
+    /// The block of a reduce in the output of an attempt. None where no output of the attempt was put since all were
+    /// dropped, where it is not as many blocks as there are reduces, and where there is no such reduce.
+    pub fn get(&self, a: AttemptId, reduce: u32) -> Option<&[u8]>
+        ensures { option_map (λ block. block.now) result ≡ block_there self.now a reduce }
+    {
+        let output = self.outputs.get(&a)?;
+        blocks(output.bytes(), self.reduces)?.get(reduce)
+    }
+
+    /// Drops all outputs, as a node that restarts.
+    pub fn drop_all(&mut self)
+        ensures { self.new ≡ without_outputs self.old.reduces }
+    {
+        self.outputs.clear();
+    }
+}
