@@ -1,0 +1,3 @@
+pub mod GrantLaws
+pub mod Lists
+pub mod Same

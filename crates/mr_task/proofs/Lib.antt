@@ -1,0 +1,14 @@
+pub mod Arrivals
+pub mod Bits
+pub mod Growth
+pub mod Keeps
+pub mod Launches
+pub mod Lists
+pub mod Moves
+pub mod Names
+pub mod Results
+pub mod Same
+pub mod States
+pub mod Tables
+pub mod TaskLaws
+pub mod Telling

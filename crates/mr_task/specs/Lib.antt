@@ -1,0 +1,5 @@
+pub mod Calls
+pub mod Laws
+pub mod Readings
+pub mod State
+pub mod Steps

@@ -1,0 +1,423 @@
+ghost use Rattle.std.specs.Prelude.{◌≡◌, ◌≤◌, ◌<◌, ◌+◌, ◌*◌, ◌-◌, [], ◌∷◌, length, if◌then◌else◌, true, false, Some, None, Ok, Err, IfOk, OnOk, OnErr, IfErr, IfNone, IsOkUnless, unwrap_or, not};
+ghost use Rattle.mr_attempt.specs.Table.{is_live};
+ghost use Rattle.mr_grant.specs.Attempts.{has};
+ghost use Rattle.mr_task.specs.Calls.{Launches, Hears, Asks, Reports, Fails, Ends, Dies, Records, Recovers, Loses};
+ghost use Rattle.mr_task.specs.Readings.{seen, named, is_named, failures, is_won, winner, launch_refusal, refusal_of, numbered_up_to};
+ghost use Rattle.mr_task.specs.State.{StandsFor, Stands, Answers, known, launch_answer, done_answer, state_answer, fault_or};
+ghost use Rattle.mr_task.specs.Steps.{entry_in, if_there, noted, ended, asked, done};
+
+use crate::attempts::{Attempts, Entry};
+use crate::fault::TaskFault;
+use crate::reply::DoneReply;
+use mr_attempt::{AttemptEvent, AttemptMachine, AttemptState, Reaction};
+use mr_grant::Grant;
+use mr_ids::{AppAttempt, AttemptId, TaskId, TaskKind};
+use std::alloc::Global;
+use std::marker::Model;
+
+/// Most attempts at a task that one generation launches.
+pub const MAX_LAUNCHES: u32 = 1000;
+
+/// Most attempts at a task that are live at a time.
+pub const MAX_LIVE: usize = 2;
+
+/// One task as the master of one generation knows it: its attempts, which of them is named to commit, which is accepted.
+///
+/// An attempt that is ready to commit asks (`pending`) and then polls (`can_commit`). Yes is told to the named attempt alone: of
+/// those that asked and did not end, the one that asked first. A reduce's `done` is accepted only from the named attempt, which
+/// then is named for good; a map's from any live attempt while no other is Recording or Succeeded.
+///
+/// That the first attempt to ask is the commit attempt, that all others are told no, and that another may be when it fails,
+/// restates `canCommit` of Apache Hadoop's application master; the order of those that wait, the name for good, the limits and
+/// the numbers are our own profile.
+#[derive(Drop)]
+pub struct TaskMachine {
+    task: TaskId,
+    app: AppAttempt,
+    attempts: Attempts,
+    grant: Grant,
+    numbered: u32,
+}
+
+impl Model for TaskMachine {
+    ghost use Rattle.std.specs.Prelude.{◌≤◌, ◌+◌, length};
+    ghost use Rattle.mr_task.specs.Steps.{Task};
+
+    ghost Value = { Task };
+
+    ghost view = { λ m. record { task = m.task; app = m.app; attempts = m.attempts; grant = m.grant; numbered = m.numbered } };
+
+    ghost invariant = { λ m. (m.numbered ≤ 1000) × (length m.attempts ≤ m.numbered + 1) };
+}
+
+impl TaskMachine {
+    /// The machine of a task under the master of a generation: no attempt yet. It takes no memory until the first one.
+    pub fn new(alloc: Global, task: TaskId, app: AppAttempt) -> TaskMachine
+        ensures stands { StandsFor result task app [] }
+        ensures task { result.task ≡ task }
+        ensures app { result.app ≡ app }
+        ensures none { result.attempts ≡ [] }
+    {
+        TaskMachine {
+            task,
+            app,
+            attempts: Attempts::new(alloc),
+            grant: Grant::new(alloc),
+            numbered: 0,
+        }
+    }
+
+    /// An equal machine. Where memory is refused: `NoMemory`.
+    pub fn copy(&self) -> Result<TaskMachine, TaskFault>
+        ensures copied { IfOk result (λ machine. machine ≡ self.now) }
+        ensures memory { IsOkUnless result TaskFault.NoMemory }
+    {
+        Ok(TaskMachine {
+            task: self.task,
+            app: self.app,
+            attempts: self.attempts.copy()?,
+            grant: self.grant.copy()?,
+            numbered: self.numbered,
+        })
+    }
+
+    /// The task.
+    pub fn task(&self) -> TaskId
+        ensures { result ≡ self.now.task }
+    {
+        self.task
+    }
+
+    /// The generation.
+    pub fn app(&self) -> AppAttempt
+        ensures { result ≡ self.now.app }
+    {
+        self.app
+    }
+
+    /// Launches an attempt, whose number is the next of this generation: generation k numbers from `1000 * (k - 1)`.
+    ///
+    /// Refusals in order: `AlreadyWon` where an attempt is Recording or Succeeded, `TooManyLive` at two live attempts,
+    /// `TooManyAttempts` after 1,000 numbers, `NoMemory`. A refused launch changes nothing.
+    pub fn launch(&mut self) -> Result<AttemptId, TaskFault>
+        ensures launched { IfOk result (λ attempt. Answers self.old launch_answer (Ok attempt)) }
+        ensures stands { OnOk result (Stands self.old Launches self.new) }
+        ensures refused { IfErr result (λ fault. Answers self.old (λ t k calls. unwrap_or (launch_refusal (seen t k calls)) TaskFault.NoMemory) fault) }
+        ensures unchanged { OnErr result (self.new ≡ self.old) }
+    {
+        if let Some(fault) = self.launch_refusal() {
+            return Err(fault);
+        }
+        let attempt = self.next_attempt();
+        let mut machine = AttemptMachine::new(attempt);
+        machine.on(AttemptEvent::Launch);
+        self.attempts.push(
+            attempt,
+            Entry {
+                machine,
+                accepted: false,
+            },
+        )?;
+        self.numbered += 1;
+        Ok(attempt)
+    }
+
+    // Why no attempt is launched, memory aside.
+    fn launch_refusal(&self) -> Option<TaskFault>
+        ensures refusal { Answers self.now (λ t k calls. launch_refusal (seen t k calls)) result }
+        ensures room { IfNone result (self.now.numbered < 1000) }
+    {
+        refusal(
+            self.attempts.any_won(),
+            self.attempts.live_count(),
+            self.numbered,
+        )
+    }
+
+    // The attempt that is launched next.
+    fn next_attempt(&self) -> AttemptId
+        requires { self.now.numbered < 1000 }
+        ensures { result ≡ record { task = self.now.task; number = 1000 * (self.now.app - 1) + self.now.numbered } }
+    {
+        AttemptId::new(self.task, first_number(self.app) + self.numbered).unwrap()
+    }
+
+    /// The attempt was heard of.
+    ///
+    /// Refused `Unknown` where the machine never had it; that changes nothing.
+    pub fn heard(&mut self, attempt: AttemptId) -> Result<(), TaskFault>
+        ensures answer { Answers self.old (known attempt) result }
+        ensures stands { Stands self.old (Hears attempt) self.new }
+        ensures refused { OnErr result (self.new ≡ self.old) }
+    {
+        self.note(&attempt, AttemptEvent::Heard)
+    }
+
+    /// The attempt asks for permission to commit: from then on it waits for the name, unless it is over.
+    ///
+    /// Refusals in order: `Unknown` where the machine never had it, `NoMemory`. A refusal changes nothing.
+    pub fn pending(&mut self, attempt: AttemptId) -> Result<(), TaskFault>
+        ensures stands { OnOk result (Stands self.old (Asks attempt) self.new) }
+        ensures known { OnOk result (Answers self.old (known attempt) (Ok tt)) }
+        ensures refused { IfErr result (λ fault. Answers self.old (λ t k calls. fault_or (known attempt t k calls) TaskFault.NoMemory) fault) }
+        ensures unchanged { OnErr result (self.new ≡ self.old) }
+    {
+        self.ask(&attempt)
+    }
+
+    /// Whether the attempt is the named one, which may commit. Of one that the machine never had the answer is no.
+    pub fn can_commit(&self, attempt: AttemptId) -> bool
+        ensures { Answers self.now (λ t k calls. is_named (seen t k calls) attempt) result }
+    {
+        self.grant.can_commit(attempt)
+    }
+
+    /// The attempt says that it is done.
+    ///
+    /// A reduce's is accepted while the attempt is named, and from then on the name is for good; a map's while the attempt is
+    /// live and no other is Recording or Succeeded. Refused `Unknown` where the machine never had it; that changes nothing.
+    pub fn done(&mut self, attempt: AttemptId) -> Result<DoneReply, TaskFault>
+        ensures answer { Answers self.old (done_answer attempt) result }
+        ensures stands { Stands self.old (Reports attempt) self.new }
+        ensures refused { OnErr result (self.new ≡ self.old) }
+    {
+        self.take_done(&attempt)
+    }
+
+    /// The attempt failed: this counts towards the task's limit, where the attempt was live.
+    ///
+    /// Refused `Unknown` where the machine never had it; that changes nothing.
+    pub fn failed(&mut self, attempt: AttemptId) -> Result<(), TaskFault>
+        ensures answer { Answers self.old (known attempt) result }
+        ensures stands { Stands self.old (Fails attempt) self.new }
+        ensures refused { OnErr result (self.new ≡ self.old) }
+    {
+        self.end(&attempt, AttemptEvent::Fail)
+    }
+
+    /// The attempt's container ended. It counts as a failure where the attempt was live, unless the container was asked to stop.
+    ///
+    /// Refused `Unknown` where the machine never had it; that changes nothing.
+    pub fn ended(&mut self, attempt: AttemptId, asked: bool) -> Result<(), TaskFault>
+        ensures answer { Answers self.old (known attempt) result }
+        ensures stands { Stands self.old (Ends attempt asked) self.new }
+        ensures refused { OnErr result (self.new ≡ self.old) }
+    {
+        if asked {
+            self.end(&attempt, AttemptEvent::Kill)
+        } else {
+            self.end(&attempt, AttemptEvent::Fail)
+        }
+    }
+
+    /// The attempt ended, and that is no failure of it, as when its node restarted.
+    ///
+    /// Refused `Unknown` where the machine never had it; that changes nothing.
+    pub fn killed(&mut self, attempt: AttemptId) -> Result<(), TaskFault>
+        ensures answer { Answers self.old (known attempt) result }
+        ensures stands { Stands self.old (Dies attempt) self.new }
+        ensures refused { OnErr result (self.new ≡ self.old) }
+    {
+        self.end(&attempt, AttemptEvent::Kill)
+    }
+
+    /// The success of the accepted attempt is recorded.
+    ///
+    /// Refused `Unknown` where the machine never had it; that changes nothing.
+    pub fn recorded(&mut self, attempt: AttemptId) -> Result<(), TaskFault>
+        ensures answer { Answers self.old (known attempt) result }
+        ensures stands { Stands self.old (Records attempt) self.new }
+        ensures refused { OnErr result (self.new ≡ self.old) }
+    {
+        self.note(&attempt, AttemptEvent::Recorded)
+    }
+
+    /// The attempt succeeded under an earlier master: it is entered as Succeeded. Its only fault is `NoMemory`, which changes
+    /// nothing.
+    pub fn recovered(&mut self, attempt: AttemptId) -> Result<(), TaskFault>
+        requires own { attempt.task ≡ self.old.task }
+        requires first { self.old.attempts ≡ [] }
+        ensures stands { OnOk result (Stands self.old (Recovers attempt) self.new) }
+        ensures unchanged { OnErr result (self.new ≡ self.old) }
+        ensures memory { IsOkUnless result TaskFault.NoMemory }
+    {
+        let mut machine = AttemptMachine::new(attempt);
+        machine.on(AttemptEvent::Launch);
+        machine.on(AttemptEvent::Done);
+        machine.on(AttemptEvent::Recorded);
+        self.attempts.push(
+            attempt,
+            Entry {
+                machine,
+                accepted: true,
+            },
+        )?;
+        self.numbered = numbered_up_to(self.app, &attempt);
+        Ok(())
+    }
+
+    /// The output of a map's Succeeded attempt is lost: it counts as killed. Of any other attempt nothing changes.
+    ///
+    /// Refused `Unknown` where the machine never had it; that changes nothing.
+    pub fn lost(&mut self, attempt: AttemptId) -> Result<(), TaskFault>
+        ensures answer { Answers self.old (known attempt) result }
+        ensures stands { Stands self.old (Loses attempt) self.new }
+        ensures refused { OnErr result (self.new ≡ self.old) }
+    {
+        self.note(&attempt, AttemptEvent::Lost)
+    }
+
+    /// The state of an attempt, by the table of attempts; none of one that the machine never had.
+    pub fn state(&self, attempt: AttemptId) -> Option<AttemptState>
+        ensures { Answers self.now (state_answer attempt) result }
+    {
+        match self.attempts.get(&attempt) {
+            Some(entry) => Some(entry.machine.state()),
+            None => None,
+        }
+    }
+
+    /// The Succeeded attempt, if there is one.
+    pub fn winner(&self) -> Option<AttemptId>
+        ensures { Answers self.now winner result }
+    {
+        self.attempts.succeeded()
+    }
+
+    /// Whether an attempt is Recording or Succeeded.
+    pub fn is_won(&self) -> bool
+        ensures { Answers self.now (λ t k calls. is_won (seen t k calls)) result }
+    {
+        self.attempts.any_won()
+    }
+
+    /// How many attempts failed: at most 1,001.
+    pub fn failures(&self) -> u32
+        ensures { Answers self.now (λ t k calls. failures (seen t k calls)) result }
+    {
+        self.attempts.failed_count() as u32
+    }
+
+    /// How many numbers of this generation are given away: at most 1,000.
+    pub fn numbered(&self) -> u32
+        ensures count { Answers self.now (λ t k calls. (seen t k calls).numbered) result }
+        ensures range { result ≤ 1000 }
+    {
+        self.numbered
+    }
+
+    /// The attempts, in order of arrival.
+    pub fn arrived(&self) -> &[AttemptId]
+        ensures { Answers self.now (λ t k calls. (seen t k calls).arrived) result.now }
+    {
+        self.attempts.names()
+    }
+
+    // The attempt takes an event.
+    fn note(&mut self, attempt: &AttemptId, event: AttemptEvent) -> Result<(), TaskFault>
+        ensures told { result ≡ if_there (entry_in self.old.attempts attempt.now) }
+        ensures left { self.new ≡ noted self.old attempt.now event }
+    {
+        let Some(mut entry) = self.attempts.get(attempt) else {
+            return Err(TaskFault::Unknown);
+        };
+        entry.machine.on(event);
+        self.attempts.set(attempt, entry);
+        Ok(())
+    }
+
+    // The attempt ends, and is released if that moved it.
+    fn end(&mut self, attempt: &AttemptId, event: AttemptEvent) -> Result<(), TaskFault>
+        ensures told { result ≡ if_there (entry_in self.old.attempts attempt.now) }
+        ensures left { self.new ≡ ended self.old attempt.now event }
+    {
+        let Some(mut entry) = self.attempts.get(attempt) else {
+            return Err(TaskFault::Unknown);
+        };
+        if entry.machine.on(event) == Reaction::Moved {
+            self.grant.release(*attempt);
+        }
+        self.attempts.set(attempt, entry);
+        Ok(())
+    }
+
+    // The attempt asks, and waits unless it is over.
+    fn ask(&mut self, attempt: &AttemptId) -> Result<(), TaskFault>
+        ensures left { OnOk result (self.new ≡ asked self.old attempt.now) }
+        ensures known { OnOk result (if_there (entry_in self.old.attempts attempt.now) ≡ Ok tt) }
+        ensures refused { IfErr result (λ fault. fault ≡ fault_or (if_there (entry_in self.old.attempts attempt.now)) TaskFault.NoMemory) }
+        ensures unchanged { OnErr result (self.new ≡ self.old) }
+    {
+        let Some(mut entry) = self.attempts.get(attempt) else {
+            return Err(TaskFault::Unknown);
+        };
+        if !entry.is_over() {
+            self.grant.pending(*attempt)?;
+        }
+        entry.machine.on(AttemptEvent::Pending);
+        self.attempts.set(attempt, entry);
+        Ok(())
+    }
+
+    // The attempt says that it is done.
+    fn take_done(&mut self, attempt: &AttemptId) -> Result<DoneReply, TaskFault>
+        ensures told { result ≡ (done self.old attempt.now).0 }
+        ensures left { self.new ≡ (done self.old attempt.now).1 }
+    {
+        let Some(mut entry) = self.attempts.get(attempt) else {
+            return Err(TaskFault::Unknown);
+        };
+        if entry.accepted {
+            return Ok(DoneReply::Again);
+        }
+        let may_accept = match attempt.task().kind {
+            TaskKind::Map => !entry.is_over() && !self.attempts.any_won(),
+            TaskKind::Reduce => self.grant.fix(*attempt),
+        };
+        if !may_accept {
+            return Ok(DoneReply::Ignored);
+        }
+        entry.machine.on(AttemptEvent::Done);
+        entry.accepted = true;
+        self.attempts.set(attempt, entry);
+        Ok(DoneReply::Accepted)
+    }
+}
+
+// Why nothing is launched, by whether the task is won, the number of live attempts and the numbers given away.
+fn refusal(won: bool, live: usize, numbered: u32) -> Option<TaskFault>
+    ensures refusal { result ≡ refusal_of won live numbered }
+    ensures room { IfNone result (numbered < 1000) }
+{
+    if won {
+        Some(TaskFault::AlreadyWon)
+    } else if live >= MAX_LIVE {
+        Some(TaskFault::TooManyLive)
+    } else if numbered >= MAX_LAUNCHES {
+        Some(TaskFault::TooManyAttempts)
+    } else {
+        None
+    }
+}
+
+// The first number of a generation.
+fn first_number(app: AppAttempt) -> u32
+    ensures first { result ≡ 1000 * (app - 1) }
+    ensures range { result ≤ 999000 }
+{
+    1000 * (app.number() - 1)
+}
+
+// How many numbers of the generation a recovered attempt shows to be given away.
+fn numbered_up_to(app: AppAttempt, attempt: &AttemptId) -> u32
+    ensures count { result ≡ numbered_up_to app attempt.now }
+    ensures range { result ≤ 1000 }
+{
+    let first = first_number(app);
+    let number = attempt.number();
+    if first <= number && number < first + MAX_LAUNCHES {
+        number - first + 1
+    } else {
+        0
+    }
+}
