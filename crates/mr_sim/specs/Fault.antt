@@ -1,7 +1,7 @@
 -- The faults of a run: their statuses, and which of them reading answers.
 use Rattle.std.specs.Prelude.{ℕ}
 use Rattle.mr_sim.specs.declared.fault.SimFault.{SimFault}
-use Rattle.mr_sim.specs.declared.fault.SimFault.TheVariants.{NoMemory, Read, Write, TooLong, BadCommand, BadRecord}
+use Rattle.mr_sim.specs.declared.fault.SimFault.TheVariants.{NoMemory, Read, Write, TooLong, BadCommand, BadRecord, Job, Refused}
 
 -- the exit status of the program
 abbrev pub status_of : SimFault → ℕ
@@ -11,6 +11,8 @@ status_of Write = 4
 status_of TooLong = 3
 status_of (BadCommand n) = 3
 status_of (BadRecord n) = 3
+status_of (Job e) = 3
+status_of Refused = 3
 
 -- the faults of reading the input
 abbrev pub IsReadFault : SimFault → Type 0
@@ -20,3 +22,5 @@ IsReadFault Write = ⊥
 IsReadFault TooLong = Unit {0}
 IsReadFault (BadCommand n) = ⊥
 IsReadFault (BadRecord n) = ⊥
+IsReadFault (Job e) = ⊥
+IsReadFault Refused = ⊥

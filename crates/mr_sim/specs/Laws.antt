@@ -3,6 +3,7 @@ use Rattle.std.specs.Prelude.{◌≡◌, ℕ, List}
 use Rattle.mr_sim.specs.declared.order.Order.{Order}
 use Rattle.mr_sim.specs.Lines.{lines_of}
 use Rattle.mr_sim.specs.Script.{AreCommands, IsFirstBad}
+use Rattle.mr_sim.specs.Seq.{PrintsSeq}
 
 -- a script has at most one reading
 abbrev pub OneReading : Type 0
@@ -15,3 +16,7 @@ ReadOrBad = (bytes : List ℕ) (os : List (ℕ × Order)) (k : ℕ) → AreComma
 -- a script has at most one first bad line
 abbrev pub OneFirstBad : Type 0
 OneFirstBad = (bytes : List ℕ) (j k : ℕ) → IsFirstBad 1 (lines_of bytes) j → IsFirstBad 1 (lines_of bytes) k → j ≡ k
+
+-- `seq` prints one text for an input, if any
+abbrev pub OneSeqText : Type 0
+OneSeqText = (input text other : List ℕ) → PrintsSeq input text → PrintsSeq input other → text ≡ other

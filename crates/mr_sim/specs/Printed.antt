@@ -5,20 +5,23 @@ use Rattle.mr_names.specs.declared.fault.NameFault.{NameFault}
 use Rattle.mr_names.specs.declared.fault.NameFault.TheVariants as names
 use Rattle.mr_commit.specs.declared.fault.CommitFault.{CommitFault}
 use Rattle.mr_commit.specs.declared.fault.CommitFault.TheVariants as commits
+use Rattle.mr_sim.specs.declared.fault.JobTextFault.{JobTextFault}
 use Rattle.mr_sim.specs.declared.fault.SimFault.{SimFault}
-use Rattle.mr_sim.specs.declared.fault.SimFault.TheVariants.{NoMemory, Read, Write, TooLong, BadCommand, BadRecord}
+use Rattle.mr_sim.specs.declared.fault.SimFault.TheVariants.{NoMemory, Read, Write, TooLong, BadCommand, BadRecord, Job, Refused}
 use Rattle.mr_sim.specs.declared.order.Order.{Order}
 use Rattle.mr_sim.specs.declared.scene.Scene.{Scene}
 use Rattle.mr_sim.specs.declared.scene.Reply.{Reply}
 use Rattle.mr_sim.specs.declared.scene.Reply.TheVariants.{Silent, Yes, No}
 use Rattle.mr_sim.specs.declared.subcommand.Command.{Command}
-use Rattle.mr_sim.specs.declared.subcommand.Command.TheVariants.{Committer, History}
+use Rattle.mr_sim.specs.declared.subcommand.Command.TheVariants.{Committer, History, Seq}
 use Rattle.mr_history.specs.Reading.{bad_line}
 use Rattle.mr_sim.specs.Effect.{out, start, outcome}
 use Rattle.mr_sim.specs.History.{PrintsHistory}
+use Rattle.mr_sim.specs.JobText.{submission_of}
 use Rattle.mr_sim.specs.Lines.{lines_of}
 use Rattle.mr_sim.specs.Listing.{listing}
 use Rattle.mr_sim.specs.Script.{AreCommands, IsFirstBad}
+use Rattle.mr_sim.specs.Seq.{PrintsSeq, RefusesSeq}
 
 -- ---- `committer`
 
@@ -72,16 +75,31 @@ committer_text os = replies out os start ++ listing (scene_after out os start).n
 abbrev pub Prints : Command → List ℕ → List ℕ → Type 0
 Prints Committer input text = (os : List (ℕ × Order)) × AreCommands 1 (lines_of input) os × (text ≡ committer_text os)
 Prints History input text = PrintsHistory input text
+Prints Seq input text = PrintsSeq input text
 
 -- the first line of a script that is no command
 abbrev pub IsBadLine : Command → List ℕ → ℕ → Type 0
 IsBadLine Committer input n = IsFirstBad 1 (lines_of input) n
 IsBadLine History input n = ⊥
+IsBadLine Seq input n = ⊥
 
 -- the first whole line of a segment that is no record
 abbrev pub IsBadRecord : Command → List ℕ → ℕ → Type 0
 IsBadRecord Committer input n = ⊥
 IsBadRecord History input n = bad_line input ≡ Some n
+IsBadRecord Seq input n = ⊥
+
+-- what is wrong with a job text
+abbrev pub IsBadJob : Command → List ℕ → JobTextFault → Type 0
+IsBadJob Committer input e = ⊥
+IsBadJob History input e = ⊥
+IsBadJob Seq input e = submission_of input ≡ Err e
+
+-- the job of a job text refuses a line of a split
+abbrev pub IsRefused : Command → List ℕ → Type 0
+IsRefused Committer input = ⊥
+IsRefused History input = ⊥
+IsRefused Seq input = RefusesSeq input
 
 -- the text is formed or refused only of an input within the limit
 abbrev pub IsWithin : List ℕ → Type 0
@@ -96,6 +114,8 @@ Refuses command input Write = IsWithin input × ((text : List ℕ) × Prints com
 Refuses command input TooLong = 2 ^ 24 < length input
 Refuses command input (BadCommand n) = IsWithin input × IsBadLine command input n
 Refuses command input (BadRecord n) = IsWithin input × IsBadRecord command input n
+Refuses command input (Job e) = IsWithin input × IsBadJob command input e
+Refuses command input Refused = IsWithin input × IsRefused command input
 
 -- The text was written behind what the writer had.
 abbrev pub Writes : Command → List ℕ → Option (List ℕ) → Option (List ℕ) → Type 0
@@ -109,3 +129,5 @@ RefusesText command input Write = ⊥
 RefusesText command input TooLong = ⊥
 RefusesText command input (BadCommand n) = IsBadLine command input n
 RefusesText command input (BadRecord n) = IsBadRecord command input n
+RefusesText command input (Job e) = IsBadJob command input e
+RefusesText command input Refused = IsRefused command input

@@ -5,6 +5,35 @@ ghost use Rattle.mr_sim.specs.Fault.{status_of};
 use std::alloc::{AllocError, AllocFailed};
 use thiserror::Error;
 
+/// What is wrong with a job text: it is no JSON object, or this key is missing or bad. Its text names the key.
+#[derive(Clone, Copy, Debug, PartialEq, Eq, Error)]
+pub enum JobTextFault {
+    /// It is not one JSON object.
+    #[error("text")]
+    Text,
+    /// It is no job's identifier in its canonical spelling.
+    #[error("id")]
+    Id,
+    /// It is not `wordcount`, `maxbykey` or `lineindex`.
+    #[error("job")]
+    Job,
+    /// It is no whole number from 1 to 1,000.
+    #[error("reduces")]
+    Reduces,
+    /// It is no list of at most 1,000 texts of at most 16,777,216 bytes.
+    #[error("splits")]
+    Splits,
+    /// It is there, and no whole number from 1 to 64.
+    #[error("nodes")]
+    Nodes,
+    /// It is there, and no whole number from 1 to 100.
+    #[error("limit")]
+    Limit,
+    /// It is there, and no list of at most 100 faults.
+    #[error("faults")]
+    Faults,
+}
+
 /// Why a subcommand gave no output. Its text is what the program prints to standard error.
 #[derive(Clone, Copy, Debug, PartialEq, Eq, Error)]
 pub enum SimFault {
@@ -26,6 +55,12 @@ pub enum SimFault {
     /// This whole line of a history segment, counted from 1, is the first that is no record.
     #[error("mrsim: history: bad line {0}")]
     BadRecord(usize),
+    /// The input is no job text: which of its keys is the first that is bad, if it is one JSON object.
+    #[error("mrsim: job: {0}")]
+    Job(JobTextFault),
+    /// The job refuses a line of a split.
+    #[error("mrsim: refused")]
+    Refused,
 }
 
 impl SimFault {
@@ -34,7 +69,11 @@ impl SimFault {
         ensures { result ≡ status_of self.now }
     {
         match self {
-            SimFault::TooLong | SimFault::BadCommand(_) | SimFault::BadRecord(_) => 3,
+            SimFault::TooLong
+            | SimFault::BadCommand(_)
+            | SimFault::BadRecord(_)
+            | SimFault::Job(_)
+            | SimFault::Refused => 3,
             SimFault::Read | SimFault::Write => 4,
             SimFault::NoMemory => 5,
         }

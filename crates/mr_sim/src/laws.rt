@@ -1,5 +1,5 @@
 //! Laws of the definitions: these functions do nothing.
-ghost use Rattle.mr_sim.specs.Laws.{OneReading, ReadOrBad, OneFirstBad};
+ghost use Rattle.mr_sim.specs.Laws.{OneReading, ReadOrBad, OneFirstBad, OneSeqText};
 
 /// A script has at most one reading.
 pub fn one_reading()
@@ -14,4 +14,9 @@ pub fn read_or_bad()
 /// A script has at most one first bad line.
 pub fn one_first_bad()
     ensures { OneFirstBad }
+{}
+
+/// `seq` prints at most one text for an input.
+pub fn one_seq_text()
+    ensures { OneSeqText }
 {}

@@ -5,17 +5,23 @@ mod committer;
 mod fault;
 mod history;
 mod input;
+mod job_text;
 mod laws;
 mod listing;
 mod order;
+mod part_files;
 mod reply;
 mod scene;
 mod script;
+mod seq;
 mod subcommand;
+mod submission;
 
-pub use fault::SimFault;
-pub use laws::{one_first_bad, one_reading, read_or_bad};
+pub use fault::{JobTextFault, SimFault};
+pub use job_text::read_job_text;
+pub use laws::{one_first_bad, one_reading, one_seq_text, read_or_bad};
 pub use subcommand::{Command, run};
+pub use submission::{JobKind, PlanAct, PlanFault, PlanFaults, Splits, Submission};
 
 #[cfg(test)]
 mod tests;

@@ -7,6 +7,7 @@ use crate::committer::committer;
 use crate::fault::SimFault;
 use crate::history::history;
 use crate::input::read_input;
+use crate::seq::seq;
 use std::alloc::Global;
 use std::io::{Read, Write};
 use std::rt::Clock;
@@ -20,6 +21,8 @@ pub enum Command {
     Committer,
     /// Prints the records of one segment of a job history, and how many bytes after the last whole line were dropped.
     History,
+    /// Runs the job of a job text sequentially, and prints its part files.
+    Seq,
 }
 
 /// What a subcommand prints for its input.
@@ -30,6 +33,7 @@ fn answer(alloc: Global, command: Command, input: &[u8]) -> Result<Vec<u8>, SimF
     match command {
         Command::Committer => committer(alloc, input),
         Command::History => history(alloc, input),
+        Command::Seq => seq(alloc, input),
     }
 }
 

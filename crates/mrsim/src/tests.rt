@@ -38,6 +38,7 @@ fn subcommands(rt: HostRuntime) -> Result<(), Fail> {
     let alloc = rt.alloc();
     assert!(rt; named(alloc, &["mrsim", "committer"])? == mr_sim::Command::Committer);
     assert!(rt; named(alloc, &["mrsim", "history"])? == mr_sim::Command::History);
+    assert!(rt; named(alloc, &["mrsim", "seq"])? == mr_sim::Command::Seq);
     Ok(())
 }
 
@@ -52,7 +53,8 @@ fn help(rt: HostRuntime) -> Result<(), Fail> {
         &["mrsim", "committer", "--help"],
         "write A TEXT",
     )?;
-    helps(&rt, alloc, &["mrsim", "history", "--help"], "torn B")
+    helps(&rt, alloc, &["mrsim", "history", "--help"], "torn B")?;
+    helps(&rt, alloc, &["mrsim", "seq", "--help"], "== part-r-00001 4")
 }
 
 #[test]
@@ -65,4 +67,5 @@ fn refused_words(rt: HostRuntime) {
     refuses(&rt, alloc, &["mrsim", "committer", "x"]);
     refuses(&rt, alloc, &["mrsim", "--turns", "committer"]);
     refuses(&rt, alloc, &["mrsim", "history", "--hold"]);
+    refuses(&rt, alloc, &["mrsim", "seq", "x"]);
 }

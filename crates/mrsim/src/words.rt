@@ -12,7 +12,7 @@ Statuses:
   0  done
   2  the command line was refused
   3  the input was refused: `mrsim: line N: bad command`, `mrsim: history: bad line N`,
-     `mrsim: input too long`
+     `mrsim: job: KEY`, `mrsim: refused`, `mrsim: input too long`
   4  a stream failed: `mrsim: read`, `mrsim: write`
   5  `mrsim: no memory`";
 
@@ -58,6 +58,29 @@ prints
   reduce attempt_200707121733_0003_r_000000_0
   torn 0";
 
+const SEQ: &str = "Runs a job sequentially and prints its part files";
+
+const SEQ_HELP: &str = "\
+Reads a job text from standard input, one JSON object with these keys:
+  id        the job's identifier
+  job       wordcount, maxbykey or lineindex
+  reduces   how many reduces there are, 1 to 1000
+  splits    a list of at most 1000 texts, whose lines are the job's input
+  nodes     how many nodes there are, 1 to 64 (1 where there is no such key)
+  limit     how many failed attempts of a task fail the job, 1 to 100 (4 where there is no such key)
+  faults    a list of at most 100 faults (none where there is no such key): {\"after\":E,\"node\":N} restarts node N
+            after E events, {\"after\":E,\"master\":B} crashes the master and keeps B bytes of its unflushed history
+All keys are tested in this order, and the first bad one is told; `seq` uses the first four.
+Writes for each reduce a line with the name and the length of its part file, and then the file.
+
+Example:
+  {\"id\":\"job_200707121733_0003\",\"job\":\"wordcount\",\"reduces\":2,\"splits\":[\"a b a\"]}
+prints (with a tab between a word and its count)
+  == part-r-00000 4
+  b 1
+  == part-r-00001 4
+  a 2";
+
 /// The program's command line.
 pub fn command_line<'a>(alloc: Global) -> Result<Command<'a>, AllocError> {
     let committer = Command::new(alloc, "committer")
@@ -66,19 +89,22 @@ pub fn command_line<'a>(alloc: Global) -> Result<Command<'a>, AllocError> {
     let history = Command::new(alloc, "history")
         .about(HISTORY)
         .after_help(HISTORY_HELP);
+    let seq = Command::new(alloc, "seq").about(SEQ).after_help(SEQ_HELP);
     Command::new(alloc, "mrsim")
         .about(ABOUT)
         .after_help(STATUSES)
         .disable_help_subcommand(true)
         .subcommand_required(true)
         .subcommand(committer)?
-        .subcommand(history)
+        .subcommand(history)?
+        .subcommand(seq)
 }
 
 /// The subcommand that the words name. Words without one are refused before.
 pub fn command_of(matches: &ArgMatches<'_>) -> mr_sim::Command {
     match matches.subcommand() {
         Some(("history", _)) => mr_sim::Command::History,
+        Some(("seq", _)) => mr_sim::Command::Seq,
         _ => mr_sim::Command::Committer,
     }
 }

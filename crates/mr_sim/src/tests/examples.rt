@@ -1,10 +1,10 @@
 //! The examples of the folder `examples`: made by `tools/examples --write`, and not by hand.
-use super::committer::prints;
+use super::{committer, seq};
 use std::test::Fail;
 
 #[test]
 fn crash_before_commit(rt: HostRuntime) -> Result<(), Fail> {
-    prints(
+    committer::prints(
         &rt,
         b"\
 setup\n\
@@ -27,7 +27,7 @@ out/_temporary/1/task_200707121733_0003_r_000000/part-r-00000 4\n\
 
 #[test]
 fn destination_exists(rt: HostRuntime) -> Result<(), Fail> {
-    prints(
+    committer::prints(
         &rt,
         b"\
 check\n\
@@ -48,7 +48,7 @@ out/_SUCCESS 0\n\
 
 #[test]
 fn job_succeeds(rt: HostRuntime) -> Result<(), Fail> {
-    prints(
+    committer::prints(
         &rt,
         b"\
 setup\n\
@@ -66,7 +66,7 @@ out/part-r-00000 6\n\
 
 #[test]
 fn refused_write(rt: HostRuntime) -> Result<(), Fail> {
-    prints(
+    committer::prints(
         &rt,
         b"\
 setup\n\
@@ -89,7 +89,7 @@ out/_temporary/1/_temporary/attempt_200707121733_0003_r_000000_0/part-r-00000 4\
 
 #[test]
 fn second_attempt_loses(rt: HostRuntime) -> Result<(), Fail> {
-    prints(
+    committer::prints(
         &rt,
         b"\
 setup\n\
@@ -112,7 +112,7 @@ out/part-r-00000 4\n\
 
 #[test]
 fn superseded_master(rt: HostRuntime) -> Result<(), Fail> {
-    prints(
+    committer::prints(
         &rt,
         b"\
 setup\n\
@@ -133,6 +133,57 @@ commitjob\n\
 out/\n\
 out/_SUCCESS 0\n\
 out/part-r-00000 7\n\
+",
+    )
+}
+
+#[test]
+fn index_of_lines(rt: HostRuntime) -> Result<(), Fail> {
+    seq::prints(
+        &rt,
+        b"\
+{\n\
+\x20 \"id\": \"job_200707121733_0004\",\n\
+\x20 \"job\": \"lineindex\",\n\
+\x20 \"reduces\": 1,\n\
+\x20 \"splits\": [\"a b\\na\", \"b a a\"]\n\
+}\n\
+",
+        b"\
+== part-r-00000 28\n\
+a\t0:0,0:1,1:0,1:0\n\
+b\t0:0,1:0\n\
+",
+    )
+}
+
+#[test]
+fn words_of_two_splits(rt: HostRuntime) -> Result<(), Fail> {
+    seq::prints(
+        &rt,
+        b"\
+{\n\
+\x20 \"id\": \"job_200707121733_0003\",\n\
+\x20 \"job\": \"wordcount\",\n\
+\x20 \"reduces\": 2,\n\
+\x20 \"splits\": [\n\
+\x20   \"the quick brown fox\\njumps over the lazy dog\\n\",\n\
+\x20   \"the dog sleeps\\n\"\n\
+\x20 ]\n\
+}\n\
+",
+        b"\
+== part-r-00000 37\n\
+brown\t1\n\
+dog\t2\n\
+lazy\t1\n\
+over\t1\n\
+sleeps\t1\n\
+== part-r-00001 28\n\
+fox\t1\n\
+jumps\t1\n\
+quick\t1\n\
+the\t3\n\
 ",
     )
 }

@@ -1,9 +1,9 @@
-//! Jobs, their functions and their sequential execution.
+//! Jobs and their functions.
 
 use mr_ids::TaskKind;
 use mr_user::{
     Gate, Job, LineIndex, MAX_SPLIT_LEN, MaxByKey, OpenGate, Position, Text, UserFault, Wire,
-    WordCount, groups, sequential,
+    WordCount, groups,
 };
 use std::alloc::Global;
 use std::process::Abort;
@@ -18,65 +18,6 @@ fn with_memory<T, E: Drop>(rt: &impl Abort, answer: Result<T, E>) -> T {
 
 fn same(bytes: &[u8], want: &[u8]) -> bool {
     bytes == want
-}
-
-// The files of a sequential execution over the splits, one after the other, each behind a bar.
-fn files_of<J: Job>(
-    rt: &impl Abort,
-    alloc: Global,
-    job: &J,
-    texts: &[&[u8]],
-    reduces: u32,
-) -> Result<Vec<u8>, UserFault> {
-    assert!(rt; 1 <= reduces && reduces <= 1000);
-    let mut splits = Vec::new(alloc);
-    for text in texts {
-        let split = with_memory(rt, Vec::from_slice(alloc, text));
-        with_memory(rt, splits.push(split));
-    }
-    assert!(rt; splits.len() <= 1000);
-    assert!(rt; splits.iter().all(|split| split.len() <= MAX_SPLIT_LEN));
-    match sequential(alloc, job, &splits, reduces) {
-        Ok(files) => {
-            let mut all = Vec::new(alloc);
-            for file in &files {
-                with_memory(rt, all.push(b'|'));
-                with_memory(rt, all.extend_from_slice(file));
-            }
-            Ok(all)
-        }
-        Err(UserFault::NoMemory) => panic!(rt; "no memory"),
-        Err(fault) => Err(fault),
-    }
-}
-
-#[test]
-fn seq_wordcount(rt: HostRuntime) {
-    let alloc = rt.alloc();
-    for (texts, want) in [
-        (
-            [b"a b a".as_slice()].as_slice(),
-            b"|b\t1\n|a\t2\n".as_slice(),
-        ),
-        ([].as_slice(), b"||".as_slice()),
-        ([b"".as_slice()].as_slice(), b"||".as_slice()),
-    ] {
-        let files = files_of(&rt, alloc, &WordCount, texts, 2);
-        assert!(rt; matches!(&files, Ok(bytes) if same(bytes, want)));
-    }
-}
-
-#[test]
-fn seq_other_jobs(rt: HostRuntime) {
-    let alloc = rt.alloc();
-    let numbers = [b"x 3\ny 10\n".as_slice(), b"x 7".as_slice()];
-    let files = files_of(&rt, alloc, &MaxByKey, &numbers, 1);
-    assert!(rt; matches!(&files, Ok(bytes) if same(bytes, b"|x\t7\ny\t10\n")));
-    let words = [b"a b\na".as_slice(), b"b a a".as_slice()];
-    let files = files_of(&rt, alloc, &LineIndex, &words, 1);
-    assert!(rt; matches!(&files, Ok(bytes) if same(bytes, b"|a\t0:0,0:1,1:0,1:0\nb\t0:0,1:0\n")));
-    let files = files_of(&rt, alloc, &MaxByKey, &[b"x".as_slice()], 1);
-    assert!(rt; matches!(&files, Err(UserFault::Refused)));
 }
 
 // The pairs of a line.

@@ -1,0 +1,43 @@
+//! The subcommand `seq`.
+ghost use Rattle.std.specs.Prelude.{◌≡◌, ◌≤◌, length, map, IfOk, IfErr};
+ghost use Rattle.mr_user.specs.Faults.{RefusedIf};
+ghost use Rattle.mr_sim.specs.Printed.{Prints, RefusesText};
+ghost use Rattle.mr_sim.specs.Seq.{ArePartFiles, RefusesLine};
+ghost use Rattle.mr_sim.specs.Submission.{IsWithinLimits};
+
+use crate::fault::SimFault;
+use crate::job_text::read_job_text;
+use crate::part_files::part_files_text;
+use crate::subcommand::Command;
+use crate::submission::{JobKind, Submission};
+use mr_user::{LineIndex, MaxByKey, UserFault, WordCount, sequential};
+use std::alloc::Global;
+
+/// The part files of a job's sequential execution.
+#[tactic(auto, unfolding(crate::specs::Seq::output_of))]
+fn part_files(alloc: Global, submission: &Submission) -> Result<Vec<Vec<u8>>, UserFault>
+    requires { IsWithinLimits submission.now }
+    ensures files { IfOk result (λ files. ArePartFiles submission.now (map (λ file. file.items) files.items)) }
+    ensures fault { IfErr result (λ fault. RefusedIf fault (RefusesLine submission.now)) }
+{
+    let splits = submission.splits.as_slice();
+    let reduces = submission.reduces;
+    match submission.job {
+        JobKind::WordCount => sequential(alloc, &WordCount, splits, reduces),
+        JobKind::MaxByKey => sequential(alloc, &MaxByKey, splits, reduces),
+        JobKind::LineIndex => sequential(alloc, &LineIndex, splits, reduces),
+    }
+}
+
+/// What `seq` prints for a job text.
+pub fn seq(alloc: Global, input: &[u8]) -> Result<Vec<u8>, SimFault>
+    ensures ok { IfOk result (λ v. Prints Command.Seq input.now v.items) }
+    ensures fault { IfErr result (RefusesText Command.Seq input.now) }
+{
+    let submission = read_job_text(alloc, input)?;
+    match part_files(alloc, &submission) {
+        Ok(files) => Ok(part_files_text(alloc, &files)?),
+        Err(UserFault::Refused) => Err(SimFault::Refused),
+        Err(_) => Err(SimFault::NoMemory),
+    }
+}

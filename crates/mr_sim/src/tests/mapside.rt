@@ -1,0 +1,131 @@
+//! Map works, and the blocks that their outputs are cut into.
+
+use mr_ids::TaskKind;
+use mr_mapside::{
+    MAX_OUTPUT_LEN, MapOutput, WorkFault, blocks, blocks_are_one, map_work, output_is_its_blocks,
+};
+use mr_user::{
+    Gate, GateFault, Job, LineIndex, MAX_REDUCES, MAX_SPLIT_LEN, MaxByKey, OpenGate, UserFault,
+    WordCount,
+};
+use std::alloc::Global;
+use std::process::Abort;
+
+// The gate that lets works of one kind pass.
+#[derive(Drop)]
+struct GateFor {
+    kind: TaskKind,
+}
+
+impl Gate for GateFor {
+    fn enter(&self, kind: TaskKind) -> Result<(), GateFault> {
+        if kind == self.kind {
+            Ok(())
+        } else {
+            Err(GateFault::Spent)
+        }
+    }
+}
+
+// What an answer holds that only want of memory can fail.
+fn with_memory<T, E: Drop>(rt: &impl Abort, answer: Result<T, E>) -> T {
+    match answer {
+        Ok(value) => value,
+        Err(_) => panic!(rt; "no memory"),
+    }
+}
+
+// The output of map 3 over a split.
+fn output_of<J: Job, G: Gate>(
+    rt: &impl Abort,
+    alloc: Global,
+    job: &J,
+    gate: &G,
+    split: &[u8],
+    reduces: u32,
+) -> Result<Vec<u8>, WorkFault> {
+    assert!(rt; split.len() <= MAX_SPLIT_LEN);
+    assert!(rt; 1 <= reduces && reduces <= MAX_REDUCES);
+    match map_work(alloc, job, gate, 3, split, reduces) {
+        Ok(output) => Ok(output.into_vec()),
+        Err(WorkFault::NoMemory) => panic!(rt; "no memory"),
+        Err(fault) => Err(fault),
+    }
+}
+
+#[test]
+fn map_output_bytes(rt: HostRuntime) {
+    let alloc = rt.alloc();
+    let output = output_of(&rt, alloc, &WordCount, &OpenGate, b"a b a", 1);
+    let want = b"\0\0\0\x1a\0\0\0\x01a\0\0\0\0\0\0\0\x02\0\0\0\x01b\0\0\0\0\0\0\0\x01".as_slice();
+    assert!(rt; matches!(&output, Ok(bytes) if bytes.as_slice() == want));
+    let output = output_of(&rt, alloc, &LineIndex, &OpenGate, b"b\nb", 2);
+    let want =
+        b"\0\0\0\x22\0\0\0\x01b\0\0\0\x03\0\0\0\0\0\0\0\0\0\0\0\x01b\0\0\0\x03\0\0\0\0\0\0\0\x01\0\0\0\0".as_slice();
+    assert!(rt; matches!(&output, Ok(bytes) if bytes.as_slice() == want));
+    let output = output_of(&rt, alloc, &WordCount, &OpenGate, b"", 2);
+    assert!(rt; matches!(&output, Ok(bytes) if bytes.as_slice() == b"\0\0\0\0\0\0\0\0".as_slice()));
+}
+
+#[test]
+fn map_work_is_refused(rt: HostRuntime) {
+    let alloc = rt.alloc();
+    let maps = GateFor {
+        kind: TaskKind::Map,
+    };
+    let reduces = GateFor {
+        kind: TaskKind::Reduce,
+    };
+    let output = output_of(&rt, alloc, &MaxByKey, &maps, b"x 3", 1);
+    assert!(rt; matches!(&output, Ok(bytes) if bytes.len() == 17));
+    let output = output_of(&rt, alloc, &MaxByKey, &maps, b"x 3\nx", 1);
+    assert!(rt; matches!(&output, Err(WorkFault::User(UserFault::Refused))));
+    let output = output_of(&rt, alloc, &MaxByKey, &reduces, b"x", 1);
+    assert!(rt; matches!(&output, Err(WorkFault::Gate(GateFault::Spent))));
+}
+
+#[test]
+fn map_output_is_full(rt: HostRuntime) {
+    let alloc = rt.alloc();
+    let mut split = Vec::new(alloc);
+    for _ in 0..1000000 {
+        with_memory(&rt, split.extend_from_slice(b"a "));
+    }
+    let output = output_of(&rt, alloc, &LineIndex, &OpenGate, &split, 1);
+    assert!(rt; matches!(&output, Err(WorkFault::Full)));
+    let output = output_of(&rt, alloc, &WordCount, &OpenGate, &split, 1);
+    assert!(rt; matches!(&output, Ok(bytes) if bytes.len() == 17));
+}
+
+#[test]
+fn outputs_are_cut(rt: HostRuntime) {
+    let alloc = rt.alloc();
+    let bytes = with_memory(
+        &rt,
+        Vec::from_slice(alloc, b"\0\0\0\x02ab\0\0\0\0\0\0\0\x01c"),
+    );
+    assert!(rt; bytes.len() <= MAX_OUTPUT_LEN);
+    let output = MapOutput::from_vec(bytes);
+    let output = with_memory(&rt, output.copy());
+    match blocks(output.bytes(), 3) {
+        Some(found) => {
+            assert!(rt; found.count() == 3);
+            assert!(rt; matches!(found.get(0), Some(block) if block == b"ab".as_slice()));
+            assert!(rt; matches!(found.get(1), Some(block) if block.is_empty()));
+            assert!(rt; matches!(found.get(2), Some(block) if block == b"c".as_slice()));
+            assert!(rt; found.get(3).is_none());
+        }
+        None => panic!(rt; "no blocks"),
+    }
+    assert!(rt; blocks(output.bytes(), 2).is_none());
+    assert!(rt; blocks(output.bytes(), 4).is_none());
+    for bytes in [
+        b"\0\0\0".as_slice(),
+        b"\0\0\0\x02a".as_slice(),
+        b"".as_slice(),
+    ] {
+        assert!(rt; blocks(bytes, 1).is_none());
+    }
+    blocks_are_one();
+    output_is_its_blocks::<WordCount>();
+}
