@@ -5,7 +5,7 @@ use Rattle.mr_names.specs.declared.fault.NameFault.TheVariants as names
 use Rattle.mr_names.specs.declared.op.Op.{Op}
 use Rattle.mr_names.specs.declared.op.Op.TheVariants as op
 use Rattle.mr_names.specs.declared.op.Answer.{Answer}
-use Rattle.mr_names.specs.Calls.{State, first_of, refusal, refused, settled, call_of, answer, Makes, MakesAlways, takes_memory}
+use Rattle.mr_names.specs.Calls.{State, first_of, refusal, refused, settled, call_of, answer, Makes, MakesAlways, may_want_memory}
 use Rattle.mr_names.specs.Content.{Content}
 
 abbrev pub is_memory : NameFault → Bool
@@ -57,16 +57,16 @@ is_want (Err f) = is_memory f
 -- what a function that makes a call answered: the call's answer, or want of memory
 pub data Made (s : State) (app : ℕ) (call : Op) (r : Result Answer NameFault) (t : State) : Type 0 where
   as_call : call_of s app call ≡ (r, t) → is_want r ≡ false → Made s app call r t
-  no_memory : r ≡ Err names.NoMemory → t ≡ s → refused s app call ≡ None → takes_memory call ≡ true → Made s app call r t
+  no_memory : r ≡ Err names.NoMemory → t ≡ s → refused s app call ≡ None → may_want_memory call ≡ true → Made s app call r t
 
-pub made : (s : State) (app : ℕ) (call : Op) (r : Result Answer NameFault) (t : State) → Makes (λ a. a) s app call r t → (takes_memory call ≡ false → MakesAlways (λ a. a) s app call r t) → Made s app call r t
+pub made : (s : State) (app : ℕ) (call : Op) (r : Result Answer NameFault) (t : State) → Makes (λ a. a) s app call r t → (may_want_memory call ≡ false → MakesAlways (λ a. a) s app call r t) → Made s app call r t
 made s app call (Ok a) t m always = as_call m refl
 made s app call (Err f) t m always = by (refused s app call) refl (refused_own s app call) m always
   where
-    by : (o : Option NameFault) → refused s app call ≡ o → wants o ≡ false → (f ≡ unwrap_or o names.NoMemory) × (t ≡ s) → (takes_memory call ≡ false → settled o s call ≡ (Err f, t)) → Made s app call (Err f) t
+    by : (o : Option NameFault) → refused s app call ≡ o → wants o ≡ false → (f ≡ unwrap_or o names.NoMemory) × (t ≡ s) → (may_want_memory call ≡ false → settled o s call ≡ (Err f, t)) → Made s app call (Err f) t
     by (Some g) e own h always = as_call (rw e cc) (rw h.0 own)
-    by None e own h always = memory (takes_memory call) refl
+    by None e own h always = memory (may_want_memory call) refl
       where
-        memory : (b : Bool) → takes_memory call ≡ b → Made s app call (Err f) t
+        memory : (b : Bool) → may_want_memory call ≡ b → Made s app call (Err f) t
         memory true k = no_memory (ap (λ g. Err g) h.0) h.1 e k
         memory false k = let z : settled None s call ≡ (Err f, t) = always k in let y : Ok (answer s.content call) ≡ Err f = ap (λ p. p.0) z in absurd cc

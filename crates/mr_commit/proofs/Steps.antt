@@ -4,7 +4,7 @@ use Rattle.mr_names.specs.declared.fault.NameFault.{NameFault}
 use Rattle.mr_names.specs.declared.fault.NameFault.TheVariants as names
 use Rattle.mr_names.specs.declared.op.Op.{Op}
 use Rattle.mr_names.specs.declared.op.Answer.{Answer}
-use Rattle.mr_names.specs.Calls.{State, call_of, refused, settled, takes_memory}
+use Rattle.mr_names.specs.Calls.{State, call_of, refused, settled, may_want_memory}
 use Rattle.mr_commit.specs.declared.fault.CommitFault.{CommitFault}
 use Rattle.mr_commit.specs.declared.fault.CommitFault.TheVariants as fault
 use Rattle.mr_commit.specs.declared.fault.StepDone.{StepDone}
@@ -48,14 +48,14 @@ as_called line rest s app answer (Err (fault.Names f)) left t e own h = heard_st
 as_called line rest s app answer (Err fault.OutputMissing) left t e own h = heard_step line rest left s t app answer _ e h
 as_called line rest s app answer (Err fault.DestinationExists) left t e own h = heard_step line rest left s t app answer _ e h
 as_called line rest s app answer (Err fault.Over) left t e own h = heard_step line rest left s t app answer _ e h
-as_called line rest s app (Ok a) (Err fault.NoMemory) left t e own h = let u = unchanged line s app a t h.1 e in (h.0, u.0, (u.1, rw h.1 (or_right (takes_memory (op_of line)))))
+as_called line rest s app (Ok a) (Err fault.NoMemory) left t e own h = let u = unchanged line s app a t h.1 e in (h.0, u.0, (u.1, rw h.1 (or_right (may_want_memory (op_of line)))))
 as_called line rest s app (Err f) (Err fault.NoMemory) left t e own h = let own2 : is_want (Err names.NoMemory) ≡ false = rw h.1 at own in absurd cc
 
 abbrev told : CommitFault → Result StepDone CommitFault
 told f = Err f
 
 -- a function that had no memory for the call
-had_none : (line : Line) (rest : List Line) (s : State) (app : ℕ) (r : Result StepDone CommitFault) (left : List Line) (t : State) → t ≡ s → refused s app (op_of line) ≡ None → takes_memory (op_of line) ≡ true → Hears (line ∷ rest) (Err names.NoMemory) r left → Steps (line ∷ rest) s app r left t
+had_none : (line : Line) (rest : List Line) (s : State) (app : ℕ) (r : Result StepDone CommitFault) (left : List Line) (t : State) → t ≡ s → refused s app (op_of line) ≡ None → may_want_memory (op_of line) ≡ true → Hears (line ∷ rest) (Err names.NoMemory) r left → Steps (line ∷ rest) s app r left t
 had_none line rest s app (Err fault.NoMemory) left t same none takes h = (h.0, same, (none, rw takes refl))
 had_none line rest s app (Ok d) left t same none takes h = let y : told fault.NoMemory ≡ Ok d = ap (λ p. p.0) h in absurd cc
 had_none line rest s app (Err (fault.Names f)) left t same none takes h = let y : told fault.NoMemory ≡ told (fault.Names f) = ap (λ p. p.0) h in absurd cc

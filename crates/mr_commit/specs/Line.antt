@@ -13,7 +13,7 @@ use Rattle.mr_names.specs.declared.op.Op.{Op}
 use Rattle.mr_names.specs.declared.op.Op.TheVariants as op
 use Rattle.mr_names.specs.declared.op.Answer.{Answer}
 use Rattle.mr_names.specs.declared.op.Answer.TheVariants as answers
-use Rattle.mr_names.specs.Calls.{takes_memory}
+use Rattle.mr_names.specs.Calls.{may_want_memory}
 use Rattle.mr_commit.specs.declared.fault.CommitFault.{CommitFault}
 use Rattle.mr_commit.specs.declared.fault.CommitFault.TheVariants as fault
 
@@ -129,4 +129,4 @@ more_follow (MergesTasks from to) = true
 
 -- whether a line may want memory: for its call, or for the lines that follow
 abbrev pub wants_memory : Line → Bool
-wants_memory line = takes_memory (op_of line) || more_follow line
+wants_memory line = may_want_memory (op_of line) || more_follow line

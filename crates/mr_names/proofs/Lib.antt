@@ -2,6 +2,7 @@ pub mod CallLaws
 pub mod ContentLaws
 pub mod ListingLaws
 pub mod Moving
+pub mod Removing
 pub mod RowLaws
 pub mod Subtrees
 pub mod Tables

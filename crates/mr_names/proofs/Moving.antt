@@ -18,7 +18,7 @@ use Rattle.mr_names.specs.Moving.{move_of, step_of, moves_of, with_places, carri
 use Rattle.mr_names.specs.Laws.{MayRename}
 use Rattle.mr_names.proofs.ContentLaws.{same, same_path, same_itself, same_from, different, same_or_not, get_written, get_kept, get-without, get-with_all, last_at, get-renamed, nothing_within}
 
-abbrev Names : Type 0
+abbrev pub Names : Type 0
 Names = List (List ℕ)
 
 Some-inj : {A : Type 0} (x y : A) → Some x ≡ Some y → x ≡ y
@@ -29,7 +29,7 @@ cancel top s t e = Some-inj s t (sym (strip-append top s) ∙ ap (strip top) e �
 
 -- ---- look-ups
 
-get-without_one : (c : Content) (path q : Names) → finite.get (without_one path c) q ≡ cond (same q path) None (finite.get c q)
+pub get-without_one : (c : Content) (path q : Names) → finite.get (without_one path c) q ≡ cond (same q path) None (finite.get c q)
 get-without_one c path q =
     finite.get-retain_keys c (λ p. not (is_path p path)) q (λ x tied. ap (λ p. not (is_path p path)) (sym (path_exact q x tied)))
     ∙ ap (λ b. cond (not b) (finite.get c q) None) (path_ties q path)
@@ -42,7 +42,7 @@ left_in : (c : Content) (path q : Names) → q ≢ path → finite.get (without_
 left_in c path q apart = get-without_one c path q ∙ rw (different q path apart) refl
 
 -- whether a path is one of these
-abbrev has : Names → List Names → Bool
+abbrev pub has : Names → List Names → Bool
 has q paths = list_any (same q) paths
 
 last_dir : (q : Names) (paths : List Names) → last_at q (map (λ path. (path, Dir)) paths) ≡ cond (has q paths) (Some Dir) None

@@ -137,22 +137,22 @@ abbrev pub Makes : {A : Type 0} → (A → Answer) → State → ℕ → Op → 
 Makes shows old app call (Ok a) new = call_of old app call ≡ (Ok (shows a), new)
 Makes shows old app call (Err f) new = (f ≡ unwrap_or (refused old app call) fault.NoMemory) × (new ≡ old)
 
--- the same of a function that takes no memory
+-- the same of a function that never wants memory
 abbrev pub MakesAlways : {A : Type 0} → (A → Answer) → State → ℕ → Op → Result A NameFault → State → Type 0
 MakesAlways shows old app call (Ok a) new = call_of old app call ≡ (Ok (shows a), new)
 MakesAlways shows old app call (Err f) new = call_of old app call ≡ (Err f, new)
 
--- the calls that take memory; what grows nothing never wants any
-abbrev pub takes_memory : Op → Bool
-takes_memory (op.Mkdirs path) = true
-takes_memory (op.Create path closed) = true
-takes_memory (op.Append path bytes) = true
-takes_memory (op.Close path) = false
-takes_memory (op.Delete path) = false
-takes_memory (op.Rename from to) = true
-takes_memory (op.List path) = true
-takes_memory (op.Exists path) = false
-takes_memory (op.Read path) = true
+-- whether a call may want memory
+abbrev pub may_want_memory : Op → Bool
+may_want_memory (op.Mkdirs path) = true
+may_want_memory (op.Create path closed) = true
+may_want_memory (op.Append path bytes) = true
+may_want_memory (op.Close path) = false
+may_want_memory (op.Delete path) = false
+may_want_memory (op.Rename from to) = true
+may_want_memory (op.List path) = true
+may_want_memory (op.Exists path) = false
+may_want_memory (op.Read path) = true
 
 -- a function told whether a call is refused: with this fault, or not
 abbrev pub Refuses : Option NameFault → Result (Unit {0}) NameFault → Type 0

@@ -19,6 +19,15 @@ shown e = (e.0.now.items, e.1.now)
 abbrev pub entries_within : List (List ℕ) → Content → List (List (List ℕ) × Node)
 entries_within top c = filter (λ e. within top e.0) (finite.entries c)
 
+-- the paths at and beneath a path at which something is
+abbrev pub paths_within : List (List ℕ) → Content → List (List (List ℕ))
+paths_within top c = map (λ e. e.0) (entries_within top c)
+
+-- without what is at each of some paths
+abbrev pub without_each : Content → List (List (List ℕ)) → Content
+without_each c [] = c
+without_each c (path ∷ paths) = without_each (without_one path c) paths
+
 -- the two paths of a move
 abbrev pub move_of : Move → List (List ℕ) × List (List ℕ)
 move_of m = (m.from.items, m.to.items)

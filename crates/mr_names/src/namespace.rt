@@ -1,6 +1,6 @@
 ghost use Rattle.std.specs.Prelude.{IsOkUnless, ◌≡◌, ◌+◌, ℕ, [], ◌∷◌, ◌++◌, IfOk, OnOk, OnErr, length, nat_lt, ◌<◌, ◌^◌, if◌then◌else◌, Some, None, false};
 ghost use Rattle.mr_names.specs.Walk.{walk};
-ghost use Rattle.mr_names.specs.Calls.{State, IsSound, opening, raised, Makes, MakesAlways, Refuses, refused, entry_count, takes_memory};
+ghost use Rattle.mr_names.specs.Calls.{State, IsSound, opening, raised, Makes, MakesAlways, Refuses, refused, entry_count, may_want_memory};
 
 use crate::fault::NameFault;
 use crate::node::{Bytes, Entries, Kind, Node};
@@ -122,7 +122,7 @@ impl Namespace {
         ensures { MakesAlways (λ _. Answer.Done) self.old caller.app (Op.Delete path.now) result self.new }
     {
         self.check_delete(caller, path)?;
-        self.table.take_out(path.names());
+        self.table.take_out(self.alloc, path.names());
         Ok(())
     }
 
@@ -168,8 +168,8 @@ impl Namespace {
     /// Makes a call that is given as a value, and gives its answer as one.
     pub fn perform(&mut self, caller: Caller, op: &Op) -> Result<Answer, NameFault>
         ensures made { Makes (λ answer. answer) self.old caller.app op.now result self.new }
-        // A call that takes no memory never wants any.
-        ensures always { takes_memory op.now ≡ false → MakesAlways (λ answer. answer) self.old caller.app op.now result self.new }
+        // Any other call never wants memory.
+        ensures always { may_want_memory op.now ≡ false → MakesAlways (λ answer. answer) self.old caller.app op.now result self.new }
     {
         match op {
             Op::Mkdirs(path) => self.mkdirs(caller, path)?,

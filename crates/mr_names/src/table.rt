@@ -3,7 +3,7 @@ ghost use Rattle.std.specs.Prelude.{map as list_map};
 ghost use Rattle.std.specs.FinMap as map;
 ghost use Rattle.std.specs.Option.{option_copied};
 ghost use Rattle.mr_names.specs.Content.{IsTree, without, without_one, renamed, changed_at, with_dirs};
-ghost use Rattle.mr_names.specs.Moving.{move_of, with_places, moves_of, carried, all_carried, shown, entries_within};
+ghost use Rattle.mr_names.specs.Moving.{move_of, with_places, moves_of, carried, all_carried, shown, entries_within, paths_within, without_each};
 ghost use Rattle.mr_names.specs.Laws.{MayRename};
 ghost use Rattle.mr_names.specs.Node.{appended, closed_of};
 ghost use Rattle.mr_names.specs.Held.{missing_count, is_absent};
@@ -96,15 +96,44 @@ impl Table {
         }
     }
 
-    /// Takes out what is at a path and beneath it. One file costs a look-up, all else a walk over the map.
-    pub fn take_out(&mut self, top: &[Name])
+    /// Takes out what is at a path and beneath it. It costs look-ups for what it takes out. Where there is no memory
+    /// to list that, it walks the whole map instead.
+    pub fn take_out(&mut self, alloc: Global, top: &[Name])
         requires { IsTree self.old }
         ensures { self.new ≡ without top.now self.old }
     {
         match self.get(top) {
             // Nothing is beneath a file.
             Some(Node::File(_bytes, _closed)) => self.remove(top),
-            _ => self.remove_within(top),
+            _ => self.take_out_all(alloc, top),
+        }
+    }
+
+    fn take_out_all(&mut self, alloc: Global, top: &[Name])
+        ensures { self.new ≡ without top.now self.old }
+    {
+        match self.paths_within(alloc, top) {
+            Ok(paths) => self.remove_each(&paths),
+            Err(_no_memory) => self.remove_within(top),
+        }
+    }
+
+    // The paths at and beneath a path at which something is.
+    fn paths_within(&self, alloc: Global, top: &[Name]) -> Result<Vec<Vec<Name>>, AllocError>
+        ensures { IfOk result (λ paths. list_map (λ path. path.items) paths.items ≡ paths_within top.now self.now) }
+    {
+        let mut paths = Vec::new(alloc);
+        for &(names, _node) in &self.within(alloc, top)? {
+            paths.push(copy_names(alloc, names)?)?;
+        }
+        Ok(paths)
+    }
+
+    fn remove_each(&mut self, paths: &[Vec<Name>])
+        ensures { self.new ≡ without_each self.old (list_map (λ path. path.items) paths.now) }
+    {
+        for path in paths {
+            self.remove(path);
         }
     }
 
