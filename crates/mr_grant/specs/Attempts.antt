@@ -1,19 +1,8 @@
 -- Attempts in order of arrival: which are one, which is the first.
-use Rattle.std.specs.Prelude.{Bool, true, false, not, ◌&&◌, ◌==◌, List, [], ◌∷◌, ◌++◌, Option, Some, None, if◌then◌else◌, filter}
+use Rattle.std.specs.Prelude.{Bool, false, not, ◌&&◌, ◌==◌, List, [], ◌∷◌, ◌++◌, Option, Some, None, if◌then◌else◌, filter}
 use Rattle.std.specs.List.{list_any}
 use Rattle.mr_ids.specs.Attempt.{Attempt}
-use Rattle.mr_ids.specs.declared.id.TaskKind.{TaskKind}
-use Rattle.mr_ids.specs.declared.id.TaskKind.TheVariants.{Map, Reduce}
-use Rattle.mr_ids.specs.declared.id.TaskId.{TaskId}
-
-abbrev pub same_kind : TaskKind → TaskKind → Bool
-same_kind Map Map = true
-same_kind Map Reduce = false
-same_kind Reduce Map = false
-same_kind Reduce Reduce = true
-
-abbrev pub same_task : TaskId → TaskId → Bool
-same_task t u = (t.job.start == u.job.start) && (t.job.number == u.job.number) && same_kind t.kind u.kind && (t.number == u.number)
+use Rattle.mr_ids.specs.Same.{same_task}
 
 -- whether two attempts are one
 unfoldable pub same_attempt : Attempt → Attempt → Bool

@@ -1,21 +1,11 @@
 -- The winner of a reduce: the attempt in its first record of a success. That the output of one execution of a reduce
 -- task counts is section 3.3 of Dean and Ghemawat (2004); that the first record decides is our own profile.
-use Rattle.std.specs.Prelude.{Bool, true, false, ◌&&◌, ◌==◌, List, [], ◌∷◌, Option, Some, None, if◌then◌else◌}
+use Rattle.std.specs.Prelude.{List, [], ◌∷◌, Option, Some, None, if◌then◌else◌}
 use Rattle.mr_ids.specs.Attempt.{Attempt}
-use Rattle.mr_ids.specs.declared.id.TaskKind.{TaskKind}
-use Rattle.mr_ids.specs.declared.id.TaskKind.TheVariants.{Map, Reduce}
+use Rattle.mr_ids.specs.Same.{same_task}
 use Rattle.mr_ids.specs.declared.id.TaskId.{TaskId}
 use Rattle.mr_history.specs.declared.record.Record.{Record}
 use Rattle.mr_history.specs.declared.record.Record.TheVariants.{AttemptStarted, MapSucceeded, ReduceSucceeded, AttemptFailed, JobUnsuccessful}
-
-abbrev pub same_kind : TaskKind → TaskKind → Bool
-same_kind Map Map = true
-same_kind Map Reduce = false
-same_kind Reduce Map = false
-same_kind Reduce Reduce = true
-
-abbrev pub same_task : TaskId → TaskId → Bool
-same_task t u = (t.job.start == u.job.start) && (t.job.number == u.job.number) && same_kind t.kind u.kind && (t.number == u.number)
 
 -- the attempt of the first success of the reduce t among the records, if there is one
 unfoldable pub winner_in : List Record → TaskId → Option Attempt

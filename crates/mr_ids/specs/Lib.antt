@@ -3,3 +3,4 @@ pub mod Faults
 pub mod Reading
 pub mod Text
 pub mod Laws
+pub mod Same

@@ -1,6 +1,5 @@
 -- The shelf's entries, seen as a finite map by attempts.
-use Rattle.std.proofs.Common.{◌≡◌, ℕ, ◌==◌, ◌&&◌, Bool, true, false, cond, List, [], ◌∷◌, Some, None, refl, sym, ap, subst, ◌∙◌}
-use Rattle.std.proofs.lemmas.Bool.{eqb-true, eq-eqb}
+use Rattle.std.proofs.Common.{◌≡◌, ℕ, Bool, true, false, cond, List, [], ◌∷◌, Some, None, refl, sym, ap, subst, ◌∙◌}
 use Rattle.std.proofs.lemmas.Cmp.{nat_list_cmp_total, tied_itself}
 use Rattle.std.specs.Cmp.{IsTotalOrder}
 use Rattle.std.specs.FinMap as finite
@@ -15,6 +14,7 @@ use Rattle.mr_ids.specs.Attempt.{Attempt}
 use Rattle.mr_ids.specs.declared.id.TaskKind.{TaskKind}
 use Rattle.mr_ids.specs.declared.id.TaskKind.TheVariants.{Map, Reduce}
 use Rattle.mr_ids.specs.contracts.id.AttemptIdPartialEq.TheImpl.{eq-value}
+use Rattle.mr_ids.proofs.Same.{attempt-is, attempt-itself}
 use Rattle.mr_mapside.specs.Cutting.{cut}
 use Rattle.mr_shuffle.specs.Shelf.{kind_number, numbers_of, attempt_cmp, AttemptsAreApart, Outputs, block_there}
 
@@ -60,53 +60,14 @@ are_tied a b e = ap (λ b. eq_by_cmp attempt_cmp a b) (sym e) ∙ ap is_eq (tied
 pub attempts_are_apart : AttemptsAreApart
 attempts_are_apart a b = (tied_are a b, are_tied a b)
 
--- the code's `==` of attempts
-
-five : (s j k t n : Bool) → (((s && j) && (k && t)) && n) ≡ true → (s ≡ true) × (j ≡ true) × (t ≡ true) × (n ≡ true)
-five true true true true true e = (refl, refl, refl, refl)
-five false j k t n e = cc
-five true false k t n e = cc
-five true true false t n e = cc
-five true true true false n e = cc
-five true true true true false e = cc
-
-no_kind : (s j t n : Bool) → (((s && j) && (false && t)) && n) ≡ true → ⊥
-no_kind false j t n e = cc
-no_kind true false t n e = cc
-no_kind true true t n e = cc
-
-abbrev with_kind : Attempt → TaskKind → Attempt
-with_kind a k = record { task = record { job = a.task.job; kind = k; number = a.task.number }; number = a.number }
-
-same_kind : (a b : Attempt) (k : TaskKind) → (((a.task.job.start == b.task.job.start) && (a.task.job.number == b.task.job.number)) && (true && (a.task.number == b.task.number))) && (a.number == b.number) ≡ true → with_kind a k ≡ with_kind b k
-same_kind a b k e =
-    let p = five (a.task.job.start == b.task.job.start) (a.task.job.number == b.task.job.number) true (a.task.number == b.task.number) (a.number == b.number) e in
-    let start : a.task.job.start ≡ b.task.job.start = eqb-true _ _ p.0 in
-    let job : a.task.job.number ≡ b.task.job.number = eqb-true _ _ p.1 in
-    let task : a.task.number ≡ b.task.number = eqb-true _ _ p.2 in
-    let attempt : a.number ≡ b.number = eqb-true _ _ p.3 in
-    λ i. record { task = record { job = record { start = start i; number = job i }; kind = k; number = task i }; number = attempt i }
-
-by_kind : (a b : Attempt) (k l : TaskKind) → eq-value.it (with_kind a k) (with_kind b l) ≡ true → with_kind a k ≡ with_kind b l
-by_kind a b Map Map e = same_kind a b Map e
-by_kind a b Map Reduce e = absurd (no_kind (a.task.job.start == b.task.job.start) (a.task.job.number == b.task.job.number) (a.task.number == b.task.number) (a.number == b.number) e)
-by_kind a b Reduce Map e = absurd (no_kind (a.task.job.start == b.task.job.start) (a.task.job.number == b.task.job.number) (a.task.number == b.task.number) (a.number == b.number) e)
-by_kind a b Reduce Reduce e = same_kind a b Reduce e
-
-eqb-itself : (n : ℕ) → (n == n) ≡ true
-eqb-itself n = eq-eqb n n refl
-
-itself : (a : Attempt) (k : TaskKind) → eq-value.it (with_kind a k) (with_kind a k) ≡ true
-itself a Map = rw (eqb-itself a.task.job.start, eqb-itself a.task.job.number, eqb-itself a.task.number, eqb-itself a.number) refl
-itself a Reduce = rw (eqb-itself a.task.job.start, eqb-itself a.task.job.number, eqb-itself a.task.number, eqb-itself a.number) refl
-
 both_ways : (s t : Bool) → (s ≡ true → t ≡ true) → (t ≡ true → s ≡ true) → s ≡ t
 both_ways true t f g = sym (f refl)
 both_ways false true f g = g refl
 both_ways false false f g = refl
 
+-- the code's `==` of attempts
 eq_is : (a b : Attempt) → eq-value.it a b ≡ eq_by_cmp attempt_cmp a b
-eq_is a b = both_ways _ _ (λ e. are_tied a b (by_kind a b a.task.kind b.task.kind e)) (λ e. subst (λ b. eq-value.it a b ≡ true) (tied_are a b e) (itself a a.task.kind))
+eq_is a b = both_ways _ _ (λ e. are_tied a b (attempt-is a b e)) (λ e. subst (λ b. eq-value.it a b ≡ true) (tied_are a b e) (attempt-itself a))
 
 swapped : (a b : Attempt) → eq_by_cmp attempt_cmp a b ≡ eq_by_cmp attempt_cmp b a
 swapped a b = both_ways _ _ (λ e. are_tied b a (sym (tied_are a b e))) (λ e. are_tied a b (sym (tied_are b a e)))

@@ -4,12 +4,14 @@ use Rattle.std.proofs.Common.{◌≡◌, ◌≤◌, ◌<◌, ◌+◌, ◌-◌, �
 use Rattle.std.proofs.lemmas.Bool.Decides.{nat_tests}
 use Rattle.mr_ids.specs.Attempt.{Attempt}
 use Rattle.mr_ids.specs.declared.id.TaskId.{TaskId}
-use Rattle.mr_grant.specs.Attempts.{same_attempt, same_task, has, first_of}
+use Rattle.mr_ids.specs.Same.{same_task}
+use Rattle.mr_grant.specs.Attempts.{same_attempt, has, first_of}
 use Rattle.mr_grant.proofs.Same.{same-is}
 use Rattle.mr_task.specs.declared.fault.TaskFault.{TaskFault}
 use Rattle.mr_task.specs.Calls.{TaskCall, Launches, Hears, Asks, Reports, Fails, Ends, Dies, Records, Recovers, Loses}
 use Rattle.mr_task.specs.Readings.{Seen, seen, next_seen, AreDistinct, is_reduce, is_live, is_won, may_accept, launch_refusal, next_attempt, first_number, numbered_up_to, may_recover, after_launch}
-use Rattle.mr_task.proofs.Same.{apart, task-is}
+use Rattle.mr_ids.proofs.Same.{task-is}
+use Rattle.mr_task.proofs.Same.{apart}
 use Rattle.mr_task.proofs.Lists.{has-append, distinct-append}
 
 -- ---- tests

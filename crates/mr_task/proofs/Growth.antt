@@ -2,7 +2,8 @@
 use Rattle.std.proofs.Common.{◌≡◌, ℕ, Bool, true, false, ◌&&◌, ◌||◌, not, cond, List, [], ◌∷◌, ◌++◌, Some, is_none, refl, sym, ap, ◌∙◌, true≢false, append_assoc}
 use Rattle.mr_ids.specs.Attempt.{Attempt}
 use Rattle.mr_ids.specs.declared.id.TaskId.{TaskId}
-use Rattle.mr_grant.specs.Attempts.{same_attempt, same_task, has, first_of}
+use Rattle.mr_ids.specs.Same.{same_task}
+use Rattle.mr_grant.specs.Attempts.{same_attempt, has, first_of}
 use Rattle.mr_task.specs.Calls.{TaskCall, Launches, Hears, Asks, Reports, Fails, Ends, Dies, Records, Recovers, Loses}
 use Rattle.mr_task.specs.Readings.{Seen, Ending, seen, next_seen, is_over, is_reduce, is_live, may_accept, waiting_in, named, named_in, launch_refusal, numbered_up_to, may_recover, after_launch, after_end}
 use Rattle.mr_task.proofs.Arrivals.{left, nothing-arrived}

@@ -9,14 +9,15 @@ use Rattle.mr_attempt.specs.declared.state.AttemptState.{AttemptState}
 use Rattle.mr_attempt.specs.declared.state.AttemptState.TheVariants.{New, Assigned, Running, CommitPending, Recording, Succeeded, Failed, Killed}
 use Rattle.mr_attempt.specs.declared.state.AttemptEvent.TheVariants as event
 use Rattle.mr_attempt.specs.Table as table
-use Rattle.mr_grant.specs.Attempts.{same_attempt, same_task, has, first_of}
+use Rattle.mr_ids.specs.Same.{same_task}
+use Rattle.mr_grant.specs.Attempts.{same_attempt, has, first_of}
 use Rattle.mr_grant.proofs.Same.{same-is, same-itself}
 use Rattle.mr_task.specs.declared.attempts.Entry.{Entry}
 use Rattle.mr_task.specs.Calls.{TaskCall, Launches, Recovers}
 use Rattle.mr_task.specs.Readings.{Seen, seen, next_seen, has_failed, is_live, failures, launch_refusal, next_attempt, numbered_up_to, may_recover, after_launch, only, events_by, events_of, state_of, winner, is_succeeded}
 use Rattle.mr_task.specs.State.{StandsFor, entry_of, kept, state_answer}
 use Rattle.mr_task.specs.Steps.{Task, entry_in, is_failed}
-use Rattle.mr_task.proofs.Same.{task-itself}
+use Rattle.mr_ids.proofs.Same.{task-itself}
 use Rattle.mr_task.proofs.Lists.{kept-same, kept-append}
 use Rattle.mr_task.proofs.Bits.{Bits, is_failed as bits_failed, failed-is, bits, moved, live-is, unknown-is, unknown-new}
 use Rattle.mr_task.proofs.Arrivals.{arrivals, fresh}

@@ -4,7 +4,8 @@ use Rattle.mr_ids.specs.Attempt.{Attempt}
 use Rattle.mr_ids.specs.declared.id.TaskId.{TaskId}
 use Rattle.mr_ids.specs.declared.id.TaskKind.{TaskKind}
 use Rattle.mr_ids.specs.declared.id.TaskKind.TheVariants.{Map, Reduce}
-use Rattle.mr_grant.specs.Attempts.{same_attempt, same_task, has, first_of, is_first, without, with_last}
+use Rattle.mr_ids.specs.Same.{same_task}
+use Rattle.mr_grant.specs.Attempts.{same_attempt, has, first_of, is_first, without, with_last}
 use Rattle.mr_grant.proofs.Same.{same-is, same-itself}
 use Rattle.mr_task.specs.Calls.{TaskCall, Launches, Hears, Asks, Reports, Fails, Ends, Dies, Records, Recovers, Loses}
 use Rattle.mr_task.specs.Readings.{Seen, Ending, seen, next_seen, is_over, is_reduce, is_live, may_accept, may_accept_of, launch_refusal, numbered_up_to, may_recover, after_launch, waiting_in, named, named_in}

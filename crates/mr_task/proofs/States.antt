@@ -9,7 +9,8 @@ use Rattle.mr_attempt.specs.declared.state.AttemptState.TheVariants.{New}
 use Rattle.mr_attempt.specs.declared.state.AttemptEvent.{AttemptEvent}
 use Rattle.mr_attempt.specs.declared.state.AttemptEvent.TheVariants as event
 use Rattle.mr_attempt.specs.Table as table
-use Rattle.mr_grant.specs.Attempts.{same_attempt, same_task, has, first_of, is_first}
+use Rattle.mr_ids.specs.Same.{same_task}
+use Rattle.mr_grant.specs.Attempts.{same_attempt, has, first_of, is_first}
 use Rattle.mr_grant.proofs.Same.{same-is, same-itself}
 use Rattle.mr_task.specs.Calls.{TaskCall, Launches, Hears, Asks, Reports, Fails, Ends, Dies, Records, Recovers, Loses}
 use Rattle.mr_task.specs.Readings.{Seen, Ending, seen, next_seen, is_over, has_failed, is_reduce, is_live, is_won, may_accept, may_accept_of, launch_refusal, next_attempt, numbered_up_to, may_recover, after_launch, after_ask, after_done, after_end, after_record, after_loss, only, events_by, events_of, state_of}

@@ -6,7 +6,8 @@ use Rattle.mr_ids.specs.Attempt.{Attempt}
 use Rattle.mr_ids.specs.declared.id.TaskId.{TaskId}
 use Rattle.mr_ids.specs.declared.id.TaskKind.{TaskKind}
 use Rattle.mr_ids.specs.declared.id.TaskKind.TheVariants.{Reduce}
-use Rattle.mr_grant.specs.Attempts.{same_attempt, same_task, has, first_of}
+use Rattle.mr_ids.specs.Same.{same_task}
+use Rattle.mr_grant.specs.Attempts.{same_attempt, has, first_of}
 use Rattle.mr_grant.proofs.Same.{same-is, same-itself}
 use Rattle.mr_grant.proofs.GrantLaws.{one_is_first}
 use Rattle.mr_task.specs.Calls.{TaskCall, Launches, Hears, Asks, Reports, Fails, Ends, Dies, Records, Recovers, Loses}

@@ -17,7 +17,8 @@ use Rattle.mr_attempt.specs.declared.state.AttemptState.TheVariants as state
 use Rattle.mr_attempt.specs.declared.state.AttemptEvent.{AttemptEvent}
 use Rattle.mr_attempt.specs.declared.state.AttemptEvent.TheVariants as event
 use Rattle.mr_attempt.specs.Table.{state_after}
-use Rattle.mr_grant.specs.Attempts.{same_attempt, same_task, has, first_of, is_first}
+use Rattle.mr_ids.specs.Same.{same_task}
+use Rattle.mr_grant.specs.Attempts.{same_attempt, has, first_of, is_first}
 use Rattle.mr_task.specs.declared.fault.TaskFault.{TaskFault}
 use Rattle.mr_task.specs.declared.fault.TaskFault.TheVariants.{AlreadyWon, TooManyLive, TooManyAttempts}
 use Rattle.mr_task.specs.Calls.{TaskCall, Launches, Hears, Asks, Reports, Fails, Ends, Dies, Records, Recovers, Loses}

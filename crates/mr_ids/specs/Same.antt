@@ -1,0 +1,14 @@
+-- Whether two kinds, or two tasks, are one.
+use Rattle.std.specs.Prelude.{Bool, true, false, ◌&&◌, ◌==◌}
+use Rattle.mr_ids.specs.declared.id.TaskKind.{TaskKind}
+use Rattle.mr_ids.specs.declared.id.TaskKind.TheVariants.{Map, Reduce}
+use Rattle.mr_ids.specs.declared.id.TaskId.{TaskId}
+
+abbrev pub same_kind : TaskKind → TaskKind → Bool
+same_kind Map Map = true
+same_kind Map Reduce = false
+same_kind Reduce Map = false
+same_kind Reduce Reduce = true
+
+abbrev pub same_task : TaskId → TaskId → Bool
+same_task t u = (t.job.start == u.job.start) && (t.job.number == u.job.number) && same_kind t.kind u.kind && (t.number == u.number)
