@@ -17,7 +17,7 @@ use Rattle.mr_paths.specs.Layout.{job_attempt, temporary_name}
 use Rattle.mr_names.specs.declared.fault.NameFault.TheVariants as names
 use Rattle.mr_names.specs.declared.op.Op.{Op}
 use Rattle.mr_commit.specs.Tables.{setup_job, commit_task, commit_job}
-use Rattle.mr_commit.specs.Whole.{IsSuperseded, Reaches, none_yet, one_more, Commits, HasEffect, whole, run, most_calls, merge_calls, deepest}
+use Rattle.mr_commit.specs.Whole.{IsSuperseded, Reaches, none_yet, one_more, Finishes, Commits, HasEffect, whole, run, most_calls, merge_calls, deepest}
 use Rattle.mr_commit.proofs.Bounds.{shallow_first}
 use Rattle.mr_commit.proofs.Ending.{Fine, Less, step_more}
 
@@ -139,8 +139,8 @@ effect_by first lines left begin s t app fault.OutputMissing g e = effect_fault 
 effect_by first lines left begin s t app fault.DestinationExists g e = effect_fault first lines left begin s t app _ g e
 effect_by first lines left begin s t app fault.Over g e = effect_fault first lines left begin s t app _ g e
 
-pub made_by : (first lines left : List Line) (begin s t : State) (app : ℕ) (f : CommitFault) → Going first begin app lines s → Steps lines s app (Err f) left t → Commits first begin app (Err f) t
-made_by first lines left begin s t app fault.NoMemory g e = rw e.1 (g.is_heard, lines, g.reached)
+pub made_by : (first lines left : List Line) (begin s t : State) (app : ℕ) (f : CommitFault) → Going first begin app lines s → Steps lines s app (Err f) left t → Finishes first begin app (Err f) t
+made_by first lines left begin s t app fault.NoMemory g e = rw e.1 (lines, g.reached, e.2)
 made_by first lines left begin s t app (fault.Names f) g e = (lines, s, g.reached, (left, e))
 made_by first lines left begin s t app fault.OutputMissing g e = (lines, s, g.reached, (left, e))
 made_by first lines left begin s t app fault.DestinationExists g e = (lines, s, g.reached, (left, e))
@@ -165,7 +165,7 @@ pub made_superseded : (line : Line) (rest : List Line) (s : State) (app : ℕ) (
 made_superseded line rest s app f h = rw h.1 (line ∷ rest, s, none_yet, ([], superseded_step line rest s app h.0))
 
 pub made_nothing : (lines : List Line) (s : State) (app : ℕ) → nat_lt app s.fence ≡ false → Commits lines s app (Err fault.NoMemory) s
-made_nothing lines s app h = (h, lines, none_yet)
+made_nothing lines s app h = inl (h, refl)
 
 -- ---- the tables settle
 

@@ -1,5 +1,5 @@
 -- The committer effect: the calls of a table made in order until it is over.
-use Rattle.std.specs.Prelude.{◌≡◌, ℕ, zero, suc, ◌+◌, ◌-◌, ◌*◌, Bool, true, false, List, [], ◌∷◌, length, max, Option, Some, None, Result, Ok, Err, is_some, nat_lt}
+use Rattle.std.specs.Prelude.{◌≡◌, ℕ, zero, suc, ◌+◌, ◌-◌, ◌*◌, ◌⊎◌, Bool, true, false, List, [], ◌∷◌, length, max, Option, Some, None, Result, Ok, Err, is_some, nat_lt}
 use Rattle.std.specs.FinMap as finite
 use Rattle.mr_names.specs.Content.{Content}
 use Rattle.mr_names.specs.Calls.{State, call_of}
@@ -16,7 +16,7 @@ use Rattle.mr_commit.specs.declared.fault.StepDone.{StepDone}
 use Rattle.mr_commit.specs.declared.fault.StepDone.TheVariants as done
 use Rattle.mr_commit.specs.Line.{Line, found, fault_of}
 use Rattle.mr_commit.specs.Line.Line.{Does, Clears, Needs, Merges, MergesEach, MergesTasks}
-use Rattle.mr_commit.specs.Steps.{step_of}
+use Rattle.mr_commit.specs.Steps.{step_of, MayWant}
 
 -- ---- where steps lead
 
@@ -34,10 +34,20 @@ Ends mid u app (Err f) t = (left : List Line) × (step_of mid u app ≡ ((Err f,
 abbrev pub LeadsTo : List Line → State → ℕ → Result (Unit {0}) CommitFault → State → Type 0
 LeadsTo lines s app r t = (mid : List Line) × (u : State) × Reaches app lines s mid u × Ends mid u app r t
 
--- A whole form made all steps. Where it had no memory, it made some and left what they did, and its caller is not
--- superseded.
+-- Some steps were made, and the line that is next may want memory: for its call, which is not refused, or for the
+-- lines that follow.
+abbrev pub WantsAmid : List Line → State → ℕ → State → Type 0
+WantsAmid lines s app t = (mid : List Line) × Reaches app lines s mid t × MayWant mid t app
+
+-- All steps were made, or some and then there was no memory for the next one.
+abbrev pub Finishes : List Line → State → ℕ → Result (Unit {0}) CommitFault → State → Type 0
+Finishes lines s app (Err fault.NoMemory) t = WantsAmid lines s app t
+Finishes lines s app r t = LeadsTo lines s app r t
+
+-- A whole form finishes the lines of its table. Where it had no memory for these lines themselves, its caller is not
+-- superseded and the namespace is as it was.
 abbrev pub Commits : List Line → State → ℕ → Result (Unit {0}) CommitFault → State → Type 0
-Commits lines s app (Err fault.NoMemory) t = (nat_lt app t.fence ≡ false) × (mid : List Line) × Reaches app lines s mid t
+Commits lines s app (Err fault.NoMemory) t = ((nat_lt app s.fence ≡ false) × (t ≡ s)) ⊎ WantsAmid lines s app t
 Commits lines s app r t = LeadsTo lines s app r t
 
 -- ---- the same as a function

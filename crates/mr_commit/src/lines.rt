@@ -2,7 +2,7 @@ ghost use Rattle.std.specs.Prelude.{◌≡◌, [], ◌∷◌, ◌++◌, IfOk, On
 ghost use Rattle.std.specs.Option.{option_copied};
 ghost use Rattle.mr_commit.specs.Settles.{Settles};
 ghost use Rattle.mr_commit.specs.Steps.{next_call, done_at, Hears, Steps};
-ghost use Rattle.mr_commit.specs.Whole.{Commits, HasEffect};
+ghost use Rattle.mr_commit.specs.Whole.{Finishes, HasEffect};
 
 use crate::fault::{CommitFault, StepDone};
 use crate::line::TableLine;
@@ -114,12 +114,13 @@ impl Lines {
         self.took(answer)
     }
 
-    /// Makes all calls that are left. Want of memory leaves what the earlier ones did.
+    /// Makes all calls that are left. Want of memory leaves what the earlier ones did, and comes only where the line
+    /// that is next may want memory.
     pub fn finish(&mut self, names: &mut Namespace, caller: Caller) -> Result<(), CommitFault>
         requires settles { Settles self.old }
         requires heard { nat_lt caller.app names.old.fence ≡ false }
         ensures effect { HasEffect self.old names.old caller.app result names.new }
-        ensures made { Commits self.old names.old caller.app result names.new }
+        ensures made { Finishes self.old names.old caller.app result names.new }
     {
         'calls: while self.next(names, caller)? == StepDone::More {}
         Ok(())
