@@ -4,5 +4,6 @@ pub mod Lines
 pub mod Obeying
 pub mod PartFiles
 pub mod Readings
+pub mod Refusals
 pub mod Verbs
 pub mod Words

@@ -1,7 +1,11 @@
 -- Laws of the definitions.
 use Rattle.std.specs.Prelude.{◌≡◌, ℕ, List}
+use Rattle.mr_sim.specs.declared.fault.SimFault.{SimFault}
+use Rattle.mr_sim.specs.declared.fault.SimFault.TheVariants.{NoMemory, Read, Write, TooLong, BadCommand, BadRecord, Job, Refused}
 use Rattle.mr_sim.specs.declared.order.Order.{Order}
+use Rattle.mr_sim.specs.declared.subcommand.Command.{Command}
 use Rattle.mr_sim.specs.Lines.{lines_of}
+use Rattle.mr_sim.specs.Printed.{IsWithin, Prints, Refuses}
 use Rattle.mr_sim.specs.Script.{AreCommands, IsFirstBad}
 use Rattle.mr_sim.specs.Seq.{PrintsSeq}
 
@@ -20,3 +24,18 @@ OneFirstBad = (bytes : List ℕ) (j k : ℕ) → IsFirstBad 1 (lines_of bytes) j
 -- `seq` prints one text for an input, if any
 abbrev pub OneSeqText : Type 0
 OneSeqText = (input text other : List ℕ) → PrintsSeq input text → PrintsSeq input other → text ≡ other
+
+-- a fault that is not of the input itself
+abbrev pub IsOutside : SimFault → Type 0
+IsOutside NoMemory = Unit {0}
+IsOutside Read = Unit {0}
+IsOutside Write = Unit {0}
+IsOutside TooLong = ⊥
+IsOutside (BadCommand n) = ⊥
+IsOutside (BadRecord n) = ⊥
+IsOutside (Job e) = ⊥
+IsOutside Refused = ⊥
+
+-- No input is both printed and refused: where a subcommand prints a text, it answers no fault of the input itself.
+abbrev pub PrintedOrRefused : Type 0
+PrintedOrRefused = (command : Command) (input text : List ℕ) (f : SimFault) → IsWithin input → Prints command input text → Refuses command input f → IsOutside f

@@ -1,5 +1,5 @@
 //! Laws of the definitions: these functions do nothing.
-ghost use Rattle.mr_sim.specs.Laws.{OneReading, ReadOrBad, OneFirstBad, OneSeqText};
+ghost use Rattle.mr_sim.specs.Laws.{OneReading, ReadOrBad, OneFirstBad, OneSeqText, PrintedOrRefused};
 
 /// A script has at most one reading.
 pub fn one_reading()
@@ -19,4 +19,9 @@ pub fn one_first_bad()
 /// `seq` prints at most one text for an input.
 pub fn one_seq_text()
     ensures { OneSeqText }
+{}
+
+/// No input is both printed and refused, by any subcommand.
+pub fn printed_or_refused()
+    ensures { PrintedOrRefused }
 {}
