@@ -187,6 +187,23 @@ fn file_beneath_the_job_attempt(rt: HostRuntime) {
     assert!(rt; names.exists(*caller, &file) == Ok(Some(Kind::File)));
 }
 
+// A job that is committed has its marker, and is not committed again.
+fn job_is_committed_once(
+    rt: &impl Abort,
+    alloc: Global,
+    names: &mut Namespace,
+    caller: &Caller,
+    layout: &Layout,
+) {
+    assert!(rt; told(rt, commit_job(names, *caller, layout)) == Ok(()));
+    assert!(rt; stands(rt, alloc, names, *caller, "/out/_SUCCESS") == Some(Kind::File));
+    let again = Err(CommitFault::Names(NameFault::Missing));
+    assert!(rt; told(rt, commit_job(names, *caller, layout)) == again);
+    assert!(rt; told(rt, setup_job(names, *caller, layout)) == Ok(()));
+    let marked = Err(CommitFault::Names(NameFault::Exists));
+    assert!(rt; told(rt, commit_job(names, *caller, layout)) == marked);
+}
+
 #[test]
 fn committed_and_checked(rt: HostRuntime) {
     let alloc = rt.alloc();
@@ -209,13 +226,7 @@ fn committed_and_checked(rt: HostRuntime) {
     let committed = "/out/_temporary/1/task_200707121733_0003_r_000000";
     assert!(rt; stands(&rt, alloc, &names, *caller, committed) == Some(Kind::Dir));
     assert!(rt; stands(&rt, alloc, &names, *caller, attempt_path) == None);
-    assert!(rt; told(&rt, commit_job(&mut names, *caller, &layout)) == Ok(()));
-    assert!(rt; stands(&rt, alloc, &names, *caller, "/out/_SUCCESS") == Some(Kind::File));
-    let again = Err(CommitFault::Names(NameFault::Missing));
-    assert!(rt; told(&rt, commit_job(&mut names, *caller, &layout)) == again);
-    assert!(rt; told(&rt, setup_job(&mut names, *caller, &layout)) == Ok(()));
-    let marked = Err(CommitFault::Names(NameFault::Exists));
-    assert!(rt; told(&rt, commit_job(&mut names, *caller, &layout)) == marked);
+    job_is_committed_once(&rt, alloc, &mut names, caller, &layout);
     names.raise(generation(&rt, 2));
     let late = CommitFault::Names(NameFault::Superseded(2));
     assert!(rt; commit_task(&mut names, *caller, &layout, a) == Err(late));

@@ -139,6 +139,25 @@ fn namespace_calls(rt: HostRuntime) {
     assert!(rt; names.delete(*two, &moved) == Err(NameFault::Missing));
 }
 
+// Changes that are given as values, each of them done.
+fn changes_are_done(rt: &impl Abort, alloc: Global, names: &mut Namespace, one: &Caller) {
+    let changes = [
+        Op::Mkdirs(path(rt, alloc, "/a/b")),
+        Op::Create(path(rt, alloc, "/a/f"), false),
+        Op::Append(path(rt, alloc, "/a/f"), bytes(rt, alloc, b"xy")),
+        Op::Close(path(rt, alloc, "/a/f")),
+        Op::Delete(path(rt, alloc, "/a/b")),
+        Op::Rename(path(rt, alloc, "/a"), path(rt, alloc, "/c")),
+    ];
+    for op in &changes {
+        assert!(rt; names.foresee(*one, op).is_none());
+        match told(rt, names.perform(*one, op)) {
+            Ok(Answer::Done) => {}
+            _ => panic!(rt; "not done"),
+        }
+    }
+}
+
 // Each call once as a value, with its answer.
 #[test]
 fn namespace_calls_as_values(rt: HostRuntime) {
@@ -147,21 +166,7 @@ fn namespace_calls_as_values(rt: HostRuntime) {
         app: generation(&rt, 1),
     };
     let mut names = new_namespace(&rt, alloc);
-    let changes = [
-        Op::Mkdirs(path(&rt, alloc, "/a/b")),
-        Op::Create(path(&rt, alloc, "/a/f"), false),
-        Op::Append(path(&rt, alloc, "/a/f"), bytes(&rt, alloc, b"xy")),
-        Op::Close(path(&rt, alloc, "/a/f")),
-        Op::Delete(path(&rt, alloc, "/a/b")),
-        Op::Rename(path(&rt, alloc, "/a"), path(&rt, alloc, "/c")),
-    ];
-    for op in &changes {
-        assert!(rt; names.foresee(*one, op).is_none());
-        match told(&rt, names.perform(*one, op)) {
-            Ok(Answer::Done) => {}
-            _ => panic!(rt; "not done"),
-        }
-    }
+    changes_are_done(&rt, alloc, &mut names, one);
     match told(
         &rt,
         names.perform(*one, &Op::Exists(path(&rt, alloc, "/c"))),

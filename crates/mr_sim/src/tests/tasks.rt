@@ -116,6 +116,16 @@ fn state_names(rt: HostRuntime) {
     }
 }
 
+// Once the first of two is released, the second has the permission, and keeps it when the grant is fixed.
+fn second_is_fixed(rt: &impl Abort, mut grant: Grant, a0: AttemptId, a1: AttemptId) {
+    grant.release(a0);
+    assert!(rt; grant.first() == Some(a1) && grant.can_commit(a1));
+    assert!(rt; grant.fix(a1) && grant.is_fixed());
+    grant.release(a1);
+    grant.pending(a0).expect(rt, "no memory");
+    assert!(rt; grant.can_commit(a1) && grant.fix(a1) && !grant.fix(a0));
+}
+
 // The second waits, has the permission when the first is released, and keeps it once the grant is fixed; the copy goes on.
 #[test]
 fn grant_is_fixed(rt: HostRuntime) {
@@ -131,13 +141,8 @@ fn grant_is_fixed(rt: HostRuntime) {
     assert!(rt; grant.attempts() == [a0, a1].as_slice());
     assert!(rt; grant.can_commit(a0) && !grant.can_commit(a1));
     assert!(rt; !grant.fix(a1) && !grant.is_fixed());
-    let mut copy = grant.copy().expect(&rt, "no memory");
-    copy.release(a0);
-    assert!(rt; copy.first() == Some(a1) && copy.can_commit(a1));
-    assert!(rt; copy.fix(a1) && copy.is_fixed());
-    copy.release(a1);
-    copy.pending(a0).expect(&rt, "no memory");
-    assert!(rt; copy.can_commit(a1) && copy.fix(a1) && !copy.fix(a0));
+    let copy = grant.copy().expect(&rt, "no memory");
+    second_is_fixed(&rt, copy, a0, a1);
     assert!(rt; grant.first() == Some(a0) && !grant.is_fixed());
 }
 
@@ -181,6 +186,17 @@ fn grant_stays_with_the_first(rt: HostRuntime) {
     assert!(rt; task.done(a0) == Ok(DoneReply::Ignored));
 }
 
+// Of two attempts that asked, the first is over: the second wins.
+fn second_wins(rt: &impl Abort, mut task: TaskMachine, a0: AttemptId, a1: AttemptId) {
+    assert!(rt; task.done(a0) == Ok(DoneReply::Ignored));
+    assert!(rt; task.done(a1) == Ok(DoneReply::Accepted));
+    assert!(rt; task.done(a1) == Ok(DoneReply::Again));
+    assert!(rt; task.ended(a1, false) == Ok(()));
+    assert!(rt; task.state(a1) == Some(AttemptState::Recording) && task.winner() == None);
+    assert!(rt; task.recorded(a1) == Ok(()));
+    assert!(rt; task.failures() == 1 && task.winner() == Some(a1));
+}
+
 #[test]
 fn accepted_then_ended(rt: HostRuntime) {
     let mut task = machine(&rt, rt.alloc(), TaskKind::Reduce);
@@ -190,14 +206,8 @@ fn accepted_then_ended(rt: HostRuntime) {
     assert!(rt; told(&rt, task.pending(a1)) == Ok(()));
     let mut copy = told(&rt, task.copy()).expect(&rt, "a fault");
     assert!(rt; copy.ended(a0, false) == Ok(()));
-    assert!(rt; copy.can_commit(a1) && task.can_commit(a0));
-    assert!(rt; copy.done(a0) == Ok(DoneReply::Ignored));
-    assert!(rt; copy.done(a1) == Ok(DoneReply::Accepted));
-    assert!(rt; copy.done(a1) == Ok(DoneReply::Again));
-    assert!(rt; copy.ended(a1, false) == Ok(()));
-    assert!(rt; copy.state(a1) == Some(AttemptState::Recording) && copy.winner() == None);
-    assert!(rt; copy.recorded(a1) == Ok(()));
-    assert!(rt; copy.winner() == Some(a1) && copy.failures() == 1);
+    assert!(rt; task.can_commit(a0) && copy.can_commit(a1));
+    second_wins(&rt, copy, a0, a1);
 }
 
 #[test]
@@ -208,7 +218,9 @@ fn attempt_numbers_run_out(rt: HostRuntime) {
         assert!(rt; a.number() == number);
         assert!(rt; task.ended(a, true) == Ok(()));
     }
+    assert!(rt; task.numbered() == 1000 && task.arrived().len() == 1000);
     assert!(rt; told(&rt, task.launch()) == Err(TaskFault::TooManyAttempts));
+    assert!(rt; task.numbered() == 1000 && task.arrived().len() == 1000);
     assert!(rt; task.failures() == 0);
 }
 
@@ -223,6 +235,7 @@ fn launch_refusals(rt: HostRuntime) {
     assert!(rt; told(&rt, task.launch()) == Err(TaskFault::AlreadyWon));
 }
 
+// An attempt of an earlier generation shows no number of this one to be given away; one of this generation shows those up to its own.
 #[test]
 fn recovered_map_is_lost(rt: HostRuntime) {
     let id = task_id(TaskKind::Map);
@@ -230,11 +243,17 @@ fn recovered_map_is_lost(rt: HostRuntime) {
     let a = attempt_at(&rt, id, 3);
     assert!(rt; told(&rt, task.recovered(a)) == Ok(()));
     assert!(rt; task.winner() == Some(a));
+    assert!(rt; task.numbered() == 0 && task.arrived() == [a].as_slice());
     assert!(rt; told(&rt, task.launch()) == Err(TaskFault::AlreadyWon));
     assert!(rt; task.lost(a) == Ok(()));
     assert!(rt; task.winner() == None);
-    assert!(rt; launched(&rt, &mut task) == attempt(&rt, TaskKind::Map, 1000));
+    let a1000 = attempt(&rt, TaskKind::Map, 1000);
+    assert!(rt; launched(&rt, &mut task) == a1000);
+    assert!(rt; task.numbered() == 1 && task.arrived() == [a, a1000].as_slice());
     assert!(rt; task.done(a) == Ok(DoneReply::Again));
+    let mut own = TaskMachine::new(rt.alloc(), id, generation(&rt, 1));
+    assert!(rt; told(&rt, own.recovered(a)) == Ok(()));
+    assert!(rt; own.numbered() == 4 && own.arrived() == [a].as_slice());
 }
 
 #[test]
@@ -261,4 +280,5 @@ fn map_is_done(rt: HostRuntime) {
     assert!(rt; task.failed(a2) == Ok(()) && task.failures() == 1);
     assert!(rt; task.done(a1) == Ok(DoneReply::Accepted));
     assert!(rt; task.recorded(a1) == Ok(()) && task.winner() == Some(a1));
+    assert!(rt; task.numbered() == 3 && task.arrived() == [a0, a1, a2].as_slice());
 }
