@@ -1,0 +1,127 @@
+use crate::bytes::Bytes;
+use mr_ids::{AppAttempt, AttemptId, TaskId};
+
+/// A container, by the application attempt of the master that launched it and its number under that master, counted from 0.
+/// No two launches have one.
+#[derive(Clone, Copy, Debug, PartialEq, Eq, PartialOrd, Ord, Hash)]
+pub struct ContainerId {
+    pub app: AppAttempt,
+    pub number: u32,
+}
+
+/// To whom a packet goes.
+#[derive(Clone, Copy, Debug, PartialEq, Eq)]
+pub enum Address {
+    /// The master of an application attempt.
+    Master(AppAttempt),
+    /// A container.
+    Container(ContainerId),
+    /// A node, by its number.
+    Node(u32),
+}
+
+/// What is told. The first five go to nodes, the next seven to masters, the last four to containers; `FetchLost` goes from a node to a
+/// container, and from the container on to its master.
+///
+/// The packets between a container and its master restate the calls of Hadoop's umbilical protocol (commit pending, can commit,
+/// done, failed), those to and from a node its container launcher and shuffle handler; incarnations, offsets and the
+/// recorded length are this project's profile.
+#[derive(Drop)]
+pub enum Packet {
+    /// To a node: the container is to run the attempt, in this incarnation of the node.
+    Launch {
+        c: ContainerId,
+        a: AttemptId,
+        incarnation: u32,
+    },
+    /// To a node: the container is to end.
+    Kill {
+        c: ContainerId,
+    },
+    /// To a node: the container wants its reduce's block of the attempt's output, from an offset in bytes on, from this incarnation
+    /// of the node.
+    Fetch {
+        c: ContainerId,
+        a: AttemptId,
+        reduce: u32,
+        incarnation: u32,
+        offset: u64,
+    },
+    /// To a node: the attempt is the recorded winner of the reduce task.
+    Won {
+        t: TaskId,
+        a: AttemptId,
+    },
+    /// To a node: the job came to its end.
+    Outcome {
+        succeeded: bool,
+    },
+    /// To a master: the attempt has output, and asks for permission to commit.
+    Pending {
+        a: AttemptId,
+    },
+    /// To a master: the attempt was told no, and asks again.
+    Poll {
+        a: AttemptId,
+    },
+    /// To a master: the attempt is done. A reduce's tells the length of its part file in bytes, a map's none.
+    Done {
+        a: AttemptId,
+        bytes: Option<u32>,
+    },
+    /// To a master: the attempt failed.
+    Failed {
+        a: AttemptId,
+    },
+    /// To a master: the container came to its end.
+    Ended {
+        c: ContainerId,
+    },
+    /// To a master: the node runs, in this incarnation.
+    NodeUp {
+        n: u32,
+        incarnation: u32,
+    },
+    /// To a master: the container asks where the output of a map task lies, by the task's number.
+    Where {
+        c: ContainerId,
+        map: u32,
+    },
+    /// To a container, and from it to its master: the output of the map attempt is not there.
+    FetchLost {
+        c: ContainerId,
+        a: AttemptId,
+    },
+    /// To a container: whether its attempt may commit.
+    Answer {
+        a: AttemptId,
+        yes: bool,
+    },
+    /// To a container: its master heard that the attempt is done.
+    DoneAck {
+        a: AttemptId,
+    },
+    /// To a container: the output of the map task is this attempt's, on this node of this incarnation.
+    MapReady {
+        map: u32,
+        a: AttemptId,
+        n: u32,
+        incarnation: u32,
+    },
+    /// To a container: bytes of the block of this reduce in the attempt's output, from an offset on; `total` is the length of the whole
+    /// block.
+    Piece {
+        a: AttemptId,
+        reduce: u32,
+        offset: u64,
+        total: u64,
+        bytes: Bytes,
+    },
+}
+
+/// A packet and to whom it goes.
+#[derive(Drop)]
+pub struct Envelope {
+    pub to: Address,
+    pub body: Packet,
+}
