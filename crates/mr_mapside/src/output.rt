@@ -54,3 +54,11 @@ impl MapOutput {
         Ok(MapOutput { bytes })
     }
 }
+
+impl Clone for MapOutput {
+    ghost is_clone = { λ a b. b ≡ a };
+
+    fn clone(&self) -> Result<MapOutput, AllocError> {
+        self.copy()
+    }
+}

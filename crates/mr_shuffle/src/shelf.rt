@@ -1,5 +1,5 @@
 //! The map outputs that lie on a node.
-ghost use Rattle.std.specs.Prelude.{◌≡◌, OnOk, OnErr};
+ghost use Rattle.std.specs.Prelude.{◌≡◌, OnOk, OnErr, IfOk};
 ghost use Rattle.std.specs.Option.{option_map};
 ghost use Rattle.mr_shuffle.specs.Shelf.{with_output, without_outputs, block_there};
 
@@ -56,6 +56,16 @@ impl ShelfOfNode {
     {
         let output = self.outputs.get(&a)?;
         blocks(output.bytes(), self.reduces)?.get(reduce)
+    }
+
+    /// An equal shelf.
+    pub fn copy(&self) -> Result<ShelfOfNode, AllocError>
+        ensures { IfOk result (λ shelf. shelf ≡ self.now) }
+    {
+        Ok(ShelfOfNode {
+            reduces: self.reduces,
+            outputs: self.outputs.clone()?,
+        })
     }
 
     /// Drops all outputs, as a node that restarts.
