@@ -15,7 +15,7 @@ use Rattle.mr_task.specs.declared.attempts.Entry.{Entry}
 use Rattle.mr_task.specs.declared.fault.TaskFault.TheVariants.{Unknown}
 use Rattle.mr_task.specs.Calls.{TaskCall, Hears, Fails, Ends, Dies, Records, Loses}
 use Rattle.mr_task.specs.Readings.{Seen, seen, next_seen, is_over, is_reduce, is_live, after_end, waiting_in, named, named_in, events_by, events_of, state_of}
-use Rattle.mr_task.specs.State.{StandsFor, entry_of, kept, known}
+use Rattle.mr_task.specs.State.{StandsForSome, Stands, StandsFor, entry_of, kept, known}
 use Rattle.mr_task.specs.Steps.{Task, entry_in, with_entry, if_there, entry_after, with_event, noted, with_end, ended}
 use Rattle.mr_task.proofs.Lists.{kept-same, entry_in-kept, with_entry-kept}
 use Rattle.mr_task.proofs.Bits.{bits, moved, live-is}
@@ -38,6 +38,17 @@ pub to_stands : (m : Task) (t : TaskId) (k : ℕ) (h : List TaskCall) → Parts 
 to_stands m t k h p = record { task = p.task; app = p.app; attempts = p.attempts; askers = p.askers; first = p.first; fixed = p.fixed; numbered = p.numbered }
 
 -- ---- one attempt
+
+-- whatever a machine stands for, it stands for some calls
+pub some-calls : (m : Task) (t : TaskId) (k : ℕ) (h : List TaskCall) → StandsFor m t k h → StandsForSome m
+some-calls m t k h st =
+    let P : TaskId → Type 0 = λ x. StandsFor m x m.app h in
+    let Q : ℕ → Type 0 = λ x. StandsFor m t x h in
+    (h, subst P (sym st.task) (subst Q (sym st.app) st))
+
+-- so it does after a call
+pub some-after : (m : Task) → StandsForSome m → (call : TaskCall) (new : Task) → Stands m call new → StandsForSome new
+some-after m s call new stands = some-calls new m.task m.app (call ∷ s.0) (stands m.task m.app s.0 s.1)
 
 pub entry-is : (m : Task) (t : TaskId) (k : ℕ) (h : List TaskCall) (a : Attempt) → StandsFor m t k h → entry_in m.attempts a ≡ cond (has (seen t k h).arrived a) (Some (entry_of t k h a)) None
 entry-is m t k h a st = ap (λ (es : List (Attempt × Entry)). entry_in es a) st.attempts ∙ entry_in-kept (entry_of t k h) (seen t k h).arrived a

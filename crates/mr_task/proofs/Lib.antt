@@ -1,5 +1,7 @@
 pub mod Arrivals
 pub mod Bits
+pub mod Changes
+pub mod Failing
 pub mod Growth
 pub mod Keeps
 pub mod Launches

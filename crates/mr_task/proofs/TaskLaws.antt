@@ -82,7 +82,7 @@ not-lost t k h a r = by (has (seen t k h).recorded a) refl
     by false e = none (not (is_reduce a.task.kind))
 
 -- of a reduce nothing is lost
-lost-none : (t : TaskId) (k : ℕ) (h : List TaskCall) → t.kind ≡ Reduce → (seen t k h).lost ≡ []
+pub lost-none : (t : TaskId) (k : ℕ) (h : List TaskCall) → t.kind ≡ Reduce → (seen t k h).lost ≡ []
 unfolding seen next_seen
 lost-none t k [] r = refl
 lost-none t k (Launches ∷ h) r = let s = seen t k h in lost_choice (is_none (launch_refusal s)) (after_launch t k s) s refl ∙ lost-none t k h r
@@ -110,7 +110,7 @@ any-at p (x ∷ xs) a there e = by (same_attempt a x) refl there (λ rest. any-a
         or-true false = refl
 
 -- a reduce with an accepted attempt is won
-accepted-won : (t : TaskId) (k : ℕ) (h : List TaskCall) (a : Attempt) → t.kind ≡ Reduce → has (seen t k h).accepted a ≡ true → is_won (seen t k h) ≡ true
+pub accepted-won : (t : TaskId) (k : ℕ) (h : List TaskCall) (a : Attempt) → t.kind ≡ Reduce → has (seen t k h).accepted a ≡ true → is_won (seen t k h) ≡ true
 accepted-won t k h a r e =
     let s = seen t k h in
     any-at (stands s) s.arrived a (accepted-arrived t k h a e) (λ i. e i && not (has (lost-none t k h r i) a))

@@ -1,15 +1,17 @@
 -- An attempt's state tells what was heard of it.
 use Rattle.std.proofs.Common.{◌≡◌, ℕ, Bool, true, false, ◌&&◌, ◌||◌, not, List, [], ◌∷◌, Some, count_by, refl, sym, ap, ◌∙◌, true≢false}
-use Rattle.std.specs.List.{list_any}
+use Rattle.std.specs.List.{list_any, find}
 use Rattle.mr_ids.specs.Attempt.{Attempt}
 use Rattle.mr_ids.specs.declared.id.TaskId.{TaskId}
+use Rattle.mr_attempt.specs.declared.state.AttemptState.{AttemptState}
+use Rattle.mr_attempt.specs.declared.state.AttemptState.TheVariants.{New, Assigned, Running, CommitPending, Recording, Succeeded, Failed, Killed}
 use Rattle.mr_attempt.specs.Table as table
 use Rattle.mr_grant.specs.Attempts.{same_attempt, has}
 use Rattle.mr_grant.proofs.Same.{same-is}
 use Rattle.mr_task.specs.declared.fault.TaskFault.TheVariants.{AlreadyWon}
 use Rattle.mr_task.specs.Calls.{TaskCall}
-use Rattle.mr_task.specs.Readings.{seen, state_of, is_live, is_over, is_won, stands, launch_refusal, refusal_of}
-use Rattle.mr_task.proofs.Bits.{Bits, bits, live-is, won-is, over-is, unknown-is}
+use Rattle.mr_task.specs.Readings.{seen, state_of, is_live, is_over, is_won, is_succeeded, has_succeeded, succeeded, winner, stands, launch_refusal, refusal_of}
+use Rattle.mr_task.proofs.Bits.{Bits, bits, bits_of, live-is, won-is, over-is, unknown-is}
 use Rattle.mr_task.proofs.States.{fits}
 
 any_has : (p : Attempt → Bool) (xs : List Attempt) (a : Attempt) → has xs a ≡ true → p a ≡ true → list_any p xs ≡ true
@@ -42,3 +44,21 @@ won-told t k h a e =
     there : (b : Bool) → has (seen t k h).arrived a ≡ b → stands (seen t k h) a ≡ true → has (seen t k h).arrived a ≡ true
     there true q s = q
     there false q s = absurd (true≢false (sym s ∙ ap (λ (x : Bits). x.accepted && not x.lost) (unknown-is _ _ (fits t k h a) q)))
+
+-- who is Succeeded
+succeeded-is : (st : AttemptState) (l : Bool) → ((bits_of st l).recorded && not (bits_of st l).lost) ≡ is_succeeded st
+succeeded-is New l = refl
+succeeded-is Assigned l = refl
+succeeded-is Running l = refl
+succeeded-is CommitPending l = refl
+succeeded-is Recording l = refl
+succeeded-is Succeeded l = refl
+succeeded-is Failed l = refl
+succeeded-is Killed false = refl
+succeeded-is Killed true = refl
+
+succeeded-told : (t : TaskId) (k : ℕ) (h : List TaskCall) (a : Attempt) → is_succeeded (state_of t k h a) ≡ has_succeeded (seen t k h) a
+succeeded-told t k h a = let f = fits t k h a in sym (ap (λ (b : Bits). b.recorded && not b.lost) f.is ∙ succeeded-is (state_of t k h a) f.l)
+
+pub winner-told : (t : TaskId) (k : ℕ) (h : List TaskCall) → winner t k h ≡ succeeded (seen t k h)
+winner-told t k h = λ i. find (λ a. succeeded-told t k h a i) (seen t k h).arrived

@@ -7,7 +7,7 @@ use Rattle.mr_grant.specs.Attempts.{has}
 use Rattle.mr_task.specs.Calls.{TaskCall, Reports, Fails, Ends, Dies}
 use Rattle.mr_attempt.specs.Table as table
 use Rattle.mr_task.specs.declared.fault.TaskFault.TheVariants.{AlreadyWon}
-use Rattle.mr_task.specs.Readings.{Seen, seen, state_of, is_live, stands, AreDistinct, is_over, is_won, failures, named, may_accept, launch_refusal, next_attempt, first_number}
+use Rattle.mr_task.specs.Readings.{Seen, seen, state_of, is_live, stands, AreDistinct, is_over, is_won, failures, named, may_accept, launch_refusal, next_attempt, first_number, winner, succeeded}
 
 -- The name moves only when the named attempt is over.
 abbrev pub NameStays : Type 0
@@ -53,10 +53,12 @@ pub record NumbersAreFresh : Type 0 where
   pub from : (t : TaskId) (k : ℕ) (calls : List TaskCall) → first_number k ≤ (next_attempt t k (seen t k calls)).number
   pub below : (t : TaskId) (k : ℕ) (calls : List TaskCall) → 1 ≤ k → launch_refusal (seen t k calls) ≡ None → (next_attempt t k (seen t k calls)).number < 1000 * k
 
--- The state of an attempt tells what was heard of it, and where one is Recording or Succeeded none is launched.
+-- The state of an attempt tells what was heard of it, the Succeeded attempt is the one whose record was heard and whose output
+-- is not lost, and where one is Recording or Succeeded none is launched.
 pub record StatesTell : Type 0 where
   pub live : (t : TaskId) (k : ℕ) (calls : List TaskCall) (a : Attempt) → is_live (seen t k calls) a ≡ table.is_live (state_of t k calls a)
   pub stands : (t : TaskId) (k : ℕ) (calls : List TaskCall) (a : Attempt) → stands (seen t k calls) a ≡ table.is_won (state_of t k calls a)
   pub over : (t : TaskId) (k : ℕ) (calls : List TaskCall) (a : Attempt)
       → is_over (seen t k calls).ended a ≡ (table.is_over (state_of t k calls a) && not (has (seen t k calls).accepted a))
   pub won : (t : TaskId) (k : ℕ) (calls : List TaskCall) (a : Attempt) → table.is_won (state_of t k calls a) ≡ true → launch_refusal (seen t k calls) ≡ Some AlreadyWon
+  pub winner : (t : TaskId) (k : ℕ) (calls : List TaskCall) → winner t k calls ≡ succeeded (seen t k calls)

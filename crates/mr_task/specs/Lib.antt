@@ -1,4 +1,5 @@
 pub mod Calls
+pub mod Changes
 pub mod Laws
 pub mod Readings
 pub mod State

@@ -88,6 +88,14 @@ stands s a = has s.accepted a && not (has s.lost a)
 abbrev pub is_won : Seen → Bool
 is_won s = list_any (stands s) s.arrived
 
+-- its success is recorded, and its output is not lost
+abbrev pub has_succeeded : Seen → Attempt → Bool
+has_succeeded s a = has s.recorded a && not (has s.lost a)
+
+-- the attempt that did, if there is one
+abbrev pub succeeded : Seen → Option Attempt
+succeeded s = find (has_succeeded s) s.arrived
+
 -- how many attempts failed, which counts towards the task's limit
 abbrev pub failures : Seen → ℕ
 failures s = count_by (has_failed s.ended) s.arrived

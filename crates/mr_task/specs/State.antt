@@ -35,11 +35,19 @@ pub record StandsFor (m : Task) (t : TaskId) (k : ℕ) (calls : List TaskCall) :
   -- how many numbers are given away
   pub numbered : m.numbered ≡ (seen t k calls).numbered
 
+-- the machine stands for some calls
+abbrev pub StandsForSome : Task → Type 0
+StandsForSome m = (calls : List TaskCall) × StandsFor m m.task m.app calls
+
 -- ---- how the contracts say it
 
 -- whatever calls the machine stood for, it stands for them and this call
 abbrev pub Stands : Task → TaskCall → Task → Type 0
 Stands old call new = (t : TaskId) (k : ℕ) (calls : List TaskCall) → StandsFor old t k calls → StandsFor new t k (call ∷ calls)
+
+-- the new machine is the old one after some call
+abbrev pub StandsAfterSome : Task → Task → Type 0
+StandsAfterSome old new = (call : TaskCall) × Stands old call new
 
 -- the answer is what is read off the calls that the machine stands for, whatever they are
 abbrev pub Answers : {A : Type 0} → Task → (TaskId → ℕ → List TaskCall → A) → A → Type 0

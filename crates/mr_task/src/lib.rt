@@ -8,6 +8,9 @@ mod reply;
 mod task;
 
 pub use fault::TaskFault;
-pub use laws::{accepted_stays, name_stays, no_failures, numbers_are_fresh, states_tell};
+pub use laws::{
+    accepted_stays, calls_change, name_stays, no_failures, numbers_are_fresh, reduces_are_kept,
+    states_tell,
+};
 pub use reply::DoneReply;
 pub use task::{MAX_LAUNCHES, MAX_LIVE, TaskMachine};

@@ -2,8 +2,8 @@ ghost use Rattle.std.specs.Prelude.{◌≡◌, ◌≤◌, ◌<◌, ◌+◌, ◌*
 ghost use Rattle.mr_attempt.specs.Table.{is_live};
 ghost use Rattle.mr_grant.specs.Attempts.{has};
 ghost use Rattle.mr_task.specs.Calls.{Launches, Hears, Asks, Reports, Fails, Ends, Dies, Records, Recovers, Loses};
-ghost use Rattle.mr_task.specs.Readings.{seen, named, is_named, failures, is_won, winner, launch_refusal, refusal_of, numbered_up_to};
-ghost use Rattle.mr_task.specs.State.{StandsFor, Stands, Answers, known, launch_answer, done_answer, state_answer, fault_or};
+ghost use Rattle.mr_task.specs.Readings.{seen, named, is_named, failures, is_won, winner, launch_refusal, next_attempt, refusal_of, numbered_up_to};
+ghost use Rattle.mr_task.specs.State.{StandsFor, StandsForSome, StandsAfterSome, Stands, Answers, known, launch_answer, done_answer, state_answer, fault_or};
 ghost use Rattle.mr_task.specs.Steps.{entry_in, if_there, noted, ended, asked, done};
 
 use crate::attempts::{Attempts, Entry};
@@ -42,12 +42,13 @@ pub struct TaskMachine {
 impl Model for TaskMachine {
     ghost use Rattle.std.specs.Prelude.{◌≤◌, ◌+◌, length};
     ghost use Rattle.mr_task.specs.Steps.{Task};
+    ghost use Rattle.mr_task.specs.State.{StandsForSome};
 
     ghost Value = { Task };
 
     ghost view = { λ m. record { task = m.task; app = m.app; attempts = m.attempts; grant = m.grant; numbered = m.numbered } };
 
-    ghost invariant = { λ m. (m.numbered ≤ 1000) × (length m.attempts ≤ m.numbered + 1) };
+    ghost invariant = { λ m. (m.numbered ≤ 1000) × (length m.attempts ≤ m.numbered + 1) × StandsForSome (record { task = m.task; app = m.app; attempts = m.attempts; grant = m.grant; numbered = m.numbered }) };
 }
 
 impl TaskMachine {
@@ -79,6 +80,13 @@ impl TaskMachine {
             grant: self.grant.copy()?,
             numbered: self.numbered,
         })
+    }
+
+    /// Each machine stands for some calls. This call does nothing: it tells the caller so.
+    pub fn stands(&self)
+        ensures { StandsForSome self.now }
+    {
+        let _task = &self.task;
     }
 
     /// The task.
@@ -122,8 +130,8 @@ impl TaskMachine {
         Ok(attempt)
     }
 
-    // Why no attempt is launched, memory aside.
-    fn launch_refusal(&self) -> Option<TaskFault>
+    /// Why `launch` would refuse, memory aside: none where an attempt may be launched. It takes no memory and changes nothing.
+    pub fn launch_refusal(&self) -> Option<TaskFault>
         ensures refusal { Answers self.now (λ t k calls. launch_refusal (seen t k calls)) result }
         ensures room { IfNone result (self.now.numbered < 1000) }
     {
@@ -134,10 +142,11 @@ impl TaskMachine {
         )
     }
 
-    // The attempt that is launched next.
-    fn next_attempt(&self) -> AttemptId
+    /// The attempt that the next `launch` gives, while this generation has numbers left (`launch_refusal` answers none).
+    pub fn next_attempt(&self) -> AttemptId
         requires { self.now.numbered < 1000 }
-        ensures { result ≡ record { task = self.now.task; number = 1000 * (self.now.app - 1) + self.now.numbered } }
+        ensures attempt { result ≡ record { task = self.now.task; number = 1000 * (self.now.app - 1) + self.now.numbered } }
+        ensures next { Answers self.now (λ t k calls. next_attempt t k (seen t k calls)) result }
     {
         AttemptId::new(self.task, first_number(self.app) + self.numbered).unwrap()
     }
@@ -313,8 +322,9 @@ impl TaskMachine {
         self.attempts.names()
     }
 
-    // The attempt takes an event.
+    // The attempt takes an event, by some call.
     fn note(&mut self, attempt: &AttemptId, event: AttemptEvent) -> Result<(), TaskFault>
+        requires { StandsAfterSome self.old (noted self.old attempt.now event) }
         ensures told { result ≡ if_there (entry_in self.old.attempts attempt.now) }
         ensures left { self.new ≡ noted self.old attempt.now event }
     {
@@ -326,8 +336,9 @@ impl TaskMachine {
         Ok(())
     }
 
-    // The attempt ends, and is released if that moved it.
+    // The attempt ends by some call, and is released if that moved it.
     fn end(&mut self, attempt: &AttemptId, event: AttemptEvent) -> Result<(), TaskFault>
+        requires { StandsAfterSome self.old (ended self.old attempt.now event) }
         ensures told { result ≡ if_there (entry_in self.old.attempts attempt.now) }
         ensures left { self.new ≡ ended self.old attempt.now event }
     {

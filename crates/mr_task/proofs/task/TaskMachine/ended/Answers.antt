@@ -22,3 +22,9 @@ returns-else-asked-clause-stands c = λ t k h st.
     let P : Task → Type 0 = λ m. StandsFor m t k (Ends c.args.attempt false ∷ h) in
     let Q : Bool → Type 0 = λ b. StandsFor c.end-else-asked.new.self t k (Ends c.args.attempt b ∷ h) in
     subst Q (sym c.if-asked.false) (subst P (sym c.end-else-asked.ensures.left) (ended-keeps c.args.self.now t k h c.args.attempt st))
+
+pub end-requires : goal.end-requires
+end-requires c = (Ends c.args.attempt true, λ t k h st. stopped-keeps c.args.self.now t k h c.args.attempt st)
+
+pub end-requires-else-asked : goal.end-requires-else-asked
+end-requires-else-asked c = (Ends c.args.attempt false, λ t k h st. ended-keeps c.args.self.now t k h c.args.attempt st)
