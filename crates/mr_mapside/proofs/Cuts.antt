@@ -38,7 +38,7 @@ chosen false y x e = (refl, e)
 some_is : {A : Type 0} (x y : A) → Some x ≡ Some y → x ≡ y
 some_is x y e = cc
 
-parted_is : (bytes front rest : List ℕ) (len : ℕ) → parted len bytes ≡ Some (front, rest) → (len ≤ length bytes) × (take len bytes ≡ front) × (drop len bytes ≡ rest)
+pub parted_is : (bytes front rest : List ℕ) (len : ℕ) → parted len bytes ≡ Some (front, rest) → (len ≤ length bytes) × (take len bytes ≡ front) × (drop len bytes ≡ rest)
 parted_is bytes front rest len e =
     let g = chosen (ltb (length bytes) len) (front, rest) (Some (take len bytes, drop len bytes)) e in
     let is = some_is (take len bytes, drop len bytes) (front, rest) g.1 in

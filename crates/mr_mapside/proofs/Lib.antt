@@ -1,3 +1,4 @@
 pub mod Cuts
 pub mod Outputs
+pub mod Placing
 pub mod Spelling

@@ -1,4 +1,5 @@
 pub mod Block
 pub mod Cutting
 pub mod Laws
+pub mod Places
 pub mod Work

@@ -76,7 +76,7 @@ pub fn blocks(bytes: &[u8], reduces: u32) -> Option<OutputBlocks<'_>>
 }
 
 // The first block of bytes and the bytes after it.
-fn first_block(bytes: &[u8]) -> Option<(&[u8], &[u8])>
+pub fn first_block(bytes: &[u8]) -> Option<(&[u8], &[u8])>
     ensures { option_map (λ found. (found.0.now, found.1.now)) result ≡ first_block bytes.now }
 {
     if bytes.len() < 4 {

@@ -93,14 +93,7 @@ output_put es fs a bytes h = finite.same_map attempt_order attempt_exact _ _ (λ
 pub nothing_there : (es : List (Attempt × List ℕ)) (reduces : ℕ) (a : Attempt) (reduce : ℕ) → None ≡ lookup (eq-value.it a) es → None ≡ block_there (record { reduces = reduces; outputs = finite.from_entries es }) a reduce
 nothing_there es reduces a reduce none = ap (option_and_then (λ bytes. option_and_then (λ blocks. slice_get blocks reduce) (cut reduces bytes))) (none ∙ output_at es a)
 
--- something was put that is no blocks
-pub no_blocks_there : (es : List (Attempt × List ℕ)) (reduces : ℕ) (a : Attempt) (reduce : ℕ) (bytes : List ℕ) → Some bytes ≡ lookup (eq-value.it a) es → None ≡ cut reduces bytes → None ≡ block_there (record { reduces = reduces; outputs = finite.from_entries es }) a reduce
-no_blocks_there es reduces a reduce bytes some none =
-    ap (option_and_then (λ blocks. slice_get blocks reduce)) none
-    ∙ ap (option_and_then (λ bytes. option_and_then (λ blocks. slice_get blocks reduce) (cut reduces bytes))) (some ∙ output_at es a)
-
--- blocks were put
-pub blocks_there : (es : List (Attempt × List ℕ)) (reduces : ℕ) (a : Attempt) (reduce : ℕ) (bytes : List ℕ) (blocks : List (List ℕ)) → Some bytes ≡ lookup (eq-value.it a) es → Some blocks ≡ cut reduces bytes → slice_get blocks reduce ≡ block_there (record { reduces = reduces; outputs = finite.from_entries es }) a reduce
-blocks_there es reduces a reduce bytes blocks some is =
-    ap (option_and_then (λ (blocks : List (List ℕ)). slice_get blocks reduce)) is
-    ∙ ap (option_and_then (λ bytes. option_and_then (λ blocks. slice_get blocks reduce) (cut reduces bytes))) (some ∙ output_at es a)
+-- something was put
+pub something_there : (es : List (Attempt × List ℕ)) (reduces : ℕ) (a : Attempt) (reduce : ℕ) (bytes : List ℕ) → Some bytes ≡ lookup (eq-value.it a) es →
+    option_and_then (λ blocks. slice_get blocks reduce) (cut reduces bytes) ≡ block_there (record { reduces = reduces; outputs = finite.from_entries es }) a reduce
+something_there es reduces a reduce bytes some = ap (option_and_then (λ bytes. option_and_then (λ blocks. slice_get blocks reduce) (cut reduces bytes))) (some ∙ output_at es a)

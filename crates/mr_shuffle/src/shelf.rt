@@ -5,7 +5,7 @@ ghost use Rattle.mr_shuffle.specs.Shelf.{with_output, without_outputs, block_the
 
 use indexmap::IndexMap;
 use mr_ids::AttemptId;
-use mr_mapside::{MapOutput, blocks};
+use mr_mapside::{CutOutput, MapOutput};
 use std::alloc::{AllocError, Global};
 use std::marker::Model;
 
@@ -14,7 +14,7 @@ use std::marker::Model;
 #[derive(Drop)]
 pub struct ShelfOfNode {
     reduces: u32,
-    outputs: IndexMap<AttemptId, MapOutput>,
+    outputs: IndexMap<AttemptId, CutOutput>,
 }
 
 impl Model for ShelfOfNode {
@@ -39,23 +39,24 @@ impl ShelfOfNode {
         }
     }
 
-    /// Puts the output of an attempt, in place of one that was put of it before.
+    /// Puts the output of an attempt, in place of one that was put of it before, and finds its blocks: one walk over it.
     /// Answers no fault but want of memory, and then nothing has changed.
     pub fn put(&mut self, a: AttemptId, output: MapOutput) -> Result<(), AllocError>
         ensures ok { OnOk result (self.new ≡ with_output self.old a output) }
         ensures err { OnErr result (self.new ≡ self.old) }
     {
-        self.outputs.insert(a, output)?;
+        let alloc = *self.outputs.allocator();
+        self.outputs.insert(a, CutOutput::new(alloc, output)?)?;
         Ok(())
     }
 
     /// The block of a reduce in the output of an attempt. None where no output of the attempt was put since all were
-    /// dropped, where it is not as many blocks as there are reduces, and where there is no such reduce.
+    /// dropped, where it is not as many blocks as there are reduces, and where there is no such reduce. Nothing is walked over:
+    /// all blocks of an output cost no more than so many look-ups.
     pub fn get(&self, a: AttemptId, reduce: u32) -> Option<&[u8]>
         ensures { option_map (λ block. block.now) result ≡ block_there self.now a reduce }
     {
-        let output = self.outputs.get(&a)?;
-        blocks(output.bytes(), self.reduces)?.get(reduce)
+        self.outputs.get(&a)?.block(self.reduces, reduce)
     }
 
     /// An equal shelf.

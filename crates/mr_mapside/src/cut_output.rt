@@ -1,0 +1,100 @@
+//! A map's output whose blocks have been found.
+ghost use Rattle.std.specs.Prelude.{◌≡◌, ◌≤◌, length, IfOk};
+ghost use Rattle.std.specs.Option.{option_map, option_and_then};
+ghost use Rattle.std.specs.List.{slice_get};
+ghost use Rattle.mr_mapside.specs.Cutting.{cut};
+ghost use Rattle.mr_mapside.specs.Places.{ArePlaces};
+
+use crate::cutting::first_block;
+use crate::output::MapOutput;
+use std::alloc::{AllocError, Global};
+use std::marker::Model;
+
+// Where a block lies in an output: from the byte `start` to before the byte `end`.
+#[derive(Clone, Copy)]
+pub struct Place {
+    pub start: u32,
+    pub end: u32,
+}
+
+/// A map's output with the places of its blocks, 8 bytes a block, so that no block is searched for.
+/// Contracts see it as the list of its bytes.
+#[derive(Drop)]
+pub struct CutOutput {
+    output: MapOutput,
+    places: Option<Vec<Place>>,
+}
+
+impl Model for CutOutput {
+    ghost use Rattle.std.specs.Prelude.{List, ℕ};
+    ghost use Rattle.std.specs.Option.{option_map};
+    ghost use Rattle.mr_mapside.specs.Places.{ArePlaces};
+
+    ghost Value = { List ℕ };
+
+    ghost view = { λ o. o.output };
+
+    ghost invariant = { λ o. ArePlaces o.output (option_map (λ places. places.items) o.places) };
+}
+
+impl CutOutput {
+    /// The output, its blocks found: one walk over it. Answers no fault but want of memory.
+    pub fn new(alloc: Global, output: MapOutput) -> Result<CutOutput, AllocError>
+        ensures { IfOk result (λ cut. cut ≡ output) }
+    {
+        let places = places_of(alloc, output.bytes())?;
+        Ok(CutOutput { output, places })
+    }
+
+    /// The block of a reduce, where the bytes are as many blocks as there are reduces. None where they are not, and where
+    /// there is no such reduce. It takes the same time for each reduce.
+    pub fn block(&self, reduces: u32, reduce: u32) -> Option<&[u8]>
+        ensures { option_map (λ block. block.now) result ≡ option_and_then (λ blocks. slice_get blocks reduce) (cut reduces self.now) }
+    {
+        let places = self.places.as_ref()?;
+        if places.len() != reduces as usize {
+            return None;
+        }
+        let place = places.get(reduce as usize)?;
+        Some(&self.output.bytes()[place.start as usize..place.end as usize])
+    }
+
+    /// An equal output, with memory of the same allocator.
+    pub fn copy(&self) -> Result<CutOutput, AllocError>
+        ensures { IfOk result (λ output. output ≡ self.now) }
+    {
+        Ok(CutOutput {
+            output: self.output.copy()?,
+            places: self.places.clone()?,
+        })
+    }
+}
+
+impl Clone for CutOutput {
+    ghost is_clone = { λ a b. b ≡ a };
+
+    fn clone(&self) -> Result<CutOutput, AllocError> {
+        self.copy()
+    }
+}
+
+// The places of the blocks that bytes are, however many; none where the bytes are no whole blocks.
+fn places_of(alloc: Global, bytes: &[u8]) -> Result<Option<Vec<Place>>, AllocError>
+    requires { length bytes.now ≤ 16777216 }
+    ensures { IfOk result (λ places. ArePlaces bytes.now (option_map (λ places. places.items) places)) }
+{
+    let mut places = Vec::new(alloc);
+    let mut rest = bytes;
+    while !rest.is_empty() {
+        let Some((block, after)) = first_block(rest) else {
+            return Ok(None);
+        };
+        let end = bytes.len() - after.len();
+        places.push(Place {
+            start: (end - block.len()) as u32,
+            end: end as u32,
+        })?;
+        rest = after;
+    }
+    Ok(Some(places))
+}
