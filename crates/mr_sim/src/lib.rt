@@ -22,6 +22,3 @@ pub use job_text::read_job_text;
 pub use laws::{one_first_bad, one_reading, one_seq_text, read_or_bad};
 pub use subcommand::{Command, run};
 pub use submission::{JobKind, PlanAct, PlanFault, PlanFaults, Splits, Submission};
-
-#[cfg(test)]
-mod tests;

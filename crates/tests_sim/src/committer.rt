@@ -1,5 +1,5 @@
 //! What `committer` prints, and what it does of streams that fail.
-use crate::{Command, SimFault, run};
+use mr_sim::{Command, SimFault, run};
 use std::io;
 use std::io::{Error, ErrorKind, Read, Write};
 use std::process::Abort;

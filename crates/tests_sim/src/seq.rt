@@ -1,7 +1,7 @@
 //! What `seq` prints for job texts, and which it refuses.
-use crate::tests::committer::{gives, is_refused};
-use crate::{Command, JobKind, JobTextFault, PlanAct, PlanFault, SimFault, read_job_text};
+use crate::committer::{gives, is_refused};
 use mr_ids::JobId;
+use mr_sim::{Command, JobKind, JobTextFault, PlanAct, PlanFault, SimFault, read_job_text};
 use std::process::Abort;
 use std::rt::Clock;
 use std::sync::Wait;

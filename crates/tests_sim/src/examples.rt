@@ -1,5 +1,5 @@
 //! The examples of the folder `examples`: made by `tools/examples --write`, and not by hand.
-use super::{committer, seq};
+use crate::{committer, seq};
 use std::test::Fail;
 
 #[test]

@@ -1,6 +1,6 @@
 //! What `history` prints for a segment.
-use crate::tests::committer::{gives, is_refused};
-use crate::{Command, SimFault};
+use crate::committer::{gives, is_refused};
+use mr_sim::{Command, SimFault};
 use std::test::Fail;
 
 #[test]

@@ -1,0 +1,13 @@
+//! Tests of the crates below all others: identifiers, paths, the namespace, the committer, the history.
+#![tactic(auto)]
+
+#[cfg(test)]
+mod commit;
+#[cfg(test)]
+mod history;
+#[cfg(test)]
+mod ids;
+#[cfg(test)]
+mod names;
+#[cfg(test)]
+mod paths;

@@ -1,0 +1,11 @@
+//! Tests of the simulator: what its subcommands print.
+#![tactic(auto)]
+
+#[cfg(test)]
+mod committer;
+#[cfg(test)]
+mod examples;
+#[cfg(test)]
+mod segments;
+#[cfg(test)]
+mod seq;
