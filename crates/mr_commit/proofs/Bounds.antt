@@ -157,6 +157,7 @@ stays_bounded entries depth c (op.Rename from to) r b =
 stays_bounded entries depth c (op.List path) r b = b
 stays_bounded entries depth c (op.Exists path) r b = b
 stays_bounded entries depth c (op.Read path) r b = b
+stays_bounded entries depth c (op.Bar a) r b = b
 stays_bounded entries depth c (op.Mkdirs path) r b = absurd r
 stays_bounded entries depth c (op.Create path closed) r b = absurd r
 stays_bounded entries depth c (op.Append path bytes) r b = absurd r

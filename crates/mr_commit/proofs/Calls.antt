@@ -1,11 +1,14 @@
 -- What calls of the namespace answer and leave.
-use Rattle.std.proofs.Common.{◌≡◌, ℕ, Bool, true, false, List, [], ◌∷◌, refl, ap, Option, Some, None, Result, Ok, Err, nat_lt, unwrap_or, if◌then◌else◌}
+use Rattle.std.proofs.Common.{◌≡◌, ℕ, Bool, true, false, List, [], ◌∷◌, refl, ap, Option, Some, None, Result, Ok, Err, unwrap_or, if◌then◌else◌, ◌⊎◌, ⊎_elim}
+use Rattle.mr_names.specs.declared.op.Caller.{Caller}
 use Rattle.mr_names.specs.declared.fault.NameFault.{NameFault}
 use Rattle.mr_names.specs.declared.fault.NameFault.TheVariants as names
 use Rattle.mr_names.specs.declared.op.Op.{Op}
 use Rattle.mr_names.specs.declared.op.Op.TheVariants as op
 use Rattle.mr_names.specs.declared.op.Answer.{Answer}
-use Rattle.mr_names.specs.Calls.{State, first_of, refusal, refused, settled, call_of, answer, Makes, MakesAlways, may_want_memory}
+use Rattle.std.specs.Option.{option_or}
+use Rattle.mr_names.proofs.Callers.{unheard-is}
+use Rattle.mr_names.specs.Calls.{State, first_of, refusal, own_refusal, passes_limit, unheard, refused, settled, call_of, answer, Makes, MakesAlways, may_want_memory}
 use Rattle.mr_names.specs.Content.{Content}
 
 abbrev pub is_memory : NameFault → Bool
@@ -38,14 +41,19 @@ refusal_own c (op.Rename from to) = first_own ((_, names.Missing) ∷ (_, names.
 refusal_own c (op.List path) = first_own ((_, names.Missing) ∷ (_, names.NotDir) ∷ []) (refl, (refl, tt))
 refusal_own c (op.Exists path) = refl
 refusal_own c (op.Read path) = first_own ((_, names.Missing) ∷ (_, names.NotFile) ∷ []) (refl, (refl, tt))
+refusal_own c (op.Bar a) = refl
 
 -- no call is refused for want of memory
-pub refused_own : (s : State) (app : ℕ) (call : Op) → wants (refused s app call) ≡ false
-refused_own s app call = by (nat_lt app s.fence)
+pub refused_own : (s : State) (caller : Caller) (call : Op) → wants (refused s caller call) ≡ false
+refused_own s caller call = by (unheard s caller) (λ why is. unheard-is s caller why is)
   where
-    by : (b : Bool) → wants (if b then Some (names.Superseded s.fence) else refusal s.content call) ≡ false
-    by true = refl
-    by false = refusal_own s.content call
+    row : (b : Bool) → wants (if b then Some names.Full else refusal s.content call) ≡ false
+    row true = refl
+    row false = refusal_own s.content call
+
+    by : (o : Option NameFault) → ((why : NameFault) → o ≡ Some why → (why ≡ names.Superseded s.fence) ⊎ (why ≡ names.Barred)) → wants (option_or o (own_refusal s call)) ≡ false
+    by None is = row (passes_limit s.barred call)
+    by (Some why) is = ⊎_elim (λ e. ap is_memory e) (λ e. ap is_memory e) (is why refl)
 
 pub true_or_false : {A : Type 0} → true ≡ false → A
 true_or_false e = cc
@@ -55,18 +63,18 @@ is_want (Ok a) = false
 is_want (Err f) = is_memory f
 
 -- what a function that makes a call answered: the call's answer, or want of memory
-pub data Made (s : State) (app : ℕ) (call : Op) (r : Result Answer NameFault) (t : State) : Type 0 where
-  as_call : call_of s app call ≡ (r, t) → is_want r ≡ false → Made s app call r t
-  no_memory : r ≡ Err names.NoMemory → t ≡ s → refused s app call ≡ None → may_want_memory call ≡ true → Made s app call r t
+pub data Made (s : State) (caller : Caller) (call : Op) (r : Result Answer NameFault) (t : State) : Type 0 where
+  as_call : call_of s caller call ≡ (r, t) → is_want r ≡ false → Made s caller call r t
+  no_memory : r ≡ Err names.NoMemory → t ≡ s → refused s caller call ≡ None → may_want_memory call ≡ true → Made s caller call r t
 
-pub made : (s : State) (app : ℕ) (call : Op) (r : Result Answer NameFault) (t : State) → Makes (λ a. a) s app call r t → (may_want_memory call ≡ false → MakesAlways (λ a. a) s app call r t) → Made s app call r t
-made s app call (Ok a) t m always = as_call m refl
-made s app call (Err f) t m always = by (refused s app call) refl (refused_own s app call) m always
+pub made : (s : State) (caller : Caller) (call : Op) (r : Result Answer NameFault) (t : State) → Makes (λ a. a) s caller call r t → (may_want_memory call ≡ false → MakesAlways (λ a. a) s caller call r t) → Made s caller call r t
+made s caller call (Ok a) t m always = as_call m refl
+made s caller call (Err f) t m always = by (refused s caller call) refl (refused_own s caller call) m always
   where
-    by : (o : Option NameFault) → refused s app call ≡ o → wants o ≡ false → (f ≡ unwrap_or o names.NoMemory) × (t ≡ s) → (may_want_memory call ≡ false → settled o s call ≡ (Err f, t)) → Made s app call (Err f) t
+    by : (o : Option NameFault) → refused s caller call ≡ o → wants o ≡ false → (f ≡ unwrap_or o names.NoMemory) × (t ≡ s) → (may_want_memory call ≡ false → settled o s call ≡ (Err f, t)) → Made s caller call (Err f) t
     by (Some g) e own h always = as_call (rw e cc) (rw h.0 own)
     by None e own h always = memory (may_want_memory call) refl
       where
-        memory : (b : Bool) → may_want_memory call ≡ b → Made s app call (Err f) t
+        memory : (b : Bool) → may_want_memory call ≡ b → Made s caller call (Err f) t
         memory true k = no_memory (ap (λ g. Err g) h.0) h.1 e k
         memory false k = let z : settled None s call ≡ (Err f, t) = always k in let y : Ok (answer s.content call) ≡ Err f = ap (λ p. p.0) z in absurd cc

@@ -2,6 +2,7 @@
 use Rattle.std.proofs.Common.{◌≡◌, ◌≤◌, ◌<◌, ℕ, suc, ◌+◌, ◌-◌, ◌*◌, Bool, true, false, cond, List, [], ◌∷◌, ◌++◌, length, map, filter, refl, sym, ap, subst, ◌∙◌, Option, Some, None, is_some, is_none, Result, Ok, Err, ◌&&◌, nat_lt, if◌then◌else◌, arith, length-append, ◌⊎◌, inl, inr}
 use Rattle.std.proofs.lemmas.Nat.{mul-le}
 use Rattle.std.proofs.Math.Nat.{suc-mul, zero-mul}
+use Rattle.mr_names.specs.declared.op.Caller.{Caller}
 use Rattle.mr_names.specs.declared.fault.NameFault.{NameFault}
 use Rattle.mr_names.specs.declared.fault.NameFault.TheVariants as names
 use Rattle.mr_names.specs.declared.node.Kind.{Kind}
@@ -12,6 +13,7 @@ use Rattle.mr_names.specs.declared.op.Op.{Op}
 use Rattle.mr_names.specs.declared.op.Op.TheVariants as op
 use Rattle.mr_names.specs.declared.op.Answer.{Answer}
 use Rattle.mr_names.specs.Content.{Content}
+use Rattle.mr_names.proofs.TreeLaws.{past_caller}
 use Rattle.mr_names.specs.Held.{node_at, is_file}
 use Rattle.mr_names.specs.Listing.{children}
 use Rattle.mr_names.specs.Calls.{State, refused, refusal, settled, call_of, answer}
@@ -128,29 +130,25 @@ merging_follows entries depth kind.Dir from to (Some kind.File) h = record { rai
 merging_follows entries depth kind.File from to (Some there) h = record { raise = (tt, (h, tt)); fewer = omega arith }
 
 -- what a directory lists is there
-listed_there : (s : State) (app : ℕ) (path : List (List ℕ)) (a : Answer) (t : State) → call_of s app (op.List path) ≡ (Ok a, t) → (is_some (node_at s.content path) ≡ true) × (a ≡ answer s.content (op.List path))
-listed_there s app path a t e = by (nat_lt app s.fence) e
+listed_there : (s : State) (caller : Caller) (path : List (List ℕ)) (a : Answer) (t : State) → call_of s caller (op.List path) ≡ (Ok a, t) → (is_some (node_at s.content path) ≡ true) × (a ≡ answer s.content (op.List path))
+listed_there s caller path a t e = by (refused s caller (op.List path)) refl e
   where
-    answer_is : (o : Option NameFault) → settled o s (op.List path) ≡ (Ok a, t) → (o ≡ None) × (a ≡ answer s.content (op.List path))
-    answer_is None h = (refl, let y : calls_ok (answer s.content (op.List path)) ≡ calls_ok a = ap (λ p. p.0) h in cc)
-    answer_is (Some f) h = let y : calls_err f ≡ calls_ok a = ap (λ p. p.0) h in absurd cc
-
     at : (o : Option Node) → (if is_none o then Some names.Missing else (if is_file o then Some names.NotDir else None)) ≡ None → is_some o ≡ true
     at None k = cc
     at (Some n) k = refl
 
-    by : (b : Bool) → settled (if b then Some (names.Superseded s.fence) else refusal s.content (op.List path)) s (op.List path) ≡ (Ok a, t) → (is_some (node_at s.content path) ≡ true) × (a ≡ answer s.content (op.List path))
-    by true h = let y : calls_err (names.Superseded s.fence) ≡ calls_ok a = ap (λ p. p.0) h in absurd cc
-    by false h = let is = answer_is (refusal s.content (op.List path)) h in (at (node_at s.content path) is.0, is.1)
+    by : (o : Option NameFault) → refused s caller (op.List path) ≡ o → settled o s (op.List path) ≡ (Ok a, t) → (is_some (node_at s.content path) ≡ true) × (a ≡ answer s.content (op.List path))
+    by None passed h = (at (node_at s.content path) (past_caller s caller (op.List path) passed), let y : calls_ok (answer s.content (op.List path)) ≡ calls_ok a = ap (λ p. p.0) h in cc)
+    by (Some f) is h = let y : calls_err f ≡ calls_ok a = ap (λ p. p.0) h in absurd cc
 
-each_follows : (entries depth : ℕ) (from to : List (List ℕ)) (s : State) (app : ℕ) (r : Result Answer NameFault) (t : State) (new : List Line) → length to ≤ length from → Bounded entries depth s.content → call_of s app (op.List from) ≡ (r, t) → replaced (MergesEach from to) r ≡ Ok new → Follow entries depth (MergesEach from to) new
-each_follows entries depth from to s app (Err f) t new h b e k = no_lines_left f _ new k
+each_follows : (entries depth : ℕ) (from to : List (List ℕ)) (s : State) (caller : Caller) (r : Result Answer NameFault) (t : State) (new : List Line) → length to ≤ length from → Bounded entries depth s.content → call_of s caller (op.List from) ≡ (r, t) → replaced (MergesEach from to) r ≡ Ok new → Follow entries depth (MergesEach from to) new
+each_follows entries depth from to s caller (Err f) t new h b e k = no_lines_left f _ new k
   where
     no_lines_left : (f : NameFault) (b : Bool) (new : List Line) → (if b && false then Ok [] else Err (fault_of f)) ≡ Ok new → Follow entries depth (MergesEach from to) new
     no_lines_left f true new e = err_not (fault_of f) new e
     no_lines_left f false new e = err_not (fault_of f) new e
-each_follows entries depth from to s app (Ok a) t new h b e k =
-    let there = listed_there s app from a t e in
+each_follows entries depth from to s caller (Ok a) t new h b e k =
+    let there = listed_there s caller from a t e in
     let short = b.shallow.within from there.0 in
     let few = few_children s.content from in
     let is : new ≡ map (merging_child from to) (children s.content from) = sym (ok_is _ new k) ∙ ap (λ x. map (merging_child from to) (listed x)) there.1 in
@@ -159,14 +157,14 @@ each_follows entries depth from to s app (Ok a) t new h b e k =
       fewer = rw (children_calls entries depth from to (children s.content from)) (fewer_below entries depth (length (children s.content from)) from short (omega (arith, b.few)));
     })
 
-tasks_follow : (entries depth : ℕ) (from to : List (List ℕ)) (s : State) (app : ℕ) (r : Result Answer NameFault) (t : State) (new : List Line) → length to ≤ length from → Bounded entries depth s.content → call_of s app (op.List from) ≡ (r, t) → replaced (MergesTasks from to) r ≡ Ok new → Follow entries depth (MergesTasks from to) new
-tasks_follow entries depth from to s app (Err f) t new h b e k = no_lines_left f _ new k
+tasks_follow : (entries depth : ℕ) (from to : List (List ℕ)) (s : State) (caller : Caller) (r : Result Answer NameFault) (t : State) (new : List Line) → length to ≤ length from → Bounded entries depth s.content → call_of s caller (op.List from) ≡ (r, t) → replaced (MergesTasks from to) r ≡ Ok new → Follow entries depth (MergesTasks from to) new
+tasks_follow entries depth from to s caller (Err f) t new h b e k = no_lines_left f _ new k
   where
     no_lines_left : (f : NameFault) (b : Bool) (new : List Line) → (if b && false then Ok [] else Err (fault_of f)) ≡ Ok new → Follow entries depth (MergesTasks from to) new
     no_lines_left f true new e = err_not (fault_of f) new e
     no_lines_left f false new e = err_not (fault_of f) new e
-tasks_follow entries depth from to s app (Ok a) t new h b e k =
-    let there = listed_there s app from a t e in
+tasks_follow entries depth from to s caller (Ok a) t new h b e k =
+    let there = listed_there s caller from a t e in
     let short = b.shallow.within from there.0 in
     let few = few_children s.content from in
     let fewer_tasks = length_kept is_task (children s.content from) in
@@ -193,13 +191,13 @@ none_follow entries depth (Merges taken from to) new k e = absurd cc
 none_follow entries depth (MergesEach from to) new k e = absurd cc
 none_follow entries depth (MergesTasks from to) new k e = absurd cc
 
-line_follows : (entries depth : ℕ) (line : Line) (s : State) (app : ℕ) (new : List Line) → Raises line → Bounded entries depth s.content → replaced line (call_of s app (op_of line)).0 ≡ Ok new → Follow entries depth line new
-line_follows entries depth (Does call) s app new r b k = none_follow entries depth (Does call) new refl (single (Does call) _ new refl k)
-line_follows entries depth (Clears path) s app new r b k = none_follow entries depth (Clears path) new refl (single (Clears path) _ new refl k)
-line_follows entries depth (Needs path) s app new r b k = none_follow entries depth (Needs path) new refl (single (Needs path) _ new refl k)
-line_follows entries depth (Merges taken from to) s app new r b k = merge_follows entries depth taken from to _ new r k
-line_follows entries depth (MergesEach from to) s app new r b k = each_follows entries depth from to s app _ _ new r b refl k
-line_follows entries depth (MergesTasks from to) s app new r b k = tasks_follow entries depth from to s app _ _ new r b refl k
+line_follows : (entries depth : ℕ) (line : Line) (s : State) (caller : Caller) (new : List Line) → Raises line → Bounded entries depth s.content → replaced line (call_of s caller (op_of line)).0 ≡ Ok new → Follow entries depth line new
+line_follows entries depth (Does call) s caller new r b k = none_follow entries depth (Does call) new refl (single (Does call) _ new refl k)
+line_follows entries depth (Clears path) s caller new r b k = none_follow entries depth (Clears path) new refl (single (Clears path) _ new refl k)
+line_follows entries depth (Needs path) s caller new r b k = none_follow entries depth (Needs path) new refl (single (Needs path) _ new refl k)
+line_follows entries depth (Merges taken from to) s caller new r b k = merge_follows entries depth taken from to _ new r k
+line_follows entries depth (MergesEach from to) s caller new r b k = each_follows entries depth from to s caller _ _ new r b refl k
+line_follows entries depth (MergesTasks from to) s caller new r b k = tasks_follow entries depth from to s caller _ _ new r b refl k
 
 -- ---- a step
 
@@ -224,8 +222,8 @@ raises_call (Merges taken from to) r = tt
 raises_call (MergesEach from to) r = tt
 raises_call (MergesTasks from to) r = tt
 
-bounded_after : (entries depth : ℕ) (s : State) (app : ℕ) (call : Op) → RaisesBy call → Bounded entries depth s.content → Bounded entries depth (call_of s app call).1.content
-bounded_after entries depth s app call r b = by (refused s app call)
+bounded_after : (entries depth : ℕ) (s : State) (caller : Caller) (call : Op) → RaisesBy call → Bounded entries depth s.content → Bounded entries depth (call_of s caller call).1.content
+bounded_after entries depth s caller call r b = by (refused s caller call)
   where
     by : (o : Option NameFault) → Bounded entries depth (settled o s call).1.content
     by None = stays_bounded entries depth s.content call r b
@@ -250,30 +248,30 @@ pub record Less (entries depth : ℕ) (lines left : List Line) (t : State) : Typ
   pub fine : Fine entries depth left t.content
   pub fewer : most_calls entries depth left < most_calls entries depth lines
 
-pub step_more : (entries depth : ℕ) (lines left : List Line) (s t : State) (app : ℕ) → Fine entries depth lines s.content → step_of lines s app ≡ ((Ok done.More, left), t) → Less entries depth lines left t
+pub step_more : (entries depth : ℕ) (lines left : List Line) (s t : State) (caller : Caller) → Fine entries depth lines s.content → step_of lines s caller ≡ ((Ok done.More, left), t) → Less entries depth lines left t
 unfolding most_calls
-step_more entries depth [] left s t app fine e = let y : ends_of fault.Over ≡ more_of done.More = ap (λ p. p.0.0) e in absurd cc
-step_more entries depth (line ∷ rest) left s t app fine e =
+step_more entries depth [] left s t caller fine e = let y : ends_of fault.Over ≡ more_of done.More = ap (λ p. p.0.0) e in absurd cc
+step_more entries depth (line ∷ rest) left s t caller fine e =
     let b = left_by line rest left _ (ap (λ p. p.0) e) in
-    let here : (call_of s app (op_of line)).1 ≡ t = ap (λ p. p.1) e in
+    let here : (call_of s caller (op_of line)).1 ≡ t = ap (λ p. p.1) e in
     rw b.2 (by fine b.0 b.1 here)
   where
-    ones : (new : List Line) → AllSingle (line ∷ rest) → replaced line (call_of s app (op_of line)).0 ≡ Ok new → Less entries depth (line ∷ rest) (new ++ rest) t
+    ones : (new : List Line) → AllSingle (line ∷ rest) → replaced line (call_of s caller (op_of line)).0 ≡ Ok new → Less entries depth (line ∷ rest) (new ++ rest) t
     ones new h k =
         let none = single line _ new h.0 k in
         let follow = (none_follow entries depth line new h.0 none).fewer in
         record { fine = rw none (inl h.1); fewer = rw (calls_after entries depth new rest) (omega arith) }
 
-    by : Fine entries depth (line ∷ rest) s.content → (new : List Line) → replaced line (call_of s app (op_of line)).0 ≡ Ok new → (call_of s app (op_of line)).1 ≡ t → Less entries depth (line ∷ rest) (new ++ rest) t
+    by : Fine entries depth (line ∷ rest) s.content → (new : List Line) → replaced line (call_of s caller (op_of line)).0 ≡ Ok new → (call_of s caller (op_of line)).1 ≡ t → Less entries depth (line ∷ rest) (new ++ rest) t
     by (inl h) new k here = ones new h k
     by (inr h) new k here = cases h.0
       where
         cases : Settles (line ∷ rest) → Less entries depth (line ∷ rest) (new ++ rest) t
         cases (inl one) = ones new one k
         cases (inr r) =
-            let follow = line_follows entries depth line s app new r.0 h.1 k in
+            let follow = line_follows entries depth line s caller new r.0 h.1 k in
             let fewer = follow.fewer in
             record {
-              fine = inr (settles_after new rest follow.raise r.1, subst (λ u. Bounded entries depth u.content) here (bounded_after entries depth s app (op_of line) (raises_call line r.0) h.1));
+              fine = inr (settles_after new rest follow.raise r.1, subst (λ u. Bounded entries depth u.content) here (bounded_after entries depth s caller (op_of line) (raises_call line r.0) h.1));
               fewer = rw (calls_after entries depth new rest) (omega arith);
             }

@@ -1,5 +1,6 @@
 -- The step of a step value, from its call and from what was heard.
 use Rattle.std.proofs.Common.{◌≡◌, ℕ, Bool, true, false, List, [], ◌∷◌, refl, sym, ap, Option, Some, None, Result, Ok, Err, ◌||◌}
+use Rattle.mr_names.specs.declared.op.Caller.{Caller}
 use Rattle.mr_names.specs.declared.fault.NameFault.{NameFault}
 use Rattle.mr_names.specs.declared.fault.NameFault.TheVariants as names
 use Rattle.mr_names.specs.declared.op.Op.{Op}
@@ -18,55 +19,55 @@ or_right true = refl
 or_right false = refl
 
 -- a line whose answer may bring more lines changes nothing
-unchanged : (line : Line) (s : State) (app : ℕ) (a : Answer) (t : State) → more_follow line ≡ true → call_of s app (op_of line) ≡ (Ok a, t) → (t ≡ s) × (refused s app (op_of line) ≡ None)
-unchanged (Does call) s app a t k e = absurd cc
-unchanged (Clears path) s app a t k e = absurd cc
-unchanged (Needs path) s app a t k e = absurd cc
-unchanged (Merges taken from to) s app a t k e = reading (refused s app (op_of (Merges taken from to))) refl e
+unchanged : (line : Line) (s : State) (caller : Caller) (a : Answer) (t : State) → more_follow line ≡ true → call_of s caller (op_of line) ≡ (Ok a, t) → (t ≡ s) × (refused s caller (op_of line) ≡ None)
+unchanged (Does call) s caller a t k e = absurd cc
+unchanged (Clears path) s caller a t k e = absurd cc
+unchanged (Needs path) s caller a t k e = absurd cc
+unchanged (Merges taken from to) s caller a t k e = reading (refused s caller (op_of (Merges taken from to))) refl e
   where
-    reading : (o : Option NameFault) → refused s app (op_of (Merges taken from to)) ≡ o → settled o s (op_of (Merges taken from to)) ≡ (Ok a, t) → (t ≡ s) × (refused s app (op_of (Merges taken from to)) ≡ None)
+    reading : (o : Option NameFault) → refused s caller (op_of (Merges taken from to)) ≡ o → settled o s (op_of (Merges taken from to)) ≡ (Ok a, t) → (t ≡ s) × (refused s caller (op_of (Merges taken from to)) ≡ None)
     reading None r h = (sym (ap (λ p. p.1) h), r)
     reading (Some f) r h = let y : Err f ≡ Ok a = ap (λ p. p.0) h in absurd cc
-unchanged (MergesEach from to) s app a t k e = reading (refused s app (op_of (MergesEach from to))) refl e
+unchanged (MergesEach from to) s caller a t k e = reading (refused s caller (op_of (MergesEach from to))) refl e
   where
-    reading : (o : Option NameFault) → refused s app (op_of (MergesEach from to)) ≡ o → settled o s (op_of (MergesEach from to)) ≡ (Ok a, t) → (t ≡ s) × (refused s app (op_of (MergesEach from to)) ≡ None)
+    reading : (o : Option NameFault) → refused s caller (op_of (MergesEach from to)) ≡ o → settled o s (op_of (MergesEach from to)) ≡ (Ok a, t) → (t ≡ s) × (refused s caller (op_of (MergesEach from to)) ≡ None)
     reading None r h = (sym (ap (λ p. p.1) h), r)
     reading (Some f) r h = let y : Err f ≡ Ok a = ap (λ p. p.0) h in absurd cc
-unchanged (MergesTasks from to) s app a t k e = reading (refused s app (op_of (MergesTasks from to))) refl e
+unchanged (MergesTasks from to) s caller a t k e = reading (refused s caller (op_of (MergesTasks from to))) refl e
   where
-    reading : (o : Option NameFault) → refused s app (op_of (MergesTasks from to)) ≡ o → settled o s (op_of (MergesTasks from to)) ≡ (Ok a, t) → (t ≡ s) × (refused s app (op_of (MergesTasks from to)) ≡ None)
+    reading : (o : Option NameFault) → refused s caller (op_of (MergesTasks from to)) ≡ o → settled o s (op_of (MergesTasks from to)) ≡ (Ok a, t) → (t ≡ s) × (refused s caller (op_of (MergesTasks from to)) ≡ None)
     reading None r h = (sym (ap (λ p. p.1) h), r)
     reading (Some f) r h = let y : Err f ≡ Ok a = ap (λ p. p.0) h in absurd cc
 
-heard_step : (line : Line) (rest left : List Line) (s t : State) (app : ℕ) (answer : Result Answer NameFault) (r : Result StepDone CommitFault) → call_of s app (op_of line) ≡ (answer, t) → heard (line ∷ rest) answer ≡ (r, left) → step_of (line ∷ rest) s app ≡ ((r, left), t)
-heard_step line rest left s t app answer r e h = rw e (ap (λ x. (x, t)) h)
+heard_step : (line : Line) (rest left : List Line) (s t : State) (caller : Caller) (answer : Result Answer NameFault) (r : Result StepDone CommitFault) → call_of s caller (op_of line) ≡ (answer, t) → heard (line ∷ rest) answer ≡ (r, left) → step_of (line ∷ rest) s caller ≡ ((r, left), t)
+heard_step line rest left s t caller answer r e h = rw e (ap (λ x. (x, t)) h)
 
 -- a function that made the call as the call does
-as_called : (line : Line) (rest : List Line) (s : State) (app : ℕ) (answer : Result Answer NameFault) (r : Result StepDone CommitFault) (left : List Line) (t : State) → call_of s app (op_of line) ≡ (answer, t) → is_want answer ≡ false → Hears (line ∷ rest) answer r left → Steps (line ∷ rest) s app r left t
-as_called line rest s app answer (Ok d) left t e own h = heard_step line rest left s t app answer _ e h
-as_called line rest s app answer (Err (fault.Names f)) left t e own h = heard_step line rest left s t app answer _ e h
-as_called line rest s app answer (Err fault.OutputMissing) left t e own h = heard_step line rest left s t app answer _ e h
-as_called line rest s app answer (Err fault.DestinationExists) left t e own h = heard_step line rest left s t app answer _ e h
-as_called line rest s app answer (Err fault.Over) left t e own h = heard_step line rest left s t app answer _ e h
-as_called line rest s app (Ok a) (Err fault.NoMemory) left t e own h = let u = unchanged line s app a t h.1 e in (h.0, u.0, (u.1, rw h.1 (or_right (may_want_memory (op_of line)))))
-as_called line rest s app (Err f) (Err fault.NoMemory) left t e own h = let own2 : is_want (Err names.NoMemory) ≡ false = rw h.1 at own in absurd cc
+as_called : (line : Line) (rest : List Line) (s : State) (caller : Caller) (answer : Result Answer NameFault) (r : Result StepDone CommitFault) (left : List Line) (t : State) → call_of s caller (op_of line) ≡ (answer, t) → is_want answer ≡ false → Hears (line ∷ rest) answer r left → Steps (line ∷ rest) s caller r left t
+as_called line rest s caller answer (Ok d) left t e own h = heard_step line rest left s t caller answer _ e h
+as_called line rest s caller answer (Err (fault.Names f)) left t e own h = heard_step line rest left s t caller answer _ e h
+as_called line rest s caller answer (Err fault.OutputMissing) left t e own h = heard_step line rest left s t caller answer _ e h
+as_called line rest s caller answer (Err fault.DestinationExists) left t e own h = heard_step line rest left s t caller answer _ e h
+as_called line rest s caller answer (Err fault.Over) left t e own h = heard_step line rest left s t caller answer _ e h
+as_called line rest s caller (Ok a) (Err fault.NoMemory) left t e own h = let u = unchanged line s caller a t h.1 e in (h.0, u.0, (u.1, rw h.1 (or_right (may_want_memory (op_of line)))))
+as_called line rest s caller (Err f) (Err fault.NoMemory) left t e own h = let own2 : is_want (Err names.NoMemory) ≡ false = rw h.1 at own in absurd cc
 
 abbrev told : CommitFault → Result StepDone CommitFault
 told f = Err f
 
 -- a function that had no memory for the call
-had_none : (line : Line) (rest : List Line) (s : State) (app : ℕ) (r : Result StepDone CommitFault) (left : List Line) (t : State) → t ≡ s → refused s app (op_of line) ≡ None → may_want_memory (op_of line) ≡ true → Hears (line ∷ rest) (Err names.NoMemory) r left → Steps (line ∷ rest) s app r left t
-had_none line rest s app (Err fault.NoMemory) left t same none takes h = (h.0, same, (none, rw takes refl))
-had_none line rest s app (Ok d) left t same none takes h = let y : told fault.NoMemory ≡ Ok d = ap (λ p. p.0) h in absurd cc
-had_none line rest s app (Err (fault.Names f)) left t same none takes h = let y : told fault.NoMemory ≡ told (fault.Names f) = ap (λ p. p.0) h in absurd cc
-had_none line rest s app (Err fault.OutputMissing) left t same none takes h = let y : told fault.NoMemory ≡ told fault.OutputMissing = ap (λ p. p.0) h in absurd cc
-had_none line rest s app (Err fault.DestinationExists) left t same none takes h = let y : told fault.NoMemory ≡ told fault.DestinationExists = ap (λ p. p.0) h in absurd cc
-had_none line rest s app (Err fault.Over) left t same none takes h = let y : told fault.NoMemory ≡ told fault.Over = ap (λ p. p.0) h in absurd cc
+had_none : (line : Line) (rest : List Line) (s : State) (caller : Caller) (r : Result StepDone CommitFault) (left : List Line) (t : State) → t ≡ s → refused s caller (op_of line) ≡ None → may_want_memory (op_of line) ≡ true → Hears (line ∷ rest) (Err names.NoMemory) r left → Steps (line ∷ rest) s caller r left t
+had_none line rest s caller (Err fault.NoMemory) left t same none takes h = (h.0, same, (none, rw takes refl))
+had_none line rest s caller (Ok d) left t same none takes h = let y : told fault.NoMemory ≡ Ok d = ap (λ p. p.0) h in absurd cc
+had_none line rest s caller (Err (fault.Names f)) left t same none takes h = let y : told fault.NoMemory ≡ told (fault.Names f) = ap (λ p. p.0) h in absurd cc
+had_none line rest s caller (Err fault.OutputMissing) left t same none takes h = let y : told fault.NoMemory ≡ told fault.OutputMissing = ap (λ p. p.0) h in absurd cc
+had_none line rest s caller (Err fault.DestinationExists) left t same none takes h = let y : told fault.NoMemory ≡ told fault.DestinationExists = ap (λ p. p.0) h in absurd cc
+had_none line rest s caller (Err fault.Over) left t same none takes h = let y : told fault.NoMemory ≡ told fault.Over = ap (λ p. p.0) h in absurd cc
 
-pub step_from_took : (lines : List Line) (s : State) (app : ℕ) (call : Op) (answer : Result Answer NameFault) (r : Result StepDone CommitFault) (left : List Line) (t : State) → next_call lines ≡ Some call → Made s app call answer t → Hears lines answer r left → Steps lines s app r left t
-step_from_took [] s app call answer r left t is m h = absurd cc
-step_from_took (line ∷ rest) s app call answer r left t is m h = by call (let y : op_of line ≡ call = cc in y) m
+pub step_from_took : (lines : List Line) (s : State) (caller : Caller) (call : Op) (answer : Result Answer NameFault) (r : Result StepDone CommitFault) (left : List Line) (t : State) → next_call lines ≡ Some call → Made s caller call answer t → Hears lines answer r left → Steps lines s caller r left t
+step_from_took [] s caller call answer r left t is m h = absurd cc
+step_from_took (line ∷ rest) s caller call answer r left t is m h = by call (let y : op_of line ≡ call = cc in y) m
   where
-    by : (call : Op) → op_of line ≡ call → Made s app call answer t → Steps (line ∷ rest) s app r left t
-    by call e (as_call made own) = as_called line rest s app answer r left t (rw e made) own h
-    by call e (no_memory want same none takes) = had_none line rest s app r left t same (rw e none) (rw e takes) (rw (← want) h)
+    by : (call : Op) → op_of line ≡ call → Made s caller call answer t → Steps (line ∷ rest) s caller r left t
+    by call e (as_call made own) = as_called line rest s caller answer r left t (rw e made) own h
+    by call e (no_memory want same none takes) = had_none line rest s caller r left t same (rw e none) (rw e takes) (rw (← want) h)

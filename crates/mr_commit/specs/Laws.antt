@@ -2,6 +2,7 @@
 use Rattle.std.specs.Prelude.{◌≡◌, ℕ, false, List, ◌++◌, None, Result, Ok}
 use Rattle.mr_ids.specs.Attempt.{Attempt}
 use Rattle.mr_paths.specs.Layout.{task_attempt, committed}
+use Rattle.mr_names.specs.declared.op.Caller.{Caller}
 use Rattle.mr_names.specs.Content.{Content, IsTree, within}
 use Rattle.mr_names.specs.Held.{node_at}
 use Rattle.mr_names.specs.Calls.{State}
@@ -13,11 +14,11 @@ use Rattle.mr_commit.specs.Whole.{LeadsTo, whole}
 
 -- steps lead to one answer and one namespace
 abbrev pub OneResult : Type 0
-OneResult = (lines : List Line) (s t u : State) (app : ℕ) (r q : Result (Unit {0}) CommitFault) → LeadsTo lines s app r t → LeadsTo lines s app q u → ◌≡◌ {A = Result (Unit {0}) CommitFault × State} (r, t) (q, u)
+OneResult = (lines : List Line) (s t u : State) (caller : Caller) (r q : Result (Unit {0}) CommitFault) → LeadsTo lines s caller r t → LeadsTo lines s caller q u → ◌≡◌ {A = Result (Unit {0}) CommitFault × State} (r, t) (q, u)
 
 -- the steps of a table lead somewhere, and that is what a whole form gives
 abbrev pub WholeFormsEnd : Type 0
-WholeFormsEnd = (lines : List Line) (s : State) (app : ℕ) → Settles lines → LeadsTo lines s app (whole lines s app).0 (whole lines s app).1
+WholeFormsEnd = (lines : List Line) (s : State) (caller : Caller) → Settles lines → LeadsTo lines s caller (whole lines s caller).0 (whole lines s caller).1
 
 pub record TablesSettle : Type 0 where
   pub setup : (dest : List (List ℕ)) (k : ℕ) → Settles (setup_job dest k)
@@ -32,5 +33,5 @@ pub record IsCommitted (dest : List (List ℕ)) (k : ℕ) (attempt : Attempt) (b
 
 -- a task commit that was answered
 abbrev pub TaskCommits : Type 0
-TaskCommits = (dest : List (List ℕ)) (k : ℕ) (attempt : Attempt) (s t : State) (app : ℕ) → IsTree s.content
-    → whole (commit_task dest k attempt) s app ≡ (Ok tt, t) → IsCommitted dest k attempt s.content t.content × (t.fence ≡ s.fence)
+TaskCommits = (dest : List (List ℕ)) (k : ℕ) (attempt : Attempt) (s t : State) (caller : Caller) → IsTree s.content
+    → whole (commit_task dest k attempt) s caller ≡ (Ok tt, t) → IsCommitted dest k attempt s.content t.content × (t.fence ≡ s.fence)

@@ -91,6 +91,7 @@ answered (MergesTasks from to) a = Ok (map (merging_task from to) (filter is_tas
 abbrev pub fault_of : NameFault → CommitFault
 fault_of names.NoMemory = fault.NoMemory
 fault_of (names.Superseded fence) = fault.Names (names.Superseded fence)
+fault_of names.Barred = fault.Names names.Barred
 fault_of names.Missing = fault.Names names.Missing
 fault_of names.Exists = fault.Names names.Exists
 fault_of names.NotDir = fault.Names names.NotDir

@@ -25,6 +25,7 @@ RaisesBy (op.Rename from to) = length to ≤ length from
 RaisesBy (op.List path) = Unit {0}
 RaisesBy (op.Exists path) = Unit {0}
 RaisesBy (op.Read path) = Unit {0}
+RaisesBy (op.Bar a) = Unit {0}
 RaisesBy (op.Mkdirs path) = ⊥
 RaisesBy (op.Create path closed) = ⊥
 RaisesBy (op.Append path bytes) = ⊥

@@ -1,5 +1,6 @@
 -- A step value is the lines of its table that are left: what is called next, and what becomes of the answer.
 use Rattle.std.specs.Prelude.{◌≡◌, ℕ, true, List, [], ◌∷◌, ◌++◌, Option, Some, None, Result, Ok, Err}
+use Rattle.mr_names.specs.declared.op.Caller.{Caller}
 use Rattle.mr_names.specs.Calls.{State, call_of, refused}
 use Rattle.mr_names.specs.declared.fault.NameFault.{NameFault}
 use Rattle.mr_names.specs.declared.fault.NameFault.TheVariants as names
@@ -33,9 +34,9 @@ heard [] answer = (Err fault.Over, [])
 heard (line ∷ rest) answer = after line rest (replaced line answer)
 
 -- the next call is made, and its answer heard
-abbrev pub step_of : List Line → State → ℕ → (Result StepDone CommitFault × List Line) × State
-step_of [] s app = ((Err fault.Over, []), s)
-step_of (line ∷ rest) s app = (heard (line ∷ rest) (call_of s app (op_of line)).0, (call_of s app (op_of line)).1)
+abbrev pub step_of : List Line → State → Caller → (Result StepDone CommitFault × List Line) × State
+step_of [] s caller = ((Err fault.Over, []), s)
+step_of (line ∷ rest) s caller = (heard (line ∷ rest) (call_of s caller (op_of line)).0, (call_of s caller (op_of line)).1)
 
 -- ---- what a function does
 
@@ -59,11 +60,11 @@ Hears lines answer (Err fault.NoMemory) left = (left ≡ lines) × MayWantOn lin
 Hears lines answer r left = heard lines answer ≡ (r, left)
 
 -- there may be want of memory at the next line: its call is not refused
-abbrev pub MayWant : List Line → State → ℕ → Type 0
-MayWant [] s app = ⊥
-MayWant (line ∷ rest) s app = (refused s app (op_of line) ≡ None) × (wants_memory line ≡ true)
+abbrev pub MayWant : List Line → State → Caller → Type 0
+MayWant [] s caller = ⊥
+MayWant (line ∷ rest) s caller = (refused s caller (op_of line) ≡ None) × (wants_memory line ≡ true)
 
 -- a function made the step, or there was no memory for it, and all is as it was
-abbrev pub Steps : List Line → State → ℕ → Result StepDone CommitFault → List Line → State → Type 0
-Steps lines s app (Err fault.NoMemory) left t = (left ≡ lines) × (t ≡ s) × MayWant lines s app
-Steps lines s app r left t = step_of lines s app ≡ ((r, left), t)
+abbrev pub Steps : List Line → State → Caller → Result StepDone CommitFault → List Line → State → Type 0
+Steps lines s caller (Err fault.NoMemory) left t = (left ≡ lines) × (t ≡ s) × MayWant lines s caller
+Steps lines s caller r left t = step_of lines s caller ≡ ((r, left), t)

@@ -1,5 +1,5 @@
 -- The line that a line of the code is.
-use Rattle.std.specs.Prelude.{ℕ, List}
+use Rattle.std.specs.Prelude.{ℕ, List, []}
 use Rattle.mr_names.specs.declared.op.Op.{Op}
 use Rattle.mr_names.specs.declared.op.Op.TheVariants as op
 use Rattle.mr_commit.specs.declared.line.TableLine.TheInside.{Inside}
@@ -8,7 +8,7 @@ use Rattle.mr_commit.specs.declared.line.Rule.TheVariants as rule
 use Rattle.mr_commit.specs.Line.{Line}
 use Rattle.mr_commit.specs.Line.Line.{Does, Clears, Needs, Merges, MergesEach, MergesTasks}
 
--- the path of a call
+-- the path of a call. A bar has none
 abbrev pub path_of : Op → List (List ℕ)
 path_of (op.Mkdirs path) = path
 path_of (op.Create path closed) = path
@@ -19,6 +19,7 @@ path_of (op.Rename from to) = from
 path_of (op.List path) = path
 path_of (op.Exists path) = path
 path_of (op.Read path) = path
+path_of (op.Bar a) = []
 
 abbrev pub line_by : Op → Rule → Line
 line_by call rule.Plain = Does call

@@ -1,10 +1,10 @@
 -- The committer effect: the calls of a table made in order until it is over.
-use Rattle.std.specs.Prelude.{◌≡◌, ℕ, zero, suc, ◌+◌, ◌-◌, ◌*◌, ◌⊎◌, Bool, true, false, List, [], ◌∷◌, length, max, Option, Some, None, Result, Ok, Err, is_some, nat_lt}
+use Rattle.std.specs.Prelude.{◌≡◌, ℕ, zero, suc, ◌+◌, ◌-◌, ◌*◌, ◌⊎◌, Bool, true, false, List, [], ◌∷◌, length, max, Option, Some, None, Result, Ok, Err, is_some}
 use Rattle.std.specs.FinMap as finite
+use Rattle.mr_names.specs.declared.op.Caller.{Caller}
 use Rattle.mr_names.specs.Content.{Content}
-use Rattle.mr_names.specs.Calls.{State, call_of}
+use Rattle.mr_names.specs.Calls.{State, call_of, unheard}
 use Rattle.mr_names.specs.declared.fault.NameFault.{NameFault}
-use Rattle.mr_names.specs.declared.fault.NameFault.TheVariants as names
 use Rattle.mr_names.specs.declared.node.Kind.{Kind}
 use Rattle.mr_names.specs.declared.op.Answer.{Answer}
 use Rattle.mr_names.specs.declared.op.Op.TheVariants as op
@@ -21,34 +21,34 @@ use Rattle.mr_commit.specs.Steps.{step_of, MayWant}
 -- ---- where steps lead
 
 -- Steps lead from some lines and a namespace to others: none yet, or one more that was not the last.
-pub data Reaches (app : ℕ) (lines : List Line) (s : State) : List Line → State → Type 0 where
-  none_yet : Reaches app lines s lines s
-  one_more : (mid left : List Line) (u t : State) → Reaches app lines s mid u → step_of mid u app ≡ ((Ok done.More, left), t) → Reaches app lines s left t
+pub data Reaches (caller : Caller) (lines : List Line) (s : State) : List Line → State → Type 0 where
+  none_yet : Reaches caller lines s lines s
+  one_more : (mid left : List Line) (u t : State) → Reaches caller lines s mid u → step_of mid u caller ≡ ((Ok done.More, left), t) → Reaches caller lines s left t
 
 -- the last step
-abbrev pub Ends : List Line → State → ℕ → Result (Unit {0}) CommitFault → State → Type 0
-Ends mid u app (Ok x) t = (left : List Line) × (step_of mid u app ≡ ((Ok done.Finished, left), t))
-Ends mid u app (Err f) t = (left : List Line) × (step_of mid u app ≡ ((Err f, left), t))
+abbrev pub Ends : List Line → State → Caller → Result (Unit {0}) CommitFault → State → Type 0
+Ends mid u caller (Ok x) t = (left : List Line) × (step_of mid u caller ≡ ((Ok done.Finished, left), t))
+Ends mid u caller (Err f) t = (left : List Line) × (step_of mid u caller ≡ ((Err f, left), t))
 
 -- All steps lead to an answer and a namespace: the committer effect.
-abbrev pub LeadsTo : List Line → State → ℕ → Result (Unit {0}) CommitFault → State → Type 0
-LeadsTo lines s app r t = (mid : List Line) × (u : State) × Reaches app lines s mid u × Ends mid u app r t
+abbrev pub LeadsTo : List Line → State → Caller → Result (Unit {0}) CommitFault → State → Type 0
+LeadsTo lines s caller r t = (mid : List Line) × (u : State) × Reaches caller lines s mid u × Ends mid u caller r t
 
 -- Some steps were made, and the line that is next may want memory: for its call, which is not refused, or for the
 -- lines that follow.
-abbrev pub WantsAmid : List Line → State → ℕ → State → Type 0
-WantsAmid lines s app t = (mid : List Line) × Reaches app lines s mid t × MayWant mid t app
+abbrev pub WantsAmid : List Line → State → Caller → State → Type 0
+WantsAmid lines s caller t = (mid : List Line) × Reaches caller lines s mid t × MayWant mid t caller
 
 -- All steps were made, or some and then there was no memory for the next one.
-abbrev pub Finishes : List Line → State → ℕ → Result (Unit {0}) CommitFault → State → Type 0
-Finishes lines s app (Err fault.NoMemory) t = WantsAmid lines s app t
-Finishes lines s app r t = LeadsTo lines s app r t
+abbrev pub Finishes : List Line → State → Caller → Result (Unit {0}) CommitFault → State → Type 0
+Finishes lines s caller (Err fault.NoMemory) t = WantsAmid lines s caller t
+Finishes lines s caller r t = LeadsTo lines s caller r t
 
--- A whole form finishes the lines of its table. Where it had no memory for these lines themselves, its caller is not
--- superseded and the namespace is as it was.
-abbrev pub Commits : List Line → State → ℕ → Result (Unit {0}) CommitFault → State → Type 0
-Commits lines s app (Err fault.NoMemory) t = ((nat_lt app s.fence ≡ false) × (t ≡ s)) ⊎ WantsAmid lines s app t
-Commits lines s app r t = LeadsTo lines s app r t
+-- A whole form finishes the lines of its table. Where it had no memory for these lines themselves, its caller is neither
+-- superseded nor barred and the namespace is as it was.
+abbrev pub Commits : List Line → State → Caller → Result (Unit {0}) CommitFault → State → Type 0
+Commits lines s caller (Err fault.NoMemory) t = ((unheard s caller ≡ None) × (t ≡ s)) ⊎ WantsAmid lines s caller t
+Commits lines s caller r t = LeadsTo lines s caller r t
 
 -- ---- the same as a function
 
@@ -86,22 +86,18 @@ going_on (Ok done.Finished) left t on = (Ok tt, t)
 going_on (Err f) left t on = (Err f, t)
 
 -- at most n calls. No table gets to the first equation
-unfoldable pub run : ℕ → List Line → State → ℕ → Result (Unit {0}) CommitFault × State
-run zero lines s app = (Err fault.Over, s)
-run (suc n) lines s app = going_on (step_of lines s app).0.0 (step_of lines s app).0.1 (step_of lines s app).1 (λ left t. run n left t app)
+unfoldable pub run : ℕ → List Line → State → Caller → Result (Unit {0}) CommitFault × State
+run zero lines s caller = (Err fault.Over, s)
+run (suc n) lines s caller = going_on (step_of lines s caller).0.0 (step_of lines s caller).0.1 (step_of lines s caller).1 (λ left t. run n left t caller)
 
 -- the answer of a whole form and the namespace after it
-abbrev pub whole : List Line → State → ℕ → Result (Unit {0}) CommitFault × State
-whole lines s app = run (most_calls (finite.len s.content) (deepest s.content) lines) lines s app
+abbrev pub whole : List Line → State → Caller → Result (Unit {0}) CommitFault × State
+whole lines s caller = run (most_calls (finite.len s.content) (deepest s.content) lines) lines s caller
 
 -- A whole form has its effect, but for want of memory.
-abbrev pub HasEffect : List Line → State → ℕ → Result (Unit {0}) CommitFault → State → Type 0
-HasEffect lines s app (Err fault.NoMemory) t = Unit {0}
-HasEffect lines s app r t = whole lines s app ≡ (r, t)
-
--- the fault of a caller below the fence
-abbrev pub IsSuperseded : ℕ → ℕ → CommitFault → Type 0
-IsSuperseded app fence f = (nat_lt app fence ≡ true) × (f ≡ fault.Names (names.Superseded fence))
+abbrev pub HasEffect : List Line → State → Caller → Result (Unit {0}) CommitFault → State → Type 0
+HasEffect lines s caller (Err fault.NoMemory) t = Unit {0}
+HasEffect lines s caller r t = whole lines s caller ≡ (r, t)
 
 -- ---- two calls that look
 
@@ -110,9 +106,9 @@ abbrev pub has_output : Result Answer NameFault → Result Bool CommitFault
 has_output (Ok a) = Ok (is_some (found a))
 has_output (Err f) = Err (fault_of f)
 
-abbrev pub NeedsTaskCommit : List (List ℕ) → Attempt → State → ℕ → Result Bool CommitFault → Type 0
-NeedsTaskCommit dest attempt s app (Err fault.NoMemory) = nat_lt app s.fence ≡ false
-NeedsTaskCommit dest attempt s app r = r ≡ has_output (call_of s app (op.Exists (task_attempt dest app attempt))).0
+abbrev pub NeedsTaskCommit : List (List ℕ) → Attempt → State → Caller → Result Bool CommitFault → Type 0
+NeedsTaskCommit dest attempt s caller (Err fault.NoMemory) = unheard s caller ≡ None
+NeedsTaskCommit dest attempt s caller r = r ≡ has_output (call_of s caller (op.Exists (task_attempt dest caller.app attempt))).0
 
 -- a destination that is there already is refused
 abbrev pub absent_by : Option Kind → Result (Unit {0}) CommitFault
@@ -123,5 +119,5 @@ abbrev pub absent : Result Answer NameFault → Result (Unit {0}) CommitFault
 absent (Ok a) = absent_by (found a)
 absent (Err f) = Err (fault_of f)
 
-abbrev pub checked : List (List ℕ) → State → ℕ → Result (Unit {0}) CommitFault
-checked dest s app = absent (call_of s app (op.Exists dest)).0
+abbrev pub checked : List (List ℕ) → State → Caller → Result (Unit {0}) CommitFault
+checked dest s caller = absent (call_of s caller (op.Exists dest)).0

@@ -1,5 +1,5 @@
-ghost use Rattle.std.specs.Prelude.{◌≡◌, OnOk, IfErr, nat_lt, true, false};
-ghost use Rattle.mr_commit.specs.Whole.{IsSuperseded};
+ghost use Rattle.std.specs.Prelude.{◌≡◌, OnOk, IfOk, IfErr, None, Some};
+ghost use Rattle.mr_names.specs.Calls.{unheard};
 ghost use Rattle.mr_commit.specs.Whole.{NeedsTaskCommit, checked};
 
 use crate::fault::CommitFault;
@@ -16,10 +16,10 @@ pub fn needs_task_commit(
     layout: &Layout,
     attempt: AttemptId,
 ) -> Result<bool, CommitFault>
-    ensures { NeedsTaskCommit layout.now.dest attempt names.now caller.app result }
+    ensures { NeedsTaskCommit layout.now.dest attempt names.now caller result }
 {
-    check_heard(names.fence(), caller.app)?;
-    let path = layout.task_attempt(caller.app, attempt)?;
+    let k = heard_generation(names, &caller)?;
+    let path = layout.task_attempt(k, attempt)?;
     Ok(names.exists(caller, &path)?.is_some())
 }
 
@@ -27,7 +27,7 @@ pub fn needs_task_commit(
 ///
 /// One call, `exists` of the destination. It takes no memory.
 pub fn check_output(names: &Namespace, caller: Caller, layout: &Layout) -> Result<(), CommitFault>
-    ensures { result ≡ checked layout.now.dest names.now caller.app }
+    ensures { result ≡ checked layout.now.dest names.now caller }
 {
     match names.exists(caller, &layout.dest)? {
         None => Ok(()),
@@ -35,14 +35,12 @@ pub fn check_output(names: &Namespace, caller: Caller, layout: &Layout) -> Resul
     }
 }
 
-/// Refuses a caller below the fence: that comes first, also where there is no memory.
-pub fn check_heard(fence: u32, app: AppAttempt) -> Result<(), CommitFault>
-    ensures heard { OnOk result (nat_lt app fence ≡ false) }
-    ensures superseded { IfErr result (λ f. IsSuperseded app fence f) }
+/// The caller's generation. That a caller is superseded or barred comes first, also where there is no memory.
+pub fn heard_generation(names: &Namespace, caller: &Caller) -> Result<AppAttempt, NameFault>
+    ensures heard { OnOk result (unheard names.now caller.now ≡ None) }
+    ensures generation { IfOk result (λ k. k ≡ caller.now.app) }
+    ensures unheard { IfErr result (λ why. unheard names.now caller.now ≡ Some why) }
 {
-    if app.number() < fence {
-        Err(CommitFault::Names(NameFault::Superseded(fence)))
-    } else {
-        Ok(())
-    }
+    names.check_caller(*caller)?;
+    Ok(caller.app)
 }

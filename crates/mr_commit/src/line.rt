@@ -65,6 +65,7 @@ fn copy_op(op: &Op) -> Result<Op, AllocError>
         Op::List(path) => Op::List(path.copy()?),
         Op::Exists(path) => Op::Exists(path.copy()?),
         Op::Read(path) => Op::Read(path.copy()?),
+        Op::Bar(attempt) => Op::Bar(*attempt),
     })
 }
 

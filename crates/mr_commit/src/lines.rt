@@ -1,4 +1,4 @@
-ghost use Rattle.std.specs.Prelude.{◌≡◌, [], ◌∷◌, ◌++◌, IfOk, OnOk, OnErr, length, drop, ◌<◌, nat_lt, false};
+ghost use Rattle.std.specs.Prelude.{◌≡◌, [], ◌∷◌, ◌++◌, IfOk, OnOk, OnErr, length, drop, ◌<◌};
 ghost use Rattle.std.specs.Option.{option_copied};
 ghost use Rattle.mr_commit.specs.Settles.{Settles};
 ghost use Rattle.mr_commit.specs.Steps.{next_call, done_at, Hears, Steps};
@@ -105,7 +105,7 @@ impl Lines {
 
     /// Makes the next call, and hears its answer. After want of memory all is as before.
     pub fn next(&mut self, names: &mut Namespace, caller: Caller) -> Result<StepDone, CommitFault>
-        ensures { Steps self.old names.old caller.app result self.new names.new }
+        ensures { Steps self.old names.old caller result self.new names.new }
     {
         let Some(op) = self.call() else {
             return Err(CommitFault::Over);
@@ -118,9 +118,8 @@ impl Lines {
     /// that is next may want memory.
     pub fn finish(&mut self, names: &mut Namespace, caller: Caller) -> Result<(), CommitFault>
         requires settles { Settles self.old }
-        requires heard { nat_lt caller.app names.old.fence ≡ false }
-        ensures effect { HasEffect self.old names.old caller.app result names.new }
-        ensures made { Finishes self.old names.old caller.app result names.new }
+        ensures effect { HasEffect self.old names.old caller result names.new }
+        ensures made { Finishes self.old names.old caller result names.new }
     {
         'calls: while self.next(names, caller)? == StepDone::More {}
         Ok(())

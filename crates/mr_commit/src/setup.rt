@@ -4,7 +4,7 @@ ghost use Rattle.mr_commit.specs.Steps.{next_call, Hears, Steps};
 ghost use Rattle.mr_commit.specs.Whole.{Commits, HasEffect};
 ghost use Rattle.mr_commit.specs.Tables.{setup_job};
 
-use crate::checks::check_heard;
+use crate::checks::heard_generation;
 use crate::fault::{CommitFault, StepDone};
 use crate::line::TableLine;
 use crate::lines::Lines;
@@ -62,7 +62,7 @@ impl SetupJob {
     ///
     /// After `NoMemory` the step value and the namespace are as before.
     pub fn next(&mut self, names: &mut Namespace, caller: Caller) -> Result<StepDone, CommitFault>
-        ensures { Steps self.old names.old caller.app result self.new names.new }
+        ensures { Steps self.old names.old caller result self.new names.new }
     {
         self.lines.next(names, caller)
     }
@@ -80,11 +80,10 @@ impl SetupJob {
 ///
 /// After `NoMemory` nothing has changed.
 pub fn setup_job(names: &mut Namespace, caller: Caller, layout: &Layout) -> Result<(), CommitFault>
-    ensures effect { HasEffect (setup_job layout.now.dest caller.app) names.old caller.app result names.new }
-    ensures made { Commits (setup_job layout.now.dest caller.app) names.old caller.app result names.new }
+    ensures effect { HasEffect (setup_job layout.now.dest caller.app) names.old caller result names.new }
+    ensures made { Commits (setup_job layout.now.dest caller.app) names.old caller result names.new }
 {
-    let app = caller.app;
-    check_heard(names.fence(), app)?;
-    let mut step = SetupJob::new(layout, app)?;
+    let k = heard_generation(names, &caller)?;
+    let mut step = SetupJob::new(layout, k)?;
     step.lines.finish(names, caller)
 }

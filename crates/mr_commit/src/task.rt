@@ -4,7 +4,7 @@ ghost use Rattle.mr_commit.specs.Steps.{next_call, Hears, Steps};
 ghost use Rattle.mr_commit.specs.Whole.{Commits, HasEffect};
 ghost use Rattle.mr_commit.specs.Tables.{commit_task};
 
-use crate::checks::check_heard;
+use crate::checks::heard_generation;
 use crate::fault::{CommitFault, StepDone};
 use crate::line::TableLine;
 use crate::lines::Lines;
@@ -70,7 +70,7 @@ impl CommitTask {
     ///
     /// After `NoMemory` the step value and the namespace are as before.
     pub fn next(&mut self, names: &mut Namespace, caller: Caller) -> Result<StepDone, CommitFault>
-        ensures { Steps self.old names.old caller.app result self.new names.new }
+        ensures { Steps self.old names.old caller result self.new names.new }
     {
         self.lines.next(names, caller)
     }
@@ -94,11 +94,10 @@ pub fn commit_task(
     layout: &Layout,
     attempt: AttemptId,
 ) -> Result<(), CommitFault>
-    ensures effect { HasEffect (commit_task layout.now.dest caller.app attempt) names.old caller.app result names.new }
-    ensures made { Commits (commit_task layout.now.dest caller.app attempt) names.old caller.app result names.new }
+    ensures effect { HasEffect (commit_task layout.now.dest caller.app attempt) names.old caller result names.new }
+    ensures made { Commits (commit_task layout.now.dest caller.app attempt) names.old caller result names.new }
 {
-    let app = caller.app;
-    check_heard(names.fence(), app)?;
-    let mut step = CommitTask::new(layout, app, attempt)?;
+    let k = heard_generation(names, &caller)?;
+    let mut step = CommitTask::new(layout, k, attempt)?;
     step.lines.finish(names, caller)
 }

@@ -15,8 +15,8 @@ use Rattle.mr_names.specs.declared.namespace.TheConstants.{MAX_FILE_LEN}
 use Rattle.mr_names.specs.Node.{appended, closed_of}
 use Rattle.mr_names.specs.Content.{Content, IsTree, is_path, without, without_one, within, changed_at, changed_by}
 use Rattle.mr_names.specs.Held.{node_at, is_absent, is_file, is_dir, is_closed, bytes_of}
-use Rattle.mr_names.specs.Calls.{refusal, refused, effect, settled, first_of}
-use Rattle.mr_names.specs.Laws.{EachPath, MadeThere, CreatedThere, AppendedThere, ClosedThere, DeletedThere, RenamedThere, RenamedAway, OthersStay, OnlyMakersMake, DirsStay, ClosedFilesStay, NothingBeneath, FilesAreLeaves, MayMkdirs, MayCreate, IsOpenFile, MayAppend, MayDelete, MayRename, AnsweredOnly, AnsweredAlways, BelowTheFence, AtTheFence, AnsweredAtTheFence, RefusedStays, AnsweredIsMade, FenceStays, TreeStays, SoundStays}
+use Rattle.mr_names.specs.Calls.{refusal, effect, first_of}
+use Rattle.mr_names.specs.Laws.{EachPath, MadeThere, CreatedThere, AppendedThere, ClosedThere, DeletedThere, RenamedThere, RenamedAway, OthersStay, OnlyMakersMake, DirsStay, ClosedFilesStay, NothingBeneath, FilesAreLeaves, MayMkdirs, MayCreate, IsOpenFile, MayAppend, MayDelete, MayRename, AnsweredOnly, AnsweredAlways}
 use Rattle.mr_names.proofs.ContentLaws.{same_path, same_itself, get-without, get-renamed, get-renamed-outside, nothing_within, above_is_dir}
 use Rattle.mr_names.proofs.TreeLaws.{row_passes, present, absent, is_there, nonempty, get-made, tree_effect, parent-push, Pushed, front_and_last, any_at, list_any-prefixes}
 
@@ -104,6 +104,7 @@ answered_only c (op.List path) passed =
     let b = row_passes _ _ _ a.1 in
     present _ a.0 b.0
 answered_only c (op.Exists path) passed = tt
+answered_only c (op.Bar a) passed = tt
 answered_only c (op.Read path) passed =
     let a = row_passes _ _ _ passed in
     let b = row_passes _ _ _ a.1 in
@@ -124,6 +125,7 @@ each_path c (op.Rename from to) q tree none = get-renamed from to c q (nothing_w
 each_path c (op.List path) q tree none = refl
 each_path c (op.Exists path) q tree none = refl
 each_path c (op.Read path) q tree none = refl
+each_path c (op.Bar a) q tree none = refl
 
 -- ---- the same, where a call was made
 
@@ -199,6 +201,7 @@ others_stay c (op.Rename from to) q apart =
 others_stay c (op.List path) q apart = refl
 others_stay c (op.Exists path) q apart = refl
 others_stay c (op.Read path) q apart = refl
+others_stay c (op.Bar a) q apart = refl
 
 still_none : (b : Bool) (f : Node → Node) (o : Option Node) → o ≡ None → cond b (option_map f o) o ≡ None
 still_none true f o e = rw e refl
@@ -220,6 +223,7 @@ only_makers_make c (op.Rename from to) q tree passed apart none =
 only_makers_make c (op.List path) q tree passed apart none = none
 only_makers_make c (op.Exists path) q tree passed apart none = none
 only_makers_make c (op.Read path) q tree passed apart none = none
+only_makers_make c (op.Bar a) q tree passed apart none = none
 
 -- what stands stays as it is where nothing is taken, appended or closed
 
@@ -258,6 +262,7 @@ dirs_stay c (op.Rename from to) q tree passed kept dir = renamed_kept c from to 
 dirs_stay c (op.List path) q tree passed kept dir = dir
 dirs_stay c (op.Exists path) q tree passed kept dir = dir
 dirs_stay c (op.Read path) q tree passed kept dir = dir
+dirs_stay c (op.Bar a) q tree passed kept dir = dir
 
 closed_kept : (c : Content) (path q : List (List ℕ)) (f : Node → Node) (bytes : List ℕ) → is_closed (finite.get c path) ≡ false → finite.get c q ≡ Some (File bytes true) → finite.get (changed_at c path f) q ≡ Some (File bytes true)
 closed_kept c path q f bytes free file = get-changed c path f q ∙ by (is_path q path) refl
@@ -280,6 +285,7 @@ closed_files_stay c (op.Rename from to) q bytes tree passed kept file = renamed_
 closed_files_stay c (op.List path) q bytes tree passed kept file = file
 closed_files_stay c (op.Exists path) q bytes tree passed kept file = file
 closed_files_stay c (op.Read path) q bytes tree passed kept file = file
+closed_files_stay c (op.Bar a) q bytes tree passed kept file = file
 
 -- ---- the tree
 
@@ -354,43 +360,7 @@ answered_always c (op.Rename from to) tree may =
 answered_always c (op.List path) tree may = let dir : node_at c path ≡ Some Dir = may in rw dir refl
 answered_always c (op.Exists path) tree may = refl
 answered_always c (op.Read path) tree may = reads (finite.get c path) may
-
--- ---- the fence and the answer
-
-pub refused_stays : RefusedStays
-refused_stays s app call why is = rw is refl
-
-pub answered_is_made : AnsweredIsMade
-answered_is_made s app call passed = rw passed refl
-
-pub below_the_fence : BelowTheFence
-below_the_fence s app call low = let out : refused s app call ≡ Some (fault.Superseded s.fence) = rw (lt-ltb app s.fence low) refl in rw out refl
-
-pub at_the_fence : AtTheFence
-at_the_fence s app call high = rw (le-ltb app s.fence high) refl
-
-pub answered_at_the_fence : AnsweredAtTheFence
-answered_at_the_fence s app call passed = ltb-false app s.fence (row_passes (nat_lt app s.fence) _ _ passed).0
-
-pub fence_stays : FenceStays
-fence_stays s app call = by (refused s app call)
-  where
-    by : (o : Option NameFault) → (settled o s call).1.fence ≡ s.fence
-    by None = refl
-    by (Some why) = refl
-
-pub tree_stays : TreeStays
-tree_stays s app call tree = by (refused s app call) refl
-  where
-    by : (o : Option NameFault) → refused s app call ≡ o → IsTree (settled o s call).1.content
-    by None passed = tree_effect s.content call tree (row_passes (nat_lt app s.fence) _ _ passed).1
-    by (Some why) is = tree
-
-pub sound_stays : SoundStays
-sound_stays s app call sound = record {
-  tree = tree_stays s app call sound.tree;
-  fence = subst (λ f. f ≤ 1000) (sym (fence_stays s app call)) sound.fence;
-}
+answered_always c (op.Bar a) tree may = refl
 
 -- ---- a file taken out
 

@@ -1,4 +1,7 @@
+pub mod BarredSets
 pub mod CallLaws
+pub mod CallerLaws
+pub mod Callers
 pub mod ContentLaws
 pub mod ListingLaws
 pub mod Moving

@@ -10,12 +10,13 @@ use Rattle.mr_paths.proofs.Paths.{strip-append, append-strip}
 use Rattle.mr_names.specs.declared.node.Node.{Node}
 use Rattle.mr_names.specs.declared.node.Node.TheVariants.{Dir, File}
 use Rattle.mr_names.specs.declared.fault.NameFault.{NameFault}
+use Rattle.mr_names.specs.declared.op.Caller.{Caller}
 use Rattle.mr_names.specs.declared.op.Op.{Op}
 use Rattle.mr_names.specs.declared.op.Op.TheVariants as op
 use Rattle.mr_names.specs.Node.{appended, closed_of}
 use Rattle.mr_names.specs.Content.{Content, IsTree, without, with_all, renamed, renamed_at, renamed_at_by, within, changed_at, changed_by}
 use Rattle.mr_names.specs.Held.{node_at, is_absent, is_file}
-use Rattle.mr_names.specs.Calls.{State, missing, refusal, refused, effect}
+use Rattle.mr_names.specs.Calls.{State, missing, refusal, passes_limit, unheard, refused, effect}
 use Rattle.mr_names.proofs.ContentLaws.{same, same_or_not, same_path, get_written, get_kept, get-without, get-with_all, last_at, get-renamed, nothing_within}
 
 -- ---- a path and its last name
@@ -287,14 +288,20 @@ tree_effect c (op.Rename from to) tree none =
 tree_effect c (op.List path) tree none = tree
 tree_effect c (op.Exists path) tree none = tree
 tree_effect c (op.Read path) tree none = tree
+tree_effect c (op.Bar a) tree none = tree
 
--- past the fence the call's own refusal is left
-pub past_fence : (s : State) (app : ℕ) (call : Op) → refused s app call ≡ None → refusal s.content call ≡ None
-past_fence s app call none = (row_passes (nat_lt app s.fence) _ _ none).1
+-- what is refused by neither passes both
+pub neither : (o p : Option NameFault) → option_or o p ≡ None → (o ≡ None) × (p ≡ None)
+neither None p e = (refl, e)
+neither (Some f) p e = absurd (cc)
+
+-- once its caller is heard, the call's own refusal is left
+pub past_caller : (s : State) (caller : Caller) (call : Op) → refused s caller call ≡ None → refusal s.content call ≡ None
+past_caller s caller call none = (row_passes (passes_limit s.barred call) _ _ (neither (unheard s caller) _ none).1).1
 
 -- what a call that is not refused leaves, seen at the content alone
-pub tree_after : (s : State) (app : ℕ) (call : Op) (new : Content) → refused s app call ≡ None → IsTree s.content → new ≡ effect s.content call → IsTree new
-tree_after s app call new none tree is = subst IsTree (sym is) (tree_effect s.content call tree (past_fence s app call none))
+pub tree_after : (s : State) (caller : Caller) (call : Op) (new : Content) → refused s caller call ≡ None → IsTree s.content → new ≡ effect s.content call → IsTree new
+tree_after s caller call new none tree is = subst IsTree (sym is) (tree_effect s.content call tree (past_caller s caller call none))
 
 -- the root alone
 pub tree_root : IsTree (finite.insert finite.empty [] Dir)

@@ -1,10 +1,11 @@
 -- Laws of the namespace's calls, for whoever reasons on them without their definitions.
-use Rattle.std.specs.Prelude.{◌≡◌, ◌≢◌, ◌≤◌, ◌<◌, ◌+◌, ℕ, Bool, true, false, ◌||◌, ◌&&◌, List, [], ◌∷◌, ◌++◌, length, map, Option, Some, None, Ok, Err, is_some, if◌then◌else◌, nat_eq}
+use Rattle.std.specs.Prelude.{◌≡◌, ◌≢◌, ◌≤◌, ◌<◌, ◌+◌, ℕ, Bool, true, false, ◌||◌, ◌&&◌, ◌⊎◌, List, [], ◌∷◌, ◌++◌, length, map, Option, Some, None, Ok, Err, is_some, if◌then◌else◌, nat_eq}
 use Rattle.std.specs.Cmp.Lexicographic.{pointwise, slice_cmp}
 use Rattle.std.specs.Ordering.{nat_cmp}
 use Rattle.std.specs.List.{list_any}
 use Rattle.std.specs.List.Sorted.{IsStrictlySortedBy}
 use Rattle.std.specs.Option.{option_map}
+use Rattle.mr_ids.specs.Attempt.{Attempt}
 use Rattle.mr_paths.specs.Path.{parent, prefixes}
 use Rattle.mr_names.specs.declared.node.Node.{Node}
 use Rattle.mr_names.specs.declared.node.Node.TheVariants.{Dir, File}
@@ -12,6 +13,8 @@ use Rattle.mr_names.specs.declared.node.Kind.{Kind}
 use Rattle.mr_names.specs.declared.node.Entry.{Entry}
 use Rattle.mr_names.specs.declared.fault.NameFault.{NameFault}
 use Rattle.mr_names.specs.declared.fault.NameFault.TheVariants as fault
+use Rattle.mr_names.specs.declared.op.Answer.{Answer}
+use Rattle.mr_names.specs.declared.op.Caller.{Caller}
 use Rattle.mr_names.specs.declared.op.Op.{Op}
 use Rattle.mr_names.specs.declared.op.Op.TheVariants as op
 use Rattle.mr_names.specs.declared.namespace.TheConstants.{MAX_ENTRIES, MAX_FILE_LEN}
@@ -19,7 +22,8 @@ use Rattle.mr_names.specs.Node.{appended, closed_of, kind_of}
 use Rattle.mr_names.specs.Content.{Content, IsTree, is_path, without, renamed, renamed_at, within}
 use Rattle.mr_names.specs.Held.{node_at, is_absent, is_file, bytes_of}
 use Rattle.mr_names.specs.Listing.{children}
-use Rattle.mr_names.specs.Calls.{State, IsSound, opening, missing, entry_count, refusal, refused, effect, answer, call_of}
+use Rattle.mr_names.specs.Barred.{bars, is_barred}
+use Rattle.mr_names.specs.Calls.{State, IsSound, opening, raised, missing, entry_count, refusal, own_refusal, unheard, refused, effect, barred_after, answer, call_of}
 
 -- ---- what is found at each path
 
@@ -34,6 +38,7 @@ node_after c (op.Rename from to) q = renamed_at from to c q
 node_after c (op.List path) q = node_at c q
 node_after c (op.Exists path) q = node_at c q
 node_after c (op.Read path) q = node_at c q
+node_after c (op.Bar a) q = node_at c q
 
 abbrev pub EachPath : Type 0
 EachPath = (c : Content) (call : Op) (path : List (List ℕ)) → IsTree c → refusal c call ≡ None → node_at (effect c call) path ≡ node_after c call path
@@ -85,6 +90,7 @@ touches (op.Rename from to) q = within from q || within to q
 touches (op.List path) q = false
 touches (op.Exists path) q = false
 touches (op.Read path) q = false
+touches (op.Bar a) q = false
 
 -- of any content, whether the call is refused or not
 abbrev pub OthersStay : Type 0
@@ -101,6 +107,7 @@ makes (op.Rename from to) q = within to q
 makes (op.List path) q = false
 makes (op.Exists path) q = false
 makes (op.Read path) q = false
+makes (op.Bar a) q = false
 
 abbrev pub OnlyMakersMake : Type 0
 OnlyMakersMake = (c : Content) (call : Op) (path : List (List ℕ)) → IsTree c → refusal c call ≡ None → makes call path ≡ false
@@ -117,6 +124,7 @@ takes (op.Rename from to) q = within from q
 takes (op.List path) q = false
 takes (op.Exists path) q = false
 takes (op.Read path) q = false
+takes (op.Bar a) q = false
 
 abbrev pub DirsStay : Type 0
 DirsStay = (c : Content) (call : Op) (path : List (List ℕ)) → IsTree c → refusal c call ≡ None → takes call path ≡ false
@@ -144,7 +152,7 @@ NothingBeneath = (c : Content) (path rest : List (List ℕ)) → IsTree c → no
 abbrev pub FilesAreLeaves : Type 0
 FilesAreLeaves = (c : Content) (path rest : List (List ℕ)) (name : List ℕ) → IsTree c → is_file (node_at c path) ≡ true → node_at c (path ++ name ∷ rest) ≡ None
 
--- ---- when a call is answered, the fence aside
+-- ---- when a call is answered, the caller and the limit on barred attempts aside
 
 pub record MayMkdirs (c : Content) (path : List (List ℕ)) : Type 0 where
   pub no_file : list_any (λ p. is_file (node_at c p)) (prefixes path) ≡ false
@@ -182,6 +190,7 @@ MayMake c (op.Rename from to) = MayRename c from to
 MayMake c (op.List path) = node_at c path ≡ Some Dir
 MayMake c (op.Exists path) = Unit {0}
 MayMake c (op.Read path) = is_file (node_at c path) ≡ true
+MayMake c (op.Bar a) = Unit {0}
 
 abbrev pub AnsweredOnly : Type 0
 AnsweredOnly = (c : Content) (call : Op) → refusal c call ≡ None → MayMake c call
@@ -189,35 +198,104 @@ AnsweredOnly = (c : Content) (call : Op) → refusal c call ≡ None → MayMake
 abbrev pub AnsweredAlways : Type 0
 AnsweredAlways = (c : Content) (call : Op) → IsTree c → MayMake c call → refusal c call ≡ None
 
--- ---- the fence and the answer
+-- ---- the caller and the answer
 
 -- below the fence a caller is refused whatever it asks, and nothing changes
 abbrev pub BelowTheFence : Type 0
-BelowTheFence = (s : State) (app : ℕ) (call : Op) → app < s.fence → call_of s app call ≡ (Err (fault.Superseded s.fence), s)
+BelowTheFence = (s : State) (caller : Caller) (call : Op) → caller.app < s.fence → call_of s caller call ≡ (Err (fault.Superseded s.fence), s)
 
--- at the fence or above it the call's own refusal is left
-abbrev pub AtTheFence : Type 0
-AtTheFence = (s : State) (app : ℕ) (call : Op) → s.fence ≤ app → refused s app call ≡ refusal s.content call
+-- a caller whose attempt is barred is refused whatever it asks, and nothing changes
+abbrev pub BarredIsRefused : Type 0
+BarredIsRefused = (s : State) (caller : Caller) (call : Op) → s.fence ≤ caller.app → bars s.barred caller.attempt ≡ true → call_of s caller call ≡ (Err fault.Barred, s)
 
--- a call that is answered was not made below the fence
-abbrev pub AnsweredAtTheFence : Type 0
-AnsweredAtTheFence = (s : State) (app : ℕ) (call : Op) → refused s app call ≡ None → s.fence ≤ app
+-- a caller at the fence or above it whose attempt is not barred
+pub record IsHeard (s : State) (caller : Caller) : Type 0 where
+  pub high : s.fence ≤ caller.app
+  pub free : bars s.barred caller.attempt ≡ false
+
+-- of a caller that is heard the call's own refusal is left
+abbrev pub HeardHasItsOwn : Type 0
+HeardHasItsOwn = (s : State) (caller : Caller) (call : Op) → IsHeard s caller → refused s caller call ≡ own_refusal s call
+
+-- which callers are heard
+pub record HeardIs : Type 0 where
+  pub only : (s : State) (caller : Caller) → unheard s caller ≡ None → IsHeard s caller
+  pub always : (s : State) (caller : Caller) → IsHeard s caller → unheard s caller ≡ None
+  pub else_why : (s : State) (caller : Caller) (why : NameFault) → unheard s caller ≡ Some why → (why ≡ fault.Superseded s.fence) ⊎ (why ≡ fault.Barred)
+
+-- a call that is answered has a caller that is heard
+abbrev pub AnsweredIsHeard : Type 0
+AnsweredIsHeard = (s : State) (caller : Caller) (call : Op) → refused s caller call ≡ None → IsHeard s caller
+
+-- a call answers any two callers alike that are heard, and leaves the same
+abbrev pub HeardAlike : Type 0
+HeardAlike = (s : State) (one other : Caller) (call : Op) → IsHeard s one → IsHeard s other → call_of s one call ≡ call_of s other call
 
 abbrev pub RefusedStays : Type 0
-RefusedStays = (s : State) (app : ℕ) (call : Op) (why : NameFault) → refused s app call ≡ Some why → call_of s app call ≡ (Err why, s)
+RefusedStays = (s : State) (caller : Caller) (call : Op) (why : NameFault) → refused s caller call ≡ Some why → call_of s caller call ≡ (Err why, s)
 
 abbrev pub AnsweredIsMade : Type 0
-AnsweredIsMade = (s : State) (app : ℕ) (call : Op) → refused s app call ≡ None
-    → call_of s app call ≡ (Ok (answer s.content call), record s { content = effect s.content call })
+AnsweredIsMade = (s : State) (caller : Caller) (call : Op) → refused s caller call ≡ None
+    → call_of s caller call ≡ (Ok (answer s.content call), record s { content = effect s.content call; barred = barred_after s.barred call })
+
+-- a call that is answered is refused by nothing that the namespace holds
+abbrev pub AnsweredMayBeMade : Type 0
+AnsweredMayBeMade = (s : State) (caller : Caller) (call : Op) → refused s caller call ≡ None → refusal s.content call ≡ None
 
 abbrev pub FenceStays : Type 0
-FenceStays = (s : State) (app : ℕ) (call : Op) → (call_of s app call).1.fence ≡ s.fence
+FenceStays = (s : State) (caller : Caller) (call : Op) → (call_of s caller call).1.fence ≡ s.fence
 
 abbrev pub TreeStays : Type 0
-TreeStays = (s : State) (app : ℕ) (call : Op) → IsTree s.content → IsTree (call_of s app call).1.content
+TreeStays = (s : State) (caller : Caller) (call : Op) → IsTree s.content → IsTree (call_of s caller call).1.content
 
 abbrev pub SoundStays : Type 0
-SoundStays = (s : State) (app : ℕ) (call : Op) → IsSound s → IsSound (call_of s app call).1
+SoundStays = (s : State) (caller : Caller) (call : Op) → IsSound s → IsSound (call_of s caller call).1
+
+-- ---- bars
+
+-- the attempt that a call bars
+abbrev pub bar_of : Op → Option Attempt
+bar_of (op.Mkdirs path) = None
+bar_of (op.Create path closed) = None
+bar_of (op.Append path bytes) = None
+bar_of (op.Close path) = None
+bar_of (op.Delete path) = None
+bar_of (op.Rename from to) = None
+bar_of (op.List path) = None
+bar_of (op.Exists path) = None
+bar_of (op.Read path) = None
+bar_of (op.Bar a) = Some a
+
+-- who is barred stays so
+abbrev pub BarredGrow : Type 0
+BarredGrow = (s : State) (caller : Caller) (call : Op) (a : Attempt) → is_barred s.barred a ≡ true → is_barred (call_of s caller call).1.barred a ≡ true
+
+-- an attempt comes to be barred by its bar alone
+abbrev pub OnlyBarBars : Type 0
+OnlyBarBars = (s : State) (caller : Caller) (call : Op) (a : Attempt) → is_barred s.barred a ≡ false → is_barred (call_of s caller call).1.barred a ≡ true → bar_of call ≡ Some a
+
+-- a call that is no bar leaves the barred attempts as they are
+abbrev pub OthersBarNone : Type 0
+OthersBarNone = (s : State) (caller : Caller) (call : Op) → bar_of call ≡ None → (call_of s caller call).1.barred ≡ s.barred
+
+-- a bar leaves the content as it is
+abbrev pub BarKeepsContent : Type 0
+BarKeepsContent = (s : State) (caller : Caller) (a : Attempt) → (call_of s caller (op.Bar a)).1.content ≡ s.content
+
+-- a bar that was answered
+abbrev pub BarBars : Type 0
+BarBars = (s t : State) (caller : Caller) (a : Attempt) (said : Answer) → call_of s caller (op.Bar a) ≡ (Ok said, t) → is_barred t.barred a ≡ true
+
+-- one namespace comes of another: by calls, answered or refused, of any callers, and by raises of the fence
+pub data Becomes (s : State) : State → Type 0 where
+  at_once : Becomes s s
+  by_call : (t : State) (caller : Caller) (call : Op) → Becomes s t → Becomes s (call_of t caller call).1
+  by_raise : (t : State) (app : ℕ) → Becomes s t → Becomes s (raised t app)
+
+-- from a bar that was answered on, each call whose caller has that attempt is refused, and changes nothing
+abbrev pub BarredForGood : Type 0
+BarredForGood = (s t u : State) (by caller : Caller) (a : Attempt) (said : Answer) (call : Op) → call_of s by (op.Bar a) ≡ (Ok said, t) → Becomes t u → caller.attempt ≡ Some a
+    → (call_of u caller call ≡ (Err (fault.Superseded u.fence), u)) ⊎ (call_of u caller call ≡ (Err fault.Barred, u))
 
 -- ---- listings
 

@@ -7,3 +7,5 @@ pub mod Moving
 pub mod Node
 pub mod Rows
 pub mod Walk
+pub mod Attempts
+pub mod Barred

@@ -10,6 +10,9 @@ pub enum NameFault {
     /// The caller's generation is below the fence, which is given.
     #[error("Superseded {0}")]
     Superseded(u32),
+    /// The caller's attempt is barred.
+    #[error("Barred")]
+    Barred,
     /// Nothing is at the path.
     #[error("Missing")]
     Missing,
@@ -31,7 +34,7 @@ pub enum NameFault {
     /// A directory would be moved to itself or to a place beneath it.
     #[error("IntoItself")]
     IntoItself,
-    /// The call would pass a limit on entries or on bytes.
+    /// The call would pass a limit on entries, on bytes or on barred attempts.
     #[error("Full")]
     Full,
     /// Memory that the call wanted was refused.

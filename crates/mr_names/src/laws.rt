@@ -1,6 +1,6 @@
 //! Laws of the calls, which follow from their definitions alone: these functions do nothing.
 ghost use Rattle.mr_names.specs.Rows.{NamespaceRefusals, RootRefusals, ReadAndForesee};
-ghost use Rattle.mr_names.specs.Laws.{EachPath, MadeThere, CreatedThere, AppendedThere, ClosedThere, DeletedThere, RenamedThere, RenamedAway, RenameMoves, DeleteTakesOut, OthersStay, OnlyMakersMake, DirsStay, ClosedFilesStay, StaysTree, OpeningIsTree, NothingBeneath, FilesAreLeaves, AnsweredOnly, AnsweredAlways, BelowTheFence, AtTheFence, AnsweredAtTheFence, RefusedStays, AnsweredIsMade, FenceStays, TreeStays, SoundStays, ListsChildren, ListsInOrder};
+ghost use Rattle.mr_names.specs.Laws.{EachPath, MadeThere, CreatedThere, AppendedThere, ClosedThere, DeletedThere, RenamedThere, RenamedAway, RenameMoves, DeleteTakesOut, OthersStay, OnlyMakersMake, DirsStay, ClosedFilesStay, StaysTree, OpeningIsTree, NothingBeneath, FilesAreLeaves, AnsweredOnly, AnsweredAlways, BelowTheFence, BarredIsRefused, HeardIs, HeardHasItsOwn, AnsweredIsHeard, AnsweredMayBeMade, HeardAlike, RefusedStays, AnsweredIsMade, FenceStays, TreeStays, SoundStays, BarredGrow, OnlyBarBars, OthersBarNone, BarKeepsContent, BarBars, BarredForGood, ListsChildren, ListsInOrder};
 
 /// What each path holds after a call that is answered.
 pub fn each_path()
@@ -40,22 +40,37 @@ pub fn stays_tree()
     ensures files { FilesAreLeaves }
 {}
 
-/// When a call is answered, the fence aside.
+/// When a call is answered, its caller and the limit on barred attempts aside.
 pub fn answered()
     ensures only { AnsweredOnly }
     ensures always { AnsweredAlways }
 {}
 
-/// What a call answers and leaves, by the fence and by its refusal.
+/// What a call answers and leaves, by its caller and by its own refusal.
 pub fn settles()
     ensures below { BelowTheFence }
-    ensures at_or_above { AtTheFence }
-    ensures not_below { AnsweredAtTheFence }
+    ensures barred { BarredIsRefused }
+    ensures heard { HeardIs }
+    ensures own { HeardHasItsOwn }
+    ensures answered { AnsweredIsHeard }
+    ensures may_be { AnsweredMayBeMade }
+    ensures alike { HeardAlike }
     ensures refused { RefusedStays }
     ensures made { AnsweredIsMade }
     ensures fence { FenceStays }
     ensures tree { TreeStays }
     ensures sound { SoundStays }
+{}
+
+/// The barred attempts only grow, and only by bars; a bar changes no content; from a bar that was answered on, each call
+/// whose caller has that attempt is refused, whoever called or raised the fence in between.
+pub fn bars_stay()
+    ensures grow { BarredGrow }
+    ensures only { OnlyBarBars }
+    ensures others { OthersBarNone }
+    ensures content { BarKeepsContent }
+    ensures bars { BarBars }
+    ensures for_good { BarredForGood }
 {}
 
 /// A listing has what is directly beneath its path, each name once, by its bytes.

@@ -1,6 +1,7 @@
 //! The namespace: directories and files by their paths.
 #![tactic(auto)]
 
+mod barred;
 mod fault;
 mod laws;
 mod namespace;
@@ -11,10 +12,10 @@ mod walk;
 
 pub use fault::NameFault;
 pub use laws::{
-    answered, delete_takes_out, each_path, listings, others_stay, rename_moves, runs, settles,
-    stays_tree,
+    answered, bars_stay, delete_takes_out, each_path, listings, others_stay, rename_moves, runs,
+    settles, stays_tree,
 };
-pub use namespace::{MAX_ENTRIES, MAX_FILE_LEN, Namespace};
+pub use namespace::{MAX_BARRED, MAX_ENTRIES, MAX_FILE_LEN, Namespace};
 pub use node::{Bytes, Entries, Entry, Kind, Node};
 pub use op::{Answer, Caller, Op};
 pub use walk::{Found, Walk};

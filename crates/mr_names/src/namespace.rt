@@ -1,13 +1,15 @@
-ghost use Rattle.std.specs.Prelude.{IsOkUnless, ◌≡◌, ◌+◌, ℕ, [], ◌∷◌, ◌++◌, IfOk, OnOk, OnErr, length, nat_lt, ◌<◌, ◌^◌, if◌then◌else◌, Some, None, false};
+ghost use Rattle.std.specs.Prelude.{IsOkUnless, ◌≡◌, ◌+◌, ℕ, [], ◌∷◌, ◌++◌, IfOk, OnOk, OnErr, length, nat_lt, ◌<◌, ◌^◌, if◌then◌else◌, Some, None, true, false};
 ghost use Rattle.mr_names.specs.Walk.{walk};
-ghost use Rattle.mr_names.specs.Calls.{State, IsSound, opening, raised, Makes, MakesAlways, Refuses, refused, entry_count, may_want_memory};
+ghost use Rattle.mr_names.specs.Barred.{is_barred};
+ghost use Rattle.mr_names.specs.Calls.{State, IsSound, opening, raised, Makes, MakesAlways, Refuses, unheard, refused, entry_count, may_want_memory};
 
+use crate::barred::Barred;
 use crate::fault::NameFault;
 use crate::node::{Bytes, Entries, Kind, Node};
 use crate::op::{Answer, Caller, Op};
 use crate::table::Table;
 use crate::walk::Walk;
-use mr_ids::AppAttempt;
+use mr_ids::{AppAttempt, AttemptId};
 use mr_paths::{Path, copy_names, is_within, parent};
 use std::alloc::{AllocError, Global};
 use std::marker::Model;
@@ -18,16 +20,20 @@ pub const MAX_ENTRIES: usize = 65536;
 /// The most bytes that a file has.
 pub const MAX_FILE_LEN: usize = 16777216;
 
-/// The directories and files of a cluster, and the fence below which no caller is heard.
+/// The most attempts that are barred.
+pub const MAX_BARRED: usize = 100_000;
+
+/// The directories and files of a cluster, the fence below which no caller is heard, and the attempts that are barred.
 ///
-/// Contracts see its content, a finite map from paths to nodes, and its fence. The root is always a directory, and so
-/// is the parent of each other entry. Each call first compares its caller with the fence, then answers the first of
-/// its own refusals that applies, then [`NameFault::Full`], and [`NameFault::NoMemory`] last. A refusal changes
-/// nothing.
+/// Contracts see its content, a finite map from paths to nodes, its fence, and the barred attempts, a finite set. The
+/// root is always a directory, and so is the parent of each other entry. Each call first compares its caller with the
+/// fence, then looks whether the caller's attempt is barred, then answers the first of its own refusals that applies,
+/// then [`NameFault::Full`], and [`NameFault::NoMemory`] last. A refusal changes nothing.
 #[derive(Drop)]
 pub struct Namespace {
     table: Table,
     fence: u32,
+    barred: Barred,
     alloc: Global,
 }
 
@@ -38,15 +44,16 @@ impl Model for Namespace {
 
     ghost coded = { state_code };
 
-    ghost view = { λ n. record { content = n.table; fence = n.fence } };
+    ghost view = { λ n. record { content = n.table; fence = n.fence; barred = n.barred } };
 
     ghost use Rattle.mr_names.specs.Calls.{IsSound};
 
-    ghost invariant = { λ n. IsSound (record { content = n.table; fence = n.fence }) };
+    ghost invariant = { λ n. IsSound (record { content = n.table; fence = n.fence; barred = n.barred }) };
 }
 
 impl Namespace {
-    /// A namespace with the root alone, and fence 0. The root is an entry, so that this may want memory.
+    /// A namespace with the root alone, fence 0, and no attempt barred. The root is an entry, so that this may want
+    /// memory.
     pub fn new(alloc: Global) -> Result<Namespace, NameFault>
         ensures made { IfOk result (λ names. names ≡ opening) }
         ensures memory { IsOkUnless result NameFault.NoMemory }
@@ -56,6 +63,7 @@ impl Namespace {
         Ok(Namespace {
             table,
             fence: 0,
+            barred: Barred::new(alloc),
             alloc,
         })
     }
@@ -69,6 +77,26 @@ impl Namespace {
         self.fence
     }
 
+    /// Whether an attempt is barred: then no call whose caller has it is heard.
+    pub fn is_barred(&self, attempt: AttemptId) -> bool
+        ensures { result ≡ is_barred self.now.barred attempt }
+    {
+        self.barred.contains(attempt)
+    }
+
+    /// Refuses a caller that no call hears: `Superseded` below the fence, else `Barred`. It takes no memory.
+    pub fn check_caller(&self, caller: Caller) -> Result<(), NameFault>
+        ensures { Refuses (unheard self.now caller) result }
+    {
+        if caller.app.number() < self.fence {
+            Err(NameFault::Superseded(self.fence))
+        } else if self.barred.bars(caller.attempt) {
+            Err(NameFault::Barred)
+        } else {
+            Ok(())
+        }
+    }
+
     /// Sets the fence to a generation, if that is greater.
     pub fn raise(&mut self, app: AppAttempt)
         ensures { self.new ≡ raised self.old app }
@@ -79,7 +107,7 @@ impl Namespace {
     /// Makes a directory, and each directory that is missing on the way, all or none. Nothing happens where it is
     /// there. Refused `NotDir` where the path or one above it is a file, `Full`.
     pub fn mkdirs(&mut self, caller: Caller, path: &Path) -> Result<(), NameFault>
-        ensures { Makes (λ _. Answer.Done) self.old caller.app (Op.Mkdirs path.now) result self.new }
+        ensures { Makes (λ _. Answer.Done) self.old caller (Op.Mkdirs path.now) result self.new }
     {
         self.check_mkdirs(caller, path)?;
         self.table.make_dirs(self.alloc, path.names(), 0)?;
@@ -89,7 +117,7 @@ impl Namespace {
     /// Makes an empty file, closed at once if asked. Refused `Exists`, `NoParent`, `NotDir` where the parent is a
     /// file, `Full`.
     pub fn create(&mut self, caller: Caller, path: &Path, closed: bool) -> Result<(), NameFault>
-        ensures { Makes (λ _. Answer.Done) self.old caller.app (Op.Create path.now closed) result self.new }
+        ensures { Makes (λ _. Answer.Done) self.old caller (Op.Create path.now closed) result self.new }
     {
         self.check_create(caller, path, closed)?;
         let names = copy_names(self.alloc, path.names())?;
@@ -100,7 +128,7 @@ impl Namespace {
 
     /// Adds bytes at the end of a file. Refused `Missing`, `NotFile`, `Closed`, `Full`.
     pub fn append(&mut self, caller: Caller, path: &Path, more: &[u8]) -> Result<(), NameFault>
-        ensures { Makes (λ _. Answer.Done) self.old caller.app (Op.Append path.now more.now) result self.new }
+        ensures { Makes (λ _. Answer.Done) self.old caller (Op.Append path.now more.now) result self.new }
     {
         self.check_append(caller, path, more)?;
         self.table.append(path.names(), more)?;
@@ -109,7 +137,7 @@ impl Namespace {
 
     /// Closes a file: nothing more is added to it. Refused `Missing`, `NotFile`, `Closed`.
     pub fn close(&mut self, caller: Caller, path: &Path) -> Result<(), NameFault>
-        ensures { MakesAlways (λ _. Answer.Done) self.old caller.app (Op.Close path.now) result self.new }
+        ensures { MakesAlways (λ _. Answer.Done) self.old caller (Op.Close path.now) result self.new }
     {
         self.check_close(caller, path)?;
         self.table.close(path.names());
@@ -119,7 +147,7 @@ impl Namespace {
     /// Removes a path and all beneath it. Refused `NoParent` where nothing is at the parent or the path is the root,
     /// `Missing`.
     pub fn delete(&mut self, caller: Caller, path: &Path) -> Result<(), NameFault>
-        ensures { MakesAlways (λ _. Answer.Done) self.old caller.app (Op.Delete path.now) result self.new }
+        ensures { MakesAlways (λ _. Answer.Done) self.old caller (Op.Delete path.now) result self.new }
     {
         self.check_delete(caller, path)?;
         self.table.take_out(self.alloc, path.names());
@@ -130,7 +158,7 @@ impl Namespace {
     /// `IntoItself` where `to` is `from` or beneath it, `Exists` where something is at `to`, `NoParent` and `NotDir`
     /// for the parent of `to`.
     pub fn rename(&mut self, caller: Caller, from: &Path, to: &Path) -> Result<(), NameFault>
-        ensures { Makes (λ _. Answer.Done) self.old caller.app (Op.Rename from.now to.now) result self.new }
+        ensures { Makes (λ _. Answer.Done) self.old caller (Op.Rename from.now to.now) result self.new }
     {
         self.check_rename(caller, from, to)?;
         self.table.rename(self.alloc, from.names(), to.names())?;
@@ -139,25 +167,25 @@ impl Namespace {
 
     /// The entries of a directory, by the bytes of their names. Refused `Missing`, `NotDir`.
     pub fn list(&self, caller: Caller, path: &Path) -> Result<Entries, NameFault>
-        ensures { Makes Answer.Listed self.now caller.app (Op.List path.now) result self.now }
+        ensures { Makes Answer.Listed self.now caller (Op.List path.now) result self.now }
     {
         self.check_list(caller, path)?;
         Ok(self.table.children(self.alloc, path.names())?)
     }
 
-    /// What is at a path, if anything is. Only the fence refuses it.
+    /// What is at a path, if anything is. Only the fence and a bar refuse it.
     pub fn exists(&self, caller: Caller, path: &Path) -> Result<Option<Kind>, NameFault>
-        ensures { MakesAlways Answer.Found self.now caller.app (Op.Exists path.now) result self.now }
+        ensures { MakesAlways Answer.Found self.now caller (Op.Exists path.now) result self.now }
     {
         let found = self.table.get(path.names()).map(|node| node.kind());
-        self.check_fence(caller).map(|()| found)
+        self.check_caller(caller).map(|()| found)
     }
 
     /// The bytes of a file so far. Refused `Missing`, `NotFile`.
     pub fn read(&self, caller: Caller, path: &Path) -> Result<Bytes, NameFault>
-        ensures { Makes Answer.Contents self.now caller.app (Op.Read path.now) result self.now }
+        ensures { Makes Answer.Contents self.now caller (Op.Read path.now) result self.now }
     {
-        self.check_fence(caller)?;
+        self.check_caller(caller)?;
         match self.table.get(path.names()) {
             None => Err(NameFault::Missing),
             Some(Node::Dir) => Err(NameFault::NotFile),
@@ -165,11 +193,23 @@ impl Namespace {
         }
     }
 
+    /// Bars an attempt, for good: from then on no call whose caller has it is heard. Nothing happens where it is barred.
+    /// Refused `Full` where [`MAX_BARRED`] others are.
+    pub fn bar(&mut self, caller: Caller, attempt: AttemptId) -> Result<(), NameFault>
+        ensures made { Makes (λ _. Answer.Done) self.old caller (Op.Bar attempt) result self.new }
+        // One that is barred wants no memory.
+        ensures there { is_barred self.old.barred attempt ≡ true → MakesAlways (λ _. Answer.Done) self.old caller (Op.Bar attempt) result self.new }
+    {
+        self.check_bar(caller, attempt)?;
+        self.barred.insert(attempt)?;
+        Ok(())
+    }
+
     /// Makes a call that is given as a value, and gives its answer as one.
     pub fn perform(&mut self, caller: Caller, op: &Op) -> Result<Answer, NameFault>
-        ensures made { Makes (λ answer. answer) self.old caller.app op.now result self.new }
+        ensures made { Makes (λ answer. answer) self.old caller op.now result self.new }
         // Any other call never wants memory.
-        ensures always { may_want_memory op.now ≡ false → MakesAlways (λ answer. answer) self.old caller.app op.now result self.new }
+        ensures always { may_want_memory op.now ≡ false → MakesAlways (λ answer. answer) self.old caller op.now result self.new }
     {
         match op {
             Op::Mkdirs(path) => self.mkdirs(caller, path)?,
@@ -181,13 +221,14 @@ impl Namespace {
             Op::List(path) => return Ok(Answer::Listed(self.list(caller, path)?)),
             Op::Exists(path) => return Ok(Answer::Found(self.exists(caller, path)?)),
             Op::Read(path) => return Ok(Answer::Contents(self.read(caller, path)?)),
+            Op::Bar(attempt) => self.bar(caller, *attempt)?,
         }
         Ok(Answer::Done)
     }
 
     /// The refusal that a call would meet now, want of memory aside. It changes nothing.
     pub fn foresee(&self, caller: Caller, op: &Op) -> Option<NameFault>
-        ensures { result ≡ refused self.now caller.app op.now }
+        ensures { result ≡ refused self.now caller op.now }
     {
         self.check(caller, op).err()
     }
@@ -204,7 +245,7 @@ impl Namespace {
 // The refusals, memory aside.
 impl Namespace {
     fn check(&self, caller: Caller, op: &Op) -> Result<(), NameFault>
-        ensures { Refuses (refused self.now caller.app op.now) result }
+        ensures { Refuses (refused self.now caller op.now) result }
     {
         match op {
             Op::Mkdirs(path) => self.check_mkdirs(caller, path),
@@ -214,18 +255,9 @@ impl Namespace {
             Op::Delete(path) => self.check_delete(caller, path),
             Op::Rename(from, to) => self.check_rename(caller, from, to),
             Op::List(path) => self.check_list(caller, path),
-            Op::Exists(_path) => self.check_fence(caller),
+            Op::Exists(_path) => self.check_caller(caller),
             Op::Read(path) => self.check_read(caller, path),
-        }
-    }
-
-    fn check_fence(&self, caller: Caller) -> Result<(), NameFault>
-        ensures { Refuses (if nat_lt caller.app self.now.fence then Some (NameFault.Superseded self.now.fence) else None) result }
-    {
-        if caller.app.number() < self.fence {
-            Err(NameFault::Superseded(self.fence))
-        } else {
-            Ok(())
+            Op::Bar(attempt) => self.check_bar(caller, *attempt),
         }
     }
 
@@ -242,9 +274,9 @@ impl Namespace {
     }
 
     fn check_mkdirs(&self, caller: Caller, path: &Path) -> Result<(), NameFault>
-        ensures { Refuses (refused self.now caller.app (Op.Mkdirs path.now)) result }
+        ensures { Refuses (refused self.now caller (Op.Mkdirs path.now)) result }
     {
-        self.check_fence(caller)?;
+        self.check_caller(caller)?;
         match self.table.missing_from(path.names(), 0) {
             None => Err(NameFault::NotDir),
             Some(missing) => self.check_room(missing),
@@ -252,9 +284,9 @@ impl Namespace {
     }
 
     fn check_create(&self, caller: Caller, path: &Path, closed: bool) -> Result<(), NameFault>
-        ensures { Refuses (refused self.now caller.app (Op.Create path.now closed)) result }
+        ensures { Refuses (refused self.now caller (Op.Create path.now closed)) result }
     {
-        self.check_fence(caller)?;
+        self.check_caller(caller)?;
         if self.table.get(path.names()).is_some() {
             return Err(NameFault::Exists);
         }
@@ -266,9 +298,9 @@ impl Namespace {
     }
 
     fn check_append(&self, caller: Caller, path: &Path, more: &[u8]) -> Result<(), NameFault>
-        ensures { Refuses (refused self.now caller.app (Op.Append path.now more.now)) result }
+        ensures { Refuses (refused self.now caller (Op.Append path.now more.now)) result }
     {
-        self.check_fence(caller)?;
+        self.check_caller(caller)?;
         match self.table.get(path.names()) {
             None => Err(NameFault::Missing),
             Some(Node::Dir) => Err(NameFault::NotFile),
@@ -285,9 +317,9 @@ impl Namespace {
     }
 
     fn check_close(&self, caller: Caller, path: &Path) -> Result<(), NameFault>
-        ensures { Refuses (refused self.now caller.app (Op.Close path.now)) result }
+        ensures { Refuses (refused self.now caller (Op.Close path.now)) result }
     {
-        self.check_fence(caller)?;
+        self.check_caller(caller)?;
         match self.table.get(path.names()) {
             None => Err(NameFault::Missing),
             Some(Node::Dir) => Err(NameFault::NotFile),
@@ -297,9 +329,9 @@ impl Namespace {
     }
 
     fn check_delete(&self, caller: Caller, path: &Path) -> Result<(), NameFault>
-        ensures { Refuses (refused self.now caller.app (Op.Delete path.now)) result }
+        ensures { Refuses (refused self.now caller (Op.Delete path.now)) result }
     {
-        self.check_fence(caller)?;
+        self.check_caller(caller)?;
         if path.len() == 0 || self.table.get(parent(path.names())).is_none() {
             return Err(NameFault::NoParent);
         }
@@ -310,9 +342,9 @@ impl Namespace {
     }
 
     fn check_rename(&self, caller: Caller, from: &Path, to: &Path) -> Result<(), NameFault>
-        ensures { Refuses (refused self.now caller.app (Op.Rename from.now to.now)) result }
+        ensures { Refuses (refused self.now caller (Op.Rename from.now to.now)) result }
     {
-        self.check_fence(caller)?;
+        self.check_caller(caller)?;
         if self.table.get(from.names()).is_none() {
             return Err(NameFault::Missing);
         }
@@ -330,9 +362,9 @@ impl Namespace {
     }
 
     fn check_list(&self, caller: Caller, path: &Path) -> Result<(), NameFault>
-        ensures { Refuses (refused self.now caller.app (Op.List path.now)) result }
+        ensures { Refuses (refused self.now caller (Op.List path.now)) result }
     {
-        self.check_fence(caller)?;
+        self.check_caller(caller)?;
         match self.table.get(path.names()) {
             None => Err(NameFault::Missing),
             Some(Node::File(_bytes, _closed)) => Err(NameFault::NotDir),
@@ -340,10 +372,21 @@ impl Namespace {
         }
     }
 
-    fn check_read(&self, caller: Caller, path: &Path) -> Result<(), NameFault>
-        ensures { Refuses (refused self.now caller.app (Op.Read path.now)) result }
+    fn check_bar(&self, caller: Caller, attempt: AttemptId) -> Result<(), NameFault>
+        ensures { Refuses (refused self.now caller (Op.Bar attempt)) result }
     {
-        self.check_fence(caller)?;
+        self.check_caller(caller)?;
+        if !self.barred.contains(attempt) && self.barred.len() >= MAX_BARRED {
+            Err(NameFault::Full)
+        } else {
+            Ok(())
+        }
+    }
+
+    fn check_read(&self, caller: Caller, path: &Path) -> Result<(), NameFault>
+        ensures { Refuses (refused self.now caller (Op.Read path.now)) result }
+    {
+        self.check_caller(caller)?;
         match self.table.get(path.names()) {
             None => Err(NameFault::Missing),
             Some(Node::Dir) => Err(NameFault::NotFile),

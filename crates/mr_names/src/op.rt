@@ -1,11 +1,14 @@
 use crate::node::{Bytes, Entries, Kind};
-use mr_ids::AppAttempt;
+use mr_ids::{AppAttempt, AttemptId};
 use mr_paths::Path;
 
-/// Who makes a call: the generation of the master, or of the master that launched the container.
+/// Who makes a call: a master, or a container.
 #[derive(Clone, Copy, Debug, PartialEq, Eq)]
 pub struct Caller {
+    /// The application attempt: the master's generation, or that of the master that launched the container.
     pub app: AppAttempt,
+    /// The task attempt that a container runs. A master has none.
+    pub attempt: Option<AttemptId>,
 }
 
 /// A call of the namespace as a value.
@@ -22,6 +25,8 @@ pub enum Op {
     List(Path),
     Exists(Path),
     Read(Path),
+    /// The attempt that is barred.
+    Bar(AttemptId),
 }
 
 /// The answer of a call as a value: `Done` where the call only changes something.

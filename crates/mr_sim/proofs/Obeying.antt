@@ -2,6 +2,7 @@
 use Rattle.std.proofs.Common.{◌≡◌, ℕ, List, Bool, Result, Ok, Err, sym, ap, ◌∙◌}
 use Rattle.mr_ids.specs.Attempt.{Attempt}
 use Rattle.mr_paths.specs.Layout.{task_attempt}
+use Rattle.mr_names.specs.declared.op.Caller.{Caller}
 use Rattle.mr_names.specs.declared.op.Op.{Op}
 use Rattle.mr_names.specs.declared.op.Op.TheVariants as op
 use Rattle.mr_names.specs.Calls.{State, call_of}
@@ -39,24 +40,24 @@ obeyed_from dest o s (Err fault.DestinationExists) t h = h
 obeyed_from dest o s (Err fault.Over) t h = h
 obeyed_from dest o s (Err fault.NoMemory) t h = tt
 
-pub form_has : (lines : List Line) (s : State) (app : ℕ) (r : Result (Unit {0}) CommitFault) (t : State) → HasEffect lines s app r t → Has (whole lines s app) r t
-form_has lines s app (Ok x) t h = h
-form_has lines s app (Err (fault.Names f)) t h = h
-form_has lines s app (Err fault.OutputMissing) t h = h
-form_has lines s app (Err fault.DestinationExists) t h = h
-form_has lines s app (Err fault.Over) t h = h
-form_has lines s app (Err fault.NoMemory) t h = tt
+pub form_has : (lines : List Line) (s : State) (caller : Caller) (r : Result (Unit {0}) CommitFault) (t : State) → HasEffect lines s caller r t → Has (whole lines s caller) r t
+form_has lines s caller (Ok x) t h = h
+form_has lines s caller (Err (fault.Names f)) t h = h
+form_has lines s caller (Err fault.OutputMissing) t h = h
+form_has lines s caller (Err fault.DestinationExists) t h = h
+form_has lines s caller (Err fault.Over) t h = h
+form_has lines s caller (Err fault.NoMemory) t h = tt
 
-pub turn_has : (calls : List Op) (s : State) (app : ℕ) (r : Result (Unit {0}) CommitFault) (t : State) → InTurn calls s app r t → Has (in_turn calls s app) r t
-turn_has calls s app (Ok x) t h = h
-turn_has calls s app (Err (fault.Names f)) t h = h
-turn_has calls s app (Err fault.OutputMissing) t h = h
-turn_has calls s app (Err fault.DestinationExists) t h = h
-turn_has calls s app (Err fault.Over) t h = h
-turn_has calls s app (Err fault.NoMemory) t h = tt
+pub turn_has : (calls : List Op) (s : State) (caller : Caller) (r : Result (Unit {0}) CommitFault) (t : State) → InTurn calls s caller r t → Has (in_turn calls s caller) r t
+turn_has calls s caller (Ok x) t h = h
+turn_has calls s caller (Err (fault.Names f)) t h = h
+turn_has calls s caller (Err fault.OutputMissing) t h = h
+turn_has calls s caller (Err fault.DestinationExists) t h = h
+turn_has calls s caller (Err fault.Over) t h = h
+turn_has calls s caller (Err fault.NoMemory) t h = tt
 
 pub obeyed_needs : (dest : List (List ℕ)) (o : Order) (a : Attempt) (s : Scene) (r : Result Bool CommitFault)
-    → outcome dest o s ≡ (told (has_output (call_of s.names s.app (op.Exists (task_attempt dest s.app a))).0), s) → NeedsTaskCommit dest a s.names s.app r → Obeys dest o s (told r) s
+    → outcome dest o s ≡ (told (has_output (call_of s.names s.caller (op.Exists (task_attempt dest s.caller.app a))).0), s) → NeedsTaskCommit dest a s.names s.caller r → Obeys dest o s (told r) s
 obeyed_needs dest o a s (Ok b) is h = is ∙ ap (λ q. (told q, s)) (sym h)
 obeyed_needs dest o a s (Err (fault.Names f)) is h = is ∙ ap (λ q. (told q, s)) (sym h)
 obeyed_needs dest o a s (Err fault.OutputMissing) is h = is ∙ ap (λ q. (told q, s)) (sym h)

@@ -1,10 +1,11 @@
 -- What a command of a script answers, and what it leaves. The committer's part is the committer effect: setupJob,
 -- commitTask, commitJob and needsTaskCommit of the Hadoop OutputCommitter API, with FileOutputCommitter's algorithm
 -- version 1 and `checkOutputSpecs`. Fence and generations are our own profile.
-use Rattle.std.specs.Prelude.{◌≡◌, ℕ, Bool, true, false, List, [], ◌∷◌, ◌++◌, Result, Ok, Err, codes}
+use Rattle.std.specs.Prelude.{◌≡◌, ℕ, Bool, true, false, List, [], ◌∷◌, ◌++◌, None, Result, Ok, Err, codes}
 use Rattle.mr_ids.specs.Attempt.{Attempt}
 use Rattle.mr_paths.specs.Layout.{task_attempt, part}
 use Rattle.mr_names.specs.declared.fault.NameFault.{NameFault}
+use Rattle.mr_names.specs.declared.op.Caller.{Caller}
 use Rattle.mr_names.specs.declared.op.Op.{Op}
 use Rattle.mr_names.specs.declared.op.Op.TheVariants as op
 use Rattle.mr_names.specs.declared.op.Answer.{Answer}
@@ -24,9 +25,9 @@ use Rattle.mr_sim.specs.declared.scene.Reply.TheVariants.{Silent, Yes, No}
 abbrev pub out : List (List ℕ)
 out = codes "out" ∷ []
 
--- before the first command: an empty namespace with fence 0, and generation 1
+-- before the first command: an empty namespace with fence 0 where no attempt is barred, and the master of generation 1 as the caller
 abbrev pub start : Scene
-start = record { names = opening; app = 1 }
+start = record { names = opening; caller = record { app = 1; attempt = None } }
 
 -- ---- the calls of a write
 
@@ -41,9 +42,9 @@ then_on (Ok a) t on = on t
 then_on (Err f) t on = (Err (fault_of f), t)
 
 -- calls made in turn until one is refused: what those before it did stays
-abbrev pub in_turn : List Op → State → ℕ → Result (Unit {0}) CommitFault × State
-in_turn [] s app = (Ok tt, s)
-in_turn (call ∷ calls) s app = then_on (call_of s app call).0 (call_of s app call).1 (λ t. in_turn calls t app)
+abbrev pub in_turn : List Op → State → Caller → Result (Unit {0}) CommitFault × State
+in_turn [] s caller = (Ok tt, s)
+in_turn (call ∷ calls) s caller = then_on (call_of s caller call).0 (call_of s caller call).1 (λ t. in_turn calls t caller)
 
 -- the part file of an attempt
 abbrev pub part_file : List (List ℕ) → ℕ → Attempt → List (List ℕ)
@@ -71,7 +72,7 @@ abbrev pub told : Result Bool CommitFault → Result Reply CommitFault
 told (Ok b) = Ok (reply_of b)
 told (Err f) = Err f
 
--- the same generation at another namespace
+-- the same caller at another namespace
 abbrev pub at_names : Scene → State → Scene
 at_names s t = record s { names = t }
 
@@ -80,14 +81,14 @@ by_calls s r = (silent r.0, at_names s r.1)
 
 -- what a command answers, and the scene after it. All paths take the generation that makes the calls.
 unfoldable pub outcome : List (List ℕ) → Order → Scene → Result Reply CommitFault × Scene
-outcome dest (As k) s = (Ok Silent, record s { app = k })
+outcome dest (As k) s = (Ok Silent, record s { caller = record s.caller { app = k } })
 outcome dest (Raise k) s = (Ok Silent, at_names s (raised s.names k))
-outcome dest Check s = (silent (checked dest s.names s.app), s)
-outcome dest Setup s = by_calls s (whole (setup_job dest s.app) s.names s.app)
-outcome dest (Write a text) s = by_calls s (in_turn (writes dest s.app a text) s.names s.app)
-outcome dest (Needs a) s = (told (has_output (call_of s.names s.app (op.Exists (task_attempt dest s.app a))).0), s)
-outcome dest (Commit a) s = by_calls s (whole (commit_task dest s.app a) s.names s.app)
-outcome dest CommitJob s = by_calls s (whole (commit_job dest s.app) s.names s.app)
+outcome dest Check s = (silent (checked dest s.names s.caller), s)
+outcome dest Setup s = by_calls s (whole (setup_job dest s.caller.app) s.names s.caller)
+outcome dest (Write a text) s = by_calls s (in_turn (writes dest s.caller.app a text) s.names s.caller)
+outcome dest (Needs a) s = (told (has_output (call_of s.names s.caller (op.Exists (task_attempt dest s.caller.app a))).0), s)
+outcome dest (Commit a) s = by_calls s (whole (commit_task dest s.caller.app a) s.names s.caller)
+outcome dest CommitJob s = by_calls s (whole (commit_job dest s.caller.app) s.names s.caller)
 
 -- A function did what the command says, but for want of memory.
 abbrev pub Obeys : List (List ℕ) → Order → Scene → Result Reply CommitFault → Scene → Type 0
@@ -95,6 +96,6 @@ Obeys dest o s (Err fault.NoMemory) t = Unit {0}
 Obeys dest o s r t = outcome dest o s ≡ (r, t)
 
 -- Calls in turn were made, but for want of memory.
-abbrev pub InTurn : List Op → State → ℕ → Result (Unit {0}) CommitFault → State → Type 0
-InTurn calls s app (Err fault.NoMemory) t = Unit {0}
-InTurn calls s app r t = in_turn calls s app ≡ (r, t)
+abbrev pub InTurn : List Op → State → Caller → Result (Unit {0}) CommitFault → State → Type 0
+InTurn calls s caller (Err fault.NoMemory) t = Unit {0}
+InTurn calls s caller r t = in_turn calls s caller ≡ (r, t)

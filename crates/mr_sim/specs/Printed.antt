@@ -28,6 +28,7 @@ use Rattle.mr_sim.specs.Seq.{PrintsSeq, RefusesSeq}
 -- the variant of a refusal
 abbrev pub name_fault_text : NameFault → List ℕ
 name_fault_text (names.Superseded fence) = codes "Superseded " ++ decimal fence
+name_fault_text names.Barred = codes "Barred"
 name_fault_text names.Missing = codes "Missing"
 name_fault_text names.Exists = codes "Exists"
 name_fault_text names.NotDir = codes "NotDir"

@@ -13,7 +13,7 @@ use crate::script::{ScriptFault, script_of};
 use crate::subcommand::Command;
 use mr_commit::CommitFault;
 use mr_ids::AppAttempt;
-use mr_names::Namespace;
+use mr_names::{Caller, Namespace};
 use mr_paths::{Layout, Name, Path};
 use std::alloc::{AllocError, Global};
 
@@ -26,14 +26,17 @@ fn layout(alloc: Global) -> Result<Layout, AllocError>
     Ok(Layout { dest })
 }
 
-/// An empty namespace with fence 0, and generation 1.
+/// An empty namespace, and the master of generation 1 as the caller.
 fn start(alloc: Global) -> Result<Scene, SimFault>
     ensures made { IfOk result (λ scene. scene ≡ start) }
     ensures memory { IsOkUnless result SimFault.NoMemory }
 {
-    let app = AppAttempt::new(1).unwrap();
+    let caller = Caller {
+        app: AppAttempt::new(1).unwrap(),
+        attempt: None,
+    };
     match Namespace::new(alloc) {
-        Ok(names) => Ok(Scene { names, app }),
+        Ok(names) => Ok(Scene { names, caller }),
         Err(_) => Err(SimFault::NoMemory),
     }
 }

@@ -14,6 +14,7 @@ fn name_fault_text(alloc: Global, fault: NameFault) -> Result<String, AllocError
 {
     match fault {
         NameFault::Superseded(fence) => format!(in alloc; "Superseded {fence}"),
+        NameFault::Barred => format!(in alloc; "Barred"),
         NameFault::Missing => format!(in alloc; "Missing"),
         NameFault::Exists => format!(in alloc; "Exists"),
         NameFault::NotDir => format!(in alloc; "NotDir"),

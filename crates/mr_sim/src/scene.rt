@@ -9,11 +9,11 @@ use mr_names::{Bytes, Caller, NameFault, Namespace};
 use mr_paths::{Layout, Path};
 use std::alloc::AllocError;
 
-/// A namespace, and the generation of the master that makes the next calls.
+/// A namespace, and who makes the next calls.
 #[derive(Drop)]
 pub struct Scene {
     pub names: Namespace,
-    pub app: AppAttempt,
+    pub caller: Caller,
 }
 
 /// What a command that was not refused prints.
@@ -49,7 +49,7 @@ fn put(
     file: &Path,
     bytes: &[u8],
 ) -> Result<(), NameFault>
-    ensures { InTurn (puts folder.now file.now bytes.now) names.old caller.now.app (done result) names.new }
+    ensures { InTurn (puts folder.now file.now bytes.now) names.old caller.now (done result) names.new }
 {
     names.mkdirs(*caller, folder)?;
     names.create(*caller, file, false)?;
@@ -65,7 +65,7 @@ fn write(
     attempt: AttemptId,
     text: &Bytes,
 ) -> Result<(), CommitFault>
-    ensures { InTurn (writes layout.now.dest caller.app attempt text.now) names.old caller.app result names.new }
+    ensures { InTurn (writes layout.now.dest caller.app attempt text.now) names.old caller result names.new }
 {
     let folder = layout.task_attempt(caller.app, attempt)?;
     let file = part_file(layout, caller.app, attempt)?;
@@ -81,10 +81,10 @@ fn write(
 pub fn obey(scene: &mut Scene, layout: &Layout, order: &Order) -> Result<Reply, CommitFault>
     ensures { Obeys layout.now.dest order.now scene.old result scene.new }
 {
-    let caller = Caller { app: scene.app };
+    let caller = scene.caller;
     match order {
         Order::As(k) => {
-            scene.app = *k;
+            scene.caller.app = *k;
             Ok(Reply::Silent)
         }
         Order::Raise(k) => {

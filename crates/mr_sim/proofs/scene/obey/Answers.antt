@@ -18,7 +18,7 @@ pub returns-in-Check : goal.returns-in-Check
 unfolding outcome
 returns-in-Check c =
     let s = c.args.scene.now in
-    let is : silent (checked c.args.layout.now.dest s.names s.app) ≡ c.silent.result = ap silent (sym c.check_output.ensures) ∙ sym c.silent.ensures in
+    let is : silent (checked c.args.layout.now.dest s.names s.caller) ≡ c.silent.result = ap silent (sym c.check_output.ensures) ∙ sym c.silent.ensures in
     obeyed_from c.args.layout.now.dest c.args.order.now s c.silent.result s (ap (λ (o : Order). outcome c.args.layout.now.dest o s) c.in-Check.is ∙ ap (λ q. (q, s)) is)
 
 pub returns-in-Setup : goal.returns-in-Setup
@@ -26,17 +26,17 @@ unfolding outcome
 returns-in-Setup c =
     let s = c.args.scene.now in
     let dest = c.args.layout.now.dest in
-    rw c.silent-in-Setup.ensures (obeyed dest c.args.order.now s (whole (setup_job dest s.app) s.names s.app) c.setup_job.result c.setup_job.new.names
-    (ap (λ (o : Order). outcome dest o s) c.in-Setup.is) (form_has (setup_job dest s.app) s.names s.app c.setup_job.result c.setup_job.new.names c.setup_job.ensures.effect))
+    rw c.silent-in-Setup.ensures (obeyed dest c.args.order.now s (whole (setup_job dest s.caller.app) s.names s.caller) c.setup_job.result c.setup_job.new.names
+    (ap (λ (o : Order). outcome dest o s) c.in-Setup.is) (form_has (setup_job dest s.caller.app) s.names s.caller c.setup_job.result c.setup_job.new.names c.setup_job.ensures.effect))
 
 pub returns-in-Write : goal.returns-in-Write
 unfolding outcome
 returns-in-Write c =
     let s = c.args.scene.now in
     let dest = c.args.layout.now.dest in
-    let calls = writes dest s.app c.in-Write.attempt c.in-Write.text in
-    rw c.silent-in-Write.ensures (obeyed dest c.args.order.now s (in_turn calls s.names s.app) c.write.result c.write.new.names
-    (ap (λ (o : Order). outcome dest o s) c.in-Write.is) (turn_has calls s.names s.app c.write.result c.write.new.names c.write.ensures))
+    let calls = writes dest s.caller.app c.in-Write.attempt c.in-Write.text in
+    rw c.silent-in-Write.ensures (obeyed dest c.args.order.now s (in_turn calls s.names s.caller) c.write.result c.write.new.names
+    (ap (λ (o : Order). outcome dest o s) c.in-Write.is) (turn_has calls s.names s.caller c.write.result c.write.new.names c.write.ensures))
 
 pub returns-in-Needs : goal.returns-in-Needs
 unfolding outcome
@@ -51,14 +51,14 @@ unfolding outcome
 returns-in-Commit c =
     let s = c.args.scene.now in
     let dest = c.args.layout.now.dest in
-    let lines = commit_task dest s.app c.in-Commit.attempt in
-    rw c.silent-in-Commit.ensures (obeyed dest c.args.order.now s (whole lines s.names s.app) c.commit_task.result c.commit_task.new.names
-    (ap (λ (o : Order). outcome dest o s) c.in-Commit.is) (form_has lines s.names s.app c.commit_task.result c.commit_task.new.names c.commit_task.ensures.effect))
+    let lines = commit_task dest s.caller.app c.in-Commit.attempt in
+    rw c.silent-in-Commit.ensures (obeyed dest c.args.order.now s (whole lines s.names s.caller) c.commit_task.result c.commit_task.new.names
+    (ap (λ (o : Order). outcome dest o s) c.in-Commit.is) (form_has lines s.names s.caller c.commit_task.result c.commit_task.new.names c.commit_task.ensures.effect))
 
 pub returns-in-CommitJob : goal.returns-in-CommitJob
 unfolding outcome
 returns-in-CommitJob c =
     let s = c.args.scene.now in
     let dest = c.args.layout.now.dest in
-    rw c.silent-in-CommitJob.ensures (obeyed dest c.args.order.now s (whole (commit_job dest s.app) s.names s.app) c.commit_job.result c.commit_job.new.names
-    (ap (λ (o : Order). outcome dest o s) c.in-CommitJob.is) (form_has (commit_job dest s.app) s.names s.app c.commit_job.result c.commit_job.new.names c.commit_job.ensures.effect))
+    rw c.silent-in-CommitJob.ensures (obeyed dest c.args.order.now s (whole (commit_job dest s.caller.app) s.names s.caller) c.commit_job.result c.commit_job.new.names
+    (ap (λ (o : Order). outcome dest o s) c.in-CommitJob.is) (form_has (commit_job dest s.caller.app) s.names s.caller c.commit_job.result c.commit_job.new.names c.commit_job.ensures.effect))

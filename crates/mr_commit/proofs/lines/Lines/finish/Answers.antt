@@ -16,35 +16,35 @@ is_finished done.More e = absurd (true≢false e)
 is_finished done.Finished e = refl
 
 pub calls-init : goal.calls-init
-calls-init c = going_first c.args.self.now c.args.names.now c.args.caller.app c.requires.settles c.requires.heard
+calls-init c = going_first c.args.self.now c.args.names.now c.args.caller c.requires.settles
 
 pub returns-in_err-next-clause-effect : goal.returns-in_err-next-clause-effect
 returns-in_err-next-clause-effect c =
     let p = err_from_is_err_and c.from_residual.result c.from_residual.ensures.1 in
-    rw (p.1, p.2) (effect_by c.args.self.now c.calls.self c.next.new.self c.args.names.now c.calls.names c.next.new.names c.args.caller.app _ c.calls.invariant (c.in_err-next.ensures))
+    rw (p.1, p.2) (effect_by c.args.self.now c.calls.self c.next.new.self c.args.names.now c.calls.names c.next.new.names c.args.caller _ c.calls.invariant (c.in_err-next.ensures))
 
 pub returns-in_err-next-clause-made : goal.returns-in_err-next-clause-made
 returns-in_err-next-clause-made c =
     let p = err_from_is_err_and c.from_residual.result c.from_residual.ensures.1 in
-    rw (p.1, p.2) (made_by c.args.self.now c.calls.self c.next.new.self c.args.names.now c.calls.names c.next.new.names c.args.caller.app _ c.calls.invariant (c.in_err-next.ensures))
+    rw (p.1, p.2) (made_by c.args.self.now c.calls.self c.next.new.self c.args.names.now c.calls.names c.next.new.names c.args.caller _ c.calls.invariant (c.in_err-next.ensures))
 
 pub calls-smaller : goal.calls-smaller
 calls-smaller c =
     let more = is_more c.in_ok-next.field-0 (sym c.eq.ensures ∙ c.if-eq.true) in
     let step = rw more at (c.in_ok-next.ensures) in
-    fewer_left c.args.self.now c.calls.self c.next.new.self c.args.names.now c.calls.names c.next.new.names c.args.caller.app c.calls.invariant step
+    fewer_left c.args.self.now c.calls.self c.next.new.self c.args.names.now c.calls.names c.next.new.names c.args.caller c.calls.invariant step
 
 pub calls-preserved : goal.calls-preserved
 calls-preserved c =
     let more = is_more c.in_ok-next.field-0 (sym c.eq.ensures ∙ c.if-eq.true) in
     let step = rw more at (c.in_ok-next.ensures) in
-    going_further c.args.self.now c.calls.self c.next.new.self c.args.names.now c.calls.names c.next.new.names c.args.caller.app c.calls.invariant step
+    going_further c.args.self.now c.calls.self c.next.new.self c.args.names.now c.calls.names c.next.new.names c.args.caller c.calls.invariant step
 
 pub returns-clause-effect : goal.returns-clause-effect
 returns-clause-effect c =
     let last = is_finished c.in_ok-next.field-0 (sym c.eq.ensures ∙ c.if-eq.false) in
     let step = rw last at (c.in_ok-next.ensures) in
-    effect_last c.args.self.now c.calls.self c.next.new.self c.args.names.now c.calls.names c.next.new.names c.args.caller.app c.calls.invariant step
+    effect_last c.args.self.now c.calls.self c.next.new.self c.args.names.now c.calls.names c.next.new.names c.args.caller c.calls.invariant step
 
 pub returns-clause-made : goal.returns-clause-made
 returns-clause-made c =

@@ -4,7 +4,7 @@ use Rattle.mr_commit.proofs.Wholes.{Going}
 use Rattle.mr_commit.proofs.lines.Lines.finish.Given as goal
 
 abbrev pub invariant-calls : goal.invariant-calls
-invariant-calls l = Going l.fn.self l.fn.names l.caller.app l.self l.names
+invariant-calls l = Going l.fn.self l.fn.names l.caller l.self l.names
 
 -- at most so many calls are left
 abbrev pub decreases-calls : goal.decreases-calls

@@ -9,5 +9,5 @@ pub invariant_of-self : goal.invariant_of-self
 invariant_of-self c =
     let call = op.Close c.args.path.now in
     let tree : IsTree c.args.self.now.content = subst (λ (s : State). IsTree s.content) c.self.view_is c.self.invariant.tree in
-    let left = tree_after c.args.self.now c.args.caller.app call c.close.new.self c.in_ok-check_close.ensures tree ((search rules) ∙ ap (λ (s : State). effect s.content call) c.self.view_is) in
-    record { tree = left; fence = c.self.invariant.fence }
+    let left = tree_after c.args.self.now c.args.caller call c.close.new.self c.in_ok-check_close.ensures tree ((search rules) ∙ ap (λ (s : State). effect s.content call) c.self.view_is) in
+    record { tree = left; fence = c.self.invariant.fence; barred = c.self.invariant.barred }

@@ -9,8 +9,8 @@ pub invariant_of-self : goal.invariant_of-self
 invariant_of-self c =
     let call = op.Delete c.args.path.now in
     let tree : IsTree c.args.self.now.content = subst (λ (s : State). IsTree s.content) c.self.view_is c.self.invariant.tree in
-    let left = tree_after c.args.self.now c.args.caller.app call c.take_out.new.self c.in_ok-check_delete.ensures tree ((search rules) ∙ ap (λ (s : State). effect s.content call) c.self.view_is) in
-    record { tree = left; fence = c.self.invariant.fence }
+    let left = tree_after c.args.self.now c.args.caller call c.take_out.new.self c.in_ok-check_delete.ensures tree ((search rules) ∙ ap (λ (s : State). effect s.content call) c.self.view_is) in
+    record { tree = left; fence = c.self.invariant.fence; barred = c.self.invariant.barred }
 
 pub take_out-requires : goal.take_out-requires
 take_out-requires c = c.self.invariant.tree

@@ -1,6 +1,12 @@
 use Rattle.std.proofs.Common.{arith}
+use Rattle.std.specs.FinSet as set
+use Rattle.mr_names.specs.Attempts.{attempt_cmp}
 use Rattle.mr_names.proofs.TreeLaws.{tree_root}
 use Rattle.mr_names.proofs.namespace.Namespace.new.Goals as goal
 
 pub invariant_of-result : goal.invariant_of-result
-invariant_of-result c = record { tree = rw (c.in_ok-insert.ensures.ok, c.empty-table.ensures, c.new.ensures.items) tree_root; fence = omega arith }
+invariant_of-result c = record {
+  tree = rw (c.in_ok-insert.ensures.ok, c.empty-table.ensures, c.new.ensures.items) tree_root;
+  fence = omega arith;
+  barred = rw (c.new-2.ensures, set.len-empty attempt_cmp) (omega arith);
+}

@@ -4,15 +4,15 @@ use Rattle.mr_names.specs.Calls.{State, effect}
 use Rattle.mr_names.specs.Content.{IsTree}
 use Rattle.mr_names.specs.Laws.{MayRename}
 use Rattle.mr_names.proofs.CallLaws.{answered_only}
-use Rattle.mr_names.proofs.TreeLaws.{tree_after, past_fence}
+use Rattle.mr_names.proofs.TreeLaws.{tree_after, past_caller}
 use Rattle.mr_names.proofs.namespace.Namespace.rename.Goals as goal
 
 pub invariant_of-self-2 : goal.invariant_of-self-2
 invariant_of-self-2 c =
     let call = op.Rename c.args.from.now c.args.to.now in
     let tree : IsTree c.args.self.now.content = subst (λ (s : State). IsTree s.content) c.self.view_is c.self.invariant.tree in
-    let left = tree_after c.args.self.now c.args.caller.app call c.rename.new.self c.in_ok-check_rename.ensures tree ((search rules) ∙ ap (λ (s : State). effect s.content call) c.self.view_is) in
-    record { tree = left; fence = c.self.invariant.fence }
+    let left = tree_after c.args.self.now c.args.caller call c.rename.new.self c.in_ok-check_rename.ensures tree ((search rules) ∙ ap (λ (s : State). effect s.content call) c.self.view_is) in
+    record { tree = left; fence = c.self.invariant.fence; barred = c.self.invariant.barred }
 
 pub rename-requires-clause-tree : goal.rename-requires-clause-tree
 rename-requires-clause-tree c = c.self.invariant.tree
@@ -21,4 +21,4 @@ pub rename-requires-clause-may : goal.rename-requires-clause-may
 rename-requires-clause-may c =
     let call = op.Rename c.args.from.now c.args.to.now in
     rw (c.names.ensures, c.names-2.ensures) (subst (λ (s : State). MayRename s.content c.args.from.now c.args.to.now) (sym c.self.view_is)
-    (answered_only c.args.self.now.content call (past_fence c.args.self.now c.args.caller.app call c.in_ok-check_rename.ensures)))
+    (answered_only c.args.self.now.content call (past_caller c.args.self.now c.args.caller call c.in_ok-check_rename.ensures)))
