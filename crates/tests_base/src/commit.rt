@@ -102,7 +102,7 @@ fn prints(rt: &impl Abort, alloc: Global, fault: CommitFault, text: &str) -> boo
 fn output_missing_then_over(rt: HostRuntime) {
     let alloc = rt.alloc();
     let app = generation(&rt, 1);
-    let caller = &Caller { app };
+    let caller = &Caller { app, attempt: None };
     let layout = out(&rt, alloc);
     let mut names = new_namespace(&rt, alloc);
     let mut setup = made(&rt, SetupJob::new(&layout, app));
@@ -120,7 +120,7 @@ fn output_missing_then_over(rt: HostRuntime) {
 fn two_level_merge(rt: HostRuntime) {
     let alloc = rt.alloc();
     let app = generation(&rt, 1);
-    let caller = &Caller { app };
+    let caller = &Caller { app, attempt: None };
     let layout = out(&rt, alloc);
     let mut names = new_namespace(&rt, alloc);
     let task = "/out/_temporary/1/task_200707121733_0003_r_000000";
@@ -172,7 +172,7 @@ fn two_level_merge(rt: HostRuntime) {
 fn file_beneath_the_job_attempt(rt: HostRuntime) {
     let alloc = rt.alloc();
     let app = generation(&rt, 1);
-    let caller = &Caller { app };
+    let caller = &Caller { app, attempt: None };
     let layout = out(&rt, alloc);
     let mut names = new_namespace(&rt, alloc);
     assert!(rt; told(&rt, setup_job(&mut names, *caller, &layout)) == Ok(()));
@@ -209,6 +209,7 @@ fn committed_and_checked(rt: HostRuntime) {
     let alloc = rt.alloc();
     let caller = &Caller {
         app: generation(&rt, 1),
+        attempt: None,
     };
     let layout = out(&rt, alloc);
     let a = attempt(&rt);

@@ -54,6 +54,7 @@ fn namespace_refusals(rt: HostRuntime) {
     let alloc = rt.alloc();
     let one = &Caller {
         app: generation(&rt, 1),
+        attempt: None,
     };
     let mut names = new_namespace(&rt, alloc);
     let a = path(&rt, alloc, "/a");
@@ -82,6 +83,7 @@ fn namespace_read_and_foresee(rt: HostRuntime) {
     let alloc = rt.alloc();
     let one = &Caller {
         app: generation(&rt, 1),
+        attempt: None,
     };
     let mut names = new_namespace(&rt, alloc);
     let f = path(&rt, alloc, "/f");
@@ -109,6 +111,7 @@ fn namespace_calls(rt: HostRuntime) {
     let alloc = rt.alloc();
     let two = &Caller {
         app: generation(&rt, 2),
+        attempt: None,
     };
     let mut names = new_namespace(&rt, alloc);
     names.raise(two.app);
@@ -164,6 +167,7 @@ fn namespace_calls_as_values(rt: HostRuntime) {
     let alloc = rt.alloc();
     let one = &Caller {
         app: generation(&rt, 1),
+        attempt: None,
     };
     let mut names = new_namespace(&rt, alloc);
     changes_are_done(&rt, alloc, &mut names, one);
