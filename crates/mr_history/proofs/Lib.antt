@@ -3,6 +3,7 @@ pub mod Widths
 pub mod Lines
 pub mod Told
 pub mod Splits
+pub mod Tellings
 pub mod Replays
 pub mod Segments
 pub mod Histories

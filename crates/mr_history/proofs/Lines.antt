@@ -1,5 +1,5 @@
 -- A record's line is the compact text of its JSON value, and is read as it.
-use Rattle.std.proofs.Common.{◌≡◌, ◌<◌, ◌≤◌, ◌^◌, ℕ, true, false, nat_lt, List, [], ◌∷◌, ◌++◌, codes, decimal, Some, sym, ap, ap₂, ◌∙◌, refl, rules, arith, append-nil, append_assoc, option_and_then, true≢false}
+use Rattle.std.proofs.Common.{◌≡◌, ◌<◌, ◌≤◌, ◌^◌, ℕ, true, false, nat_lt, List, [], ◌∷◌, ◌++◌, codes, decimal, Some, None, sym, ap, ap₂, ◌∙◌, refl, rules, arith, append-nil, append_assoc, option_and_then, true≢false}
 use Rattle.std.specs.Prelude.{IsUtf8}
 use Rattle.std.specs.List.{list_all}
 use Rattle.std.proofs.lemmas.Bool.{and_parts}
@@ -47,7 +47,8 @@ pub compact-value_of : (r : Record) → compact_text (value_of r) ≡ line_of r
 unfolding line_of escape_byte
 compact-value_of (AttemptStarted a node) = ap (λ l. codes "{\"attempt\":" ++ l) (quoted_then (attempt_text a) (codes ",\"event\":\"started\",\"node\":" ++ (decimal node ++ codes "}")) (attempt_plain a))
 compact-value_of (MapSucceeded a node incarnation) = ap (λ l. codes "{\"attempt\":" ++ l) (quoted_then (attempt_text a) (codes ",\"event\":\"map\",\"incarnation\":" ++ (decimal incarnation ++ (codes ",\"node\":" ++ (decimal node ++ codes "}")))) (attempt_plain a))
-compact-value_of (ReduceSucceeded a) = ap (λ l. codes "{\"attempt\":" ++ l) (quoted_then (attempt_text a) (codes ",\"event\":\"reduce\"}") (attempt_plain a))
+compact-value_of (ReduceSucceeded a (Some bytes)) = ap (λ l. codes "{\"attempt\":" ++ l) (quoted_then (attempt_text a) (codes ",\"bytes\":" ++ (decimal bytes ++ codes ",\"event\":\"reduce\"}")) (attempt_plain a))
+compact-value_of (ReduceSucceeded a None) = ap (λ l. codes "{\"attempt\":" ++ l) (quoted_then (attempt_text a) (codes ",\"event\":\"reduce\"}") (attempt_plain a))
 compact-value_of (AttemptFailed a) = ap (λ l. codes "{\"attempt\":" ++ l) (quoted_then (attempt_text a) (codes ",\"event\":\"failed\"}") (attempt_plain a))
 compact-value_of JobUnsuccessful = refl
 
@@ -56,28 +57,32 @@ compact-value_of JobUnsuccessful = refl
 pub has_float-value_of : (r : Record) → has_float (value_of r) ≡ false
 has_float-value_of (AttemptStarted a node) = refl
 has_float-value_of (MapSucceeded a node incarnation) = refl
-has_float-value_of (ReduceSucceeded a) = refl
+has_float-value_of (ReduceSucceeded a None) = refl
+has_float-value_of (ReduceSucceeded a (Some bytes)) = refl
 has_float-value_of (AttemptFailed a) = refl
 has_float-value_of JobUnsuccessful = refl
 
 HasNumbers-outline : (r : Record) → InRange r → HasNumbers (outline (value_of r))
 HasNumbers-outline (AttemptStarted a node) h = (tt, (tt, (IsNumber-decimal node (omega arith), tt)))
 HasNumbers-outline (MapSucceeded a node incarnation) h = (tt, (tt, (IsNumber-decimal incarnation (omega arith), (IsNumber-decimal node (omega arith), tt))))
-HasNumbers-outline (ReduceSucceeded a) h = (tt, (tt, tt))
+HasNumbers-outline (ReduceSucceeded a None) h = (tt, (tt, tt))
+HasNumbers-outline (ReduceSucceeded a (Some bytes)) h = (tt, (IsNumber-decimal bytes (omega arith), (tt, tt)))
 HasNumbers-outline (AttemptFailed a) h = (tt, (tt, tt))
 HasNumbers-outline JobUnsuccessful h = (tt, tt)
 
 of_json-outline : (r : Record) → InRange r → of_json (outline (value_of r)) ≡ Some (value_of r)
 of_json-outline (AttemptStarted a node) h = rw (number_of-decimal node (omega arith)) refl
 of_json-outline (MapSucceeded a node incarnation) h = rw (number_of-decimal incarnation (omega arith), number_of-decimal node (omega arith)) refl
-of_json-outline (ReduceSucceeded a) h = refl
+of_json-outline (ReduceSucceeded a None) h = refl
+of_json-outline (ReduceSucceeded a (Some bytes)) h = rw (number_of-decimal bytes (omega arith)) refl
 of_json-outline (AttemptFailed a) h = refl
 of_json-outline JobUnsuccessful h = refl
 
 shallow : (r : Record) → depth (outline (value_of r)) ≤ 127
 shallow (AttemptStarted a node) = search rules
 shallow (MapSucceeded a node incarnation) = search rules
-shallow (ReduceSucceeded a) = search rules
+shallow (ReduceSucceeded a None) = search rules
+shallow (ReduceSucceeded a (Some bytes)) = search rules
 shallow (AttemptFailed a) = search rules
 shallow JobUnsuccessful = search rules
 
@@ -120,6 +125,9 @@ IsUtf8-line_of (MapSucceeded a node incarnation) h =
     told_utf8 a _ (literal (codes "\",\"event\":\"map\",\"incarnation\":") refl _
     (IsUtf8-append (decimal incarnation) _ (number_utf8 incarnation h.2) (literal (codes ",\"node\":") refl _
     (IsUtf8-append (decimal node) (codes "}") (number_utf8 node h.1) (IsUtf8-are_ascii (codes "}") refl)))))
-IsUtf8-line_of (ReduceSucceeded a) h = told_utf8 a _ (IsUtf8-are_ascii (codes "\",\"event\":\"reduce\"}") refl)
+IsUtf8-line_of (ReduceSucceeded a (Some bytes)) h =
+    told_utf8 a _ (literal (codes "\",\"bytes\":") refl _
+    (IsUtf8-append (decimal bytes) _ (number_utf8 bytes h.1) (IsUtf8-are_ascii (codes ",\"event\":\"reduce\"}") refl)))
+IsUtf8-line_of (ReduceSucceeded a None) h = told_utf8 a _ (IsUtf8-are_ascii (codes "\",\"event\":\"reduce\"}") refl)
 IsUtf8-line_of (AttemptFailed a) h = told_utf8 a _ (IsUtf8-are_ascii (codes "\",\"event\":\"failed\"}") refl)
 IsUtf8-line_of JobUnsuccessful h = IsUtf8-are_ascii (codes "{\"event\":\"unsuccessful\"}") refl

@@ -1,15 +1,31 @@
 -- What has been read of bytes, line by line.
-use Rattle.std.proofs.Common.{◌≡◌, ◌+◌, ℕ, List, [], ◌∷◌, ◌++◌, length, Option, Some, None, option_map, refl, sym, ap, ◌∙◌, arith, append_assoc, append-nil, length-append}
+use Rattle.std.proofs.Common.{◌≡◌, ◌+◌, ℕ, Bool, true, false, cond, nat_eq, List, [], ◌∷◌, ◌++◌, length, Option, Some, None, option_map, refl, sym, ap, ◌∙◌, arith, append_assoc, append-nil, length-append, subst}
 use Rattle.std.specs.List.{filter_map, cons_option}
 use Rattle.mr_history.specs.declared.record.Record.{Record}
-use Rattle.mr_history.specs.Reading.{HasNoFeed, whole_lines, torn_of, record_of, records_of, bad_among, bad_line}
+use Rattle.mr_history.specs.Line.{head, version_line, IsVersion}
+use Rattle.mr_history.specs.Reading.{HasNoFeed, is_text, whole_lines, torn_of, version_in, version_of, record_of, records_as, records_of, bad_among, bad_in, bad_line}
+use Rattle.mr_history.proofs.Told.{not_text}
 use Rattle.mr_history.proofs.Splits.{line_first, torn_first, no_line, all_torn}
+use Rattle.mr_history.proofs.Tellings.{head_version, head_records, head_torn, head_bad, in_version}
 
--- the records so far, and the rest of the bytes
-pub record Reads (bytes rest : List ℕ) (rs : List Record) : Type 0 where
-  pub so_far : records_of bytes ≡ rs ++ records_of rest
-  pub torn_left : torn_of bytes ≡ torn_of rest
-  pub bad_left : bad_line bytes ≡ option_map (λ n. n + length rs) (bad_line rest)
+-- ---- the version line
+
+pub no_lines : (bytes : List ℕ) → HasNoFeed bytes → 1 ≡ version_of bytes
+unfolding version_of
+no_lines bytes h = sym (ap version_in (no_line bytes h))
+
+pub has_head : (bytes line after : List ℕ) → bytes ≡ line ++ 10 ∷ after → line ≡ version_line → (2 ≡ version_of bytes) × (bytes ≡ head 2 ++ after)
+has_head bytes line after is e =
+    let whole : bytes ≡ head 2 ++ after = is ∙ ap (λ l. l ++ 10 ∷ after) e ∙ sym (append_assoc version_line (10 ∷ []) after) in
+    (sym (ap version_of whole ∙ head_version after), whole)
+
+pub no_head : (bytes line after : List ℕ) → HasNoFeed line → bytes ≡ line ++ 10 ∷ after → (line ≡ version_line → ⊥) → 1 ≡ version_of bytes
+unfolding version_of
+no_head bytes line after h is apart = sym (ap (λ b. version_in (whole_lines b)) is ∙ ap version_in (line_first line after h) ∙ rw (not_text line version_line apart) refl)
+
+-- how many lines come before the first record's
+abbrev pub before : ℕ → ℕ
+before version = cond (nat_eq version 2) 1 0
 
 plus_none : (o : Option ℕ) → o ≡ option_map (λ n. n + 0) o
 plus_none None = refl
@@ -19,37 +35,83 @@ plus_more : (o : Option ℕ) (k m : ℕ) → m ≡ k + 1 → option_map (λ n. n
 plus_more None k m e = refl
 plus_more (Some n) k m e = ap Some (omega arith)
 
-pub start : (bytes : List ℕ) → Reads bytes bytes []
-start bytes = record { so_far = refl; torn_left = refl; bad_left = plus_none (bad_line bytes) }
+-- what bytes tell, by what stands after the version line
+record Behind (version : ℕ) (bytes lines : List ℕ) : Type 0 where
+  records : records_of bytes ≡ records_as version lines
+  torn : torn_of bytes ≡ torn_of lines
+  bad : bad_line bytes ≡ option_map (λ n. n + before version) (bad_among version (whole_lines lines))
 
-records_step : (line after : List ℕ) (r : Record) → HasNoFeed line → record_of line ≡ Some r → records_of (line ++ 10 ∷ after) ≡ r ∷ records_of after
-unfolding records_of
-records_step line after r h e = ap (filter_map record_of) (line_first line after h) ∙ ap (λ o. cons_option o (filter_map record_of (whole_lines after))) e
+behind_one : (bytes : List ℕ) → 1 ≡ version_of bytes → Behind 1 bytes bytes
+unfolding version_of bad_line
+behind_one bytes e = record {
+  records = ap (λ v. records_as v bytes) (sym e);
+  torn = refl;
+  bad = by (whole_lines bytes) e ∙ plus_none (bad_among 1 (whole_lines bytes));
+}
+  where
+    by : (ls : List (List ℕ)) → 1 ≡ version_in ls → bad_in ls ≡ bad_among 1 ls
+    by [] e = refl
+    by (l ∷ ls) e = test (is_text l version_line) e
+      where
+        test : (b : Bool) → ◌≡◌ {A = ℕ} 1 (cond b 2 1) → cond b (option_map (λ n. n + 1) (bad_among 2 ls)) (bad_among 1 (l ∷ ls)) ≡ bad_among 1 (l ∷ ls)
+        test false e = refl
+        test true e = absurd (let f : ◌≡◌ {A = ℕ} 1 2 = e in omega arith)
 
-bad_step : (line after : List ℕ) (r : Record) → HasNoFeed line → record_of line ≡ Some r → bad_line (line ++ 10 ∷ after) ≡ option_map (λ n. n + 1) (bad_line after)
-unfolding bad_line
-bad_step line after r h e = ap bad_among (line_first line after h) ∙ rw e refl
-
-bad_stop : (line after : List ℕ) → HasNoFeed line → record_of line ≡ None → bad_line (line ++ 10 ∷ after) ≡ Some 1
-unfolding bad_line
-bad_stop line after h e = ap bad_among (line_first line after h) ∙ rw e refl
-
-pub more : (bytes rest line after : List ℕ) (rs : List Record) (r : Record) → Reads bytes rest rs → HasNoFeed line → rest ≡ line ++ 10 ∷ after → Some r ≡ record_of line → Reads bytes after (rs ++ r ∷ [])
-more bytes rest line after rs r so h is e = record {
-  so_far = so.so_far ∙ ap (λ l. rs ++ records_of l) is ∙ ap (λ l. rs ++ l) (records_step line after r h (sym e)) ∙ sym (append_assoc rs (r ∷ []) (records_of after));
-  torn_left = so.torn_left ∙ ap torn_of is ∙ torn_first line after h;
-  bad_left = so.bad_left ∙ ap (λ l. option_map (λ n. n + length rs) (bad_line l)) is ∙ ap (option_map (λ n. n + length rs)) (bad_step line after r h (sym e)) ∙ plus_more (bad_line after) (length rs) (length (rs ++ r ∷ [])) (length-append rs (r ∷ []));
+behind_two : (lines : List ℕ) → Behind 2 (head 2 ++ lines) lines
+behind_two lines = record {
+  records = ap (λ v. records_as v (head 2 ++ lines)) (head_version lines) ∙ head_records 2 lines;
+  torn = head_torn lines;
+  bad = head_bad lines;
 }
 
-pub stops : (bytes rest line after : List ℕ) (rs : List Record) → Reads bytes rest rs → HasNoFeed line → rest ≡ line ++ 10 ∷ after → None ≡ record_of line → bad_line bytes ≡ Some (length rs + 1)
-stops bytes rest line after rs so h is e =
-    so.bad_left ∙ ap (λ l. option_map (λ n. n + length rs) (bad_line l)) is ∙ ap (option_map (λ n. n + length rs)) (bad_stop line after h (sym e)) ∙ ap Some (omega arith)
+behind : (version : ℕ) (bytes lines : List ℕ) → IsVersion version → version ≡ version_of bytes → bytes ≡ head version ++ lines → Behind version bytes lines
+behind version bytes lines is shows e =
+    subst (λ b. Behind version b lines) (sym e) (in_version (λ v. v ≡ version_of (head v ++ lines) → Behind v (head v ++ lines) lines) version is (behind_one lines) (λ _. behind_two lines) (shows ∙ ap version_of e))
 
-none_left : (rest : List ℕ) → HasNoFeed rest → (records_of rest ≡ []) × (bad_line rest ≡ None)
-unfolding records_of bad_line
-none_left rest h = (ap (filter_map record_of) (no_line rest h), ap bad_among (no_line rest h))
+-- ---- line by line
 
-pub ends : (bytes rest : List ℕ) (rs : List Record) → Reads bytes rest rs → HasNoFeed rest → (bad_line bytes ≡ None) × (rs ≡ records_of bytes) × (length rest ≡ length (torn_of bytes))
-ends bytes rest rs so h =
-    let none = none_left rest h in
-    (so.bad_left ∙ ap (option_map (λ n. n + length rs)) none.1, sym (so.so_far ∙ ap (λ l. rs ++ l) none.0 ∙ append-nil rs), ap length (sym (so.torn_left ∙ all_torn rest h)))
+-- the records so far, and the rest of the bytes
+pub record Reads (version : ℕ) (bytes rest : List ℕ) (rs : List Record) : Type 0 where
+  pub so_far : records_as version bytes ≡ rs ++ records_as version rest
+  pub torn_left : torn_of bytes ≡ torn_of rest
+  pub bad_left : bad_among version (whole_lines bytes) ≡ option_map (λ n. n + length rs) (bad_among version (whole_lines rest))
+
+pub start : (version : ℕ) (bytes : List ℕ) → Reads version bytes bytes []
+start version bytes = record { so_far = refl; torn_left = refl; bad_left = plus_none (bad_among version (whole_lines bytes)) }
+
+records_step : (version : ℕ) (line after : List ℕ) (r : Record) → HasNoFeed line → record_of version line ≡ Some r → records_as version (line ++ 10 ∷ after) ≡ r ∷ records_as version after
+unfolding records_as
+records_step version line after r h e = ap (filter_map (record_of version)) (line_first line after h) ∙ ap (λ o. cons_option o (filter_map (record_of version) (whole_lines after))) e
+
+bad_step : (version : ℕ) (line after : List ℕ) (r : Record) → HasNoFeed line → record_of version line ≡ Some r → bad_among version (whole_lines (line ++ 10 ∷ after)) ≡ option_map (λ n. n + 1) (bad_among version (whole_lines after))
+bad_step version line after r h e = ap (bad_among version) (line_first line after h) ∙ rw e refl
+
+bad_stop : (version : ℕ) (line after : List ℕ) → HasNoFeed line → record_of version line ≡ None → bad_among version (whole_lines (line ++ 10 ∷ after)) ≡ Some 1
+bad_stop version line after h e = ap (bad_among version) (line_first line after h) ∙ rw e refl
+
+pub more : (version : ℕ) (bytes rest line after : List ℕ) (rs : List Record) (r : Record) → Reads version bytes rest rs → HasNoFeed line → rest ≡ line ++ 10 ∷ after → Some r ≡ record_of version line → Reads version bytes after (rs ++ r ∷ [])
+more version bytes rest line after rs r so h is e = record {
+  so_far = so.so_far ∙ ap (λ l. rs ++ records_as version l) is ∙ ap (λ l. rs ++ l) (records_step version line after r h (sym e)) ∙ sym (append_assoc rs (r ∷ []) (records_as version after));
+  torn_left = so.torn_left ∙ ap torn_of is ∙ torn_first line after h;
+  bad_left = so.bad_left ∙ ap (λ l. option_map (λ n. n + length rs) (bad_among version (whole_lines l))) is ∙ ap (option_map (λ n. n + length rs)) (bad_step version line after r h (sym e)) ∙ plus_more (bad_among version (whole_lines after)) (length rs) (length (rs ++ r ∷ [])) (length-append rs (r ∷ []));
+}
+
+pub stops : (version : ℕ) (bytes lines rest line after : List ℕ) (rs : List Record) → IsVersion version → version ≡ version_of bytes → bytes ≡ head version ++ lines → Reads version lines rest rs → HasNoFeed line → rest ≡ line ++ 10 ∷ after → None ≡ record_of version line → bad_line bytes ≡ Some (length rs + before version + 1)
+stops version bytes lines rest line after rs is shows from so h rest_is e =
+    (behind version bytes lines is shows from).bad
+    ∙ ap (option_map (λ n. n + before version)) (so.bad_left ∙ ap (λ l. option_map (λ n. n + length rs) (bad_among version (whole_lines l))) rest_is ∙ ap (option_map (λ n. n + length rs)) (bad_stop version line after h (sym e)))
+    ∙ ap Some (let k = before version in omega arith)
+
+none_left : (version : ℕ) (rest : List ℕ) → HasNoFeed rest → (records_as version rest ≡ []) × (bad_among version (whole_lines rest) ≡ None)
+unfolding records_as
+none_left version rest h = (ap (filter_map (record_of version)) (no_line rest h), ap (bad_among version) (no_line rest h))
+
+pub ends : (version : ℕ) (bytes lines rest : List ℕ) (rs : List Record) → IsVersion version → version ≡ version_of bytes → bytes ≡ head version ++ lines → Reads version lines rest rs → HasNoFeed rest → (bad_line bytes ≡ None) × (version ≡ version_of bytes) × (rs ≡ records_of bytes) × (length rest ≡ length (torn_of bytes))
+ends version bytes lines rest rs is shows from so h =
+    let none = none_left version rest h in
+    let b = behind version bytes lines is shows from in (
+      b.bad ∙ ap (option_map (λ n. n + before version)) (so.bad_left ∙ ap (option_map (λ n. n + length rs)) none.1),
+      shows,
+      sym (b.records ∙ so.so_far ∙ ap (λ l. rs ++ l) none.0 ∙ append-nil rs),
+      ap length (sym (b.torn ∙ so.torn_left ∙ all_torn rest h)),
+    )

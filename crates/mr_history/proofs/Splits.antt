@@ -1,11 +1,9 @@
--- The whole lines of bytes, and their records.
-use Rattle.std.proofs.Common.{◌≡◌, ◌<◌, ◌≤◌, ◌^◌, ◌+◌, ◌-◌, ℕ, zero, suc, Bool, true, false, not, cond, nat_le, List, [], ◌∷◌, ◌++◌, length, take, codes, decimal, Option, Some, None, refl, sym, ap, ap₂, ◌∙◌, arith, append_assoc, append-nil, length-append, true≢false, leb-true, subst}
-use Rattle.std.specs.List.{slice_split, list_all, filter_map, cons_option, AllByRecursion}
+-- The whole lines of bytes.
+use Rattle.std.proofs.Common.{◌≡◌, ◌<◌, ◌^◌, ℕ, zero, suc, Bool, true, false, not, List, [], ◌∷◌, ◌++◌, take, codes, decimal, Some, None, refl, sym, ap, ap₂, ◌∙◌, arith, append_assoc, append-nil, true≢false}
+use Rattle.std.specs.List.{slice_split, list_all, AllByRecursion}
 use Rattle.std.specs.Char.{is_ascii_digit}
 use Rattle.std.proofs.lemmas.Bool.{and_parts}
 use Rattle.std.proofs.lemmas.Bool.Decides.{nat_tests}
-use Rattle.std.proofs.lemmas.List.{take_all, take-append-le}
-use Rattle.std.proofs.Math.Seq.{take-append-add}
 use Rattle.std.proofs.lemmas.List.Folds.{list_all-append}
 use Rattle.std.proofs.lemmas.List.Splits.{slice_split_at, slice_split_none}
 use Rattle.std.proofs.lemmas.List.Elements.{All-from_recursion, recursion_from_All}
@@ -15,10 +13,9 @@ use Rattle.mr_ids.proofs.Numerals.{numeral_digits}
 use Rattle.mr_ids.proofs.Shown.{decimal-numeral}
 use Rattle.mr_history.specs.declared.record.Record.{Record}
 use Rattle.mr_history.specs.declared.record.Record.TheVariants.{AttemptStarted, MapSucceeded, ReduceSucceeded, AttemptFailed, JobUnsuccessful}
-use Rattle.mr_history.specs.Line.{line_of, whole_line, lines, width, whole_in, IsRecord, InRange}
-use Rattle.mr_history.specs.Reading.{is_feed, HasNoFeed, all_but_last, last_piece, whole_lines, torn_of, record_of, records_of, bad_among, bad_line}
+use Rattle.mr_history.specs.Line.{line_of, InRange}
+use Rattle.mr_history.specs.Reading.{is_feed, HasNoFeed, all_but_last, last_piece, whole_lines, torn_of}
 use Rattle.mr_history.proofs.Texts.{plain, attempt_plain}
-use Rattle.mr_history.proofs.Told.{record_of-line_of, record_of-is}
 
 -- ---- bytes with no line feed
 
@@ -46,7 +43,7 @@ is_clean xs h = by xs (recursion_from_All (λ b. is_feed b ≡ false) xs h)
 pub both_clean : (xs ys : List ℕ) → clean xs ≡ true → clean ys ≡ true → clean (xs ++ ys) ≡ true
 both_clean xs ys h k = list_all-append (λ b. not (is_feed b)) xs ys ∙ rw (h, k) refl
 
-clean-take : (n : ℕ) (xs : List ℕ) → clean xs ≡ true → clean (take n xs) ≡ true
+pub clean-take : (n : ℕ) (xs : List ℕ) → clean xs ≡ true → clean (take n xs) ≡ true
 clean-take zero xs h = refl
 clean-take (suc n) [] h = refl
 clean-take (suc n) (x ∷ xs) h = let p = and_parts (not (is_feed x)) (clean xs) h in rw (p.0, clean-take n xs p.1) refl
@@ -83,7 +80,8 @@ line_clean (MapSucceeded a node incarnation) h =
     (both_clean (codes "\",\"event\":\"map\",\"incarnation\":") (decimal incarnation ++ ending) refl
     (both_clean (decimal incarnation) ending (decimal_clean incarnation h.2)
     (both_clean (codes ",\"node\":") (decimal node ++ codes "}") refl (closing node h.1))))
-line_clean (ReduceSucceeded a) h = told_clean a (codes "\",\"event\":\"reduce\"}") refl
+line_clean (ReduceSucceeded a (Some bytes)) h = told_clean a (codes "\",\"bytes\":" ++ (decimal bytes ++ codes ",\"event\":\"reduce\"}")) (both_clean (codes "\",\"bytes\":") (decimal bytes ++ codes ",\"event\":\"reduce\"}") refl (both_clean (decimal bytes) (codes ",\"event\":\"reduce\"}") (decimal_clean bytes h.1) refl))
+line_clean (ReduceSucceeded a None) h = told_clean a (codes "\",\"event\":\"reduce\"}") refl
 line_clean (AttemptFailed a) h = told_clean a (codes "\",\"event\":\"failed\"}") refl
 line_clean JobUnsuccessful h = refl
 
@@ -185,138 +183,3 @@ torn-append xs ys none =
     let empty : c.torn ≡ [] = sym (cut_torn xs c) ∙ none in
     let is : xs ≡ ended c.whole = c.is ∙ ap (λ t. ended c.whole ++ t) empty ∙ append-nil (ended c.whole) in
     ap (λ l. torn_of (l ++ ys)) is ∙ torn_ended c.whole ys c.whole_clean
-
--- ---- records
-
-filter-append : (ls ms : List (List ℕ)) → filter_map record_of (ls ++ ms) ≡ filter_map record_of ls ++ filter_map record_of ms
-filter-append [] ms = refl
-filter-append (l ∷ ls) ms = by (record_of l) (filter-append ls ms)
-  where
-    by : (o : Option Record) → filter_map record_of (ls ++ ms) ≡ filter_map record_of ls ++ filter_map record_of ms → cons_option o (filter_map record_of (ls ++ ms)) ≡ cons_option o (filter_map record_of ls) ++ filter_map record_of ms
-    by None e = e
-    by (Some r) e = ap (λ l. r ∷ l) e
-
-pub records-append : (xs ys : List ℕ) → torn_of xs ≡ [] → records_of (xs ++ ys) ≡ records_of xs ++ records_of ys
-unfolding records_of
-records-append xs ys none = ap (filter_map record_of) (lines-append xs ys none) ∙ filter-append (whole_lines xs) (whole_lines ys)
-
--- what bytes tell are records
-pub records_are : (bytes : List ℕ) → AllByRecursion IsRecord (records_of bytes)
-unfolding records_of
-records_are bytes = by (whole_lines bytes)
-  where
-    one : (l : List ℕ) (rs : List Record) (o : Option Record) → record_of l ≡ o → AllByRecursion IsRecord rs → AllByRecursion IsRecord (cons_option o rs)
-    one l rs None e h = h
-    one l rs (Some r) e h = ((record_of-is l r e).0, h)
-
-    by : (ls : List (List ℕ)) → AllByRecursion IsRecord (filter_map record_of ls)
-    by [] = tt
-    by (l ∷ ls) = one l (filter_map record_of ls) (record_of l) refl (by ls)
-
-line_feed : (r : Record) (rest : List ℕ) → whole_line r ++ rest ≡ line_of r ++ 10 ∷ rest
-line_feed r rest = append_assoc (line_of r) (10 ∷ []) rest
-
-pub record_first : (r : Record) (rest : List ℕ) → IsRecord r → records_of (whole_line r ++ rest) ≡ r ∷ records_of rest
-unfolding records_of
-record_first r rest h =
-    ap (λ l. filter_map record_of (whole_lines l)) (line_feed r rest)
-    ∙ ap (filter_map record_of) (line_first (line_of r) rest (no_feed (line_of r) (line_clean r h.1)))
-    ∙ ap (λ o. cons_option o (filter_map record_of (whole_lines rest))) (record_of-line_of r h)
-
-none_bad : (r : Record) (rest : List ℕ) → IsRecord r → bad_line rest ≡ None → bad_line (whole_line r ++ rest) ≡ None
-unfolding bad_line
-none_bad r rest h none =
-    ap (λ l. bad_among (whole_lines l)) (line_feed r rest)
-    ∙ ap bad_among (line_first (line_of r) rest (no_feed (line_of r) (line_clean r h.1)))
-    ∙ rw (record_of-line_of r h, none) refl
-
-pub lines_more : (rs : List Record) (rest : List ℕ) → AllByRecursion IsRecord rs → records_of (lines rs ++ rest) ≡ rs ++ records_of rest
-lines_more [] rest h = refl
-lines_more (r ∷ rs) rest h = ap records_of (append_assoc (whole_line r) (lines rs) rest) ∙ record_first r (lines rs ++ rest) h.0 ∙ ap (λ l. r ∷ l) (lines_more rs rest h.1)
-
-pub lines_torn : (rs : List Record) (rest : List ℕ) → AllByRecursion IsRecord rs → torn_of (lines rs ++ rest) ≡ torn_of rest
-lines_torn [] rest h = refl
-lines_torn (r ∷ rs) rest h =
-    ap torn_of (append_assoc (whole_line r) (lines rs) rest ∙ line_feed r (lines rs ++ rest))
-    ∙ torn_first (line_of r) (lines rs ++ rest) (no_feed (line_of r) (line_clean r h.0.1))
-    ∙ lines_torn rs rest h.1
-
-pub lines_good : (rs : List Record) (rest : List ℕ) → AllByRecursion IsRecord rs → bad_line rest ≡ None → bad_line (lines rs ++ rest) ≡ None
-lines_good [] rest h none = none
-lines_good (r ∷ rs) rest h none = ap bad_line (append_assoc (whole_line r) (lines rs) rest) ∙ none_bad r (lines rs ++ rest) h.0 (lines_good rs rest h.1 none)
-
-pub torn_tells : (rest : List ℕ) → clean rest ≡ true → records_of rest ≡ []
-unfolding records_of
-torn_tells rest h = ap (filter_map record_of) (no_line rest (no_feed rest h))
-
-torn_good : (rest : List ℕ) → clean rest ≡ true → bad_line rest ≡ None
-unfolding bad_line
-torn_good rest h = ap bad_among (no_line rest (no_feed rest h))
-
--- lines of records and torn bytes are replayed as these records, and nothing is bad
-pub replayed : (bytes : List ℕ) (rs : List Record) (rest : List ℕ) → bytes ≡ lines rs ++ rest → AllByRecursion IsRecord rs → clean rest ≡ true → (records_of bytes ≡ rs) × (torn_of bytes ≡ rest) × (bad_line bytes ≡ None)
-replayed bytes rs rest is h k = (
-  ap records_of is ∙ lines_more rs rest h ∙ ap (λ l. rs ++ l) (torn_tells rest k) ∙ append-nil rs,
-  ap torn_of is ∙ lines_torn rs rest h ∙ all_torn rest (no_feed rest k),
-  ap bad_line is ∙ lines_good rs rest h (torn_good rest k),
-)
-
--- ---- the first bytes of lines
-
-pub record Front (n : ℕ) (rs : List Record) : Type 0 where
-  pub rest : List ℕ
-  pub is : take n (lines rs) ≡ lines (whole_in n rs) ++ rest
-  pub clean_rest : clean rest ≡ true
-
-pub front : (n : ℕ) (rs : List Record) → AllByRecursion IsRecord rs → Front n rs
-unfolding whole_in width
-front n [] h = record { rest = []; is = take_all n [] (omega arith); clean_rest = refl }
-front n (r ∷ rs) h = by (nat_le (width r) n) refl (λ m. front m rs h.1)
-  where
-    len : length (whole_line r) ≡ width r
-    len = length-append (line_of r) (10 ∷ [])
-
-    by : (t : Bool) → nat_le (width r) n ≡ t → ((m : ℕ) → Front m rs) → Front n (r ∷ rs)
-    by true e go =
-        let le : width r ≤ n = leb-true (width r) n e in
-        let m = n - width r in
-        let sum : n ≡ length (whole_line r) + m = omega (arith, len) in
-        let f = go m in
-        record {
-          rest = f.rest;
-          is = ap (λ k. take k (whole_line r ++ lines rs)) sum ∙ take-append-add (whole_line r) (lines rs) m ∙ ap (λ l. whole_line r ++ l) f.is ∙ sym (append_assoc (whole_line r) (lines (whole_in m rs)) f.rest) ∙ rw e refl;
-          clean_rest = f.clean_rest;
-        }
-    by false e go =
-        let gt : n < width r = grind (arith, nat_tests) in
-        let short : n ≤ length (line_of r) = omega (arith, len, length-append (line_of r) (10 ∷ [])) in
-        record {
-          rest = take n (line_of r);
-          is = take-append-le n (whole_line r) (lines rs) (omega (arith, len)) ∙ take-append-le n (line_of r) (10 ∷ []) short ∙ rw e refl;
-          clean_rest = clean-take n (line_of r) (line_clean r h.0.1);
-        }
-
--- what lies whole there are the first of the records
-pub whole_is_front : (n : ℕ) (rs : List Record) → (more : List Record) × (rs ≡ whole_in n rs ++ more)
-unfolding whole_in
-whole_is_front n [] = ([], refl)
-whole_is_front n (r ∷ rs) = by (nat_le (width r) n) (whole_is_front (n - width r) rs)
-  where
-    by : (t : Bool) → (more : List Record) × (rs ≡ whole_in (n - width r) rs ++ more) → (more : List Record) × (r ∷ rs ≡ cond t (r ∷ whole_in (n - width r) rs) [] ++ more)
-    by true f = (f.0, ap (λ l. r ∷ l) f.1)
-    by false f = (r ∷ rs, refl)
-
-pub all_front : (xs ys : List Record) → AllByRecursion IsRecord (xs ++ ys) → AllByRecursion IsRecord xs
-all_front [] ys h = tt
-all_front (x ∷ xs) ys h = (h.0, all_front xs ys h.1)
-
-pub all_append : (xs ys : List Record) → AllByRecursion IsRecord xs → AllByRecursion IsRecord ys → AllByRecursion IsRecord (xs ++ ys)
-all_append [] ys h k = k
-all_append (x ∷ xs) ys h k = (h.0, all_append xs ys h.1 k)
-
-pub whole_are : (n : ℕ) (rs : List Record) → AllByRecursion IsRecord rs → AllByRecursion IsRecord (whole_in n rs)
-whole_are n rs h = let f = whole_is_front n rs in all_front (whole_in n rs) f.0 (subst (AllByRecursion IsRecord) f.1 h)
-
-pub lines_both : (rs ts : List Record) → lines (rs ++ ts) ≡ lines rs ++ lines ts
-lines_both [] ts = refl
-lines_both (r ∷ rs) ts = ap (λ l. whole_line r ++ l) (lines_both rs ts) ∙ sym (append_assoc (whole_line r) (lines rs) (lines ts))

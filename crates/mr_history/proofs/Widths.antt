@@ -1,5 +1,5 @@
 -- How many bytes a record takes.
-use Rattle.std.proofs.Common.{◌≡◌, ◌<◌, ◌≤◌, ◌^◌, ◌+◌, ◌-◌, ◌/◌, ℕ, List, ◌++◌, length, map, replicate, codes, decimal, ap, ap₂, ◌∙◌, arith, length-append, refl}
+use Rattle.std.proofs.Common.{◌≡◌, ◌<◌, ◌≤◌, ◌^◌, ◌+◌, ◌-◌, ◌/◌, ℕ, List, ◌++◌, length, map, replicate, codes, decimal, ap, ap₂, ◌∙◌, arith, Option, Some, None, length-append, refl}
 use Rattle.std.proofs.lemmas.List.{length-map, length-replicate}
 use Rattle.std.specs.Int.Digits.{digits_of}
 use Rattle.std.proofs.lemmas.Int.Digits.{length-digits_of_step, length-digits_of-le}
@@ -7,7 +7,7 @@ use Rattle.mr_ids.specs.Attempt.{Attempt}
 use Rattle.mr_ids.specs.Text.{numeral, attempt_text}
 use Rattle.mr_ids.proofs.Shown.{decimal-numeral}
 use Rattle.mr_history.specs.declared.record.Record.TheVariants.{AttemptStarted, MapSucceeded, ReduceSucceeded, AttemptFailed, JobUnsuccessful}
-use Rattle.mr_history.specs.Line.{line_of, width}
+use Rattle.mr_history.specs.Line.{line_of, width, bytes_width, IsIn32}
 
 pub digits_step : (n : ℕ) → 0 < n → length (digits_of 10 n) ≡ length (digits_of 10 (n / 10)) + 1
 digits_step n h = length-digits_of_step 10 n (omega arith) h
@@ -43,9 +43,15 @@ width-mapped a node incarnation h k =
     let n = number incarnation k in
     omega arith
 
-pub width-reduced : (a : Attempt) → width (ReduceSucceeded a) ≡ 32 + length (attempt_text a)
+pub width-reduced : (a : Attempt) (bytes : Option ℕ) → IsIn32 bytes → width (ReduceSucceeded a bytes) ≡ 32 + length (attempt_text a) + bytes_width bytes
 unfolding width line_of
-width-reduced a = let e = told a (codes "\",\"event\":\"reduce\"}") in omega arith
+width-reduced a None h = let e = told a (codes "\",\"event\":\"reduce\"}") in omega arith
+width-reduced a (Some bytes) h =
+    let ending = codes ",\"event\":\"reduce\"}" in
+    let e = told a (codes "\",\"bytes\":" ++ (decimal bytes ++ ending)) in
+    let f = length-append (decimal bytes) ending in
+    let n = number bytes h in
+    omega arith
 
 pub width-failed : (a : Attempt) → width (AttemptFailed a) ≡ 32 + length (attempt_text a)
 unfolding width line_of

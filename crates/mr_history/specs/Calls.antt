@@ -1,7 +1,7 @@
 -- The calls of the history: when each is refused, what it answers and what it leaves. That an application attempt
 -- recovers from the history of those before it restates the Hadoop MapReduce application master as the committer
 -- architecture document describes it; segments, seals and the fence are our own profile.
-use Rattle.std.specs.Prelude.{◌≡◌, ◌-◌, ℕ, nat_lt, List, ◌++◌, take, drop, map, set, get_or, flat_map, Option, Some, None, unwrap_or, Result, Ok, Err, if◌then◌else◌}
+use Rattle.std.specs.Prelude.{◌≡◌, ◌<◌, ◌-◌, ℕ, nat_lt, List, ◌++◌, take, drop, map, set, get_or, flat_map, Option, Some, None, unwrap_or, Result, Ok, Err, if◌then◌else◌}
 use Rattle.mr_history.specs.declared.record.Record.{Record}
 use Rattle.mr_history.specs.declared.fault.HistoryFault.{HistoryFault}
 use Rattle.mr_history.specs.declared.fault.HistoryFault.TheVariants as fault
@@ -11,7 +11,7 @@ use Rattle.mr_history.specs.Reading.{records_of}
 
 -- the segment of an application attempt
 abbrev pub segment : State → ℕ → SegmentState
-segment h k = get_or h.segments (k - 1) fresh
+segment h k = get_or h.segments (k - 1) (fresh 1)
 
 abbrev pub with_segment : State → ℕ → SegmentState → State
 with_segment h k s = record h { segments = set h.segments (k - 1) s }
@@ -90,6 +90,14 @@ MakesAlways shows old k call (Err f) new = call_of old k call ≡ (Err f, new)
 abbrev pub sealed_at : ℕ → ℕ → State → State
 sealed_at k kept h = with_segment h k (sealed kept (segment h k))
 
--- A greater application attempt raises the fence and seals every older segment.
-abbrev pub raised : ℕ → ℕ → State → State
-raised k kept h = if nat_lt h.fence k then record { segments = map (sealed kept) (take (k - 1) h.segments) ++ drop (k - 1) h.segments; fence = k } else h
+-- one of this version
+abbrev pub with_version : ℕ → SegmentState → SegmentState
+with_version version s = record s { version = version }
+
+-- A greater application attempt raises the fence, seals every older segment, and its own is of this version.
+abbrev pub raised : ℕ → ℕ → ℕ → State → State
+raised k kept version h = if nat_lt h.fence k then with_segment (record { segments = map (sealed kept) (take (k - 1) h.segments) ++ drop (k - 1) h.segments; fence = k }) k (with_version version (segment h k)) else h
+
+-- Segments above the fence are as they were made.
+abbrev pub AreUnraised : State → Type 0
+AreUnraised h = (k : ℕ) → h.fence < k → segment h k ≡ fresh 1

@@ -1,5 +1,5 @@
 -- The record as a JSON value: its line is that value's compact text, and nothing else is.
-use Rattle.std.specs.Prelude.{List, ℕ, codes}
+use Rattle.std.specs.Prelude.{List, ℕ, codes, Some, None}
 use Rattle.serde_json.specs.Data.{Data, number, unsigned, string, object, Members, member, no_members}
 use Rattle.mr_ids.specs.Attempt.{Attempt}
 use Rattle.mr_ids.specs.Text.{attempt_text}
@@ -13,6 +13,7 @@ told a event more = object (member (codes "attempt") (string (attempt_text a)) (
 abbrev pub value_of : Record → Data
 value_of (AttemptStarted a node) = told a (codes "started") (member (codes "node") (number (unsigned node)) no_members)
 value_of (MapSucceeded a node incarnation) = told a (codes "map") (member (codes "incarnation") (number (unsigned incarnation)) (member (codes "node") (number (unsigned node)) no_members))
-value_of (ReduceSucceeded a) = told a (codes "reduce") no_members
+value_of (ReduceSucceeded a None) = told a (codes "reduce") no_members
+value_of (ReduceSucceeded a (Some bytes)) = object (member (codes "attempt") (string (attempt_text a)) (member (codes "bytes") (number (unsigned bytes)) (member (codes "event") (string (codes "reduce")) no_members)))
 value_of (AttemptFailed a) = told a (codes "failed") no_members
 value_of JobUnsuccessful = object (member (codes "event") (string (codes "unsuccessful")) no_members)

@@ -1,75 +1,92 @@
 -- Laws of lines, segments and histories, by which the layers above can speak of records alone.
-use Rattle.std.specs.Prelude.{◌≡◌, ◌≢◌, ◌≤◌, ℕ, Bool, true, false, ◌&&◌, nat_lt, List, [], ◌∷◌, ◌++◌, length, take, sum_by, Some, None, if◌then◌else◌}
+use Rattle.std.specs.Prelude.{◌≡◌, ◌≢◌, ◌≤◌, ◌<◌, ◌-◌, ℕ, true, false, nat_lt, nat_le, nat_eq, List, [], ◌∷◌, ◌++◌, length, take, sum_by, Some, None, is_some, if◌then◌else◌}
 use Rattle.std.specs.List.{AllByRecursion}
 use Rattle.serde_json.specs.Read.{read}
 use Rattle.mr_ids.specs.Attempt.{Attempt}
 use Rattle.mr_ids.specs.declared.id.TaskId.{TaskId}
 use Rattle.mr_history.specs.declared.record.Record.{Record}
 use Rattle.mr_history.specs.State.{SegmentState, State}
-use Rattle.mr_history.specs.Line.{line_of, lines, width, whole_in, IsRecord}
+use Rattle.mr_history.specs.Line.{line_of, version_line, head, text, lines, width, whole_in, suits, IsVersion, IsRecord, IsRecordOf}
 use Rattle.mr_history.specs.Json.{value_of}
-use Rattle.mr_history.specs.Reading.{record_of, records_of, torn_of, bad_line, HasNoFeed}
+use Rattle.mr_history.specs.Reading.{record_of, records_as, records_of, version_of, torn_of, bad_line, HasNoFeed}
 use Rattle.mr_history.specs.Segment.{fresh, appended, flushed, sealed, IsSound}
-use Rattle.mr_history.specs.Calls.{segment, with_segment, raised}
-use Rattle.mr_history.specs.Winner.{winner_in}
+use Rattle.mr_history.specs.Calls.{segment, with_segment, with_version, raised, records_in}
+use Rattle.mr_history.specs.Recorded.{recorded, unwritten, added, settled, cut, tail_width}
+use Rattle.mr_history.specs.Winner.{winner_in, length_in}
 
--- A line is read back as its record, and whatever is read as a record is that record's line. It is JSON.
+-- A line is read back as its record, in the versions that can tell it, and whatever is read as a record is that
+-- record's line. It is JSON. The version line is no record.
 pub record LinesReadBack : Type 0 where
-  pub there : (r : Record) → IsRecord r → record_of (line_of r) ≡ Some r
-  pub back : (line : List ℕ) (r : Record) → record_of line ≡ Some r → IsRecord r × (line ≡ line_of r)
+  pub there : (version : ℕ) (r : Record) → IsRecordOf version r → record_of version (line_of r) ≡ Some r
+  pub back : (version : ℕ) (line : List ℕ) (r : Record) → record_of version line ≡ Some r → IsRecordOf version r × (line ≡ line_of r)
   pub is_json : (r : Record) → IsRecord r → read (line_of r) ≡ Some (value_of r)
   pub has_no_feed : (r : Record) → IsRecord r → HasNoFeed (line_of r)
+  pub of_version : (version : ℕ) → record_of version version_line ≡ None
 
 -- Whole lines, and what follows them.
 pub record LinesReplay : Type 0 where
   -- bytes that end with a line feed and more bytes: the records of both
-  pub both : (bytes more : List ℕ) → torn_of bytes ≡ [] → (records_of (bytes ++ more) ≡ records_of bytes ++ records_of more) × (torn_of (bytes ++ more) ≡ torn_of more)
-  -- the lines of records, and bytes with no line feed
-  pub of_lines : (rs : List Record) (torn : List ℕ) → AllByRecursion IsRecord rs → HasNoFeed torn → (records_of (lines rs ++ torn) ≡ rs) × (torn_of (lines rs ++ torn) ≡ torn) × (bad_line (lines rs ++ torn) ≡ None)
+  pub both : (version : ℕ) (bytes more : List ℕ) → torn_of bytes ≡ [] → (records_as version (bytes ++ more) ≡ records_as version bytes ++ records_as version more) × (torn_of (bytes ++ more) ≡ torn_of more)
+  -- what a segment begins with, the lines of records, and bytes with no line feed
+  pub of_lines : (version : ℕ) (rs : List Record) (torn : List ℕ) → IsVersion version → AllByRecursion (IsRecordOf version) rs → HasNoFeed torn →
+      (records_of (head version ++ lines rs ++ torn) ≡ rs) × (torn_of (head version ++ lines rs ++ torn) ≡ torn) × (bad_line (head version ++ lines rs ++ torn) ≡ None) × (version_of (head version ++ lines rs ++ torn) ≡ version)
   -- how long lines are
   pub len : (rs : List Record) → length (lines rs) ≡ sum_by width rs
 
--- The first n bytes of lines tell the records that lie whole in them, which are the first ones.
+-- The first n bytes of a segment tell the records that lie whole in them, which are the first ones. Bytes that hold no
+-- more than a part of the version line are of version 1, and no line of them is bad.
 pub record FrontsReplay : Type 0 where
-  pub whole : (n : ℕ) (rs : List Record) → AllByRecursion IsRecord rs → records_of (take n (lines rs)) ≡ whole_in n rs
+  pub whole : (version n : ℕ) (rs : List Record) → IsVersion version → AllByRecursion (IsRecordOf version) rs → records_of (take n (text version rs)) ≡ whole_in (n - length (head version)) rs
+  pub good : (version n : ℕ) (rs : List Record) → IsVersion version → AllByRecursion (IsRecordOf version) rs → bad_line (take n (text version rs)) ≡ None
+  pub version : (version n : ℕ) (r : Record) (rs : List Record) → IsVersion version → AllByRecursion (IsRecordOf version) (r ∷ rs) → version_of (take n (text version (r ∷ rs))) ≡ (if nat_le (length (head version)) n then version else 1)
   pub first : (n : ℕ) (rs : List Record) → (more : List Record) × (rs ≡ whole_in n rs ++ more)
 
--- a segment as its records
-pub record SegmentRecords : Type 0 where
-  pub stable : List Record
-  pub tail : List Record
-  pub is_sealed : Bool
-
-abbrev pub recorded : SegmentState → SegmentRecords
-recorded s = record { stable = records_of s.stable; tail = records_of s.tail; is_sealed = s.is_sealed }
-
--- Each change of a segment, seen at its records: an append adds one, a flush makes those of the tail stable, a seal
--- keeps those that lie whole in the first bytes of the tail.
+-- Each change of a segment, seen at its records.
 pub record SegmentsRecord : Type 0 where
-  pub of_fresh : recorded fresh ≡ record { stable = []; tail = []; is_sealed = false }
-  pub of_appended : (s : SegmentState) (r : Record) → IsSound s → IsRecord r → recorded (appended r s) ≡ record { stable = records_of s.stable; tail = records_of s.tail ++ r ∷ []; is_sealed = s.is_sealed }
-  pub of_flushed : (s : SegmentState) → IsSound s → s.is_sealed ≡ false → recorded (flushed s) ≡ record { stable = records_of s.stable ++ records_of s.tail; tail = []; is_sealed = false }
-  pub cut : (s : SegmentState) (kept : ℕ) → IsSound s → s.is_sealed ≡ false → recorded (sealed kept s) ≡ record { stable = records_of s.stable ++ whole_in kept (records_of s.tail); tail = []; is_sealed = true }
+  pub of_fresh : (version : ℕ) → recorded (fresh version) ≡ unwritten version
+  pub of_appended : (s : SegmentState) (r : Record) → IsSound s → s.is_sealed ≡ false → IsRecord r → suits s.version r ≡ true → recorded (appended r s) ≡ added r (recorded s)
+  pub of_flushed : (s : SegmentState) → IsSound s → s.is_sealed ≡ false → recorded (flushed s) ≡ settled (recorded s)
+  pub of_sealed : (s : SegmentState) (kept : ℕ) → IsSound s → recorded (sealed kept s) ≡ cut kept (recorded s)
   pub stays : (s : SegmentState) (kept : ℕ) → s.is_sealed ≡ true → sealed kept s ≡ s
-  pub tail_len : (s : SegmentState) → IsSound s → length s.tail ≡ sum_by width (records_of s.tail)
+  pub tail_len : (s : SegmentState) → IsSound s → length s.tail ≡ tail_width (recorded s)
 
--- Each change keeps a segment sound, and each record of a sound segment is one.
+-- Each change keeps a segment sound, and each record of a sound segment is one that its version can tell.
 pub record SegmentsStaySound : Type 0 where
-  pub of_fresh : IsSound fresh
-  pub of_appended : (s : SegmentState) (r : Record) → IsSound s → IsRecord r → IsSound (appended r s)
+  pub of_fresh : (version : ℕ) → IsVersion version → IsSound (fresh version)
+  pub of_appended : (s : SegmentState) (r : Record) → IsSound s → s.is_sealed ≡ false → IsRecord r → suits s.version r ≡ true → IsSound (appended r s)
   pub of_flushed : (s : SegmentState) → IsSound s → s.is_sealed ≡ false → IsSound (flushed s)
   pub of_sealed : (s : SegmentState) (kept : ℕ) → IsSound s → IsSound (sealed kept s)
   pub no_bad_line : (s : SegmentState) → IsSound s → bad_line s.stable ≡ None
-  pub are_records : (bytes : List ℕ) → AllByRecursion IsRecord (records_of bytes)
+  pub are_stable : (s : SegmentState) → IsSound s → AllByRecursion (IsRecordOf s.version) (records_of s.stable)
+  pub are_tail : (s : SegmentState) → IsSound s → AllByRecursion (IsRecordOf s.version) (records_as s.version s.tail)
 
--- A change of one segment changes no other, and raising only seals.
+-- A change of one segment changes no other, and raising seals and gives a version.
 pub record OthersStay : Type 0 where
   pub named : (h : State) (k : ℕ) (s : SegmentState) → 1 ≤ k → k ≤ length h.segments → segment (with_segment h k s) k ≡ s
   pub others : (h : State) (j k : ℕ) (s : SegmentState) → 1 ≤ j → 1 ≤ k → j ≢ k → segment (with_segment h k s) j ≡ segment h j
-  pub after_raise : (h : State) (j k kept : ℕ) → 1 ≤ j → j ≤ length h.segments → segment (raised k kept h) j ≡ (if nat_lt h.fence k && nat_lt j k then sealed kept (segment h j) else segment h j)
-  pub count : (h : State) (k kept : ℕ) → length (raised k kept h).segments ≡ length h.segments
+  pub after_raise : (h : State) (j k kept version : ℕ) → 1 ≤ j → j ≤ length h.segments → h.fence < k →
+      segment (raised k kept version h) j ≡ (if nat_eq j k then with_version version (segment h j) else (if nat_lt j k then sealed kept (segment h j) else segment h j))
+  pub no_raise : (h : State) (k kept version : ℕ) → k ≤ h.fence → raised k kept version h ≡ h
+  pub count : (h : State) (k kept version : ℕ) → length (raised k kept version h).segments ≡ length h.segments
 
--- A winner that is there stays when records are added behind, and it is an attempt at that task.
+-- A winner that is there stays when records are added behind, with the length that was recorded with it, and it is an
+-- attempt at that task. Where there is none, what is added decides.
 pub record WinnersStay : Type 0 where
-  pub stays : (rs more : List Record) (t : TaskId) (a : Attempt) → winner_in rs t ≡ Some a → winner_in (rs ++ more) t ≡ Some a
+  pub stays : (rs more : List Record) (t : TaskId) (a : Attempt) → winner_in rs t ≡ Some a → (winner_in (rs ++ more) t ≡ Some a) × (length_in (rs ++ more) t ≡ length_in rs t)
+  pub decided : (rs more : List Record) (t : TaskId) → winner_in rs t ≡ None → (winner_in (rs ++ more) t ≡ winner_in more t) × (length_in (rs ++ more) t ≡ length_in more t)
   pub of_task : (rs : List Record) (t : TaskId) (a : Attempt) → winner_in rs t ≡ Some a → a.task ≡ t
+
+-- the segment that made a winner, among those before and after it
+pub record MadeIn (segments : List SegmentState) (t : TaskId) (a : Attempt) : Type 0 where
+  pub before : List SegmentState
+  pub by : SegmentState
+  pub after : List SegmentState
+  pub is : segments ≡ before ++ by ∷ after
+  pub none_before : winner_in (records_in before) t ≡ None
+  pub first : winner_in (records_of by.stable) t ≡ Some a
+  pub same_length : length_in (records_in segments) t ≡ length_in (records_of by.stable) t
+  pub has_length : is_some (length_in (records_in segments) t) ≡ nat_eq by.version 2
+
+-- The record that made a winner tells a length exactly where its segment is of version 2.
+abbrev pub WinnersHaveLengths : Type 0
+WinnersHaveLengths = (segments : List SegmentState) (t : TaskId) (a : Attempt) → AllByRecursion IsSound segments → winner_in (records_in segments) t ≡ Some a → MadeIn segments t a

@@ -4,5 +4,6 @@ pub mod Reading
 pub mod State
 pub mod Segment
 pub mod Calls
+pub mod Recorded
 pub mod Winner
 pub mod Laws

@@ -1,4 +1,4 @@
--- What bytes tell: the records of the whole lines, and what is torn. Our own profile.
+-- What bytes tell: a version, the records of the whole lines, and what is torn. Our own profile.
 use Rattle.std.specs.Prelude.{◌≡◌, ◌==◌, ◌^◌, ◌+◌, ℕ, Bool, true, false, ◌&&◌, nat_lt, nat_eq, List, [], ◌∷◌, length, codes, if◌then◌else◌, Option, Some, None, is_none, option_map, option_and_then, Result, Ok, Err, All}
 use Rattle.std.specs.List.{slice_split, filter_map}
 use Rattle.std.specs.Cmp.Lexicographic.{pointwise}
@@ -15,7 +15,7 @@ use Rattle.mr_history.specs.declared.record.Record.TheVariants.{AttemptStarted, 
 use Rattle.mr_history.specs.declared.reading.Replayed.{Replayed}
 use Rattle.mr_history.specs.declared.fault.HistoryFault.{HistoryFault}
 use Rattle.mr_history.specs.declared.fault.HistoryFault.TheVariants.{Superseded, Sealed, BadLine, Full, NoMemory}
-use Rattle.mr_history.specs.Line.{line_of, fits}
+use Rattle.mr_history.specs.Line.{line_of, version_line, fits, is_of}
 
 -- ---- one line
 
@@ -44,16 +44,16 @@ text_at key value = option_and_then as_str (get key value)
 abbrev pub number_at : List ℕ → Data → Option ℕ
 number_at key value = option_and_then as_u64 (option_and_then as_number (get key value))
 
-abbrev pub record_told : List ℕ → Option Attempt → Option ℕ → Option ℕ → Option Record
-record_told event attempt node incarnation =
+abbrev pub record_told : List ℕ → Option Attempt → Option ℕ → Option ℕ → Option ℕ → Option Record
+record_told event attempt bytes node incarnation =
     if is_text event (codes "unsuccessful") then Some JobUnsuccessful
-    else (if is_text event (codes "reduce") then option_map ReduceSucceeded attempt
+    else (if is_text event (codes "reduce") then option_map (λ a. ReduceSucceeded a bytes) attempt
     else (if is_text event (codes "failed") then option_map AttemptFailed attempt
     else (if is_text event (codes "started") then option_and_then (λ a. option_map (λ n. AttemptStarted a n) node) attempt
     else option_and_then (λ a. option_and_then (λ n. option_map (λ i. MapSucceeded a n i) incarnation) node) attempt)))
 
 abbrev pub record_in : Data → Option Record
-record_in value = option_and_then (λ event. record_told event (option_and_then attempt_told (text_at (codes "attempt") value)) (number_at (codes "node") value) (number_at (codes "incarnation") value)) (text_at (codes "event") value)
+record_in value = option_and_then (λ event. record_told event (option_and_then attempt_told (text_at (codes "attempt") value)) (number_at (codes "bytes") value) (number_at (codes "node") value) (number_at (codes "incarnation") value)) (text_at (codes "event") value)
 
 -- the ranges of a record, as a test
 abbrev pub is_id : Attempt → Bool
@@ -62,17 +62,18 @@ is_id a = nat_lt a.task.job.start (2 ^ 64) && nat_lt a.task.job.number (2 ^ 32) 
 abbrev pub in_range : Record → Bool
 in_range (AttemptStarted a node) = is_id a && nat_lt node (2 ^ 32)
 in_range (MapSucceeded a node incarnation) = is_id a && nat_lt node (2 ^ 32) && nat_lt incarnation (2 ^ 32)
-in_range (ReduceSucceeded a) = is_id a
+in_range (ReduceSucceeded a None) = is_id a
+in_range (ReduceSucceeded a (Some bytes)) = is_id a && nat_lt bytes (2 ^ 32)
 in_range (AttemptFailed a) = is_id a
 in_range JobUnsuccessful = true
 
--- the record, if it has a line and this is it
-abbrev pub if_written : List ℕ → Record → Option Record
-if_written line r = if fits r && in_range r && is_text line (line_of r) then Some r else None
+-- the record, if it has a line in this version and this is it
+abbrev pub if_written : ℕ → List ℕ → Record → Option Record
+if_written version line r = if fits r && in_range r && is_of version r && is_text line (line_of r) then Some r else None
 
--- A line is a record exactly when it is the text that the record is written as.
-unfoldable pub record_of : List ℕ → Option Record
-record_of line = option_and_then (if_written line) (option_and_then record_in (read line))
+-- A line is a record of a segment exactly when it is the text that the record is written as in the segment's version.
+unfoldable pub record_of : ℕ → List ℕ → Option Record
+record_of version line = option_and_then (if_written version line) (option_and_then record_in (read line))
 
 -- ---- the lines of bytes
 
@@ -101,22 +102,39 @@ whole_lines bytes = all_but_last (slice_split is_feed bytes)
 unfoldable pub torn_of : List ℕ → List ℕ
 torn_of bytes = last_piece (slice_split is_feed bytes)
 
--- the records of bytes: those of the whole lines
-unfoldable pub records_of : List ℕ → List Record
-records_of bytes = filter_map record_of (whole_lines bytes)
+-- Bytes are of version 2 where their first whole line is the version line, and else of version 1.
+abbrev pub version_in : List (List ℕ) → ℕ
+version_in [] = 1
+version_in (line ∷ more) = if is_text line version_line then 2 else 1
 
--- the number, from 1, of the first whole line that is no record
-abbrev pub bad_among : List (List ℕ) → Option ℕ
-bad_among [] = None
-bad_among (line ∷ more) = if is_none (record_of line) then Some 1 else option_map (λ n. n + 1) (bad_among more)
+unfoldable pub version_of : List ℕ → ℕ
+version_of bytes = version_in (whole_lines bytes)
+
+-- the records of bytes that lie in a segment of this version: those of the whole lines (the version line is no record)
+unfoldable pub records_as : ℕ → List ℕ → List Record
+records_as version bytes = filter_map (record_of version) (whole_lines bytes)
+
+-- the records of the bytes of a segment, read in the version that they show
+abbrev pub records_of : List ℕ → List Record
+records_of bytes = records_as (version_of bytes) bytes
+
+-- the number, from 1, of the first of these lines that is no record of the version
+abbrev pub bad_among : ℕ → List (List ℕ) → Option ℕ
+bad_among version [] = None
+bad_among version (line ∷ more) = if is_none (record_of version line) then Some 1 else option_map (λ n. n + 1) (bad_among version more)
+
+-- the same of all lines of a segment, of which the first may be the version line: it counts
+abbrev pub bad_in : List (List ℕ) → Option ℕ
+bad_in [] = None
+bad_in (line ∷ more) = if is_text line version_line then option_map (λ n. n + 1) (bad_among 2 more) else bad_among 1 (line ∷ more)
 
 unfoldable pub bad_line : List ℕ → Option ℕ
-bad_line bytes = bad_among (whole_lines bytes)
+bad_line bytes = bad_in (whole_lines bytes)
 
--- What replaying bytes gives: all records and how many bytes are torn, unless a whole line is no record.
+-- What replaying bytes gives: the version, all records and how many bytes are torn, unless a whole line is bad.
 -- A line is read in memory, so want of memory may come at any bytes.
 abbrev pub Replays : List ℕ → Result Replayed HistoryFault → Type 0
-Replays bytes (Ok p) = (bad_line bytes ≡ None) × (p.records ≡ records_of bytes) × (p.torn ≡ length (torn_of bytes))
+Replays bytes (Ok p) = (bad_line bytes ≡ None) × (p.version ≡ version_of bytes) × (p.records ≡ records_of bytes) × (p.torn ≡ length (torn_of bytes))
 Replays bytes (Err (BadLine n)) = bad_line bytes ≡ Some n
 Replays bytes (Err NoMemory) = Unit {0}
 Replays bytes (Err (Superseded fence)) = ⊥

@@ -1,8 +1,9 @@
 -- A segment and a history as what they hold.
 use Rattle.std.specs.Prelude.{ℕ, Bool, List}
 
--- stable bytes, the unflushed tail, and whether the segment is sealed
+-- the version, stable bytes, the unflushed tail, and whether the segment is sealed
 pub record SegmentState : Type 0 where
+  pub version : ℕ
   pub stable : List ℕ
   pub tail : List ℕ
   pub is_sealed : Bool

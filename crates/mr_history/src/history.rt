@@ -1,5 +1,5 @@
 ghost use Rattle.std.specs.Prelude.{◌≡◌, ◌≤◌, ◌<◌, ◌-◌, ℕ, [], length, replicate, IfOk, IsOkUnless, true, Option, if◌then◌else◌, nat_le, Some, None};
-ghost use Rattle.mr_history.specs.Line.{fits};
+ghost use Rattle.mr_history.specs.Line.{fits, suits, IsVersion};
 ghost use Rattle.mr_history.specs.State.{State};
 ghost use Rattle.mr_history.specs.Segment.{fresh};
 ghost use Rattle.mr_history.specs.Calls.{Append, Flush, Read, Done, Told, Makes, MakesAlways, segment, sealed_at, raised, superseded};
@@ -25,23 +25,24 @@ pub struct History {
 impl Model for History {
     ghost use Rattle.std.specs.Prelude.{◌≡◌, ◌≤◌, length};
     ghost use Rattle.mr_history.specs.State.{State};
+    ghost use Rattle.mr_history.specs.Calls.{AreUnraised};
 
     ghost Value = { State };
 
     ghost view = { λ h. record { segments = h.segments.items; fence = h.fence } };
 
-    ghost invariant = { λ h. (length h.segments.items ≡ 1000) × (h.fence ≤ 1000) };
+    ghost invariant = { λ h. (length h.segments.items ≡ 1000) × (h.fence ≤ 1000) × AreUnraised (record { segments = h.segments.items; fence = h.fence }) };
 }
 
 impl History {
-    /// Empty segments, and fence 0.
+    /// Empty segments, and fence 0. A segment's version is that of its `raise`; before it none counts.
     pub fn new(alloc: Global) -> Result<History, HistoryFault>
-        ensures made { IfOk result (λ history. history ≡ record { segments = replicate MAX_APP_ATTEMPTS fresh; fence = 0 }) }
+        ensures made { IfOk result (λ history. history ≡ record { segments = replicate MAX_APP_ATTEMPTS (fresh 1); fence = 0 }) }
         ensures memory { IsOkUnless result HistoryFault.NoMemory }
     {
         let mut segments = Vec::new(alloc);
         for _ in 0..MAX_APP_ATTEMPTS {
-            segments.push(Segment::new(alloc))?;
+            segments.push(Segment::new(alloc, 1))?;
         }
         Ok(History {
             segments,
@@ -65,10 +66,19 @@ impl History {
         k.number() <= self.fence
     }
 
-    /// Sets the fence to `k` and seals every older segment, each with the first `kept` bytes of its tail.
-    /// Where `k` is not above the fence nothing changes.
-    pub fn raise(&mut self, k: AppAttempt, kept: usize)
-        ensures { self.new ≡ raised k kept self.old }
+    /// The version of the segment of `k`, 1 or 2.
+    pub fn version(&self, k: AppAttempt) -> u32
+        requires { k ≤ self.now.fence }
+        ensures { result ≡ (segment self.now k).version }
+    {
+        self.segments[place(k)].version()
+    }
+
+    /// Sets the fence to `k`, seals every older segment, each with the first `kept` bytes of its tail, and gives the
+    /// segment of `k` its version, 1 or 2. Where `k` is not above the fence nothing changes.
+    pub fn raise(&mut self, k: AppAttempt, kept: usize, version: u32)
+        requires { IsVersion version }
+        ensures { self.new ≡ raised k kept version self.old }
     {
         if k.number() <= self.fence {
             return;
@@ -76,15 +86,18 @@ impl History {
         for i in 0..place(k) {
             self.segments[i].seal(kept);
         }
+        self.segments[place(k)].begin(version);
         self.fence = k.number();
     }
 
-    /// Adds the line of a record to the tail of the segment of `k`.
+    /// Adds the line of a record to the tail of the segment of `k`, as the segment's version tells it; the first
+    /// record of a segment of version 2 comes with the version line.
     ///
     /// Refusals in order: `Superseded` where `k` is below the fence, `Sealed`, `Full`, `NoMemory`.
     pub fn append(&mut self, k: AppAttempt, record: Record) -> Result<(), HistoryFault>
         requires raised { k ≤ self.old.fence }
         requires fits { fits «record» ≡ true }
+        requires suits { suits (segment self.old k).version «record» ≡ true }
         ensures { Makes (λ _. Done) self.old k (Append «record») result self.new }
     {
         if let Some(fault) = self.superseded(k) {

@@ -1,5 +1,5 @@
 //! Laws of lines, segments and histories, for the layers above: these functions do nothing.
-ghost use Rattle.mr_history.specs.Laws.{LinesReadBack, LinesReplay, FrontsReplay, SegmentsRecord, SegmentsStaySound, OthersStay, WinnersStay};
+ghost use Rattle.mr_history.specs.Laws.{LinesReadBack, LinesReplay, FrontsReplay, SegmentsRecord, SegmentsStaySound, OthersStay, WinnersStay, WinnersHaveLengths};
 
 /// A line is read back as its record, and nothing else is read as a record.
 pub fn lines_read_back()
@@ -11,7 +11,7 @@ pub fn lines_replay()
     ensures { LinesReplay }
 {}
 
-/// The first bytes of lines tell the records that lie whole in them, which are the first ones.
+/// The first bytes of a segment tell the records that lie whole in them, which are the first ones.
 pub fn fronts_replay()
     ensures { FrontsReplay }
 {}
@@ -21,17 +21,22 @@ pub fn segments_record()
     ensures { SegmentsRecord }
 {}
 
-/// Each change keeps a segment made of the lines of records.
+/// Each change keeps a segment made of the lines of records that its version can tell.
 pub fn segments_stay_sound()
     ensures { SegmentsStaySound }
 {}
 
-/// A change of one segment changes no other, and raising only seals.
+/// A change of one segment changes no other; raising seals, and gives a version.
 pub fn others_stay()
     ensures { OthersStay }
 {}
 
-/// A winner that is there stays when records are added behind.
+/// A winner that is there stays when records are added behind, with the length that was recorded with it.
 pub fn winners_stay()
     ensures { WinnersStay }
+{}
+
+/// The record that made a winner tells a length exactly where its segment is of version 2.
+pub fn winners_have_lengths()
+    ensures { WinnersHaveLengths }
 {}

@@ -13,8 +13,8 @@ pub use fault::HistoryFault;
 pub use history::{History, MAX_APP_ATTEMPTS};
 pub use laws::{
     fronts_replay, lines_read_back, lines_replay, others_stay, segments_record,
-    segments_stay_sound, winners_stay,
+    segments_stay_sound, winners_have_lengths, winners_stay,
 };
 pub use reading::{Replayed, replay};
-pub use record::{Record, Records};
+pub use record::{MAX_PART_LEN, Record, Records};
 pub use segment::{MAX_SEGMENT_LEN, Segment};

@@ -1,5 +1,5 @@
 //! The line of a record, written and read as JSON.
-ghost use Rattle.std.specs.Prelude.{◌≡◌, ◌<◌, ◌≤◌, ◌^◌, ◌+◌, codes, string_bytes, IfOk, IfSome, Some, ℕ, length, option_map, option_and_then};
+ghost use Rattle.std.specs.Prelude.{◌≡◌, ◌<◌, ◌≤◌, ◌^◌, ◌+◌, codes, string_bytes, IfOk, IfSome, Some, None, ℕ, length, option_map, option_and_then, true};
 ghost use Rattle.std.specs.Int.Digits.{digits_of};
 ghost use Rattle.serde_json.specs.Data.{Data, number, unsigned, string, object, member, no_members};
 ghost use Rattle.serde_json.specs.Find.{get, as_str};
@@ -7,7 +7,7 @@ ghost use Rattle.serde_json.specs.View.{view};
 ghost use Rattle.mr_ids.specs.Attempt.{Attempt};
 ghost use Rattle.mr_ids.specs.Text.{attempt_text, numeral, IsAttempt};
 ghost use Rattle.mr_history.specs.Json.{told, value_of};
-ghost use Rattle.mr_history.specs.Line.{line_of, whole_line, width, fits, IsRecord, InRange};
+ghost use Rattle.mr_history.specs.Line.{line_of, whole_line, width, bytes_width, fits, IsRecord, InRange, IsIn32};
 ghost use Rattle.mr_history.specs.Reading.{record_of};
 
 use crate::record::Record;
@@ -26,7 +26,14 @@ fn value(alloc: Global, record: &Record) -> Result<Value, AllocError>
             node,
             incarnation,
         } => mapped(alloc, attempt, node, incarnation),
-        Record::ReduceSucceeded { attempt } => reduced(alloc, attempt),
+        Record::ReduceSucceeded {
+            attempt,
+            bytes: None,
+        } => reduced(alloc, attempt),
+        Record::ReduceSucceeded {
+            attempt,
+            bytes: Some(bytes),
+        } => reduced_to(alloc, attempt, bytes),
         Record::AttemptFailed { attempt } => failed(alloc, attempt),
         Record::JobUnsuccessful => json!(in alloc; {"event": "unsuccessful"}),
     }
@@ -67,6 +74,14 @@ fn reduced(alloc: Global, attempt: AttemptId) -> Result<Value, AllocError>
     json!(in alloc; {"attempt": text, "event": "reduce"})
 }
 
+fn reduced_to(alloc: Global, attempt: AttemptId, bytes: u32) -> Result<Value, AllocError>
+    ensures { IfOk result (λ v. view v ≡ object (member (codes "attempt") (string (attempt_text attempt)) (member (codes "bytes") (number (unsigned bytes)) (member (codes "event") (string (codes "reduce")) no_members)))) }
+{
+    let text = text_of(alloc, attempt)?;
+    let text = text.as_str();
+    json!(in alloc; {"attempt": text, "bytes": bytes, "event": "reduce"})
+}
+
 fn failed(alloc: Global, attempt: AttemptId) -> Result<Value, AllocError>
     ensures { IfOk result (λ v. view v ≡ told attempt (codes "failed") no_members) }
 {
@@ -94,6 +109,7 @@ pub fn whole_line(alloc: Global, record: &Record) -> Result<String, AllocError>
 /// How many bytes the line of a record takes, with its line feed. It takes no memory.
 pub fn width(record: &Record) -> usize
     ensures width { result ≡ width «record».now }
+    ensures small { result ≤ 200 }
     ensures ranges { InRange «record».now }
 {
     match *record {
@@ -108,9 +124,21 @@ pub fn width(record: &Record) -> usize
             + text_len(attempt)
             + number_len(node as u64, 1)
             + number_len(incarnation as u64, 1),
-        Record::ReduceSucceeded { attempt } => 32 + text_len(attempt),
+        Record::ReduceSucceeded { attempt, bytes } => 32 + text_len(attempt) + bytes_len(bytes),
         Record::AttemptFailed { attempt } => 32 + text_len(attempt),
         Record::JobUnsuccessful => 25,
+    }
+}
+
+// How many bytes a length takes in a line, with its key and comma.
+fn bytes_len(bytes: Option<u32>) -> usize
+    ensures len { result ≡ bytes_width bytes }
+    ensures small { result ≤ 29 }
+    ensures ranges { IsIn32 bytes }
+{
+    match bytes {
+        None => 0,
+        Some(bytes) => 9 + number_len(bytes as u64, 1),
     }
 }
 
@@ -151,7 +179,8 @@ fn text_in<'v>(value: &'v Value, name: &str) -> Option<&'v str>
 }
 
 fn number_in(value: &Value, name: &str) -> Option<u32>
-    ensures { (n : ℕ) → n < 2 ^ 32 → get name.now (view value.now) ≡ Some (number (unsigned n)) → result ≡ Some n }
+    ensures some { (n : ℕ) → n < 2 ^ 32 → get name.now (view value.now) ≡ Some (number (unsigned n)) → result ≡ Some n }
+    ensures none { get name.now (view value.now) ≡ None → result ≡ None }
 {
     match value.get(name).and_then(Value::as_u64) {
         None => None,
@@ -177,7 +206,8 @@ fn record_in(value: &Value) -> Option<Record>
     }
     let attempt = attempt_in(text_in(value, "attempt")?)?;
     if event == "reduce" {
-        return Some(Record::ReduceSucceeded { attempt });
+        let bytes = number_in(value, "bytes");
+        return Some(Record::ReduceSucceeded { attempt, bytes });
     }
     if event == "failed" {
         return Some(Record::AttemptFailed { attempt });
@@ -194,9 +224,9 @@ fn record_in(value: &Value) -> Option<Record>
     })
 }
 
-/// The record whose line these bytes are, if there is one.
-pub fn record_of(alloc: Global, text: &[u8]) -> Result<Option<Record>, AllocError>
-    ensures { IfOk result (λ o. o ≡ record_of text.now) }
+/// The record whose line these bytes are in a segment of this version, if there is one.
+pub fn record_of(alloc: Global, version: u32, text: &[u8]) -> Result<Option<Record>, AllocError>
+    ensures { IfOk result (λ o. o ≡ record_of version text.now) }
 {
     let value = match Value::from_slice(alloc, text) {
         Ok(value) => value,
@@ -210,7 +240,7 @@ pub fn record_of(alloc: Global, text: &[u8]) -> Result<Option<Record>, AllocErro
     let Some(record) = record_in(&value) else {
         return Ok(None);
     };
-    if record.fits() && line(alloc, &record)?.as_bytes() == text {
+    if record.fits() && record.is_of(version) && line(alloc, &record)?.as_bytes() == text {
         Ok(Some(record))
     } else {
         Ok(None)

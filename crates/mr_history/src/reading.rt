@@ -1,5 +1,6 @@
-ghost use Rattle.std.specs.Prelude.{◌≡◌, ◌++◌, ◌∷◌, IfSome, IfNone};
-ghost use Rattle.mr_history.specs.Reading.{Replays, HasNoFeed};
+ghost use Rattle.std.specs.Prelude.{◌≡◌, ◌++◌, ◌∷◌, IfSome, IfNone, if◌then◌else◌, nat_eq};
+ghost use Rattle.mr_history.specs.Line.{head, IsVersion};
+ghost use Rattle.mr_history.specs.Reading.{Replays, HasNoFeed, version_of};
 
 use crate::fault::HistoryFault;
 use crate::line::record_of;
@@ -9,32 +10,61 @@ use std::alloc::Global;
 /// What the bytes of a segment tell.
 #[derive(Drop)]
 pub struct Replayed {
+    /// The version, 1 or 2: 2 where the first whole line is the version line.
+    pub version: u32,
     /// The records of the whole lines.
     pub records: Records,
     /// How many bytes stand after the last line feed.
     pub torn: usize,
 }
 
-/// The records of the whole lines, and how many bytes stand after the last line feed.
+/// The version, the records of the whole lines, and how many bytes stand after the last line feed.
 ///
-/// A whole line that is not the line of a record is answered by `BadLine`, the first of them, numbered from 1.
-/// Each line is read in memory, so `NoMemory` may come before a later bad line is seen.
+/// A whole line that is neither the line of a record of that version nor its version line at the head is answered by
+/// `BadLine`, the first of them, numbered from 1; the version line counts. Each line is read in memory, so `NoMemory`
+/// may come before a later bad line is seen.
 pub fn replay(alloc: Global, bytes: &[u8]) -> Result<Replayed, HistoryFault>
     ensures { Replays bytes.now result }
 {
+    let (version, lines) = split_head(bytes);
+    let before = lines_before(version);
     let mut records = Records::new(alloc);
-    let mut rest = bytes;
+    let mut rest = lines;
     while let Some((line, after)) = split_line(rest) {
-        let Some(record) = record_of(alloc, line)? else {
-            return Err(HistoryFault::BadLine(records.len() + 1));
+        let Some(record) = record_of(alloc, version, line)? else {
+            return Err(HistoryFault::BadLine(records.len() + before + 1));
         };
         records.push(record)?;
         rest = after;
     }
     Ok(Replayed {
+        version,
         records,
         torn: rest.len(),
     })
+}
+
+// How many lines come before the first record's.
+fn lines_before(version: u32) -> usize
+    ensures { result ≡ (if nat_eq version 2 then 1 else 0) }
+{
+    if version == 2 { 1 } else { 0 }
+}
+
+// The version that bytes show, and what stands after the version line.
+fn split_head(bytes: &[u8]) -> (u32, &[u8])
+    ensures version { result.0 ≡ version_of bytes.now }
+    ensures rest { bytes.now ≡ head result.0 ++ result.1.now }
+    ensures range { IsVersion result.0 }
+{
+    let Some((line, after)) = split_line(bytes) else {
+        return (1, bytes);
+    };
+    if line == "{\"version\":2}".as_bytes() {
+        (2, after)
+    } else {
+        (1, bytes)
+    }
 }
 
 // The bytes before the first line feed, and those after it.

@@ -1,9 +1,12 @@
 ghost use Rattle.std.specs.Prelude.{◌≡◌, ◌++◌, ◌∷◌, [], OnOk, OnErr, IfOk, length};
-ghost use Rattle.mr_history.specs.Line.{fits, is_map};
+ghost use Rattle.mr_history.specs.Line.{fits, is_map, is_length, suits, is_of, as_written};
 
 use mr_ids::{AttemptId, TaskKind};
 use std::alloc::{AllocError, Global};
 use std::marker::Model;
+
+/// Most bytes of a part file.
+pub const MAX_PART_LEN: u32 = 16777216;
 
 /// What a master writes down: one line of the history.
 #[derive(Clone, Copy, Debug, PartialEq, Eq)]
@@ -19,9 +22,11 @@ pub enum Record {
         node: u32,
         incarnation: u32,
     },
-    /// A reduce attempt has committed its output.
+    /// A reduce attempt has committed its output. A segment of version 2 tells the length of its part file, at most
+    /// `MAX_PART_LEN`, and one of version 1 does not.
     ReduceSucceeded {
         attempt: AttemptId,
+        bytes: Option<u32>,
     },
     /// The attempt failed.
     AttemptFailed {
@@ -32,8 +37,8 @@ pub enum Record {
 }
 
 impl Record {
-    /// Whether the record has a line: the attempt is of the kind that the record speaks of, and an incarnation is
-    /// not 0.
+    /// Whether the record has a line: the attempt is of the kind that the record speaks of, an incarnation is not 0,
+    /// and a length is at most `MAX_PART_LEN`.
     pub fn fits(&self) -> bool
         ensures { result ≡ fits self.now }
     {
@@ -43,9 +48,54 @@ impl Record {
                 node: _,
                 incarnation,
             } => is_map(attempt.task().kind) && 1 <= incarnation,
-            Record::ReduceSucceeded { attempt } => !is_map(attempt.task().kind),
+            Record::ReduceSucceeded { attempt, bytes } => {
+                !is_map(attempt.task().kind) && is_length(bytes)
+            }
             _ => true,
         }
+    }
+
+    /// Whether a segment of this version can take the record: one of version 2 asks for the length of a reduce's
+    /// part file.
+    pub fn suits(&self, version: u32) -> bool
+        ensures { result ≡ suits version self.now }
+    {
+        match *self {
+            Record::ReduceSucceeded { attempt: _, bytes } => version != 2 || bytes.is_some(),
+            _ => true,
+        }
+    }
+
+    // The record as a segment of this version tells it.
+    pub(crate) fn as_written(&self, version: u32) -> Record
+        ensures { result ≡ as_written version self.now }
+    {
+        match *self {
+            Record::ReduceSucceeded { attempt, bytes } => Record::ReduceSucceeded {
+                attempt,
+                bytes: if version == 2 { bytes } else { None },
+            },
+            other => other,
+        }
+    }
+
+    // Whether a segment of this version can tell the record.
+    pub(crate) fn is_of(&self, version: u32) -> bool
+        ensures { result ≡ is_of version self.now }
+    {
+        match *self {
+            Record::ReduceSucceeded { attempt: _, bytes } => bytes.is_some() == (version == 2),
+            _ => true,
+        }
+    }
+}
+
+fn is_length(bytes: Option<u32>) -> bool
+    ensures { result ≡ is_length bytes }
+{
+    match bytes {
+        None => true,
+        Some(bytes) => bytes <= MAX_PART_LEN,
     }
 }
 

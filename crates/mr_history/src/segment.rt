@@ -1,8 +1,9 @@
-ghost use Rattle.std.specs.Prelude.{◌≡◌, ◌+◌, ◌≤◌, ℕ, [], length, take, drop, IfOk, IsOkUnless, true};
-ghost use Rattle.mr_history.specs.Line.{fits, InRange};
+ghost use Rattle.std.specs.Prelude.{◌≡◌, ◌+◌, ◌≤◌, ℕ, [], length, take, drop, IfOk, IsOkUnless, true, string_bytes, ◌++◌};
+ghost use Rattle.mr_history.specs.Line.{fits, suits, whole_line, width, InRange, IsVersion};
 ghost use Rattle.mr_history.specs.State.{SegmentState};
-ghost use Rattle.mr_history.specs.Segment.{fresh, appended, flushed, sealed, append_refusal, flush_refusal, Changes, ChangesAlways};
+ghost use Rattle.mr_history.specs.Segment.{fresh, opening, appended, flushed, sealed, append_refusal, growth_refusal, flush_refusal, Changes, ChangesAlways};
 ghost use Rattle.mr_history.specs.Reading.{records_of};
+ghost use Rattle.mr_history.specs.Calls.{with_version};
 
 use crate::fault::HistoryFault;
 use crate::line::{whole_line, width};
@@ -14,9 +15,11 @@ use std::marker::Model;
 /// Most bytes of a segment.
 pub const MAX_SEGMENT_LEN: usize = 16777216;
 
-/// What one master wrote: stable bytes, and a tail that a crash may cut.
+/// What one master wrote: stable bytes, and a tail that a crash may cut. A segment of version 2 begins with a line
+/// that says so, and tells the length of each reduce's part file.
 #[derive(Drop)]
 pub struct Segment {
+    version: u32,
     bytes: Vec<u8>,
     mark: usize,
     sealed: bool,
@@ -29,19 +32,21 @@ impl Model for Segment {
 
     ghost Value = { SegmentState };
 
-    ghost view = { λ s. record { stable = take s.mark s.bytes.items; tail = drop s.mark s.bytes.items; is_sealed = s.sealed } };
+    ghost view = { λ s. record { version = s.version; stable = take s.mark s.bytes.items; tail = drop s.mark s.bytes.items; is_sealed = s.sealed } };
 
     ghost use Rattle.mr_history.specs.Segment.{IsSound};
 
-    ghost invariant = { λ s. (s.mark ≤ length s.bytes.items) × IsSound (record { stable = take s.mark s.bytes.items; tail = drop s.mark s.bytes.items; is_sealed = s.sealed }) };
+    ghost invariant = { λ s. (s.mark ≤ length s.bytes.items) × IsSound (record { version = s.version; stable = take s.mark s.bytes.items; tail = drop s.mark s.bytes.items; is_sealed = s.sealed }) };
 }
 
 impl Segment {
-    /// A segment in which nothing was written.
-    pub fn new(alloc: Global) -> Segment
-        ensures { result ≡ fresh }
+    /// A segment of this version, 1 or 2, in which nothing was written.
+    pub fn new(alloc: Global, version: u32) -> Segment
+        requires { IsVersion version }
+        ensures { result ≡ fresh version }
     {
         Segment {
+            version,
             bytes: Vec::new(alloc),
             mark: 0,
             sealed: false,
@@ -49,26 +54,37 @@ impl Segment {
         }
     }
 
-    /// Adds the line of a record to the tail.
+    /// The version, 1 or 2.
+    pub fn version(&self) -> u32
+        ensures { result ≡ self.now.version }
+    {
+        self.version
+    }
+
+    /// Adds the line of a record to the tail, before the first record of a segment of version 2 its version line.
+    /// A segment of version 1 does not tell the length of a reduce's file.
     ///
     /// Refusals in order: `Sealed`, `Full` where the segment would pass `MAX_SEGMENT_LEN`, `NoMemory`.
     pub fn append(&mut self, record: Record) -> Result<(), HistoryFault>
-        requires { fits «record» ≡ true }
+        requires fits { fits «record» ≡ true }
+        requires suits { suits self.old.version «record» ≡ true }
         ensures { Changes (append_refusal «record» self.old) self.old (appended «record» self.old) result self.new }
     {
-        if let Some(fault) = self.append_refused(&record) {
+        let written = record.as_written(self.version);
+        if let Some(fault) = self.append_refused(&written) {
             return Err(fault);
         }
-        let text = whole_line(self.alloc, &record)?;
+        let text = self.addition(&written)?;
         self.bytes.extend_from_slice(text.as_bytes())?;
         Ok(())
     }
 
+    // Why the bytes of a record, as this segment tells it, are refused.
     fn append_refused(&self, record: &Record) -> Option<HistoryFault>
-        ensures refusal { result ≡ append_refusal «record».now self.now }
+        ensures refusal { result ≡ growth_refusal (width «record».now) self.now }
         ensures ranges { InRange «record».now }
     {
-        let more = width(record);
+        let more = self.opening().len() + width(record);
         if self.sealed {
             return Some(HistoryFault::Sealed);
         }
@@ -78,6 +94,43 @@ impl Segment {
         } else {
             None
         }
+    }
+
+    // What comes before the next record's line.
+    fn opening(&self) -> &'static str
+        ensures value { result.now ≡ opening self.now }
+        ensures small { length result.now ≤ 14 }
+    {
+        if self.version == 2 && self.bytes.is_empty() {
+            "{\"version\":2}\n"
+        } else {
+            ""
+        }
+    }
+
+    // All bytes that a record's append adds.
+    fn addition(&self, record: &Record) -> Result<String, HistoryFault>
+        ensures added { IfOk result (λ s. string_bytes s ≡ opening self.now ++ whole_line «record».now) }
+        ensures memory { IsOkUnless result HistoryFault.NoMemory }
+    {
+        let line = whole_line(self.alloc, record)?;
+        let opening = self.opening();
+        if opening.is_empty() {
+            return Ok(line);
+        }
+        let mut text = String::new(self.alloc);
+        text.push_str(opening)?;
+        text.push_str(&line)?;
+        Ok(text)
+    }
+
+    // Sets the version of a segment in which nothing was written.
+    pub(crate) fn begin(&mut self, version: u32)
+        requires version { IsVersion version }
+        requires unwritten { self.old ≡ fresh 1 }
+        ensures { self.new ≡ with_version version self.old }
+    {
+        self.version = version;
     }
 
     /// Makes the tail stable. A sealed segment answers `Sealed`.

@@ -1,17 +1,22 @@
 -- What `history` prints for the bytes of a segment.
-use Rattle.std.specs.Prelude.{◌≡◌, ℕ, List, [], ◌∷◌, ◌++◌, length, flat_map, codes, decimal, Some, None}
+use Rattle.std.specs.Prelude.{◌≡◌, ℕ, List, [], ◌∷◌, ◌++◌, length, flat_map, codes, decimal, nat_eq, Option, Some, None, if◌then◌else◌}
 use Rattle.mr_ids.specs.Text.{attempt_text}
 use Rattle.mr_history.specs.declared.record.Record.{Record}
 use Rattle.mr_history.specs.declared.record.Record.TheVariants.{AttemptStarted, MapSucceeded, ReduceSucceeded, AttemptFailed, JobUnsuccessful}
 use Rattle.mr_history.specs.declared.fault.HistoryFault.{HistoryFault}
 use Rattle.mr_history.specs.declared.fault.HistoryFault.TheVariants.{Superseded, Sealed, BadLine, Full, NoMemory}
-use Rattle.mr_history.specs.Reading.{records_of, torn_of, bad_line}
+use Rattle.mr_history.specs.Reading.{version_of, records_of, torn_of, bad_line}
+
+-- the length of a part file, where there is one
+abbrev pub length_text : Option ℕ → List ℕ
+length_text None = []
+length_text (Some bytes) = codes " bytes " ++ decimal bytes
 
 -- one record
 abbrev pub record_text : Record → List ℕ
 record_text (AttemptStarted a node) = codes "started " ++ attempt_text a ++ codes " node " ++ decimal node
 record_text (MapSucceeded a node incarnation) = codes "map " ++ attempt_text a ++ codes " node " ++ decimal node ++ codes " incarnation " ++ decimal incarnation
-record_text (ReduceSucceeded a) = codes "reduce " ++ attempt_text a
+record_text (ReduceSucceeded a bytes) = codes "reduce " ++ attempt_text a ++ length_text bytes
 record_text (AttemptFailed a) = codes "failed " ++ attempt_text a
 record_text JobUnsuccessful = codes "unsuccessful"
 
@@ -22,11 +27,15 @@ record_line r = record_text r ++ 10 ∷ []
 abbrev pub torn_line : ℕ → List ℕ
 torn_line n = codes "torn " ++ decimal n ++ 10 ∷ []
 
--- all records, and then what is torn
-abbrev pub history_text : List ℕ → List ℕ
-history_text bytes = flat_map record_line (records_of bytes) ++ torn_line (length (torn_of bytes))
+-- which version it is: of a segment of version 1 nothing is said
+abbrev pub version_text : ℕ → List ℕ
+version_text version = if nat_eq version 2 then codes "version 2" ++ 10 ∷ [] else []
 
--- bytes in which each whole line is a record, and what is printed for them
+-- the version, all records, and then what is torn
+abbrev pub history_text : List ℕ → List ℕ
+history_text bytes = version_text (version_of bytes) ++ flat_map record_line (records_of bytes) ++ torn_line (length (torn_of bytes))
+
+-- bytes in which no whole line is bad, and what is printed for them
 pub record PrintsHistory (bytes text : List ℕ) : Type 0 where
   pub good : bad_line bytes ≡ None
   pub is : text ≡ history_text bytes

@@ -84,7 +84,7 @@ IsBadLine Committer input n = IsFirstBad 1 (lines_of input) n
 IsBadLine History input n = ⊥
 IsBadLine Seq input n = ⊥
 
--- the first whole line of a segment that is no record
+-- the first whole line of a segment that is neither a record nor the version line at its head
 abbrev pub IsBadRecord : Command → List ℕ → ℕ → Type 0
 IsBadRecord Committer input n = ⊥
 IsBadRecord History input n = bad_line input ≡ Some n

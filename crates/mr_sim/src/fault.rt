@@ -52,7 +52,7 @@ pub enum SimFault {
     /// This line of a script, counted from 1, is the first that is no command.
     #[error("mrsim: line {0}: bad command")]
     BadCommand(usize),
-    /// This whole line of a history segment, counted from 1, is the first that is no record.
+    /// This whole line of a history segment, counted from 1, is the first that is neither a record nor the version line at its head.
     #[error("mrsim: history: bad line {0}")]
     BadRecord(usize),
     /// The input is no job text: which of its keys is the first that is bad, if it is one JSON object.

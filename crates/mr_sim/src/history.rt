@@ -1,7 +1,7 @@
 //! The subcommand `history`.
 ghost use Rattle.std.specs.Prelude.{◌≡◌, ◌++◌, flat_map, decimal, IfOk, IfErr, OnOk};
 ghost use Rattle.mr_ids.specs.Text.{attempt_text};
-ghost use Rattle.mr_sim.specs.History.{record_text, record_line, PrintsHistory, RefusesHistory};
+ghost use Rattle.mr_sim.specs.History.{record_text, record_line, length_text, version_text, PrintsHistory, RefusesHistory};
 ghost use Rattle.mr_sim.specs.Printed.{Prints, RefusesText};
 
 use crate::fault::SimFault;
@@ -28,6 +28,27 @@ fn print_number(out: &mut Vec<u8>, word: &[u8], number: usize) -> Result<(), All
     out.extend_from_slice(buffer.format(number).as_bytes())
 }
 
+/// The length of a part file, where there is one.
+fn print_length(out: &mut Vec<u8>, bytes: Option<u32>) -> Result<(), AllocError>
+    ensures { OnOk result (out.new.items ≡ out.old.items ++ length_text bytes) }
+{
+    match bytes {
+        None => Ok(()),
+        Some(bytes) => print_number(out, b" bytes ", bytes as usize),
+    }
+}
+
+/// The version of a segment, on a line of its own; nothing of version 1.
+fn print_version(out: &mut Vec<u8>, version: u32) -> Result<(), AllocError>
+    ensures { OnOk result (out.new.items ≡ out.old.items ++ version_text version) }
+{
+    if version == 2 {
+        out.extend_from_slice(b"version 2\n")
+    } else {
+        Ok(())
+    }
+}
+
 /// One record, and no line feed.
 fn print_record(out: &mut Vec<u8>, record: &Record) -> Result<(), AllocError>
     ensures { OnOk result (out.new.items ≡ out.old.items ++ record_text «record».now) }
@@ -46,7 +67,10 @@ fn print_record(out: &mut Vec<u8>, record: &Record) -> Result<(), AllocError>
             print_number(out, b" node ", node as usize)?;
             print_number(out, b" incarnation ", incarnation as usize)
         }
-        Record::ReduceSucceeded { attempt } => print_attempt(out, b"reduce ", attempt),
+        Record::ReduceSucceeded { attempt, bytes } => {
+            print_attempt(out, b"reduce ", attempt)?;
+            print_length(out, bytes)
+        }
         Record::AttemptFailed { attempt } => print_attempt(out, b"failed ", attempt),
         Record::JobUnsuccessful => out.extend_from_slice(b"unsuccessful"),
     }
@@ -65,13 +89,14 @@ fn print_records(out: &mut Vec<u8>, records: &[Record]) -> Result<(), AllocError
 
 /// The printed text of the bytes of a segment.
 ///
-/// `BadLine` names the first whole line, from 1, that is no record. `NoMemory` may come at any bytes.
+/// `BadLine` names the first whole line, from 1, that is neither a record nor the version line at the head. `NoMemory` may come at any bytes.
 fn text_of(alloc: Global, input: &[u8]) -> Result<Vec<u8>, HistoryFault>
     ensures ok { IfOk result (λ text. PrintsHistory input.now text.items) }
     ensures fault { IfErr result (λ e. RefusesHistory input.now e) }
 {
     let replayed = replay(alloc, input)?;
     let mut text = Vec::new(alloc);
+    print_version(&mut text, replayed.version)?;
     print_records(&mut text, replayed.records.as_slice())?;
     print_number(&mut text, b"torn ", replayed.torn)?;
     text.extend_from_slice(b"\n")?;

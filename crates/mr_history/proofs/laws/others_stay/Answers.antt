@@ -1,4 +1,4 @@
-use Rattle.mr_history.proofs.Histories.{named, others, segment-raised, length-raised}
+use Rattle.mr_history.proofs.Histories.{named, others, segment-raised, raised-below, length-raised}
 use Rattle.mr_history.proofs.laws.others_stay.Goals as goal
 
 pub returns : goal.returns
@@ -6,5 +6,6 @@ returns c = record {
   named = named;
   others = others;
   after_raise = segment-raised;
+  no_raise = raised-below;
   count = length-raised;
 }

@@ -1,5 +1,5 @@
-use Rattle.mr_history.proofs.Splits.{records_are}
-use Rattle.mr_history.proofs.Segments.{sound_fresh, sound_appended, sound_flushed, sound_sealed, sound_good}
+use Rattle.mr_history.proofs.Tellings.{records_are}
+use Rattle.mr_history.proofs.Segments.{sound_fresh, sound_appended, sound_flushed, sound_sealed, sound_good, sound_stable}
 use Rattle.mr_history.proofs.laws.segments_stay_sound.Goals as goal
 
 pub returns : goal.returns
@@ -9,5 +9,6 @@ returns c = record {
   of_flushed = sound_flushed;
   of_sealed = sound_sealed;
   no_bad_line = sound_good;
-  are_records = records_are;
+  are_stable = sound_stable;
+  are_tail = λ s h. records_are s.version s.tail;
 }

@@ -5,46 +5,48 @@ use Rattle.std.proofs.lemmas.Slice.Eq.{slice_eq-Decides}
 use Rattle.std.specs.Prelude.{IsUtf8}
 use Rattle.serde_json.specs.Read.{read}
 use Rattle.serde_json.specs.View.{view}
-use Rattle.mr_history.specs.Line.{line_of, fits}
+use Rattle.mr_history.specs.Line.{line_of, fits, is_of}
 use Rattle.mr_history.specs.Json.{value_of}
 use Rattle.mr_history.specs.Reading.{record_of}
 use Rattle.mr_history.proofs.Lines.{read-line_of, IsUtf8-line_of}
 use Rattle.mr_history.proofs.Told.{no_record, record_of-line_of}
-use Rattle.mr_history.proofs.line.record_of.Goals.{else-fits-via-then-fits+in_ok-line+else-eq, else-fits-via-else-fits}
+use Rattle.mr_history.proofs.line.record_of.Goals.{else-fits-via-then-fits+then-is_of+in_ok-line+else-eq, else-fits-via-then-fits+else-is_of, else-fits-via-else-fits}
 use Rattle.mr_history.proofs.line.record_of.Goals as goal
 
 pub returns-in-Err : goal.returns-in-Err
-returns-in-Err c = sym (no_record c.args.text.now (λ r h e.
-    let reads : read c.args.text.now ≡ Some (value_of r) = ap read e ∙ read-line_of r h.1 in
-    let text : IsUtf8 c.args.text.now = rw e (IsUtf8-line_of r h.1) in
+returns-in-Err c = sym (no_record c.args.version c.args.text.now (λ r h e.
+    let reads : read c.args.text.now ≡ Some (value_of r) = ap read e ∙ read-line_of r h.0.1 in
+    let text : IsUtf8 c.args.text.now = rw e (IsUtf8-line_of r h.0.1) in
     let refused : read c.args.text.now ≡ None = c.in-Err.ensures.err (λ m. false≢true (c.if-is_memory.ensures.1 m)) text in
     cc))
 
 pub returns-in_default : goal.returns-in_default
-returns-in_default c = sym (no_record c.args.text.now (λ r h e.
-    let reads : read c.args.text.now ≡ Some (value_of r) = ap read e ∙ read-line_of r h.1 in
+returns-in_default c = sym (no_record c.args.version c.args.text.now (λ r h e.
+    let reads : read c.args.text.now ≡ Some (value_of r) = ap read e ∙ read-line_of r h.0.1 in
     let value = c.in-Ok.ensures.ok.1 in
     let same : view c.in-Ok.value ≡ value_of r = cc in
-    c.in_default.not-Some r (c.record_in.ensures.reads r h same)))
+    c.in_default.not-Some r (c.record_in.ensures.reads r h.0 same)))
 
 pub returns-then-eq : goal.returns-then-eq
 returns-then-eq c =
     let is : c.as_bytes.result.now ≡ c.args.text.now = (slice_eq-Decides Decides-eqb c.as_bytes.result.now c.args.text.now c.eq.result c.eq.ensures).0 c.if-eq.true in
     let written : c.args.text.now ≡ line_of c.in-Some.record = sym is ∙ c.as_bytes.ensures.value ∙ c.in_ok-line.ensures in
     let fit : fits c.in-Some.record ≡ true = sym c.fits.ensures ∙ c.if-fits.true in
-    sym (ap record_of written ∙ record_of-line_of c.in-Some.record (fit, c.in-Some.ensures.ranges))
+    let told : is_of c.args.version c.in-Some.record ≡ true = sym c.is_of.ensures ∙ c.if-is_of.true in
+    sym (ap (record_of c.args.version) written ∙ record_of-line_of c.args.version c.in-Some.record ((fit, c.in-Some.ensures.ranges), told))
 
 pub returns : goal.returns
-returns c = sym (no_record c.args.text.now (λ r h e.
-    let reads : read c.args.text.now ≡ Some (value_of r) = ap read e ∙ read-line_of r h.1 in
+returns c = sym (no_record c.args.version c.args.text.now (λ r h e.
+    let reads : read c.args.text.now ≡ Some (value_of r) = ap read e ∙ read-line_of r h.0.1 in
     let value = c.in-Ok.ensures.ok.1 in
     let same : view c.in-Ok.value ≡ value_of r = cc in
-    let given = c.record_in.ensures.reads r h same in
+    let given = c.record_in.ensures.reads r h.0 same in
     let is : c.in-Some.record ≡ r = cc in
     elim c.else-fits.branch [
-      | else-fits-via-then-fits+in_ok-line+else-eq w ↦
+      | else-fits-via-then-fits+then-is_of+in_ok-line+else-eq w ↦
           let written : w.as_bytes.result.now ≡ c.args.text.now = w.as_bytes.ensures.value ∙ w.in_ok-line.ensures ∙ ap line_of is ∙ sym e in
           let equal = (slice_eq-Decides Decides-eqb w.as_bytes.result.now c.args.text.now w.eq.result w.eq.ensures).1 written in
           false≢true (sym w.if-eq.false ∙ equal)
-      | else-fits-via-else-fits w ↦ false≢true (sym w.if-fits.false ∙ c.fits.ensures ∙ ap fits is ∙ h.0)
+      | else-fits-via-then-fits+else-is_of w ↦ false≢true (sym w.if-is_of.false ∙ w.is_of.ensures ∙ ap (is_of c.args.version) is ∙ h.1)
+      | else-fits-via-else-fits w ↦ false≢true (sym w.if-fits.false ∙ c.fits.ensures ∙ ap fits is ∙ h.0.0)
     ]))

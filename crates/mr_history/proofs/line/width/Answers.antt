@@ -22,7 +22,11 @@ returns-in-MapSucceeded-clause-width c =
     omega arith
 
 pub returns-in-ReduceSucceeded-clause-width : goal.returns-in-ReduceSucceeded-clause-width
-returns-in-ReduceSucceeded-clause-width c = ap (λ l. 32 + l) c.text_len-in-ReduceSucceeded.ensures.len ∙ sym (ap width c.in-ReduceSucceeded.is ∙ width-reduced c.in-ReduceSucceeded.attempt)
+returns-in-ReduceSucceeded-clause-width c =
+    let w = ap width c.in-ReduceSucceeded.is ∙ width-reduced c.in-ReduceSucceeded.attempt c.in-ReduceSucceeded.bytes c.bytes_len.ensures.ranges in
+    let t = c.text_len-in-ReduceSucceeded.ensures.len in
+    let n = c.bytes_len.ensures.len in
+    omega arith
 
 pub returns-in-AttemptFailed-clause-width : goal.returns-in-AttemptFailed-clause-width
 returns-in-AttemptFailed-clause-width c = ap (λ l. 32 + l) c.text_len-in-AttemptFailed.ensures.len ∙ sym (ap width c.in-AttemptFailed.is ∙ width-failed c.in-AttemptFailed.attempt)

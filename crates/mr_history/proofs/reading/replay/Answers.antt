@@ -1,17 +1,21 @@
-use Rattle.std.proofs.Common.{◌∙◌, sym, ap, Some, ◌+◌, subst}
-use Rattle.mr_history.proofs.Replays.{Reads, more, stops, ends}
+use Rattle.std.proofs.Common.{◌∙◌, sym, ap₂, Some, ◌+◌, subst}
+use Rattle.mr_history.proofs.Replays.{Reads, start, more, stops, ends}
 use Rattle.mr_history.proofs.reading.replay.Goals as goal
+
+pub loop-line-init : goal.loop-line-init
+loop-line-init c = subst (Reads c.split_head-version.result.0 c.split_head-version.result.1.now c.split_head-version.result.1.now) (sym c.new-records.ensures) (start c.split_head-version.result.0 c.split_head-version.result.1.now)
 
 pub returns-in_default-2 : goal.returns-in_default-2
 returns-in_default-2 c =
     let none = sym c.in_default-2.is ∙ c.in_ok-record.ensures in
-    stops c.args.bytes.now c.loop-line.rest.now c.in-Some.line.now c.in-Some.after.now c.loop-line.records c.loop-line.invariant c.in-Some.ensures.some.0 c.in-Some.ensures.some.1 none ∙ ap (λ n. Some (n + 1)) (sym c.len.ensures)
+    stops c.split_head-version.result.0 c.args.bytes.now c.split_head-version.result.1.now c.loop-line.rest.now c.in-Some.line.now c.in-Some.after.now c.loop-line.records c.split_head-version.ensures.range c.split_head-version.ensures.version c.split_head-version.ensures.rest c.loop-line.invariant c.in-Some.ensures.some.0 c.in-Some.ensures.some.1 none
+    ∙ ap₂ (λ n k. Some (n + k + 1)) (sym c.len.ensures) (sym c.lines_before-before.ensures)
 
 pub loop-line-preserved : goal.loop-line-preserved
 loop-line-preserved c =
     let is = sym c.in-Some-2.is ∙ c.in_ok-record.ensures in
-    subst (Reads c.args.bytes.now c.in-Some.after.now) (sym c.in_ok-push.ensures.ok)
-    (more c.args.bytes.now c.loop-line.rest.now c.in-Some.line.now c.in-Some.after.now c.loop-line.records c.in-Some-2.record c.loop-line.invariant c.in-Some.ensures.some.0 c.in-Some.ensures.some.1 is)
+    subst (Reads c.split_head-version.result.0 c.split_head-version.result.1.now c.in-Some.after.now) (sym c.in_ok-push.ensures.ok)
+    (more c.split_head-version.result.0 c.split_head-version.result.1.now c.loop-line.rest.now c.in-Some.line.now c.in-Some.after.now c.loop-line.records c.in-Some-2.record c.loop-line.invariant c.in-Some.ensures.some.0 c.in-Some.ensures.some.1 is)
 
 pub returns : goal.returns
-returns c = ends c.args.bytes.now c.loop-line.rest.now c.loop-line.records c.loop-line.invariant c.in_default.ensures.none
+returns c = ends c.split_head-version.result.0 c.args.bytes.now c.split_head-version.result.1.now c.loop-line.rest.now c.loop-line.records c.split_head-version.ensures.range c.split_head-version.ensures.version c.split_head-version.ensures.rest c.loop-line.invariant c.in_default.ensures.none

@@ -8,5 +8,5 @@ returns-clause-made c =
     let upper = c.loop.auto.counter-end in
     let lower = c.loop-test.false in
     let all : c.loop.counter ≡ 1000 = omega arith in
-    let is = c.loop.invariant ∙ ap (λ k. replicate k fresh) all in
+    let is = c.loop.invariant ∙ ap (λ k. replicate k (fresh 1)) all in
     λ i. let h : State = record { segments = is i; fence = 0 } in h
