@@ -1,3 +1,4 @@
+pub mod Fronts
 pub mod Grouping
 pub mod Joining
 pub mod Lines

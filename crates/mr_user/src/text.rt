@@ -1,4 +1,5 @@
-ghost use Rattle.std.specs.Prelude.{◌≡◌, ◌<◌, ◌^◌, length, IfOk, List, ℕ, nat_eq, Some, refl};
+ghost use Rattle.std.specs.Prelude.{◌≡◌, ◌<◌, ◌^◌, length, IfOk, List, ℕ, nat_eq, Some, refl, slice_index};
+ghost use Rattle.std.specs.Int.{w64, from_be_bytes};
 ghost use Rattle.std.specs.Cmp.{partial_equiv_from_equiv};
 ghost use Rattle.std.specs.Cmp.Lexicographic.{pointwise, slice_cmp, nat_list_cmp_total, nat_list_eq_equiv, texts_po, texts_ties};
 ghost use Rattle.std.specs.Ordering.{nat_cmp};
@@ -8,24 +9,35 @@ ghost use Rattle.mr_user.specs.CodecProofs.{text_laws};
 
 use crate::fault::UserFault;
 use crate::wire::Wire;
+use smallvec::SmallVec;
 use std::alloc::{AllocError, Global};
 use std::cmp::Ordering;
 use std::marker::Model;
 
+// So many bytes make a text's front.
+const FRONT_LEN: usize = 8;
+
+// A text of so many bytes takes no block of the heap.
+const INLINE_LEN: usize = 16;
+
 /// A text of any bytes, fewer than 2^32 of them. Texts are ordered byte by byte.
 #[derive(Debug, Drop)]
 pub struct Text {
-    bytes: Vec<u8>,
+    // The first eight bytes as a number, the first the highest, and zeros for those that are wanting: of two texts
+    // with unlike fronts the lesser is that with the lesser front.
+    front: u64,
+    bytes: SmallVec<u8, INLINE_LEN>,
 }
 
 impl Model for Text {
-    ghost use Rattle.std.specs.Prelude.{ℕ, ◌<◌, ◌^◌, List, length};
+    ghost use Rattle.std.specs.Prelude.{◌≡◌, ℕ, ◌<◌, ◌^◌, List, length};
+    ghost use Rattle.std.specs.Int.{w64, from_be_bytes};
 
     ghost Value = { List ℕ };
 
     ghost view = { λ text. text.bytes.items };
 
-    ghost invariant = { λ text. length text.bytes.items < 2 ^ 32 };
+    ghost invariant = { λ text. (length text.bytes.items < 2 ^ 32) × (text.front ≡ from_be_bytes w64 text.bytes.items) };
 }
 
 impl Text {
@@ -34,8 +46,9 @@ impl Text {
         requires { length bytes.now < 2 ^ 32 }
         ensures { IfOk result (λ text. text ≡ bytes.now) }
     {
-        let bytes = Vec::from_slice(alloc, bytes)?;
-        Ok(Text { bytes })
+        let front = front_of(bytes);
+        let bytes = SmallVec::from_slice(alloc, bytes)?;
+        Ok(Text { front, bytes })
     }
 
     /// Its bytes.
@@ -88,7 +101,50 @@ impl Ord for Text {
     ghost matches_eq = { texts_ties };
 
     fn cmp(&self, other: &Text) -> Ordering {
-        self.as_slice().cmp(other.as_slice())
+        order(self.front, &self.bytes, other.front, &other.bytes)
+    }
+}
+
+// The front of bytes.
+fn front_of(bytes: &[u8]) -> u64
+    ensures { result ≡ from_be_bytes w64 bytes.now }
+{
+    u64::from_be_bytes([
+        byte_at(bytes, 0),
+        byte_at(bytes, 1),
+        byte_at(bytes, 2),
+        byte_at(bytes, 3),
+        byte_at(bytes, 4),
+        byte_at(bytes, 5),
+        byte_at(bytes, 6),
+        byte_at(bytes, 7),
+    ])
+}
+
+// The byte at a place, 0 where there are not so many.
+fn byte_at(bytes: &[u8], place: usize) -> u8
+    ensures { result ≡ slice_index bytes.now place }
+{
+    if place < bytes.len() { bytes[place] } else { 0 }
+}
+
+// The order of bytes, by their fronts first.
+fn order(front: u64, bytes: &[u8], other_front: u64, others: &[u8]) -> Ordering
+    requires { (front ≡ from_be_bytes w64 bytes.now) × (other_front ≡ from_be_bytes w64 others.now) }
+    ensures { result ≡ slice_cmp nat_cmp bytes.now others.now }
+{
+    known_bytes(bytes);
+    known_bytes(others);
+    match front.cmp(&other_front) {
+        Ordering::Less => Ordering::Less,
+        Ordering::Greater => Ordering::Greater,
+        Ordering::Equal => {
+            if bytes.len() <= FRONT_LEN && others.len() <= FRONT_LEN {
+                bytes.len().cmp(&others.len())
+            } else {
+                bytes.cmp(others)
+            }
+        }
     }
 }
 
