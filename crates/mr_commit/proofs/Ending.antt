@@ -2,6 +2,10 @@
 use Rattle.std.proofs.Common.{◌≡◌, ◌≤◌, ◌<◌, ℕ, suc, ◌+◌, ◌-◌, ◌*◌, Bool, true, false, cond, List, [], ◌∷◌, ◌++◌, length, map, filter, refl, sym, ap, subst, ◌∙◌, Option, Some, None, is_some, is_none, Result, Ok, Err, ◌&&◌, nat_lt, if◌then◌else◌, arith, length-append, ◌⊎◌, inl, inr}
 use Rattle.std.proofs.lemmas.Nat.{mul-le}
 use Rattle.std.proofs.Math.Nat.{suc-mul, zero-mul}
+use Rattle.std.proofs.lemmas.Bool.{ltb-true}
+use Rattle.mr_ids.specs.declared.id.TaskId.{TaskId}
+use Rattle.mr_ids.specs.Text.{numeral, task_text}
+use Rattle.mr_paths.specs.Layout.{committed, temporary_name}
 use Rattle.mr_names.specs.declared.op.Caller.{Caller}
 use Rattle.mr_names.specs.declared.fault.NameFault.{NameFault}
 use Rattle.mr_names.specs.declared.fault.NameFault.TheVariants as names
@@ -21,8 +25,8 @@ use Rattle.mr_commit.specs.declared.fault.CommitFault.{CommitFault}
 use Rattle.mr_commit.specs.declared.fault.CommitFault.TheVariants as fault
 use Rattle.mr_commit.specs.declared.fault.StepDone.{StepDone}
 use Rattle.mr_commit.specs.declared.fault.StepDone.TheVariants as done
-use Rattle.mr_commit.specs.Line.{Line, op_of, replaced, found, listed, merging, merging_child, merging_task, is_task, needed, fault_of}
-use Rattle.mr_commit.specs.Line.Line.{Does, Clears, Needs, Merges, MergesEach, MergesTasks}
+use Rattle.mr_commit.specs.Line.{Line, op_of, replaced, found, listed, merging, merging_child, merging_task, is_task, needed, fault_of, fault_at, before, older, taking_over, sought}
+use Rattle.mr_commit.specs.Line.Line.{Does, Clears, Needs, Merges, MergesEach, MergesTasks, Seeks, Measures}
 use Rattle.mr_commit.specs.Steps.{after, step_of}
 use Rattle.mr_commit.specs.Settles.{is_single, AllSingle, RaisesBy, Raises, Settles}
 use Rattle.mr_commit.specs.Whole.{merge_calls, line_calls, most_calls}
@@ -57,9 +61,12 @@ ok_is x y e = cc
 err_not : {B : Type 0} (f : CommitFault) (x : List Line) → lines_err f ≡ lines_ok x → B
 err_not f x e = cc
 
-no_lines : (f : NameFault) (b : Bool) (new : List Line) → (if b then Ok [] else Err (fault_of f)) ≡ Ok new → new ≡ []
+no_lines : (f : CommitFault) (b : Bool) (new : List Line) → (if b then Ok [] else Err f) ≡ Ok new → new ≡ []
 no_lines f true new e = sym (ok_is [] new e)
-no_lines f false new e = err_not (fault_of f) new e
+no_lines f false new e = err_not f new e
+
+none_measured : (b : Bool) (new : List Line) → (if b then Ok [] else Err fault.WrongLength) ≡ Ok new → new ≡ []
+none_measured b new e = no_lines fault.WrongLength b new e
 
 none_needed : (o : Option Kind) (new : List Line) → needed o ≡ Ok new → new ≡ []
 none_needed None new e = err_not _ new e
@@ -69,9 +76,12 @@ pub single : (line : Line) (r : Result Answer NameFault) (new : List Line) → i
 single (Does call) (Ok a) new k e = sym (ok_is [] new e)
 single (Clears path) (Ok a) new k e = sym (ok_is [] new e)
 single (Needs path) (Ok a) new k e = none_needed (found a) new e
-single (Does call) (Err f) new k e = no_lines f _ new e
-single (Clears path) (Err f) new k e = no_lines f _ new e
-single (Needs path) (Err f) new k e = no_lines f _ new e
+single (Does call) (Err f) new k e = no_lines (fault_of f) _ new e
+single (Clears path) (Err f) new k e = no_lines (fault_of f) _ new e
+single (Needs path) (Err f) new k e = no_lines (fault_of f) _ new e
+single (Measures path n) (Ok a) new k e = none_measured _ new e
+single (Measures path n) (Err f) new k e = no_lines (fault_at (Measures path n) f) _ new e
+single (Seeks dest task bytes to j) r new k e = absurd cc
 single (Merges taken from to) r new k e = absurd cc
 single (MergesEach from to) r new k e = absurd cc
 single (MergesTasks from to) r new k e = absurd cc
@@ -187,14 +197,55 @@ unfolding most_calls
 none_follow entries depth (Does call) new k e = rw e (record { raise = tt; fewer = omega arith })
 none_follow entries depth (Clears path) new k e = rw e (record { raise = tt; fewer = omega arith })
 none_follow entries depth (Needs path) new k e = rw e (record { raise = tt; fewer = omega arith })
+none_follow entries depth (Measures path n) new k e = rw e (record { raise = tt; fewer = omega arith })
+none_follow entries depth (Seeks dest task bytes to j) new k e = absurd cc
 none_follow entries depth (Merges taken from to) new k e = absurd cc
 none_follow entries depth (MergesEach from to) new k e = absurd cc
 none_follow entries depth (MergesTasks from to) new k e = absurd cc
+
+-- the generation before is a lesser number
+before_less : (j i : ℕ) → before j ≡ Some i → i < j
+before_less j i e = by (nat_lt 1 j) refl e
+  where
+    by : (b : Bool) → nat_lt 1 j ≡ b → (if b then Some (j - 1) else None) ≡ Some i → i < j
+    by true high h = let is : j - 1 ≡ i = cc in let more = ltb-true 1 j high in omega arith
+    by false high h = absurd cc
+
+one_length : (dest : List (List ℕ)) (task : TaskId) (k j : ℕ) → length (committed dest k task) ≤ length (committed dest j task)
+unfolding committed
+one_length dest task k j = omega (arith, length-append dest (temporary_name ∷ numeral 1 k ∷ task_text task ∷ []), length-append dest (temporary_name ∷ numeral 1 j ∷ task_text task ∷ []))
+
+taken_follow : (entries depth : ℕ) (dest : List (List ℕ)) (task : TaskId) (bytes : Option ℕ) (k j : ℕ) → Follow entries depth (Seeks dest task bytes k j) (taking_over dest task bytes k j)
+unfolding most_calls
+taken_follow entries depth dest task None k j = record { raise = (tt, (one_length dest task k j, tt)); fewer = omega arith }
+taken_follow entries depth dest task (Some n) k j = record { raise = (tt, (tt, (one_length dest task k j, tt))); fewer = omega arith }
+
+older_follow : (entries depth : ℕ) (dest : List (List ℕ)) (task : TaskId) (bytes : Option ℕ) (k j i : ℕ) → i < j → Follow entries depth (Seeks dest task bytes k j) (Seeks dest task bytes k i ∷ [])
+unfolding most_calls
+older_follow entries depth dest task bytes k j i less = record { raise = (tt, tt); fewer = omega arith }
+
+seek_follows : (entries depth : ℕ) (dest : List (List ℕ)) (task : TaskId) (bytes : Option ℕ) (k j : ℕ) (r : Result Answer NameFault) (new : List Line) → replaced (Seeks dest task bytes k j) r ≡ Ok new → Follow entries depth (Seeks dest task bytes k j) new
+seek_follows entries depth dest task bytes k j (Ok a) new e = by (found a) e
+  where
+    on : (o : Option ℕ) → before j ≡ o → older dest task bytes k o ≡ Ok new → Follow entries depth (Seeks dest task bytes k j) new
+    on None is h = err_not _ new h
+    on (Some i) is h = rw (sym (ok_is _ new h)) (older_follow entries depth dest task bytes k j i (before_less j i is))
+
+    by : (o : Option Kind) → sought dest task bytes k j o ≡ Ok new → Follow entries depth (Seeks dest task bytes k j) new
+    by None h = on (before j) refl h
+    by (Some there) h = rw (sym (ok_is _ new h)) (taken_follow entries depth dest task bytes k j)
+seek_follows entries depth dest task bytes k j (Err f) new e = no_lines_left f _ new e
+  where
+    no_lines_left : (f : NameFault) (b : Bool) (new : List Line) → (if b && false then Ok [] else Err (fault_of f)) ≡ Ok new → Follow entries depth (Seeks dest task bytes k j) new
+    no_lines_left f true new e = err_not (fault_of f) new e
+    no_lines_left f false new e = err_not (fault_of f) new e
 
 line_follows : (entries depth : ℕ) (line : Line) (s : State) (caller : Caller) (new : List Line) → Raises line → Bounded entries depth s.content → replaced line (call_of s caller (op_of line)).0 ≡ Ok new → Follow entries depth line new
 line_follows entries depth (Does call) s caller new r b k = none_follow entries depth (Does call) new refl (single (Does call) _ new refl k)
 line_follows entries depth (Clears path) s caller new r b k = none_follow entries depth (Clears path) new refl (single (Clears path) _ new refl k)
 line_follows entries depth (Needs path) s caller new r b k = none_follow entries depth (Needs path) new refl (single (Needs path) _ new refl k)
+line_follows entries depth (Measures path n) s caller new r b k = none_follow entries depth (Measures path n) new refl (single (Measures path n) _ new refl k)
+line_follows entries depth (Seeks dest task bytes to j) s caller new r b k = seek_follows entries depth dest task bytes to j _ new k
 line_follows entries depth (Merges taken from to) s caller new r b k = merge_follows entries depth taken from to _ new r k
 line_follows entries depth (MergesEach from to) s caller new r b k = each_follows entries depth from to s caller _ _ new r b refl k
 line_follows entries depth (MergesTasks from to) s caller new r b k = tasks_follow entries depth from to s caller _ _ new r b refl k
@@ -221,6 +272,8 @@ raises_call (Needs path) r = tt
 raises_call (Merges taken from to) r = tt
 raises_call (MergesEach from to) r = tt
 raises_call (MergesTasks from to) r = tt
+raises_call (Seeks dest task bytes k j) r = tt
+raises_call (Measures path n) r = tt
 
 bounded_after : (entries depth : ℕ) (s : State) (caller : Caller) (call : Op) → RaisesBy call → Bounded entries depth s.content → Bounded entries depth (call_of s caller call).1.content
 bounded_after entries depth s caller call r b = by (refused s caller call)
@@ -240,6 +293,7 @@ left_by : (line : Line) (rest left : List Line) (x : Result (List Line) CommitFa
 left_by line rest left (Ok new) e = (new, refl, sym (ap (λ p. p.1) e))
 left_by line rest left (Err (fault.Names f)) e = let y : ends_of (fault.Names f) ≡ more_of done.More = ap (λ p. p.0) e in absurd cc
 left_by line rest left (Err fault.OutputMissing) e = let y : ends_of fault.OutputMissing ≡ more_of done.More = ap (λ p. p.0) e in absurd cc
+left_by line rest left (Err fault.WrongLength) e = let y : ends_of fault.WrongLength ≡ more_of done.More = ap (λ p. p.0) e in absurd cc
 left_by line rest left (Err fault.DestinationExists) e = let y : ends_of fault.DestinationExists ≡ more_of done.More = ap (λ p. p.0) e in absurd cc
 left_by line rest left (Err fault.Over) e = let y : ends_of fault.Over ≡ more_of done.More = ap (λ p. p.0) e in absurd cc
 left_by line rest left (Err fault.NoMemory) e = let y : ends_of fault.NoMemory ≡ more_of done.More = ap (λ p. p.0) e in absurd cc

@@ -1,5 +1,5 @@
 -- The step of a step value, from its call and from what was heard.
-use Rattle.std.proofs.Common.{◌≡◌, ℕ, Bool, true, false, List, [], ◌∷◌, refl, sym, ap, Option, Some, None, Result, Ok, Err, ◌||◌}
+use Rattle.std.proofs.Common.{◌≡◌, ℕ, Bool, true, false, List, [], ◌∷◌, refl, sym, ap, ◌∙◌, Option, Some, None, Result, Ok, Err, ◌||◌}
 use Rattle.mr_names.specs.declared.op.Caller.{Caller}
 use Rattle.mr_names.specs.declared.fault.NameFault.{NameFault}
 use Rattle.mr_names.specs.declared.fault.NameFault.TheVariants as names
@@ -9,10 +9,21 @@ use Rattle.mr_names.specs.Calls.{State, call_of, refused, settled, may_want_memo
 use Rattle.mr_commit.specs.declared.fault.CommitFault.{CommitFault}
 use Rattle.mr_commit.specs.declared.fault.CommitFault.TheVariants as fault
 use Rattle.mr_commit.specs.declared.fault.StepDone.{StepDone}
-use Rattle.mr_commit.specs.Line.{Line, op_of, more_follow}
-use Rattle.mr_commit.specs.Line.Line.{Does, Clears, Needs, Merges, MergesEach, MergesTasks}
+use Rattle.mr_commit.specs.Line.{Line, op_of, more_follow, is_no_file, fault_at, fault_of}
+use Rattle.mr_commit.specs.Line.Line.{Does, Clears, Needs, Merges, MergesEach, MergesTasks, Seeks, Measures}
 use Rattle.mr_commit.specs.Steps.{next_call, heard, step_of, Hears, Steps}
 use Rattle.mr_commit.proofs.Calls.{Made, made, as_call, no_memory, is_want}
+
+-- a line has a fault of its own only where there is no file
+pub fault_at-own : (line : Line) (f : NameFault) → is_no_file f ≡ false → fault_at line f ≡ fault_of f
+fault_at-own (Does call) f e = refl
+fault_at-own (Clears path) f e = refl
+fault_at-own (Needs path) f e = refl
+fault_at-own (Merges taken from to) f e = refl
+fault_at-own (MergesEach from to) f e = refl
+fault_at-own (MergesTasks from to) f e = refl
+fault_at-own (Seeks dest task bytes k j) f e = refl
+fault_at-own (Measures path n) f e = rw e refl
 
 or_right : (a : Bool) → (a || true) ≡ true
 or_right true = refl
@@ -26,6 +37,12 @@ unchanged (Needs path) s caller a t k e = absurd cc
 unchanged (Merges taken from to) s caller a t k e = reading (refused s caller (op_of (Merges taken from to))) refl e
   where
     reading : (o : Option NameFault) → refused s caller (op_of (Merges taken from to)) ≡ o → settled o s (op_of (Merges taken from to)) ≡ (Ok a, t) → (t ≡ s) × (refused s caller (op_of (Merges taken from to)) ≡ None)
+    reading None r h = (sym (ap (λ p. p.1) h), r)
+    reading (Some f) r h = let y : Err f ≡ Ok a = ap (λ p. p.0) h in absurd cc
+unchanged (Measures path n) s caller a t k e = absurd cc
+unchanged (Seeks dest task bytes to j) s caller a t k e = reading (refused s caller (op_of (Seeks dest task bytes to j))) refl e
+  where
+    reading : (o : Option NameFault) → refused s caller (op_of (Seeks dest task bytes to j)) ≡ o → settled o s (op_of (Seeks dest task bytes to j)) ≡ (Ok a, t) → (t ≡ s) × (refused s caller (op_of (Seeks dest task bytes to j)) ≡ None)
     reading None r h = (sym (ap (λ p. p.1) h), r)
     reading (Some f) r h = let y : Err f ≡ Ok a = ap (λ p. p.0) h in absurd cc
 unchanged (MergesEach from to) s caller a t k e = reading (refused s caller (op_of (MergesEach from to))) refl e
@@ -47,6 +64,7 @@ as_called : (line : Line) (rest : List Line) (s : State) (caller : Caller) (answ
 as_called line rest s caller answer (Ok d) left t e own h = heard_step line rest left s t caller answer _ e h
 as_called line rest s caller answer (Err (fault.Names f)) left t e own h = heard_step line rest left s t caller answer _ e h
 as_called line rest s caller answer (Err fault.OutputMissing) left t e own h = heard_step line rest left s t caller answer _ e h
+as_called line rest s caller answer (Err fault.WrongLength) left t e own h = heard_step line rest left s t caller answer _ e h
 as_called line rest s caller answer (Err fault.DestinationExists) left t e own h = heard_step line rest left s t caller answer _ e h
 as_called line rest s caller answer (Err fault.Over) left t e own h = heard_step line rest left s t caller answer _ e h
 as_called line rest s caller (Ok a) (Err fault.NoMemory) left t e own h = let u = unchanged line s caller a t h.1 e in (h.0, u.0, (u.1, rw h.1 (or_right (may_want_memory (op_of line)))))
@@ -55,14 +73,18 @@ as_called line rest s caller (Err f) (Err fault.NoMemory) left t e own h = let o
 abbrev told : CommitFault → Result StepDone CommitFault
 told f = Err f
 
+no_memory_heard : (line : Line) (rest : List Line) → (heard (line ∷ rest) (Err names.NoMemory)).0 ≡ told fault.NoMemory
+no_memory_heard line rest = rw (fault_at-own line names.NoMemory refl) refl
+
 -- a function that had no memory for the call
 had_none : (line : Line) (rest : List Line) (s : State) (caller : Caller) (r : Result StepDone CommitFault) (left : List Line) (t : State) → t ≡ s → refused s caller (op_of line) ≡ None → may_want_memory (op_of line) ≡ true → Hears (line ∷ rest) (Err names.NoMemory) r left → Steps (line ∷ rest) s caller r left t
 had_none line rest s caller (Err fault.NoMemory) left t same none takes h = (h.0, same, (none, rw takes refl))
-had_none line rest s caller (Ok d) left t same none takes h = let y : told fault.NoMemory ≡ Ok d = ap (λ p. p.0) h in absurd cc
-had_none line rest s caller (Err (fault.Names f)) left t same none takes h = let y : told fault.NoMemory ≡ told (fault.Names f) = ap (λ p. p.0) h in absurd cc
-had_none line rest s caller (Err fault.OutputMissing) left t same none takes h = let y : told fault.NoMemory ≡ told fault.OutputMissing = ap (λ p. p.0) h in absurd cc
-had_none line rest s caller (Err fault.DestinationExists) left t same none takes h = let y : told fault.NoMemory ≡ told fault.DestinationExists = ap (λ p. p.0) h in absurd cc
-had_none line rest s caller (Err fault.Over) left t same none takes h = let y : told fault.NoMemory ≡ told fault.Over = ap (λ p. p.0) h in absurd cc
+had_none line rest s caller (Ok d) left t same none takes h = let y : told fault.NoMemory ≡ Ok d = sym (no_memory_heard line rest) ∙ ap (λ p. p.0) h in absurd cc
+had_none line rest s caller (Err (fault.Names f)) left t same none takes h = let y : told fault.NoMemory ≡ told (fault.Names f) = sym (no_memory_heard line rest) ∙ ap (λ p. p.0) h in absurd cc
+had_none line rest s caller (Err fault.OutputMissing) left t same none takes h = let y : told fault.NoMemory ≡ told fault.OutputMissing = sym (no_memory_heard line rest) ∙ ap (λ p. p.0) h in absurd cc
+had_none line rest s caller (Err fault.WrongLength) left t same none takes h = let y : told fault.NoMemory ≡ told fault.WrongLength = sym (no_memory_heard line rest) ∙ ap (λ p. p.0) h in absurd cc
+had_none line rest s caller (Err fault.DestinationExists) left t same none takes h = let y : told fault.NoMemory ≡ told fault.DestinationExists = sym (no_memory_heard line rest) ∙ ap (λ p. p.0) h in absurd cc
+had_none line rest s caller (Err fault.Over) left t same none takes h = let y : told fault.NoMemory ≡ told fault.Over = sym (no_memory_heard line rest) ∙ ap (λ p. p.0) h in absurd cc
 
 pub step_from_took : (lines : List Line) (s : State) (caller : Caller) (call : Op) (answer : Result Answer NameFault) (r : Result StepDone CommitFault) (left : List Line) (t : State) → next_call lines ≡ Some call → Made s caller call answer t → Hears lines answer r left → Steps lines s caller r left t
 step_from_took [] s caller call answer r left t is m h = absurd cc

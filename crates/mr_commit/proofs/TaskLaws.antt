@@ -56,6 +56,7 @@ passed n line rest s t caller one e = by (replaced line (call_of s caller (op_of
     by (Ok new) k h = ap (λ z. Ok z) (single line _ new one k)
     by (Err (fault.Names f)) k h = clash (fault.Names f) _ t h
     by (Err fault.OutputMissing) k h = clash fault.OutputMissing _ t h
+    by (Err fault.WrongLength) k h = clash fault.WrongLength _ t h
     by (Err fault.DestinationExists) k h = clash fault.DestinationExists _ t h
     by (Err fault.Over) k h = clash fault.Over _ t h
     by (Err fault.NoMemory) k h = clash fault.NoMemory _ t h

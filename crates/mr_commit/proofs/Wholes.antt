@@ -1,5 +1,5 @@
 -- All steps of a whole form.
-use Rattle.std.proofs.Common.{◌≡◌, ◌≤◌, ◌<◌, ℕ, zero, suc, ◌-◌, length, true, false, List, [], ◌∷◌, refl, sym, ap, ◌∙◌, Result, Ok, Err, Some, None, ◌⊎◌, ⊎_elim, arith, inl, inr, length-append}
+use Rattle.std.proofs.Common.{◌≡◌, ◌≤◌, ◌<◌, ℕ, zero, suc, ◌-◌, length, true, false, List, [], ◌∷◌, refl, sym, ap, ◌∙◌, Result, Ok, Err, Option, Some, None, ◌⊎◌, ⊎_elim, arith, inl, inr, length-append}
 use Rattle.std.specs.FinMap as finite
 use Rattle.mr_names.specs.declared.op.Caller.{Caller}
 use Rattle.mr_names.specs.declared.fault.NameFault.{NameFault}
@@ -10,18 +10,20 @@ use Rattle.mr_commit.specs.declared.fault.CommitFault.TheVariants as fault
 use Rattle.mr_commit.specs.declared.fault.StepDone.{StepDone}
 use Rattle.mr_commit.specs.declared.fault.StepDone.TheVariants as done
 use Rattle.mr_commit.specs.Line.{Line, op_of, fault_of}
-use Rattle.mr_commit.specs.Line.Line.{Does, Clears, Needs, Merges, MergesEach, MergesTasks}
+use Rattle.mr_commit.specs.Line.Line.{Does, Clears, Needs, Merges, MergesEach, MergesTasks, Seeks, Measures}
 use Rattle.mr_commit.specs.Steps.{step_of, heard, Steps}
 use Rattle.mr_commit.specs.Settles.{Settles}
 use Rattle.mr_ids.specs.Attempt.{Attempt}
+use Rattle.mr_ids.specs.declared.id.TaskId.{TaskId}
 use Rattle.mr_ids.specs.Text.{numeral}
 use Rattle.mr_paths.specs.Layout.{job_attempt, task_attempt, temporary_name}
 use Rattle.mr_names.specs.declared.fault.NameFault.TheVariants as names
 use Rattle.mr_names.specs.declared.op.Op.{Op}
 use Rattle.mr_names.specs.declared.op.Op.TheVariants as op
-use Rattle.mr_commit.specs.Tables.{setup_job, commit_task, commit_job}
+use Rattle.mr_commit.specs.Tables.{setup_job, commit_task, abort_task, commit_job, abort_job}
 use Rattle.mr_commit.specs.Whole.{NeedsTaskCommit, has_output, Reaches, none_yet, one_more, Finishes, Commits, HasEffect, whole, run, most_calls, merge_calls, deepest}
 use Rattle.mr_commit.proofs.Bounds.{shallow_first}
+use Rattle.mr_commit.proofs.Steps.{fault_at-own}
 use Rattle.mr_commit.proofs.Ending.{Fine, Less, step_more}
 
 abbrev more_of : StepDone → Result StepDone CommitFault
@@ -59,6 +61,8 @@ some_calls entries depth (Does call) rest = omega arith
 some_calls entries depth (Clears path) rest = omega arith
 some_calls entries depth (Needs path) rest = omega arith
 some_calls entries depth (Merges taken from to) rest = omega arith
+some_calls entries depth (Seeks dest task bytes k j) rest = omega arith
+some_calls entries depth (Measures path n) rest = omega arith
 some_calls entries depth (MergesEach from to) rest = let h = some_merge_calls entries (suc depth - length from) in omega arith
 some_calls entries depth (MergesTasks from to) rest = let h = some_merge_calls entries (suc depth - length from) in omega arith
 
@@ -129,6 +133,7 @@ pub effect_by : (first lines left : List Line) (begin s t : State) (caller : Cal
 effect_by first lines left begin s t caller fault.NoMemory g e = tt
 effect_by first lines left begin s t caller (fault.Names f) g e = effect_fault first lines left begin s t caller _ g e
 effect_by first lines left begin s t caller fault.OutputMissing g e = effect_fault first lines left begin s t caller _ g e
+effect_by first lines left begin s t caller fault.WrongLength g e = effect_fault first lines left begin s t caller _ g e
 effect_by first lines left begin s t caller fault.DestinationExists g e = effect_fault first lines left begin s t caller _ g e
 effect_by first lines left begin s t caller fault.Over g e = effect_fault first lines left begin s t caller _ g e
 
@@ -136,6 +141,7 @@ pub made_by : (first lines left : List Line) (begin s t : State) (caller : Calle
 made_by first lines left begin s t caller fault.NoMemory g e = rw e.1 (lines, g.reached, e.2)
 made_by first lines left begin s t caller (fault.Names f) g e = (lines, s, g.reached, (left, e))
 made_by first lines left begin s t caller fault.OutputMissing g e = (lines, s, g.reached, (left, e))
+made_by first lines left begin s t caller fault.WrongLength g e = (lines, s, g.reached, (left, e))
 made_by first lines left begin s t caller fault.DestinationExists g e = (lines, s, g.reached, (left, e))
 made_by first lines left begin s t caller fault.Over g e = (lines, s, g.reached, (left, e))
 
@@ -152,10 +158,10 @@ unheard_step : (line : Line) (rest : List Line) (s : State) (caller : Caller) (w
 unheard_step line rest s caller why e = rw (unheard_call s caller (op_of line) why e) (⊎_elim by_fence by_bar (unheard-is s caller why e))
   where
     by_fence : why ≡ names.Superseded s.fence → Lost line rest s why
-    by_fence is = rw is refl
+    by_fence is = rw (is, fault_at-own line (names.Superseded s.fence) refl) refl
 
     by_bar : why ≡ names.Barred → Lost line rest s why
-    by_bar is = rw is refl
+    by_bar is = rw (is, fault_at-own line names.Barred refl) refl
 
 -- the fault of a caller that is not heard is told by the namespace's name
 told_by_name : (s : State) (caller : Caller) (why : NameFault) → unheard s caller ≡ Some why → fault_of why ≡ fault.Names why
@@ -190,3 +196,12 @@ task_settles dest k attempt = inl (refl, (refl, (refl, tt)))
 pub job_settles : (dest : List (List ℕ)) (k : ℕ) → Settles (commit_job dest k)
 unfolding job_attempt
 job_settles dest k = inr (omega (arith, length-append dest (temporary_name ∷ numeral 1 k ∷ [])), inl (refl, (refl, tt)))
+
+pub abort_task_settles : (dest : List (List ℕ)) (k : ℕ) (attempt : Attempt) → Settles (abort_task dest k attempt)
+abort_task_settles dest k attempt = inl (refl, tt)
+
+pub abort_job_settles : (dest : List (List ℕ)) → Settles (abort_job dest)
+abort_job_settles dest = inl (refl, tt)
+
+pub recovery_settles : (dest : List (List ℕ)) (task : TaskId) (bytes : Option ℕ) (k j : ℕ) → Settles (Seeks dest task bytes k j ∷ [])
+recovery_settles dest task bytes k j = inr (tt, tt)

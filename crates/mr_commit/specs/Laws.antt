@@ -1,6 +1,7 @@
 -- Laws of the committer effect.
-use Rattle.std.specs.Prelude.{◌≡◌, ℕ, false, List, ◌++◌, None, Result, Ok}
+use Rattle.std.specs.Prelude.{◌≡◌, ℕ, false, List, [], ◌∷◌, ◌++◌, Option, None, Result, Ok}
 use Rattle.mr_ids.specs.Attempt.{Attempt}
+use Rattle.mr_ids.specs.declared.id.TaskId.{TaskId}
 use Rattle.mr_paths.specs.Layout.{task_attempt, committed}
 use Rattle.mr_names.specs.declared.op.Caller.{Caller}
 use Rattle.mr_names.specs.Content.{Content, IsTree, within}
@@ -9,6 +10,8 @@ use Rattle.mr_names.specs.Calls.{State}
 use Rattle.mr_commit.specs.declared.fault.CommitFault.{CommitFault}
 use Rattle.mr_commit.specs.Line.{Line}
 use Rattle.mr_commit.specs.Settles.{Settles}
+use Rattle.mr_commit.specs.Line.Line.{Seeks}
+use Rattle.mr_commit.specs.Tables as tables
 use Rattle.mr_commit.specs.Tables.{setup_job, commit_task, commit_job}
 use Rattle.mr_commit.specs.Whole.{LeadsTo, whole}
 
@@ -24,6 +27,9 @@ pub record TablesSettle : Type 0 where
   pub setup : (dest : List (List ℕ)) (k : ℕ) → Settles (setup_job dest k)
   pub task : (dest : List (List ℕ)) (k : ℕ) (attempt : Attempt) → Settles (commit_task dest k attempt)
   pub job : (dest : List (List ℕ)) (k : ℕ) → Settles (commit_job dest k)
+  pub abort_task : (dest : List (List ℕ)) (k : ℕ) (attempt : Attempt) → Settles (tables.abort_task dest k attempt)
+  pub abort_job : (dest : List (List ℕ)) → Settles (tables.abort_job dest)
+  pub recovery : (dest : List (List ℕ)) (task : TaskId) (bytes : Option ℕ) (k j : ℕ) → Settles (Seeks dest task bytes k j ∷ [])
 
 -- the committed path holds what the attempt path held, the attempt path holds nothing, and nothing else changed
 pub record IsCommitted (dest : List (List ℕ)) (k : ℕ) (attempt : Attempt) (before after : Content) : Type 0 where

@@ -5,3 +5,4 @@ pub mod Whole
 pub mod TableLine
 pub mod Settles
 pub mod Laws
+pub mod Recovery

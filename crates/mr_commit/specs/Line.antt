@@ -1,9 +1,11 @@
 -- One line of a committer's table: its call, and what follows from the answer.
 -- The lines and the merge are those of FileOutputCommitter, algorithm version 1 (Hadoop MapReduce committer
--- architecture document). That a refused delete of nothing passes where the tables say so is our own profile.
-use Rattle.std.specs.Prelude.{ℕ, Bool, true, false, not, ◌&&◌, ◌||◌, List, [], ◌∷◌, ◌++◌, map, filter, Option, Some, None, Result, Ok, Err, nat_eq, if◌then◌else◌}
+-- architecture document). That a refused delete of nothing passes where the tables say so, that a recovery looks at all earlier
+-- generations, newest first, and that it measures the part file is our own profile.
+use Rattle.std.specs.Prelude.{ℕ, Bool, true, false, not, ◌&&◌, ◌||◌, List, [], ◌∷◌, ◌++◌, map, filter, length, ◌-◌, ◌==◌, nat_lt, Option, Some, None, Result, Ok, Err, nat_eq, if◌then◌else◌}
 use Rattle.std.specs.Cmp.Lexicographic.{pointwise}
-use Rattle.mr_paths.specs.Layout.{temporary_name}
+use Rattle.mr_ids.specs.declared.id.TaskId.{TaskId}
+use Rattle.mr_paths.specs.Layout.{temporary_name, committed, part}
 use Rattle.mr_names.specs.declared.fault.NameFault.{NameFault}
 use Rattle.mr_names.specs.declared.fault.NameFault.TheVariants as names
 use Rattle.mr_names.specs.declared.node.Kind.{Kind}
@@ -24,6 +26,8 @@ pub data Line : Type 0 where
   Merges : (taken : Kind) → (from to : List (List ℕ)) → Line  -- merging from, taken as a file or a directory, onto to
   MergesEach : (from to : List (List ℕ)) → Line  -- merging each child of from onto the same name in to
   MergesTasks : (from to : List (List ℕ)) → Line  -- merging each entry of from but `_temporary`, taken as a directory, onto to
+  Seeks : (dest : List (List ℕ)) → (task : TaskId) → (bytes : Option ℕ) → (k j : ℕ) → Line  -- what the newest of the generations j, j - 1 .. 1 committed of a task is taken over to generation k
+  Measures : (path : List (List ℕ)) → (bytes : ℕ) → Line  -- the file there has to have so many bytes
 
 abbrev pub deletes : List (List ℕ) → Line
 deletes path = Does (op.Delete path)
@@ -39,6 +43,8 @@ op_of (Needs path) = op.Exists path
 op_of (Merges taken from to) = op.Exists to
 op_of (MergesEach from to) = op.List from
 op_of (MergesTasks from to) = op.List from
+op_of (Seeks dest task bytes k j) = op.Exists (committed dest j task)
+op_of (Measures path bytes) = op.Read path
 
 -- ---- what follows from an answer
 
@@ -55,6 +61,13 @@ listed (answers.Listed entries) = entries
 listed answers.Done = []
 listed (answers.Found there) = []
 listed (answers.Contents bytes) = []
+
+-- what an answer reads. The answer of another call reads nothing
+abbrev pub bytes_read : Answer → List ℕ
+bytes_read (answers.Contents bytes) = bytes
+bytes_read answers.Done = []
+bytes_read (answers.Listed entries) = []
+bytes_read (answers.Found there) = []
 
 -- merging from onto to, where what is at to is known: a directory goes into a directory child by child, and all
 -- else takes the place of what is there
@@ -78,6 +91,33 @@ abbrev pub needed : Option Kind → Result (List Line) CommitFault
 needed None = Err fault.OutputMissing
 needed (Some there) = Ok []
 
+-- the generation before, if there is one
+abbrev pub before : ℕ → Option ℕ
+before k = if nat_lt 1 k then Some (k - 1) else None
+
+-- where a generation committed nothing of a task, the one before is looked at
+abbrev pub older : List (List ℕ) → TaskId → Option ℕ → ℕ → Option ℕ → Result (List Line) CommitFault
+older dest task bytes k None = Err fault.OutputMissing
+older dest task bytes k (Some i) = Ok (Seeks dest task bytes k i ∷ [])
+
+-- where a length is recorded, the file has to have it
+abbrev pub measuring : List (List ℕ) → Option ℕ → List Line → List Line
+measuring path None rest = rest
+measuring path (Some bytes) rest = Measures path bytes ∷ rest
+
+-- what generation j committed of a task takes the place of what generation k committed, once its part file has the recorded length
+abbrev pub taking_over : List (List ℕ) → TaskId → Option ℕ → ℕ → ℕ → List Line
+taking_over dest task bytes k j =
+    measuring (committed dest j task ++ part task.number ∷ []) bytes
+    (Clears (committed dest k task) ∷ moves (committed dest j task) (committed dest k task) ∷ [])
+
+abbrev pub sought : List (List ℕ) → TaskId → Option ℕ → ℕ → ℕ → Option Kind → Result (List Line) CommitFault
+sought dest task bytes k j None = older dest task bytes k (before j)
+sought dest task bytes k j (Some there) = Ok (taking_over dest task bytes k j)
+
+abbrev pub measured : ℕ → List ℕ → Result (List Line) CommitFault
+measured bytes found = if length found == bytes then Ok [] else Err fault.WrongLength
+
 -- the lines that take the place of a line whose call was answered
 abbrev pub answered : Line → Answer → Result (List Line) CommitFault
 answered (Does call) a = Ok []
@@ -86,6 +126,8 @@ answered (Needs path) a = needed (found a)
 answered (Merges taken from to) a = Ok (merging taken from to (found a))
 answered (MergesEach from to) a = Ok (map (merging_child from to) (listed a))
 answered (MergesTasks from to) a = Ok (map (merging_task from to) (filter is_task (listed a)))
+answered (Seeks dest task bytes k j) a = sought dest task bytes k j (found a)
+answered (Measures path bytes) a = measured bytes (bytes_read a)
 
 -- a refusal of the namespace as the committer's fault
 abbrev pub fault_of : NameFault → CommitFault
@@ -113,11 +155,28 @@ passes_missing (Needs path) = false
 passes_missing (Merges taken from to) = false
 passes_missing (MergesEach from to) = false
 passes_missing (MergesTasks from to) = false
+passes_missing (Seeks dest task bytes k j) = false
+passes_missing (Measures path bytes) = false
+
+abbrev pub is_no_file : NameFault → Bool
+is_no_file names.NotFile = true
+is_no_file f = is_missing f
+
+-- A refusal of a line's call as the committer's fault: where a file has to be measured and there is none, the output is missing.
+abbrev pub fault_at : Line → NameFault → CommitFault
+fault_at (Does call) f = fault_of f
+fault_at (Clears path) f = fault_of f
+fault_at (Needs path) f = fault_of f
+fault_at (Merges taken from to) f = fault_of f
+fault_at (MergesEach from to) f = fault_of f
+fault_at (MergesTasks from to) f = fault_of f
+fault_at (Seeks dest task bytes k j) f = fault_of f
+fault_at (Measures path bytes) f = if is_no_file f then fault.OutputMissing else fault_of f
 
 -- the lines that take the place of a line, or the fault that ends all
 abbrev pub replaced : Line → Result Answer NameFault → Result (List Line) CommitFault
 replaced line (Ok a) = answered line a
-replaced line (Err f) = if is_missing f && passes_missing line then Ok [] else Err (fault_of f)
+replaced line (Err f) = if is_missing f && passes_missing line then Ok [] else Err (fault_at line f)
 
 -- whether lines may follow, for which memory is wanted
 abbrev pub more_follow : Line → Bool
@@ -127,6 +186,8 @@ more_follow (Needs path) = false
 more_follow (Merges taken from to) = true
 more_follow (MergesEach from to) = true
 more_follow (MergesTasks from to) = true
+more_follow (Seeks dest task bytes k j) = true
+more_follow (Measures path bytes) = false
 
 -- whether a line may want memory: for its call, or for the lines that follow
 abbrev pub wants_memory : Line → Bool

@@ -3,7 +3,7 @@ use Rattle.std.specs.Prelude.{◌≡◌, ◌≤◌, Bool, true, false, List, [],
 use Rattle.mr_names.specs.declared.op.Op.{Op}
 use Rattle.mr_names.specs.declared.op.Op.TheVariants as op
 use Rattle.mr_commit.specs.Line.{Line}
-use Rattle.mr_commit.specs.Line.Line.{Does, Clears, Needs, Merges, MergesEach, MergesTasks}
+use Rattle.mr_commit.specs.Line.Line.{Does, Clears, Needs, Merges, MergesEach, MergesTasks, Seeks, Measures}
 
 -- whether no line follows
 abbrev pub is_single : Line → Bool
@@ -13,6 +13,8 @@ is_single (Needs path) = true
 is_single (Merges taken from to) = false
 is_single (MergesEach from to) = false
 is_single (MergesTasks from to) = false
+is_single (Seeks dest task bytes k j) = false
+is_single (Measures path bytes) = true
 
 abbrev pub AllSingle : List Line → Type 0
 AllSingle [] = Unit {0}
@@ -39,6 +41,8 @@ Raises (Needs path) = Unit {0}
 Raises (Merges taken from to) = length to ≤ length from
 Raises (MergesEach from to) = length to ≤ length from
 Raises (MergesTasks from to) = length to ≤ length from
+Raises (Seeks dest task bytes k j) = Unit {0}
+Raises (Measures path bytes) = Unit {0}
 
 -- lines that raise entries, and then lines of one call each
 abbrev pub Settles : List Line → Type 0

@@ -6,7 +6,7 @@ use Rattle.mr_commit.specs.declared.line.TableLine.TheInside.{Inside}
 use Rattle.mr_commit.specs.declared.line.Rule.{Rule}
 use Rattle.mr_commit.specs.declared.line.Rule.TheVariants as rule
 use Rattle.mr_commit.specs.Line.{Line}
-use Rattle.mr_commit.specs.Line.Line.{Does, Clears, Needs, Merges, MergesEach, MergesTasks}
+use Rattle.mr_commit.specs.Line.Line.{Does, Clears, Needs, Merges, MergesEach, MergesTasks, Seeks, Measures}
 
 -- the path of a call. A bar has none
 abbrev pub path_of : Op → List (List ℕ)
@@ -28,6 +28,8 @@ line_by call rule.Needed = Needs (path_of call)
 line_by call (rule.Merge taken from to) = Merges taken from to
 line_by call (rule.MergeEach from to) = MergesEach from to
 line_by call (rule.MergeTasks from to) = MergesTasks from to
+line_by call (rule.Seek layout task bytes k j) = Seeks layout.dest task bytes k j
+line_by call (rule.Measure bytes) = Measures (path_of call) bytes
 
 abbrev pub line_of : Inside → Line
 line_of l = line_by l.op l.rule

@@ -1,6 +1,6 @@
 -- The tables of the committer's operations, of generation k and with its destination at dest.
--- Hadoop's OutputCommitter API has these operations: setupJob, commitTask, commitJob. What they do is
--- FileOutputCommitter's algorithm version 1.
+-- Hadoop's OutputCommitter API has these operations: setupJob, commitTask, abortTask, recoverTask, commitJob, abortJob. What they do
+-- is FileOutputCommitter's algorithm version 1, but for recoverTask, which there looks at the generation before alone.
 use Rattle.std.specs.Prelude.{ℕ, true, List, [], ◌∷◌}
 use Rattle.mr_ids.specs.Attempt.{Attempt}
 use Rattle.mr_paths.specs.Layout.{temporary, job_attempt, task_attempt, committed, marker}
@@ -18,6 +18,14 @@ commit_task dest k attempt =
     Needs (task_attempt dest k attempt)
     ∷ Clears (committed dest k attempt.task)
     ∷ moves (task_attempt dest k attempt) (committed dest k attempt.task) ∷ []
+
+-- the attempt's output is deleted, if there is any
+abbrev pub abort_task : List (List ℕ) → ℕ → Attempt → List Line
+abort_task dest k attempt = Clears (task_attempt dest k attempt) ∷ []
+
+-- what was temporary is deleted, if anything was
+abbrev pub abort_job : List (List ℕ) → List Line
+abort_job dest = Clears (temporary dest) ∷ []
 
 -- all committed output is merged onto the destination, then what was temporary goes, and last comes the marker,
 -- which overwrites nothing

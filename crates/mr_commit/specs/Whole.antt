@@ -15,7 +15,7 @@ use Rattle.mr_commit.specs.declared.fault.CommitFault.TheVariants as fault
 use Rattle.mr_commit.specs.declared.fault.StepDone.{StepDone}
 use Rattle.mr_commit.specs.declared.fault.StepDone.TheVariants as done
 use Rattle.mr_commit.specs.Line.{Line, found, fault_of}
-use Rattle.mr_commit.specs.Line.Line.{Does, Clears, Needs, Merges, MergesEach, MergesTasks}
+use Rattle.mr_commit.specs.Line.Line.{Does, Clears, Needs, Merges, MergesEach, MergesTasks, Seeks, Measures}
 use Rattle.mr_commit.specs.Steps.{step_of, MayWant}
 
 -- ---- where steps lead
@@ -74,6 +74,8 @@ line_calls entries depth (Needs path) = 1
 line_calls entries depth (Merges taken from to) = 3 + merge_calls entries (suc depth - length from)
 line_calls entries depth (MergesEach from to) = merge_calls entries (suc depth - length from)
 line_calls entries depth (MergesTasks from to) = merge_calls entries (suc depth - length from)
+line_calls entries depth (Seeks dest task bytes k j) = 4 + j
+line_calls entries depth (Measures path bytes) = 1
 
 unfoldable pub most_calls : ℕ → ℕ → List Line → ℕ
 most_calls entries depth [] = 0

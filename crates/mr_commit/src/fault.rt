@@ -21,9 +21,12 @@ pub enum CommitFault {
     /// The namespace refused a call.
     #[error("{0}")]
     Names(NameFault),
-    /// A task's attempt has no output to be committed.
+    /// A task's attempt has no output to be committed, or a task none to be recovered.
     #[error("OutputMissing")]
     OutputMissing,
+    /// A recovered part file has another length than the recorded one.
+    #[error("WrongLength")]
+    WrongLength,
     /// A job's destination is there already.
     #[error("DestinationExists")]
     DestinationExists,

@@ -1,11 +1,12 @@
-ghost use Rattle.std.specs.Prelude.{◌≡◌, [], ◌∷◌, ◌++◌, IfOk, IfErr, Ok, map, filter};
-ghost use Rattle.mr_commit.specs.Line.{replaced, answered, found, listed, op_of, merging, merging_child, merging_task, is_task, passes_missing};
-ghost use Rattle.mr_commit.specs.Line.Line.{Does, Clears, Needs, Merges, MergesEach, MergesTasks};
+ghost use Rattle.std.specs.Prelude.{◌≡◌, [], ◌∷◌, ◌++◌, IfOk, IfErr, Ok, Err, map, filter};
+ghost use Rattle.mr_commit.specs.Line.{replaced, answered, found, listed, bytes_read, op_of, merging, merging_child, merging_task, is_task, passes_missing, before, older, sought, taking_over, measuring, measured, fault_at};
+ghost use Rattle.mr_commit.specs.Line.Line.{Does, Clears, Needs, Merges, MergesEach, MergesTasks, Seeks, Measures};
 ghost use Rattle.mr_commit.specs.Steps.{IsFault};
 
 use crate::fault::CommitFault;
+use mr_ids::{AppAttempt, TaskId};
 use mr_names::{Answer, Entry, Kind, NameFault, Op};
-use mr_paths::Path;
+use mr_paths::{Layout, Path};
 use std::alloc::{AllocError, Global};
 use std::marker::Model;
 
@@ -24,6 +25,16 @@ enum Rule {
     MergeEach { from: Path, to: Path },
     /// Each entry that is listed but `_temporary` is merged as a directory onto `to`.
     MergeTasks { from: Path, to: Path },
+    /// What generation `j` committed of a task is taken over to generation `k`, or what the newest one before it did.
+    Seek {
+        layout: Layout,
+        task: TaskId,
+        bytes: Option<u32>,
+        k: AppAttempt,
+        j: AppAttempt,
+    },
+    /// Nothing follows, if the file that is read has so many bytes.
+    Measure(u32),
 }
 
 impl Rule {
@@ -47,6 +58,20 @@ impl Rule {
                 from: from.copy()?,
                 to: to.copy()?,
             },
+            Rule::Seek {
+                layout,
+                task,
+                bytes,
+                k,
+                j,
+            } => Rule::Seek {
+                layout: layout.copy()?,
+                task: *task,
+                bytes: *bytes,
+                k: *k,
+                j: *j,
+            },
+            Rule::Measure(bytes) => Rule::Measure(*bytes),
         })
     }
 }
@@ -150,6 +175,40 @@ impl TableLine {
         })
     }
 
+    /// What generation `j` committed of a task is taken over to generation `k`, or what the newest one before it did.
+    pub fn seeks(
+        layout: &Layout,
+        task: TaskId,
+        bytes: Option<u32>,
+        k: AppAttempt,
+        j: AppAttempt,
+    ) -> Result<TableLine, AllocError>
+        ensures { IfOk result (λ line. line ≡ Seeks layout.now.dest task bytes k j) }
+    {
+        let op = Op::Exists(layout.committed(j, task)?);
+        let layout = layout.copy()?;
+        Ok(TableLine {
+            op,
+            rule: Rule::Seek {
+                layout,
+                task,
+                bytes,
+                k,
+                j,
+            },
+        })
+    }
+
+    /// The file at the path has to have so many bytes.
+    pub fn measures(path: Path, bytes: u32) -> TableLine
+        ensures { result ≡ Measures path bytes }
+    {
+        TableLine {
+            op: Op::Read(path),
+            rule: Rule::Measure(bytes),
+        }
+    }
+
     /// The line's call.
     pub fn op(&self) -> &Op
         ensures { result.now ≡ op_of self.now }
@@ -181,6 +240,11 @@ impl TableLine {
             Err(NameFault::Missing) if matches!(self.rule, Rule::MissingPasses) => {
                 Ok(Vec::new(alloc))
             }
+            Err(NameFault::Missing | NameFault::NotFile)
+                if matches!(self.rule, Rule::Measure(_bytes)) =>
+            {
+                Err(CommitFault::OutputMissing)
+            }
             Err(fault) => Err(CommitFault::from(*fault)),
         }
     }
@@ -202,6 +266,14 @@ impl TableLine {
                 Ok(merging_children(alloc, from, to, listed(answer))?)
             }
             Rule::MergeTasks { from, to } => Ok(merging_tasks(alloc, from, to, listed(answer))?),
+            Rule::Seek {
+                layout,
+                task,
+                bytes,
+                k,
+                j,
+            } => sought(alloc, layout, *task, *bytes, *k, *j, answer),
+            Rule::Measure(bytes) => measured(alloc, *bytes, bytes_read(answer)),
         }
     }
 }
@@ -224,6 +296,98 @@ fn listed(answer: &Answer) -> &[Entry]
         Answer::Listed(entries) => entries.as_slice(),
         _ => &[],
     }
+}
+
+/// What an answer reads.
+fn bytes_read(answer: &Answer) -> &[u8]
+    ensures { result.now ≡ bytes_read answer.now }
+{
+    match answer {
+        Answer::Contents(bytes) => bytes.as_slice(),
+        _ => &[],
+    }
+}
+
+/// Nothing follows where a file has the recorded length.
+fn measured(alloc: Global, bytes: u32, found: &[u8]) -> Result<Vec<TableLine>, CommitFault>
+    ensures lines { IfOk result (λ lines. measured bytes found.now ≡ Ok lines.items) }
+    ensures fault { IfErr result (λ f. (f ≡ CommitFault.WrongLength) × (measured bytes found.now ≡ Err CommitFault.WrongLength)) }
+{
+    if found.len() == bytes as usize {
+        Ok(Vec::new(alloc))
+    } else {
+        Err(CommitFault::WrongLength)
+    }
+}
+
+/// The generation before, if there is one.
+pub fn before(k: AppAttempt) -> Option<AppAttempt>
+    ensures { result ≡ before k }
+{
+    if 1 < k.number() {
+        AppAttempt::new(k.number() - 1)
+    } else {
+        None
+    }
+}
+
+/// The lines that follow once it is known whether generation `j` committed something of a task.
+fn sought(
+    alloc: Global,
+    layout: &Layout,
+    task: TaskId,
+    bytes: Option<u32>,
+    k: AppAttempt,
+    j: AppAttempt,
+    answer: &Answer,
+) -> Result<Vec<TableLine>, CommitFault>
+    ensures lines { IfOk result (λ lines. sought layout.now.dest task bytes k j (found answer.now) ≡ Ok lines.items) }
+    ensures fault { IfErr result (λ f. IsFault (Seeks layout.now.dest task bytes k j) (Ok answer.now) f) }
+{
+    match found(answer) {
+        Some(_kind) => Ok(taking_over(alloc, layout, task, bytes, k, j)?),
+        None => match before(j) {
+            Some(older) => Ok(seeking(layout, task, bytes, k, older)?),
+            None => Err(CommitFault::OutputMissing),
+        },
+    }
+}
+
+/// The line that looks at generation `j`, alone.
+pub fn seeking(
+    layout: &Layout,
+    task: TaskId,
+    bytes: Option<u32>,
+    k: AppAttempt,
+    j: AppAttempt,
+) -> Result<Vec<TableLine>, AllocError>
+    ensures { IfOk result (λ lines. lines.items ≡ Seeks layout.now.dest task bytes k j ∷ []) }
+{
+    let line = TableLine::seeks(layout, task, bytes, k, j)?;
+    Ok(Vec::from_array(layout.dest.allocator(), [line])?)
+}
+
+/// The lines by which what generation `j` committed of a task takes the place of what generation `k` committed.
+fn taking_over(
+    alloc: Global,
+    layout: &Layout,
+    task: TaskId,
+    bytes: Option<u32>,
+    k: AppAttempt,
+    j: AppAttempt,
+) -> Result<Vec<TableLine>, AllocError>
+    ensures { IfOk result (λ lines. lines.items ≡ taking_over layout.now.dest task bytes k j) }
+{
+    let from = layout.committed(j, task)?;
+    let to = layout.committed(k, task)?;
+    let mut lines = Vec::new(alloc);
+    if let Some(bytes) = bytes {
+        let part = from.child(layout.part(task.number)?)?;
+        lines.push(TableLine::measures(part, bytes))?;
+    }
+    lines.push(TableLine::clears(to.copy()?))?;
+    lines.push(TableLine::does(Op::Rename(from, to)))?;
+    Ok(lines)
 }
 
 /// The lines of a merge, where what is at `to` is known.

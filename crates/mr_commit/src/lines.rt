@@ -36,6 +36,13 @@ impl Lines {
         Lines { stack }
     }
 
+    /// Takes all lines away.
+    pub fn clear(&mut self)
+        ensures { self.new ≡ [] }
+    {
+        self.stack.clear();
+    }
+
     /// The call that is next, or none where it is over.
     pub fn call(&self) -> Option<&Op>
         ensures { option_copied result ≡ next_call self.now }

@@ -1,0 +1,161 @@
+ghost use Rattle.std.specs.Prelude.{◌≡◌, [], ◌∷◌, IfOk};
+ghost use Rattle.std.specs.Option.{option_copied};
+ghost use Rattle.mr_commit.specs.Line.Line.{Seeks};
+ghost use Rattle.mr_commit.specs.Whole.{Commits, HasEffect};
+ghost use Rattle.mr_commit.specs.Recovery.{Left, recover_task, next_of, HearsOf, StepsOf, RecoveryHas, RecoveryMade};
+
+use crate::checks::heard_generation;
+use crate::fault::{CommitFault, StepDone};
+use crate::line::{before, seeking};
+use crate::lines::Lines;
+use mr_ids::{AppAttempt, TaskId};
+use mr_names::{Answer, Caller, NameFault, Namespace, Op};
+use mr_paths::Layout;
+use std::alloc::AllocError;
+use std::marker::Model;
+
+/// A task's recovery, one call at a time: what the newest earlier generation committed of it takes the place of what this
+/// one had committed.
+///
+/// The earlier generations are looked at from the newest down to the first. Where the length of the part file was
+/// recorded, the file has to have it: `WrongLength`. Where nothing is found, or no file to be measured, it is
+/// `OutputMissing`. Generation 1 has no earlier one: then no call is made.
+#[derive(Drop)]
+pub struct RecoverTask {
+    lines: Lines,
+    has_earlier: bool,
+}
+
+impl Model for RecoverTask {
+    ghost use Rattle.mr_commit.specs.Recovery.{Recovery, recovery_of};
+
+    ghost Value = { Recovery };
+
+    ghost view = { λ s. recovery_of s.has_earlier s.lines };
+}
+
+impl RecoverTask {
+    /// The recovery of a task by the master's generation `k`. `bytes` is the recorded length of the part file, where it
+    /// was recorded.
+    pub fn new(
+        layout: &Layout,
+        k: AppAttempt,
+        task: TaskId,
+        bytes: Option<u32>,
+    ) -> Result<RecoverTask, AllocError>
+        ensures { IfOk result (λ step. step ≡ recover_task layout.now.dest k task bytes) }
+    {
+        match before(k) {
+            None => Ok(RecoverTask {
+                lines: Lines::new(Vec::new(layout.dest.allocator())),
+                has_earlier: false,
+            }),
+            Some(j) => {
+                let lines = Lines::new(seeking(layout, task, bytes, k, j)?);
+                Ok(RecoverTask {
+                    lines,
+                    has_earlier: true,
+                })
+            }
+        }
+    }
+
+    /// The next call, or none where it is over or there is no earlier generation. It takes no memory.
+    pub fn call(&self) -> Option<&Op>
+        ensures { option_copied result ≡ next_of self.now }
+    {
+        if self.has_earlier {
+            self.lines.call()
+        } else {
+            None
+        }
+    }
+
+    /// Hears the answer of the next call, and tells whether calls are left.
+    ///
+    /// A fault is the end: from then on the answer is `Over`, as after `Finished`. But after `NoMemory` all is as
+    /// before.
+    pub fn took(&mut self, answer: Result<Answer, NameFault>) -> Result<StepDone, CommitFault>
+        ensures { HearsOf self.old answer result self.new }
+    {
+        if self.has_earlier {
+            self.lines.took(answer)
+        } else {
+            Err(self.give_up())
+        }
+    }
+
+    /// Makes the next call and hears its answer: `call`, `Namespace::perform` and `took` in one. Where there is no
+    /// earlier generation it makes none and answers `OutputMissing`, also to a caller that is superseded or barred.
+    ///
+    /// After `NoMemory` the step value and the namespace are as before.
+    pub fn next(&mut self, names: &mut Namespace, caller: Caller) -> Result<StepDone, CommitFault>
+        ensures { StepsOf self.old names.old caller result self.new names.new }
+    {
+        if self.has_earlier {
+            self.lines.next(names, caller)
+        } else {
+            Err(self.give_up())
+        }
+    }
+
+    // There is nothing to be recovered, and it is over.
+    fn give_up(&mut self) -> CommitFault
+        ensures told { result ≡ CommitFault.OutputMissing }
+        ensures over { self.new ≡ Left [] }
+    {
+        self.has_earlier = true;
+        self.lines.clear();
+        CommitFault::OutputMissing
+    }
+
+    /// An equal value.
+    pub fn copy(&self) -> Result<RecoverTask, AllocError>
+        ensures { IfOk result (λ step. step ≡ self.now) }
+    {
+        let lines = self.lines.copy()?;
+        Ok(RecoverTask {
+            lines,
+            has_earlier: self.has_earlier,
+        })
+    }
+}
+
+/// Recovers a task in the caller's generation: all calls of `RecoverTask`.
+///
+/// A fault, `NoMemory` too, leaves what the earlier calls did. `NoMemory` comes before the first call, or where the line
+/// that is next may want memory. In generation 1 no call is made and the answer is `OutputMissing`, also to a caller that
+/// is superseded or barred.
+pub fn recover_task(
+    names: &mut Namespace,
+    caller: Caller,
+    layout: &Layout,
+    task: TaskId,
+    bytes: Option<u32>,
+) -> Result<(), CommitFault>
+    ensures effect { RecoveryHas (recover_task layout.now.dest caller.app task bytes) names.old caller result names.new }
+    ensures made { RecoveryMade (recover_task layout.now.dest caller.app task bytes) names.old caller result names.new }
+{
+    let by = &caller;
+    match before(by.app) {
+        None => Err(CommitFault::OutputMissing),
+        Some(j) => recover_from(names, by, layout, task, bytes, j),
+    }
+}
+
+// Recovers a task from generation j or the newest one before it.
+fn recover_from(
+    names: &mut Namespace,
+    caller: &Caller,
+    layout: &Layout,
+    task: TaskId,
+    bytes: Option<u32>,
+    j: AppAttempt,
+) -> Result<(), CommitFault>
+    ensures effect { HasEffect (Seeks layout.now.dest task bytes caller.now.app j ∷ []) names.old caller.now result names.new }
+    ensures made { Commits (Seeks layout.now.dest task bytes caller.now.app j ∷ []) names.old caller.now result names.new }
+{
+    let k = heard_generation(names, caller)?;
+    let mut lines = Lines::new(seeking(layout, task, bytes, k, j)?);
+    lines.finish(names, *caller)
+}
