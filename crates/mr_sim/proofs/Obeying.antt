@@ -21,6 +21,7 @@ Has p (Err fault.NoMemory) t = Unit {0}
 Has p (Ok x) t = p ≡ (Ok x, t)
 Has p (Err (fault.Names f)) t = p ≡ (Err (fault.Names f), t)
 Has p (Err fault.OutputMissing) t = p ≡ (Err fault.OutputMissing, t)
+Has p (Err fault.WrongLength) t = p ≡ (Err fault.WrongLength, t)
 Has p (Err fault.DestinationExists) t = p ≡ (Err fault.DestinationExists, t)
 Has p (Err fault.Over) t = p ≡ (Err fault.Over, t)
 
@@ -28,6 +29,7 @@ pub obeyed : (dest : List (List ℕ)) (o : Order) (s : Scene) (p : Result (Unit 
 obeyed dest o s p (Ok x) t is h = is ∙ ap (by_calls s) h
 obeyed dest o s p (Err (fault.Names f)) t is h = is ∙ ap (by_calls s) h
 obeyed dest o s p (Err fault.OutputMissing) t is h = is ∙ ap (by_calls s) h
+obeyed dest o s p (Err fault.WrongLength) t is h = is ∙ ap (by_calls s) h
 obeyed dest o s p (Err fault.DestinationExists) t is h = is ∙ ap (by_calls s) h
 obeyed dest o s p (Err fault.Over) t is h = is ∙ ap (by_calls s) h
 obeyed dest o s p (Err fault.NoMemory) t is h = tt
@@ -36,6 +38,7 @@ pub obeyed_from : (dest : List (List ℕ)) (o : Order) (s : Scene) (r : Result R
 obeyed_from dest o s (Ok x) t h = h
 obeyed_from dest o s (Err (fault.Names f)) t h = h
 obeyed_from dest o s (Err fault.OutputMissing) t h = h
+obeyed_from dest o s (Err fault.WrongLength) t h = h
 obeyed_from dest o s (Err fault.DestinationExists) t h = h
 obeyed_from dest o s (Err fault.Over) t h = h
 obeyed_from dest o s (Err fault.NoMemory) t h = tt
@@ -44,6 +47,7 @@ pub form_has : (lines : List Line) (s : State) (caller : Caller) (r : Result (Un
 form_has lines s caller (Ok x) t h = h
 form_has lines s caller (Err (fault.Names f)) t h = h
 form_has lines s caller (Err fault.OutputMissing) t h = h
+form_has lines s caller (Err fault.WrongLength) t h = h
 form_has lines s caller (Err fault.DestinationExists) t h = h
 form_has lines s caller (Err fault.Over) t h = h
 form_has lines s caller (Err fault.NoMemory) t h = tt
@@ -52,6 +56,7 @@ pub turn_has : (calls : List Op) (s : State) (caller : Caller) (r : Result (Unit
 turn_has calls s caller (Ok x) t h = h
 turn_has calls s caller (Err (fault.Names f)) t h = h
 turn_has calls s caller (Err fault.OutputMissing) t h = h
+turn_has calls s caller (Err fault.WrongLength) t h = h
 turn_has calls s caller (Err fault.DestinationExists) t h = h
 turn_has calls s caller (Err fault.Over) t h = h
 turn_has calls s caller (Err fault.NoMemory) t h = tt
@@ -61,6 +66,7 @@ pub obeyed_needs : (dest : List (List ℕ)) (o : Order) (a : Attempt) (s : Scene
 obeyed_needs dest o a s (Ok b) is h = is ∙ ap (λ q. (told q, s)) (sym h)
 obeyed_needs dest o a s (Err (fault.Names f)) is h = is ∙ ap (λ q. (told q, s)) (sym h)
 obeyed_needs dest o a s (Err fault.OutputMissing) is h = is ∙ ap (λ q. (told q, s)) (sym h)
+obeyed_needs dest o a s (Err fault.WrongLength) is h = is ∙ ap (λ q. (told q, s)) (sym h)
 obeyed_needs dest o a s (Err fault.DestinationExists) is h = is ∙ ap (λ q. (told q, s)) (sym h)
 obeyed_needs dest o a s (Err fault.Over) is h = is ∙ ap (λ q. (told q, s)) (sym h)
 obeyed_needs dest o a s (Err fault.NoMemory) is h = tt

@@ -34,6 +34,7 @@ fn fault_text(alloc: Global, fault: CommitFault) -> Result<String, AllocError>
     match fault {
         CommitFault::Names(fault) => name_fault_text(alloc, fault),
         CommitFault::OutputMissing => format!(in alloc; "OutputMissing"),
+        CommitFault::WrongLength => format!(in alloc; "WrongLength"),
         CommitFault::DestinationExists => format!(in alloc; "DestinationExists"),
         CommitFault::Over => format!(in alloc; "Over"),
         CommitFault::NoMemory => format!(in alloc; "NoMemory"),
