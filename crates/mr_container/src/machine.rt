@@ -1,0 +1,498 @@
+ghost use Rattle.std.specs.Prelude.{◌≡◌, ◌<◌, ◌+◌, ◌++◌, [], ◌∷◌, Some, None, IfOk, OnOk, OnErr, length, List, ℕ};
+ghost use Rattle.mr_ids.specs.declared.id.TaskKind.TheVariants.{Map};
+ghost use Rattle.mr_packet.specs.declared.packet.Packet.{Packet};
+ghost use Rattle.mr_packet.specs.declared.packet.Envelope.{Envelope};
+ghost use Rattle.mr_names.specs.declared.op.Op.{Op};
+ghost use Rattle.mr_container.specs.Past.{Hears, Sends, Computes, Calls, launched_as};
+ghost use Rattle.mr_container.specs.Readings.{opening, first_wish, ask_next, next_seen, after_packet, after_ready, after_piece, with_piece, is_awaited, after_lost, after_answer, after_ack, wish_sent, wish_called, after_bytes, with_result, with_wish};
+ghost use Rattle.mr_container.specs.Wished.{caller_of, calling_attempt, wished_op, wished_packet, part_path, reported, told_length, end_of, step_packets};
+ghost use Rattle.mr_container.specs.State.{StandsFor, Stands, after};
+
+use crate::pieces::Pieces;
+use crate::place::Place;
+use crate::reply::Reply;
+use crate::wish::{Wish, is_same};
+use mr_ids::{AppAttempt, AttemptId, TaskKind};
+use mr_names::{Caller, Op};
+use mr_packet::{Address, Bag, Bytes, ContainerId, Envelope, Packet};
+use mr_paths::{Layout, Path};
+use std::alloc::{AllocError, Global};
+use std::marker::Model;
+
+/// One container: what it was launched as, and how far it came.
+///
+/// It tells what it wishes to do next (`wish`), and what that is as a namespace call (`call`, made as `caller`) or as a packet
+/// (`packet`). Whoever runs it makes the call and hands in the answer (`on`), sends the packet (`send`, or `sent` after it was put
+/// into the bag by another way), or computes and hands in the bytes (`computed`). What is delivered to it is handed to `hear`.
+///
+/// A map's wishes are to compute and to report. A reduce's are, for each map in turn, to ask where its output lies and to fetch its
+/// block of it; then to compute, to write its part file into its task attempt path, to ask for permission to commit until it is told yes,
+/// to make the three calls of the task's commit, and to report. Any refusal or fault of a call leads to the task's abort and then to `Failed`
+/// (Hadoop's `YarnChild` and task runs over an output committer).
+///
+/// `call`, `hear` and `copy` may want memory, and then nothing has changed. All others take none, so that nothing can be
+/// refused after a store was changed.
+#[derive(Drop)]
+pub struct ContainerMachine {
+    id: ContainerId,
+    place: Place,
+    maps: u32,
+    wish: Wish,
+    pieces: Pieces,
+    result: Bytes,
+}
+
+impl Model for ContainerMachine {
+    ghost use Rattle.mr_container.specs.State.{Container};
+
+    ghost Value = { Container };
+
+    ghost view = { λ m. record { id = m.id; place = m.place; maps = m.maps; seen = record { wish = m.wish; pieces = m.pieces; result = m.result } } };
+}
+
+impl ContainerMachine {
+    /// A container that was launched as `place`, in a job with so many maps. It takes no memory.
+    pub fn new(alloc: Global, id: ContainerId, place: Place, maps: u32) -> ContainerMachine
+        ensures stands { StandsFor result id maps (launched_as place) }
+        ensures made { result ≡ record { id = id; place = place; maps = maps; seen = opening maps place.attempt } }
+    {
+        ContainerMachine::open(alloc, id, place, maps)
+    }
+
+    fn open(alloc: Global, id: ContainerId, place: Place, maps: u32) -> ContainerMachine
+        ensures { result ≡ record { id = id; place = place; maps = maps; seen = opening maps place.attempt } }
+    {
+        let wish = first_wish(place.attempt.task().kind, maps);
+        ContainerMachine {
+            id,
+            place,
+            maps,
+            wish,
+            pieces: Pieces::new(alloc),
+            result: Bytes::new(alloc),
+        }
+    }
+
+    /// Which container it is. It takes no memory.
+    pub fn id(&self) -> ContainerId
+        ensures { result ≡ self.now.id }
+    {
+        self.id
+    }
+
+    /// What it was launched as. It takes no memory.
+    pub fn place(&self) -> Place
+        ensures { result ≡ self.now.place }
+    {
+        self.place
+    }
+
+    /// What it wishes to do next. It takes no memory.
+    pub fn wish(&self) -> Wish
+        ensures { result ≡ self.now.seen.wish }
+    {
+        self.wish
+    }
+
+    /// The blocks that were fetched, in the order of their maps: what a reduce computes from, lent without a copy. It takes no memory.
+    pub fn blocks(&self) -> &[Bytes]
+        ensures { result.now ≡ self.now.seen.pieces.blocks }
+    {
+        self.pieces.blocks()
+    }
+
+    /// Who calls when it makes its calls: the application attempt of the master that launched it, below whose fence no call is heard, and for a
+    /// reduce its own attempt, so that it is refused once that is barred. It takes no memory.
+    pub fn caller(&self) -> Caller
+        ensures { result ≡ caller_of self.now.id self.now.place.attempt }
+    {
+        Caller {
+            app: self.id.app,
+            attempt: self.calling_attempt(),
+        }
+    }
+
+    fn calling_attempt(&self) -> Option<AttemptId>
+        ensures { result ≡ calling_attempt self.now.place.attempt.task.kind self.now.place.attempt }
+    {
+        match self.place.attempt.task().kind {
+            TaskKind::Map => None,
+            TaskKind::Reduce => Some(self.place.attempt),
+        }
+    }
+
+    /// The namespace call that it wishes to make, if its wish is one, with the layout of the job's destination.
+    ///
+    /// It may want memory for paths and for the bytes to write, and refuses nothing else.
+    pub fn call(&self, layout: &Layout) -> Result<Option<Op>, AllocError>
+        ensures { IfOk result (λ op. op ≡ wished_op layout.now.dest self.now.id.app self.now.place.attempt self.now.seen.result self.now.seen.wish) }
+    {
+        wished_op(
+            layout,
+            self.id.app,
+            self.place.attempt,
+            &self.result,
+            &self.wish,
+        )
+    }
+
+    /// The packet that it wishes to send, if its wish is one. It takes no memory.
+    #[tactic(auto, unfolding(crate::specs::Wished::wished_packet))]
+    pub fn packet(&self) -> Option<Envelope>
+        ensures { result ≡ wished_packet self.now.id self.now.place.attempt self.now.seen self.now.seen.wish }
+    {
+        let a = self.place.attempt;
+        match self.wish {
+            Wish::Where { map } => Some(self.to_master(Packet::Where { c: self.id, map })),
+            Wish::Fetch {
+                a: from,
+                node,
+                incarnation,
+            } => Some(Envelope {
+                to: Address::Node(node),
+                body: Packet::Fetch {
+                    c: self.id,
+                    a: from,
+                    reduce: a.task().number,
+                    incarnation,
+                    offset: self.pieces.got_len() as u64,
+                },
+            }),
+            Wish::Lost { a: gone } => Some(self.to_master(Packet::FetchLost {
+                c: self.id,
+                a: gone,
+            })),
+            Wish::Pending => Some(self.to_master(Packet::Pending { a })),
+            Wish::Poll => Some(self.to_master(Packet::Poll { a })),
+            Wish::Report => Some(self.to_master(Packet::Done {
+                a,
+                bytes: self.reported(),
+            })),
+            Wish::Failed => Some(self.to_master(Packet::Failed { a })),
+            Wish::Compute
+            | Wish::Mkdirs
+            | Wish::Create
+            | Wish::Write
+            | Wish::Close
+            | Wish::Needs
+            | Wish::Look
+            | Wish::Clear
+            | Wish::Rename
+            | Wish::Abort
+            | Wish::Over => None,
+        }
+    }
+
+    fn to_master(&self, body: Packet) -> Envelope
+        ensures { result ≡ record { to = Address.Master self.now.id.app; body = body } }
+    {
+        Envelope {
+            to: Address::Master(self.id.app),
+            body,
+        }
+    }
+
+    fn reported(&self) -> Option<u32>
+        ensures { result ≡ reported self.now.place.attempt.task.kind self.now.seen.result }
+    {
+        match self.place.attempt.task().kind {
+            TaskKind::Map => None,
+            TaskKind::Reduce => Some(told_length(self.result.len())),
+        }
+    }
+
+    /// Hears a packet. One that its wish does not wait for does nothing.
+    ///
+    /// It may want memory where a `Piece` comes that is waited for; where that is refused nothing changes, and nothing else is refused.
+    #[tactic(auto, unfolding(crate::specs::Readings::next_seen))]
+    pub fn hear(&mut self, packet: &Packet) -> Result<(), AllocError>
+        ensures stands { OnOk result (Stands self.old (Hears packet.now) self.new) }
+        ensures after { OnOk result (self.new ≡ after self.old (Hears packet.now)) }
+        ensures err { OnErr result (self.new ≡ self.old) }
+    {
+        self.hear_packet(packet)?;
+        Ok(())
+    }
+
+    #[tactic(auto, unfolding(crate::specs::Readings::after_packet))]
+    fn hear_packet(&mut self, packet: &Packet) -> Result<(), AllocError>
+        ensures heard { OnOk result (self.new ≡ record self.old { seen = after_packet self.old.maps self.old.place.attempt self.old.seen packet.now }) }
+        ensures err { OnErr result (self.new ≡ self.old) }
+    {
+        match packet {
+            Packet::MapReady {
+                map,
+                a,
+                n,
+                incarnation,
+            } => self.hear_ready(*map, *a, *n, *incarnation),
+            Packet::Piece {
+                a,
+                reduce,
+                offset,
+                total,
+                bytes,
+            } => self.hear_piece(a, *reduce, *offset, *total, bytes.as_slice())?,
+            Packet::FetchLost { c: _, a } => self.hear_lost(*a),
+            Packet::Answer { a, yes } => self.hear_answer(a, *yes),
+            Packet::DoneAck { a } => self.hear_ack(a),
+            _ => {}
+        }
+        Ok(())
+    }
+
+    fn hear_ready(&mut self, map: u32, a: AttemptId, node: u32, incarnation: u32)
+        ensures { self.new ≡ record self.old { seen = after_ready self.old.seen map a node incarnation } }
+    {
+        if self.wish.asks_where(map) {
+            self.wish = Wish::Fetch {
+                a,
+                node,
+                incarnation,
+            };
+        }
+    }
+
+    fn hear_piece(
+        &mut self,
+        a: &AttemptId,
+        reduce: u32,
+        offset: u64,
+        total: u64,
+        bytes: &[u8],
+    ) -> Result<(), AllocError>
+        ensures ok { OnOk result (self.new ≡ record self.old { seen = after_piece self.old.maps self.old.place.attempt self.old.seen a.now reduce offset total bytes.now }) }
+        ensures err { OnErr result (self.new ≡ self.old) }
+    {
+        if !self.awaits(a, reduce, offset) {
+            return Ok(());
+        }
+        if self.pieces.take(total, bytes)? {
+            self.wish = ask_next(self.maps, self.pieces.count());
+        }
+        Ok(())
+    }
+
+    fn awaits(&self, a: &AttemptId, reduce: u32, offset: u64) -> bool
+        ensures { result ≡ is_awaited self.now.place.attempt self.now.seen a.now reduce offset }
+    {
+        self.wish.fetches(a)
+            && reduce == self.place.attempt.task().number
+            && offset == self.pieces.got_len() as u64
+    }
+
+    fn hear_lost(&mut self, a: AttemptId)
+        ensures { self.new ≡ record self.old { seen = after_lost self.old.seen a } }
+    {
+        if self.wish.fetches(&a) {
+            self.wish = Wish::Lost { a };
+            self.pieces.drop_got();
+        }
+    }
+
+    fn hear_answer(&mut self, a: &AttemptId, is_yes: bool)
+        ensures { self.new ≡ record self.old { seen = after_answer self.old.place.attempt self.old.seen a.now is_yes } }
+    {
+        if is_same(&self.place.attempt, a) {
+            self.wish = self.wish.answered(is_yes);
+        }
+    }
+
+    fn hear_ack(&mut self, a: &AttemptId)
+        ensures { self.new ≡ record self.old { seen = after_ack self.old.place.attempt self.old.seen a.now } }
+    {
+        if self.wish.is_reporting() && is_same(&self.place.attempt, a) {
+            self.wish = Wish::Over;
+        }
+    }
+
+    /// Sends the packet that it wishes to send, if its wish is one. If that was its last, `Ended` follows it. It takes no memory: the room
+    /// is the bag's.
+    #[tactic(auto, unfolding(crate::specs::Readings::next_seen))]
+    pub fn send(&mut self, bag: &mut Bag)
+        requires room { 1 < bag.old.spare }
+        requires few { length bag.old.packets + 1 < 1000000 }
+        ensures bag { bag.new.packets ≡ bag.old.packets ++ step_packets self.old.maps self.old.id self.old.place.attempt self.old.seen }
+        ensures after { (e : Envelope) → wished_packet self.old.id self.old.place.attempt self.old.seen self.old.seen.wish ≡ Some e → self.new ≡ after self.old (Sends e.body) }
+        // Where its wish is no packet, nothing changes.
+        ensures none { wished_packet self.old.id self.old.place.attempt self.old.seen self.old.seen.wish ≡ None → self.new ≡ self.old }
+    {
+        if let Some(envelope) = self.packet() {
+            bag.push_reserved(envelope);
+            self.sent();
+            self.tell_end(bag);
+        }
+    }
+
+    /// If it came to its end, its master is told so. It is called once for a container that ended: by `send`, and by whoever delivers a packet
+    /// to it, after `hear`. It takes no memory: the room is the bag's.
+    pub fn tell_end(&self, bag: &mut Bag)
+        requires room { 0 < bag.old.spare }
+        requires few { length bag.old.packets < 1000000 }
+        ensures { bag.new.packets ≡ bag.old.packets ++ end_of self.now.id self.now.seen.wish }
+    {
+        if let Wish::Over = self.wish {
+            bag.push_reserved(self.to_master(Packet::Ended { c: self.id }));
+        }
+    }
+
+    /// The packet that it wished to send was sent. It takes no memory.
+    #[tactic(auto, unfolding(crate::specs::Readings::next_seen))]
+    pub fn sent(&mut self)
+        ensures stands { (packet : Packet) → Stands self.old (Sends packet) self.new }
+        ensures after { (packet : Packet) → self.new ≡ after self.old (Sends packet) }
+    {
+        self.note_sent();
+    }
+
+    fn note_sent(&mut self)
+        ensures { self.new ≡ record self.old { seen = with_wish self.old.seen (wish_sent self.old.maps self.old.seen.pieces.blocks self.old.seen.wish) } }
+    {
+        match self.wish {
+            Wish::Lost { .. } => self.wish = ask_next(self.maps, self.pieces.count()),
+            Wish::Failed => self.wish = Wish::Over,
+            _ => {}
+        }
+    }
+
+    /// The namespace call that it wished to make was answered so. It takes no memory.
+    ///
+    /// Want of memory, or a limit of the namespace that refuses a whole event, is no answer of a call and is not handed in: it would be taken for
+    /// a refusal, and the attempt be aborted.
+    #[tactic(auto, unfolding(crate::specs::Readings::next_seen))]
+    pub fn on(&mut self, reply: Reply)
+        ensures stands { (op : Op) → Stands self.old (Calls op reply) self.new }
+        ensures after { (op : Op) → self.new ≡ after self.old (Calls op reply) }
+    {
+        self.note_reply(&reply);
+    }
+
+    fn note_reply(&mut self, reply: &Reply)
+        ensures { self.new ≡ record self.old { seen = with_wish self.old.seen (wish_called self.old.seen.wish reply.now) } }
+    {
+        self.wish = self.wish.called(reply);
+    }
+
+    /// Its bytes are handed in. Those of a reduce are kept, to be written; those of a map are let go, since they lie on its node's shelf.
+    /// At another wish than to compute it does nothing. It takes no memory.
+    #[tactic(auto, unfolding(crate::specs::Readings::next_seen))]
+    pub fn computed(&mut self, bytes: Bytes)
+        ensures stands { Stands self.old (Computes bytes) self.new }
+        ensures after { self.new ≡ after self.old (Computes bytes) }
+        // Which bytes they are is not kept of a map.
+        ensures of_map { self.old.place.attempt.task.kind ≡ Map → (others : List ℕ) → self.new ≡ after self.old (Computes others) }
+    {
+        self.note_bytes(bytes);
+    }
+
+    fn note_bytes(&mut self, bytes: Bytes)
+        ensures { self.new ≡ record self.old { seen = after_bytes self.old.place.attempt self.old.seen bytes } }
+    {
+        if self.wish.is_computing() {
+            match self.place.attempt.task().kind {
+                TaskKind::Map => self.wish = Wish::Report,
+                TaskKind::Reduce => {
+                    self.wish = Wish::Mkdirs;
+                    self.result = bytes;
+                }
+            }
+        }
+    }
+
+    /// An equal machine. It may want memory, and refuses nothing else.
+    pub fn copy(&self) -> Result<ContainerMachine, AllocError>
+        ensures { IfOk result (λ machine. machine ≡ self.now) }
+    {
+        Ok(ContainerMachine {
+            id: self.id,
+            place: self.place,
+            maps: self.maps,
+            wish: self.wish,
+            pieces: self.pieces.copy()?,
+            result: self.result.copy()?,
+        })
+    }
+}
+
+fn first_wish(kind: TaskKind, maps: u32) -> Wish
+    ensures { result ≡ first_wish maps kind }
+{
+    match kind {
+        TaskKind::Map => Wish::Compute,
+        TaskKind::Reduce => ask_next(maps, 0),
+    }
+}
+
+// The wish after so many blocks were fetched.
+fn ask_next(maps: u32, count: usize) -> Wish
+    ensures next { (blocks : List (List ℕ)) → length blocks ≡ count → result ≡ ask_next maps blocks }
+    ensures first { count ≡ 0 → result ≡ ask_next maps [] }
+{
+    if count < maps as usize {
+        Wish::Where { map: count as u32 }
+    } else {
+        Wish::Compute
+    }
+}
+
+// A length as a packet tells it.
+#[tactic(auto, unfolding(crate::specs::Wished::told_length))]
+fn told_length(len: usize) -> u32
+    ensures { result ≡ told_length len }
+{
+    if len < 4_294_967_296 {
+        len as u32
+    } else {
+        u32::MAX
+    }
+}
+
+// The call of a wish.
+#[tactic(auto, unfolding(crate::specs::Wished::wished_op))]
+fn wished_op(
+    layout: &Layout,
+    k: AppAttempt,
+    a: AttemptId,
+    written: &Bytes,
+    wish: &Wish,
+) -> Result<Option<Op>, AllocError>
+    ensures { IfOk result (λ op. op ≡ wished_op layout.now.dest k a written.now wish.now) }
+{
+    Ok(match wish {
+        Wish::Mkdirs => Some(Op::Mkdirs(layout.task_attempt(k, a)?)),
+        Wish::Create => Some(Op::Create(part_path(layout, k, a)?, false)),
+        Wish::Write => Some(Op::Append(part_path(layout, k, a)?, store_bytes(written)?)),
+        Wish::Close => Some(Op::Close(part_path(layout, k, a)?)),
+        Wish::Needs | Wish::Look => Some(Op::Exists(layout.task_attempt(k, a)?)),
+        Wish::Clear => Some(Op::Delete(layout.committed(k, a.task())?)),
+        Wish::Rename => Some(Op::Rename(
+            layout.task_attempt(k, a)?,
+            layout.committed(k, a.task())?,
+        )),
+        Wish::Abort => Some(Op::Delete(layout.task_attempt(k, a)?)),
+        Wish::Where { .. }
+        | Wish::Fetch { .. }
+        | Wish::Lost { .. }
+        | Wish::Compute
+        | Wish::Pending
+        | Wish::Poll
+        | Wish::Report
+        | Wish::Failed
+        | Wish::Over => None,
+    })
+}
+
+fn part_path(layout: &Layout, k: AppAttempt, a: AttemptId) -> Result<Path, AllocError>
+    ensures { IfOk result (λ path. path ≡ part_path layout.now.dest k a) }
+{
+    let mut path = layout.task_attempt(k, a)?;
+    path.push(layout.part(a.task().number)?)?;
+    Ok(path)
+}
+
+// The same bytes, for the namespace.
+fn store_bytes(bytes: &Bytes) -> Result<mr_names::Bytes, AllocError>
+    ensures { IfOk result (λ copy. copy ≡ bytes.now) }
+{
+    Ok(mr_names::Bytes::from_vec(bytes.copy()?.into_vec()))
+}

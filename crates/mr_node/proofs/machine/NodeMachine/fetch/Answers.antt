@@ -1,0 +1,10 @@
+use Rattle.std.proofs.Common.{refl}
+use Rattle.mr_packet.specs.declared.packet.Packet.TheVariants as packet
+use Rattle.mr_node.specs.Past.{Hears}
+use Rattle.mr_node.specs.Readings.{next_seen}
+use Rattle.mr_node.proofs.Standing.{stands_after}
+use Rattle.mr_node.proofs.machine.NodeMachine.fetch.Goals as goal
+
+pub returns-clause-stands : goal.returns-clause-stands
+unfolding next_seen
+returns-clause-stands c = stands_after c.args.self.now c.args.self.now (Hears (packet.Fetch c.args.c c.args.a c.args.reduce c.args.incarnation c.args.offset)) refl

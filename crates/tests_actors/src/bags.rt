@@ -1,0 +1,31 @@
+//! The bag of packets, and bytes.
+
+use crate::fixtures::{bytes_of, container};
+use mr_packet::{Address, Bag, Envelope, Packet};
+
+#[test]
+fn bag_grows(rt: HostRuntime) {
+    let c = container(&rt, 0);
+    let mut bag = Bag::new(rt.alloc());
+    bag.reserve(2).expect(&rt, "no memory");
+    for number in [0, 1, 2] {
+        let kill = Envelope {
+            to: Address::Node(number),
+            body: Packet::Kill { c },
+        };
+        bag.push(kill).expect(&rt, "no memory");
+    }
+    assert!(rt; bag.len() == 3 && bag.packets().len() == 3);
+    assert!(rt; bag.get(3).is_none());
+    let last = bag.get(2);
+    assert!(rt; last.is_some_and(|envelope| envelope.to == Address::Node(2)));
+}
+
+#[test]
+fn bytes_are_added(rt: HostRuntime) {
+    let mut bytes = bytes_of(&rt, rt.alloc(), b"ab");
+    bytes.extend(b"c").expect(&rt, "no memory");
+    let copy = bytes.copy().expect(&rt, "no memory");
+    assert!(rt; copy.len() == 3 && copy.as_slice() == b"abc".as_slice());
+    assert!(rt; bytes.into_vec().as_slice() == b"abc".as_slice());
+}
