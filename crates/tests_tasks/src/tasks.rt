@@ -142,3 +142,18 @@ fn map_is_done(rt: HostRuntime) {
     assert!(rt; task.recorded(a1) == Ok(()) && task.winner() == Some(a1));
     assert!(rt; task.numbered() == 3 && task.arrived() == [a0, a1, a2].as_slice());
 }
+
+// What the next launch would give is told without a launch.
+#[test]
+fn next_launch_is_told(rt: HostRuntime) {
+    let mut task = machine(&rt, rt.alloc(), TaskKind::Map);
+    task.stands();
+    assert!(rt; task.launch_refusal() == None);
+    let next = attempt(&rt, TaskKind::Map, 0);
+    if task.numbered() < 1000 {
+        assert!(rt; task.next_attempt() == next);
+    }
+    assert!(rt; launched(&rt, &mut task) == next);
+    launched(&rt, &mut task);
+    assert!(rt; task.launch_refusal() == Some(TaskFault::TooManyLive));
+}
