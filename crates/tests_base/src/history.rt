@@ -40,6 +40,7 @@ fn started(rt: &impl Abort) -> Record {
 fn reduced(rt: &impl Abort) -> Record {
     Record::ReduceSucceeded {
         attempt: attempt(rt, TaskKind::Reduce, 0, 0),
+        bytes: None,
     }
 }
 
@@ -64,7 +65,7 @@ fn done(rt: &impl Abort, given: Result<(), HistoryFault>) -> Option<HistoryFault
 }
 
 fn add(rt: &impl Abort, segment: &mut Segment, record: Record) -> Option<HistoryFault> {
-    assert!(rt; record.fits());
+    assert!(rt; record.fits() && record.suits(segment.version()));
     done(rt, segment.append(record))
 }
 
@@ -75,7 +76,7 @@ fn write(
     record: Record,
 ) -> Option<HistoryFault> {
     assert!(rt; history.is_raised(k));
-    assert!(rt; record.fits());
+    assert!(rt; record.fits() && record.suits(history.version(k)));
     done(rt, history.append(k, record))
 }
 
@@ -102,7 +103,7 @@ fn tail(rt: &impl Abort, history: &History, k: AppAttempt) -> usize {
 #[test]
 fn record_lines(rt: HostRuntime) {
     let alloc = rt.alloc();
-    let mut segment = Segment::new(alloc);
+    let mut segment = Segment::new(alloc, 1);
     let mut records = Records::new(alloc);
     for record in [
         started(&rt),
@@ -144,7 +145,7 @@ fn record_lines(rt: HostRuntime) {
 fn segment_seal(rt: HostRuntime) {
     let alloc = rt.alloc();
     for (kept, count, torn) in [(67, 1, 67), (68, 2, 0), (0, 1, 0), (1000, 2, 0)] {
-        let mut segment = Segment::new(alloc);
+        let mut segment = Segment::new(alloc, 1);
         assert!(rt; add(&rt, &mut segment, started(&rt)).is_none());
         assert!(rt; done(&rt, segment.flush()).is_none());
         assert!(rt; add(&rt, &mut segment, reduced(&rt)).is_none());
@@ -152,7 +153,7 @@ fn segment_seal(rt: HostRuntime) {
         segment.seal(kept);
         let read = replayed(&rt, alloc, segment.stable());
         assert!(rt;
-            read.records.len() == count && read.torn == torn,
+            read.version == 1 && read.records.len() == count && read.torn == torn,
             "kept {kept}"
         );
         assert!(rt; add(&rt, &mut segment, started(&rt)) == Some(HistoryFault::Sealed));
@@ -172,11 +173,11 @@ fn history_raise(rt: HostRuntime) {
     let (one, two) = (generation(&rt, 1), generation(&rt, 2));
     for (kept, count) in [(24, 0), (25, 1)] {
         let mut history = answered(&rt, History::new(alloc)).expect(&rt, "a fault");
-        history.raise(one, 0);
+        history.raise(one, 0, 1);
         assert!(rt; write(&rt, &mut history, one, Record::JobUnsuccessful).is_none());
         assert!(rt; tail(&rt, &history, one) == 25);
-        history.raise(two, kept);
-        history.raise(one, 0);
+        history.raise(two, kept, 1);
+        history.raise(one, 0, 1);
         assert!(rt; history.fence() == 2);
         let records = records_before(&rt, &history, two);
         assert!(rt; records.len() == count, "kept {kept}");
@@ -193,7 +194,7 @@ fn history_segments(rt: HostRuntime) {
     let alloc = rt.alloc();
     let (one, two, four) = (generation(&rt, 1), generation(&rt, 2), generation(&rt, 4));
     let mut history = answered(&rt, History::new(alloc)).expect(&rt, "a fault");
-    history.raise(two, 0);
+    history.raise(two, 0, 1);
     assert!(rt; write(&rt, &mut history, two, started(&rt)).is_none());
     assert!(rt; history.is_raised(two) && !history.is_raised(four));
     let flushed = history.flush(two);
@@ -204,7 +205,7 @@ fn history_segments(rt: HostRuntime) {
     history.seal(two, 1000);
     let late = write(&rt, &mut history, two, reduced(&rt));
     assert!(rt; late == Some(HistoryFault::Sealed));
-    history.raise(four, 0);
+    history.raise(four, 0, 2);
     assert!(rt; write(&rt, &mut history, four, started(&rt)).is_none());
     let read = records_before(&rt, &history, four);
     assert!(rt; read.as_slice() == [started(&rt), reduced(&rt)].as_slice());
@@ -228,7 +229,7 @@ fn every_prefix(rt: HostRuntime) {
             (2, 0)
         };
         assert!(rt;
-            read.records.len() == count && read.torn == torn,
+            read.version == 1 && read.records.len() == count && read.torn == torn,
             "at {end}"
         );
     }
@@ -267,7 +268,7 @@ fn bad_lines(rt: HostRuntime) {
 #[test]
 fn full_segment(rt: HostRuntime) {
     let alloc = rt.alloc();
-    let mut segment = Segment::new(alloc);
+    let mut segment = Segment::new(alloc, 1);
     let record = reduced(&rt);
     for _ in 0..246723 {
         assert!(rt; add(&rt, &mut segment, record).is_none());
@@ -280,4 +281,31 @@ fn full_segment(rt: HostRuntime) {
     assert!(rt; segment.stable().len() == 16777214);
     let read = replayed(&rt, alloc, segment.stable());
     assert!(rt; read.records.len() == 246725 && read.torn == 0);
+}
+
+// Of the 14 bytes of the version line and the 78 of one record each number is kept.
+#[test]
+fn every_seal_of_version_2(rt: HostRuntime) {
+    let alloc = rt.alloc();
+    let record = Record::ReduceSucceeded {
+        attempt: attempt(&rt, TaskKind::Reduce, 0, 0),
+        bytes: Some(8),
+    };
+    for kept in 0..93 {
+        let mut segment = Segment::new(alloc, 2);
+        assert!(rt; add(&rt, &mut segment, record).is_none());
+        segment.seal(kept);
+        let read = replayed(&rt, alloc, segment.stable());
+        let (version, count, torn) = if kept < 14 {
+            (1, 0, kept)
+        } else if kept < 92 {
+            (2, 0, kept - 14)
+        } else {
+            (2, 1, 0)
+        };
+        assert!(rt;
+            read.version == version && read.records.len() == count && read.torn == torn,
+            "kept {kept}"
+        );
+    }
 }

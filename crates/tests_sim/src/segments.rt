@@ -47,3 +47,58 @@ failed attempt_200707121733_0003_r_000000_1000\nunsuccessful\ntorn 0\n",
         SimFault::BadRecord(2),
     )
 }
+
+#[test]
+fn history_version_2(rt: HostRuntime) -> Result<(), Fail> {
+    gives(
+        &rt,
+        Command::History,
+        b"{\"version\":2}\n\
+{\"attempt\":\"attempt_200707121733_0003_r_000000_0\",\"bytes\":8,\"event\":\"reduce\"}\n",
+        b"version 2\nreduce attempt_200707121733_0003_r_000000_0 bytes 8\ntorn 0\n",
+    )?;
+    gives(
+        &rt,
+        Command::History,
+        b"{\"version\":2}\n\
+{\"attempt\":\"attempt_200707121733_0003_r_000000_0\",\"bytes\":8,\"event\":\"reduce\"}",
+        b"version 2\ntorn 77\n",
+    )?;
+    gives(&rt, Command::History, b"{\"version\":2}", b"torn 13\n")?;
+    is_refused(
+        &rt,
+        Command::History,
+        b"{\"version\":3}\n",
+        SimFault::BadRecord(1),
+    )?;
+    is_refused(
+        &rt,
+        Command::History,
+        b"{\"attempt\":\"attempt_200707121733_0003_m_000000_0\",\"event\":\"started\",\"node\":0}\n\
+{\"version\":2}\n",
+        SimFault::BadRecord(2),
+    )
+}
+
+#[test]
+fn reduce_lines_of_the_other_version(rt: HostRuntime) -> Result<(), Fail> {
+    is_refused(
+        &rt,
+        Command::History,
+        b"{\"version\":2}\n{\"attempt\":\"attempt_200707121733_0003_r_000000_0\",\"event\":\"reduce\"}\n",
+        SimFault::BadRecord(2),
+    )?;
+    is_refused(
+        &rt,
+        Command::History,
+        b"{\"attempt\":\"attempt_200707121733_0003_r_000000_0\",\"bytes\":8,\"event\":\"reduce\"}\n",
+        SimFault::BadRecord(1),
+    )?;
+    is_refused(
+        &rt,
+        Command::History,
+        b"{\"version\":2}\n\
+{\"attempt\":\"attempt_200707121733_0003_r_000000_0\",\"bytes\":16777217,\"event\":\"reduce\"}\n",
+        SimFault::BadRecord(2),
+    )
+}
