@@ -1,0 +1,16 @@
+pub mod Ids
+pub mod Content
+pub mod Records
+pub mod Bytes
+pub mod Packets
+pub mod Pasts
+pub mod Hearing
+pub mod Duties
+pub mod World
+pub mod Sending
+pub mod Effect
+pub mod Claims
+pub mod Sequential
+pub mod Stores
+pub mod Laws
+pub mod Calls

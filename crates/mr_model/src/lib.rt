@@ -1,0 +1,115 @@
+//! The cluster as definitions (in `specs/`, in the order of `specs/Lib.antt`), and what holds over every list of its events: each law stands on a
+//! function that does nothing. `config` is the job and its limits. `within` is any test that may refuse any event, as the limits of a world do.
+#![tactic(auto)]
+
+ghost use Rattle.mr_model.specs.Claims.{Limits, WinnerStays, NodesAreToldTheWinner, MarkerMeansWholeFiles, MarkerIsFinal, OneOutcome, RecoveryFindsTheWinners, WrongSuspicionDoesNoHarm};
+ghost use Rattle.mr_model.specs.Claims.{OneAttemptIsRecorded, OneContainerWasToldYes, CommittedFileIsTheWinners, PublishedFilesAreTheWinners, OneWholeOutput, LengthsAreRight};
+ghost use Rattle.mr_model.specs.Laws.{PathsAreTheLayouts, StoresAreTheModels, AppendedRecordsFit, MastersAreRaised};
+ghost use Rattle.mr_model.specs.Packets.{Config};
+ghost use Rattle.mr_model.specs.Calls.{CallsAgree};
+ghost use Rattle.mr_model.specs.Sequential.{Job, JobLaws, BoundsOutputs, WholeIsSequential, MarkedFilesAreSequential};
+
+// The headline
+
+/// A recorded winner never changes: the winner of a reduce after some events is its winner after any further ones.
+pub fn the_winner_stays()
+    ensures stays { (config : Config) (within : Limits) → WinnerStays config within }
+{}
+
+/// Every node that is told of a winner is told the recorded one. What was sent counts, delivered or not.
+pub fn nodes_are_told_the_winner()
+    ensures told { (config : Config) (within : Limits) → NodesAreToldTheWinner config within }
+{}
+
+/// Where the success marker is, a reader of the destination sees for each reduce its winner's whole file, closed, and nothing else.
+pub fn a_marker_means_whole_files()
+    ensures whole { (config : Config) (within : Limits) → MarkerMeansWholeFiles config within }
+{}
+
+/// Once the success marker is there, no later event takes it away or changes what is seen.
+pub fn a_marker_is_final()
+    ensures stays { (config : Config) (within : Limits) → MarkerIsFinal config within }
+{}
+
+/// With deterministic functions, a reduce's whole output, and so its file once the success marker is there, is what the sequential execution
+/// writes (Dean and Ghemawat 3.3), which then exists. The premises are the two laws of a job, and that no map output beyond 2^24 bytes is taken.
+pub fn sequential_files()
+    ensures whole { (job : Job) (config : Config) (within : Limits) → JobLaws job config → BoundsOutputs within → WholeIsSequential job config within }
+    ensures files { (job : Job) (config : Config) (within : Limits) → JobLaws job config → BoundsOutputs within → MarkedFilesAreSequential job config within }
+{}
+
+/// No two outcomes that are told differ, success is told only where the marker is, and what is seen stays once an outcome, a failed one too, was told.
+pub fn one_outcome()
+    ensures one { (config : Config) (within : Limits) → OneOutcome config within }
+{}
+
+/// A master that runs has found the winners of the earlier generations, and their whole files in its own generation; until it runs it launches
+/// nothing, and it never launches a reduce that had a winner, nor one whose success it accepted.
+pub fn recovery_finds_the_winners()
+    ensures finds { (config : Config) (within : Limits) → RecoveryFindsTheWinners config within }
+{}
+
+/// A node may be given up whose containers still run: all laws here hold over lists with expiries too. From an answered bar on each call for that
+/// attempt is refused and the attempt is over; an expiry alone ends no attempt of a reduce.
+pub fn a_wrong_suspicion_does_no_harm()
+    ensures hold { (config : Config) (within : Limits) → WrongSuspicionDoesNoHarm config within }
+{}
+
+// The facts that it rests on
+
+/// Every older segment is sealed, and a reduce has at most one attempt whose success is stable, in the newest tail, or due at the newest master.
+pub fn one_attempt_is_recorded()
+    ensures one { (config : Config) (within : Limits) → OneAttemptIsRecorded config within }
+{}
+
+/// Of one master's containers for one reduce, at most one that lives and is not barred was sent a yes.
+pub fn one_container_was_told_yes()
+    ensures yes { (config : Config) (within : Limits) → OneContainerWasToldYes config within }
+{}
+
+/// Until job commit or abort, the newest committed directory of a recorded attempt's reduce holds that attempt's whole file.
+pub fn the_committed_file_is_the_winners()
+    ensures kept { (config : Config) (within : Limits) → CommittedFileIsTheWinners config within }
+{}
+
+/// Whatever a reader of the destination sees, marked or not, is a reduce's winner's whole file.
+pub fn the_published_files_are_the_winners()
+    ensures winners { (config : Config) (within : Limits) → PublishedFilesAreTheWinners config within }
+{}
+
+/// An attempt has one whole output.
+pub fn an_attempt_has_one_whole_output()
+    ensures one { (config : Config) (within : Limits) → OneWholeOutput config within }
+{}
+
+/// A length that is recorded is that of the attempt's whole output, and no recovery stops for one.
+pub fn recorded_lengths_are_right()
+    ensures right { (config : Config) (within : Limits) → LengthsAreRight config within }
+{}
+
+// What ties the definitions to the crates beneath
+
+/// The model's paths are those of the committer's layout, at the destination of the cluster's job.
+pub fn paths_are_the_layouts()
+    ensures { PathsAreTheLayouts }
+{}
+
+/// A call of the namespace or of the history is the model's: what is heard of it, and what it leaves.
+pub fn stores_are_the_models()
+    ensures { StoresAreTheModels }
+{}
+
+/// Whatever a master appends to the history has a line.
+pub fn appended_records_fit()
+    ensures { AppendedRecordsFit }
+{}
+
+/// A living master was raised to, and its attempts have the numbers of its generation.
+pub fn masters_are_raised()
+    ensures { MastersAreRaised }
+{}
+
+/// What is read off the calls that a reduce's machine gets is what is read off the master's past.
+pub fn calls_agree()
+    ensures agree { CallsAgree }
+{}
