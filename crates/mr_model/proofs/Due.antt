@@ -10,7 +10,7 @@ use Rattle.mr_model.specs.Hearing.{Seen, Phase, Launched, has, know, find_launch
 use Rattle.mr_model.specs.Duties.{Master_step, Came, Launches, Expires, Asks, worked, rest_of, with_phase, with_read, is_read, is_fine, told, phase_told, next_seen, seen}
 use Rattle.mr_model.specs.World.{World, Event, master_act, seen_by, duty, opening_world}
 use Rattle.mr_model.specs.Effect.{effect}
-use Rattle.mr_model.specs.Bytes.{written}
+use Rattle.mr_model.proofs.Lengths.{due-length}
 use Rattle.mr_model.specs.Claims.{Limits, In, world_of}
 use Rattle.mr_model.proofs.Basic.{if_cases, along}
 use Rattle.mr_model.proofs.Lists.{Each, Each-append, Each-In}
@@ -33,11 +33,11 @@ reduce-kind : (k : TaskKind) → of_reduces k ≡ true → lines.is_reduce k ≡
 reduce-kind Map e = absurd (false≢true e)
 reduce-kind Reduce e = refl
 
--- it is what the history asks of a record that is appended
-pub line-fits : (r : Record) → HasLine r → lines.fits (written r) ≡ true
+-- it is what the history asks of a record that is appended, but for a length
+pub line-fits : (r : Record) → HasLine r → lines.fits (lines.as_written 1 r) ≡ true
 line-fits (AttemptStarted a n) o = refl
 line-fits (MapSucceeded a n i) o = let m = map-kind a.task.kind o.0 in let l : nat_le 1 i ≡ true = le-leb 1 i o.1 in rw (m, l) refl
-line-fits (ReduceSucceeded a z) o = reduce-kind a.task.kind o
+line-fits (ReduceSucceeded a z) o = rw (reduce-kind a.task.kind o) refl
 line-fits (AttemptFailed a) o = refl
 line-fits JobUnsuccessful o = refl
 
@@ -146,5 +146,16 @@ pub always-lined : (cfg : Config) (within : Limits) (es : List Event) (k : ℕ) 
 always-lined cfg within es = along (λ w. (k : ℕ) → LinedOf (seen_by cfg w k)) cfg within (λ w e h n. lined_after cfg w e h) opening_world es (λ k. opening-lined cfg k)
 
 -- whatever a master appends has a line
-pub appended-fits : (cfg : Config) (within : Limits) (es : List Event) (k : ℕ) (r : Record) → duty cfg (world_of cfg within es) k ≡ Some (Append_record r) → lines.fits (written r) ≡ true
-appended-fits cfg within es k r d = line-fits r (Each-In HasLine (seen_by cfg (world_of cfg within es) k).due (always-lined cfg within es k).dues r (first-due cfg k (seen_by cfg (world_of cfg within es) k) (Append_record r) d))
+-- each version can take it
+suited : (cfg : Config) (within : Limits) (es : List Event) (k version : ℕ) (r : Record) → HasLine r → In r (seen_by cfg (world_of cfg within es) k).due → lines.suits version r ≡ true
+suited cfg within es k version (AttemptStarted a n) o i = refl
+suited cfg within es k version (MapSucceeded a n m) o i = refl
+suited cfg within es k version (ReduceSucceeded a z) o i = if_cases (λ b. b ≡ true) (nat_eq version 2) _ _ (λ t. due-length cfg within es k a z o i) (λ t. refl)
+suited cfg within es k version (AttemptFailed a) o i = refl
+suited cfg within es k version JobUnsuccessful o i = refl
+
+pub appended-fits : (cfg : Config) (within : Limits) (es : List Event) (k : ℕ) (r : Record) → duty cfg (world_of cfg within es) k ≡ Some (Append_record r) → (lines.fits (lines.as_written 1 r) ≡ true) × ((version : ℕ) → lines.suits version r ≡ true)
+appended-fits cfg within es k r d =
+    let i = first-due cfg k (seen_by cfg (world_of cfg within es) k) (Append_record r) d in
+    let o = Each-In HasLine (seen_by cfg (world_of cfg within es) k).due (always-lined cfg within es k).dues r i in
+    (line-fits r o, λ version. suited cfg within es k version r o i)

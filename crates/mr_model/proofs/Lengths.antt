@@ -8,13 +8,13 @@ use Rattle.mr_model.proofs.Commits.{may-read}
 use Rattle.std.proofs.Common.{ℕ, zero, suc, ◌≡◌, refl, sym, ◌∙◌, ap, subst, Bool, true, false, ◌&&◌, not, List, [], ◌∷◌, ◌++◌, Option, Some, None, if◌then◌else◌, is_some, nat_eq, nat_lt, nat_le, ◌⊎◌, inl, inr, length, ◌<◌, ◌≤◌, arith, is_none}
 use Rattle.std.proofs.lemmas.Bool.{false≢true, true≢false, eq-eqb, cases_lt}
 use Rattle.mr_model.specs.Ids.{Attempt, Container, TaskId, Path, is_reduce, task_eq, committed, part_name}
-use Rattle.mr_model.specs.Content.{bar_of, Content, Read, Entry, File, entry_at, bytes_of, is_file, refusal, NameFault, Superseded}
+use Rattle.mr_model.specs.Content.{bar_of, Read, Entry, File, entry_at, bytes_of, is_file, refusal, NameFault, Superseded}
 use Rattle.mr_model.specs.Records.{Record, History, AttemptStarted, MapSucceeded, ReduceSucceeded, AttemptFailed, JobUnsuccessful, records_below, as_written, winner_in, length_in}
 use Rattle.mr_model.specs.Packets.{Config, Packet, Envelope, Store, Reply, Names, Append_record, Flush, Read_history, Done, Bytes, Refused}
 use Rattle.mr_model.specs.Pasts.{computed, part_length}
 use Rattle.mr_model.specs.Hearing.{Seen, Launched, Phase, Recovering, Measure, Todo_winner, is_running, heard, only_known, after_end, after_ended, end_there, ended_by, over_with, has, find_launched, find_container, can_hear, may_accept, is_live, is_won, failures, success_record}
 use Rattle.mr_model.specs.Duties.{Master_step, Came, Launches, Expires, Asks, seen, next_seen, told, worked, with_read, is_fine, is_read, is_unsuccessful, phase_told, rest_of, right_length, is_length, duty_of}
-use Rattle.mr_model.specs.World.{World, Event, master_act, seen_by, opening_world, duty, reply_of, own_reply, unless_refused}
+use Rattle.mr_model.specs.World.{World, Event, master_act, seen_by, opening_world, duty, reply_of, unless_refused}
 use Rattle.mr_model.specs.Sending.{sent, to_app}
 use Rattle.mr_model.specs.Effect.{effect, not_now}
 use Rattle.mr_model.specs.Claims.{In, IsWhole, Limits, world_of, LengthsAreRight, IsQuiet, records}
@@ -185,7 +185,7 @@ record Measured (cfg : Config) (w : World) : Type 0 where
   stored : (k : ℕ) (a : Attempt) (z : Option ℕ) → Stores (w.history k) (ReduceSucceeded a z) → (z ≡ None) ⊎ In (to_app k (Done a z)) w.bag
 
 kept-or-none : (v : ℕ) (r : Record) (a : Attempt) (y z : Option ℕ) → r ≡ ReduceSucceeded a y → as_written v r ≡ ReduceSucceeded a z → (z ≡ None) ⊎ (y ≡ z)
-kept-or-none v r a y z e q = by (nat_le 2 v) (subst (λ x. as_written v x ≡ ReduceSucceeded a z) e q)
+kept-or-none v r a y z e q = by (nat_eq v 2) (subst (λ x. as_written v x ≡ ReduceSucceeded a z) e q)
   where
     by : (b : Bool) → ReduceSucceeded a (if b then y else None) ≡ ReduceSucceeded a z → (z ≡ None) ⊎ (y ≡ z)
     by true q = inr cc
@@ -220,6 +220,13 @@ measured cfg w e h n = record {
 opening-measured : (cfg : Config) → Measured cfg opening_world
 unfolding seen
 opening-measured cfg = record { sures = opening-sure cfg; lengths = tt; noted = λ k. record { dues = λ a z i. absurd i; tails = λ a z i. absurd i }; stored = λ k a z i. absurd i }
+
+-- whatever is due of a reduce has a length
+pub due-length : (cfg : Config) (within : Limits) (es : List Event) (k : ℕ) (a : Attempt) (z : Option ℕ) → is_reduce a ≡ true → In (ReduceSucceeded a z) (seen_by cfg (world_of cfg within es) k).due → is_some z ≡ true
+due-length cfg within es k a z r i =
+    let h = along (Measured cfg) cfg within (measured cfg) opening_world es (opening-measured cfg) in
+    let l = Each-In (SaysLength (world_of cfg within es)) (world_of cfg within es).bag h.lengths (to_app k (Done a z)) ((h.noted k).dues a z i) k a z refl r in
+    rw l.2 refl
 
 -- a record is of one generation
 of-one : (h : History) (n : ℕ) (r : Record) → In r (records_below h n) → (k : ℕ) × In r (h k).stable

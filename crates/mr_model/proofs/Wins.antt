@@ -15,7 +15,7 @@ use Rattle.mr_task.proofs.Growth.{accepted-arrived}
 use Rattle.mr_model.specs.Ids.{Attempt, Container, TaskId, TaskKind, Map, Reduce, task_eq, is_reduce, of_reduces}
 use Rattle.mr_model.specs.Content.{bar_of, Superseded}
 use Rattle.mr_model.specs.Packets.{Config, Packet, Pending, Poll, Done, Failed, Ended, NodeUp, Lost, Store, Names, Append_record, Flush, Read_history, Reply, Refused, Found, Entries}
-use Rattle.mr_model.specs.Hearing.{Seen, lose_there, containers_of, live_on, more_bars, in_task_order, is_named, is_over, stands, know, still_there, Phase, Opening, Setting_up, Recovering, Running, Committing, Failing, Finished, Stopped, Commit_step, List_job, Merging, Cleaning, Marking, Succeeding, Failing_mark, Aborting, Merge_step, Look_at, List_into, Delete_then, Move_to, Todo_winner, Launched, find_launched, find_container, has, has_container, has_winner, accepts_task, is_live, is_won, may_accept, failures, is_running, heard, only_known, after_ask, after_end, ended_by, over_with, after_ended, after_bar, end_there, end_maps, expired, placed, success_record, can_hear, without_placed}
+use Rattle.mr_model.specs.Hearing.{Seen, lose_there, containers_of, live_on, more_bars, in_task_order, is_named, is_over, stands, know, still_there, Phase, Opening, Setting_up, Recovering, Running, Committing, Failing, Finished, Stopped, Commit_step, List_job, Merging, Cleaning, Marking, Succeeding, Failing_mark, Aborting, Merge_step, Look_at, List_into, Delete_then, Move_to, Todo_winner, Launched, find_launched, find_container, has, has_container, has_winner, accepts_task, is_live, is_won, may_accept, failures, is_running, heard, only_known, after_ask, after_end, ended_by, over_with, after_ended, after_bar, end_there, end_maps, expired, placed, success_record, can_hear}
 use Rattle.mr_model.specs.Duties.{Master_step, Came, Launches, Expires, Asks, seen, next_seen, is_fine, is_read, is_cleared, is_superseded, told, worked, with_phase, with_read, phase_told, failing, committing, merging, refused, after_flush, successes, newest_maps, attempts_of}
 use Rattle.mr_model.specs.Records.{Record, AttemptStarted}
 use Rattle.mr_model.specs.Calls.{TakenEarlier, Fits, AllFit, CallsAgree, Calls, tell, tell_each, tell_launched, tell_ended, tell_barred, is_launched, below, maps_on, lost_below, lost_on, calls_heard, calls_worked, calls_phased, calls_told, next_calls, calls, of_task, winning}

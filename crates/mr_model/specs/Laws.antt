@@ -1,23 +1,23 @@
 -- What ties the model to the crates beneath it.
-use Rattle.std.specs.Prelude.{length, sum_by, replicate, ◌≤◌, ◌+◌, ◌*◌, ◌-◌, ℕ, ◌≡◌, ◌<◌, true, List, [], ◌∷◌, ◌++◌, Some, not, nat_lt, if◌then◌else◌}
+use Rattle.std.specs.Prelude.{length, replicate, ◌≤◌, ◌+◌, ◌*◌, ◌-◌, ℕ, ◌≡◌, ◌<◌, true, List, [], ◌∷◌, ◌++◌, Some, not, nat_lt, if◌then◌else◌, false}
 use Rattle.mr_paths.specs.Layout as layout
-use Rattle.mr_names.specs.declared.op.Op as named
 use Rattle.mr_names.specs.Calls as names
 use Rattle.mr_history.specs.State.{State}
-use Rattle.mr_history.specs.declared.record.Record as old
 use Rattle.mr_history.specs.Segment as segments
 use Rattle.mr_history.specs.Winner as winners
+use Rattle.mr_history.specs.Recorded.{tail_width}
 use Rattle.mr_history.specs.Calls as history
 use Rattle.mr_history.specs.Line as lines
 use Rattle.mr_model.specs.Ids.{Attempt, TaskId, dest, temporary, job_attempt, task_attempt, committed, marker, part}
-use Rattle.mr_model.specs.Content.{Op}
-use Rattle.mr_model.specs.Records.{Record, width, winner_in, with_segment, with_version, sealed_below, sealed}
-use Rattle.mr_model.specs.Packets.{Config, Store, Names, Append_record}
-use Rattle.mr_model.specs.World.{World, opening_world, Event, seen_by, duty, reply_of, names_left, segment_left}
-use Rattle.mr_model.specs.Bytes.{TellsAll, written, reads}
+use Rattle.mr_model.specs.Content.{Op, real}
+use Rattle.mr_model.specs.Records.{Record, winner_in, length_in, with_segment, with_version, sealed_below, sealed}
+use Rattle.mr_model.specs.Packets.{Caller, Config, Store, Names, Append_record}
+use Rattle.mr_model.specs.World.{World, opening_world, Event, seen_by, duty, reply_of, segment_left, reply_to}
+use Rattle.mr_model.specs.Effect.{content_after, barred_after}
+use Rattle.mr_model.specs.Bytes.{TellsAll}
 use Rattle.mr_model.specs.Claims.{Limits, In, world_of}
 use Rattle.mr_model.specs.Hearing.{Launched}
-use Rattle.mr_model.specs.Stores.{call_of_names, reply_of_names, names_state, call_of_history, reply_of_history, HasRoom, Stands}
+use Rattle.mr_model.specs.Stores.{NamesStand, made_by, reply_of_names, call_of_history, reply_of_history, HasRoom, Stands}
 
 -- the model's paths are the layout's
 pub record PathsAreTheLayouts : Type 0 where
@@ -28,25 +28,30 @@ pub record PathsAreTheLayouts : Type 0 where
   pub markers : layout.marker dest ≡ marker
   pub parts : (t : TaskId) → dest ++ layout.part t.number ∷ [] ≡ part t
 
--- A call of a store, at or below the fence, is answered as the model's master or container hears it, and leaves what the model has after it.
--- Of the history so far in its first version; that a call is `Full` is no answer of the model.
+-- A call of a store is answered as the model's master or container hears it, and leaves what the model has after it. That a call is `Full` is no answer
+-- of the model.
 pub record StoresAreTheModels : Type 0 where
-  pub names_reply : (w : World) (k : ℕ) (o : Op) (q : named.Op) → call_of_names o ≡ Some q → reply_of w k (Names o) ≡ reply_of_names (names.call_of (names_state w) k q).0
-  pub names_left : (w : World) (k : ℕ) (o : Op) (q : named.Op) → call_of_names o ≡ Some q →
-      (if not (nat_lt k w.fence) then names_left w.content (Names o) else w.content) ≡ (names.call_of (names_state w) k q).1.content
+  pub names_reply : (s : names.State) (w : World) → NamesStand s w → (c : Caller) (o : Op) → names.passes_limit s.barred (real o) ≡ false → reply_to w c (Names o) ≡ reply_of_names (names.call_of s c (real o)).0
+  pub names_left : (s : names.State) (w : World) → NamesStand s w → (c : Caller) (o : Op) → names.passes_limit s.barred (real o) ≡ false →
+      NamesStand (names.call_of s c (real o)).1 (record w { content = content_after w (made_by w c o); barred = barred_after w (made_by w c o) })
+  -- the fence is raised, and at first nothing is barred
+  pub names_raised : (s : names.State) (w : World) (k : ℕ) → NamesStand s w → w.fence ≤ k → NamesStand (names.raised s k) (record w { fence = k })
   pub history_reply : (h : State) (w : World) (k : ℕ) → Stands h w k → (call : Store) (q : history.Call) → call_of_history call ≡ Some q → HasRoom h k call → reply_of w k call ≡ reply_of_history (history.call_of h k q).0
   pub history_left : (h : State) (w : World) (k : ℕ) → Stands h w k → (call : Store) (q : history.Call) → call_of_history call ≡ Some q → HasRoom h k call →
       TellsAll (history.call_of h k q).1 (if not (nat_lt k w.fence) then with_segment w.history k (segment_left (w.history k) call) else w.history)
-  -- the length of the bytes that are not flushed, and the winner among the records that a master reads
-  pub unflushed : (h : State) (w : World) (k : ℕ) → Stands h w k → length (history.segment h k).tail ≡ sum_by width (w.history k).tail
-  pub winners : (rs : List old.Record) (t : TaskId) → winner_in (reads rs) t ≡ winners.winner_in rs t
-  pub opening : (n : ℕ) → TellsAll (record { segments = replicate n segments.fresh; fence = 0 }) opening_world.history
-  pub raised : (h : State) (w : World) (k kept : ℕ) → TellsAll h w.history → h.fence < k → TellsAll (history.raised k kept h) (with_version 1 k (sealed_below k kept w.history))
+  -- the length of the bytes that are not flushed, and the winner among records, with its length
+  pub unflushed : (h : State) (w : World) (k : ℕ) → Stands h w k → length (history.segment h k).tail ≡ tail_width (w.history k)
+  pub winners : (rs : List Record) (t : TaskId) → (winner_in rs t ≡ winners.winner_in rs t) × (length_in rs t ≡ winners.length_in rs t)
+  pub opening : (n : ℕ) → TellsAll (record { segments = replicate n (segments.fresh 1); fence = 0 }) opening_world.history
+  pub raised : (h : State) (w : World) (k kept version : ℕ) → TellsAll h w.history → history.AreUnraised h → h.fence < k → lines.IsVersion version →
+      TellsAll (history.raised k kept version h) (with_version version k (sealed_below k kept w.history))
   pub crashed : (h : State) (w : World) (k kept : ℕ) → Stands h w k → TellsAll (history.sealed_at k kept h) (with_segment w.history k (sealed kept (w.history k)))
 
--- Whatever a master appends has a line: its attempt is of the kind that succeeds so, and its incarnation is one.
+-- Whatever a master appends has a line in each version: its attempt is of the kind that succeeds so, its incarnation is one, and the success of a reduce has
+-- a length. That this is at most a file's is a limit.
 abbrev pub AppendedRecordsFit : Type 0
-AppendedRecordsFit = (cfg : Config) (within : Limits) (es : List Event) (k : ℕ) (r : Record) → duty cfg (world_of cfg within es) k ≡ Some (Append_record r) → lines.fits (written r) ≡ true
+AppendedRecordsFit = (cfg : Config) (within : Limits) (es : List Event) (k : ℕ) (r : Record) → duty cfg (world_of cfg within es) k ≡ Some (Append_record r) →
+    (lines.fits (lines.as_written 1 r) ≡ true) × ((version : ℕ) → lines.suits version r ≡ true)
 
 -- A living master's generation is one that both stores were raised to, and what it launches has the numbers of its generation.
 pub record MastersAreRaised : Type 0 where

@@ -4,6 +4,7 @@ use Rattle.std.specs.Prelude.{ℕ, Bool, List, Option}
 use Rattle.mr_model.specs.Ids.{Attempt, Container, JobId, TaskId}
 use Rattle.mr_model.specs.Content.{Op, NameFault, Kind, Listed}
 use Rattle.mr_model.specs.Records.{Record}
+pub use Rattle.mr_names.specs.declared.op.Caller.{Caller}  -- who calls a store: a master, or a container of a reduce with its attempt
 
 pub record Config : Type 0 where
   pub job : JobId
@@ -40,11 +41,6 @@ pub data Address : Type 0 where
 pub record Envelope : Type 0 where
   pub to : Address
   pub body : Packet
-
--- who calls a store: a master, or a container of a reduce with its attempt
-pub record Caller : Type 0 where
-  pub app : ℕ
-  pub attempt : Option Attempt
 
 pub data Store : Type 0 where
   Names : (op : Op) → Store
