@@ -158,11 +158,7 @@ impl AbortJob {
 /// Aborts a job: all calls of `AbortJob`.
 ///
 /// After a fault, `NoMemory` too, nothing has changed.
-pub fn abort_job(
-    names: &mut Namespace,
-    caller: Caller,
-    layout: &Layout,
-) -> Result<(), CommitFault>
+pub fn abort_job(names: &mut Namespace, caller: Caller, layout: &Layout) -> Result<(), CommitFault>
     ensures effect { HasEffect (abort_job layout.now.dest) names.old caller result names.new }
     ensures made { Commits (abort_job layout.now.dest) names.old caller result names.new }
 {

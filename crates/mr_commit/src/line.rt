@@ -20,11 +20,21 @@ enum Rule {
     /// Nothing follows, if something is there.
     Needed,
     /// `from` is merged, as a file or a directory, onto what the call looked at.
-    Merge { taken: Kind, from: Path, to: Path },
+    Merge {
+        taken: Kind,
+        from: Path,
+        to: Path,
+    },
     /// Each child that is listed is merged onto the same name in `to`.
-    MergeEach { from: Path, to: Path },
+    MergeEach {
+        from: Path,
+        to: Path,
+    },
     /// Each entry that is listed but `_temporary` is merged as a directory onto `to`.
-    MergeTasks { from: Path, to: Path },
+    MergeTasks {
+        from: Path,
+        to: Path,
+    },
     /// What generation `j` committed of a task is taken over to generation `k`, or what the newest one before it did.
     Seek {
         layout: Layout,
@@ -241,10 +251,7 @@ impl TableLine {
                 Ok(Vec::new(alloc))
             }
             Err(NameFault::Missing | NameFault::NotFile)
-                if matches!(self.rule, Rule::Measure(_bytes)) =>
-            {
-                Err(CommitFault::OutputMissing)
-            }
+                if matches!(self.rule, Rule::Measure(_bytes)) => { Err(CommitFault::OutputMissing) }
             Err(fault) => Err(CommitFault::from(*fault)),
         }
     }

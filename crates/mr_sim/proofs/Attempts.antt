@@ -1,6 +1,6 @@
 -- The word that names an attempt: it has no space, it is ASCII, and it names no other attempt.
 use Rattle.std.proofs.Common.{◌≡◌, ◌≢◌, ◌<◌, ℕ, Bool, true, false, List, [], ◌∷◌, ◌++◌, ◌&&◌, refl, sym, ap, ◌∙◌, arith}
-use Rattle.std.specs.Prelude.{nat_lt}
+use Rattle.std.specs.Prelude.{nat_lt, codes, slice_index}
 use Rattle.std.specs.List.{AllByRecursion, list_all}
 use Rattle.std.specs.Char.{is_ascii_digit}
 use Rattle.std.specs.Str.{IsAscii}
@@ -8,12 +8,13 @@ use Rattle.std.proofs.lemmas.List.Folds.{list_all-append}
 use Rattle.std.proofs.lemmas.Str.Ascii.{IsAscii-nil, IsAscii-cons}
 use Rattle.std.proofs.lemmas.Bool.Decides.{nat_tests}
 use Rattle.mr_ids.specs.Attempt.{Attempt}
-use Rattle.mr_ids.specs.Text.{numeral, letter, attempt_text}
+use Rattle.mr_ids.specs.declared.id.TaskId.{TaskId}
+use Rattle.mr_ids.specs.Text.{numeral, letter, task_text, attempt_text}
 use Rattle.mr_ids.specs.declared.id.TaskKind.{TaskKind}
 use Rattle.mr_ids.specs.declared.id.TaskKind.TheVariants.{Map, Reduce}
 use Rattle.mr_ids.proofs.Numerals.{numeral_digits}
-use Rattle.mr_ids.proofs.Texts.{attempt_text_injective}
-use Rattle.mr_sim.specs.Script.{attempt_word}
+use Rattle.mr_ids.proofs.Texts.{task_text_injective, attempt_text_injective}
+use Rattle.mr_sim.specs.Script.{attempt_word, task_word}
 
 -- more than a space, and ASCII
 abbrev plain : ℕ → Bool
@@ -82,3 +83,29 @@ IsAscii-attempt_word a = ascii (attempt_text a) (plain_text a)
 pub attempt_word-injective : (a b : Attempt) → attempt_word a ≡ attempt_word b → a ≡ b
 unfolding attempt_word
 attempt_word-injective a b e = attempt_text_injective a b e
+
+-- ---- the word that names a task
+
+plain_task : (t : TaskId) → list_all plain (task_text t) ≡ true
+plain_task t =
+    let d = plain_numeral 6 t.number in
+    let c = more (letter t.kind) (95 ∷ numeral 6 t.number) (plain_letter t.kind) d in
+    let b = more (numeral 4 t.job.number) (95 ∷ (letter t.kind ++ 95 ∷ numeral 6 t.number)) (plain_numeral 4 t.job.number) c in
+    more (numeral 1 t.job.start) (95 ∷ (numeral 4 t.job.number ++ 95 ∷ (letter t.kind ++ 95 ∷ numeral 6 t.number))) (plain_numeral 1 t.job.start) b
+
+pub no_space-task_word : (t : TaskId) → AllByRecursion (λ b. b ≢ 32) (task_word t)
+unfolding task_word
+no_space-task_word t = no_space (task_text t) (plain_task t)
+
+pub IsAscii-task_word : (t : TaskId) → IsAscii (task_word t)
+unfolding task_word
+IsAscii-task_word t = ascii (task_text t) (plain_task t)
+
+pub task_word-injective : (t u : TaskId) → task_word t ≡ task_word u → t ≡ u
+unfolding task_word
+task_word-injective t u e = task_text_injective t u e
+
+-- no attempt is named as the lack of one is
+pub attempt_word-none : (a : Attempt) → attempt_word a ≢ codes "none"
+unfolding attempt_word
+attempt_word-none a e = let clash : ◌≡◌ {A = ℕ} 97 110 = ap (λ w. slice_index w 0) e in absurd (cc)

@@ -4,6 +4,7 @@ pub mod Lines
 pub mod Obeying
 pub mod PartFiles
 pub mod Readings
+pub mod Recoveries
 pub mod Refusals
 pub mod Verbs
 pub mod Words

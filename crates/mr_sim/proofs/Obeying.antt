@@ -1,5 +1,5 @@
 -- What a function that made a whole form, or calls in turn, did of its command.
-use Rattle.std.proofs.Common.{◌≡◌, ℕ, List, Bool, Result, Ok, Err, sym, ap, ◌∙◌}
+use Rattle.std.proofs.Common.{◌≡◌, ℕ, List, Bool, Result, Ok, Err, refl, sym, ap, ◌∙◌}
 use Rattle.mr_ids.specs.Attempt.{Attempt}
 use Rattle.mr_paths.specs.Layout.{task_attempt}
 use Rattle.mr_names.specs.declared.op.Caller.{Caller}
@@ -9,6 +9,7 @@ use Rattle.mr_names.specs.Calls.{State, call_of}
 use Rattle.mr_commit.specs.declared.fault.CommitFault.{CommitFault}
 use Rattle.mr_commit.specs.declared.fault.CommitFault.TheVariants as fault
 use Rattle.mr_commit.specs.Line.{Line}
+use Rattle.mr_commit.specs.Recovery.{Recovery, Nowhere, Left, recovered, RecoveryHas}
 use Rattle.mr_commit.specs.Whole.{whole, has_output, HasEffect, NeedsTaskCommit}
 use Rattle.mr_sim.specs.declared.order.Order.{Order}
 use Rattle.mr_sim.specs.declared.scene.Scene.{Scene}
@@ -70,3 +71,7 @@ obeyed_needs dest o a s (Err fault.WrongLength) is h = is ∙ ap (λ q. (told q,
 obeyed_needs dest o a s (Err fault.DestinationExists) is h = is ∙ ap (λ q. (told q, s)) (sym h)
 obeyed_needs dest o a s (Err fault.Over) is h = is ∙ ap (λ q. (told q, s)) (sym h)
 obeyed_needs dest o a s (Err fault.NoMemory) is h = tt
+
+pub recovery_has : (r0 : Recovery) (s : State) (caller : Caller) (r : Result (Unit {0}) CommitFault) (t : State) → RecoveryHas r0 s caller r t → Has (recovered r0 s caller) r t
+recovery_has Nowhere s caller r t h = rw (h.0, h.1) refl
+recovery_has (Left lines) s caller r t h = form_has lines s caller r t h

@@ -1,14 +1,14 @@
 -- A line is at most one command, and a script at most one list of them.
-use Rattle.std.proofs.Common.{◌≡◌, ◌+◌, ℕ, List, [], ◌∷◌, ◌++◌, Some, decimal, sym, refl, ap, ap₂, ◌∙◌, arith, inl, inr}
+use Rattle.std.proofs.Common.{◌≡◌, ◌+◌, ℕ, List, [], ◌∷◌, ◌++◌, Some, None, decimal, codes, sym, refl, ap, ap₂, ◌∙◌, arith, inl, inr}
 use Rattle.std.proofs.lemmas.Fmt.{decimal_injective}
 use Rattle.mr_sim.specs.declared.order.Order.{Order}
-use Rattle.mr_sim.specs.declared.order.Order.TheVariants.{As, Raise, Check, Setup, Write, Needs, Commit, CommitJob}
+use Rattle.mr_sim.specs.declared.order.Order.TheVariants.{As, Raise, Check, Setup, Write, Needs, Commit, Abort, Recover, CommitJob, AbortJob, Bar, By}
 use Rattle.mr_sim.specs.Lines.{word_of, after_word, lines_of}
-use Rattle.mr_sim.specs.Script.{attempt_word, line_of, IsCommand, IsLine, AreCommands, IsFirstBad}
+use Rattle.mr_sim.specs.Script.{attempt_word, task_word, line_of, IsCommand, IsLine, AreCommands, IsFirstBad}
 use Rattle.mr_sim.specs.Verb.{verb_of, rest_of}
 use Rattle.mr_sim.specs.Laws.{OneReading, ReadOrBad, OneFirstBad}
-use Rattle.mr_sim.proofs.Words.{word_by, after_by}
-use Rattle.mr_sim.proofs.Attempts.{no_space-attempt_word, attempt_word-injective}
+use Rattle.mr_sim.proofs.Words.{word_by, after_by, no_word_after}
+use Rattle.mr_sim.proofs.Attempts.{no_space-attempt_word, no_space-task_word, attempt_word-injective, task_word-injective, attempt_word-none}
 use Rattle.mr_sim.proofs.Verbs.{word_of-line_of, after_word-line_of, verb_text-injective}
 
 some_inj : (a b : List ℕ) → Some a ≡ Some b → a ≡ b
@@ -26,7 +26,30 @@ same_parts (Write a t) (Write b u) g h v r =
     ap₂ Write (attempt_word-injective a b word) text
 same_parts (Needs a) (Needs b) g h v r = ap Needs (attempt_word-injective a b (some_inj (attempt_word a) (attempt_word b) r))
 same_parts (Commit a) (Commit b) g h v r = ap Commit (attempt_word-injective a b (some_inj (attempt_word a) (attempt_word b) r))
+same_parts (Abort a) (Abort b) g h v r = ap Abort (attempt_word-injective a b (some_inj (attempt_word a) (attempt_word b) r))
+same_parts (Recover t None) (Recover u None) g h v r = ap (λ x. Recover x None) (task_word-injective t u (some_inj (task_word t) (task_word u) r))
+same_parts (Recover t None) (Recover u (Some n)) g h v r =
+    let rest = some_inj (task_word t) (task_word u ++ 32 ∷ decimal n) r in
+    let clash : None ≡ Some (decimal n) = sym (no_word_after (task_word t) (no_space-task_word t)) ∙ ap after_word rest ∙ after_by (task_word u) (decimal n) (no_space-task_word u) in
+    absurd (cc)
+same_parts (Recover t (Some m)) (Recover u None) g h v r =
+    let rest = some_inj (task_word t ++ 32 ∷ decimal m) (task_word u) r in
+    let clash : Some (decimal m) ≡ None = sym (after_by (task_word t) (decimal m) (no_space-task_word t)) ∙ ap after_word rest ∙ no_word_after (task_word u) (no_space-task_word u) in
+    absurd (cc)
+same_parts (Recover t (Some m)) (Recover u (Some n)) g h v r =
+    let rest = some_inj (task_word t ++ 32 ∷ decimal m) (task_word u ++ 32 ∷ decimal n) r in
+    let word = sym (word_by (task_word t) (decimal m) (no_space-task_word t)) ∙ ap word_of rest ∙ word_by (task_word u) (decimal n) (no_space-task_word u) in
+    let length = some_inj (decimal m) (decimal n) (sym (after_by (task_word t) (decimal m) (no_space-task_word t)) ∙ ap after_word rest ∙ after_by (task_word u) (decimal n) (no_space-task_word u)) in
+    let low = g.1 in
+    let high = h.1 in
+    ap₂ (λ x (b : ℕ). Recover x (Some b)) (task_word-injective t u word) (decimal_injective m n (omega arith) (omega arith) length)
 same_parts CommitJob CommitJob g h v r = refl
+same_parts AbortJob AbortJob g h v r = refl
+same_parts (Bar a) (Bar b) g h v r = ap Bar (attempt_word-injective a b (some_inj (attempt_word a) (attempt_word b) r))
+same_parts (By None) (By None) g h v r = refl
+same_parts (By None) (By (Some b)) g h v r = absurd (attempt_word-none b (sym (some_inj (codes "none") (attempt_word b) r)))
+same_parts (By (Some a)) (By None) g h v r = absurd (attempt_word-none a (some_inj (attempt_word a) (codes "none") r))
+same_parts (By (Some a)) (By (Some b)) g h v r = ap (λ x. By (Some x)) (attempt_word-injective a b (some_inj (attempt_word a) (attempt_word b) r))
 same_parts o p g h v r = absurd (cc)
 
 same_command : (line : List ℕ) (o p : Order) → IsLine line o → IsLine line p → o ≡ p

@@ -4,7 +4,7 @@ use Rattle.mr_sim.specs.declared.order.Verb.{Verb}
 use Rattle.mr_sim.specs.declared.order.Verb.TheVariants as verb
 use Rattle.mr_sim.specs.Lines.{word_of, after_word}
 use Rattle.mr_sim.specs.declared.order.Order.{Order}
-use Rattle.mr_sim.specs.declared.order.Order.TheVariants.{As, Raise, Check, Setup, Write, Needs, Commit, CommitJob}
+use Rattle.mr_sim.specs.declared.order.Order.TheVariants.{As, Raise, Check, Setup, Write, Needs, Commit, Abort, Recover, CommitJob, AbortJob, Bar, By}
 use Rattle.mr_sim.specs.Script.{line_of, IsCommand, IsBad}
 use Rattle.mr_sim.specs.Verb.{verb_text, verb_of, rest_of}
 
@@ -16,7 +16,12 @@ word_of-line_of Setup = refl
 word_of-line_of (Write a text) = refl
 word_of-line_of (Needs a) = refl
 word_of-line_of (Commit a) = refl
+word_of-line_of (Abort a) = refl
+word_of-line_of (Recover t bytes) = refl
 word_of-line_of CommitJob = refl
+word_of-line_of AbortJob = refl
+word_of-line_of (Bar a) = refl
+word_of-line_of (By who) = refl
 
 pub after_word-line_of : (o : Order) → after_word (line_of o) ≡ rest_of o
 after_word-line_of (As k) = refl
@@ -26,18 +31,27 @@ after_word-line_of Setup = refl
 after_word-line_of (Write a text) = refl
 after_word-line_of (Needs a) = refl
 after_word-line_of (Commit a) = refl
+after_word-line_of (Abort a) = refl
+after_word-line_of (Recover t bytes) = refl
 after_word-line_of CommitJob = refl
+after_word-line_of AbortJob = refl
+after_word-line_of (Bar a) = refl
+after_word-line_of (By who) = refl
 
 -- no two verbs have one text
 verb_back : List ℕ → Verb
 verb_back w =
-    cond (eqb (length w) 2) verb.As
+    cond (eqb (length w) 2) (cond (eqb (slice_index w 0) 97) verb.As verb.By)
+    (cond (eqb (length w) 3) verb.Bar
     (cond (eqb (length w) 6) verb.Commit
+    (cond (eqb (length w) 7) verb.Recover
+    (cond (eqb (length w) 8) verb.AbortJob
     (cond (eqb (length w) 9) verb.CommitJob
     (cond (eqb (slice_index w 0) 114) verb.Raise
     (cond (eqb (slice_index w 0) 99) verb.Check
     (cond (eqb (slice_index w 0) 115) verb.Setup
-    (cond (eqb (slice_index w 0) 119) verb.Write verb.Needs))))))
+    (cond (eqb (slice_index w 0) 97) verb.Abort
+    (cond (eqb (slice_index w 0) 119) verb.Write verb.Needs))))))))))
 
 back : (v : Verb) → verb_back (verb_text v) ≡ v
 unfolding verb_back
@@ -48,7 +62,12 @@ back verb.Setup = refl
 back verb.Write = refl
 back verb.Needs = refl
 back verb.Commit = refl
+back verb.Abort = refl
+back verb.Recover = refl
 back verb.CommitJob = refl
+back verb.AbortJob = refl
+back verb.Bar = refl
+back verb.By = refl
 
 pub verb_text-injective : (v w : Verb) → verb_text v ≡ verb_text w → v ≡ w
 verb_text-injective v w e = sym (back v) ∙ ap verb_back e ∙ back w

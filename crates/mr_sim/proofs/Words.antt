@@ -13,11 +13,11 @@ pub after_by : (w rest : List ℕ) → AllByRecursion (λ b. b ≢ 32) w → aft
 after_by [] rest h = refl
 after_by (b ∷ w) rest h = rw (ne_eqb b 32 h.0) (after_by w rest h.1)
 
-no_word_after : (w : List ℕ) → AllByRecursion (λ b. b ≢ 32) w → after_word w ≡ None
+pub no_word_after : (w : List ℕ) → AllByRecursion (λ b. b ≢ 32) w → after_word w ≡ None
 no_word_after [] h = refl
 no_word_after (b ∷ w) h = rw (ne_eqb b 32 h.0) (no_word_after w h.1)
 
-one_word : (w : List ℕ) → AllByRecursion (λ b. b ≢ 32) w → word_of w ≡ w
+pub one_word : (w : List ℕ) → AllByRecursion (λ b. b ≢ 32) w → word_of w ≡ w
 one_word [] h = refl
 one_word (b ∷ w) h = rw (ne_eqb b 32 h.0) (ap (λ (t : List ℕ). b ∷ t) (one_word w h.1))
 

@@ -1,6 +1,6 @@
 -- What a command of a script answers, and what it leaves. The committer's part is the committer effect: setupJob,
--- commitTask, commitJob and needsTaskCommit of the Hadoop OutputCommitter API, with FileOutputCommitter's algorithm
--- version 1 and `checkOutputSpecs`. Fence and generations are our own profile.
+-- commitTask, abortTask, recoverTask, commitJob, abortJob and needsTaskCommit of the Hadoop OutputCommitter API, with FileOutputCommitter's algorithm
+-- version 1 and `checkOutputSpecs`. Fence, bars and generations are our own profile.
 use Rattle.std.specs.Prelude.{◌≡◌, ℕ, Bool, true, false, List, [], ◌∷◌, ◌++◌, None, Result, Ok, Err, codes}
 use Rattle.mr_ids.specs.Attempt.{Attempt}
 use Rattle.mr_paths.specs.Layout.{task_attempt, part}
@@ -13,10 +13,11 @@ use Rattle.mr_names.specs.Calls.{State, opening, raised, call_of}
 use Rattle.mr_commit.specs.declared.fault.CommitFault.{CommitFault}
 use Rattle.mr_commit.specs.declared.fault.CommitFault.TheVariants as fault
 use Rattle.mr_commit.specs.Line.{fault_of}
-use Rattle.mr_commit.specs.Tables.{setup_job, commit_task, commit_job}
+use Rattle.mr_commit.specs.Tables.{setup_job, commit_task, abort_task, commit_job, abort_job}
+use Rattle.mr_commit.specs.Recovery.{recovered, recover_task}
 use Rattle.mr_commit.specs.Whole.{whole, has_output, checked}
 use Rattle.mr_sim.specs.declared.order.Order.{Order}
-use Rattle.mr_sim.specs.declared.order.Order.TheVariants.{As, Raise, Check, Setup, Write, Needs, Commit, CommitJob}
+use Rattle.mr_sim.specs.declared.order.Order.TheVariants.{As, Raise, Check, Setup, Write, Needs, Commit, Abort, Recover, CommitJob, AbortJob, Bar, By}
 use Rattle.mr_sim.specs.declared.scene.Scene.{Scene}
 use Rattle.mr_sim.specs.declared.scene.Reply.{Reply}
 use Rattle.mr_sim.specs.declared.scene.Reply.TheVariants.{Silent, Yes, No}
@@ -88,7 +89,12 @@ outcome dest Setup s = by_calls s (whole (setup_job dest s.caller.app) s.names s
 outcome dest (Write a text) s = by_calls s (in_turn (writes dest s.caller.app a text) s.names s.caller)
 outcome dest (Needs a) s = (told (has_output (call_of s.names s.caller (op.Exists (task_attempt dest s.caller.app a))).0), s)
 outcome dest (Commit a) s = by_calls s (whole (commit_task dest s.caller.app a) s.names s.caller)
+outcome dest (Abort a) s = by_calls s (whole (abort_task dest s.caller.app a) s.names s.caller)
+outcome dest (Recover t bytes) s = by_calls s (recovered (recover_task dest s.caller.app t bytes) s.names s.caller)
 outcome dest CommitJob s = by_calls s (whole (commit_job dest s.caller.app) s.names s.caller)
+outcome dest AbortJob s = by_calls s (whole (abort_job dest) s.names s.caller)
+outcome dest (Bar a) s = by_calls s (in_turn (op.Bar a ∷ []) s.names s.caller)
+outcome dest (By who) s = (Ok Silent, record s { caller = record s.caller { attempt = who } })
 
 -- A function did what the command says, but for want of memory.
 abbrev pub Obeys : List (List ℕ) → Order → Scene → Result Reply CommitFault → Scene → Type 0

@@ -1,13 +1,14 @@
 //! One line of a script.
-ghost use Rattle.std.specs.Prelude.{◌≡◌, ◌≢◌, ◌<◌, ◌≤◌, ◌^◌, ℕ, List, ◌∷◌, ◌++◌, All, IfSome, IfNone, IfOk, Some, None, decimal};
+ghost use Rattle.std.specs.Prelude.{◌≡◌, ◌≢◌, ◌<◌, ◌≤◌, ◌^◌, ℕ, List, ◌∷◌, ◌++◌, All, IfSome, IfNone, IfOk, Option, Some, None, decimal};
 ghost use Rattle.mr_ids.specs.Attempt.{Attempt};
-ghost use Rattle.mr_ids.specs.Text.{IsAttempt};
+ghost use Rattle.mr_ids.specs.Text.{IsTask, IsAttempt};
 ghost use Rattle.mr_sim.specs.Lines.{word_of, after_word};
-ghost use Rattle.mr_sim.specs.Script.{attempt_word, IsGeneration, IsCommand, IsLine, IsBad};
+ghost use Rattle.mr_sim.specs.Script.{attempt_word, task_word, caller_word, recovery_words, IsCaller, IsLength, IsGeneration, IsCommand, IsLine, IsBad};
+ghost use Rattle.mr_sim.specs.Script.{NamesNone};
 ghost use Rattle.mr_sim.specs.Verb.{verb_of, verb_text, rest_of};
 
 use itoa::Buffer;
-use mr_ids::{AppAttempt, AttemptId, TaskKind};
+use mr_ids::{AppAttempt, AttemptId, TaskId, TaskKind};
 use mr_names::Bytes;
 use std::alloc::{AllocError, Global};
 use std::str;
@@ -29,8 +30,18 @@ pub enum Order {
     Needs(AttemptId),
     /// Commits the attempt's output as its task's.
     Commit(AttemptId),
+    /// Aborts the attempt.
+    Abort(AttemptId),
+    /// Recovers the task, whose part file has the recorded length, if there is one.
+    Recover(TaskId, Option<u32>),
     /// Commits the job.
     CommitJob,
+    /// Aborts the job.
+    AbortJob,
+    /// Bars the attempt.
+    Bar(AttemptId),
+    /// The attempt that makes the calls from here on, or none.
+    By(Option<AttemptId>),
 }
 
 /// The first word of a command.
@@ -43,7 +54,12 @@ pub enum Verb {
     Write,
     Needs,
     Commit,
+    Abort,
+    Recover,
     CommitJob,
+    AbortJob,
+    Bar,
+    By,
 }
 
 /// The bytes before the first of these bytes, and those after it.
@@ -73,30 +89,34 @@ fn verb_named(word: &[u8]) -> Option<Verb>
     ensures none { IfNone result ((v : Verb) → word.now ≡ verb_text v → ⊥) }
 {
     if word == b"as".as_slice() {
-        return Some(Verb::As);
+        Some(Verb::As)
+    } else if word == b"raise".as_slice() {
+        Some(Verb::Raise)
+    } else if word == b"check".as_slice() {
+        Some(Verb::Check)
+    } else if word == b"setup".as_slice() {
+        Some(Verb::Setup)
+    } else if word == b"write".as_slice() {
+        Some(Verb::Write)
+    } else if word == b"needs".as_slice() {
+        Some(Verb::Needs)
+    } else if word == b"commit".as_slice() {
+        Some(Verb::Commit)
+    } else if word == b"abort".as_slice() {
+        Some(Verb::Abort)
+    } else if word == b"recover".as_slice() {
+        Some(Verb::Recover)
+    } else if word == b"commitjob".as_slice() {
+        Some(Verb::CommitJob)
+    } else if word == b"abortjob".as_slice() {
+        Some(Verb::AbortJob)
+    } else if word == b"bar".as_slice() {
+        Some(Verb::Bar)
+    } else if word == b"by".as_slice() {
+        Some(Verb::By)
+    } else {
+        None
     }
-    if word == b"raise".as_slice() {
-        return Some(Verb::Raise);
-    }
-    if word == b"check".as_slice() {
-        return Some(Verb::Check);
-    }
-    if word == b"setup".as_slice() {
-        return Some(Verb::Setup);
-    }
-    if word == b"write".as_slice() {
-        return Some(Verb::Write);
-    }
-    if word == b"needs".as_slice() {
-        return Some(Verb::Needs);
-    }
-    if word == b"commit".as_slice() {
-        return Some(Verb::Commit);
-    }
-    if word == b"commitjob".as_slice() {
-        return Some(Verb::CommitJob);
-    }
-    None
 }
 
 /// The number that the word is in decimal, with no zero in front.
@@ -140,6 +160,54 @@ fn attempt(word: &[u8]) -> Option<AttemptId>
     }
 }
 
+/// The task that the word names.
+fn task(word: &[u8]) -> Option<TaskId>
+    ensures found { IfSome result (λ t. IsTask t × (word.now ≡ task_word t)) }
+    ensures only { (t : TaskId) → IsTask t → word.now ≡ task_word t → result ≡ Some t }
+{
+    let Ok(text) = str::from_utf8(word) else {
+        return None;
+    };
+    match TaskId::parse(text) {
+        Ok(task) => Some(task),
+        Err(_) => None,
+    }
+}
+
+/// The recovery of a task, and of a recorded length, if there is one.
+fn recovering(rest: &[u8]) -> Option<Order>
+    ensures some { IfSome result (λ c. IsCommand c × (verb_of c ≡ Verb.Recover) × (rest_of c ≡ Some rest.now)) }
+    ensures none { IfNone result (NamesNone rest.now) }
+{
+    match split_word(rest) {
+        None => match task(rest) {
+            Some(task) => Some(Order::Recover(task, None)),
+            None => None,
+        },
+        Some((word, length)) => match task(word) {
+            Some(task) => match number(length) {
+                Some(bytes) => Some(Order::Recover(task, Some(bytes))),
+                None => None,
+            },
+            None => None,
+        },
+    }
+}
+
+/// The caller's attempt, or none.
+fn calling(rest: &[u8]) -> Option<Order>
+    ensures some { IfSome result (λ c. IsCommand c × (verb_of c ≡ Verb.By) × (rest_of c ≡ Some rest.now)) }
+    ensures none { IfNone result ((who : Option Attempt) → IsCaller who → rest.now ≡ caller_word who → ⊥) }
+{
+    if rest == b"none".as_slice() {
+        return Some(Order::By(None));
+    }
+    match attempt(rest) {
+        Some(attempt) => Some(Order::By(Some(attempt))),
+        None => None,
+    }
+}
+
 /// The attempt, if it is one of a reduce.
 fn reduce_attempt(word: &[u8]) -> Option<AttemptId>
     ensures found { IfSome result (λ a. IsAttempt a × (a.task.kind ≡ TaskKind.Reduce) × (word.now ≡ attempt_word a)) }
@@ -178,6 +246,7 @@ fn alone(verb: Verb) -> Option<Order>
         Verb::Check => Some(Order::Check),
         Verb::Setup => Some(Order::Setup),
         Verb::CommitJob => Some(Order::CommitJob),
+        Verb::AbortJob => Some(Order::AbortJob),
         _ => None,
     }
 }
@@ -205,7 +274,17 @@ fn with_rest(alloc: Global, verb: Verb, rest: &[u8]) -> Result<Option<Order>, Al
             Some(attempt) => Ok(Some(Order::Commit(attempt))),
             None => Ok(None),
         },
-        Verb::Check | Verb::Setup | Verb::CommitJob => Ok(None),
+        Verb::Abort => match attempt(rest) {
+            Some(attempt) => Ok(Some(Order::Abort(attempt))),
+            None => Ok(None),
+        },
+        Verb::Recover => Ok(recovering(rest)),
+        Verb::Bar => match attempt(rest) {
+            Some(attempt) => Ok(Some(Order::Bar(attempt))),
+            None => Ok(None),
+        },
+        Verb::By => Ok(calling(rest)),
+        Verb::Check | Verb::Setup | Verb::CommitJob | Verb::AbortJob => Ok(None),
     }
 }
 

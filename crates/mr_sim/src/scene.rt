@@ -3,9 +3,12 @@ ghost use Rattle.std.specs.Prelude.{◌≡◌, ◌++◌, ◌∷◌, [], ℕ, Lis
 ghost use Rattle.mr_sim.specs.Effect.{InTurn, Obeys, done, part_file, puts, silent, start, told, writes};
 
 use crate::order::Order;
-use mr_commit::{CommitFault, check_output, commit_job, commit_task, needs_task_commit, setup_job};
+use mr_commit::{
+    CommitFault, abort_job, abort_task, check_output, commit_job, commit_task, needs_task_commit,
+    recover_task, setup_job,
+};
 use mr_ids::{AppAttempt, AttemptId};
-use mr_names::{Bytes, Caller, NameFault, Namespace};
+use mr_names::{Bytes, Caller, NameFault, Namespace, Op};
 use mr_paths::{Layout, Path};
 use std::alloc::AllocError;
 
@@ -77,6 +80,17 @@ fn write(
     }
 }
 
+/// An attempt is barred.
+fn bar(names: &mut Namespace, caller: Caller, attempt: AttemptId) -> Result<(), CommitFault>
+    ensures { InTurn (Op.Bar attempt ∷ []) names.old caller result names.new }
+{
+    match names.bar(caller, attempt) {
+        Ok(()) => Ok(()),
+        Err(NameFault::NoMemory) => Err(CommitFault::NoMemory),
+        Err(fault) => Err(CommitFault::Names(fault)),
+    }
+}
+
 /// Does what a command says.
 pub fn obey(scene: &mut Scene, layout: &Layout, order: &Order) -> Result<Reply, CommitFault>
     ensures { Obeys layout.now.dest order.now scene.old result scene.new }
@@ -100,7 +114,17 @@ pub fn obey(scene: &mut Scene, layout: &Layout, order: &Order) -> Result<Reply, 
         Order::Commit(attempt) => {
             silent(commit_task(&mut scene.names, caller, layout, *attempt))
         }
+        Order::Abort(attempt) => silent(abort_task(&mut scene.names, caller, layout, *attempt)),
+        Order::Recover(task, bytes) => {
+            silent(recover_task(&mut scene.names, caller, layout, *task, *bytes))
+        }
         Order::CommitJob => silent(commit_job(&mut scene.names, caller, layout)),
+        Order::AbortJob => silent(abort_job(&mut scene.names, caller, layout)),
+        Order::Bar(attempt) => silent(bar(&mut scene.names, caller, *attempt)),
+        Order::By(attempt) => {
+            scene.caller.attempt = *attempt;
+            Ok(Reply::Silent)
+        }
     }
 }
 

@@ -187,6 +187,98 @@ out/\nout/_SUCCESS 0\n",
 }
 
 #[test]
+fn fenced_container(rt: HostRuntime) -> Result<(), Fail> {
+    prints(
+        &rt,
+        b"setup\n\
+write attempt_200707121733_0003_r_000000_0 one\n\
+raise 2\n\
+commit attempt_200707121733_0003_r_000000_0\n\
+as 2\n\
+setup\n\
+recover task_200707121733_0003_r_000000\n",
+        b"4: Superseded 2\n\
+7: OutputMissing\n\
+out/\n\
+out/_temporary/\n\
+out/_temporary/1/\n\
+out/_temporary/1/_temporary/\n\
+out/_temporary/1/_temporary/attempt_200707121733_0003_r_000000_0/\n\
+out/_temporary/1/_temporary/attempt_200707121733_0003_r_000000_0/part-r-00000 4\n\
+out/_temporary/2/\n",
+    )
+}
+
+#[test]
+fn abort_commands(rt: HostRuntime) -> Result<(), Fail> {
+    prints(
+        &rt,
+        b"setup\n\
+write attempt_200707121733_0003_r_000000_0 x\n\
+abort attempt_200707121733_0003_r_000000_0\n\
+needs attempt_200707121733_0003_r_000000_0\n\
+abort attempt_200707121733_0003_r_000000_0\n\
+abortjob\n\
+abortjob\n",
+        b"4: no\n\
+out/\n",
+    )?;
+    prints(&rt, b"abortjob", b"1: NoParent\n")?;
+    prints(
+        &rt,
+        b"recover task_200707121733_0003_r_000000",
+        b"1: OutputMissing\n",
+    )
+}
+
+#[test]
+fn recovery_of_wrong_length(rt: HostRuntime) -> Result<(), Fail> {
+    prints(
+        &rt,
+        b"setup\n\
+write attempt_200707121733_0003_r_000000_0 one\n\
+commit attempt_200707121733_0003_r_000000_0\n\
+raise 2\n\
+as 2\n\
+setup\n\
+recover task_200707121733_0003_r_000000 5\n\
+recover task_200707121733_0003_r_000000 4\n",
+        b"7: WrongLength\n\
+out/\n\
+out/_temporary/\n\
+out/_temporary/1/\n\
+out/_temporary/1/_temporary/\n\
+out/_temporary/2/\n\
+out/_temporary/2/task_200707121733_0003_r_000000/\n\
+out/_temporary/2/task_200707121733_0003_r_000000/part-r-00000 4\n",
+    )
+}
+
+#[test]
+fn committer_bar(rt: HostRuntime) -> Result<(), Fail> {
+    prints(
+        &rt,
+        b"setup\n\
+write attempt_200707121733_0003_r_000000_0 one\n\
+bar attempt_200707121733_0003_r_000000_0\n\
+by attempt_200707121733_0003_r_000000_0\n\
+commit attempt_200707121733_0003_r_000000_0\n\
+needs attempt_200707121733_0003_r_000000_0\n\
+by none\n\
+needs attempt_200707121733_0003_r_000000_0\n",
+        b"5: Barred\n\
+6: Barred\n\
+8: yes\n\
+out/\n\
+out/_temporary/\n\
+out/_temporary/1/\n\
+out/_temporary/1/_temporary/\n\
+out/_temporary/1/_temporary/attempt_200707121733_0003_r_000000_0/\n\
+out/_temporary/1/_temporary/attempt_200707121733_0003_r_000000_0/part-r-00000 4\n",
+    )
+}
+
+#[test]
 fn two_attempts_commit(rt: HostRuntime) -> Result<(), Fail> {
     prints(
         &rt,

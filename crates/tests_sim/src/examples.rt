@@ -3,6 +3,30 @@ use crate::{committer, seq};
 use std::test::Fail;
 
 #[test]
+fn barred_attempt(rt: HostRuntime) -> Result<(), Fail> {
+    committer::prints(
+        &rt,
+        b"\
+setup\n\
+write attempt_200707121733_0003_r_000000_0 one\n\
+bar attempt_200707121733_0003_r_000000_0\n\
+write attempt_200707121733_0003_r_000000_1 second\n\
+commit attempt_200707121733_0003_r_000000_1\n\
+by attempt_200707121733_0003_r_000000_0\n\
+commit attempt_200707121733_0003_r_000000_0\n\
+by none\n\
+commitjob\n\
+",
+        b"\
+7: Barred\n\
+out/\n\
+out/_SUCCESS 0\n\
+out/part-r-00000 7\n\
+",
+    )
+}
+
+#[test]
 fn crash_before_commit(rt: HostRuntime) -> Result<(), Fail> {
     committer::prints(
         &rt,
@@ -60,6 +84,34 @@ commitjob\n\
 out/\n\
 out/_SUCCESS 0\n\
 out/part-r-00000 6\n\
+",
+    )
+}
+
+#[test]
+fn recovery_after_a_crash(rt: HostRuntime) -> Result<(), Fail> {
+    committer::prints(
+        &rt,
+        b"\
+setup\n\
+write attempt_200707121733_0003_r_000000_0 one\n\
+commit attempt_200707121733_0003_r_000000_0\n\
+raise 2\n\
+\n\
+as 2\n\
+setup\n\
+recover task_200707121733_0003_r_000000 4\n\
+recover task_200707121733_0003_r_000001\n\
+write attempt_200707121733_0003_r_000001_1000 second\n\
+commit attempt_200707121733_0003_r_000001_1000\n\
+commitjob\n\
+",
+        b"\
+9: OutputMissing\n\
+out/\n\
+out/_SUCCESS 0\n\
+out/part-r-00000 4\n\
+out/part-r-00001 7\n\
 ",
     )
 }

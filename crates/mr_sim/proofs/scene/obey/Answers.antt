@@ -1,9 +1,11 @@
-use Rattle.std.proofs.Common.{◌≡◌, ap, ◌∙◌, sym}
-use Rattle.mr_commit.specs.Tables.{setup_job, commit_task, commit_job}
+use Rattle.std.proofs.Common.{◌≡◌, [], ◌∷◌, ap, ◌∙◌, sym}
+use Rattle.mr_commit.specs.Tables.{setup_job, commit_task, abort_task, commit_job, abort_job}
+use Rattle.mr_commit.specs.Recovery.{recovered, recover_task}
 use Rattle.mr_commit.specs.Whole.{whole, checked}
+use Rattle.mr_names.specs.declared.op.Op.TheVariants as op
 use Rattle.mr_sim.specs.declared.order.Order.{Order}
 use Rattle.mr_sim.specs.Effect.{outcome, silent, in_turn, writes}
-use Rattle.mr_sim.proofs.Obeying.{obeyed, obeyed_from, form_has, turn_has, obeyed_needs}
+use Rattle.mr_sim.proofs.Obeying.{obeyed, obeyed_from, form_has, turn_has, recovery_has, obeyed_needs}
 use Rattle.mr_sim.proofs.scene.obey.Goals as goal
 
 pub returns-in-As : goal.returns-in-As
@@ -62,3 +64,43 @@ returns-in-CommitJob c =
     let dest = c.args.layout.now.dest in
     rw c.silent-in-CommitJob.ensures (obeyed dest c.args.order.now s (whole (commit_job dest s.caller.app) s.names s.caller) c.commit_job.result c.commit_job.new.names
     (ap (λ (o : Order). outcome dest o s) c.in-CommitJob.is) (form_has (commit_job dest s.caller.app) s.names s.caller c.commit_job.result c.commit_job.new.names c.commit_job.ensures.effect))
+
+pub returns-in-Abort : goal.returns-in-Abort
+unfolding outcome
+returns-in-Abort c =
+    let s = c.args.scene.now in
+    let dest = c.args.layout.now.dest in
+    let lines = abort_task dest s.caller.app c.in-Abort.attempt in
+    rw c.silent-in-Abort.ensures (obeyed dest c.args.order.now s (whole lines s.names s.caller) c.abort_task.result c.abort_task.new.names
+    (ap (λ (o : Order). outcome dest o s) c.in-Abort.is) (form_has lines s.names s.caller c.abort_task.result c.abort_task.new.names c.abort_task.ensures.effect))
+
+pub returns-in-AbortJob : goal.returns-in-AbortJob
+unfolding outcome
+returns-in-AbortJob c =
+    let s = c.args.scene.now in
+    let dest = c.args.layout.now.dest in
+    let lines = abort_job dest in
+    rw c.silent-in-AbortJob.ensures (obeyed dest c.args.order.now s (whole lines s.names s.caller) c.abort_job.result c.abort_job.new.names
+    (ap (λ (o : Order). outcome dest o s) c.in-AbortJob.is) (form_has lines s.names s.caller c.abort_job.result c.abort_job.new.names c.abort_job.ensures.effect))
+
+pub returns-in-Recover : goal.returns-in-Recover
+unfolding outcome
+returns-in-Recover c =
+    let s = c.args.scene.now in
+    let dest = c.args.layout.now.dest in
+    let table = recover_task dest s.caller.app c.in-Recover.task c.in-Recover.bytes in
+    rw c.silent-in-Recover.ensures (obeyed dest c.args.order.now s (recovered table s.names s.caller) c.recover_task.result c.recover_task.new.names
+    (ap (λ (o : Order). outcome dest o s) c.in-Recover.is) (recovery_has table s.names s.caller c.recover_task.result c.recover_task.new.names c.recover_task.ensures.effect))
+
+pub returns-in-Bar : goal.returns-in-Bar
+unfolding outcome
+returns-in-Bar c =
+    let s = c.args.scene.now in
+    let dest = c.args.layout.now.dest in
+    let calls = op.Bar c.in-Bar.attempt ∷ [] in
+    rw c.silent-in-Bar.ensures (obeyed dest c.args.order.now s (in_turn calls s.names s.caller) c.bar.result c.bar.new.names
+    (ap (λ (o : Order). outcome dest o s) c.in-Bar.is) (turn_has calls s.names s.caller c.bar.result c.bar.new.names c.bar.ensures))
+
+pub returns-in-By : goal.returns-in-By
+unfolding outcome
+returns-in-By c = ap (λ (o : Order). outcome c.args.layout.now.dest o c.args.scene.now) c.in-By.is
