@@ -1,0 +1,4 @@
+pub mod Growing
+pub mod Recording
+pub mod Rows
+pub mod Final

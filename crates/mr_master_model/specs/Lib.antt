@@ -1,0 +1,10 @@
+pub mod Job
+pub mod Past
+pub mod Readings
+pub mod Hearing
+pub mod Duty
+pub mod Answered
+pub mod Sends
+pub mod Next
+pub mod Laws
+pub mod Rows

@@ -1,0 +1,38 @@
+//! Laws of the readings, for the layers above: these functions do nothing.
+ghost use Rattle.mr_master_model.specs.Laws.{CallsGrow, AcceptedStays, NameStays, OneIsRecorded, OverIsFinal};
+ghost use Rattle.mr_master_model.specs.Rows.{FreshMaster, SmallJob};
+
+/// A task is only ever told more, so all laws of tasks hold along a master's past.
+pub fn calls_grow()
+    ensures { CallsGrow }
+{}
+
+/// An accepted attempt stays accepted and is never over.
+pub fn accepted_stays()
+    ensures { AcceptedStays }
+{}
+
+/// The name moves only when the named attempt is over.
+pub fn name_stays()
+    ensures { NameStays }
+{}
+
+/// Of one reduce, the records of a success that are due or unflushed name one attempt.
+pub fn one_is_recorded()
+    ensures { OneIsRecorded }
+{}
+
+/// A master that is Ended or Stopped stays so and sends nothing.
+pub fn over_is_final()
+    ensures { OverIsFinal }
+{}
+
+/// What a master that starts looks for, and what it does with what it finds.
+pub fn fresh_master()
+    ensures { FreshMaster }
+{}
+
+/// A job of one map and one reduce, from the start of Running to the job commit.
+pub fn small_job()
+    ensures { SmallJob }
+{}

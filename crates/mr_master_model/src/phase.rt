@@ -1,0 +1,66 @@
+use mr_task::TaskFault;
+
+/// The phase of a master.
+#[derive(Clone, Copy, Debug, PartialEq, Eq)]
+pub enum Phase {
+    /// It looks for the marks of a job commit, then reads the earlier segments.
+    Opening,
+    /// It sets the job up, then takes over each reduce that has a winner.
+    Recovering,
+    /// It launches attempts and hears of them.
+    Running,
+    /// It commits the job.
+    Committing,
+    /// The job failed: that is recorded, then the job's work is deleted.
+    Failing,
+    /// It told the outcome.
+    Ended,
+    /// A call was refused, or its answer was lost: it does nothing more, and tells no outcome.
+    Stopped,
+}
+
+/// What a store call of a master is for.
+#[derive(Clone, Copy, Debug, PartialEq, Eq)]
+pub enum DutyName {
+    /// It looks for a mark in the staging folder.
+    Marks,
+    /// It reads the earlier segments.
+    Read,
+    /// A call of job setup.
+    Setup,
+    /// A call of task recovery.
+    Recover,
+    /// It bars an attempt on a node that it gave up.
+    Bar,
+    /// It appends the first record that is due.
+    Append,
+    /// It makes what was appended stable.
+    Flush,
+    /// It creates `COMMIT_STARTED`.
+    Started,
+    /// A call of job commit that merges.
+    Merge,
+    /// Job commit deletes what was temporary.
+    Cleanup,
+    /// Job commit creates the marker.
+    Marker,
+    /// It creates `COMMIT_SUCCESS`.
+    Success,
+    /// It creates `COMMIT_FAIL`.
+    Fail,
+    /// The call of job abort.
+    Abort,
+}
+
+/// Why a master launches nothing on a node, or does not give the node up.
+#[derive(Clone, Copy, Debug, PartialEq, Eq)]
+pub enum LaunchFault {
+    /// It is not Running.
+    NotRunning,
+    /// The job has no such task.
+    NoTask,
+    /// There is no such node.
+    NoNode,
+    /// The task refuses it.
+    Task(TaskFault),
+}
