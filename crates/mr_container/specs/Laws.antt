@@ -6,7 +6,7 @@ use Rattle.mr_ids.specs.declared.id.TaskKind.TheVariants.{Map, Reduce}
 use Rattle.mr_packet.specs.declared.packet.Packet.{Packet}
 use Rattle.mr_packet.specs.declared.packet.Packet.TheVariants as packet
 use Rattle.mr_commit.specs.Line.{Line, op_of}
-use Rattle.mr_commit.specs.Tables.{commit_task}
+use Rattle.mr_commit.specs.Tables.{commit_task, abort_task}
 use Rattle.mr_container.specs.declared.wish.Wish.{Wish}
 use Rattle.mr_container.specs.declared.wish.Wish.TheVariants as wish
 use Rattle.mr_container.specs.Past.{Step, Hears, Sends, Computes, Calls}
@@ -63,10 +63,12 @@ was_renamed maps x (step ∷ h) = renames (seen maps x h).wish step || was_renam
 abbrev pub RenamedFirst : Type 0
 RenamedFirst = (maps : ℕ) (x : Attempt) (h : List Step) → x.task.kind ≡ Reduce → is_reporting (seen maps x h).wish ≡ true → was_renamed maps x h ≡ true
 
--- the calls by which it commits are those of the committer's table
-abbrev pub CommitsByTable : Type 0
-CommitsByTable = (dest : List (List ℕ)) (k : ℕ) (x : Attempt) (result : List ℕ)
-    → map (λ (w : Wish). wished_op dest k x result w) (wish.Look ∷ wish.Clear ∷ wish.Rename ∷ []) ≡ map (λ (l : Line). Some (op_of l)) (commit_task dest k x)
+-- the calls by which it commits, and the one by which it aborts, are those of the committer's tables
+pub record CommitsByTable : Type 0 where
+  pub commits : (dest : List (List ℕ)) (k : ℕ) (x : Attempt) (result : List ℕ)
+      → map (λ (w : Wish). wished_op dest k x result w) (wish.Look ∷ wish.Clear ∷ wish.Rename ∷ []) ≡ map (λ (l : Line). Some (op_of l)) (commit_task dest k x)
+  pub aborts : (dest : List (List ℕ)) (k : ℕ) (x : Attempt) (result : List ℕ)
+      → map (λ (w : Wish). wished_op dest k x result w) (wish.Abort ∷ []) ≡ map (λ (l : Line). Some (op_of l)) (abort_task dest k x)
 
 -- how many blocks are there fits the wish: while one is missing, it asks for the first that is, fetches it, or tells that it is lost;
 -- else all are there

@@ -11,7 +11,7 @@ pub fn renamed_first()
     ensures { RenamedFirst }
 {}
 
-/// A container commits by the calls of the committer's table.
+/// A container commits, and aborts, by the calls of the committer's tables.
 pub fn commits_by_table()
     ensures { CommitsByTable }
 {}
