@@ -2,7 +2,8 @@
 
 use mr_ids::TaskKind;
 use mr_mapside::{
-    MAX_OUTPUT_LEN, MapOutput, WorkFault, blocks, blocks_are_one, map_work, output_is_its_blocks,
+    CutOutput, MAX_OUTPUT_LEN, MapOutput, WorkFault, blocks, blocks_are_one, map_work,
+    output_is_its_blocks,
 };
 use mr_user::{
     Gate, GateFault, Job, LineIndex, MAX_REDUCES, MAX_SPLIT_LEN, MaxByKey, OpenGate, UserFault,
@@ -128,4 +129,15 @@ fn outputs_are_cut(rt: HostRuntime) {
     }
     blocks_are_one();
     output_is_its_blocks::<WordCount>();
+}
+
+#[test]
+fn cut_output_lends_its_blocks(rt: HostRuntime) {
+    let alloc = rt.alloc();
+    let bytes = with_memory(&rt, Vec::from_slice(alloc, b"\0\0\0\x02ab\0\0\0\x01c"));
+    assert!(rt; bytes.len() <= MAX_OUTPUT_LEN);
+    let cut = with_memory(&rt, CutOutput::new(alloc, MapOutput::from_vec(bytes)));
+    let copied = with_memory(&rt, cut.clone());
+    assert!(rt; matches!(copied.block(2, 1), Some(block) if block == b"c".as_slice()));
+    assert!(rt; cut.block(3, 1).is_none() && cut.block(2, 2).is_none());
 }

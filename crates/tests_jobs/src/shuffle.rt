@@ -234,7 +234,9 @@ fn shelf_keeps_until_all_is_dropped(rt: HostRuntime) {
     assert!(rt; matches!(shelf.get(first, 0), Some(block) if same(block, b"ab")));
     assert!(rt; matches!(shelf.get(first, 1), Some(block) if same(block, b"c")));
     assert!(rt; shelf.get(first, 2).is_none() && shelf.get(second, 0).is_none());
+    let copied = with_memory(&rt, shelf.copy());
     shelf.drop_all();
+    assert!(rt; matches!(copied.get(first, 1), Some(block) if same(block, b"c")));
     assert!(rt; shelf.get(first, 0).is_none());
     attempts_are_apart();
 }
