@@ -1,6 +1,6 @@
 -- The laws of the crates are the two that the model of the cluster asks for.
-use Rattle.std.proofs.Common.{◌≡◌, ℕ, zero, suc, ◌+◌, List, [], ◌∷◌, Option, Some, None, Result, Ok, refl, sym, ap, ◌∙◌, arith}
-use Rattle.std.specs.Option.{option_map, option_and_then}
+use Rattle.std.proofs.Common.{◌≡◌, ℕ, ◌+◌, List, [], ◌∷◌, Option, Some, None, Result, Ok, refl, sym, ap, ◌∙◌, arith}
+use Rattle.std.specs.Option.{option_map}
 use Rattle.mr_user.specs.Computation.{Computation}
 use Rattle.mr_user.specs.Sequential.{both}
 use Rattle.mr_mapside.specs.Block.{block, blocks_from}
