@@ -316,9 +316,13 @@ fn bad_command(rt: HostRuntime) -> Result<(), Fail> {
         b"write attempt_1_0001_r_000000_0",
         b"write attempt_1_0001_m_000000_0 x",
         b"write attempt_1_0001_r_000000_1000000 x",
-        b"recover task_1_0001_r_000000",
-        b"abort attempt_1_0001_r_000000_0",
-        b"abortjob",
+        b"recover task_1_0001_r_000000 04",
+        b"recover task_1_0001_r_000000 4294967296",
+        b"recover task_1_0001_r_000000 ",
+        b"abort task_1_0001_r_000000",
+        b"abortjob ",
+        b"bar none",
+        b"by",
         b"as \xff",
     ];
     for line in first_lines {
