@@ -1,6 +1,7 @@
 pub mod Fronts
 pub mod Grouping
 pub mod Joining
+pub mod LeastGroup
 pub mod Lines
 pub mod Meanings
 pub mod Numbers

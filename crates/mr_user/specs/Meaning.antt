@@ -1,10 +1,11 @@
 -- What the lines of a split and the rising keys of a list are, told by what they are made of.
-use Rattle.std.specs.Prelude.{◌≡◌, ◌≢◌, ℕ, List, [], ◌∷◌, ◌++◌}
+use Rattle.std.specs.Prelude.{◌≡◌, ◌≢◌, ℕ, true, false, not, List, [], ◌∷◌, ◌++◌, map, filter}
 use Rattle.std.specs.List.{AllByRecursion, list_any}
-use Rattle.std.specs.Ordering.{eq_by_cmp}
+use Rattle.std.specs.FinMap.{IsAntisymmetric}
+use Rattle.std.specs.Ordering.{eq_by_cmp, is_gt}
 use Rattle.std.specs.declared.cmp.Ordering.{Ordering}
 use Rattle.std.specs.declared.cmp.Ordering.TheVariants.{Less}
-use Rattle.mr_user.specs.Groups.{rising}
+use Rattle.mr_user.specs.Groups.{rising, values_of, groups_of}
 use Rattle.mr_user.specs.Sequential.{lines_of}
 
 abbrev pub HasNoLineFeed : List ℕ → Type 0
@@ -26,3 +27,14 @@ module _ {K : Type 0} (cmp : K → K → Ordering) where
   pub record KeysRise : Type 0 where
     pub in_order : (ks : List K) → IsRising (rising cmp ks)
     pub same : (ks : List K) (k : K) → list_any (eq_by_cmp cmp k) (rising cmp ks) ≡ list_any (eq_by_cmp cmp k) ks
+
+module _ {K V : Type 0} (cmp : K → K → Ordering) where
+  -- the pairs of other keys
+  abbrev pub others_of : K → List (K × V) → List (K × V)
+  others_of k ps = filter (λ p. not (eq_by_cmp cmp k p.0)) ps
+
+-- where k is a key of pairs and none is less, its group comes first, and then the groups of the pairs of other keys
+abbrev pub LeastGroupFirst : {K : Type 0} (V : Type 0) → (K → K → Ordering) → Type 0
+LeastGroupFirst {K} V cmp =
+    (k : K) (ps : List (K × V)) → IsAntisymmetric cmp → list_any (eq_by_cmp cmp k) (map (λ p. p.0) ps) ≡ true → AllByRecursion (λ p. is_gt (cmp k p.0) ≡ false) ps →
+    groups_of cmp ps ≡ (k, values_of cmp k ps) ∷ groups_of cmp (others_of cmp k ps)

@@ -23,7 +23,7 @@ pub use fault::{GateFault, UserFault};
 pub use gate::{Gate, OpenGate};
 pub use group::groups;
 pub use job::Job;
-pub use laws::{keys_rise, lines_are_pieces};
+pub use laws::{keys_rise, least_group_first, lines_are_pieces};
 pub use line_index::LineIndex;
 pub use max_by_key::MaxByKey;
 pub use position::Position;
