@@ -43,7 +43,7 @@ pub fn one_outcome()
     ensures one { (config : Config) (within : Limits) → OneOutcome config within }
 {}
 
-/// A master that runs has found the winners of the earlier generations, and their whole files in its own generation; until it runs it launches
+/// The newest master, while it runs, has found the winners of the earlier generations, and their whole files in its own generation; until it runs it launches
 /// nothing, and it never launches a reduce that had a winner, nor one whose success it accepted.
 pub fn recovery_finds_the_winners()
     ensures finds { (config : Config) (within : Limits) → RecoveryFindsTheWinners config within }
