@@ -7,4 +7,5 @@ pub mod Tellings
 pub mod Replays
 pub mod Segments
 pub mod Histories
+pub mod Staying
 pub mod Winners

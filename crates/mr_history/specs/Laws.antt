@@ -1,5 +1,5 @@
 -- Laws of lines, segments and histories, by which the layers above can speak of records alone.
-use Rattle.std.specs.Prelude.{◌≡◌, ◌≢◌, ◌≤◌, ◌<◌, ◌-◌, ℕ, true, false, nat_lt, nat_le, nat_eq, List, [], ◌∷◌, ◌++◌, length, take, sum_by, Some, None, is_some, if◌then◌else◌}
+use Rattle.std.specs.Prelude.{◌≡◌, ◌≢◌, ◌≤◌, ◌<◌, ◌-◌, ℕ, true, false, nat_lt, nat_le, nat_eq, List, [], ◌∷◌, ◌++◌, length, take, replicate, sum_by, Some, None, is_some, if◌then◌else◌}
 use Rattle.std.specs.List.{AllByRecursion}
 use Rattle.serde_json.specs.Read.{read}
 use Rattle.mr_ids.specs.Attempt.{Attempt}
@@ -10,7 +10,7 @@ use Rattle.mr_history.specs.Line.{line_of, version_line, head, text, lines, widt
 use Rattle.mr_history.specs.Json.{value_of}
 use Rattle.mr_history.specs.Reading.{record_of, records_as, records_of, version_of, torn_of, bad_line, HasNoFeed}
 use Rattle.mr_history.specs.Segment.{fresh, appended, flushed, sealed, IsSound}
-use Rattle.mr_history.specs.Calls.{segment, with_segment, with_version, raised, records_in}
+use Rattle.mr_history.specs.Calls.{Call, Append, Flush, Read, segment, with_segment, with_version, sealed_at, raised, call_of, records_in, records_before, AreUnraised}
 use Rattle.mr_history.specs.Recorded.{recorded, unwritten, added, settled, cut, tail_width}
 use Rattle.mr_history.specs.Winner.{winner_in, length_in}
 
@@ -90,3 +90,52 @@ pub record MadeIn (segments : List SegmentState) (t : TaskId) (a : Attempt) : Ty
 -- The record that made a winner tells a length exactly where its segment is of version 2.
 abbrev pub WinnersHaveLengths : Type 0
 WinnersHaveLengths = (segments : List SegmentState) (t : TaskId) (a : Attempt) → AllByRecursion IsSound segments → winner_in (records_in segments) t ≡ Some a → MadeIn segments t a
+
+-- ---- whole histories
+
+-- What holds of each history that its changes make: a thousand segments, all sound; those below the fence are sealed,
+-- and those above it are as they were made.
+pub record IsHistory (h : State) : Type 0 where
+  pub count : length h.segments ≡ 1000
+  pub bound : h.fence ≤ 1000
+  pub sound : AllByRecursion IsSound h.segments
+  pub older : (k : ℕ) → 1 ≤ k → k < h.fence → (segment h k).is_sealed ≡ true
+  pub unraised : AreUnraised h
+
+-- A change of a history, by the application attempt that it is of: a call, a seal that keeps so many bytes, and a raise
+-- that gives a version, too.
+pub data Change : Type 0 where
+  Calls : ℕ → Call → Change
+  Seals : ℕ → ℕ → Change
+  Raises : ℕ → ℕ → ℕ → Change
+
+abbrev pub after : State → Change → State
+after h (Calls k call) = (call_of h k call).1
+after h (Seals k kept) = sealed_at k kept h
+after h (Raises k kept version) = raised k kept version h
+
+-- what a call may hand in
+abbrev pub IsCall : SegmentState → Call → Type 0
+IsCall s (Append r) = IsRecord r × (suits s.version r ≡ true)
+IsCall s Flush = Unit {0}
+IsCall s Read = Unit {0}
+
+-- what each change asks
+abbrev pub IsChange : State → Change → Type 0
+IsChange h (Calls k call) = (1 ≤ k) × (k ≤ h.fence) × IsCall (segment h k) call
+IsChange h (Seals k kept) = (1 ≤ k) × (k ≤ h.fence)
+IsChange h (Raises k kept version) = (1 ≤ k) × (k ≤ 1000) × IsVersion version
+
+-- A new history is one, and each change leaves one.
+pub record HistoriesStay : Type 0 where
+  pub of_new : IsHistory (record { segments = replicate 1000 (fresh 1); fence = 0 })
+  pub of_change : (h : State) (c : Change) → IsHistory h → IsChange h c → IsHistory (after h c)
+  pub each : (h : State) (k : ℕ) → IsHistory h → IsSound (segment h k)
+
+-- What is stable stays, whatever changes a history: a sealed segment is as it was, stable bytes only grow at their end,
+-- and the segments below the fence tell the records that they told. The fence is never lowered.
+pub record StableStays : Type 0 where
+  pub of_sealed : (h : State) (c : Change) (j : ℕ) → IsHistory h → IsChange h c → 1 ≤ j → (segment h j).is_sealed ≡ true → segment (after h c) j ≡ segment h j
+  pub grows : (h : State) (c : Change) (j : ℕ) → IsHistory h → IsChange h c → 1 ≤ j → j ≤ 1000 → (more : List ℕ) × ((segment (after h c) j).stable ≡ (segment h j).stable ++ more)
+  pub below : (h : State) (c : Change) → IsHistory h → IsChange h c → records_before (after h c) h.fence ≡ records_before h h.fence
+  pub fence : (h : State) (c : Change) → IsHistory h → IsChange h c → h.fence ≤ (after h c).fence

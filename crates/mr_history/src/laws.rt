@@ -1,5 +1,5 @@
 //! Laws of lines, segments and histories, for the layers above: these functions do nothing.
-ghost use Rattle.mr_history.specs.Laws.{LinesReadBack, LinesReplay, FrontsReplay, SegmentsRecord, SegmentsStaySound, OthersStay, WinnersStay, WinnersHaveLengths};
+ghost use Rattle.mr_history.specs.Laws.{LinesReadBack, LinesReplay, FrontsReplay, SegmentsRecord, SegmentsStaySound, OthersStay, WinnersStay, WinnersHaveLengths, HistoriesStay, StableStays};
 
 /// A line is read back as its record, and nothing else is read as a record.
 pub fn lines_read_back()
@@ -39,4 +39,14 @@ pub fn winners_stay()
 /// The record that made a winner tells a length exactly where its segment is of version 2.
 pub fn winners_have_lengths()
     ensures { WinnersHaveLengths }
+{}
+
+/// Each change leaves a history of a thousand sound segments, sealed below the fence and unwritten above it.
+pub fn histories_stay()
+    ensures { HistoriesStay }
+{}
+
+/// A sealed segment never changes, stable bytes only grow at their end, and the records below the fence stay.
+pub fn stable_stays()
+    ensures { StableStays }
 {}

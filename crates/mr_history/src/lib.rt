@@ -12,8 +12,8 @@ mod segment;
 pub use fault::HistoryFault;
 pub use history::{History, MAX_APP_ATTEMPTS};
 pub use laws::{
-    fronts_replay, lines_read_back, lines_replay, others_stay, segments_record,
-    segments_stay_sound, winners_have_lengths, winners_stay,
+    fronts_replay, histories_stay, lines_read_back, lines_replay, others_stay, segments_record,
+    segments_stay_sound, stable_stays, winners_have_lengths, winners_stay,
 };
 pub use reading::{Replayed, replay};
 pub use record::{MAX_PART_LEN, Record, Records};
