@@ -5,3 +5,4 @@ pub mod Ending
 pub mod Wholes
 pub mod Effects
 pub mod TaskLaws
+pub mod AbortLaws

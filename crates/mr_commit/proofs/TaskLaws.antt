@@ -1,17 +1,16 @@
 -- What a task's commit leaves.
-use Rattle.std.proofs.Common.{◌≡◌, ℕ, zero, suc, Bool, true, false, ◌&&◌, List, [], ◌∷◌, ◌++◌, refl, sym, ap, subst, ◌∙◌, Option, Some, None, is_some, Result, Ok, Err, nat_lt, if◌then◌else◌}
+use Rattle.std.proofs.Common.{◌≡◌, ℕ, zero, suc, Bool, true, false, ◌&&◌, List, [], ◌∷◌, ◌++◌, refl, sym, ap, subst, ◌∙◌, Option, Some, None, is_some, Result, Ok, Err, if◌then◌else◌}
 use Rattle.mr_ids.specs.Attempt.{Attempt}
 use Rattle.mr_paths.specs.Path.{Diverge}
 use Rattle.mr_paths.specs.Layout.{task_attempt, committed}
 use Rattle.mr_paths.proofs.Apart.{task_and_attempt_part, diverge_not_within}
 use Rattle.mr_names.specs.declared.op.Caller.{Caller}
 use Rattle.mr_names.specs.declared.fault.NameFault.{NameFault}
-use Rattle.mr_names.specs.declared.fault.NameFault.TheVariants as names
 use Rattle.mr_names.specs.declared.op.Op.{Op}
 use Rattle.mr_names.specs.declared.op.Op.TheVariants as op
 use Rattle.mr_names.specs.Content.{Content, IsTree, within}
 use Rattle.mr_names.specs.Held.{node_at}
-use Rattle.mr_names.specs.Calls.{State, refused, refusal, settled, call_of, effect}
+use Rattle.mr_names.specs.Calls.{State, refused, settled, call_of, effect}
 use Rattle.mr_names.proofs.CallLaws.{others_stay, renamed_there, renamed_away}
 use Rattle.mr_names.proofs.CallerLaws.{tree_stays, fence_stays}
 use Rattle.mr_names.proofs.TreeLaws.{past_caller}
@@ -26,19 +25,19 @@ use Rattle.mr_commit.specs.Whole.{going_on, run, whole, most_calls}
 use Rattle.mr_commit.specs.Laws.{IsCommitted}
 use Rattle.mr_commit.proofs.Ending.{single}
 
-abbrev answered_by : State → Result (Unit {0}) CommitFault × State
+abbrev pub answered_by : State → Result (Unit {0}) CommitFault × State
 answered_by t = (Ok tt, t)
 
-abbrev faulted_by : CommitFault → State → Result (Unit {0}) CommitFault × State
+abbrev pub faulted_by : CommitFault → State → Result (Unit {0}) CommitFault × State
 faulted_by f t = (Err f, t)
 
-abbrev lines_of : List Line → Result (List Line) CommitFault
+abbrev pub lines_of : List Line → Result (List Line) CommitFault
 lines_of new = Ok new
 
-abbrev failed : CommitFault → Result (List Line) CommitFault
+abbrev pub failed : CommitFault → Result (List Line) CommitFault
 failed f = Err f
 
-clash : {A : Type 0} (f : CommitFault) (t u : State) → faulted_by f t ≡ answered_by u → A
+pub clash : {A : Type 0} (f : CommitFault) (t u : State) → faulted_by f t ≡ answered_by u → A
 clash f t u e = let y : told f ≡ well = ap (λ p. p.0) e in absurd cc
   where
     told : CommitFault → Result (Unit {0}) CommitFault
@@ -48,7 +47,7 @@ clash f t u e = let y : told f ≡ well = ap (λ p. p.0) e in absurd cc
     well = Ok tt
 
 -- a line of one call, in a run that was answered
-passed : (n : ℕ) (line : Line) (rest : List Line) (s t : State) (caller : Caller) → is_single line ≡ true → run (suc n) (line ∷ rest) s caller ≡ (Ok tt, t) → replaced line (call_of s caller (op_of line)).0 ≡ Ok []
+pub passed : (n : ℕ) (line : Line) (rest : List Line) (s t : State) (caller : Caller) → is_single line ≡ true → run (suc n) (line ∷ rest) s caller ≡ (Ok tt, t) → replaced line (call_of s caller (op_of line)).0 ≡ Ok []
 unfolding run
 passed n line rest s t caller one e = by (replaced line (call_of s caller (op_of line)).0) refl e
   where
@@ -61,31 +60,31 @@ passed n line rest s t caller one e = by (replaced line (call_of s caller (op_of
     by (Err fault.Over) k h = clash fault.Over _ t h
     by (Err fault.NoMemory) k h = clash fault.NoMemory _ t h
 
-run_on : (n : ℕ) (line next : Line) (rest : List Line) (s : State) (caller : Caller) → replaced line (call_of s caller (op_of line)).0 ≡ Ok [] → run (suc n) (line ∷ next ∷ rest) s caller ≡ run n (next ∷ rest) (call_of s caller (op_of line)).1 caller
+pub run_on : (n : ℕ) (line next : Line) (rest : List Line) (s : State) (caller : Caller) → replaced line (call_of s caller (op_of line)).0 ≡ Ok [] → run (suc n) (line ∷ next ∷ rest) s caller ≡ run n (next ∷ rest) (call_of s caller (op_of line)).1 caller
 unfolding run
 run_on n line next rest s caller e = rw e refl
 
-run_end : (n : ℕ) (line : Line) (s : State) (caller : Caller) → replaced line (call_of s caller (op_of line)).0 ≡ Ok [] → run (suc n) (line ∷ []) s caller ≡ (Ok tt, (call_of s caller (op_of line)).1)
+pub run_end : (n : ℕ) (line : Line) (s : State) (caller : Caller) → replaced line (call_of s caller (op_of line)).0 ≡ Ok [] → run (suc n) (line ∷ []) s caller ≡ (Ok tt, (call_of s caller (op_of line)).1)
 unfolding run
 run_end n line s caller e = rw e refl
 
 -- ---- what each line leaves
 
-looked : (s : State) (caller : Caller) (path : List (List ℕ)) → (call_of s caller (op.Exists path)).1 ≡ s
+pub looked : (s : State) (caller : Caller) (path : List (List ℕ)) → (call_of s caller (op.Exists path)).1 ≡ s
 looked s caller path = by (refused s caller (op.Exists path))
   where
     by : (o : Option NameFault) → (settled o s (op.Exists path)).1 ≡ s
     by None = refl
     by (Some f) = refl
 
-cleared : (s : State) (caller : Caller) (path q : List (List ℕ)) → within path q ≡ false → node_at (call_of s caller (op.Delete path)).1.content q ≡ node_at s.content q
+pub cleared : (s : State) (caller : Caller) (path q : List (List ℕ)) → within path q ≡ false → node_at (call_of s caller (op.Delete path)).1.content q ≡ node_at s.content q
 cleared s caller path q apart = by (refused s caller (op.Delete path))
   where
     by : (o : Option NameFault) → node_at (settled o s (op.Delete path)).1.content q ≡ node_at s.content q
     by None = others_stay s.content (op.Delete path) q apart
     by (Some f) = refl
 
-not_refused : (s : State) (caller : Caller) (call : Op) → replaced (Does call) (call_of s caller call).0 ≡ Ok [] → refused s caller call ≡ None
+pub not_refused : (s : State) (caller : Caller) (call : Op) → replaced (Does call) (call_of s caller call).0 ≡ Ok [] → refused s caller call ≡ None
 not_refused s caller call e = by (refused s caller call) e
   where
     bad : {A : Type 0} (f : NameFault) (b : Bool) → (if b && false then Ok [] else Err (fault_of f)) ≡ lines_of [] → A
@@ -96,7 +95,7 @@ not_refused s caller call e = by (refused s caller call) e
     by None h = refl
     by (Some f) h = bad f _ h
 
-made : (s : State) (caller : Caller) (call : Op) → refused s caller call ≡ None → (call_of s caller call).1.content ≡ effect s.content call
+pub made : (s : State) (caller : Caller) (call : Op) → refused s caller call ≡ None → (call_of s caller call).1.content ≡ effect s.content call
 made s caller call e = rw e refl
 
 three : (entries depth : ℕ) (dest : List (List ℕ)) (k : ℕ) (attempt : Attempt) → most_calls entries depth (commit_task dest k attempt) ≡ suc (suc (suc zero))

@@ -1,8 +1,8 @@
 -- Laws of the committer effect.
-use Rattle.std.specs.Prelude.{◌≡◌, ℕ, false, List, [], ◌∷◌, ◌++◌, Option, None, Result, Ok}
+use Rattle.std.specs.Prelude.{◌≡◌, ℕ, false, List, [], ◌∷◌, ◌++◌, Option, None, Result, Ok, Err}
 use Rattle.mr_ids.specs.Attempt.{Attempt}
 use Rattle.mr_ids.specs.declared.id.TaskId.{TaskId}
-use Rattle.mr_paths.specs.Layout.{task_attempt, committed}
+use Rattle.mr_paths.specs.Layout.{temporary, task_attempt, committed}
 use Rattle.mr_names.specs.declared.op.Caller.{Caller}
 use Rattle.mr_names.specs.Content.{Content, IsTree, within}
 use Rattle.mr_names.specs.Held.{node_at}
@@ -41,3 +41,17 @@ pub record IsCommitted (dest : List (List ℕ)) (k : ℕ) (attempt : Attempt) (b
 abbrev pub TaskCommits : Type 0
 TaskCommits = (dest : List (List ℕ)) (k : ℕ) (attempt : Attempt) (s t : State) (caller : Caller) → IsTree s.content
     → whole (commit_task dest k attempt) s caller ≡ (Ok tt, t) → IsCommitted dest k attempt s.content t.content × (t.fence ≡ s.fence)
+
+-- nothing is left at a path or beneath it, and nothing else changed
+pub record IsTakenOut (top : List (List ℕ)) (before after : Content) : Type 0 where
+  pub gone : (rest : List (List ℕ)) → node_at after (top ++ rest) ≡ None
+  pub others : (path : List (List ℕ)) → within top path ≡ false → node_at after path ≡ node_at before path
+
+-- an abort that was answered takes out the attempt path or all that is temporary. One that was not changes nothing
+pub record AbortsLeave : Type 0 where
+  pub task : (dest : List (List ℕ)) (k : ℕ) (attempt : Attempt) (s t : State) (caller : Caller) → IsTree s.content
+      → whole (tables.abort_task dest k attempt) s caller ≡ (Ok tt, t) → IsTakenOut (task_attempt dest k attempt) s.content t.content × (t.fence ≡ s.fence) × (t.barred ≡ s.barred)
+  pub job : (dest : List (List ℕ)) (s t : State) (caller : Caller) → IsTree s.content
+      → whole (tables.abort_job dest) s caller ≡ (Ok tt, t) → IsTakenOut (temporary dest) s.content t.content × (t.fence ≡ s.fence) × (t.barred ≡ s.barred)
+  pub task_refused : (dest : List (List ℕ)) (k : ℕ) (attempt : Attempt) (s t : State) (caller : Caller) (f : CommitFault) → whole (tables.abort_task dest k attempt) s caller ≡ (Err f, t) → t ≡ s
+  pub job_refused : (dest : List (List ℕ)) (s t : State) (caller : Caller) (f : CommitFault) → whole (tables.abort_job dest) s caller ≡ (Err f, t) → t ≡ s

@@ -1,5 +1,5 @@
 -- A step value is the lines of its table that are left: what is called next, and what becomes of the answer.
-use Rattle.std.specs.Prelude.{◌≡◌, ℕ, true, List, [], ◌∷◌, ◌++◌, Option, Some, None, Result, Ok, Err}
+use Rattle.std.specs.Prelude.{◌≡◌, true, List, [], ◌∷◌, ◌++◌, Option, Some, None, Result, Ok, Err}
 use Rattle.mr_names.specs.declared.op.Caller.{Caller}
 use Rattle.mr_names.specs.Calls.{State, call_of, refused}
 use Rattle.mr_names.specs.declared.fault.NameFault.{NameFault}

@@ -1,5 +1,5 @@
 //! Laws of the definitions: these functions do nothing.
-ghost use Rattle.mr_commit.specs.Laws.{OneResult, WholeFormsEnd, TablesSettle, TaskCommits};
+ghost use Rattle.mr_commit.specs.Laws.{OneResult, WholeFormsEnd, TablesSettle, TaskCommits, AbortsLeave};
 
 /// The steps of a table lead to one answer and one namespace.
 pub fn one_result()
@@ -16,4 +16,10 @@ pub fn whole_forms_end()
 /// changed.
 pub fn task_commits()
     ensures { TaskCommits }
+{}
+
+/// After a task's abort that was answered nothing is at the attempt path or beneath it, after a job's abort nothing at
+/// `_temporary` or beneath it, and nothing else changed. An abort that was not answered changes nothing.
+pub fn aborts_leave()
+    ensures { AbortsLeave }
 {}
