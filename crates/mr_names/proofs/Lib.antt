@@ -1,8 +1,11 @@
 pub mod BarredSets
+pub mod Beneath
 pub mod CallLaws
 pub mod CallerLaws
 pub mod Callers
 pub mod ContentLaws
+pub mod Deleting
+pub mod Graph
 pub mod ListingLaws
 pub mod Moving
 pub mod Removing
@@ -10,3 +13,4 @@ pub mod RowLaws
 pub mod Subtrees
 pub mod Tables
 pub mod TreeLaws
+pub mod Walks

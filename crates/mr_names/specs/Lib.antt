@@ -6,6 +6,8 @@ pub mod Listing
 pub mod Moving
 pub mod Node
 pub mod Rows
+pub mod Tree
+pub mod TreeProofs
 pub mod Walk
 pub mod Attempts
 pub mod Barred

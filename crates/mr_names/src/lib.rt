@@ -4,10 +4,13 @@
 mod barred;
 mod fault;
 mod laws;
+mod links;
 mod namespace;
 mod node;
 mod op;
+mod place;
 mod table;
+mod tree;
 mod walk;
 
 pub use fault::NameFault;

@@ -1,0 +1,179 @@
+//! The nodes as a graph: edges by name.
+ghost use Rattle.std.specs.Prelude.{◌≡◌, Some, None, true, is_some, OnOk, OnErr, IfOk, IfSome, [], ℕ, List, MatchOption};
+ghost use Rattle.mr_names.specs.Tree.{edges_of, nodes_of, steps, IsTold, EdgeSet, SameGraph, NodeAdded, EdgeMoved, NodeChanged, NodeCut, first_edge};
+ghost use Rattle.mr_names.specs.Node.{appended, closed_of};
+ghost use Rattle.std.specs.FinMap as map;
+ghost use Rattle.std.specs.Option.{option_map};
+
+use crate::node::Node;
+use crate::place::Place;
+use mr_paths::Name;
+use slab::Slab;
+use std::alloc::{AllocError, Global};
+use std::collections::BTreeMap;
+
+/// The node to which an edge with this name leads.
+pub fn child(nodes: &Slab<Place>, at: usize, name: &Name) -> Option<usize>
+    ensures { result ≡ edges_of nodes.now at name.now }
+{
+    match nodes.get(at) {
+        Some(place) => place.children.get(name).copied(),
+        None => None,
+    }
+}
+
+/// The node at the end of a path, from a node on.
+pub fn find(nodes: &Slab<Place>, from: usize, names: &[Name]) -> Option<usize>
+    ensures { result ≡ steps (edges_of nodes.now) (Some from) names.now }
+{
+    let mut at = from;
+    for name in names {
+        match child(nodes, at, name) {
+            Some(key) => at = key,
+            None => return None,
+        }
+    }
+    Some(at)
+}
+
+/// Adds an edge.
+pub fn link(nodes: &mut Slab<Place>, at: usize, name: Name, key: usize) -> Result<(), AllocError>
+    requires { is_some (nodes_of nodes.old at) ≡ true }
+    ensures ok { OnOk result (EdgeSet nodes.old nodes.new at name (Some key)) }
+    ensures err { OnErr result (SameGraph nodes.old nodes.new) }
+{
+    match nodes.get_mut(at) {
+        Some(place) => {
+            place.children.insert(name, key)?;
+            Ok(())
+        }
+        None => Ok(()),
+    }
+}
+
+/// Takes an edge out.
+pub fn unlink(nodes: &mut Slab<Place>, at: usize, name: &Name)
+    ensures { EdgeSet nodes.old nodes.new at name.now None }
+{
+    if let Some(place) = nodes.get_mut(at) {
+        place.children.remove(name);
+    }
+}
+
+/// Adds a node with no edges at the end of a new edge.
+pub fn add_node(
+    nodes: &mut Slab<Place>,
+    alloc: Global,
+    at: usize,
+    name: Name,
+    node: Node,
+) -> Result<(), AllocError>
+    requires { is_some (nodes_of nodes.old at) ≡ true }
+    ensures ok { OnOk result (NodeAdded nodes.old nodes.new at name node) }
+    ensures err { OnErr result (SameGraph nodes.old nodes.new) }
+{
+    let key = nodes.insert(Place {
+        node,
+        children: BTreeMap::new(alloc),
+    })?;
+    match link(nodes, at, name, key) {
+        Ok(()) => Ok(()),
+        Err(error) => {
+            nodes.try_remove(key);
+            Err(error)
+        }
+    }
+}
+
+/// Moves an edge.
+pub fn move_edge(
+    nodes: &mut Slab<Place>,
+    from: usize,
+    from_name: &Name,
+    key: usize,
+    at: usize,
+    name: Name,
+) -> Result<(), AllocError>
+    requires { is_some (nodes_of nodes.old at) ≡ true }
+    ensures ok { OnOk result (EdgeMoved nodes.old nodes.new from from_name.now key at name) }
+    ensures err { OnErr result (SameGraph nodes.old nodes.new) }
+{
+    link(nodes, at, name, key)?;
+    unlink(nodes, from, from_name);
+    Ok(())
+}
+
+/// Adds bytes at the end of the file at a node.
+pub fn append_at(nodes: &mut Slab<Place>, key: usize, more: &[u8]) -> Result<(), AllocError>
+    ensures ok { OnOk result (NodeChanged nodes.old nodes.new key (appended more.now)) }
+    ensures err { OnErr result (SameGraph nodes.old nodes.new) }
+{
+    match nodes.get_mut(key) {
+        Some(place) => {
+            place.node.append(more)?;
+            Ok(())
+        }
+        None => Ok(()),
+    }
+}
+
+/// Closes the file at a node.
+pub fn close_at(nodes: &mut Slab<Place>, key: usize)
+    ensures { NodeChanged nodes.old nodes.new key closed_of }
+{
+    if let Some(place) = nodes.get_mut(key) {
+        place.node.close();
+    }
+}
+
+/// A node with no edges alone: a directory.
+pub fn root_alone(alloc: Global) -> Result<(Slab<Place>, usize), AllocError>
+    ensures { IfOk result (λ made. IsTold (edges_of made.0) (nodes_of made.0) made.1 (map.insert map.empty [] Node.Dir)) }
+{
+    let mut nodes = Slab::new(alloc);
+    let root = nodes.insert(Place {
+        node: Node::Dir,
+        children: BTreeMap::new(alloc),
+    })?;
+    Ok((nodes, root))
+}
+
+/// Takes out an edge, and the node to which it leads.
+pub fn cut(nodes: &mut Slab<Place>, at: usize, name: &Name, key: usize)
+    ensures { NodeCut nodes.old nodes.new at name.now key }
+{
+    unlink(nodes, at, name);
+    nodes.try_remove(key);
+}
+
+/// The node to which the edge leads whose name comes first.
+pub fn first_child(nodes: &Slab<Place>, at: usize) -> Option<usize>
+    ensures { result ≡ option_map (λ e. e.1) (first_edge nodes.now at) }
+{
+    match nodes.get(at) {
+        Some(place) => place.children.first_key_value().map(|(_, key)| *key),
+        None => None,
+    }
+}
+
+// Takes out the edge whose name comes first.
+fn unlink_first(nodes: &mut Slab<Place>, at: usize) -> Option<usize>
+    ensures { MatchOption result (first_edge nodes.old at ≡ None) (λ key. (name : List ℕ) × (first_edge nodes.old at ≡ Some (name, key)) × EdgeSet nodes.old nodes.new at name None) }
+{
+    match nodes.get_mut(at) {
+        Some(place) => match place.children.pop_first() {
+            Some((_name, key)) => Some(key),
+            None => None,
+        },
+        None => None,
+    }
+}
+
+/// Takes out the edge whose name comes first, and the node to which it leads.
+pub fn cut_first(nodes: &mut Slab<Place>, at: usize)
+    ensures { IfSome (first_edge nodes.old at) (λ e. NodeCut nodes.old nodes.new at e.0 e.1) }
+{
+    if let Some(key) = unlink_first(nodes, at) {
+        nodes.try_remove(key);
+    }
+}

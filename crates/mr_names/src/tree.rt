@@ -1,0 +1,159 @@
+ghost use Rattle.std.specs.Prelude.{◌≡◌, ◌+◌, ℕ, [], ◌∷◌, ◌++◌, IfOk, OnOk, OnErr, length, ◌<◌, ◌≤◌, ◌^◌, Some, None, is_some, true, false, IsTrue, take, drop};
+ghost use Rattle.std.specs.Prelude.{map as list_map};
+ghost use Rattle.std.specs.FinMap as map;
+ghost use Rattle.std.specs.Option.{option_copied};
+ghost use Rattle.mr_names.specs.Tree.{Held};
+ghost use Rattle.mr_names.specs.TreeProofs.{held_prop};
+ghost use Rattle.mr_names.specs.Content.{IsTree, without, renamed, changed_at, with_dirs};
+ghost use Rattle.mr_names.specs.Node.{appended, closed_of};
+ghost use Rattle.mr_names.specs.Laws.{MayRename};
+ghost use Rattle.mr_paths.specs.Path.{parent};
+
+use crate::links::{
+    add_node, append_at, child, close_at, cut, cut_first, find, first_child, move_edge, root_alone,
+};
+use crate::node::Node;
+use crate::place::Place;
+use mr_paths::Name;
+use slab::Slab;
+use std::alloc::{AllocError, Global};
+use std::marker::Model;
+
+/// Nodes by their paths.
+#[derive(Drop)]
+pub struct Tree {
+    nodes: Slab<Place>,
+    root: usize,
+    ghost held: { Held nodes root } by { held_prop nodes root },
+}
+
+impl Model for Tree {
+    ghost use Rattle.mr_names.specs.Content.{Content, content_code};
+
+    ghost Value = { Content };
+
+    ghost coded = { content_code };
+
+    ghost view = { λ t. t.held.0 };
+}
+
+impl Tree {
+    pub fn get(&self, names: &[Name]) -> Option<&Node>
+        ensures { option_copied result ≡ map.get self.now names.now }
+    {
+        let key = find(&self.nodes, self.root, names)?;
+        match self.nodes.get(key) {
+            Some(place) => Some(&place.node),
+            None => None,
+        }
+    }
+
+    /// Puts a node where nothing is, beneath a path at which something is.
+    pub fn insert(&mut self, alloc: Global, names: &[Name], node: Node) -> Result<(), AllocError>
+        requires free { map.get self.old names.now ≡ None }
+        requires above { is_some (map.get self.old (parent names.now)) ≡ true }
+        ensures ok { OnOk result (self.new ≡ map.insert self.old names.now node) }
+        ensures err { OnErr result (self.new ≡ self.old) }
+    {
+        let Some((name, above)) = names.split_last() else {
+            return Ok(());
+        };
+        let name = name.copy()?;
+        let Some(at) = find(&self.nodes, self.root, above) else {
+            return Ok(());
+        };
+        add_node(&mut self.nodes, alloc, at, name, node)?;
+        Ok(())
+    }
+
+    /// Moves what is at and beneath a path to a path where nothing is, beneath a directory: one edge.
+    pub fn rename(&mut self, from: &[Name], to: &[Name]) -> Result<(), AllocError>
+        requires { MayRename self.old from.now to.now }
+        ensures ok { OnOk result (self.new ≡ renamed from.now to.now self.old) }
+        ensures err { OnErr result (self.new ≡ self.old) }
+    {
+        let (Some((from_name, from_above)), Some((name, above))) = (
+            from.split_last(),
+            to.split_last(),
+        ) else {
+            return Ok(());
+        };
+        let name = name.copy()?;
+        let Some(from_at) = find(&self.nodes, self.root, from_above) else {
+            return Ok(());
+        };
+        let Some(key) = child(&self.nodes, from_at, from_name) else {
+            return Ok(());
+        };
+        let Some(at) = find(&self.nodes, self.root, above) else {
+            return Ok(());
+        };
+        move_edge(&mut self.nodes, from_at, from_name, key, at, name)?;
+        Ok(())
+    }
+
+    /// The root alone.
+    pub fn new(alloc: Global) -> Result<Tree, AllocError>
+        ensures { IfOk result (λ tree. tree ≡ map.insert map.empty [] Node.Dir) }
+    {
+        let (nodes, root) = root_alone(alloc)?;
+        Ok(Tree { nodes, root })
+    }
+
+    /// Adds bytes at the end of a file.
+    pub fn append(&mut self, names: &[Name], more: &[u8]) -> Result<(), AllocError>
+        ensures ok { OnOk result (self.new ≡ changed_at self.old names.now (appended more.now)) }
+        ensures err { OnErr result (self.new ≡ self.old) }
+    {
+        let Some(key) = find(&self.nodes, self.root, names) else {
+            return Ok(());
+        };
+        append_at(&mut self.nodes, key, more)?;
+        Ok(())
+    }
+
+    /// Closes a file.
+    pub fn close(&mut self, names: &[Name])
+        ensures { self.new ≡ changed_at self.old names.now closed_of }
+    {
+        if let Some(key) = find(&self.nodes, self.root, names) {
+            close_at(&mut self.nodes, key);
+        }
+    }
+
+    /// Takes out what is at and beneath a path, which is not the root: entry after entry, from below.
+    pub fn take_out(&mut self, top: &[Name])
+        requires { 0 < length top.now }
+        ensures { self.new ≡ without top.now self.old }
+    {
+        while self.take_leaf(top) {}
+    }
+
+    // Takes out an entry at or beneath a path that has no entries. False where nothing is at the path.
+    fn take_leaf(&mut self, top: &[Name]) -> bool
+        requires { 0 < length top.now }
+        ensures more { IsTrue result → (without top.now self.new ≡ without top.now self.old) × (map.len self.new < map.len self.old) }
+        ensures done { result ≡ false → self.new ≡ without top.now self.old }
+    {
+        let Some((name, above)) = top.split_last() else {
+            return false;
+        };
+        let Some(above) = find(&self.nodes, self.root, above) else {
+            return false;
+        };
+        let Some(key) = child(&self.nodes, above, name) else {
+            return false;
+        };
+        let Some(mut first) = first_child(&self.nodes, key) else {
+            cut(&mut self.nodes, above, name, key);
+            return true;
+        };
+        let mut at = key;
+        'down: while let Some(next) = first_child(&self.nodes, first) {
+            at = first;
+            first = next;
+        }
+        cut_first(&mut self.nodes, at);
+        true
+    }
+}
