@@ -6,3 +6,4 @@ pub mod Wholes
 pub mod Effects
 pub mod TaskLaws
 pub mod AbortLaws
+pub mod RecoveryLaws

@@ -102,10 +102,10 @@ three : (entries depth : ℕ) (dest : List (List ℕ)) (k : ℕ) (attempt : Atte
 unfolding most_calls
 three entries depth dest k attempt = refl
 
-record Replaced (from to : List (List ℕ)) (before after : Content) : Type 0 where
-  held : (rest : List (List ℕ)) → node_at after (to ++ rest) ≡ node_at before (from ++ rest)
-  gone : (rest : List (List ℕ)) → node_at after (from ++ rest) ≡ None
-  others : (path : List (List ℕ)) → within to path ≡ false → within from path ≡ false → node_at after path ≡ node_at before path
+pub record Replaced (from to : List (List ℕ)) (before after : Content) : Type 0 where
+  pub held : (rest : List (List ℕ)) → node_at after (to ++ rest) ≡ node_at before (from ++ rest)
+  pub gone : (rest : List (List ℕ)) → node_at after (from ++ rest) ≡ None
+  pub others : (path : List (List ℕ)) → within to path ≡ false → within from path ≡ false → node_at after path ≡ node_at before path
 
 -- the three calls, one after another
 task_run : (from to : List (List ℕ)) (s t : State) (caller : Caller) → run (suc (suc (suc zero))) (Needs from ∷ Clears to ∷ moves from to ∷ []) s caller ≡ (Ok tt, t)
@@ -121,7 +121,7 @@ task_run from to s t caller e =
     (not_refused (call_of s caller (op.Delete to)).1 caller (op.Rename from to) third, ap (λ p. p.1) e4)
 
 -- a delete and then a rename to where it deleted
-replacing : (from to : List (List ℕ)) (s t : State) (caller : Caller) → IsTree s.content → Diverge to from
+pub replacing : (from to : List (List ℕ)) (s t : State) (caller : Caller) → IsTree s.content → Diverge to from
     → refused (call_of s caller (op.Delete to)).1 caller (op.Rename from to) ≡ None → t ≡ (call_of (call_of s caller (op.Delete to)).1 caller (op.Rename from to)).1
     → Replaced from to s.content t.content
 replacing from to s t caller tree part passed is =

@@ -164,7 +164,7 @@ unheard_step line rest s caller why e = rw (unheard_call s caller (op_of line) w
     by_bar is = rw (is, fault_at-own line names.Barred refl) refl
 
 -- the fault of a caller that is not heard is told by the namespace's name
-told_by_name : (s : State) (caller : Caller) (why : NameFault) → unheard s caller ≡ Some why → fault_of why ≡ fault.Names why
+pub told_by_name : (s : State) (caller : Caller) (why : NameFault) → unheard s caller ≡ Some why → fault_of why ≡ fault.Names why
 told_by_name s caller why e = ⊎_elim (λ is. rw is refl) (λ is. rw is refl) (unheard-is s caller why e)
 
 pub effect_unheard : (line : Line) (rest : List Line) (s : State) (caller : Caller) (why : NameFault) → unheard s caller ≡ Some why → HasEffect (line ∷ rest) s caller (Err (fault_of why)) s

@@ -6,3 +6,4 @@ pub mod TableLine
 pub mod Settles
 pub mod Laws
 pub mod Recovery
+pub mod Recovered

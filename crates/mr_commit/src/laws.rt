@@ -1,5 +1,6 @@
 //! Laws of the definitions: these functions do nothing.
 ghost use Rattle.mr_commit.specs.Laws.{OneResult, WholeFormsEnd, TablesSettle, TaskCommits, AbortsLeave};
+ghost use Rattle.mr_commit.specs.Recovered.{TasksRecover};
 
 /// The steps of a table lead to one answer and one namespace.
 pub fn one_result()
@@ -22,4 +23,11 @@ pub fn task_commits()
 /// `_temporary` or beneath it, and nothing else changed. An abort that was not answered changes nothing.
 pub fn aborts_leave()
     ensures { AbortsLeave }
+{}
+
+/// After a task's recovery that was answered the committed path holds what the newest earlier generation had committed,
+/// of the recorded length where one is recorded, that generation holds nothing of the task, and nothing else changed.
+/// A fault changes nothing, and tells why: `OutputMissing`, `WrongLength`, or that the caller is not heard.
+pub fn task_recovers()
+    ensures { TasksRecover }
 {}
