@@ -39,7 +39,7 @@ if_both P false false x x' y y' e p q = q
 if_both P true false x x' y y' e p q = absurd (false≢true (sym e))
 if_both P false true x x' y y' e p q = absurd (false≢true e)
 
-eq-same : (a b : Attempt) → attempt_eq a b ≡ same_attempt a b
+pub eq-same : (a b : Attempt) → attempt_eq a b ≡ same_attempt a b
 unfolding task_eq same_attempt
 eq-same a b = refl
 
@@ -83,7 +83,7 @@ no-count p t (l ∷ ls) none = by (task_eq l.attempt.task t) refl (no-count p t 
     by true e rest = absurd (none l.attempt (task_eq-true l.attempt.task t e) (ap (λ b. is_some (if b then Some l else find_launched ls l.attempt)) (attempt_eq-refl l.attempt)))
     by false e rest = no-and (p l.attempt) (suc (count_on p t ls)) (count_on p t ls) ∙ rest
 
-apart : (t : TaskId) (a x : Attempt) → a.task ≡ t → task_eq x.task t ≡ false → attempt_eq a x ≡ false
+pub apart : (t : TaskId) (a x : Attempt) → a.task ≡ t → task_eq x.task t ≡ false → attempt_eq a x ≡ false
 apart t a x q f = attempt_ne a x (λ e. task_eq-false x.task t f (ap (λ (y : Attempt). y.task) (sym e) ∙ q))
 
 has-in : (t : TaskId) (xs : List Attempt) (a : Attempt) → a.task ≡ t → grant.has (attempts_in t xs) a ≡ has xs a
@@ -104,7 +104,7 @@ over-in t (x ∷ es) a q = by (task_eq x.attempt.task t) refl (over-in t es a q)
     by true e rest = let here = eq-same a x.attempt in λ i. sym here i || rest i
     by false e rest = rest ∙ ap (λ b. b || is_over es a) (sym (apart t a x.attempt q e))
 
-failures-in : (t : TaskId) (es : List Ending) (a : Attempt) → a.task ≡ t → failed_in (endings_in t es) ≡ failures es a
+pub failures-in : (t : TaskId) (es : List Ending) (a : Attempt) → a.task ≡ t → failed_in (endings_in t es) ≡ failures es a
 failures-in t [] a q = refl
 failures-in t (x ∷ es) a q = by (task_eq x.attempt.task t) (same) x.is_failure (failures-in t es a q)
   where
@@ -180,7 +180,7 @@ abbrev pub AgreesOf : TaskId → Seen → task.Seen → Type 0
 AgreesOf t s r = Agrees t s.launched s.asked s.ended s.accepted r.arrived r.accepted r.asked r.ended r.numbered
 
 module _ (t : TaskId) (s : Seen) (r : task.Seen) (o : AgreesOf t s r) where
-  over-agrees : (a : Attempt) → a.task ≡ t → task.is_over r.ended a ≡ is_over s.ended a
+  pub over-agrees : (a : Attempt) → a.task ≡ t → task.is_over r.ended a ≡ is_over s.ended a
   over-agrees a q = ap (λ es. task.is_over es a) o.ends ∙ over-in t s.ended a q
 
   -- of an attempt that this master did not launch nothing more is heard
@@ -200,7 +200,7 @@ module _ (t : TaskId) (s : Seen) (r : task.Seen) (o : AgreesOf t s r) where
       by true h = let p = o.arrived a q h in let u = o.accepted a q h in λ i. p i && (not (u i) && e i)
       by false h = foreign a z q h
 
-  live-agrees : (a : Attempt) → a.task ≡ t → task.is_live r a ≡ is_live s a
+  pub live-agrees : (a : Attempt) → a.task ≡ t → task.is_live r a ≡ is_live s a
   live-agrees a q = let e = over-agrees a q in own a _ _ q (λ i. not (e i))
 
   named-agrees : of_reduces t.kind ≡ true → task.named r ≡ named_in s.asked s.ended t
@@ -441,7 +441,7 @@ module _ (t : TaskId) (s : Seen) (r : task.Seen) (o : AgreesOf t s r) where
       by true e rest = let same = live-agrees l.attempt (task_eq-true l.attempt.task t e) in λ i. if same i && true then suc (rest i) else rest i
       by false e rest = no-and (task.is_live r l.attempt) _ _ ∙ (rest ∙ sym (no-and (is_live s l.attempt) _ _))
 
-  live-counts : count_by (task.is_live r) r.arrived ≡ live_count s t s.launched
+  pub live-counts : count_by (task.is_live r) r.arrived ≡ live_count s t s.launched
   live-counts = o.counts (task.is_live r) (λ a q there n. foreign a (not (task.is_over r.ended a)) q n) ∙ live-count s.launched
 
   -- ---- where it is known whether the task is won, what follows for maps and for launches
@@ -454,7 +454,7 @@ module _ (t : TaskId) (s : Seen) (r : task.Seen) (o : AgreesOf t s r) where
   by-map Map a e = refl
   by-map Reduce a e = absurd (false≢true (sym e))
 
-  map-accepts : of_reduces t.kind ≡ false → task.is_won r ≡ is_won s false t → (a : Attempt) → a.task ≡ t → task.may_accept r a ≡ may_accept s a
+  pub map-accepts : of_reduces t.kind ≡ false → task.is_won r ≡ is_won s false t → (a : Attempt) → a.task ≡ t → task.may_accept r a ≡ may_accept s a
   map-accepts k won a q = own a _ _ q (by-map a.task.kind a map ∙ ((λ i. not (over i) && not (won i)) ∙ shown (is_reduce a) map))
     where
       map : is_reduce a ≡ false

@@ -58,3 +58,5 @@ pub mod Living
 pub mod Failures
 pub mod Agree
 pub mod Wins
+pub mod Standing
+pub mod Maps

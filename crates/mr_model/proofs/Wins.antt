@@ -51,11 +51,11 @@ unlost t k (task_call.Loses b ∷ h) a = let o = unlost t k h a in if_cases (λ 
     lost m o true q e = ap (λ (x : Attempt). of_reduces x.task.kind) (same-is a b q) ∙ map b.task.kind m
     lost m o false q e = o e
 
-none-any : (p : Attempt → Bool) (xs : List Attempt) → ((x : Attempt) → p x ≡ false) → list_any p xs ≡ false
+pub none-any : (p : Attempt → Bool) (xs : List Attempt) → ((x : Attempt) → p x ≡ false) → list_any p xs ≡ false
 none-any p [] h = refl
 none-any p (x ∷ xs) h = let here = h x in let rest = none-any p xs h in λ i. here i || rest i
 
-in-any : (p : Attempt → Bool) (xs : List Attempt) (a : Attempt) → grant.has xs a ≡ true → p a ≡ true → list_any p xs ≡ true
+pub in-any : (p : Attempt → Bool) (xs : List Attempt) (a : Attempt) → grant.has xs a ≡ true → p a ≡ true → list_any p xs ≡ true
 in-any p [] a e h = absurd (false≢true e)
 in-any p (x ∷ xs) a e h = by (same_attempt a x) refl e (λ f. in-any p xs a f h)
   where
@@ -237,7 +237,7 @@ failing-late f tail (Append_record x) r = if_cases (λ q. is_running q ≡ false
 failing-late f tail Flush r = if_cases (λ q. is_running q ≡ false) (is_fine r) _ _ (λ t. refl) (λ t. refl)
 failing-late f tail Read_history r = refl
 
-starts-early : (k : ℕ) (s : Seen) (p : Phase) (call : Store) (r : Reply) → is_running (phase_told k s p call r) ≡ true → is_running p ≡ false → is_early p ≡ true
+pub starts-early : (k : ℕ) (s : Seen) (p : Phase) (call : Store) (r : Reply) → is_running (phase_told k s p call r) ≡ true → is_running p ≡ false → is_early p ≡ true
 unfolding phase_told
 starts-early k s (Opening n) call r e n' = refl
 starts-early k s Setting_up call r e n' = refl

@@ -12,7 +12,8 @@ use Rattle.mr_model.specs.World.{count_of}
 use Rattle.mr_model.specs.Effect.{live_count, task_fault}
 use Rattle.mr_model.specs.Claims.{In}
 use Rattle.mr_model.specs.Hearing.{Seen, Phase, Launched, Placed, Todo_winner, find_launched, find_container, has, has_container, is_over, is_live, may_accept, failures, is_won, named_in, is_running}
-use Rattle.mr_model.specs.Duties.{Master_step, Came, Launches, Expires, Asks, seen, is_fine, successes, newest_maps, attempts_of, phase_told, with_read, worked}
+use Rattle.mr_model.specs.Records.{Record}
+use Rattle.mr_model.specs.Duties.{rest_of, Master_step, Came, Launches, Expires, Asks, seen, is_fine, successes, newest_maps, attempts_of, phase_told, with_read, worked}
 
 abbrev pub Calls : Type 0
 Calls = TaskId → List TaskCall
@@ -148,3 +149,44 @@ pub record ReduceAgrees (k : ℕ) (s : Seen) (t : TaskId) (r : task.Seen) : Type
 abbrev pub CallsAgree : Type 0
 CallsAgree = (cfg : Config) (k : ℕ) (h : List Master_step) (t : TaskId) → of_reduces t.kind ≡ true → AllFit cfg k h
     → ReduceAgrees k (seen cfg k h) t (of_task cfg k h t)
+
+-- what is taken over: the job's maps, and winners of reduces
+pub record TakenHere (cfg : Config) (s : Seen) : Type 0 where
+  pub maps : (a : Attempt) → In a (attempts_of (newest_maps s.known s.history [])) → a.task.job ≡ cfg.job
+  pub winners : (a : Attempt) → In a (winning s.winners) → is_reduce a ≡ true
+
+-- the record that is appended is the first that is due
+abbrev pub AppendsDue : List Record → Store → Type 0
+AppendsDue due (Append_record r) = due ≡ r ∷ rest_of due
+AppendsDue due Flush = Unit {0}
+AppendsDue due (Names op) = Unit {0}
+AppendsDue due Read_history = Unit {0}
+
+-- each launch is of a task of the job
+abbrev pub IsOfJob : Config → ℕ → Seen → Master_step → Type 0
+IsOfJob cfg k s (Launches l) = l.attempt.task.job ≡ cfg.job
+IsOfJob cfg k s (Asks call r) = AppendsDue s.due call × TakenHere cfg (with_read cfg (if is_fine r then worked s call else s) call r)
+IsOfJob cfg k s (Came p) = Unit {0}
+IsOfJob cfg k s (Expires n) = Unit {0}
+
+abbrev pub AllOfJob : Config → ℕ → List Master_step → Type 0
+AllOfJob cfg k [] = Unit {0}
+AllOfJob cfg k (x ∷ h) = IsOfJob cfg k (seen cfg k h) x × AllOfJob cfg k h
+
+-- What is read off a map's calls is what is read off the master's past: as for a reduce, with what stands and what is recorded in place
+-- of who is named.
+pub record MapAgrees (k : ℕ) (s : Seen) (t : TaskId) (r : task.Seen) : Type 0 where
+  pub over : (a : Attempt) → a.task ≡ t → task.is_over r.ended a ≡ is_over s.ended a
+  pub live : (a : Attempt) → a.task ≡ t → task.is_live r a ≡ is_live s a
+  pub accepted : (a : Attempt) → a.task ≡ t → is_launched s a ≡ true → grant.has r.accepted a ≡ has s.accepted a
+  pub accepts : (a : Attempt) → a.task ≡ t → task.may_accept r a ≡ may_accept s a
+  pub next : task.next_attempt t k r ≡ record { task = t; number = 1000 * (k - 1) + count_of s.launched t }
+  pub live_ones : count_by (task.is_live r) r.arrived ≡ live_count s t s.launched
+  pub won : task.is_won r ≡ is_won s false t
+  pub failures : (a : Attempt) → a.task ≡ t → task.failures r ≡ failures s.ended a
+  pub stands : (a : Attempt) → a.task ≡ t → task.stands r a ≡ has (attempts_of s.standing) a
+  pub recorded : (a : Attempt) → a.task ≡ t → grant.has r.recorded a ≡ has s.recorded a
+
+abbrev pub MapCallsAgree : Type 0
+MapCallsAgree = (cfg : Config) (k : ℕ) (h : List Master_step) (t : TaskId) → of_reduces t.kind ≡ false → t.job ≡ cfg.job → AllFit cfg k h → AllOfJob cfg k h
+    → MapAgrees k (seen cfg k h) t (of_task cfg k h t)

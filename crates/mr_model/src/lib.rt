@@ -6,7 +6,7 @@ ghost use Rattle.mr_model.specs.Claims.{Limits, WinnerStays, NodesAreToldTheWinn
 ghost use Rattle.mr_model.specs.Claims.{OneAttemptIsRecorded, OneContainerWasToldYes, CommittedFileIsTheWinners, PublishedFilesAreTheWinners, OneWholeOutput, LengthsAreRight};
 ghost use Rattle.mr_model.specs.Laws.{PathsAreTheLayouts, StoresAreTheModels, AppendedRecordsFit, MastersAreRaised};
 ghost use Rattle.mr_model.specs.Packets.{Config};
-ghost use Rattle.mr_model.specs.Calls.{CallsAgree};
+ghost use Rattle.mr_model.specs.Calls.{CallsAgree, MapCallsAgree};
 ghost use Rattle.mr_model.specs.Sequential.{Job, JobLaws, BoundsOutputs, WholeIsSequential, MarkedFilesAreSequential};
 
 // The headline
@@ -109,7 +109,9 @@ pub fn masters_are_raised()
     ensures { MastersAreRaised }
 {}
 
-/// What is read off the calls that a reduce's machine gets is what is read off the master's past.
+/// What is read off the calls that a reduce's machine gets is what is read off the master's past. So it is of a map's, where all maps are
+/// the job's and the record that is appended is the first that is due: also which attempts stand and which are recorded.
 pub fn calls_agree()
     ensures agree { CallsAgree }
+    ensures maps { MapCallsAgree }
 {}
