@@ -19,6 +19,6 @@ mod submission;
 
 pub use fault::{JobTextFault, SimFault};
 pub use job_text::read_job_text;
-pub use laws::{one_first_bad, one_reading, one_seq_text, read_or_bad};
+pub use laws::{one_first_bad, one_reading, one_seq_text, printed_or_refused, read_or_bad};
 pub use subcommand::{Command, run};
 pub use submission::{JobKind, PlanAct, PlanFault, PlanFaults, Splits, Submission};

@@ -27,7 +27,12 @@ Reads a script from standard input, one command a line:
   write A TEXT    the reduce attempt A writes TEXT and a line feed as its part file
   needs A         tells whether the attempt A has output to be committed
   commit A        commits the attempt A as its task's output
+  abort A         deletes what the attempt A wrote
+  recover T [B]   takes over what the newest earlier generation committed of the task T, if its part file has B bytes
   commitjob       commits the job: publishes what was committed, and the marker _SUCCESS
+  abortjob        deletes what is temporary
+  bar A           bars the attempt A: from here on each call made for it is refused
+  by A, by none   the calls from here on are made for the attempt A, or for none (at first none)
 Writes a line for each refused command and each `needs`, and then each path with its length.
 
 Example:
@@ -43,11 +48,13 @@ prints
 const HISTORY: &str = "Prints the records of one segment of a job history";
 
 const HISTORY_HELP: &str = "\
-Reads the bytes of one segment from standard input: records as compact JSON, one a line.
+Reads the bytes of one segment from standard input: records as compact JSON, one a line. A segment
+of version 2 begins with {\"version\":2}, and tells the length of each reduce's part file.
 Writes a line for each record of a whole line, in order:
+  version 2                        the segment is of version 2 (of version 1 there is no such line)
   started A node N                 the attempt A was launched on node N
   map A node N incarnation I       the map attempt A succeeded, its output lies on node N
-  reduce A                         the reduce attempt A succeeded
+  reduce A [bytes B]               the reduce attempt A succeeded, in version 2 with a part file of B bytes
   failed A                         the attempt A failed
   unsuccessful                     the job failed
 and last `torn B`: the B bytes behind the last line feed, which are no record.
