@@ -297,7 +297,7 @@ fn bad_command(rt: HostRuntime) -> Result<(), Fail> {
     let second = SimFault::BadCommand(2);
     let a = b"setup\nwrte attempt_200707121733_0003_r_000000_0 x";
     refuses(&rt, a, second)?;
-    let first_lines: [&[u8]; 22] = [
+    let first_lines: [&[u8]; 26] = [
         b"as 01",
         b"as 0",
         b"as 1001",
