@@ -1,6 +1,6 @@
 use mr_commit::{
-    CommitFault, CommitJob, CommitTask, SetupJob, StepDone, check_output, commit_job, commit_task,
-    needs_task_commit, setup_job,
+    AbortJob, AbortTask, CommitFault, CommitJob, CommitTask, RecoverTask, SetupJob, StepDone,
+    check_output, commit_job, commit_task, needs_task_commit, setup_job,
 };
 use mr_ids::{AppAttempt, AttemptId, JobId, TaskId, TaskKind};
 use mr_names::{Caller, Kind, NameFault, Namespace};
@@ -233,4 +233,77 @@ fn committed_and_checked(rt: HostRuntime) {
     assert!(rt; commit_task(&mut names, *caller, &layout, a) == Err(late));
     assert!(rt; prints(&rt, alloc, late, "Superseded 2"));
     assert!(rt; prints(&rt, alloc, CommitFault::OutputMissing, "OutputMissing"));
+}
+
+// A namespace in which the job of generation 1 was set up.
+fn job_set_up(rt: &impl Abort, alloc: Global, caller: &Caller, layout: &Layout) -> Namespace {
+    let mut names = new_namespace(rt, alloc);
+    assert!(rt; told(rt, setup_job(&mut names, *caller, layout)) == Ok(()));
+    names
+}
+
+#[test]
+fn task_abort_by_steps(rt: HostRuntime) {
+    let alloc = rt.alloc();
+    let app = generation(&rt, 1);
+    let caller = &Caller { app, attempt: None };
+    let layout = out(&rt, alloc);
+    let mut names = job_set_up(&rt, alloc, caller, &layout);
+    let written = "/out/_temporary/1/_temporary/attempt_200707121733_0003_r_000000_0";
+    prepared(&rt, names.mkdirs(*caller, &path(&rt, alloc, written)));
+    let mut again = made(&rt, AbortTask::new(&layout, app, attempt(&rt)));
+    let mut step = made(&rt, again.copy());
+    let Some(call) = step.call() else {
+        panic!(rt; "over");
+    };
+    let answer = names.perform(*caller, call);
+    assert!(rt; told(&rt, step.took(answer)) == Ok(StepDone::Finished));
+    assert!(rt; stands(&rt, alloc, &names, *caller, written) == None);
+    assert!(rt; told(&rt, again.next(&mut names, *caller)) == Ok(StepDone::Finished));
+    assert!(rt; told(&rt, again.next(&mut names, *caller)) == Err(CommitFault::Over));
+}
+
+#[test]
+fn job_abort_by_steps(rt: HostRuntime) {
+    let alloc = rt.alloc();
+    let app = generation(&rt, 1);
+    let caller = &Caller { app, attempt: None };
+    let layout = out(&rt, alloc);
+    let mut names = job_set_up(&rt, alloc, caller, &layout);
+    let mut again = made(&rt, AbortJob::new(&layout));
+    let mut step = made(&rt, again.copy());
+    let Some(call) = step.call() else {
+        panic!(rt; "over");
+    };
+    let answer = names.perform(*caller, call);
+    assert!(rt; told(&rt, step.took(answer)) == Ok(StepDone::Finished));
+    assert!(rt; stands(&rt, alloc, &names, *caller, "/out/_temporary") == None);
+    assert!(rt; told(&rt, again.next(&mut names, *caller)) == Ok(StepDone::Finished));
+}
+
+#[test]
+fn recovery_by_steps(rt: HostRuntime) {
+    let alloc = rt.alloc();
+    let first = generation(&rt, 1);
+    let app = generation(&rt, 2);
+    let caller = &Caller { app, attempt: None };
+    let layout = out(&rt, alloc);
+    let mut names = job_set_up(&rt, alloc, caller, &layout);
+    let committed = "/out/_temporary/1/task_200707121733_0003_r_000000";
+    prepared(&rt, names.mkdirs(*caller, &path(&rt, alloc, committed)));
+    let recovery = made(&rt, RecoverTask::new(&layout, app, TASK, None));
+    let mut step = made(&rt, recovery.copy());
+    let Some(call) = step.call() else {
+        panic!(rt; "over");
+    };
+    let answer = names.perform(*caller, call);
+    assert!(rt; told(&rt, step.took(answer)) == Ok(StepDone::More));
+    assert!(rt; told(&rt, step.next(&mut names, *caller)) == Ok(StepDone::More));
+    assert!(rt; told(&rt, step.next(&mut names, *caller)) == Ok(StepDone::Finished));
+    assert!(rt; stands(&rt, alloc, &names, *caller, committed) == None);
+    let recovered = "/out/_temporary/2/task_200707121733_0003_r_000000";
+    assert!(rt; stands(&rt, alloc, &names, *caller, recovered) == Some(Kind::Dir));
+    let mut nothing = made(&rt, RecoverTask::new(&layout, first, TASK, None));
+    assert!(rt; nothing.call().is_none());
+    assert!(rt; told(&rt, nothing.next(&mut names, *caller)) == Err(CommitFault::OutputMissing));
 }
