@@ -1,4 +1,36 @@
 //! The machine of one task attempt: which state each event leads to.
+//!
+//! # How to begin
+//!
+//! ```rust
+//! fn killed_attempt(attempt: AttemptId) -> AttemptState {
+//!     let mut machine = AttemptMachine::new(attempt);
+//!     for event in [
+//!         AttemptEvent::Launch,
+//!         AttemptEvent::Heard,
+//!         AttemptEvent::Kill,
+//!         AttemptEvent::Done,
+//!     ] {
+//!         machine.on(event);
+//!     }
+//!     machine.state()
+//! }
+//! ```
+//!
+//! (It is run in `crates/tests_guides`.)
+//!
+//! # What is proved
+//!
+//! - **`AttemptMachine::on`** is exactly the table of docs/MODEL.md (`moved`, `reaction`): where the table has a
+//!   next state for the event, the attempt is in it and the answer is `Moved`; else nothing changes and the answer
+//!   is `Ignored`. It takes no memory. `AttemptState::next` is the table itself, for a program that asks without
+//!   moving. `new` is in `New`, `copy` is equal, `attempt`, `state`, `is_live`, `is_won` and `is_over` are what
+//!   they say.
+//! - Laws, on functions that do nothing, for every list of events: an attempt that failed or was killed is never in
+//!   another state (`ends_are_final`); once `Done` was accepted a reduce's attempt is Recording or Succeeded for
+//!   good, a map's too or it is Killed by `Lost` (`wins`); only `Launch` makes an attempt live, and never again
+//!   once it is not (`lives`).
+//! - Proved: `{}` of a state prints its name. Only tested: three of the names, and what `{:?}` prints of an event.
 #![tactic(auto)]
 
 mod laws;

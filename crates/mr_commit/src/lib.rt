@@ -1,4 +1,75 @@
 //! The output committer, one call of the namespace at a time.
+//!
+//! # How to begin
+//!
+//! ```rust
+//! fn commit(
+//!     store: &mut Namespace,
+//!     caller: Caller,
+//!     step: &mut CommitTask,
+//!     most: u32,
+//! ) -> Result<StepDone, CommitFault> {
+//!     for _ in 0..most {
+//!         let Some(op) = step.call() else {
+//!             return Err(CommitFault::Over);
+//!         };
+//!         let answer = store.perform(caller, op); // or your own store
+//!         if step.took(answer)? == StepDone::Finished {
+//!             return Ok(StepDone::Finished);
+//!         }
+//!     }
+//!     Ok(StepDone::More)
+//! }
+//! ```
+//!
+//! (It is run in `crates/tests_guides`.)
+//!
+//! # What is proved
+//!
+//! The output committer of a job, one call of the namespace at a time. Six operations of Hadoop's `OutputCommitter`
+//! stand as step values, so that a machine, a driver or a crash can stop between any two calls: `SetupJob`,
+//! `CommitTask`, `AbortTask`, `RecoverTask`, `CommitJob`, `AbortJob`.
+//!
+//! What is proved, and by which contract:
+//!
+//! - **The next call, and nothing else.** `next` (clause `Steps`), `call` (`next_call`) and `took` (`Hears`) are
+//!   one definition: a step value is the list of lines of its table that are left; the first line has a call; its
+//!   answer puts the lines that follow in its place. `next` is `call`, `Namespace::perform` and `took` in one.
+//! - **Over is over.** After `Finished`, and after each fault but `NoMemory`, no line is left: the answer is `Over`
+//!   from then on and no call is made. After `NoMemory` the step value and the namespace are as before, and
+//!   `NoMemory` is answered only by a line that may want memory and whose call is not refused.
+//! - **`call` lends the operation and takes no memory.** Each line holds its call ready made. So `took` wants
+//!   memory only after `list` or `exists`, which change nothing; after a `delete`, `rename`, `mkdirs` or `create`
+//!   it only drops the line.
+//! - **Recovery.** `RecoverTask` looks at the earlier generations from the newest down to the first, and what it
+//!   finds takes the place of what this generation had committed; where a length was recorded, the part file is
+//!   read first: another length is `WrongLength`, no file there is `OutputMissing`, as is nothing found at all.
+//!   Generation 1 has no earlier one: `call` gives none, the first `next` answers `OutputMissing` without a call,
+//!   also to a caller that is superseded or barred, and then it is over (`next_of`, `StepsOf`, `HearsOf`; whole:
+//!   `RecoveryHas`, `RecoveryMade`).
+//! - **Whole forms** `setup_job`, `commit_task`, `abort_task`, `recover_task`, `commit_job`, `abort_job` end and
+//!   have the committer effect: for every answer but `NoMemory`, `whole table before caller ≡ (answer, after)`
+//!   (clause `effect`), and the same said as a path of steps (clause `made`); `NoMemory` leaves what the earlier
+//!   calls did, and comes in two places only: where the caller is neither superseded nor barred and the namespace
+//!   is as it was (no memory for the table's lines), or where the line that is next may want memory and its call is
+//!   not refused (`Commits`).
+//! - `needs_task_commit` and `check_output` are their one `exists`; `check_output` takes no memory.
+//! - `copy` of each step value is an equal value.
+//! - **Laws**: steps lead to one answer and one namespace (`one_result`); whole forms end, and the tables meet the
+//!   condition for it (`whole_forms_end`); after a task commit that was answered the committed path holds what the
+//!   attempt path held, the attempt path holds nothing, nothing else changed, and the fence is as before
+//!   (`task_commits`). After a task's abort that was answered nothing is at the attempt path or beneath it, after a
+//!   job's abort nothing at `$dest/_temporary` or beneath it; no other path differs, fence and barred attempts are
+//!   as before; an abort that was not answered changes nothing (`aborts_leave`). After a recovery that was answered
+//!   the committed path of this generation and every path beneath it hold what the newest earlier generation with
+//!   committed output held there, that one holds nothing of the task any more, no other path differs, fence and
+//!   barred attempts are as before, and where a length was recorded the part file has it; `OutputMissing` says that
+//!   no earlier generation committed output, or that a length is recorded and the newest one has no part file;
+//!   `WrongLength` that its part file has another length; a superseded or barred caller is refused, but in
+//!   generation 1; and each fault leaves the namespace as it was (`task_recovers`, of the committer effect, so want
+//!   of memory aside).
+//!
+//! Only tested: that memory suffices where there is plenty; the printed text of two faults.
 #![tactic(auto)]
 
 mod abort;

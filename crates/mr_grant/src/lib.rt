@@ -1,4 +1,32 @@
 //! Permission to commit a task: one attempt at a time has it, the one that asked first.
+//!
+//! # How to begin
+//!
+//! ```rust
+//! fn passes_on(alloc: Global, first: AttemptId, second: AttemptId) -> Result<bool, AllocError> {
+//!     let mut grant = Grant::new(alloc);
+//!     grant.pending(first)?;
+//!     grant.pending(second)?;
+//!     let kept_waiting = grant.can_commit(first) && !grant.can_commit(second);
+//!     grant.release(first);
+//!     Ok(kept_waiting && grant.can_commit(second))
+//! }
+//! ```
+//!
+//! (It is run in `crates/tests_guides`.)
+//!
+//! # What is proved
+//!
+//! - **`Grant`** is the attempts that are kept, in order of arrival, and whether it is fixed; each call is an
+//!   equation on that. `can_commit` is yes exactly for the first of those kept; `pending` adds an attempt as the
+//!   last if it is not there, wants memory only then, and where it is refused has changed nothing; `release` takes
+//!   an attempt out exactly where the grant is not fixed; `fix` tells whether the attempt is the first, and if so
+//!   the grant is fixed from then on. `can_commit`, `release`, `fix`, `first`, `attempts`, `is_fixed` and `new`
+//!   take no memory. Each attempt is kept once; `copy` is equal.
+//! - Laws, on functions that do nothing, for every list of calls: who is first stays first until it is released
+//!   itself (`first_stays`); a fixed grant stays fixed and its first is the first for good (`fixed_stays`); yes is
+//!   for one attempt at a time (`one_is_first`); the test for one attempt is equality (`same_attempts`).
+//! - Only tested: that `pending` and `copy` succeed with ample memory.
 #![tactic(auto)]
 
 mod grant;

@@ -4,6 +4,36 @@
 //! Each has one text, which Hadoop MapReduce prints and puts into paths. It is written, and read
 //! back as nothing else. The ranges of the numbers are our own, and so is it that no other
 //! spelling is read.
+//!
+//! # How to begin
+//!
+//! ```rust
+//! fn launched_by(text: &str) -> Result<(TaskId, AppAttempt), IdFault> {
+//!     let attempt = AttemptId::parse(text)?;
+//!     Ok((attempt.task(), attempt.generation()))
+//! }
+//! ```
+//!
+//! (It is run in `crates/tests_guides`.)
+//!
+//! # What is proved
+//!
+//! **mr_ids, identifiers.** `JobId`, `TaskKind`, `TaskId`, `AttemptId`, `AppAttempt`, `IdFault`. A value out of
+//! range can't be made: the numbers' types bound them, `AttemptId::new` and `AppAttempt::new` test, and both have
+//! private fields.
+//! - Each identifier has one text (`job_200707121733_0003`, `task_200707121733_0003_m_000005`,
+//!   `attempt_200707121733_0003_m_000005_0`, a generation's decimal). Proved: `write` appends exactly it, and where
+//!   memory is refused appends nothing; `{}` prints exactly it; `parse` and `text.parse()` answer v exactly where
+//!   the text is v's text, and else the first fault from the left, which is a function of the fields between the
+//!   bars. `parse` takes no memory.
+//! - Proved: `generation` is number / 1000 + 1; `new`, `task` and `number` are what they say; `==`, the order and
+//!   the hash are those of the parts (derived).
+//! - Proved laws, on functions that do nothing, for the layers above: no two identifiers have one text, of one kind
+//!   or of different kinds (`texts_are_distinct`); a numeral is of one number alone (`numerals_are_distinct`); a
+//!   text has only letters, digits and bars, and at most 35, 49 or 59 bytes (`texts_are_plain`, and beside each
+//!   `write`); a numeral has only digits, at least its width and no more than its number needs
+//!   (`numerals_are_digits`); the ranges of each identifier's numbers (`ranges`).
+//! - Only tested: the texts of the faults, what `{:?}` prints, and that the calls succeed with ample memory.
 #![tactic(auto)]
 
 mod display;

@@ -1,4 +1,39 @@
 //! The map side: a split's pairs, sorted, grouped and combined, as one block of bytes for each reduce.
+//!
+//! # How to begin
+//!
+//! ```rust
+//! fn first_block(alloc: Global, text: &[u8]) -> Result<usize, WorkFault> {
+//!     if text.len() > MAX_SPLIT_LEN {
+//!         return Err(WorkFault::Full);
+//!     }
+//!     let output = map_work(alloc, &WordCount, &OpenGate, 0, text, 2)?;
+//!     match blocks(output.bytes(), 2) {
+//!         Some(all) => Ok(all.get(0).map_or(0, |block| block.len())),
+//!         None => Ok(0), // never so: an output is cut into its blocks
+//!     }
+//! }
+//! ```
+//!
+//! (It is run in `crates/tests_guides`.)
+//!
+//! # What is proved
+//!
+//! - **`map_work`**: proved that Ok is exactly the map's output (for each reduce, in order, the length of its block
+//!   in 4 bytes and the block: the pairs of the keys that go to that reduce, rising, each key's values combined),
+//!   of at most 2^24 bytes; that `User(Refused)` is answered only where the job refuses a line of the split, and
+//!   never another `User`; `Full` only where the output's bytes pass 2^24; `Shuffle` never.
+//! - **`blocks`** cuts bytes into so many blocks and takes no memory: some exactly where the bytes are so many
+//!   blocks behind their lengths and nothing else, and then it is those. `OutputBlocks::get` is the block at a
+//!   place, `count` how many there are.
+//! - `CutOutput` is an output with the places of its blocks: `new` finds them, `block` lends the block at a place
+//!   exactly where the bytes are as many blocks as are asked for, and takes no memory.
+//! - `MapOutput` is a list of at most 2^24 bytes, made from a `Vec` and given back without memory; `copy` is equal.
+//! - Laws, on functions that do nothing: bytes are blocks behind their lengths in one way alone (`blocks_are_one`);
+//!   for every job, a map's output is cut into exactly the blocks that the map hands to the reduces
+//!   (`output_is_its_blocks`).
+//! - Only tested: that the gate is entered, that the calls succeed with ample memory, the bytes of one output, and
+//!   an output above the limit.
 #![tactic(auto)]
 
 mod cut_output;

@@ -1,5 +1,36 @@
 //! The cluster as definitions (in `specs/`, in the order of `specs/Lib.antt`), and what holds over every list of its events: each law stands on a
 //! function that does nothing. `config` is the job and its limits. `within` is any test that may refuse any event, as the limits of a world do.
+//!
+//! # What is proved
+//!
+//! The cluster as definitions (`crates/mr_model/specs/`, 2,400 lines, in a reader's order), and what holds over
+//! **every list of events**: deliveries, losses, repeats and reorderings of packets, containers that die,
+//! nodes that restart or are given up, masters that crash and start, store calls that are lost or whose answers are
+//! lost. There is no code in these crates: each law is the contract of a function that does nothing. **It is a
+//! theorem about the definitions, not yet about running code.** Its premises are none, but for sequential files.
+//! Proved:
+//!
+//! - the headline: `the_winner_stays`, `nodes_are_told_the_winner`, `a_marker_means_whole_files`,
+//!   `a_marker_is_final`, `sequential_files`, `one_outcome`, `recovery_finds_the_winners`,
+//!   `a_wrong_suspicion_does_no_harm` (expiries are events of
+//!   the same lists, so all laws hold over them); for each job of `mr_user`, sequential files with no premise but
+//!   the limits on splits and map outputs: `files_of_jobs_are_sequential` (`mr_sequential`);
+//! - the facts beneath it: `one_attempt_is_recorded`, `one_container_was_told_yes`,
+//!   `the_committed_file_is_the_winners`, `the_published_files_are_the_winners`, `an_attempt_has_one_whole_output`,
+//!   `recorded_lengths_are_right`;
+//! - what ties the definitions to the crates beneath: paths are the layout's (`paths_are_the_layouts`); each call
+//!   of the namespace, for callers with and without an attempt, and of the history, in both versions, is answered
+//!   as the definitions say and leaves what they say
+//!   (`stores_are_the_models`); whatever a master appends has a line in each version (`appended_records_fit`); a
+//!   living master was raised to (`masters_are_raised`); what is read off the calls of a task's machine (`mr_task`)
+//!   is what is read off the master's
+//!   past (`calls_agree`: clause `agree` for reduces; clause `maps` for the maps of the job, also which attempts
+//!   stand and which are recorded). Its premises say that each step fits; that all steps of a run do is not proved
+//!   yet (docs/PROOFS.md).
+//!
+//! What each word means: [docs/MODEL.md](../../../docs/MODEL.md). Why it holds:
+//! [docs/INVARIANT.md](../../../docs/INVARIANT.md). Neither proved nor claimed: that any machine of this repository
+//! is one of these containers, nodes or masters.
 #![tactic(auto)]
 
 ghost use Rattle.mr_model.specs.Claims.{Limits, WinnerStays, NodesAreToldTheWinner, MarkerMeansWholeFiles, MarkerIsFinal, OneOutcome, RecoveryFindsTheWinners, WrongSuspicionDoesNoHarm};

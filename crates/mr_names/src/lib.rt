@@ -1,4 +1,64 @@
 //! The namespace: directories and files by their paths.
+//!
+//! # How to begin
+//!
+//! ```rust
+//! fn move_directory(
+//!     names: &mut Namespace,
+//!     caller: &Caller,
+//!     from: &Path,
+//!     file: &Path,
+//!     to: &Path,
+//! ) -> Result<(), NameFault> {
+//!     names.mkdirs(*caller, from)?;
+//!     names.create(*caller, file, false)?;
+//!     names.append(*caller, file, b"abc\n")?;
+//!     names.close(*caller, file)?;
+//!     names.rename(*caller, from, to)
+//! }
+//! ```
+//!
+//! (It is run in `crates/tests_guides`.)
+//!
+//! # What is proved
+//!
+//! **The namespace (`mr_names`).** Proved, for each call, by name (`mkdirs`, `create`, `append`, `close`, `delete`,
+//! `rename`, `list`, `exists`, `read`, `bar`) and as a value (`perform`):
+//!
+//! - it answers and leaves exactly what the definition `call_of` says (contracts `Makes`, and `MakesAlways` for
+//!   calls that never want memory): the fence first (`Superseded`), then whether the caller's attempt is barred
+//!   (`Barred`), reads and bars too, then the call's own refusals in the written order, then `Full` exactly where
+//!   the call would pass 65,536 entries without the root, 2^24 bytes of a file or 100,000 barred attempts, and
+//!   `NoMemory` last;
+//! - a refusal changes nothing, want of memory included; `mkdirs` makes all that is missing or nothing, `rename`
+//!   moves the whole subtree or nothing;
+//! - `foresee` tells exactly the refusal that the call would meet, want of memory aside; `raise` makes the fence
+//!   the greater of the two and keeps the content and the barred attempts;
+//! - the barred attempts are a finite set, kept for good: `bar` adds one and changes no content, nothing takes one
+//!   out, and of one that is there a `bar` wants no memory and does nothing (clause `there`); looking a caller up
+//!   takes no memory (`check_caller`, `is_barred`);
+//! - `raise`, `fence`, `foresee`, `is_barred`, `check_caller`, `exists`, `close`, `delete` never answer `NoMemory`
+//!   (also `perform` of those three: its clause `always`);
+//! - each namespace's content is a tree (the root is a directory, and so is the parent of each other entry), its
+//!   fence is at most 1,000, and at most 100,000 attempts are barred (`fence`, clause `sound`).
+//!
+//! Laws that follow from the definition alone stand on functions with empty bodies (`each_path`, `others_stay`,
+//! `stays_tree`, `answered`, `settles`, `bars_stay`, `listings`, `runs`, `rename_moves`, `delete_takes_out`): what
+//! each path holds after each call that is answered; that a call leaves as it was whatever it does not name; that
+//! only `mkdirs`, `create` and `rename` put something where nothing was, only `delete` and `rename` take something
+//! away, and a closed file keeps its bytes; when exactly a call is answered; that a caller below the fence, or
+//! whose attempt is barred, is refused whatever it asks, that any two callers that are neither are answered alike;
+//! that the barred attempts only grow, and only by `bar`, and that from a `bar` that was answered on, whoever
+//! called or raised the fence in between, each call of a caller with that attempt is refused `Superseded` or
+//! `Barred` and changes nothing; that a listing has exactly what is directly beneath its path, each name once, by
+//! its bytes; and three runs of calls with their answers, computed.
+//!
+//! Only tested: that the calls succeed with ample memory, and those runs on the built code
+//! (`crates/tests_base/src/names.rt`). Neither: speed, stack depth (`mkdirs` recurses once for each name of its
+//! path).
+//!
+//! A second body of the content, a directory tree over a slab (`src/tree.rt`, `src/links.rt`), is there and not in
+//! use: its private calls are proved, and the namespace stands on an ordered map of paths.
 #![tactic(auto)]
 
 mod barred;

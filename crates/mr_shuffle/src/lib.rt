@@ -1,4 +1,57 @@
 //! The shuffle: the blocks of all maps for one reduce, merged by key and reduced to its text.
+//!
+//! # How to begin
+//!
+//! ```rust
+//! fn reduced(alloc: Global, first: Vec<u8>, second: Vec<u8>) -> Result<Vec<u8>, WorkFault> {
+//!     let mut pieces = Vec::new(alloc);
+//!     for (map, bytes) in [(0, first), (1, second)] {
+//!         let bytes = PieceBytes::from_vec(bytes);
+//!         pieces.push(Piece {
+//!             map,
+//!             reduce: 0,
+//!             bytes,
+//!         })?;
+//!     }
+//!     reduce_work(alloc, &WordCount, &OpenGate, 0, &pieces)
+//! }
+//! ```
+//!
+//! (It is run in `crates/tests_guides`.)
+//!
+//! # What is proved
+//!
+//! Proved, for every `Job`:
+//!
+//! - *Shuffle gives the sequential text* (`shuffle_gives_sequential_text`, a function that does nothing): for at
+//!   most 1,000 splits of at most 2^24 bytes each, any number of reduces and any reduce r, the maps have blocks for
+//!   r exactly where the sequential execution has a text for r, and then the part of the blocks is that text.
+//!   `works_give_sequential_text` says it in the words of the calls: where `map_work` gives an output for each
+//!   split, and reduce r gets of each the block that `blocks` cuts at place r, then `reduce_work`'s text is the
+//!   sequential execution's.
+//! - `reduce_work`: Ok is exactly the part of the pieces (keys rising, each reduced with all its values by piece
+//!   and then by place), at most 2^24 bytes, and the pieces are those of maps 0, 1, 2, .. and of this reduce.
+//!   `Shuffle(WrongPiece)` only where some piece is not; else `Truncated` or `Disorder` only where that is the
+//!   first fault in the order of the pieces and then of the bytes; `Full` only where the part is a text of more
+//!   than 2^24 bytes; `User` and `Shuffle(NoMemory)` never; `NoMemory` only where the pieces are in place.
+//! - Of both works: `Gate` is answered only where the gate may refuse work of that kind (`Gate::refuses`, which a
+//!   gate may leave open); so `OpenGate` never causes it.
+//! - What a piece says, in whole lists (`piece_is_what_it_says`): Ok exactly where its bytes are pairs written one
+//!   after the other, all fitting, no key less than the one before it; `Truncated` exactly where such pairs are
+//!   followed by a rest, not empty, that does not begin with a pair that fits; `Disorder` exactly where they are
+//!   followed by a pair whose key is less than the last, and any rest.
+//! - `Merge`, an iterator: where all pieces can be read and are in order its items are exactly the groups of all
+//!   pairs, and then nothing; else, after some groups or none, one fault that one of the pieces has, and then
+//!   nothing. Each `next` gives the first of what is to come, or `NoMemory` (only where something is to come),
+//!   after which nothing comes.
+//! - `ShelfOfNode`: a finite map from attempts to bytes. `put` is an insert, and where memory is refused nothing
+//!   has changed; `drop_all` empties it; `get(a, r)` lends the block at place r of what was put of a, and is none
+//!   where nothing was put, where it is not that many blocks, or where there is no such reduce. `put` finds the
+//!   blocks, one walk over the output, and keeps their places (8 bytes a block, a growth that `put` answers for);
+//!   `get` is then a look-up and no walk (read in the code: no clause speaks of time). `copy` is an equal shelf.
+//!
+//! Only tested: that each work enters its gate, that calls succeed with ample memory, the bytes of the worked
+//! examples, every prefix and every change of a byte of a block, texts of exactly 2^24 bytes and of one more.
 #![tactic(auto)]
 
 mod laws;

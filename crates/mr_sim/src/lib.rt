@@ -1,4 +1,38 @@
 //! The simulator: what each subcommand of `mrsim` reads and prints.
+//!
+//! # What is proved
+//!
+//! **`run`, from the bytes that come in to the bytes that go out** (what is printed). Proved, for every reader and
+//! writer that tell their bytes:
+//!
+//! - where `run` answers Ok, the input has at most 2^24 bytes, and the writer holds what it held, then exactly what
+//!   the subcommand prints for what was read, and nothing else (clause `printed`; `Prints` has a case for each
+//!   subcommand: `committer` by the committer effect and the listing of what it leaves, `history` by the records of
+//!   the segment's whole lines and the number of torn bytes, `seq` by the sequential execution of the job that the
+//!   text submits: for each reduce, by rising name, `== `, the part file's name and length, and its bytes);
+//! - a fault about the input is one that the input has: `TooLong` only above 2^24 bytes, `BadCommand(n)` only where
+//!   line n is the first that is no command, `BadRecord(n)` only where whole line n is the first that is no record,
+//!   `Job(key)` only where that key is the first bad one of the job text (or the text is no JSON object), `Refused`
+//!   only where the job refuses a line of a split, `Write` only where there is a text to be written (clause
+//!   `fault`, by `Refuses`);
+//! - at every fault but `Write` the writer is as it was: a refused input writes nothing (clause `nothing`);
+//! - `run` returns for every reader: after at most 2^25 reads.
+//!
+//! Laws, each on a function of its own: a script has at most one reading (`one_reading`), is not both read and bad
+//! (`read_or_bad`), and has at most one first bad line (`one_first_bad`), and a job text has at most one print
+//! (`one_seq_text`); so each input has at most one text. No input is both printed and refused, by any subcommand:
+//! where there is a text for an input of at most 2^24 bytes, no fault of the clause `fault` but `NoMemory`, `Read`
+//! and `Write` is left (`printed_or_refused`). `SimFault::status` is exactly the table of statuses.
+//!
+//! **Job texts** (`read_job_text`): it answers exactly what the definition `submission_of` says of the bytes: the
+//! job that is submitted, or the first bad key in the order `id`, `job`, `reduces`, `splits`, `nodes`, `limit`,
+//! `faults`, or that there is no JSON object. The definition is a function of the value that `serde_json`'s own
+//! definition reads the text as, key by key. A job that is read is within the limits of docs/SEQ.md (clause
+//! `limits`).
+//!
+//! Only tested: the texts of `SimFault` (derived by thiserror), streams that fail at each place, 2^24 and 2^24 + 1
+//! bytes, a reader that is always interrupted, the examples. Of the program `mrsim`: its stored run, and tests of
+//! its command line (subcommands, help, refused words).
 #![tactic(auto)]
 
 mod committer;

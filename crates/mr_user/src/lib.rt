@@ -1,4 +1,45 @@
 //! What a job is, how its keys and values are written as bytes, three jobs, and a job's sequential execution.
+//!
+//! # How to begin
+//!
+//! ```rust
+//! fn count_words(alloc: Global, text: &[u8]) -> Result<Vec<Vec<u8>>, UserFault> {
+//!     let split = Vec::from_slice(alloc, text)?;
+//!     if split.len() > MAX_SPLIT_LEN {
+//!         return Err(UserFault::Refused);
+//!     }
+//!     sequential(alloc, &WordCount, &[split], 2)
+//! }
+//! ```
+//!
+//! (It is run in `crates/tests_guides`.)
+//!
+//! # What is proved
+//!
+//! - **A job** is a type with `map`, `partition`, `combine`, `reduce` and `key_text` (`trait Job`), over keys and
+//!   values that can be written as bytes (`trait Wire`). What the functions give is a ghost member that depends on
+//!   the type alone; each method is proved to give exactly that, want of memory aside. A job owes the *job laws*;
+//!   one that breaks them is not proved and so not built. docs/JOBS.md is for who writes one.
+//! - **Three jobs** are proved with all their laws: `WordCount`, `MaxByKey`, `LineIndex`.
+//! - **Forms**: `Text`, `u64` and `Position` are written as the tables of docs/MODEL.md say; what was written is
+//!   read again whatever follows; what is read fits and was written so; `read` answers `BadWire` exactly where the
+//!   bytes begin with no value.
+//! - `split_pairs`, `shares` and `text_of`, of which the sequential execution and the works of a cluster are made,
+//!   give exactly a split's pairs, the pairs of each reduce, and the text of a reduce's pairs.
+//! - **`sequential(alloc, job, splits, reduces)`** answers exactly the sequential execution: `reduces` files, file
+//!   r being `output reduces r splits`. `Refused` only where a line is refused (then no output exists), `NoMemory`
+//!   only from a refused growth. It sorts each reduce's pairs once: n log n comparisons for n pairs. Measured, not
+//!   proved: `mrsim seq` is no slower than tools/plain_seq.rs, a program with no proof (`tools/bench seq`; figures
+//!   in docs/PROOFS.md).
+//! - **`groups`**: the keys of pairs, rising, each once and with its values in order.
+//! - **Gates**: `trait Gate`, whose `refuses` says where it may refuse work of a kind (anywhere, if it does not say
+//!   it); `OpenGate` answers `Ok` at once and refuses nothing (proved).
+//! - Laws on functions that do nothing: `lines_are_pieces` (the lines are the pieces before each line feed and the
+//!   rest if not empty), `keys_rise` (the rising keys of a list are its own, each once, each less than the next),
+//!   `least_group_first` (the group of a least key comes first, with all its values in order, and then the groups
+//!   of the pairs of other keys: so the pairs of many sorted lists can be grouped one key at a time).
+//! - Only tested (crates/tests_jobs/src/user.rt): that the calls do succeed with ample memory; what the functions
+//!   of the three jobs give for small examples (worked job texts are tested through `seq`).
 #![tactic(auto)]
 
 mod execution;

@@ -1,0 +1,196 @@
+//! Each example, run once.
+
+use crate::{begin, stores};
+use mr_attempt::AttemptState;
+use mr_commit::{CommitTask, StepDone};
+use mr_container::{ContainerMachine, Place, Wish};
+use mr_history::{History, Record};
+use mr_ids::{AppAttempt, AttemptId, JobId, TaskId, TaskKind};
+use mr_names::{Caller, Kind, Namespace};
+use mr_node::NodeMachine;
+use mr_packet::{Address, Bag, ContainerId, Envelope, Packet};
+use mr_paths::{Layout, Path};
+use mr_recover::{Recovery, Staging};
+use mr_task::{DoneReply, TaskMachine};
+use std::alloc::Global;
+use std::process::Abort;
+
+const TASK: TaskId = TaskId {
+    job: JobId {
+        start: 200707121733,
+        number: 3,
+    },
+    kind: TaskKind::Reduce,
+    number: 0,
+};
+
+// What is there, where only want of memory can take it away.
+fn there<T>(rt: &impl Abort, value: Option<T>) -> T {
+    match value {
+        Some(value) => value,
+        None => panic!(rt; "nothing there"),
+    }
+}
+
+fn well<T, E: Drop>(rt: &impl Abort, answer: Result<T, E>) -> T {
+    match answer {
+        Ok(value) => value,
+        Err(_) => panic!(rt; "a fault"),
+    }
+}
+
+fn generation(rt: &impl Abort, number: u32) -> AppAttempt {
+    there(rt, AppAttempt::new(number))
+}
+
+fn attempt(rt: &impl Abort, number: u32) -> AttemptId {
+    there(rt, AttemptId::new(TASK, number))
+}
+
+fn path(rt: &impl Abort, alloc: Global, text: &str) -> Path {
+    well(rt, Path::parse(alloc, text))
+}
+
+fn bytes(rt: &impl Abort, alloc: Global, items: &[u8]) -> Vec<u8> {
+    well(rt, Vec::from_slice(alloc, items))
+}
+
+fn same(bytes: &[u8], wanted: &[u8]) -> bool {
+    bytes == wanted
+}
+
+#[test]
+fn identifiers_and_paths(rt: HostRuntime) {
+    let (task, k) = well(
+        &rt,
+        begin::launched_by("attempt_200707121733_0003_r_000000_1000"),
+    );
+    assert!(rt; task == TASK && k == generation(&rt, 2));
+    let committed = well(&rt, begin::committed_path(rt.alloc(), "/out", k, task));
+    let wanted = path(
+        &rt,
+        rt.alloc(),
+        "/out/_temporary/2/task_200707121733_0003_r_000000",
+    );
+    assert!(rt; committed == wanted);
+}
+
+#[test]
+fn attempts_and_tasks(rt: HostRuntime) {
+    let alloc = rt.alloc();
+    let (a0, a1) = (attempt(&rt, 0), attempt(&rt, 1));
+    assert!(rt; begin::killed_attempt(a0) == AttemptState::Killed);
+    assert!(rt; begin::passes_on(alloc, a0, a1) == Ok(true));
+    let mut task = TaskMachine::new(alloc, TASK, generation(&rt, 1));
+    assert!(rt; stores::one_wins(&mut task) == Ok(DoneReply::Accepted));
+    assert!(rt; task.winner() == Some(a1));
+}
+
+#[test]
+fn jobs(rt: HostRuntime) {
+    let alloc = rt.alloc();
+    let files = well(&rt, begin::count_words(alloc, b"a b\na\n"));
+    assert!(rt; files.len() == 2 && same(&files[0], b"b\t1\n") && same(&files[1], b"a\t2\n"));
+    // b goes to reduce 0: its length, its byte, and the number 1 in eight bytes
+    assert!(rt; begin::first_block(alloc, b"a b\na\n") == Ok(13));
+    let block = b"\0\0\0\x01b\0\0\0\0\0\0\0\x01";
+    let text = well(
+        &rt,
+        begin::reduced(alloc, bytes(&rt, alloc, block), bytes(&rt, alloc, block)),
+    );
+    assert!(rt; same(&text, b"b\t2\n"));
+}
+
+#[test]
+fn committer_over_a_store(rt: HostRuntime) {
+    let alloc = rt.alloc();
+    let k = generation(&rt, 1);
+    let caller = Caller {
+        app: k,
+        attempt: None,
+    };
+    let layout = Layout {
+        dest: path(&rt, alloc, "/out"),
+    };
+    let mut names = well(&rt, Namespace::new(alloc));
+    let work = well(&rt, layout.task_attempt(k, attempt(&rt, 0)));
+    let file = well(&rt, work.child(well(&rt, layout.part(0))));
+    let spare = path(&rt, alloc, "/spare");
+    let spare_file = path(&rt, alloc, "/spare/part");
+    let moved = path(&rt, alloc, "/moved");
+    assert!(rt; begin::move_directory(&mut names, &caller, &spare, &spare_file, &moved) == Ok(()));
+    assert!(rt;
+        names.mkdirs(caller, &work) == Ok(()) && names.create(caller, &file, true) == Ok(())
+    );
+    let mut step = well(&rt, CommitTask::new(&layout, k, attempt(&rt, 0)));
+    assert!(rt; stores::commit(&mut names, caller, &mut step, 10) == Ok(StepDone::Finished));
+    let committed = well(&rt, layout.committed(k, TASK));
+    assert!(rt; names.exists(caller, &committed) == Ok(Some(Kind::Dir)));
+}
+
+#[test]
+fn history_after_a_crash(rt: HostRuntime) {
+    let alloc = rt.alloc();
+    let mut history = well(&rt, History::new(alloc));
+    let none = Staging {
+        success: false,
+        fail: false,
+        started: false,
+    };
+    assert!(rt;
+        well(
+            &rt,
+            stores::take_over(alloc, &mut history, generation(&rt, 1), none)
+        )
+        .is_some()
+    );
+    let won = Record::ReduceSucceeded {
+        attempt: attempt(&rt, 0),
+        bytes: Some(4),
+    };
+    assert!(rt; stores::write(&mut history, generation(&rt, 1), won) == Ok(true));
+    match stores::take_over(alloc, &mut history, generation(&rt, 2), none) {
+        Ok(Some(Recovery::Resume(winners))) => {
+            assert!(rt; winners.len() == 1 && winners.as_slice()[0].attempt == attempt(&rt, 0));
+        }
+        _ => panic!(rt; "no plan"),
+    }
+}
+
+#[test]
+fn containers_and_nodes(rt: HostRuntime) {
+    let alloc = rt.alloc();
+    let c = ContainerId {
+        app: generation(&rt, 1),
+        number: 0,
+    };
+    let mut bag = Bag::new(alloc);
+    let mut node = NodeMachine::new(alloc, 0, 1);
+    let launch = Packet::Launch {
+        c,
+        a: attempt(&rt, 0),
+        incarnation: 1,
+    };
+    let mut container = there(
+        &rt,
+        well(
+            &rt,
+            stores::node_hears(alloc, &mut bag, &mut node, &launch, 0),
+        ),
+    );
+    container.computed(mr_packet::Bytes::from_vec(bytes(&rt, alloc, b"")));
+    let mut names = well(&rt, Namespace::new(alloc));
+    let layout = Layout {
+        dest: path(&rt, alloc, "/out"),
+    };
+    assert!(rt; stores::container_step(&mut names, &layout, &mut bag, &mut container) == Ok(()));
+    let body = Packet::NodeUp {
+        n: 0,
+        incarnation: 2,
+    };
+    let envelope = Envelope {
+        to: Address::Master(generation(&rt, 1)),
+        body,
+    };
+    assert!(rt; begin::put_packet(&mut bag, envelope) == Ok(()) && bag.len() == 1);
+}
