@@ -1,0 +1,6 @@
+pub mod Lines
+pub mod Numbers
+pub mod Readings
+pub mod Spellings
+pub mod Verbs
+pub mod Words

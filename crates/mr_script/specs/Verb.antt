@@ -1,0 +1,49 @@
+-- The first word of a command, and what stands after it.
+use Rattle.std.specs.Prelude.{Bool, true, false, ℕ, List, codes, Option, Some, None}
+use Rattle.mr_event.specs.declared.event.Event.TheVariants as event
+use Rattle.mr_script.specs.declared.command.Command.{Command}
+use Rattle.mr_script.specs.declared.command.Command.TheVariants as command
+use Rattle.mr_script.specs.declared.line.Verb.{Verb}
+use Rattle.mr_script.specs.declared.line.Verb.TheVariants as verb
+
+abbrev pub text_of : Verb → List ℕ
+text_of verb.Start = codes "start"
+text_of verb.Crash = codes "crash"
+text_of verb.Duty = codes "duty"
+text_of verb.Launch = codes "launch"
+text_of verb.Deliver = codes "deliver"
+text_of verb.Step = codes "step"
+text_of verb.Compute = codes "compute"
+text_of verb.Die = codes "die"
+text_of verb.Restart = codes "restart"
+text_of verb.Expire = codes "expire"
+text_of verb.Calm = codes "calm"
+
+-- what the command is written with; computed bytes are written in no way
+abbrev pub verb_of : Command → Option Verb
+verb_of (command.Makes (event.Start k kept)) = Some verb.Start
+verb_of (command.Makes (event.Crash k kept)) = Some verb.Crash
+verb_of (command.Makes (event.Duty k fault)) = Some verb.Duty
+verb_of (command.Makes (event.LaunchOn k t n)) = Some verb.Launch
+verb_of (command.Makes (event.Deliver i)) = Some verb.Deliver
+verb_of (command.Makes (event.ContainerStep c fault)) = Some verb.Step
+verb_of (command.Makes (event.Computed c bytes)) = None
+verb_of (command.Makes (event.Die c)) = Some verb.Die
+verb_of (command.Makes (event.NodeRestart n)) = Some verb.Restart
+verb_of (command.Makes (event.Expire k n)) = Some verb.Expire
+verb_of (command.Compute c) = Some verb.Compute
+verb_of (command.Calm k stop) = Some verb.Calm
+
+-- whether a master is told first
+abbrev pub is_of_master : Verb → Bool
+is_of_master verb.Start = true
+is_of_master verb.Crash = true
+is_of_master verb.Duty = true
+is_of_master verb.Launch = true
+is_of_master verb.Deliver = false
+is_of_master verb.Step = false
+is_of_master verb.Compute = false
+is_of_master verb.Die = false
+is_of_master verb.Restart = false
+is_of_master verb.Expire = true
+is_of_master verb.Calm = true

@@ -1,0 +1,42 @@
+//! Scripts of a run: which events happen, one command per line, read whole before anything runs.
+//!
+//! | Command | What happens |
+//! |---|---|
+//! | `start K KEPT` | the master of generation K starts; of what the master before it did not flush, KEPT bytes stay |
+//! | `crash K KEPT` | master K crashes, and KEPT bytes of what it did not flush stay |
+//! | `duty K [FAULT]` | master K makes the store call that is due |
+//! | `launch K m T N`, `launch K r T N` | master K launches an attempt of map T, of reduce T, on node N |
+//! | `deliver I` | the packet at place I of the bag, from 0, is delivered |
+//! | `step C [FAULT]` | container C makes the store call, or sends the packet, that it wishes to |
+//! | `compute C` | container C computes what it wishes to compute |
+//! | `die C` | container C ends before it is done |
+//! | `restart N` | node N restarts |
+//! | `expire K N` | master K gives node N up |
+//! | `calm K [before NAME]` | events happen without a fault until master K is through, or until one of that name would be next |
+//!
+//! K is 1 to 1,000; C is K, a full stop and a number; KEPT and I are below 2^64, T, N and a container's number below 2^32. Numbers are
+//! decimal with no zero in front. FAULT is `unavailable` (the call is not made) or `unanswered` (its answer is lost). Words have one
+//! space between and none at the ends. An empty line is counted and skipped.
+//!
+//! # What is proved
+//!
+//! - `commands_of` answers exactly the commands of the text, each with the number of its line (`AreCommands`: a line is a command exactly
+//!   where it is the line that the command is written as), or `BadCommand(n)` where line n is the first that is neither empty nor a
+//!   command (`IsFirstBad`), or `NoMemory`.
+//! - Laws, on functions that do nothing: a script has at most one reading (`one_reading`), is not both read and bad (`read_or_bad`), and
+//!   has at most one first bad line (`one_first_bad`).
+//! - Only tested: that it succeeds with ample memory.
+#![tactic(auto)]
+
+mod arguments;
+mod command;
+mod event_name;
+mod laws;
+mod line;
+mod script;
+mod word;
+
+pub use command::Command;
+pub use event_name::EventName;
+pub use laws::{one_first_bad, one_reading, read_or_bad};
+pub use script::{ScriptFault, commands_of};

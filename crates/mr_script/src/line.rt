@@ -1,0 +1,152 @@
+//! One line of a script.
+ghost use Rattle.std.specs.Prelude.{◌≡◌, IfSome, IfNone, Some, true, false};
+ghost use Rattle.mr_script.specs.declared.command.Command as command;
+ghost use Rattle.mr_script.specs.Script.{rest_of, IsCommand, IsLine, IsBad};
+ghost use Rattle.mr_script.specs.Verb.{text_of, verb_of, is_of_master};
+
+use crate::arguments::{calming, launching, stepping, with_fault, with_long, with_number};
+use crate::command::Command;
+use crate::word::{container, long_number, number, split_at};
+use mr_event::Event;
+use mr_ids::JobId;
+
+/// The first word of a command.
+#[derive(Clone, Copy, Debug, PartialEq, Eq)]
+pub enum Verb {
+    Start,
+    Crash,
+    Duty,
+    Launch,
+    Deliver,
+    Step,
+    Compute,
+    Die,
+    Restart,
+    Expire,
+    Calm,
+}
+
+/// The verb that the word is.
+fn verb_named(word: &[u8]) -> Option<Verb>
+    ensures some { IfSome result (λ v. word.now ≡ text_of v) }
+    ensures none { IfNone result ((v : Verb) → word.now ≡ text_of v → ⊥) }
+{
+    if word == b"start".as_slice() {
+        Some(Verb::Start)
+    } else if word == b"crash".as_slice() {
+        Some(Verb::Crash)
+    } else if word == b"duty".as_slice() {
+        Some(Verb::Duty)
+    } else if word == b"launch".as_slice() {
+        Some(Verb::Launch)
+    } else if word == b"deliver".as_slice() {
+        Some(Verb::Deliver)
+    } else if word == b"step".as_slice() {
+        Some(Verb::Step)
+    } else if word == b"compute".as_slice() {
+        Some(Verb::Compute)
+    } else if word == b"die".as_slice() {
+        Some(Verb::Die)
+    } else if word == b"restart".as_slice() {
+        Some(Verb::Restart)
+    } else if word == b"expire".as_slice() {
+        Some(Verb::Expire)
+    } else if word == b"calm".as_slice() {
+        Some(Verb::Calm)
+    } else {
+        None
+    }
+}
+
+/// The command of a verb that tells a master first.
+fn of_master(job: JobId, verb: Verb, rest: &[u8]) -> Option<Command>
+    ensures some { IfSome result (λ c. IsCommand job c × (verb_of c ≡ Some verb) × (rest_of c ≡ rest.now)) }
+    ensures none { IfNone result (is_of_master verb ≡ true → (c : command.Command) → IsCommand job c → verb_of c ≡ Some verb → rest_of c ≡ rest.now → ⊥) }
+{
+    match verb {
+        Verb::Start => match with_long(rest) {
+            Some((k, kept)) => Some(Command::Makes(Event::Start(k.number(), kept))),
+            None => None,
+        },
+        Verb::Crash => match with_long(rest) {
+            Some((k, kept)) => Some(Command::Makes(Event::Crash(k.number(), kept))),
+            None => None,
+        },
+        Verb::Duty => match with_fault(rest) {
+            Some((k, fault)) => Some(Command::Makes(Event::Duty(k.number(), fault))),
+            None => None,
+        },
+        Verb::Launch => match launching(job, rest) {
+            Some((k, t, n)) => Some(Command::Makes(Event::LaunchOn(k.number(), t, n))),
+            None => None,
+        },
+        Verb::Expire => match with_number(rest) {
+            Some((k, n)) => Some(Command::Makes(Event::Expire(k.number(), n))),
+            None => None,
+        },
+        Verb::Calm => match calming(rest) {
+            Some((k, stop)) => Some(Command::Calm(k.number(), stop)),
+            None => None,
+        },
+        _ => None,
+    }
+}
+
+/// The command of any other verb.
+fn of_others(job: JobId, verb: Verb, rest: &[u8]) -> Option<Command>
+    ensures some { IfSome result (λ c. IsCommand job c × (verb_of c ≡ Some verb) × (rest_of c ≡ rest.now)) }
+    ensures none { IfNone result (is_of_master verb ≡ false → (c : command.Command) → IsCommand job c → verb_of c ≡ Some verb → rest_of c ≡ rest.now → ⊥) }
+{
+    match verb {
+        Verb::Deliver => match long_number(rest) {
+            Some(i) => Some(Command::Makes(Event::Deliver(i))),
+            None => None,
+        },
+        Verb::Step => match stepping(rest) {
+            Some((c, fault)) => Some(Command::Makes(Event::ContainerStep(c, fault))),
+            None => None,
+        },
+        Verb::Compute => match container(rest) {
+            Some(c) => Some(Command::Compute(c)),
+            None => None,
+        },
+        Verb::Die => match container(rest) {
+            Some(c) => Some(Command::Makes(Event::Die(c))),
+            None => None,
+        },
+        Verb::Restart => match number(rest) {
+            Some(n) => Some(Command::Makes(Event::NodeRestart(n))),
+            None => None,
+        },
+        _ => None,
+    }
+}
+
+/// The command of a verb.
+fn with_rest(job: JobId, verb: Verb, rest: &[u8]) -> Option<Command>
+    ensures some { IfSome result (λ c. IsCommand job c × (verb_of c ≡ Some verb) × (rest_of c ≡ rest.now)) }
+    ensures none { IfNone result ((c : command.Command) → IsCommand job c → verb_of c ≡ Some verb → rest_of c ≡ rest.now → ⊥) }
+{
+    match verb {
+        Verb::Start | Verb::Crash | Verb::Duty | Verb::Launch | Verb::Expire | Verb::Calm => {
+            of_master(job, verb, rest)
+        }
+        Verb::Deliver | Verb::Step | Verb::Compute | Verb::Die | Verb::Restart => {
+            of_others(job, verb, rest)
+        }
+    }
+}
+
+/// The command that the line is, in a script for a run of the job.
+pub fn command_in(job: JobId, line: &[u8]) -> Option<Command>
+    ensures some { IfSome result (IsLine job line.now) }
+    ensures none { IfNone result (IsBad job line.now) }
+{
+    let Some((word, rest)) = split_at(line, b' ') else {
+        return None;
+    };
+    let Some(verb) = verb_named(word) else {
+        return None;
+    };
+    with_rest(job, verb, rest)
+}

@@ -1,0 +1,60 @@
+//! Scripts of a run.
+
+use mr_event::Event;
+use mr_ids::JobId;
+use mr_script::{Command, EventName, ScriptFault, commands_of};
+use std::alloc::Global;
+use std::process::Abort;
+
+const JOB: JobId = JobId {
+    start: 200707121733,
+    number: 3,
+};
+
+fn read(alloc: Global, text: &[u8]) -> Result<Vec<(usize, Command)>, ScriptFault> {
+    if text.len() > 1000 {
+        return Err(ScriptFault::NoMemory);
+    }
+    commands_of(alloc, JOB, text, 2)
+}
+
+fn is_bad(alloc: Global, text: &[u8], line: usize) -> bool {
+    read(alloc, text).is_err_and(|fault| fault == ScriptFault::BadCommand(line))
+}
+
+#[test]
+fn scripts_are_read_whole(rt: HostRuntime) {
+    let text =
+        b"start 1 18446744073709551615\n\ncalm 1 before launch\nlaunch 1 r 4294967295 0\nstep 1000.7 unanswered";
+    match read(rt.alloc(), text.as_slice()) {
+        Ok(commands) => {
+            assert!(rt; commands.len() == 4 && commands[1].0 == 4 && commands[3].0 == 6);
+            assert!(rt; matches!(&commands[0].1, Command::Makes(Event::Start(1, u64::MAX))));
+            assert!(rt; matches!(&commands[1].1, Command::Calm(1, Some(EventName::Launch))));
+        }
+        Err(_) => panic!(rt; "not read"),
+    }
+}
+
+#[test]
+fn bad_commands_of_scripts(rt: HostRuntime) {
+    let lines: [&[u8]; 14] = [
+        b"start 0 0",
+        b"start 1001 0",
+        b"start 1",
+        b"start 1 0 ",
+        b"crash 01 0",
+        b"duty 1 calm",
+        b"launch 1 x 0 0",
+        b"launch 1 m 4294967296 0",
+        b"deliver 18446744073709551616",
+        b"step 1",
+        b"compute 1.0 unavailable",
+        b"calm 1 before",
+        b"calm 1 before dinner",
+        b"deliver 1\r",
+    ];
+    for line in lines {
+        assert!(rt; is_bad(rt.alloc(), line, 2));
+    }
+}
