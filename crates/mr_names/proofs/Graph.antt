@@ -4,7 +4,7 @@ use Rattle.std.proofs.lemmas.Bool.Decides.{eqb_tells}
 use Rattle.std.proofs.Math.Dec.{eqb}
 use Rattle.std.specs.Cmp.{tied_itself}
 use Rattle.std.specs.Cmp.Lexicographic.{nat_list_cmp_total}
-use Rattle.std.specs.Prelude.{slice_index_or, IfSome, Result, Ok, Err, OnOk, OnErr}
+use Rattle.std.specs.Prelude.{slice_index_or, IfSome, IfOk, Result, Ok, Err, OnOk, OnErr}
 use Rattle.std.specs.Ordering.{is_eq, nat_cmp}
 use Rattle.std.specs.Cmp.Lexicographic.{slice_cmp}
 use Rattle.std.specs.FinMap.{slice_cmp-IsAntisymmetric, nat_cmp-IsAntisymmetric}
@@ -19,7 +19,7 @@ use Rattle.mr_paths.specs.Path.{path_total, path_exact}
 use Rattle.mr_names.specs.Content.{Content, renamed, within, changed_at, changed_by, without_one}
 use Rattle.mr_names.specs.Tree.{edges_of, nodes_of, child_by, steps, along, standing, IsTold, Held, EdgeSet, SameGraph, NodeAdded, EdgeMoved, NodeChanged, NodeCut, first_of, first_by, first_edge}
 use Rattle.mr_paths.proofs.Paths.{strip-append}
-use Rattle.mr_names.proofs.Walks.{absent, added_told, moved_told, changed_told, steps-append, root_told, leaf_told}
+use Rattle.mr_names.proofs.Walks.{absent, added_told, added_leads, moved_told, changed_told, steps-append, root_told, leaf_told}
 use Rattle.std.proofs.lemmas.List.{get_or_past}
 
 abbrev pub name_cmp : List ℕ → List ℕ → Ordering
@@ -86,9 +86,8 @@ on_err (Ok a) X x = tt
 on_err (Err e) X x = x
 
 -- a node is put at a vacant key, and an edge to it is set
-pub node_added : (s t u : Slab Place) (key at : ℕ) (place : Place) (name : List ℕ) → get s key ≡ None → Updates s t key (Some place) → place.children.entries ≡ [] → EdgeSet t u at name (Some key) → NodeAdded s u at name place.node
+pub node_added : (s t u : Slab Place) (key at : ℕ) (place : Place) (name : List ℕ) → get s key ≡ None → Updates s t key (Some place) → place.children.entries ≡ [] → EdgeSet t u at name (Some key) → NodeAdded s u at name place.node key
 node_added s t u key at place name vacant up bare set = record {
-  key = key;
   vacant = ap node_of vacant;
   bare = λ other. ap (λ o. child_by o other) vacant;
   here = set.here;
@@ -136,12 +135,23 @@ told_same s t root c same told =
     subst (λ e. IsTold e (nodes_of t) root c) edges (subst (λ n. IsTold (edges_of s) n root c) nodes told)
 
 -- a node that is added
-pub told_added : (s t : Slab Place) (root at : ℕ) (c : Content) (above path : List (List ℕ)) (name : List ℕ) (node : Node) → IsTold (edges_of s) (nodes_of s) root c → path ≡ above ++ name ∷ []
-    → steps (edges_of s) (Some root) above ≡ Some at → finite.get c path ≡ None → NodeAdded s t at name node → IsTold (edges_of t) (nodes_of t) root (finite.insert c path node)
-told_added s t root at c above path name node told is leads free new =
+pub told_added : (s t : Slab Place) (root at key : ℕ) (c : Content) (above path : List (List ℕ)) (name : List ℕ) (node : Node) → IsTold (edges_of s) (nodes_of s) root c → path ≡ above ++ name ∷ []
+    → steps (edges_of s) (Some root) above ≡ Some at → finite.get c path ≡ None → NodeAdded s t at name node key → IsTold (edges_of t) (nodes_of t) root (finite.insert c path node)
+told_added s t root at key c above path name node told is leads free new =
     subst (λ p. IsTold (edges_of t) (nodes_of t) root (finite.insert c p node)) (sym is)
-    (added_told (edges_of s) (nodes_of s) root c told above name at new.key (edges_of t) (nodes_of t) node leads
+    (added_told (edges_of s) (nodes_of s) root c told above name at key (edges_of t) (nodes_of t) node leads
     (ap (steps (edges_of s) (Some root)) (sym is) ∙ absent (edges_of s) (nodes_of s) root c told path free) new.vacant new.here new.others new.bare new.stands new.nodes)
+
+-- its path leads to it, and from there no edge goes on
+pub added_at : (s t : Slab Place) (root at key : ℕ) (c : Content) (above path : List (List ℕ)) (name : List ℕ) (node : Node) → IsTold (edges_of s) (nodes_of s) root c → path ≡ above ++ name ∷ []
+    → steps (edges_of s) (Some root) above ≡ Some at → steps (edges_of s) (Some root) path ≡ None → NodeAdded s t at name node key → steps (edges_of t) (Some root) path ≡ Some key
+added_at s t root at key c above path name node told is leads free new =
+    ap (steps (edges_of t) (Some root)) is
+    ∙ added_leads (edges_of s) (nodes_of s) root c told above name at key (edges_of t) (nodes_of t) node leads
+    (ap (steps (edges_of s) (Some root)) (sym is) ∙ free) new.vacant new.here new.others new.bare new.stands new.nodes
+
+pub added_bare : (s t : Slab Place) (at key : ℕ) (name other : List ℕ) (node : Node) → is_some (nodes_of s at) ≡ true → NodeAdded s t at name node key → edges_of t key other ≡ None
+added_bare s t at key name other node there new = new.others key other (λ same _. true≢false (sym there ∙ ap is_some (ap (nodes_of s) (sym same) ∙ new.vacant))) ∙ new.bare other
 
 -- the content of the nodes is the one that is told
 pub content_is : (s : Slab Place) (root : ℕ) (held : Held s root) (c : Content) → IsTold (edges_of s) (nodes_of s) root c → held.0 ≡ c
@@ -180,6 +190,10 @@ told_changed s t root key c path f old told leads was changed =
 pub either : {A E : Type 0} (r : Result A E) (P Q X : Type 0) → OnOk r P → OnErr r Q → (P → X) → (Q → X) → X
 either (Ok a) P Q X p q f g = f p
 either (Err e) P Q X p q f g = g q
+
+pub either_of : {A E : Type 0} (r : Result A E) (P : A → Type 0) (Q X : Type 0) → IfOk r P → OnErr r Q → ((a : A) → P a → X) → (Q → X) → X
+either_of (Ok a) P Q X p q f g = f a p
+either_of (Err e) P Q X p q f g = g q
 
 -- something is at a path: so something is above it, and an edge leads from there
 pub none_above : (s : Slab Place) (root : ℕ) (c : Content) (above path : List (List ℕ)) (name : List ℕ) → IsTold (edges_of s) (nodes_of s) root c → path ≡ above ++ name ∷ [] → is_some (finite.get c path) ≡ true

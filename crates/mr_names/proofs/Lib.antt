@@ -4,9 +4,11 @@ pub mod CallLaws
 pub mod CallerLaws
 pub mod Callers
 pub mod ContentLaws
+pub mod Counting
 pub mod Deleting
 pub mod Graph
 pub mod ListingLaws
+pub mod Making
 pub mod Moving
 pub mod Removing
 pub mod RowLaws

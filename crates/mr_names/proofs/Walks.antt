@@ -161,6 +161,9 @@ module _ (e : Edges) (nodes : ℕ → Option Node) (root : ℕ) (c : Content) (t
     added_new : added path ≡ Some key
     added_new = rw (same_itself path) refl
 
+    pub added_leads : steps e' (Some root) path ≡ Some key
+    added_leads = added_is path ∙ added_new
+
     -- a node reached is the new one, or reached as before
     added_from : (q : Names) (k : ℕ) → added q ≡ Some k → ((q ≡ path) × (k ≡ key)) ⊎ ((S q ≡ Some k) × (k ≢ key))
     added_from q k = by (same q path) refl

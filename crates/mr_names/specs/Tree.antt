@@ -1,5 +1,5 @@
 -- The content as a tree of nodes: a graph of edges by name, in which each path that holds something leads from the root to a node of its own.
-use Rattle.std.specs.Prelude.{◌≡◌, ℕ, true, List, [], ◌∷◌, Option, Some, None, is_some}
+use Rattle.std.specs.Prelude.{◌≡◌, ℕ, true, List, [], ◌∷◌, ◌++◌, take, Option, Some, None, is_some}
 use Rattle.std.specs.Option.{option_map}
 use Rattle.std.specs.Map.{lookup}
 use Rattle.std.specs.BTreeMap.{is_at}
@@ -9,7 +9,7 @@ use Rattle.std.specs.FinMap as finite
 use Rattle.slab.specs.Slab.{Slab, get}
 use Rattle.mr_names.specs.declared.node.Node.{Node}
 use Rattle.mr_names.specs.declared.place.Place.{Place}
-use Rattle.mr_names.specs.Content.{Content}
+use Rattle.mr_names.specs.Content.{Content, with_dirs, without}
 
 -- the node to which an edge with this name leads from a node
 abbrev pub Edges : Type 0
@@ -65,8 +65,7 @@ pub record SameGraph (old new : Slab Place) : Type 0 where
   pub nodes : (key : ℕ) → nodes_of new key ≡ nodes_of old key
 
 -- a node with no edges is added at the end of a new edge, and all else stays
-pub record NodeAdded (old new : Slab Place) (at : ℕ) (name : List ℕ) (node : Node) : Type 0 where
-  pub key : ℕ
+pub record NodeAdded (old new : Slab Place) (at : ℕ) (name : List ℕ) (node : Node) (key : ℕ) : Type 0 where
   pub vacant : nodes_of old key ≡ None
   pub bare : (other : List ℕ) → edges_of old key other ≡ None
   pub here : edges_of new at name ≡ Some key
@@ -106,3 +105,25 @@ first_by (Some place) = first_of place.children.entries
 -- the edge whose name comes first
 abbrev pub first_edge : Slab Place → ℕ → Option (List ℕ × ℕ)
 first_edge s key = first_by (get s key)
+
+-- each path on the way down from a path by these names
+abbrev pub paths_down : List (List ℕ) → List (List ℕ) → List (List (List ℕ))
+paths_down above [] = []
+paths_down above (name ∷ names) = (above ++ name ∷ []) ∷ paths_down (above ++ name ∷ []) names
+
+-- the nodes hold a content, the path leads to a node, and the first of these names leads from there to none
+pub record HasRoom (s : Slab Place) (root : ℕ) (c : Content) (above : List (List ℕ)) (at : ℕ) (names : List (List ℕ)) : Type 0 where
+  pub told : IsTold (edges_of s) (nodes_of s) root c
+  pub leads : steps (edges_of s) (Some root) above ≡ Some at
+  pub free : steps (edges_of s) (Some root) (above ++ take 1 names) ≡ None
+
+-- directories are added by these names from a node on, each beneath the one before
+abbrev pub DirsAdded : Slab Place → Slab Place → ℕ → List (List ℕ) → Type 0
+DirsAdded old new at names =
+    (root : ℕ) (c : Content) (above : List (List ℕ)) → HasRoom old root c above at names → IsTold (edges_of new) (nodes_of new) root (with_dirs c (paths_down above names))
+
+-- some of them are: all that is new is at and beneath the first
+abbrev pub SomeAdded : Slab Place → Slab Place → ℕ → List (List ℕ) → Type 0
+SomeAdded old new at names =
+    (root : ℕ) (c : Content) (above : List (List ℕ)) → HasRoom old root c above at names
+    → (d : Content) × IsTold (edges_of new) (nodes_of new) root d × (without (above ++ take 1 names) d ≡ c)

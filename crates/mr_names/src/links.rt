@@ -1,6 +1,6 @@
 //! The nodes as a graph: edges by name.
-ghost use Rattle.std.specs.Prelude.{◌≡◌, Some, None, true, is_some, OnOk, OnErr, IfOk, IfSome, [], ℕ, List, MatchOption};
-ghost use Rattle.mr_names.specs.Tree.{edges_of, nodes_of, steps, IsTold, EdgeSet, SameGraph, NodeAdded, EdgeMoved, NodeChanged, NodeCut, first_edge};
+ghost use Rattle.std.specs.Prelude.{◌≡◌, Some, None, true, is_some, OnOk, OnErr, IfOk, IfSome, [], ℕ, List, MatchOption, length, take, ◌≤◌, ◌<◌, ◌+◌};
+ghost use Rattle.mr_names.specs.Tree.{edges_of, nodes_of, steps, IsTold, EdgeSet, SameGraph, NodeAdded, EdgeMoved, NodeChanged, NodeCut, first_edge, DirsAdded, SomeAdded};
 ghost use Rattle.mr_names.specs.Node.{appended, closed_of};
 ghost use Rattle.std.specs.FinMap as map;
 ghost use Rattle.std.specs.Option.{option_map};
@@ -36,6 +36,22 @@ pub fn find(nodes: &Slab<Place>, from: usize, names: &[Name]) -> Option<usize>
     Some(at)
 }
 
+/// The last node to which a path leads, from a node on, and how many names lead to it.
+pub fn reach(nodes: &Slab<Place>, from: usize, names: &[Name]) -> (usize, usize)
+    ensures within { result.1 ≤ length names.now }
+    ensures leads { steps (edges_of nodes.now) (Some from) (take result.1 names.now) ≡ Some result.0 }
+    ensures ends { result.1 < length names.now → steps (edges_of nodes.now) (Some from) (take (result.1 + 1) names.now) ≡ None }
+{
+    let mut at = from;
+    for (count, name) in names.iter().enumerate() {
+        match child(nodes, at, name) {
+            Some(key) => at = key,
+            None => return (at, count),
+        }
+    }
+    (at, names.len())
+}
+
 /// Adds an edge.
 pub fn link(nodes: &mut Slab<Place>, at: usize, name: Name, key: usize) -> Result<(), AllocError>
     requires { is_some (nodes_of nodes.old at) ≡ true }
@@ -60,16 +76,16 @@ pub fn unlink(nodes: &mut Slab<Place>, at: usize, name: &Name)
     }
 }
 
-/// Adds a node with no edges at the end of a new edge.
+/// Adds a node with no edges at the end of a new edge. Its key is the result.
 pub fn add_node(
     nodes: &mut Slab<Place>,
     alloc: Global,
     at: usize,
     name: Name,
     node: Node,
-) -> Result<(), AllocError>
+) -> Result<usize, AllocError>
     requires { is_some (nodes_of nodes.old at) ≡ true }
-    ensures ok { OnOk result (NodeAdded nodes.old nodes.new at name node) }
+    ensures ok { IfOk result (λ key. NodeAdded nodes.old nodes.new at name node key) }
     ensures err { OnErr result (SameGraph nodes.old nodes.new) }
 {
     let key = nodes.insert(Place {
@@ -77,12 +93,32 @@ pub fn add_node(
         children: BTreeMap::new(alloc),
     })?;
     match link(nodes, at, name, key) {
-        Ok(()) => Ok(()),
+        Ok(()) => Ok(key),
         Err(error) => {
             nodes.try_remove(key);
             Err(error)
         }
     }
+}
+
+/// Adds directories by these names from a node on, each beneath the one before. Refused, it has added some of them.
+pub fn add_dirs(
+    nodes: &mut Slab<Place>,
+    alloc: Global,
+    start: usize,
+    names: &[Name],
+) -> Result<(), AllocError>
+    requires { is_some (nodes_of nodes.old start) ≡ true }
+    ensures ok { OnOk result (DirsAdded nodes.old nodes.new start names.now) }
+    ensures err { OnErr result (SomeAdded nodes.old nodes.new start names.now) }
+{
+    let mut at = start;
+    for name in names {
+        let copied = name.copy()?;
+        let key = add_node(nodes, alloc, at, copied, Node::Dir)?;
+        at = key;
+    }
+    Ok(())
 }
 
 /// Moves an edge.

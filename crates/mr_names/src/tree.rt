@@ -1,4 +1,4 @@
-ghost use Rattle.std.specs.Prelude.{◌≡◌, ◌+◌, ℕ, [], ◌∷◌, ◌++◌, IfOk, OnOk, OnErr, length, ◌<◌, ◌≤◌, ◌^◌, Some, None, is_some, true, false, IsTrue, take, drop};
+ghost use Rattle.std.specs.Prelude.{◌≡◌, ◌+◌, ℕ, [], ◌∷◌, ◌++◌, IfOk, OnOk, OnErr, length, ◌<◌, ◌≤◌, ◌^◌, Some, None, is_some, true, false, IsTrue, take, drop, filter};
 ghost use Rattle.std.specs.Prelude.{map as list_map};
 ghost use Rattle.std.specs.FinMap as map;
 ghost use Rattle.std.specs.Option.{option_copied};
@@ -7,10 +7,12 @@ ghost use Rattle.mr_names.specs.TreeProofs.{held_prop};
 ghost use Rattle.mr_names.specs.Content.{IsTree, without, renamed, changed_at, with_dirs};
 ghost use Rattle.mr_names.specs.Node.{appended, closed_of};
 ghost use Rattle.mr_names.specs.Laws.{MayRename};
-ghost use Rattle.mr_paths.specs.Path.{parent};
+ghost use Rattle.mr_names.specs.Held.{is_absent, missing_count};
+ghost use Rattle.mr_paths.specs.Path.{parent, prefixes};
 
 use crate::links::{
-    add_node, append_at, child, close_at, cut, cut_first, find, first_child, move_edge, root_alone,
+    add_dirs, add_node, append_at, child, close_at, cut, cut_first, find, first_child, move_edge,
+    reach, root_alone,
 };
 use crate::node::Node;
 use crate::place::Place;
@@ -48,6 +50,13 @@ impl Tree {
         }
     }
 
+    /// How many entries there are, the root among them.
+    pub fn len(&self) -> usize
+        ensures { result ≡ map.len self.now }
+    {
+        self.nodes.len()
+    }
+
     /// Puts a node where nothing is, beneath a path at which something is.
     pub fn insert(&mut self, alloc: Global, names: &[Name], node: Node) -> Result<(), AllocError>
         requires free { map.get self.old names.now ≡ None }
@@ -62,8 +71,41 @@ impl Tree {
         let Some(at) = find(&self.nodes, self.root, above) else {
             return Ok(());
         };
-        add_node(&mut self.nodes, alloc, at, name, node)?;
+        let _key = add_node(&mut self.nodes, alloc, at, name, node)?;
         Ok(())
+    }
+
+    /// How many of the directories on the way down to a path are missing, the path with them. None where one is a file.
+    pub fn missing(&self, names: &[Name]) -> Option<usize>
+        requires { IsTree self.now }
+        ensures { result ≡ missing_count self.now (prefixes names.now) }
+    {
+        let (at, there) = reach(&self.nodes, self.root, names);
+        match self.nodes.get(at) {
+            Some(place) => match place.node {
+                Node::Dir => Some(names.len() - there),
+                Node::File(_, _) => None,
+            },
+            None => None,
+        }
+    }
+
+    /// Makes what is missing on the way down to a path, the path with it, all or none.
+    pub fn make_dirs(&mut self, alloc: Global, names: &[Name]) -> Result<(), AllocError>
+        ensures ok { OnOk result (self.new ≡ with_dirs self.old (filter (is_absent self.old) (prefixes names.now))) }
+        ensures err { OnErr result (self.new ≡ self.old) }
+    {
+        let (at, there) = reach(&self.nodes, self.root, names);
+        if names.len() <= there {
+            return Ok(());
+        }
+        match add_dirs(&mut self.nodes, alloc, at, &names[there..]) {
+            Ok(()) => Ok(()),
+            Err(error) => {
+                self.take_out(&names[..there + 1]);
+                Err(error)
+            }
+        }
     }
 
     /// Moves what is at and beneath a path to a path where nothing is, beneath a directory: one edge.
