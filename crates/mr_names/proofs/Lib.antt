@@ -8,6 +8,7 @@ pub mod Counting
 pub mod Deleting
 pub mod Graph
 pub mod ListingLaws
+pub mod NodeLines
 pub mod Making
 pub mod Moving
 pub mod Removing

@@ -8,7 +8,9 @@ use Rattle.std.specs.Cmp.Lexicographic.{slice_cmp}
 use Rattle.std.specs.FinMap as finite
 use Rattle.slab.specs.Slab.{Slab, get}
 use Rattle.mr_names.specs.declared.node.Node.{Node}
+use Rattle.mr_names.specs.declared.node.Entry.{Entry}
 use Rattle.mr_names.specs.declared.place.Place.{Place}
+use Rattle.mr_names.specs.Listing.{entry_of}
 use Rattle.mr_names.specs.Content.{Content, with_dirs, without}
 
 -- the node to which an edge with this name leads from a node
@@ -127,3 +129,15 @@ abbrev pub SomeAdded : Slab Place → Slab Place → ℕ → List (List ℕ) →
 SomeAdded old new at names =
     (root : ℕ) (c : Content) (above : List (List ℕ)) → HasRoom old root c above at names
     → (d : Content) × IsTold (edges_of new) (nodes_of new) root d × (without (above ++ take 1 names) d ≡ c)
+
+abbrev pub links_by : Option Place → List (List ℕ × ℕ)
+links_by None = []
+links_by (Some place) = place.children.entries
+
+-- the edges of a node, by their names
+abbrev pub links_of : Slab Place → ℕ → List (List ℕ × ℕ)
+links_of s key = links_by (get s key)
+
+-- the line of an edge in a listing
+abbrev pub line_at : Slab Place → List ℕ × ℕ → Option Entry
+line_at s e = option_map (entry_of e.0) (nodes_of s e.1)

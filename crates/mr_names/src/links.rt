@@ -1,11 +1,16 @@
 //! The nodes as a graph: edges by name.
 ghost use Rattle.std.specs.Prelude.{◌≡◌, Some, None, true, is_some, OnOk, OnErr, IfOk, IfSome, [], ℕ, List, MatchOption, length, take, ◌≤◌, ◌<◌, ◌+◌};
-ghost use Rattle.mr_names.specs.Tree.{edges_of, nodes_of, steps, IsTold, EdgeSet, SameGraph, NodeAdded, EdgeMoved, NodeChanged, NodeCut, first_edge, DirsAdded, SomeAdded};
+ghost use Rattle.mr_names.specs.Tree.{edges_of, nodes_of, steps, IsTold, EdgeSet, SameGraph, NodeAdded, EdgeMoved, NodeChanged, NodeCut, first_edge, DirsAdded, SomeAdded, links_of, line_at};
+ghost use Rattle.std.specs.Prelude.{map as list_map};
+ghost use Rattle.std.specs.List.{filter_map};
+ghost use Rattle.std.specs.List.Sorted.{IsStrictlySortedBy};
+ghost use Rattle.std.specs.Cmp.Lexicographic.{slice_cmp};
+ghost use Rattle.std.specs.Ordering.{nat_cmp};
 ghost use Rattle.mr_names.specs.Node.{appended, closed_of};
 ghost use Rattle.std.specs.FinMap as map;
 ghost use Rattle.std.specs.Option.{option_map};
 
-use crate::node::Node;
+use crate::node::{Entries, Entry, Node};
 use crate::place::Place;
 use mr_paths::Name;
 use slab::Slab;
@@ -212,4 +217,23 @@ pub fn cut_first(nodes: &mut Slab<Place>, at: usize)
     if let Some(key) = unlink_first(nodes, at) {
         nodes.try_remove(key);
     }
+}
+
+/// The entries of a node, by the bytes of their names.
+pub fn list(nodes: &Slab<Place>, alloc: Global, at: usize) -> Result<Entries, AllocError>
+    ensures lines { IfOk result (λ entries. entries ≡ filter_map (line_at nodes.now) (links_of nodes.now at)) }
+    ensures rising { IfOk result (λ _. IsStrictlySortedBy (slice_cmp nat_cmp) (list_map (λ e. e.0) (links_of nodes.now at))) }
+{
+    let mut entries = Entries::new(alloc);
+    if let Some(place) = nodes.get(at) {
+        for (name, key) in place.children.iter() {
+            if let Some(found) = nodes.get(*key) {
+                entries.push(Entry {
+                    name: name.copy()?,
+                    kind: found.node.kind(),
+                })?;
+            }
+        }
+    }
+    Ok(entries)
 }

@@ -7,14 +7,15 @@ ghost use Rattle.mr_names.specs.TreeProofs.{held_prop};
 ghost use Rattle.mr_names.specs.Content.{IsTree, without, renamed, changed_at, with_dirs};
 ghost use Rattle.mr_names.specs.Node.{appended, closed_of};
 ghost use Rattle.mr_names.specs.Laws.{MayRename};
+ghost use Rattle.mr_names.specs.Listing.{children};
 ghost use Rattle.mr_names.specs.Held.{is_absent, missing_count};
 ghost use Rattle.mr_paths.specs.Path.{parent, prefixes};
 
 use crate::links::{
-    add_dirs, add_node, append_at, child, close_at, cut, cut_first, find, first_child, move_edge,
+    add_dirs, add_node, append_at, child, close_at, cut, cut_first, find, first_child, list, move_edge,
     reach, root_alone,
 };
-use crate::node::Node;
+use crate::node::{Entries, Node};
 use crate::place::Place;
 use mr_paths::Name;
 use slab::Slab;
@@ -132,6 +133,16 @@ impl Tree {
         };
         move_edge(&mut self.nodes, from_at, from_name, key, at, name)?;
         Ok(())
+    }
+
+    /// The entries directly beneath a path, by the bytes of their names.
+    pub fn children(&self, alloc: Global, top: &[Name]) -> Result<Entries, AllocError>
+        ensures { IfOk result (λ entries. entries ≡ children self.now top.now) }
+    {
+        match find(&self.nodes, self.root, top) {
+            Some(key) => list(&self.nodes, alloc, key),
+            None => Ok(Entries::new(alloc)),
+        }
     }
 
     /// The root alone.
