@@ -16,4 +16,5 @@ pub mod RowLaws
 pub mod Subtrees
 pub mod Tables
 pub mod TreeLaws
+pub mod Visiting
 pub mod Walks

@@ -81,7 +81,7 @@ pub same_listing : (es fs : List Entry) → IsStrictlySortedBy name_cmp (names_o
 same_listing es fs left right alike =
     sym (entries_from-pairs es)
     ∙ ap (map entry_from) (same_entries name_cmp nat_list_cmp_total (λ x y e. slice_cmp-IsAntisymmetric nat_cmp-IsAntisymmetric x y e) (pairs es) (pairs fs) (sorted-pairs es left) (sorted-pairs fs right)
-        (λ q. find-pairs q es ∙ alike q ∙ sym (find-pairs q fs)))
+    (λ q. find-pairs q es ∙ alike q ∙ sym (find-pairs q fs)))
     ∙ entries_from-pairs fs
 
 -- ---- the lines of a node's edges
@@ -132,7 +132,7 @@ module _ (s : Slab Place) where
       by None later = later
       by (Some node) later = (below_lines e.0 links h.0, later)
 
-edges_by : (o : Option Place) (name : List ℕ) → child_by o name ≡ lookup (is_at (name_cmp name)) (links_by o)
+pub edges_by : (o : Option Place) (name : List ℕ) → child_by o name ≡ lookup (is_at (name_cmp name)) (links_by o)
 edges_by None name = refl
 edges_by (Some place) name = refl
 

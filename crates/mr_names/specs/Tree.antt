@@ -10,6 +10,7 @@ use Rattle.slab.specs.Slab.{Slab, get}
 use Rattle.mr_names.specs.declared.node.Node.{Node}
 use Rattle.mr_names.specs.declared.node.Entry.{Entry}
 use Rattle.mr_names.specs.declared.place.Place.{Place}
+use Rattle.mr_names.specs.declared.place.Ahead.{Ahead}
 use Rattle.mr_names.specs.Listing.{entry_of}
 use Rattle.mr_names.specs.Content.{Content, with_dirs, without}
 
@@ -141,3 +142,7 @@ links_of s key = links_by (get s key)
 -- the line of an edge in a listing
 abbrev pub line_at : Slab Place → List ℕ × ℕ → Option Entry
 line_at s e = option_map (entry_of e.0) (nodes_of s e.1)
+
+-- the node to which an edge leads from a path's node
+abbrev pub ahead_of : List (List ℕ) → List ℕ × ℕ → Ahead
+ahead_of path e = record { path = path ++ e.0 ∷ []; at = e.1 }

@@ -1,6 +1,6 @@
 //! The nodes as a graph: edges by name.
-ghost use Rattle.std.specs.Prelude.{◌≡◌, Some, None, true, is_some, OnOk, OnErr, IfOk, IfSome, [], ℕ, List, MatchOption, length, take, ◌≤◌, ◌<◌, ◌+◌};
-ghost use Rattle.mr_names.specs.Tree.{edges_of, nodes_of, steps, IsTold, EdgeSet, SameGraph, NodeAdded, EdgeMoved, NodeChanged, NodeCut, first_edge, DirsAdded, SomeAdded, links_of, line_at};
+ghost use Rattle.std.specs.Prelude.{◌≡◌, Some, None, true, is_some, OnOk, OnErr, IfOk, IfSome, [], ℕ, List, MatchOption, length, take, ◌≤◌, ◌<◌, ◌+◌, ◌++◌, reverse};
+ghost use Rattle.mr_names.specs.Tree.{edges_of, nodes_of, steps, IsTold, EdgeSet, SameGraph, NodeAdded, EdgeMoved, NodeChanged, NodeCut, first_edge, DirsAdded, SomeAdded, links_of, line_at, ahead_of};
 ghost use Rattle.std.specs.Prelude.{map as list_map};
 ghost use Rattle.std.specs.List.{filter_map};
 ghost use Rattle.std.specs.List.Sorted.{IsStrictlySortedBy};
@@ -11,8 +11,8 @@ ghost use Rattle.std.specs.FinMap as map;
 ghost use Rattle.std.specs.Option.{option_map};
 
 use crate::node::{Entries, Entry, Node};
-use crate::place::Place;
-use mr_paths::Name;
+use crate::place::{Ahead, Place};
+use mr_paths::{Name, Path};
 use slab::Slab;
 use std::alloc::{AllocError, Global};
 use std::collections::BTreeMap;
@@ -236,4 +236,18 @@ pub fn list(nodes: &Slab<Place>, alloc: Global, at: usize) -> Result<Entries, Al
         }
     }
     Ok(entries)
+}
+
+/// Puts the nodes to which edges lead on top of those that are ahead, the one whose name comes first on top.
+pub fn push_ahead(ahead: &mut Vec<Ahead>, place: &Place, path: &Path) -> Result<(), AllocError>
+    ensures pushed { OnOk result (ahead.new.items ≡ ahead.old.items ++ list_map (ahead_of path.now) (reverse place.now.children.entries)) }
+    ensures rising { OnOk result (IsStrictlySortedBy (slice_cmp nat_cmp) (list_map (λ e. e.0) place.now.children.entries)) }
+{
+    for (name, key) in place.children.iter().rev() {
+        ahead.push(Ahead {
+            path: path.child(name.copy()?)?,
+            at: *key,
+        })?;
+    }
+    Ok(())
 }

@@ -1,5 +1,5 @@
 use crate::node::Node;
-use mr_paths::Name;
+use mr_paths::{Name, Path};
 use std::collections::BTreeMap;
 
 /// A node of the tree: what stands there, and beneath a directory the keys of its entries' nodes by their names.
@@ -7,4 +7,11 @@ use std::collections::BTreeMap;
 pub struct Place {
     pub node: Node,
     pub children: BTreeMap<Name, usize>,
+}
+
+/// A node that is still to be visited, and the path that leads to it.
+#[derive(Drop)]
+pub struct Ahead {
+    pub path: Path,
+    pub at: usize,
 }

@@ -8,16 +8,18 @@ ghost use Rattle.mr_names.specs.Content.{IsTree, without, renamed, changed_at, w
 ghost use Rattle.mr_names.specs.Node.{appended, closed_of};
 ghost use Rattle.mr_names.specs.Laws.{MayRename};
 ghost use Rattle.mr_names.specs.Listing.{children};
+ghost use Rattle.mr_names.specs.Walk.{walk};
 ghost use Rattle.mr_names.specs.Held.{is_absent, missing_count};
 ghost use Rattle.mr_paths.specs.Path.{parent, prefixes};
 
 use crate::links::{
-    add_dirs, add_node, append_at, child, close_at, cut, cut_first, find, first_child, list, move_edge,
-    reach, root_alone,
+    add_dirs, add_node, append_at, child, close_at, cut, cut_first, find, first_child, list,
+    move_edge, push_ahead, reach, root_alone,
 };
 use crate::node::{Entries, Node};
-use crate::place::Place;
-use mr_paths::Name;
+use crate::place::{Ahead, Place};
+use crate::walk::{Found, Walk};
+use mr_paths::{Name, Path};
 use slab::Slab;
 use std::alloc::{AllocError, Global};
 use std::marker::Model;
@@ -143,6 +145,30 @@ impl Tree {
             Some(key) => list(&self.nodes, alloc, key),
             None => Ok(Entries::new(alloc)),
         }
+    }
+
+    /// What stands at each path, in the order of the paths.
+    pub fn walk(&self, alloc: Global) -> Result<Walk, AllocError>
+        ensures { IfOk result (λ found. found ≡ walk self.now) }
+    {
+        let mut found = Walk::new(alloc);
+        let mut ahead = vec![in alloc;
+            Ahead {
+                path: Path::root(alloc),
+                at: self.root
+            },
+        ]?;
+        while let Some(next) = ahead.pop() {
+            let Some(place) = self.nodes.get(next.at) else {
+                return Ok(found);
+            };
+            push_ahead(&mut ahead, place, &next.path)?;
+            found.push(Found {
+                path: next.path,
+                length: place.node.length(),
+            })?;
+        }
+        Ok(found)
     }
 
     /// The root alone.
