@@ -1,5 +1,5 @@
 -- A call that is not refused leaves a tree.
-use Rattle.std.proofs.Common.{◌≡◌, ◌≢◌, ℕ, ◌-◌, Bool, true, false, cond, ◌&&◌, ◌||◌, List, [], ◌∷◌, ◌++◌, map, filter, length, take, refl, sym, ap, ◌∙◌, subst, Option, Some, None, is_some, is_none, true≢false, append_assoc, append-nil, length-append, inl, inr, ◌⊎◌, ⊎_elim, arith, nat_lt, eqb}
+use Rattle.std.proofs.Common.{◌≡◌, ◌≢◌, ◌<◌, ℕ, ◌-◌, Bool, true, false, cond, ◌&&◌, ◌||◌, List, [], ◌∷◌, ◌++◌, map, filter, length, take, refl, sym, ap, ◌∙◌, subst, Option, Some, None, is_some, is_none, true≢false, append_assoc, append-nil, length-append, inl, inr, ◌⊎◌, ⊎_elim, arith, nat_lt, eqb}
 use Rattle.std.specs.Option.{option_or}
 use Rattle.std.specs.List.{list_any}
 use Rattle.std.specs.Cmp.Lexicographic.{pointwise}
@@ -302,6 +302,11 @@ past_caller s caller call none = (row_passes (passes_limit s.barred call) _ _ (n
 -- what a call that is not refused leaves, seen at the content alone
 pub tree_after : (s : State) (caller : Caller) (call : Op) (new : Content) → refused s caller call ≡ None → IsTree s.content → new ≡ effect s.content call → IsTree new
 tree_after s caller call new none tree is = subst IsTree (sym is) (tree_effect s.content call tree (past_caller s caller call none))
+
+-- what is not the root has a name
+pub not_empty : (path : List (List ℕ)) → path ≢ [] → 0 < length path
+not_empty [] apart = absurd (apart refl)
+not_empty (n ∷ path) apart = omega arith
 
 -- the root alone
 pub tree_root : IsTree (finite.insert finite.empty [] Dir)

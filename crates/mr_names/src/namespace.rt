@@ -7,10 +7,10 @@ use crate::barred::Barred;
 use crate::fault::NameFault;
 use crate::node::{Bytes, Entries, Kind, Node};
 use crate::op::{Answer, Caller, Op};
-use crate::table::Table;
+use crate::tree::Tree;
 use crate::walk::Walk;
 use mr_ids::{AppAttempt, AttemptId};
-use mr_paths::{Path, copy_names, is_within, parent};
+use mr_paths::{Path, is_within, parent};
 use std::alloc::{AllocError, Global};
 use std::marker::Model;
 
@@ -31,7 +31,7 @@ pub const MAX_BARRED: usize = 100_000;
 /// then [`NameFault::Full`], and [`NameFault::NoMemory`] last. A refusal changes nothing.
 #[derive(Drop)]
 pub struct Namespace {
-    table: Table,
+    tree: Tree,
     fence: u32,
     barred: Barred,
     alloc: Global,
@@ -44,11 +44,11 @@ impl Model for Namespace {
 
     ghost coded = { state_code };
 
-    ghost view = { λ n. record { content = n.table; fence = n.fence; barred = n.barred } };
+    ghost view = { λ n. record { content = n.tree; fence = n.fence; barred = n.barred } };
 
     ghost use Rattle.mr_names.specs.Calls.{IsSound};
 
-    ghost invariant = { λ n. IsSound (record { content = n.table; fence = n.fence; barred = n.barred }) };
+    ghost invariant = { λ n. IsSound (record { content = n.tree; fence = n.fence; barred = n.barred }) };
 }
 
 impl Namespace {
@@ -58,10 +58,8 @@ impl Namespace {
         ensures made { IfOk result (λ names. names ≡ opening) }
         ensures memory { IsOkUnless result NameFault.NoMemory }
     {
-        let mut table = Table::empty(alloc);
-        table.insert(Vec::new(alloc), Node::Dir)?;
         Ok(Namespace {
-            table,
+            tree: Tree::new(alloc)?,
             fence: 0,
             barred: Barred::new(alloc),
             alloc,
@@ -110,7 +108,7 @@ impl Namespace {
         ensures { Makes (λ _. Answer.Done) self.old caller (Op.Mkdirs path.now) result self.new }
     {
         self.check_mkdirs(caller, path)?;
-        self.table.make_dirs(self.alloc, path.names(), 0)?;
+        self.tree.make_dirs(self.alloc, path.names())?;
         Ok(())
     }
 
@@ -120,9 +118,8 @@ impl Namespace {
         ensures { Makes (λ _. Answer.Done) self.old caller (Op.Create path.now closed) result self.new }
     {
         self.check_create(caller, path, closed)?;
-        let names = copy_names(self.alloc, path.names())?;
-        self.table
-            .insert(names, Node::File(Bytes::new(self.alloc), closed))?;
+        let file = Node::File(Bytes::new(self.alloc), closed);
+        self.tree.insert(self.alloc, path.names(), file)?;
         Ok(())
     }
 
@@ -131,7 +128,7 @@ impl Namespace {
         ensures { Makes (λ _. Answer.Done) self.old caller (Op.Append path.now more.now) result self.new }
     {
         self.check_append(caller, path, more)?;
-        self.table.append(path.names(), more)?;
+        self.tree.append(path.names(), more)?;
         Ok(())
     }
 
@@ -140,7 +137,7 @@ impl Namespace {
         ensures { MakesAlways (λ _. Answer.Done) self.old caller (Op.Close path.now) result self.new }
     {
         self.check_close(caller, path)?;
-        self.table.close(path.names());
+        self.tree.close(path.names());
         Ok(())
     }
 
@@ -150,7 +147,7 @@ impl Namespace {
         ensures { MakesAlways (λ _. Answer.Done) self.old caller (Op.Delete path.now) result self.new }
     {
         self.check_delete(caller, path)?;
-        self.table.take_out(self.alloc, path.names());
+        self.tree.take_out(path.names());
         Ok(())
     }
 
@@ -161,7 +158,7 @@ impl Namespace {
         ensures { Makes (λ _. Answer.Done) self.old caller (Op.Rename from.now to.now) result self.new }
     {
         self.check_rename(caller, from, to)?;
-        self.table.rename(self.alloc, from.names(), to.names())?;
+        self.tree.rename(from.names(), to.names())?;
         Ok(())
     }
 
@@ -170,14 +167,14 @@ impl Namespace {
         ensures { Makes Answer.Listed self.now caller (Op.List path.now) result self.now }
     {
         self.check_list(caller, path)?;
-        Ok(self.table.children(self.alloc, path.names())?)
+        Ok(self.tree.children(self.alloc, path.names())?)
     }
 
     /// What is at a path, if anything is. Only the fence and a bar refuse it.
     pub fn exists(&self, caller: Caller, path: &Path) -> Result<Option<Kind>, NameFault>
         ensures { MakesAlways Answer.Found self.now caller (Op.Exists path.now) result self.now }
     {
-        let found = self.table.get(path.names()).map(|node| node.kind());
+        let found = self.tree.get(path.names()).map(|node| node.kind());
         self.check_caller(caller).map(|()| found)
     }
 
@@ -186,7 +183,7 @@ impl Namespace {
         ensures { Makes Answer.Contents self.now caller (Op.Read path.now) result self.now }
     {
         self.check_caller(caller)?;
-        match self.table.get(path.names()) {
+        match self.tree.get(path.names()) {
             None => Err(NameFault::Missing),
             Some(Node::Dir) => Err(NameFault::NotFile),
             Some(Node::File(bytes, _closed)) => Ok(bytes.copy()?),
@@ -238,7 +235,7 @@ impl Namespace {
     pub fn walk(&self) -> Result<Walk, AllocError>
         ensures { IfOk result (λ found. found ≡ walk self.now.content) }
     {
-        self.table.walk(self.alloc)
+        self.tree.walk(self.alloc)
     }
 }
 
@@ -265,7 +262,7 @@ impl Namespace {
     fn check_room(&self, more: usize) -> Result<(), NameFault>
         ensures { Refuses (if nat_lt MAX_ENTRIES (entry_count self.now.content + more) then Some NameFault.Full else None) result }
     {
-        let count = self.table.len().saturating_sub(1);
+        let count = self.tree.len().saturating_sub(1);
         if MAX_ENTRIES < count || MAX_ENTRIES - count < more {
             Err(NameFault::Full)
         } else {
@@ -277,7 +274,7 @@ impl Namespace {
         ensures { Refuses (refused self.now caller (Op.Mkdirs path.now)) result }
     {
         self.check_caller(caller)?;
-        match self.table.missing_from(path.names(), 0) {
+        match self.tree.missing(path.names()) {
             None => Err(NameFault::NotDir),
             Some(missing) => self.check_room(missing),
         }
@@ -287,10 +284,10 @@ impl Namespace {
         ensures { Refuses (refused self.now caller (Op.Create path.now closed)) result }
     {
         self.check_caller(caller)?;
-        if self.table.get(path.names()).is_some() {
+        if self.tree.get(path.names()).is_some() {
             return Err(NameFault::Exists);
         }
-        match self.table.get(parent(path.names())) {
+        match self.tree.get(parent(path.names())) {
             None => Err(NameFault::NoParent),
             Some(Node::File(_bytes, _closed)) => Err(NameFault::NotDir),
             Some(Node::Dir) => self.check_room(1),
@@ -301,7 +298,7 @@ impl Namespace {
         ensures { Refuses (refused self.now caller (Op.Append path.now more.now)) result }
     {
         self.check_caller(caller)?;
-        match self.table.get(path.names()) {
+        match self.tree.get(path.names()) {
             None => Err(NameFault::Missing),
             Some(Node::Dir) => Err(NameFault::NotFile),
             Some(Node::File(bytes, closed)) => {
@@ -320,7 +317,7 @@ impl Namespace {
         ensures { Refuses (refused self.now caller (Op.Close path.now)) result }
     {
         self.check_caller(caller)?;
-        match self.table.get(path.names()) {
+        match self.tree.get(path.names()) {
             None => Err(NameFault::Missing),
             Some(Node::Dir) => Err(NameFault::NotFile),
             Some(Node::File(_bytes, true)) => Err(NameFault::Closed),
@@ -332,10 +329,10 @@ impl Namespace {
         ensures { Refuses (refused self.now caller (Op.Delete path.now)) result }
     {
         self.check_caller(caller)?;
-        if path.len() == 0 || self.table.get(parent(path.names())).is_none() {
+        if path.len() == 0 || self.tree.get(parent(path.names())).is_none() {
             return Err(NameFault::NoParent);
         }
-        if self.table.get(path.names()).is_none() {
+        if self.tree.get(path.names()).is_none() {
             return Err(NameFault::Missing);
         }
         Ok(())
@@ -345,16 +342,16 @@ impl Namespace {
         ensures { Refuses (refused self.now caller (Op.Rename from.now to.now)) result }
     {
         self.check_caller(caller)?;
-        if self.table.get(from.names()).is_none() {
+        if self.tree.get(from.names()).is_none() {
             return Err(NameFault::Missing);
         }
         if is_within(to.names(), from.names()) {
             return Err(NameFault::IntoItself);
         }
-        if self.table.get(to.names()).is_some() {
+        if self.tree.get(to.names()).is_some() {
             return Err(NameFault::Exists);
         }
-        match self.table.get(parent(to.names())) {
+        match self.tree.get(parent(to.names())) {
             None => Err(NameFault::NoParent),
             Some(Node::File(_bytes, _closed)) => Err(NameFault::NotDir),
             Some(Node::Dir) => Ok(()),
@@ -365,7 +362,7 @@ impl Namespace {
         ensures { Refuses (refused self.now caller (Op.List path.now)) result }
     {
         self.check_caller(caller)?;
-        match self.table.get(path.names()) {
+        match self.tree.get(path.names()) {
             None => Err(NameFault::Missing),
             Some(Node::File(_bytes, _closed)) => Err(NameFault::NotDir),
             Some(Node::Dir) => Ok(()),
@@ -387,7 +384,7 @@ impl Namespace {
         ensures { Refuses (refused self.now caller (Op.Read path.now)) result }
     {
         self.check_caller(caller)?;
-        match self.table.get(path.names()) {
+        match self.tree.get(path.names()) {
             None => Err(NameFault::Missing),
             Some(Node::Dir) => Err(NameFault::NotFile),
             Some(Node::File(_bytes, _closed)) => Ok(()),

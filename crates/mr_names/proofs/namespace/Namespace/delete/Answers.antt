@@ -1,8 +1,9 @@
-use Rattle.std.proofs.Common.{◌∙◌, ap, subst, rules}
+use Rattle.std.proofs.Common.{◌∙◌, ◌<◌, length, ap, subst, sym, rules}
 use Rattle.mr_names.specs.declared.op.Op.TheVariants as op
 use Rattle.mr_names.specs.Calls.{State, effect}
 use Rattle.mr_names.specs.Content.{IsTree}
-use Rattle.mr_names.proofs.TreeLaws.{tree_after}
+use Rattle.mr_names.proofs.CallLaws.{answered_only}
+use Rattle.mr_names.proofs.TreeLaws.{tree_after, past_caller, not_empty}
 use Rattle.mr_names.proofs.namespace.Namespace.delete.Goals as goal
 
 pub invariant_of-self : goal.invariant_of-self
@@ -13,4 +14,7 @@ invariant_of-self c =
     record { tree = left; fence = c.self.invariant.fence; barred = c.self.invariant.barred }
 
 pub take_out-requires : goal.take_out-requires
-take_out-requires c = c.self.invariant.tree
+take_out-requires c =
+    let call = op.Delete c.args.path.now in
+    let may = answered_only c.args.self.now.content call (past_caller c.args.self.now c.args.caller call c.in_ok-check_delete.ensures) in
+    subst (λ names. 0 < length names) (sym c.names.ensures) (not_empty c.args.path.now may.not_root)

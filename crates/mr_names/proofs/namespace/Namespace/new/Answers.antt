@@ -6,7 +6,7 @@ use Rattle.mr_names.proofs.namespace.Namespace.new.Goals as goal
 
 pub invariant_of-result : goal.invariant_of-result
 invariant_of-result c = record {
-  tree = rw (c.in_ok-insert.ensures.ok, c.empty-table.ensures, c.new.ensures.items) tree_root;
+  tree = rw c.in_ok-new.ensures tree_root;
   fence = omega arith;
   barred = rw (c.new-2.ensures, set.len-empty attempt_cmp) (omega arith);
 }

@@ -14,11 +14,8 @@ invariant_of-self-2 c =
     let left = tree_after c.args.self.now c.args.caller call c.rename.new.self c.in_ok-check_rename.ensures tree ((search rules) ∙ ap (λ (s : State). effect s.content call) c.self.view_is) in
     record { tree = left; fence = c.self.invariant.fence; barred = c.self.invariant.barred }
 
-pub rename-requires-clause-tree : goal.rename-requires-clause-tree
-rename-requires-clause-tree c = c.self.invariant.tree
-
-pub rename-requires-clause-may : goal.rename-requires-clause-may
-rename-requires-clause-may c =
+pub rename-requires : goal.rename-requires
+rename-requires c =
     let call = op.Rename c.args.from.now c.args.to.now in
     rw (c.names.ensures, c.names-2.ensures) (subst (λ (s : State). MayRename s.content c.args.from.now c.args.to.now) (sym c.self.view_is)
     (answered_only c.args.self.now.content call (past_caller c.args.self.now c.args.caller call c.in_ok-check_rename.ensures)))
