@@ -1,24 +1,23 @@
 -- The laws of the namespace's calls.
-use Rattle.std.proofs.Common.{◌≡◌, ◌≢◌, ℕ, ◌+◌, ◌≤◌, Bool, true, false, cond, not, ◌&&◌, ◌||◌, List, [], ◌∷◌, ◌++◌, length, refl, sym, ap, ◌∙◌, subst, Option, Some, None, is_some, is_none, true≢false, append-nil, arith, eqb, nat_lt, nat_eq, ⊎_elim}
-use Rattle.std.proofs.lemmas.Bool.{ltb-false, lt-ltb, le-ltb, eqb-true}
+use Rattle.std.proofs.Common.{◌≡◌, ◌≢◌, ℕ, ◌+◌, ◌≤◌, Bool, true, false, cond, ◌&&◌, ◌||◌, List, [], ◌∷◌, ◌++◌, length, refl, sym, ap, ◌∙◌, subst, Option, Some, None, is_some, is_none, true≢false, append-nil, arith, eqb, nat_lt, nat_eq, ⊎_elim}
+use Rattle.std.proofs.lemmas.Bool.{ltb-false, le-ltb, eqb-true}
 use Rattle.std.specs.Option.{option_map}
 use Rattle.std.specs.Cmp.Lexicographic.{pointwise, nat_list_eq_equiv}
 use Rattle.std.specs.FinMap as finite
-use Rattle.mr_paths.specs.Path.{strip, parent, prefixes, path_ties, path_total, path_exact}
-use Rattle.mr_paths.proofs.Paths.{strip-append, append-strip}
+use Rattle.mr_paths.specs.Path.{strip, parent, prefixes, path_ties, path_total}
+use Rattle.mr_paths.proofs.Paths.{strip-append}
 use Rattle.mr_names.specs.declared.node.Node.{Node}
 use Rattle.mr_names.specs.declared.node.Node.TheVariants.{Dir, File}
-use Rattle.mr_names.specs.declared.fault.NameFault.{NameFault}
 use Rattle.mr_names.specs.declared.fault.NameFault.TheVariants as fault
 use Rattle.mr_names.specs.declared.op.Op.TheVariants as op
 use Rattle.mr_names.specs.declared.namespace.TheConstants.{MAX_FILE_LEN}
 use Rattle.mr_names.specs.Node.{appended, closed_of}
-use Rattle.mr_names.specs.Content.{Content, IsTree, is_path, without, without_one, within, changed_at, changed_by}
+use Rattle.mr_names.specs.Content.{Content, IsTree, is_path, within, changed_at, changed_by}
 use Rattle.mr_names.specs.Held.{node_at, is_absent, is_file, is_dir, is_closed, bytes_of}
 use Rattle.mr_names.specs.Calls.{refusal, effect, first_of}
 use Rattle.mr_names.specs.Laws.{EachPath, MadeThere, CreatedThere, AppendedThere, ClosedThere, DeletedThere, RenamedThere, RenamedAway, OthersStay, OnlyMakersMake, DirsStay, ClosedFilesStay, NothingBeneath, FilesAreLeaves, MayMkdirs, MayCreate, IsOpenFile, MayAppend, MayDelete, MayRename, AnsweredOnly, AnsweredAlways}
 use Rattle.mr_names.proofs.ContentLaws.{same_path, same_itself, get-without, get-renamed, get-renamed-outside, nothing_within, above_is_dir}
-use Rattle.mr_names.proofs.TreeLaws.{row_passes, present, absent, is_there, nonempty, get-made, tree_effect, parent-push, Pushed, front_and_last, any_at, list_any-prefixes}
+use Rattle.mr_names.proofs.TreeLaws.{row_passes, present, absent, is_there, nonempty, get-made, parent-push, Pushed, front_and_last, any_at, list_any-prefixes}
 
 -- ---- one path written or changed
 
@@ -361,21 +360,3 @@ answered_always c (op.List path) tree may = let dir : node_at c path ≡ Some Di
 answered_always c (op.Exists path) tree may = refl
 answered_always c (op.Read path) tree may = reads (finite.get c path) may
 answered_always c (op.Bar a) tree may = refl
-
--- ---- a file taken out
-
--- nothing is beneath a file, so that it is taken out alone
-pub without_leaf : (c : Content) (path : List (List ℕ)) → IsTree c → is_file (finite.get c path) ≡ true → without_one path c ≡ without path c
-without_leaf c path tree file = finite.same_map path_total path_exact _ _ (λ q.
-    finite.get-retain_keys c (λ p. not (is_path p path)) q (λ x tied. ap (λ p. not (is_path p path)) (sym (path_exact q x tied)))
-    ∙ by q (is_path q path) refl (strip path q) refl
-    ∙ sym (get-without path c q))
-  where
-    by : (q : List (List ℕ)) (b : Bool) → is_path q path ≡ b → (o : Option (List (List ℕ))) → strip path q ≡ o → cond (not b) (finite.get c q) None ≡ cond (is_some o) None (finite.get c q)
-    by q true is None none = absurd (true≢false (sym (within-itself path) ∙ ap (within path) (sym (is_path-same q path is)) ∙ ap is_some none))
-    by q true is (Some rest) some = refl
-    by q false is None none = refl
-    by q false is (Some []) some =
-        let here : q ≡ path = append-strip path q [] some ∙ append-nil path in
-        absurd (true≢false (sym (is_path-itself path) ∙ ap (λ p. is_path p path) (sym here) ∙ is))
-    by q false is (Some (name ∷ rest)) some = ap (finite.get c) (append-strip path q (name ∷ rest) some) ∙ files_are_leaves c path rest name tree file

@@ -1,5 +1,5 @@
 -- What a path holds after each change of a content.
-use Rattle.std.proofs.Common.{◌≡◌, ◌≢◌, ℕ, Bool, true, false, cond, not, ◌&&◌, List, [], ◌∷◌, ◌++◌, map, length, refl, sym, ap, ◌∙◌, subst, Option, Some, None, Ordering, Less, Equal, Greater, is_some, true≢false, append_assoc, append-nil, suc, zero, ◌≤◌, ◌<◌, take, drop, filter, is_none, ◌+◌, ◌||◌, add-one, arith, inl, inr, ◌⊎◌}
+use Rattle.std.proofs.Common.{◌≡◌, ◌≢◌, ℕ, Bool, true, false, cond, not, ◌&&◌, List, [], ◌∷◌, ◌++◌, map, length, refl, sym, ap, ◌∙◌, Option, Some, None, Ordering, Less, Equal, Greater, is_some, true≢false, append_assoc, append-nil, suc, zero, ◌≤◌, ◌<◌, take, drop, filter, is_none, ◌+◌, ◌||◌, add-one, arith, inl, inr, ◌⊎◌}
 use Rattle.std.specs.Prelude.{T}
 use Rattle.std.proofs.lemmas.List.{length-map}
 use Rattle.std.specs.Option.{option_or}
@@ -62,6 +62,12 @@ pub get_kept : (c : Content) (path : List (List ℕ)) (node : Node) (q : List (L
 get_kept c path node q apart = finite.get-insert path_total c path node q ∙ rw (different q path apart) refl
 
 -- ---- all within a path taken out
+
+pub get-without_one : (c : Content) (path q : List (List ℕ)) → finite.get (without_one path c) q ≡ cond (same q path) None (finite.get c q)
+get-without_one c path q =
+    finite.get-retain_keys c (λ p. not (is_path p path)) q (λ x tied. ap (λ p. not (is_path p path)) (sym (path_exact q x tied)))
+    ∙ ap (λ b. cond (not b) (finite.get c q) None) (path_ties q path)
+    ∙ elim (same q path) as (λ b. cond (not b) (finite.get c q) None ≡ cond b None (finite.get c q)) [ true ↦ refl | false ↦ refl ]
 
 pub get-without : (top : List (List ℕ)) (c : Content) (q : List (List ℕ)) → finite.get (without top c) q ≡ cond (within top q) None (finite.get c q)
 get-without top c q =
@@ -287,37 +293,6 @@ drop-prefixes-end path = drop-all (suc (length path)) (prefixes path) (length-pr
     length-prefixes [] = refl
     length-prefixes (m ∷ path) = ap suc (length-map (prefixes path) (λ p. m ∷ p) ∙ length-prefixes path)
 
--- no longer path is the one that is made
-filter-made : (c : Content) (top : List (List ℕ)) (paths : List (List (List ℕ))) → AllByRecursion (λ p. length top < length p) paths → filter (is_absent (finite.insert c top Dir)) paths ≡ filter (is_absent c) paths
-filter-made c top [] longer = refl
-filter-made c top (p ∷ paths) longer =
-    let here : is_absent (finite.insert c top Dir) p ≡ is_absent c p = ap is_none (get_kept c top Dir p (λ e. let eq : length p ≡ length top = ap length e in let lt : length top < length p = longer.0 in omega arith)) in
-    (λ i. cond (here i) (p ∷ filter-made c top paths longer.1 i) (filter-made c top paths longer.1 i))
-
-longer_prefixes : (n : ℕ) (path : List (List ℕ)) → n ≤ length path → AllByRecursion (λ p. length (take n path) < length p) (drop (suc n) (prefixes path))
-longer_prefixes n path h = by n path h
-  where
-    all_map : (m : List ℕ) (k : ℕ) (ps : List (List (List ℕ))) → AllByRecursion (λ p. k < length p) ps → AllByRecursion (λ p. suc k < length p) (map (λ p. m ∷ p) ps)
-    all_map m k [] h = tt
-    all_map m k (p ∷ ps) h = (let lt : k < length p = h.0 in omega arith, all_map m k ps h.1)
-
-    some : (m : List ℕ) (ps : List (List (List ℕ))) → AllByRecursion (λ p. 0 < length p) (map (λ p. m ∷ p) ps)
-    some m [] = tt
-    some m (p ∷ ps) = (omega arith, some m ps)
-
-    drop-map : (m : List ℕ) (k : ℕ) (ps : List (List (List ℕ))) → drop k (map (λ p. m ∷ p) ps) ≡ map (λ p. m ∷ p) (drop k ps)
-    drop-map m zero ps = refl
-    drop-map m (suc k) [] = refl
-    drop-map m (suc k) (p ∷ ps) = drop-map m k ps
-
-    by : (n : ℕ) (path : List (List ℕ)) → n ≤ length path → AllByRecursion (λ p. length (take n path) < length p) (drop (suc n) (prefixes path))
-    by zero [] h = tt
-    by zero (m ∷ path) h = some m (prefixes path)
-    by (suc n) [] h = absurd (omega arith)
-    by (suc n) (m ∷ path) h =
-        let le : n ≤ length path = omega arith in
-        subst (AllByRecursion (λ p. suc (length (take n path)) < length p)) (sym (drop-map m (suc n) (prefixes path))) (all_map m (length (take n path)) (drop (suc n) (prefixes path)) (by n path le))
-
 -- past the path itself nothing is left
 pub none_left : (n : ℕ) (path : List (List ℕ)) → length path < n → drop n (prefixes path) ≡ []
 none_left n path h = by n path h
@@ -336,10 +311,7 @@ none_left n path h = by n path h
     by (suc n) [] h = drop-nil n
     by (suc n) (m ∷ path) h = let lt : length path < n = omega arith in drop-map m n (prefixes path) ∙ ap (map (λ p. m ∷ p)) (by n path lt)
 
--- one directory made, and then those that are missing beneath it
-pub made_first : (c : Content) (n : ℕ) (path : List (List ℕ)) → n ≤ length path → finite.get c (take n path) ≡ None → with_dirs (finite.insert c (take n path) Dir) (filter (is_absent (finite.insert c (take n path) Dir)) (drop (n + 1) (prefixes path))) ≡ with_dirs c (filter (is_absent c) (drop n (prefixes path)))
-made_first c n path h none = rw (add-one, drop-prefixes n path h, none, filter-made c (take n path) (drop (suc n) (prefixes path)) (longer_prefixes n path h)) refl
-
+-- one directory that is there, and then those that are missing beneath it
 pub there_first : (c : Content) (n : ℕ) (path : List (List ℕ)) → n ≤ length path → is_some (finite.get c (take n path)) ≡ true → with_dirs c (filter (is_absent c) (drop (n + 1) (prefixes path))) ≡ with_dirs c (filter (is_absent c) (drop n (prefixes path)))
 there_first c n path h some =
     let there : is_none (finite.get c (take n path)) ≡ false = by (finite.get c (take n path)) some in
@@ -366,14 +338,3 @@ count_first c n path h = rw (add-one, drop-prefixes n path h) (by (finite.get c 
     by (Some Dir) false = refl
     by (Some (File bytes closed)) true = refl
     by (Some (File bytes closed)) false = refl
-
--- what was not there is taken out again
-pub without_one_insert : (c : Content) (path : List (List ℕ)) (node : Node) → finite.get c path ≡ None → without_one path (finite.insert c path node) ≡ c
-without_one_insert c path node none = finite.same_map path_total path_exact _ _ (λ q.
-    finite.get-retain_keys (finite.insert c path node) (λ p. not (is_path p path)) q (λ x tied. ap (λ p. not (is_path p path)) (sym (path_exact q x tied)))
-    ∙ ap (λ b. cond (not b) (finite.get (finite.insert c path node) q) None) (path_ties q path)
-    ∙ by q (same q path) refl)
-  where
-    by : (q : List (List ℕ)) (b : Bool) → same q path ≡ b → cond (not b) (finite.get (finite.insert c path node) q) None ≡ finite.get c q
-    by q true is = sym (ap (finite.get c) (same_path q path is) ∙ none)
-    by q false is = get_kept c path node q (λ e. true≢false (sym (same_from q path e) ∙ is))

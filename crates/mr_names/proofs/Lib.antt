@@ -10,11 +10,7 @@ pub mod Graph
 pub mod ListingLaws
 pub mod NodeLines
 pub mod Making
-pub mod Moving
-pub mod Removing
 pub mod RowLaws
-pub mod Subtrees
-pub mod Tables
 pub mod TreeLaws
 pub mod Visiting
 pub mod Walks

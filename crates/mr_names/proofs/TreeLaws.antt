@@ -1,5 +1,5 @@
 -- A call that is not refused leaves a tree.
-use Rattle.std.proofs.Common.{◌≡◌, ◌≢◌, ◌<◌, ℕ, ◌-◌, Bool, true, false, cond, ◌&&◌, ◌||◌, List, [], ◌∷◌, ◌++◌, map, filter, length, take, refl, sym, ap, ◌∙◌, subst, Option, Some, None, is_some, is_none, true≢false, append_assoc, append-nil, length-append, inl, inr, ◌⊎◌, ⊎_elim, arith, nat_lt, eqb}
+use Rattle.std.proofs.Common.{◌≡◌, ◌≢◌, ◌<◌, ℕ, ◌-◌, Bool, true, false, cond, ◌&&◌, ◌||◌, List, [], ◌∷◌, ◌++◌, map, filter, length, take, refl, sym, ap, ◌∙◌, subst, Option, Some, None, is_some, is_none, true≢false, append_assoc, append-nil, length-append, inl, inr, ◌⊎◌, ⊎_elim, arith, eqb}
 use Rattle.std.specs.Option.{option_or}
 use Rattle.std.specs.List.{list_any}
 use Rattle.std.specs.Cmp.Lexicographic.{pointwise}

@@ -1,5 +1,5 @@
 -- A walk over the nodes from the root, in the order of the paths.
-use Rattle.std.proofs.Common.{◌≡◌, ℕ, ◌+◌, ◌<◌, Bool, true, false, cond, ◌&&◌, ◌||◌, List, [], ◌∷◌, ◌++◌, append_assoc, append-nil, map, reverse, length, length-append, refl, sym, ap, ◌∙◌, subst, Option, Some, None, is_some, true≢false, Ordering, Less, Equal, Greater, arith}
+use Rattle.std.proofs.Common.{◌≡◌, ℕ, ◌<◌, Bool, true, false, cond, ◌&&◌, ◌||◌, List, [], ◌∷◌, ◌++◌, append_assoc, append-nil, map, reverse, length, refl, sym, ap, ◌∙◌, subst, Option, Some, None, is_some, true≢false, Ordering, Less, Equal, Greater, arith}
 use Rattle.std.specs.Prelude.{T}
 use Rattle.std.specs.Ordering.{is_eq, is_lt, nat_cmp, ordering_then}
 use Rattle.std.specs.Cmp.{tied_itself}
@@ -20,7 +20,7 @@ use Rattle.mr_names.specs.declared.place.Ahead.{Ahead}
 use Rattle.mr_names.specs.declared.walk.Found.{Found}
 use Rattle.mr_names.specs.Walk.{found_of, walk}
 use Rattle.mr_names.specs.Content.{Content, within}
-use Rattle.mr_names.specs.Tree.{Edges, along, steps, standing, edges_of, nodes_of, IsTold, links_of, links_by, child_by, ahead_of}
+use Rattle.mr_names.specs.Tree.{along, steps, standing, edges_of, nodes_of, IsTold, links_of, ahead_of}
 use Rattle.mr_names.proofs.ContentLaws.{same, same_path, same_itself}
 use Rattle.mr_names.proofs.Walks.{Names, steps-append, steps-none}
 use Rattle.mr_names.proofs.Beneath.{within_up, within_itself}

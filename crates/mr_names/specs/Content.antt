@@ -3,9 +3,6 @@ use Rattle.std.specs.Prelude.{◌≡◌, ℕ, Bool, List, [], ◌∷◌, ◌++�
 use Rattle.std.specs.Cmp.Lexicographic.{pointwise}
 use Rattle.std.specs.FinMap as finite
 use Rattle.std.specs.Coded.{Coded, coded_ℕ, coded_list}
-use Rattle.std.specs.declared.alloc.Global.{Global}
-use Rattle.std.specs.declared.vec.Vec.{Vec}
-use Rattle.mr_paths.specs.declared.name.Name.{Name}
 use Rattle.mr_paths.specs.Path.{path_cmp, strip, rebased}
 use Rattle.mr_names.specs.declared.node.Node.{Node}
 use Rattle.mr_names.specs.declared.node.Node.TheVariants.{Dir}
@@ -16,13 +13,6 @@ Content = finite.FinMap path_cmp Node
 
 abbrev pub content_code : Coded Content
 content_code = finite.code (coded_list (coded_list coded_ℕ)) coded_node
-
--- the map's keys as lists of names
-abbrev pub by_names : Vec Name Global × Node → List (List ℕ) × Node
-by_names e = (e.0.items, e.1)
-
-abbrev pub content_of : List (Vec Name Global × Node) → Content
-content_of es = finite.from_entries (map by_names es)
 
 -- without what is at a path and beneath it
 abbrev pub without : List (List ℕ) → Content → Content

@@ -3,7 +3,6 @@ pub mod Content
 pub mod Held
 pub mod Laws
 pub mod Listing
-pub mod Moving
 pub mod Node
 pub mod Rows
 pub mod Tree

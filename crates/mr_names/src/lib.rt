@@ -69,7 +69,6 @@ mod namespace;
 mod node;
 mod op;
 mod place;
-mod table;
 mod tree;
 mod walk;
 

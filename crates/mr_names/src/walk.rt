@@ -1,6 +1,6 @@
-ghost use Rattle.std.specs.Prelude.{◌≡◌, ◌++◌, ◌∷◌, [], OnOk, OnErr, IfOk};
+ghost use Rattle.std.specs.Prelude.{◌≡◌, ◌++◌, ◌∷◌, [], OnOk, OnErr};
 
-use mr_paths::{Name, Path};
+use mr_paths::Path;
 use std::alloc::{AllocError, Global};
 use std::marker::Model;
 
@@ -52,15 +52,4 @@ impl Walk {
     {
         &self.items
     }
-}
-
-/// The path of these names.
-pub fn path_of(alloc: Global, names: &[Name]) -> Result<Path, AllocError>
-    ensures { IfOk result (λ path. path ≡ names.now) }
-{
-    let mut path = Path::root(alloc);
-    for name in names {
-        path.push(name.copy()?)?;
-    }
-    Ok(path)
 }

@@ -1,4 +1,4 @@
-use Rattle.std.proofs.Common.{◌≡◌, ◌∙◌, ◌∷◌, ◌++◌, [], ap, sym, map, reverse}
+use Rattle.std.proofs.Common.{◌≡◌, ◌∙◌, ◌∷◌, ◌++◌, [], ap, map, reverse}
 use Rattle.mr_names.specs.Tree.{ahead_of}
 use Rattle.mr_names.proofs.Visiting.{pushed_on, pushed_all}
 use Rattle.mr_names.proofs.links.push_ahead.Goals as goal

@@ -1,4 +1,4 @@
-use Rattle.std.proofs.Common.{◌≡◌, ◌∙◌, sym, ap}
+use Rattle.std.proofs.Common.{◌∙◌, sym, ap}
 use Rattle.mr_names.specs.Listing.{children}
 use Rattle.mr_names.proofs.NodeLines.{children_are, children_none, if_both}
 use Rattle.mr_names.proofs.tree.Tree.children.Goals as goal
