@@ -19,7 +19,8 @@ use Rattle.mr_paths.specs.Path.{path_total, path_exact}
 use Rattle.mr_names.specs.Content.{Content, renamed, within, changed_at, changed_by, without_one}
 use Rattle.mr_names.specs.Tree.{edges_of, nodes_of, child_by, steps, along, standing, IsTold, Held, EdgeSet, SameGraph, NodeAdded, EdgeMoved, NodeChanged, NodeCut, first_of, first_by, first_edge}
 use Rattle.mr_paths.proofs.Paths.{strip-append}
-use Rattle.mr_names.proofs.Walks.{absent, added_told, added_leads, moved_told, changed_told, steps-append, root_told, leaf_told}
+use Rattle.mr_names.proofs.ContentLaws.{different}
+use Rattle.mr_names.proofs.Walks.{leaf_stays, absent, added_told, added_leads, moved_told, changed_told, steps-append, root_told, leaf_told}
 use Rattle.std.proofs.lemmas.List.{get_or_past}
 
 abbrev pub name_cmp : List ℕ → List ℕ → Ordering
@@ -248,18 +249,29 @@ node_cut s t u at key name set out = record {
     by (inl same) = ap (λ x. edges_of u x name) same.1 ∙ ap (λ o. child_by o name) out.changed
     by (inr other) = ap (λ o. child_by o name) (out.others at other.1) ∙ set.here
 
+cut_rest : (s t : Slab Place) (at key : ℕ) (name : List ℕ) → ((n : List ℕ) → edges_of s key n ≡ None) → NodeCut s t at name key → (k : ℕ) (n : List ℕ) → (k ≡ at → n ≡ name → ⊥) → edges_of t k n ≡ edges_of s k n
+cut_rest s t at key name bare cut k n apart = elim (eqb_tells k key) [
+  | inl same ↦ ap (λ x. edges_of t x n) same.1 ∙ cut.bare n ∙ sym (bare n) ∙ ap (λ x. edges_of s x n) (sym same.1)
+  | inr other ↦ cut.others k n apart other.1
+]
+
 -- a path with nothing beneath it is taken out
 pub told_cut : (s t : Slab Place) (root at key : ℕ) (c : Content) (above path : List (List ℕ)) (name : List ℕ) → IsTold (edges_of s) (nodes_of s) root c → path ≡ above ++ name ∷ []
     → steps (edges_of s) (Some root) above ≡ Some at → edges_of s at name ≡ Some key → ((n : List ℕ) → edges_of s key n ≡ None) → NodeCut s t at name key → IsTold (edges_of t) (nodes_of t) root (without_one path c)
 told_cut s t root at key c above path name told is leads edge bare cut =
     subst (λ p. IsTold (edges_of t) (nodes_of t) root (without_one p c)) (sym is)
-    (leaf_told (edges_of s) (nodes_of s) root c told above name at key (edges_of t) (nodes_of t) leads edge bare cut.gone rest cut.out cut.nodes)
+    (leaf_told (edges_of s) (nodes_of s) root c told above name at key (edges_of t) (nodes_of t) leads edge bare cut.gone (cut_rest s t at key name bare cut) cut.out cut.nodes)
+
+-- where the path led that is left, it leads still
+pub cut_leads : (s t : Slab Place) (root at key : ℕ) (c : Content) (above : List (List ℕ)) (name : List ℕ) → IsTold (edges_of s) (nodes_of s) root c
+    → steps (edges_of s) (Some root) above ≡ Some at → edges_of s at name ≡ Some key → ((n : List ℕ) → edges_of s key n ≡ None) → NodeCut s t at name key → steps (edges_of t) (Some root) above ≡ Some at
+cut_leads s t root at key c above name told leads edge bare cut =
+    leaf_stays (edges_of s) (nodes_of s) root c told above name at key (edges_of t) (nodes_of t) leads edge bare cut.gone (cut_rest s t at key name bare cut) cut.out cut.nodes above
+    (different above (above ++ name ∷ []) (λ is. longer above is)) ∙ leads
   where
-    rest : (k : ℕ) (n : List ℕ) → (k ≡ at → n ≡ name → ⊥) → edges_of t k n ≡ edges_of s k n
-    rest k n apart = elim (eqb_tells k key) [
-      | inl same ↦ ap (λ x. edges_of t x n) same.1 ∙ cut.bare n ∙ sym (bare n) ∙ ap (λ x. edges_of s x n) (sym same.1)
-      | inr other ↦ cut.others k n apart other.1
-    ]
+    longer : (p : List (List ℕ)) → p ≡ p ++ name ∷ [] → ⊥
+    longer [] e = cc
+    longer (x ∷ p) e = let tails : p ≡ p ++ name ∷ [] = cc in longer p tails
 
 some_is : (x y : List ℕ × ℕ) → Some x ≡ Some y → x ≡ y
 some_is x y e = cc

@@ -441,6 +441,9 @@ module _ (e : Edges) (nodes : ℕ → Option Node) (root : ℕ) (c : Content) (t
     left_is : (q : Names) → steps e' (Some root) q ≡ left q
     left_is q = steps_is e' root left left_start left_turn q
 
+    pub leaf_stays : (q : Names) → same q leaf ≡ false → steps e' (Some root) q ≡ L q
+    leaf_stays q other = left_is q ∙ ap (λ b. cond b None (L q)) other
+
     apart : (q : Names) (k : ℕ) → same q leaf ≡ false → L q ≡ Some k → k ≡ key → ⊥
     apart q k other leads is = true≢false (sym (same_from q leaf (told.one q leaf k leads (leaf_leads ∙ ap Some (sym is)))) ∙ other)
 

@@ -1,5 +1,5 @@
 -- The content as a tree of nodes: a graph of edges by name, in which each path that holds something leads from the root to a node of its own.
-use Rattle.std.specs.Prelude.{◌≡◌, ℕ, true, List, [], ◌∷◌, ◌++◌, take, Option, Some, None, is_some}
+use Rattle.std.specs.Prelude.{◌≡◌, ◌≤◌, ℕ, true, List, [], ◌∷◌, ◌++◌, take, Option, Some, None, is_some}
 use Rattle.std.specs.Option.{option_map}
 use Rattle.std.specs.Map.{lookup}
 use Rattle.std.specs.BTreeMap.{is_at}
@@ -12,7 +12,7 @@ use Rattle.mr_names.specs.declared.node.Entry.{Entry}
 use Rattle.mr_names.specs.declared.place.Place.{Place}
 use Rattle.mr_names.specs.declared.place.Ahead.{Ahead}
 use Rattle.mr_names.specs.Listing.{entry_of}
-use Rattle.mr_names.specs.Content.{Content, with_dirs, without}
+use Rattle.mr_names.specs.Content.{Content, with_dirs, within, without}
 
 -- the node to which an edge with this name leads from a node
 abbrev pub Edges : Type 0
@@ -96,6 +96,12 @@ pub record NodeCut (old new : Slab Place) (at : ℕ) (name : List ℕ) (key : �
   pub others : (from : ℕ) (other : List ℕ) → (from ≡ at → other ≡ name → ⊥) → (from ≡ key → ⊥) → edges_of new from other ≡ edges_of old from other
   pub out : nodes_of new key ≡ None
   pub nodes : (other : ℕ) → (other ≡ key → ⊥) → nodes_of new other ≡ nodes_of old other
+
+-- entries are cut at a node: all that goes is beneath the path that leads there
+abbrev pub LeavesCut : Slab Place → Slab Place → ℕ → Type 0
+LeavesCut old new at =
+    (root : ℕ) (c : Content) (p : List (List ℕ)) → IsTold (edges_of old) (nodes_of old) root c → steps (edges_of old) (Some root) p ≡ Some at
+    → (d : Content) × IsTold (edges_of new) (nodes_of new) root d × ((top : List (List ℕ)) → within top p ≡ true → without top d ≡ without top c) × (finite.len d ≤ finite.len c)
 
 abbrev pub first_of : List (List ℕ × ℕ) → Option (List ℕ × ℕ)
 first_of [] = None

@@ -1,6 +1,6 @@
 //! The nodes as a graph: edges by name.
 ghost use Rattle.std.specs.Prelude.{◌≡◌, Some, None, true, is_some, OnOk, OnErr, IfOk, IfSome, [], ℕ, List, MatchOption, length, take, ◌≤◌, ◌<◌, ◌+◌, ◌++◌, reverse};
-ghost use Rattle.mr_names.specs.Tree.{edges_of, nodes_of, steps, IsTold, EdgeSet, SameGraph, NodeAdded, EdgeMoved, NodeChanged, NodeCut, first_edge, DirsAdded, SomeAdded, links_of, line_at, ahead_of};
+ghost use Rattle.mr_names.specs.Tree.{edges_of, nodes_of, steps, IsTold, EdgeSet, SameGraph, NodeAdded, EdgeMoved, NodeChanged, NodeCut, LeavesCut, first_edge, DirsAdded, SomeAdded, links_of, line_at, ahead_of};
 ghost use Rattle.std.specs.Prelude.{map as list_map};
 ghost use Rattle.std.specs.List.{filter_map};
 ghost use Rattle.std.specs.List.Sorted.{IsStrictlySortedBy};
@@ -216,6 +216,26 @@ pub fn cut_first(nodes: &mut Slab<Place>, at: usize)
 {
     if let Some(key) = unlink_first(nodes, at) {
         nodes.try_remove(key);
+    }
+}
+
+/// Takes out the edges of a node whose names come first, and the nodes to which they lead, up to the first that has
+/// edges itself.
+pub fn cut_leaves(nodes: &mut Slab<Place>, at: usize)
+    ensures { LeavesCut nodes.old nodes.new at }
+{
+    let count = match nodes.get(at) {
+        Some(place) => place.children.len(),
+        None => 0,
+    };
+    for _index in 0..count {
+        let Some(first) = first_child(nodes, at) else {
+            return;
+        };
+        if first_child(nodes, first).is_some() {
+            return;
+        }
+        cut_first(nodes, at);
     }
 }
 

@@ -4,7 +4,7 @@ use Rattle.mr_names.specs.Tree.{edges_of, nodes_of, along, steps, first_edge}
 use Rattle.mr_names.specs.TreeProofs.{held_prop}
 use Rattle.mr_names.proofs.Graph.{told_cut, first_is, first_none}
 use Rattle.mr_names.proofs.Beneath.{depth_falls, within_itself}
-use Rattle.mr_names.proofs.Deleting.{opt_none, opt_some, within_more, leads_on, gone_already, one_less, lowest_cut}
+use Rattle.mr_names.proofs.Deleting.{opt_none, opt_some, within_more, leads_on, gone_already, one_less, cut_and_more, some_less}
 use Rattle.mr_names.proofs.tree.Tree.take_leaf.Goals as goal
 
 pub same-self : goal.same-self
@@ -74,20 +74,13 @@ down-preserved c =
 
 pub invariant_of-self-inside-2 : goal.invariant_of-self-inside-2
 invariant_of-self-inside-2 c =
-    let inv = c.down.invariant in (
-      (
-        without_one (inv.0 ++ inv.1 ∷ []) c.self.inside.held.0,
-        lowest_cut c.self.inside.nodes c.self.inside.root c.self.inside.held.0 c.self.inside.held.1 c.cut_first.new.nodes inv.0 inv.1 c.down.at c.down.first inv.2 inv.4
-            (opt_none (first_edge c.self.inside.nodes c.down.first) (sym c.in_default-first_child-2.ensures)) c.cut_first.ensures,
-      ),
-      tt,
-    )
+    let inv = c.down.invariant in
+    let v = cut_and_more c.self.inside.nodes c.cut_first.new.nodes c.cut_leaves.new.nodes c.self.inside.root c.self.inside.held.0 c.self.inside.held.1 inv.0 inv.1 c.down.at c.down.first inv.2 inv.4
+    (opt_none (first_edge c.self.inside.nodes c.down.first) (sym c.in_default-first_child-2.ensures)) c.cut_first.ensures c.cut_leaves.ensures in
+    ((v.0, v.1), tt)
 
 pub returns-clause-more : goal.returns-clause-more
 returns-clause-more c = λ _.
     let inv = c.down.invariant in
-    one_less c.self.inside.nodes c.self.inside.root c.self.inside.held.0 c.self.inside.held.1 c.cut_first.new.nodes c.self-2-1.given.0 c.args.self.now c.args.top.now (inv.0 ++ inv.1 ∷ []) c.down.first
-    (lowest_cut c.self.inside.nodes c.self.inside.root c.self.inside.held.0 c.self.inside.held.1 c.cut_first.new.nodes inv.0 inv.1 c.down.at c.down.first inv.2 inv.4
-    (opt_none (first_edge c.self.inside.nodes c.down.first) (sym c.in_default-first_child-2.ensures)) c.cut_first.ensures)
-    c.self.view_is (within_more c.args.top.now inv.0 inv.1 inv.3)
-    (leads_on c.self.inside.nodes c.self.inside.root c.self.inside.held.0 c.self.inside.held.1 inv.0 inv.1 c.down.at c.down.first inv.2 (first_is c.self.inside.nodes c.down.at c.down.first inv.1 inv.4))
+    some_less c.self.inside.nodes c.cut_first.new.nodes c.cut_leaves.new.nodes c.self.inside.root c.self.inside.held.0 c.self.inside.held.1 c.self-2-1.given.0 c.args.self.now c.args.top.now inv.0 inv.1 c.down.at c.down.first
+    c.self.view_is inv.3 inv.2 inv.4 (opt_none (first_edge c.self.inside.nodes c.down.first) (sym c.in_default-first_child-2.ensures)) c.cut_first.ensures c.cut_leaves.ensures
