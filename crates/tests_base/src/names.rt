@@ -1,5 +1,5 @@
 use mr_ids::AppAttempt;
-use mr_names::{Answer, Bytes, Caller, Entries, Kind, NameFault, Namespace, Op};
+use mr_names::{Answer, Bytes, Caller, Entries, Kind, MAX_ENTRIES, NameFault, Namespace, Op};
 use mr_paths::{Path, PathFault};
 use std::alloc::Global;
 use std::process::Abort;
@@ -189,4 +189,51 @@ fn namespace_calls_as_values(rt: HostRuntime) {
         Ok(Answer::Listed(entries)) => assert!(rt; lists(&entries, &[(b"f", Kind::File)])),
         _ => panic!(rt; "not listed"),
     }
+}
+
+// The requests for memory between two of this size are those that `tools/refuse_rename` counts.
+const MARK: usize = 1_000_003;
+
+fn mark(rt: &impl Abort, alloc: Global) {
+    let mut room = match Vec::with_capacity(alloc, MARK) {
+        Ok(room) => room,
+        Err(_) => panic!(rt; "no memory"),
+    };
+    let pushed = room.push(0u8);
+    assert!(rt; pushed.is_ok());
+}
+
+// As many files as a namespace has room for beside their directory.
+fn fill(rt: &impl Abort, alloc: Global, names: &mut Namespace, one: &Caller) {
+    for file in 0..MAX_ENTRIES - 1 {
+        let text = match format!(in alloc; "/a/{file}") {
+            Ok(text) => text,
+            Err(_) => panic!(rt; "no memory"),
+        };
+        assert!(rt; told(rt, names.create(*one, &path(rt, alloc, &text), true)) == Ok(()));
+    }
+}
+
+#[test]
+fn large_directory_rename(rt: HostRuntime) {
+    let alloc = rt.alloc();
+    let one = &Caller {
+        app: generation(&rt, 1),
+        attempt: None,
+    };
+    let mut names = new_namespace(&rt, alloc);
+    let a = path(&rt, alloc, "/a");
+    let b = path(&rt, alloc, "/b");
+    let c = path(&rt, alloc, "/c");
+    assert!(rt; told(&rt, names.mkdirs(*one, &a)) == Ok(()));
+    fill(&rt, alloc, &mut names, one);
+    assert!(rt; told(&rt, names.create(*one, &c, true)) == Err(NameFault::Full));
+    mark(&rt, alloc);
+    let renamed = names.rename(*one, &a, &b);
+    mark(&rt, alloc);
+    assert!(rt; told(&rt, renamed) == Ok(()));
+    assert!(rt; names.exists(*one, &path(&rt, alloc, "/a/0")) == Ok(None));
+    assert!(rt; names.exists(*one, &path(&rt, alloc, "/b/65534")) == Ok(Some(Kind::File)));
+    assert!(rt; names.delete(*one, &b) == Ok(()));
+    assert!(rt; told(&rt, names.create(*one, &c, true)) == Ok(()));
 }
