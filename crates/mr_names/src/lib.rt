@@ -54,11 +54,11 @@
 //! its bytes; and three runs of calls with their answers, computed.
 //!
 //! Only tested: that the calls succeed with ample memory, and those runs on the built code
-//! (`crates/tests_base/src/names.rt`). Neither: speed, stack depth (`mkdirs` recurses once for each name of its
-//! path).
+//! (`crates/tests_base/src/names.rt`). Neither: speed, and how many requests for memory a call makes (the rename of a
+//! directory of 65,535 files makes fewer than 1,000: `tools/refuse_rename`). No call recurses.
 //!
-//! A second body of the content, a directory tree over a slab (`src/tree.rt`, `src/links.rt`), is there and not in
-//! use: its private calls are proved, and the namespace stands on an ordered map of paths.
+//! The content is kept as a tree of nodes in a slab (`src/tree.rt`, `src/links.rt`): each entry's node is reached from
+//! the root by exactly one path, and no node is kept that none reaches. A rename moves one edge.
 #![tactic(auto)]
 
 mod barred;
