@@ -11,9 +11,9 @@ use Rattle.mr_task.proofs.Same.{same-sym}
 use Rattle.mr_task.proofs.Lists.{has-append}
 use Rattle.mr_task.proofs.Arrivals.{nothing-arrived, fresh, arrivals}
 use Rattle.mr_task.proofs.Growth.{accepted-arrived}
-use Rattle.mr_model.specs.Ids.{Attempt, Container, TaskId, TaskKind, Map, Reduce, task_eq, attempt_eq, is_reduce, of_reduces}
+use Rattle.mr_model.specs.Ids.{Attempt, ContainerId, TaskId, TaskKind, Map, Reduce, task_eq, attempt_eq, is_reduce, of_reduces}
 use Rattle.mr_model.specs.Content.{bar_of}
-use Rattle.mr_model.specs.Packets.{Config, Packet, Pending, Poll, Done, Failed, Ended, NodeUp, Lost, Store, Names, Append_record, Flush, Read_history, Reply}
+use Rattle.mr_model.specs.Packets.{Config, Packet, Pending, Poll, Done, Failed, Ended, NodeUp, FetchLost, Store, Names, Append_record, Flush, Read_history, Reply}
 use Rattle.mr_model.specs.Hearing.{Seen, Phase, stands, placed, success_record, know, still_there, Launched, Ending, find_launched, find_container, has, has_container, is_over, is_live, is_attempt, may_accept, named_in, is_running, heard, only_known, after_ask, after_end, ended_by, over_with, failures, is_won, after_ended, after_bar, end_there, end_maps, expired, can_hear, without_placed}
 use Rattle.mr_model.specs.Duties.{Master_step, Came, Launches, Expires, Asks, seen, next_seen, is_fine, is_read, told, worked, with_phase, with_read, phase_told, successes, newest_maps, attempts_of}
 use Rattle.mr_model.specs.Records.{AttemptStarted}
@@ -578,7 +578,7 @@ module _ (t : TaskId) (k : ℕ) where
     unfolding task.next_seen
     failed-heard a = tell-agrees c (after_end cfg s a true) a.task (task_call.Fails a) (λ q. end-agrees t s (T c) o cfg a true q) (λ n. end-other t s (T c) o cfg a true n)
 
-    ended-heard : (d : Container) (l : Option Launched) → AgreesOf t (after_ended cfg s d l) (T (tell_ended l (has_container s.killed d) c))
+    ended-heard : (d : ContainerId) (l : Option Launched) → AgreesOf t (after_ended cfg s d l) (T (tell_ended l (has_container s.killed d) c))
     unfolding task.next_seen
     ended-heard d None = o
     ended-heard d (Some l) = tell-agrees c (after_ended cfg s d (Some l)) l.attempt.task (task_call.Ends l.attempt (has_container s.killed d))
@@ -594,7 +594,7 @@ module _ (t : TaskId) (k : ℕ) where
         by true = there-agrees n i s.launched _ _ (each-agrees (λ a. task_call.Loses a) (lost_below s.recorded n i s.standing) (λ s r a in'. quiet-loss s r a) s c o)
         by false = o
 
-    lost-heard : (d : Container) (a : Attempt) → AgreesOf t (heard cfg s (Lost d a)) (T (calls_heard s (Lost d a) c))
+    lost-heard : (d : ContainerId) (a : Attempt) → AgreesOf t (heard cfg s (FetchLost d a)) (T (calls_heard s (FetchLost d a) c))
     unfolding heard calls_heard
     lost-heard d a = by (is_some (find_container s.launched d))
       where
@@ -613,7 +613,7 @@ module _ (t : TaskId) (k : ℕ) where
     heard-agrees (Failed a) = failed-heard a
     heard-agrees (Ended d) = ended-heard d (find_container s.launched d)
     heard-agrees (NodeUp n i) = node-heard n i
-    heard-agrees (Lost d a) = lost-heard d a
+    heard-agrees (FetchLost d a) = lost-heard d a
     heard-agrees _ = o
 
     only-agrees : (p : Packet) → AgreesOf t (only_known s p) (T c)

@@ -5,7 +5,7 @@ use Rattle.mr_model.specs.Claims.{IsReduce}
 use Rattle.mr_model.proofs.Tasks.{reduce-of}
 use Rattle.mr_model.specs.Ids.{Attempt, JobId, is_reduce, of_reduces}
 use Rattle.mr_model.specs.Records.{Record, winner_in, ReduceSucceeded, AttemptStarted, records_below}
-use Rattle.mr_model.specs.Packets.{Config, Packet, Store, Reply, Names, Append_record, Flush, Read_history, Envelope, Master, At, Node, Address}
+use Rattle.mr_model.specs.Packets.{Config, Packet, Store, Reply, Names, Append_record, Flush, Read_history, Envelope, Master, Container, Node, Address}
 use Rattle.mr_model.specs.Hearing.{Seen, Phase, Opening, Setting_up, Recovering, Running, Committing, Failing, Finished, Stopped, Launched, heard, only_known, is_running, has_winner, accepts_task, is_won, Recover_step, Measure, Look_below, Clear_own, Move_from, Commit_step, List_job, Merging, Cleaning, Marking, Succeeding, Failing_mark, Aborting, Merge_step, Look_at, List_into, Delete_then, Move_to}
 use Rattle.mr_model.specs.Duties.{Master_step, Came, Launches, Expires, Asks, bar_call, first_bar, seen, next_seen, duty_of, opening, told, record_call, recover_call, commit_call, merge_call, mark_at, records_of, was_read, is_read, wants_flush, all_won, is_fine, worked, with_phase, with_read}
 use Rattle.mr_model.specs.World.{World, Event, Start, Crash, Duty, LaunchOn, Deliver, ContainerStep, Compute, Die, NodeRestart, Expire, Weather, Calm, Unavailable, Unanswered, Master_act, master_act, duty_act, came_act, duty, seen_by, reply_of, reply_under}
@@ -38,7 +38,7 @@ came-permits cfg w (Some v) e = to v.to v.body e
   where
     to : (a : Address) (p : Packet) → addressee w (Some (record { to = a; body = p })) ≡ None → Permits cfg w (came_act (Some (record { to = a; body = p })))
     to (Master k) p e = ((unless_parts _ _ _ e).0, tt)
-    to (At c) p e = tt
+    to (Container c) p e = tt
     to (Node n) p e = tt
 
 not-or : (a b : Bool) → not (a || b) ≡ true → b ≡ false

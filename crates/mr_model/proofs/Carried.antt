@@ -3,10 +3,10 @@ use Rattle.std.proofs.Common.{ℕ, zero, suc, ◌≤◌, ◌<◌, ◌≡◌, ref
 use Rattle.std.specs.Option.{option_map, option_and_then}
 use Rattle.std.proofs.lemmas.Option.{slice_get_within}
 use Rattle.std.proofs.lemmas.Bool.{and_parts, eqb-true, not-true}
-use Rattle.mr_model.specs.Ids.{Attempt, Container, attempt_eq, is_reduce}
+use Rattle.mr_model.specs.Ids.{Attempt, ContainerId, attempt_eq, is_reduce}
 use Rattle.mr_mapside.specs.Cutting.{cut, first_block}
 use Rattle.mr_model.specs.Content.{bar_of}
-use Rattle.mr_model.specs.Packets.{Config, Packet, Store, Names, Reply, Flush, Fine, Envelope, Master, At, Node, Address, Outcome, NodeUp}
+use Rattle.mr_model.specs.Packets.{Config, Packet, Store, Names, Reply, Flush, Fine, Envelope, Master, Container, Node, Address, Outcome, NodeUp}
 use Rattle.mr_model.specs.Pasts.{is_known, incarnation_of, on_shelf, wished_packet, wished_op, Wish, Place, computed, Node_step, Shelved}
 use Rattle.mr_model.specs.Hearing.{Seen, Phase, Opening, Setting_up, Running, Committing, Failing, Finished, Stopped, Recovering, Move_from, Launched, Placed, find_launched, is_running, may_accept, has, stands, find_container}
 use Rattle.mr_model.specs.Duties.{Master_step, Came, Launches, Expires, Asks, next_seen}
@@ -38,7 +38,7 @@ nothing-fits job cfg a bytes e = cc
 
 -- what a map's container hands in
 abbrev pub HandsIn : Job → Config → World → Event → Type 0
-HandsIn job cfg w e = (c : Container) (bytes : List ℕ) (p : Place) → e ≡ Compute c bytes → w.place c ≡ Some p → is_reduce p.attempt ≡ false → IsOutput job cfg p.attempt.task.number bytes
+HandsIn job cfg w e = (c : ContainerId) (bytes : List ℕ) (p : Place) → e ≡ Compute c bytes → w.place c ≡ Some p → is_reduce p.attempt ≡ false → IsOutput job cfg p.attempt.task.number bytes
 
 put-fits : (job : Job) (cfg : Config) (h : List Node_step) (b : Attempt) (bytes : List ℕ) → IsOutput job cfg b.task.number bytes → ShelfFits job cfg h → ShelfFits job cfg (Shelved b bytes ∷ h)
 unfolding on_shelf
@@ -58,7 +58,7 @@ shelf_after job cfg w (Deliver i) n d f = got (slice_get w.bag i)
       where
         to : (x : Address) (p : Packet) → ShelfFits job cfg (got_at_node (Some (record { to = x; body = p })) n (w.node_past n))
         to (Master m) p = f
-        to (At c) p = f
+        to (Container c) p = f
         to (Node m) p = if_cases (ShelfFits job cfg) (nat_eq n m) _ _ (λ t. f) (λ t. f)
 shelf_after job cfg w (Compute c b) n d f = put (w.place c) refl
   where
@@ -108,12 +108,12 @@ there-block job cfg laws m r (Some bytes) block f e = by (f bytes refl)
 -- What is sent
 
 -- a container runs an attempt of reduce r
-abbrev pub IsFor : World → Container → ℕ → Type 0
+abbrev pub IsFor : World → ContainerId → ℕ → Type 0
 IsFor w c r = (p : Place) × (w.place c ≡ Some p) × (p.attempt.task.number ≡ r)
 
 -- what is so once a packet was sent
 abbrev pub BodyFits : Job → Config → World → Address → Packet → Type 0
-BodyFits job cfg w x (Packet.Piece a r o total bytes) = IsPiece job cfg a r o total bytes × ((c : Container) → x ≡ At c → IsFor w c r)
+BodyFits job cfg w x (Packet.Piece a r o total bytes) = IsPiece job cfg a r o total bytes × ((c : ContainerId) → x ≡ Container c → IsFor w c r)
 BodyFits job cfg w x (Packet.MapReady m a n i) = a.task.number ≡ m
 BodyFits job cfg w x (Packet.Fetch c a r i o) = IsFor w c r
 BodyFits job cfg w x _ = Unit {0}
@@ -121,7 +121,7 @@ BodyFits job cfg w x _ = Unit {0}
 abbrev pub EnvelopeCarries : Job → Config → World → Envelope → Type 0
 EnvelopeCarries job cfg w v = BodyFits job cfg w v.to v.body
 
-for_after : (cfg : Config) (w : World) (e : Event) → Cluster cfg w → (c : Container) (r : ℕ) → IsFor w c r → IsFor (effect cfg w e) c r
+for_after : (cfg : Config) (w : World) (e : Event) → Cluster cfg w → (c : ContainerId) (r : ℕ) → IsFor w c r → IsFor (effect cfg w e) c r
 for_after cfg w e h c r o = (o.0, place_kept cfg w e h c o.0 o.1, o.2)
 
 body_after : (job : Job) (cfg : Config) (w : World) (e : Event) → Cluster cfg w → (x : Address) (p : Packet) → BodyFits job cfg w x p → BodyFits job cfg (effect cfg w e) x p
@@ -135,7 +135,7 @@ bag_after job cfg w e h [] o = tt
 bag_after job cfg w e h (v ∷ vs) o = (body_after job cfg w e h v.to v.body o.0, bag_after job cfg w e h vs o.1)
 
 -- what comes to a container that runs p
-pub arrives : (job : Job) (cfg : Config) (w : World) (c : Container) (p : Place) → w.place c ≡ Some p → (b : Packet) → BodyFits job cfg w (At c) b → Arrives job cfg p.attempt b
+pub arrives : (job : Job) (cfg : Config) (w : World) (c : ContainerId) (p : Place) → w.place c ≡ Some p → (b : Packet) → BodyFits job cfg w (Container c) b → Arrives job cfg p.attempt b
 arrives job cfg w c p q (Packet.Piece a r o total bytes) f = (f.0, by (f.1 c refl))
   where
     by : IsFor w c r → r ≡ p.attempt.task.number
@@ -165,7 +165,7 @@ module _ (job : Job) (cfg : Config) (u : World) where
       by true t e f = let g : q ≡ p = cc in subst (λ (z : Placed). z.attempt.task.number ≡ m) g (eqb-true q.attempt.task.number m t)
       by false t e f = f e
 
-  ready-carries : (c : Container) (m : ℕ) (rs : List Attempt) (ps : List Placed) → Each (EnvelopeCarries job cfg u) (ready c m rs (stands ps m))
+  ready-carries : (c : ContainerId) (m : ℕ) (rs : List Attempt) (ps : List Placed) → Each (EnvelopeCarries job cfg u) (ready c m rs (stands ps m))
   ready-carries c m rs ps = by (stands ps m) refl
     where
       by : (o : Option Placed) → stands ps m ≡ o → Each (EnvelopeCarries job cfg u) (ready c m rs o)
@@ -229,7 +229,7 @@ module _ (job : Job) (cfg : Config) (u : World) where
   master-carries w (Some a) = step-carries (seen_by cfg w a.who) (next_seen cfg a.who (seen_by cfg w a.who) a.step) a.step
 
   -- a node's answer is a piece of the block on its shelf
-  piece-carries : (c : Container) (a : Attempt) (r o : ℕ) (b : Option (List ℕ)) → IsFor u c r → ((block : List ℕ) → b ≡ Some block → IsBlock job cfg a.task.number r block) → Each (EnvelopeCarries job cfg u) (piece_of c a r o b)
+  piece-carries : (c : ContainerId) (a : Attempt) (r o : ℕ) (b : Option (List ℕ)) → IsFor u c r → ((block : List ℕ) → b ≡ Some block → IsBlock job cfg a.task.number r block) → Each (EnvelopeCarries job cfg u) (piece_of c a r o b)
   piece-carries c a r o None own f = (tt, tt)
   piece-carries c a r o (Some block) own f = if_cases (Each (EnvelopeCarries job cfg u)) (nat_le o (length block)) _ _
       (λ t. ((record { block = block; is = f block refl; total_is = refl; bytes_are = refl }, λ d q. let s : c ≡ d = cc in subst (λ z. IsFor u z r) s own), tt)) (λ t. (tt, tt))
@@ -247,10 +247,10 @@ module _ (job : Job) (cfg : Config) (u : World) where
     where
       to : (a : Address) (p : Packet) → BodyFits job cfg u a p → Each (EnvelopeCarries job cfg u) (node_sends cfg w (Some (record { to = a; body = p })))
       to (Master k) p b = tt
-      to (At c) p b = tt
+      to (Container c) p b = tt
       to (Node n) p b = node-carries w n p laws (f n) b
 
-  ended-carries : (b : Bool) (c : Container) → Each (EnvelopeCarries job cfg u) (said_ended b c)
+  ended-carries : (b : Bool) (c : ContainerId) → Each (EnvelopeCarries job cfg u) (said_ended b c)
   ended-carries true c = (tt, tt)
   ended-carries false c = tt
 
@@ -263,7 +263,7 @@ module _ (job : Job) (cfg : Config) (u : World) where
   masters-carry f zero n i = tt
   masters-carry f (suc k) n i = Each-append (EnvelopeCarries job cfg u) (to_masters f k (NodeUp n i)) _ (masters-carry f k n i) (if_cases (Each (EnvelopeCarries job cfg u)) (f (suc k)) _ _ (λ t. (tt, tt)) (λ t. tt))
 
-  wished-carries : (w : World) (c : Container) → ((p : Place) → w.place c ≡ Some p → u.place c ≡ Some p) → Each (EnvelopeCarries job cfg u) (some_packet (op_of cfg w c) (packet_of cfg w c))
+  wished-carries : (w : World) (c : ContainerId) → ((p : Place) → w.place c ≡ Some p → u.place c ≡ Some p) → Each (EnvelopeCarries job cfg u) (some_packet (op_of cfg w c) (packet_of cfg w c))
   unfolding wished_op wished_packet
   wished-carries w c k = by (w.place c) refl
     where
@@ -282,7 +282,7 @@ module _ (job : Job) (cfg : Config) (u : World) where
       by (Some p) q = wishes p _ (k p q)
 
   each-sent : (w : World) (e : Event) → JobLaws job cfg → ((n : ℕ) → ShelfFits job cfg (w.node_past n)) → ((v : Envelope) → In v w.bag → EnvelopeCarries job cfg u v) →
-      ((c : Container) (p : Place) → w.place c ≡ Some p → u.place c ≡ Some p) → Each (EnvelopeCarries job cfg u) (sent cfg w e)
+      ((c : ContainerId) (p : Place) → w.place c ≡ Some p → u.place c ≡ Some p) → Each (EnvelopeCarries job cfg u) (sent cfg w e)
   unfolding sent
   each-sent w (Start k kept) laws f b p = tt
   each-sent w (Crash k kept) laws f b p = tt

@@ -1,7 +1,7 @@
 -- Properties of what a master has seen that every kind of change keeps, the one named, and why an attempt is over.
 use Rattle.std.proofs.Common.{ℕ, ◌<◌, ◌≡◌, refl, sym, ◌∙◌, subst, Bool, true, false, ◌&&◌, ◌||◌, not, List, [], ◌∷◌, ◌++◌, Option, Some, None, if◌then◌else◌, is_some, nat_eq, nat_lt, nat_le, ◌⊎◌, inl, inr}
 use Rattle.std.proofs.lemmas.Bool.{and_parts, false≢true, eqb-true, ltb-true, eq-eqb, not-true}
-use Rattle.mr_model.specs.Ids.{Attempt, Container, attempt_eq, container_eq, is_reduce}
+use Rattle.mr_model.specs.Ids.{Attempt, ContainerId, attempt_eq, container_eq, is_reduce}
 use Rattle.mr_model.specs.Records.{Record}
 use Rattle.mr_model.specs.Content.{Op, bar_of}
 use Rattle.mr_model.specs.Packets.{Config, Packet, Store, Reply, Names, Append_record, Flush, Read_history}
@@ -19,11 +19,11 @@ end_maps-by P f n (l ∷ ls) s o =
     (λ t. end_maps-by P f n ls _ (f s l.attempt (and_parts _ _ (and_parts _ _ t).1).1 o)) (λ t. end_maps-by P f n ls s o)
 
 pub expired-by : (P : Seen → Type 0) → ((s : Seen) (a : Attempt) → is_live s a ≡ true → P s → P (record s { ended = over_with s a false })) → (n : ℕ) (s : Seen) →
-    ((st : List Placed) (ks : List Container) (bs : List Attempt) → P (record s { standing = st; killed = ks; bars = bs })) → P (expired n s)
+    ((st : List Placed) (ks : List ContainerId) (bs : List Attempt) → P (record s { standing = st; killed = ks; bars = bs })) → P (expired n s)
 unfolding expired
 expired-by P f n s o = end_maps-by P f n s.launched _ (o _ _ _)
 
-pub bar-by : (P : Seen → Type 0) (s : Seen) (m : Option Attempt) → ((a : Attempt) → is_live s a ≡ true → (ks : List Container) → P (record s { ended = over_with s a false; killed = ks })) → P s → P (after_bar s m)
+pub bar-by : (P : Seen → Type 0) (s : Seen) (m : Option Attempt) → ((a : Attempt) → is_live s a ≡ true → (ks : List ContainerId) → P (record s { ended = over_with s a false; killed = ks })) → P s → P (after_bar s m)
 bar-by P s None f o = o
 bar-by P s (Some a) f o = if_cases P (is_live s a) _ _ (λ t. f a t _) (λ t. o)
 
@@ -32,10 +32,10 @@ pub record Closed (cfg : Config) (L : Seen → Launched → Type 0) (P : Seen �
   pub ends : (s : Seen) (a : Attempt) (f : Bool) (due : List Record) (p : Phase) → P s → P (record s { ended = over_with s a f; due = due; phase = p })
   pub accepts : (s : Seen) (a : Attempt) (st : List Placed) (due : List Record) → P s → P (record s { accepted = a ∷ s.accepted; standing = st; due = due })
   pub knows : (s : Seen) (f : ℕ → ℕ) (ps : List Placed) → P s → P (record s { known = f; standing = ps })
-  pub calls : (s : Seen) (p : Phase) (ws : List Todo_winner) (st : List Placed) (rs : List Attempt) (ks : List Container) (h due tail : List Record) → P s →
+  pub calls : (s : Seen) (p : Phase) (ws : List Todo_winner) (st : List Placed) (rs : List Attempt) (ks : List ContainerId) (h due tail : List Record) → P s →
       P (record s { phase = p; winners = ws; standing = st; recorded = rs; killed = ks; history = h; due = due; tail = tail })
   pub launches : (s : Seen) (l : Launched) (due : List Record) → L s l → P s → P (record s { launched = l ∷ s.launched; due = due })
-  pub expires : (s : Seen) (ks : List Container) (bs : List Attempt) → P s → P (record s { killed = ks; bars = bs })
+  pub expires : (s : Seen) (ks : List ContainerId) (bs : List Attempt) → P s → P (record s { killed = ks; bars = bs })
 
 -- what is asked of a step that is a launch
 abbrev pub LaunchFits : (Seen → Launched → Type 0) → Seen → Master_step → Type 0
@@ -52,7 +52,7 @@ module _ (cfg : Config) (L : Seen → Launched → Type 0) (P : Seen → Type 0)
   after_end-closed : (s : Seen) (b : Attempt) (f : Bool) → P s → P (after_end cfg s b f)
   after_end-closed s b f o = if_cases P (is_live s b) _ _ (λ e. ended_by-closed s b f o) (λ e. o)
 
-  after_ended-closed : (s : Seen) (d : Container) (l : Option Launched) → P s → P (after_ended cfg s d l)
+  after_ended-closed : (s : Seen) (d : ContainerId) (l : Option Launched) → P s → P (after_ended cfg s d l)
   after_ended-closed s d None o = o
   after_ended-closed s d (Some l) o = after_end-closed s _ _ o
 
@@ -75,7 +75,7 @@ module _ (cfg : Config) (L : Seen → Launched → Type 0) (P : Seen → Type 0)
   heard-closed s (Packet.Failed b) o = after_end-closed s b true o
   heard-closed s (Packet.Ended d) o = after_ended-closed s d _ o
   heard-closed s (Packet.NodeUp m i) o = if_cases P (nat_lt (s.known m) i) _ _ (λ t. end_there-closed m i s.launched _ (c.knows s _ _ o)) (λ t. o)
-  heard-closed s (Packet.Lost d b) o = if_cases P (is_some (find_container s.launched d) && has s.recorded b) _ _ (λ t. c.knows s s.known _ o) (λ t. o)
+  heard-closed s (Packet.FetchLost d b) o = if_cases P (is_some (find_container s.launched d) && has s.recorded b) _ _ (λ t. c.knows s s.known _ o) (λ t. o)
   heard-closed s (Packet.Where d m) o = o
   heard-closed s _ o = o
 
@@ -187,7 +187,7 @@ ended_by-explains cfg Q s b true q o = if_cases (Explains Q) (nat_le cfg.limit (
 after_end-explains : (cfg : Config) (Q : Attempt → Type 0) (s : Seen) (b : Attempt) (f : Bool) → (is_live s b ≡ true → Q b) → Explains Q s → Explains Q (after_end cfg s b f)
 after_end-explains cfg Q s b f q o = if_cases (Explains Q) (is_live s b) _ _ (λ e. ended_by-explains cfg Q s b f (q e) o) (λ e. o)
 
-pub found_container : (ls : List Launched) (c : Container) (l : Launched) → find_container ls c ≡ Some l → In l ls × (container_eq c l.container ≡ true)
+pub found_container : (ls : List Launched) (c : ContainerId) (l : Launched) → find_container ls c ≡ Some l → In l ls × (container_eq c l.container ≡ true)
 found_container [] c l e = cc
 found_container (m ∷ ls) c l e = by (container_eq c m.container) refl e (found_container ls c l)
   where
@@ -195,10 +195,10 @@ found_container (m ∷ ls) c l e = by (container_eq c m.container) refl e (found
     by true q e f = let g : m ≡ l = cc in (inl g, subst (λ (x : Launched). container_eq c x.container ≡ true) g q)
     by false q e f = let r = f e in (inr r.0, r.1)
 
-pub container_eq-true : (c d : Container) → container_eq c d ≡ true → c ≡ d
+pub container_eq-true : (c d : ContainerId) → container_eq c d ≡ true → c ≡ d
 container_eq-true c d e = let p = and_parts _ _ e in λ i. record { app = eqb-true c.app d.app p.0 i; number = eqb-true c.number d.number p.1 i }
 
-pub container_eq-refl : (c : Container) → container_eq c c ≡ true
+pub container_eq-refl : (c : ContainerId) → container_eq c c ≡ true
 container_eq-refl c = rw (eq-eqb c.app c.app refl, eq-eqb c.number c.number refl) refl
 
 end_there-explains : (Q : Attempt → Type 0) (n i : ℕ) (ls : List Launched) → ((l : Launched) → In l ls → l.node ≡ n → l.incarnation < i → Q l.attempt) → (s : Seen) → Explains Q s → Explains Q (end_there n i ls s)
@@ -223,7 +223,7 @@ heard-explains cfg Q s (Packet.Ended c) q o = by (find_container s.launched c) r
         after_end-explains cfg Q s l.attempt _ (λ t. q l.attempt (subst (λ x. Ends s.launched l.attempt (Packet.Ended x)) (sym (container_eq-true c l.container f.1)) (by_end l f.0 refl))) o
 heard-explains cfg Q s (Packet.NodeUp m i) q o = if_cases (Explains Q) (nat_lt (s.known m) i) _ _
     (λ t. end_there-explains Q m i s.launched (λ l j e f. q l.attempt (subst (λ x. Ends s.launched l.attempt (Packet.NodeUp x i)) e (by_node l i j refl f))) _ o) (λ t. o)
-heard-explains cfg Q s (Packet.Lost d b) q o = if_cases (Explains Q) (is_some (find_container s.launched d) && has s.recorded b) _ _ (λ t. o) (λ t. o)
+heard-explains cfg Q s (Packet.FetchLost d b) q o = if_cases (Explains Q) (is_some (find_container s.launched d) && has s.recorded b) _ _ (λ t. o) (λ t. o)
 heard-explains cfg Q s (Packet.Where d m) q o = o
 heard-explains cfg Q s _ q o = o
 

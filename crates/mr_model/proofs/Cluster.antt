@@ -1,8 +1,8 @@
 -- Launches, ends and yeses: what the packets of the bag say of containers, nodes and masters.
 use Rattle.std.proofs.Common.{ℕ, zero, suc, ◌≤◌, ◌<◌, ◌≡◌, refl, sym, ◌∙◌, ap, subst, Bool, true, false, ◌&&◌, ◌||◌, not, List, [], ◌∷◌, Option, Some, None, if◌then◌else◌, nat_eq, ◌⊎◌, inl, inr, arith, slice_get}
 use Rattle.std.proofs.lemmas.Bool.{and_parts, false≢true, true≢false, eqb-true, eq-eqb, not-true}
-use Rattle.mr_model.specs.Ids.{Attempt, Container, container_eq, is_reduce}
-use Rattle.mr_model.specs.Packets.{Config, Packet, Envelope, Address, Master, At, Node, Launch, Kill, Ended, Failed, NodeUp, Answer, Store}
+use Rattle.mr_model.specs.Ids.{Attempt, ContainerId, container_eq, is_reduce}
+use Rattle.mr_model.specs.Packets.{Config, Packet, Envelope, Address, Master, Container, Node, Launch, Kill, Ended, Failed, NodeUp, Answer, Store}
 use Rattle.mr_model.proofs.Bars.{barred_kept, barred-now}
 use Rattle.mr_model.specs.Pasts.{Place, incarnation_of, is_known}
 use Rattle.mr_model.specs.Hearing.{Launched, has, named_in, is_over}
@@ -30,7 +30,7 @@ IsOut w l = IsGone w l ⊎ (has w.barred l.attempt ≡ true)
 abbrev pub IsLaunched : Config → World → ℕ → Launched → Type 0
 IsLaunched cfg w k l = In l (seen_by cfg w k).launched
 
-abbrev pub launched_as : Container → Attempt → ℕ → ℕ → Launched
+abbrev pub launched_as : ContainerId → Attempt → ℕ → ℕ → Launched
 launched_as c a n i = record { attempt = a; container = c; node = n; incarnation = i }
 
 -- what is so once a packet was sent
@@ -40,7 +40,7 @@ PacketFits cfg w (Node n) (Kill c) = (a : Attempt) × (i : ℕ) × IsLaunched cf
 PacketFits cfg w (Master k) (Ended c) = (l : Launched) × IsLaunched cfg w k l × (l.container ≡ c) × IsGone w l
 PacketFits cfg w (Master k) (Failed a) = (l : Launched) × IsLaunched cfg w k l × (l.attempt ≡ a) × IsGone w l
 PacketFits cfg w (Master k) (NodeUp n i) = i ≤ incarnation_of (w.node_past n)
-PacketFits cfg w (At c) (Answer a true) = (l : Launched) × IsLaunched cfg w c.app l × (l.container ≡ c) × (l.attempt ≡ a) × NamedOrOver a (seen_by cfg w c.app) × (is_reduce a ≡ true)
+PacketFits cfg w (Container c) (Answer a true) = (l : Launched) × IsLaunched cfg w c.app l × (l.container ≡ c) × (l.attempt ≡ a) × NamedOrOver a (seen_by cfg w c.app) × (is_reduce a ≡ true)
 PacketFits cfg w x p = Unit {0}
 
 abbrev pub EnvelopeFits : Config → World → Envelope → Type 0
@@ -49,9 +49,9 @@ EnvelopeFits cfg w e = PacketFits cfg w e.to e.body
 pub record Cluster (cfg : Config) (w : World) : Type 0 where
   pub distinct : (k : ℕ) → Distinct k (seen_by cfg w k).launched
   pub packets : Each (EnvelopeFits cfg w) w.bag
-  pub places : (c : Container) (p : Place) → w.place c ≡ Some p →
+  pub places : (c : ContainerId) (p : Place) → w.place c ≡ Some p →
       IsLaunched cfg w c.app (launched_as c p.attempt p.node p.incarnation) × (is_known (w.node_past p.node) c ≡ true)
-  pub alive : (c : Container) → w.is_alive c ≡ true → (p : Place) × (w.place c ≡ Some p) × (p.incarnation ≡ incarnation_of (w.node_past p.node))
+  pub alive : (c : ContainerId) → w.is_alive c ≡ true → (p : Place) × (w.place c ≡ Some p) × (p.incarnation ≡ incarnation_of (w.node_past p.node))
   pub over : (k : ℕ) (a : Attempt) → is_reduce a ≡ true → is_over (seen_by cfg w k).ended a ≡ true → (l : Launched) × IsLaunched cfg w k l × (l.attempt ≡ a) × IsOut w l
 
 -- an attempt of a reduce that lives and is not barred is not over
@@ -68,12 +68,12 @@ lives-on cfg w o k l i r live free = by (is_over (seen_by cfg w k).ended l.attem
         out m j f (inr b) = absurd (false≢true (sym free ∙ subst (λ z. has w.barred z ≡ true) f b))
 
 -- One master's containers for one reduce: at most one that lives and is not barred was sent a yes
-pub one_yes : (cfg : Config) (w : World) → Cluster cfg w → (c d : Container) (a b : Attempt) → w.is_alive c ≡ true → w.is_alive d ≡ true →
+pub one_yes : (cfg : Config) (w : World) → Cluster cfg w → (c d : ContainerId) (a b : Attempt) → w.is_alive c ≡ true → w.is_alive d ≡ true →
     c.app ≡ d.app → a.task ≡ b.task → has w.barred a ≡ false → has w.barred b ≡ false → In (to_container c (Answer a true)) w.bag → In (to_container d (Answer b true)) w.bag → c ≡ d
 one_yes cfg w o c d a b ac ad app task fa fb ic id' = both (Each-In (EnvelopeFits cfg w) w.bag o.packets _ ic) (Each-In (EnvelopeFits cfg w) w.bag o.packets _ id')
   where
     -- the yes of one that lives is for the one named
-    named : (c : Container) (a : Attempt) → w.is_alive c ≡ true → has w.barred a ≡ false → (l : Launched) → IsLaunched cfg w c.app l → l.container ≡ c → l.attempt ≡ a → NamedOrOver a (seen_by cfg w c.app) → is_reduce a ≡ true →
+    named : (c : ContainerId) (a : Attempt) → w.is_alive c ≡ true → has w.barred a ≡ false → (l : Launched) → IsLaunched cfg w c.app l → l.container ≡ c → l.attempt ≡ a → NamedOrOver a (seen_by cfg w c.app) → is_reduce a ≡ true →
         named_in (seen_by cfg w c.app).asked (seen_by cfg w c.app).ended a.task ≡ Some a
     named c a live free l i e f (inr n) r = n
     named c a live free l i e f (inl v) r = absurd (true≢false (sym v ∙ subst (λ z. is_over (seen_by cfg w c.app).ended z ≡ false) f
@@ -91,7 +91,7 @@ one_yes cfg w o c d a b ac ad app task fa fb ic id' = both (Each-In (EnvelopeFit
 
 -- Nodes
 
-pub known_after : (w : World) (e : Event) (n : ℕ) (c : Container) → is_known (w.node_past n) c ≡ true → is_known (node_past_after w e n) c ≡ true
+pub known_after : (w : World) (e : Event) (n : ℕ) (c : ContainerId) → is_known (w.node_past n) c ≡ true → is_known (node_past_after w e n) c ≡ true
 unfolding node_past_after is_known
 known_after w (Deliver i) n c k = got (slice_get w.bag i)
   where
@@ -101,7 +101,7 @@ known_after w (Deliver i) n c k = got (slice_get w.bag i)
       where
         to : (x : Address) (p : Packet) → is_known (got_at_node (Some (record { to = x; body = p })) n (w.node_past n)) c ≡ true
         to (Master m) p = k
-        to (At d) p = k
+        to (Container d) p = k
         to (Node m) p = if_cases (λ h. is_known h c ≡ true) (nat_eq n m) _ _ (λ t. rw k (or-true _)) (λ t. k)
 known_after w (Compute d b) n c k = put (w.place d)
   where
@@ -127,7 +127,7 @@ incarnation_after w (Deliver i) n = got (slice_get w.bag i)
       where
         to : (x : Address) (p : Packet) → incarnation_of (w.node_past n) ≤ incarnation_of (got_at_node (Some (record { to = x; body = p })) n (w.node_past n))
         to (Master m) p = omega arith
-        to (At d) p = omega arith
+        to (Container d) p = omega arith
         to (Node m) p = if_cases (λ h. incarnation_of (w.node_past n) ≤ incarnation_of h) (nat_eq n m) _ _ (λ t. omega arith) (λ t. omega arith)
 incarnation_after w (Compute d b) n = put (w.place d)
   where
@@ -174,7 +174,7 @@ obeyed-is w (Deliver i) o q = got (slice_get w.bag i) refl q
       where
         to : (x : Address) (p : Packet) → slice_get w.bag i ≡ Some (record { to = x; body = p }) → obeyed_at w (Some (record { to = x; body = p })) ≡ Some o → IsObeyed w o
         to (Master m) p s q = cc
-        to (At d) p s q = cc
+        to (Container d) p s q = cc
         to (Node n) p s q = obeys-is w n p o q (slice_get-In w.bag i _ s)
 obeyed-is w _ o q = cc
 
@@ -200,7 +200,7 @@ not_obeyed cfg w e h k l i g = by (obeyed w e) refl
             c = container_eq-true l.container o.container r
 
             ka : o.container.app ≡ k
-            ka = sym (ap (λ (z : Container). z.app) c) ∙ (h.distinct k).apps l i
+            ka = sym (ap (λ (z : ContainerId). z.app) c) ∙ (h.distinct k).apps l i
 
             same : l ≡ launched_as o.container o.place.attempt o.place.node o.place.incarnation
             same = (h.distinct k).containers l _ i (subst (λ z. IsLaunched cfg w z (launched_as o.container o.place.attempt o.place.node o.place.incarnation)) ka (obeyed_launched cfg w h o x)) c
@@ -227,7 +227,7 @@ packet_after cfg w e h (Node n) (Kill c) o = (o.0, o.1, launched_after cfg w e c
 packet_after cfg w e h (Master k) (Ended c) o = (o.0, launched_after cfg w e k o.0 o.1, o.2, gone_after cfg w e h k o.0 o.1 o.3)
 packet_after cfg w e h (Master k) (Failed a) o = (o.0, launched_after cfg w e k o.0 o.1, o.2, gone_after cfg w e h k o.0 o.1 o.3)
 packet_after cfg w e h (Master k) (NodeUp n i) o = let z = incarnation_after w e n in omega arith
-packet_after cfg w e h (At c) (Answer a true) o = (
+packet_after cfg w e h (Container c) (Answer a true) o = (
   o.0,
   launched_after cfg w e c.app o.0 o.1,
   o.2,
@@ -262,7 +262,7 @@ came-fits cfg w (Some v) f = to v.to v.body (f v refl)
   where
     to : (x : Address) (p : Packet) → In (record { to = x; body = p }) w.bag → ActFits cfg w (came_act (Some (record { to = x; body = p })))
     to (Master k) p i = i
-    to (At c) p i = tt
+    to (Container c) p i = tt
     to (Node n) p i = tt
 
 act-fits : (cfg : Config) (w : World) (e : Event) → ActFits cfg w (master_act cfg w e)
@@ -343,7 +343,7 @@ obeyed-at cfg w (Deliver i) o q = got (slice_get w.bag i) q
     Out : Option Envelope → Type 0
     Out v = (is_known (got_at_node v o.place.node (w.node_past o.place.node)) o.container ≡ true) × (incarnation_of (got_at_node v o.place.node (w.node_past o.place.node)) ≡ incarnation_of (w.node_past o.place.node))
 
-    by : (n : ℕ) (c : Container) (a : Attempt) (i : ℕ) (t : Bool) → (not (is_known (w.node_past n) c) && nat_eq i (incarnation_of (w.node_past n))) ≡ t →
+    by : (n : ℕ) (c : ContainerId) (a : Attempt) (i : ℕ) (t : Bool) → (not (is_known (w.node_past n) c) && nat_eq i (incarnation_of (w.node_past n))) ≡ t →
         (if t then Some (record { container = c; place = record { attempt = a; node = n; incarnation = i } }) else None) ≡ Some o → Out (Some (record { to = Node n; body = Launch c a i }))
     by n c a i true r e = let f : record { container = c; place = record { attempt = a; node = n; incarnation = i } } ≡ o = cc in let u = and_parts _ _ r in let now = eqb-true i _ u.1 in
         subst (λ (z : Obeyed). (is_known (got_at_node (Some (record { to = Node n; body = Launch c a i })) z.place.node (w.node_past z.place.node)) z.container ≡ true) × (incarnation_of (got_at_node (Some (record { to = Node n; body = Launch c a i })) z.place.node (w.node_past z.place.node)) ≡ incarnation_of (w.node_past z.place.node))) f
@@ -361,19 +361,19 @@ obeyed-at cfg w (Deliver i) o q = got (slice_get w.bag i) q
 
         to : (x : Address) (p : Packet) → obeyed_at w (Some (record { to = x; body = p })) ≡ Some o → Out (Some (record { to = x; body = p }))
         to (Master m) p q = cc
-        to (At d) p q = cc
+        to (Container d) p q = cc
         to (Node n) p q = node n p q
 obeyed-at cfg w _ o q = cc
 
 -- a container's place after an event: a new one, or the old
-pub place_after : (w : World) (e : Event) (c : Container) (P : Option Place → Type 0) → P (w.place c) → ((o : Obeyed) → obeyed w e ≡ Some o → c ≡ o.container → P (Some o.place)) → P (with_place w.place (obeyed w e) c)
+pub place_after : (w : World) (e : Event) (c : ContainerId) (P : Option Place → Type 0) → P (w.place c) → ((o : Obeyed) → obeyed w e ≡ Some o → c ≡ o.container → P (Some o.place)) → P (with_place w.place (obeyed w e) c)
 place_after w e c P p f = by (obeyed w e) refl
   where
     by : (o : Option Obeyed) → obeyed w e ≡ o → P (with_place w.place o c)
     by None q = p
     by (Some o) q = if_cases P (container_eq c o.container) _ _ (λ t. f o q (container_eq-true c o.container t)) (λ t. p)
 
-pub places_after : (cfg : Config) (w : World) (e : Event) → Cluster cfg w → (c : Container) (p : Place) → (effect cfg w e).place c ≡ Some p →
+pub places_after : (cfg : Config) (w : World) (e : Event) → Cluster cfg w → (c : ContainerId) (p : Place) → (effect cfg w e).place c ≡ Some p →
     IsLaunched cfg (effect cfg w e) c.app (launched_as c p.attempt p.node p.incarnation) × (is_known (node_past_after w e p.node) c ≡ true)
 places_after cfg w e h c = place_after w e c (λ v. (p : Place) → v ≡ Some p → Out p)
     (λ p q. let o = h.places c p q in (launched_after cfg w e c.app _ o.0, known_after w e p.node c o.1))
@@ -397,7 +397,7 @@ incarnation_same w (Deliver i) n = inl (got (slice_get w.bag i))
       where
         to : (x : Address) (p : Packet) → incarnation_of (got_at_node (Some (record { to = x; body = p })) n (w.node_past n)) ≡ incarnation_of (w.node_past n)
         to (Master m) p = refl
-        to (At d) p = refl
+        to (Container d) p = refl
         to (Node m) p = if_cases (λ h. incarnation_of h ≡ incarnation_of (w.node_past n)) (nat_eq n m) _ _ (λ t. refl) (λ t. refl)
 incarnation_same w (Compute d b) n = inl (put (w.place d))
   where
@@ -416,11 +416,11 @@ incarnation_same w (Expire j m) n = inl refl
 not_is-false : (b : Bool) → not b ≡ true → b ≡ false
 not_is-false b e = not-true b e
 
-restart-ends : (cfg : Config) (w : World) (c : Container) (p : Place) → w.place c ≡ Some p → ends cfg w (NodeRestart p.node) c ≡ true
+restart-ends : (cfg : Config) (w : World) (c : ContainerId) (p : Place) → w.place c ≡ Some p → ends cfg w (NodeRestart p.node) c ≡ true
 unfolding ends
 restart-ends cfg w c p e = rw (e, eq-eqb p.node p.node refl) refl
 
-pub alive_after : (cfg : Config) (w : World) (e : Event) → Cluster cfg w → (c : Container) → (effect cfg w e).is_alive c ≡ true →
+pub alive_after : (cfg : Config) (w : World) (e : Event) → Cluster cfg w → (c : ContainerId) → (effect cfg w e).is_alive c ≡ true →
     (p : Place) × ((effect cfg w e).place c ≡ Some p) × (p.incarnation ≡ incarnation_of (node_past_after w e p.node))
 alive_after cfg w e h c a = by (obeyed w e) refl a
   where
@@ -443,10 +443,10 @@ alive_after cfg w e h c a = by (obeyed w e) refl a
 
 -- What is sent
 
-pub open_place : (cfg : Config) (w : World) → Cluster cfg w → (c : Container) → w.is_alive c ≡ true → (p : Place) × (w.place c ≡ Some p) × IsLaunched cfg w c.app (launched_as c p.attempt p.node p.incarnation) × (is_known (w.node_past p.node) c ≡ true)
+pub open_place : (cfg : Config) (w : World) → Cluster cfg w → (c : ContainerId) → w.is_alive c ≡ true → (p : Place) × (w.place c ≡ Some p) × IsLaunched cfg w c.app (launched_as c p.attempt p.node p.incarnation) × (is_known (w.node_past p.node) c ≡ true)
 open_place cfg w h c a = let p = h.alive c a in let q = h.places c p.0 p.1 in (p.0, p.1, q.0, q.1)
 
-pub not-alive : (cfg : Config) (w : World) (e : Event) (c : Container) → ends cfg w e c ≡ true → (effect cfg w e).is_alive c ≡ false
+pub not-alive : (cfg : Config) (w : World) (e : Event) (c : ContainerId) → ends cfg w e c ≡ true → (effect cfg w e).is_alive c ≡ false
 not-alive cfg w e c t = rw t (and_false (is_obeyed (obeyed w e) c || w.is_alive c))
   where
     and_false : (b : Bool) → (b && false) ≡ false
@@ -454,16 +454,16 @@ not-alive cfg w e c t = rw t (and_false (is_obeyed (obeyed w e) c || w.is_alive 
     and_false false = refl
 
 -- a container that lived and ends is gone
-pub gone_now : (cfg : Config) (w : World) (e : Event) → Cluster cfg w → (c : Container) → w.is_alive c ≡ true → ends cfg w e c ≡ true →
+pub gone_now : (cfg : Config) (w : World) (e : Event) → Cluster cfg w → (c : ContainerId) → w.is_alive c ≡ true → ends cfg w e c ≡ true →
     (p : Place) × (w.place c ≡ Some p) × IsLaunched cfg (effect cfg w e) c.app (launched_as c p.attempt p.node p.incarnation) × IsGone (effect cfg w e) (launched_as c p.attempt p.node p.incarnation)
 gone_now cfg w e h c a t = let p = open_place cfg w h c a in
     (p.0, p.1, launched_after cfg w e c.app _ p.2, record { not_alive = not-alive cfg w e c t; barred = inl (known_after w e p.0.node c p.3) })
 
-pub ended-fits : (cfg : Config) (w : World) (e : Event) → Cluster cfg w → (c : Container) → w.is_alive c ≡ true → ends cfg w e c ≡ true → EnvelopeFits cfg (effect cfg w e) (to_app c.app (Ended c))
+pub ended-fits : (cfg : Config) (w : World) (e : Event) → Cluster cfg w → (c : ContainerId) → w.is_alive c ≡ true → ends cfg w e c ≡ true → EnvelopeFits cfg (effect cfg w e) (to_app c.app (Ended c))
 ended-fits cfg w e h c a t = let p = gone_now cfg w e h c a t in (launched_as c p.0.attempt p.0.node p.0.incarnation, p.2, refl, p.3)
 
 -- a kill that is delivered
-pub killed-fits : (cfg : Config) (w : World) (e : Event) → Cluster cfg w → (n : ℕ) (c : Container) → In (to_node n (Kill c)) w.bag → ends cfg w e c ≡ true → is_known (node_past_after w e n) c ≡ true →
+pub killed-fits : (cfg : Config) (w : World) (e : Event) → Cluster cfg w → (n : ℕ) (c : ContainerId) → In (to_node n (Kill c)) w.bag → ends cfg w e c ≡ true → is_known (node_past_after w e n) c ≡ true →
     EnvelopeFits cfg (effect cfg w e) (to_app c.app (Ended c))
 killed-fits cfg w e h n c i t k = let o : PacketFits cfg w (Node n) (Kill c) = Each-In (EnvelopeFits cfg w) w.bag h.packets _ i in
     (launched_as c o.0 n o.1, launched_after cfg w e c.app _ o.2, refl, record { not_alive = not-alive cfg w e c t; barred = inl k })

@@ -2,10 +2,10 @@
 use Rattle.std.proofs.Common.{ℕ, ◌≤◌, ◌<◌, ◌≡◌, refl, sym, ◌∙◌, ap, subst, Bool, true, false, List, [], ◌∷◌, ◌++◌, Some, None, ◌⊎◌, inl, inr, arith, length, is_some}
 use Rattle.std.proofs.lemmas.Bool.{false≢true}
 use Rattle.mr_model.specs.Claims.{IsReduce}
-use Rattle.mr_model.specs.Ids.{Name, Path, Attempt, Container, task_attempt, committed, job_attempt, commit_started, task_name, TaskId, is_reduce, attempt_name, temporary_name}
+use Rattle.mr_model.specs.Ids.{Name, Path, Attempt, ContainerId, task_attempt, committed, job_attempt, commit_started, task_name, TaskId, is_reduce, attempt_name, temporary_name}
 use Rattle.mr_model.specs.Content.{File, entry_at, Op, MkDirs, Create, Delete, Rename}
 use Rattle.mr_model.specs.Records.{Record, records_below, winner_in}
-use Rattle.mr_model.specs.Packets.{Config, Answer, At, Names}
+use Rattle.mr_model.specs.Packets.{Config, Answer, Container, Names}
 use Rattle.mr_model.specs.Pasts.{Wish, To_clear, To_rename, wish, computed, Place, Step}
 use Rattle.mr_model.specs.Hearing.{has, Phase, Opening, Setting_up, Recovering, Running, Committing, Failing, Finished, Stopped, Recover_step, Look_below, Measure, Clear_own, Move_from, Todo_winner, Launched, has_winner, is_over, named_in}
 use Rattle.mr_model.specs.Duties.{is_temporary}
@@ -103,15 +103,15 @@ PhaseDirs cfg w k rs (Finished b) = Unit {0}
 PhaseDirs cfg w k rs Stopped = Unit {0}
 
 abbrev pub NoPlace : World → Attempt → Type 0
-NoPlace w a = (c : Container) (p : Place) → c.app ≡ w.fence → w.place c ≡ Some p → p.attempt ≡ a → ⊥
+NoPlace w a = (c : ContainerId) (p : Place) → c.app ≡ w.fence → w.place c ≡ Some p → p.attempt ≡ a → ⊥
 
 pub record Dirs (cfg : Config) (w : World) : Type 0 where
   pub unborn : (k : ℕ) → w.fence < k → Absent w.content (job_attempt k)
   pub unplaced : (a : Attempt) → NoPlace w a → Absent w.content (task_attempt w.fence a)
-  pub own : (c : Container) (p : Place) → c.app ≡ w.fence → w.place c ≡ Some p → is_reduce p.attempt ≡ true →
+  pub own : (c : ContainerId) (p : Place) → c.app ≡ w.fence → w.place c ≡ Some p → is_reduce p.attempt ≡ true →
       OwnDir w.content (task_attempt c.app p.attempt) p.attempt.task (computed (w.container_past c)) (wish_as cfg w c p)
   pub tidy : (j : ℕ) (t : TaskId) → entry_at w.content (committed j t) ≡ None → Absent w.content (committed j t)
-  pub renamed : (c : Container) (p : Place) → c.app ≡ w.fence → w.place c ≡ Some p → is_reduce p.attempt ≡ true → renamed_as cfg w c p ≡ true →
+  pub renamed : (c : ContainerId) (p : Place) → c.app ≡ w.fence → w.place c ≡ Some p → is_reduce p.attempt ≡ true → renamed_as cfg w c p ≡ true →
       is_over (newest cfg w).ended p.attempt ≡ false → Holds w.content (committed c.app p.attempt.task) p.attempt.task (File (computed (w.container_past c)) true)
   pub old : (t : TaskId) (a : Attempt) → winner_in (R w) t ≡ Some a → Old w t a
   pub names : (n : Name) → is_temporary n ≡ false → ((t : TaskId) → IsReduce cfg t → n ≡ task_name t → ⊥) → Absent w.content (job_attempt w.fence ++ n ∷ [])
@@ -119,18 +119,18 @@ pub record Dirs (cfg : Config) (w : World) : Type 0 where
 
 -- Containers of one task
 
-dead-over : (cfg : Config) (w : World) → Cluster cfg w → (c : Container) (p : Place) → w.is_alive c ≡ true → w.place c ≡ Some p → is_reduce p.attempt ≡ true → has w.barred p.attempt ≡ false → is_over (seen_by cfg w c.app).ended p.attempt ≡ false
+dead-over : (cfg : Config) (w : World) → Cluster cfg w → (c : ContainerId) (p : Place) → w.is_alive c ≡ true → w.place c ≡ Some p → is_reduce p.attempt ≡ true → has w.barred p.attempt ≡ false → is_over (seen_by cfg w c.app).ended p.attempt ≡ false
 dead-over cfg w h c p a q r f = lives-on cfg w h c.app (launched_as c p.attempt p.node p.incarnation) (h.places c p q).0 r a f
 
-told-named : (cfg : Config) (w : World) → Cluster cfg w → (c : Container) (p : Place) → WasTold w c p.attempt → is_over (seen_by cfg w c.app).ended p.attempt ≡ false →
+told-named : (cfg : Config) (w : World) → Cluster cfg w → (c : ContainerId) (p : Place) → WasTold w c p.attempt → is_over (seen_by cfg w c.app).ended p.attempt ≡ false →
     named_in (seen_by cfg w c.app).asked (seen_by cfg w c.app).ended p.attempt.task ≡ Some p.attempt
-told-named cfg w h c p t o = let f : PacketFits cfg w (At c) (Answer p.attempt true) = Each-In (EnvelopeFits cfg w) w.bag h.packets _ t in by f.4
+told-named cfg w h c p t o = let f : PacketFits cfg w (Container c) (Answer p.attempt true) = Each-In (EnvelopeFits cfg w) w.bag h.packets _ t in by f.4
   where
     by : NamedOrOver p.attempt (seen_by cfg w c.app) → named_in (seen_by cfg w c.app).asked (seen_by cfg w c.app).ended p.attempt.task ≡ Some p.attempt
     by (inl v) = absurd (false≢true (sym o ∙ v))
     by (inr v) = v
 
-pub same_task : (cfg : Config) (w : World) → Cluster cfg w → (c d : Container) (p q : Place) → w.place c ≡ Some p → w.place d ≡ Some q → c.app ≡ d.app → p.attempt.task ≡ q.attempt.task →
+pub same_task : (cfg : Config) (w : World) → Cluster cfg w → (c d : ContainerId) (p q : Place) → w.place c ≡ Some p → w.place d ≡ Some q → c.app ≡ d.app → p.attempt.task ≡ q.attempt.task →
     WasTold w c p.attempt → WasTold w d q.attempt → is_over (seen_by cfg w c.app).ended p.attempt ≡ false → is_over (seen_by cfg w d.app).ended q.attempt ≡ false → c ≡ d
 same_task cfg w h c d p q pc qd app task tc td oc od =
     let nc = told-named cfg w h c p tc oc in let nd = told-named cfg w h d q td od in
@@ -142,7 +142,7 @@ same_task cfg w h c d p q pc qd app task tc td oc od =
     ap (λ (z : Launched). z.container) ((h.distinct c.app).attempts (launched_as c p.attempt p.node p.incarnation) (launched_as d q.attempt q.node q.incarnation) (h.places c p pc).0 i ab)
 
 -- two places with one attempt and one generation are one container's
-pub same_attempt : (cfg : Config) (w : World) → Cluster cfg w → (c d : Container) (p q : Place) → w.place c ≡ Some p → w.place d ≡ Some q → c.app ≡ d.app → p.attempt ≡ q.attempt → c ≡ d
+pub same_attempt : (cfg : Config) (w : World) → Cluster cfg w → (c d : ContainerId) (p q : Place) → w.place c ≡ Some p → w.place d ≡ Some q → c.app ≡ d.app → p.attempt ≡ q.attempt → c ≡ d
 same_attempt cfg w h c d p q pc qd app ab =
     let i : IsLaunched cfg w c.app (launched_as d q.attempt q.node q.incarnation) = subst (λ z. IsLaunched cfg w z (launched_as d q.attempt q.node q.incarnation)) (sym app) (h.places d q qd).0 in
     ap (λ (z : Launched). z.container) ((h.distinct c.app).attempts (launched_as c p.attempt p.node p.incarnation) (launched_as d q.attempt q.node q.incarnation) (h.places c p pc).0 i ab)
@@ -175,7 +175,7 @@ module _ (cfg : Config) (w : World) (e : Event) (kn : Known cfg w) (n : not_now 
       (subst (λ z. IsLaunched cfg w z (launched_as k.who k.place.attempt k.place.node k.place.incarnation)) k.app (kn.cluster.places k.who k.place k.placed).0) (calls-reduce k)
 
   -- and a container that has renamed has its task to itself
-  pub calls-free : (k : Calls cfg w e) → commits (wish_k k) ≡ true → (c : Container) (p : Place) → c.app ≡ w.fence → w.place c ≡ Some p → is_reduce p.attempt ≡ true → renamed_as cfg w c p ≡ true →
+  pub calls-free : (k : Calls cfg w e) → commits (wish_k k) ≡ true → (c : ContainerId) (p : Place) → c.app ≡ w.fence → w.place c ≡ Some p → is_reduce p.attempt ≡ true → renamed_as cfg w c p ≡ true →
       is_over (newest cfg w).ended p.attempt ≡ false → k.place.attempt.task ≡ p.attempt.task → ⊥
   calls-free k m c p app q d r o t =
       let over : is_over (seen_by cfg w c.app).ended p.attempt ≡ false = subst (λ z. is_over (seen_by cfg w z).ended p.attempt ≡ false) (sym app) o in
@@ -244,7 +244,7 @@ module _ (cfg : Config) (w : World) (e : Event) (kn : Known cfg w) (n : not_now 
         (attempt-kept w.fence a refl (λ c q. o c.who c.place (c.app ∙ sym f) (place_kept cfg w e kn.cluster c.who c.place c.placed) q))
         (dirs.unplaced a (λ c p u v q. o c p (u ∙ sym f) (place_kept cfg w e kn.cluster c p v) q))
 
-    pub own_after : (c : Container) (p : Place) → c.app ≡ w.fence → (effect cfg w e).place c ≡ Some p → is_reduce p.attempt ≡ true →
+    pub own_after : (c : ContainerId) (p : Place) → c.app ≡ w.fence → (effect cfg w e).place c ≡ Some p → is_reduce p.attempt ≡ true →
         OwnDir (effect cfg w e).content (task_attempt c.app p.attempt) p.attempt.task (computed ((effect cfg w e).container_past c)) (wish_as cfg (effect cfg w e) c p)
     unfolding wish
     own_after c p app q d = by (place_was cfg w e kn.cluster kn.heard n c p q)

@@ -1,6 +1,6 @@
 -- A master's launches have different containers and different attempts.
 use Rattle.std.proofs.Common.{ℕ, suc, ◌+◌, ◌-◌, ◌*◌, ◌≤◌, ◌<◌, ◌≡◌, refl, sym, ◌∙◌, ap, subst, List, ◌∷◌, inl, inr, arith, length}
-use Rattle.mr_model.specs.Ids.{Attempt, Container, TaskId, task_eq}
+use Rattle.mr_model.specs.Ids.{Attempt, ContainerId, TaskId, task_eq}
 use Rattle.mr_model.proofs.Names.{task_eq-refl}
 use Rattle.mr_model.specs.Packets.{Config}
 use Rattle.mr_model.specs.Hearing.{Seen, Launched}
@@ -42,7 +42,7 @@ distinct-launch k s t n d = record { apps = apps; numbers = numbers; counts = co
     counts l (inr i) = let q = d.counts l i in let u = count-more new s.launched l.attempt.task in omega arith
 
     not_container : (m : Launched) → In m s.launched → new.container ≡ m.container → ⊥
-    not_container m i e = let q = d.numbers m i in let u : length s.launched ≡ m.container.number = ap (λ (x : Container). x.number) e in omega arith
+    not_container m i e = let q = d.numbers m i in let u : length s.launched ≡ m.container.number = ap (λ (x : ContainerId). x.number) e in omega arith
 
     not_attempt : (m : Launched) → In m s.launched → new.attempt ≡ m.attempt → ⊥
     not_attempt m i e = let q = subst (λ (x : Attempt). x.number < 1000 * (k - 1) + count_of s.launched x.task) (sym e) (d.counts m i) in omega arith

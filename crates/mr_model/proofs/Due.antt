@@ -2,7 +2,7 @@
 use Rattle.std.proofs.Common.{ℕ, ◌≤◌, ◌≡◌, refl, ◌∙◌, subst, Bool, true, false, ◌&&◌, not, List, [], ◌∷◌, ◌++◌, Option, Some, None, if◌then◌else◌, is_some, nat_eq, nat_lt, nat_le, inl, inr, arith}
 use Rattle.std.proofs.lemmas.Bool.{false≢true, true≢false, ltb-true, le-leb, and_parts}
 use Rattle.mr_history.specs.Line as lines
-use Rattle.mr_model.specs.Ids.{Attempt, Container, TaskKind, Map, Reduce, is_reduce, of_reduces, attempt_eq}
+use Rattle.mr_model.specs.Ids.{Attempt, ContainerId, TaskKind, Map, Reduce, is_reduce, of_reduces, attempt_eq}
 use Rattle.mr_model.specs.Records.{Record, AttemptStarted, MapSucceeded, ReduceSucceeded, AttemptFailed, JobUnsuccessful}
 use Rattle.mr_model.specs.Packets.{Config, Packet, Store, Names, Append_record, Flush, Read_history, Reply}
 use Rattle.mr_model.specs.Content.{bar_of}
@@ -60,7 +60,7 @@ ended_by-lined cfg s a true o = if_cases LinedOf (nat_le cfg.limit (failures (ov
 after_end-lined : (cfg : Config) (s : Seen) (a : Attempt) (f : Bool) → LinedOf s → LinedOf (after_end cfg s a f)
 after_end-lined cfg s a f o = if_cases LinedOf (is_live s a) _ _ (λ e. ended_by-lined cfg s a f o) (λ e. o)
 
-after_ended-lined : (cfg : Config) (s : Seen) (c : Container) (l : Option Launched) → LinedOf s → LinedOf (after_ended cfg s c l)
+after_ended-lined : (cfg : Config) (s : Seen) (c : ContainerId) (l : Option Launched) → LinedOf s → LinedOf (after_ended cfg s c l)
 after_ended-lined cfg s c None o = o
 after_ended-lined cfg s c (Some l) o = after_end-lined cfg s _ _ o
 
@@ -92,7 +92,7 @@ heard-lined cfg s (Packet.Done b z) o = if_cases LinedOf (may_accept s b) _ _
 heard-lined cfg s (Packet.Failed b) o = after_end-lined cfg s b true o
 heard-lined cfg s (Packet.Ended d) o = after_ended-lined cfg s d _ o
 heard-lined cfg s (Packet.NodeUp m i) o = if_cases LinedOf (nat_lt (s.known m) i) _ _ (λ t. end_there-lined m i s.launched _ (know-lined s.known s.launched s.due m i t o)) (λ t. o)
-heard-lined cfg s (Packet.Lost d b) o = if_cases LinedOf (is_some (find_container s.launched d) && has s.recorded b) _ _ (λ t. o) (λ t. o)
+heard-lined cfg s (Packet.FetchLost d b) o = if_cases LinedOf (is_some (find_container s.launched d) && has s.recorded b) _ _ (λ t. o) (λ t. o)
 heard-lined cfg s (Packet.Where d m) o = o
 heard-lined cfg s _ o = o
 

@@ -2,10 +2,10 @@
 use Rattle.std.proofs.Common.{ℕ, zero, suc, ◌≤◌, ◌≡◌, refl, sym, ◌∙◌, ap, subst, Bool, true, false, ◌&&◌, List, [], ◌∷◌, ◌++◌, Option, Some, None, if◌then◌else◌, is_none, nat_lt, ◌⊎◌, inl, inr, append_assoc, arith, length, slice_get}
 use Rattle.std.specs.Option.{option_and_then, option_map}
 use Rattle.std.proofs.lemmas.Bool.{and_parts, false≢true}
-use Rattle.mr_model.specs.Ids.{Attempt, Container, TaskId, is_reduce}
+use Rattle.mr_model.specs.Ids.{Attempt, ContainerId, TaskId, is_reduce}
 use Rattle.mr_model.specs.Content.{Op}
 use Rattle.mr_model.specs.Records.{Record, ReduceSucceeded, History, records_below}
-use Rattle.mr_model.specs.Packets.{Config, Packet, Envelope, Address, Master, At, Node}
+use Rattle.mr_model.specs.Packets.{Config, Packet, Envelope, Address, Master, Container, Node}
 use Rattle.mr_model.specs.Pasts.{Place, Step, Got, Sent, Computed, Called, To_ask_where, To_compute, wish, fetched, computed}
 use Rattle.mr_model.specs.World.{World, Event, Deliver, ContainerStep, Compute, Weather, Container_act, container_act, got_act, step_act, op_of, packet_of, opening_world}
 use Rattle.mr_model.specs.Sending.{sent}
@@ -32,12 +32,12 @@ pub record Gathers (job : Job) (cfg : Config) (x : Attempt) (h : List Step) : Ty
 pub record Carried (job : Job) (cfg : Config) (w : World) : Type 0 where
   pub shelves : (n : ℕ) → ShelfFits job cfg (w.node_past n)
   pub packets : Each (EnvelopeCarries job cfg w) w.bag
-  pub containers : (c : Container) (p : Place) → w.place c ≡ Some p → is_reduce p.attempt ≡ true → Gathers job cfg p.attempt (w.container_past c)
+  pub containers : (c : ContainerId) (p : Place) → w.place c ≡ Some p → is_reduce p.attempt ≡ true → Gathers job cfg p.attempt (w.container_past c)
 
 -- what an event that is taken hands in
 pub record Hands (job : Job) (cfg : Config) (w : World) (e : Event) : Type 0 where
   pub definition : CarriesDefinition job cfg w e
-  pub short : (c : Container) (bytes : List ℕ) (p : Place) → e ≡ Compute c bytes → w.place c ≡ Some p → is_reduce p.attempt ≡ false → length bytes ≤ most_output
+  pub short : (c : ContainerId) (bytes : List ℕ) (p : Place) → e ≡ Compute c bytes → w.place c ≡ Some p → is_reduce p.attempt ≡ false → length bytes ≤ most_output
 
 -- the definition's bytes of a container's input
 abbrev Makes : Job → Config → Option Place → List Step → List ℕ → Type 0
@@ -65,7 +65,7 @@ hands-in job cfg w e h c bytes p q r m =
     map-work job cfg p (w.container_past c) bytes m (subst (λ o. Makes job cfg o (w.container_past c) bytes) r d) (h.short c bytes p q r m)
 
 -- the result that an event adds to a container's past
-abbrev pub StepHands : Job → Config → World → Container → Step → Type 0
+abbrev pub StepHands : Job → Config → World → ContainerId → Step → Type 0
 StepHands job cfg w c (Computed bytes) = Makes job cfg (w.place c) (w.container_past c) bytes
 StepHands job cfg w c (Got p) = Unit {0}
 StepHands job cfg w c (Sent p) = Unit {0}
@@ -81,10 +81,10 @@ got-hands job cfg w (Some v) = to v.to v.body
   where
     to : (x : Address) (p : Packet) → ActHands job cfg w (got_act (Some (record { to = x; body = p })))
     to (Master k) p = tt
-    to (At c) p = tt
+    to (Container c) p = tt
     to (Node n) p = tt
 
-step-hands : (job : Job) (cfg : Config) (w : World) (c : Container) (f : Weather) (o : Option Op) (v : Option Envelope) → ActHands job cfg w (step_act w c f o v)
+step-hands : (job : Job) (cfg : Config) (w : World) (c : ContainerId) (f : Weather) (o : Option Op) (v : Option Envelope) → ActHands job cfg w (step_act w c f o v)
 step-hands job cfg w c f (Some op) v = tt
 step-hands job cfg w c f None (Some v) = tt
 step-hands job cfg w c f None None = tt
@@ -96,7 +96,7 @@ act-hands job cfg w (ContainerStep c f) d = step-hands job cfg w c f (op_of cfg 
 act-hands job cfg w (Compute c b) d = d
 act-hands job cfg w _ d = tt
 
-result-fits : (job : Job) (cfg : Config) (w : World) (c : Container) (p : Place) (s : Step) → w.place c ≡ Some p → is_reduce p.attempt ≡ true → StepHands job cfg w c s → ResultFits job (fetched (length cfg.splits) p.attempt (w.container_past c)) s
+result-fits : (job : Job) (cfg : Config) (w : World) (c : ContainerId) (p : Place) (s : Step) → w.place c ≡ Some p → is_reduce p.attempt ≡ true → StepHands job cfg w c s → ResultFits job (fetched (length cfg.splits) p.attempt (w.container_past c)) s
 result-fits job cfg w c p (Computed bytes) q r d =
     subst (λ b. option_and_then (made_of job cfg) (if b then Some (Pieces p.attempt.task.number (fetched (length cfg.splits) p.attempt (w.container_past c))) else option_map (Split p.attempt.task.number) (slice_get cfg.splits p.attempt.task.number)) ≡ Some bytes) r
     (makes-given job cfg p (w.container_past c) bytes (subst (λ o. Makes job cfg o (w.container_past c) bytes) q d))
@@ -104,7 +104,7 @@ result-fits job cfg w c p (Got v) q r d = tt
 result-fits job cfg w c p (Sent v) q r d = tt
 result-fits job cfg w c p (Called op v) q r d = tt
 
-came-fits : (job : Job) (cfg : Config) (w : World) (c : Container) (p : Place) (s : Step) → w.place c ≡ Some p → Each (EnvelopeCarries job cfg w) w.bag → Comes w c s → CameFits job cfg p.attempt s
+came-fits : (job : Job) (cfg : Config) (w : World) (c : ContainerId) (p : Place) (s : Step) → w.place c ≡ Some p → Each (EnvelopeCarries job cfg w) w.bag → Comes w c s → CameFits job cfg p.attempt s
 came-fits job cfg w c p (Got b) q o i = arrives job cfg w c p q b (Each-In (EnvelopeCarries job cfg w) w.bag o _ i)
 came-fits job cfg w c p (Sent b) q o i = tt
 came-fits job cfg w c p (Computed bytes) q o i = tt
@@ -127,7 +127,7 @@ gathers-first job cfg x r = record {
   late = rw r (λ e. absurd (false≢true (sym (if_cases (λ v. is_late v ≡ false) (nat_lt 0 (length cfg.splits)) (To_ask_where 0) To_compute (λ t. refl) (λ t. refl)) ∙ e)));
 }
 
-containers_after : (job : Job) (cfg : Config) (w : World) (e : Event) → JobLaws job cfg → Known cfg w → Carried job cfg w → Hands job cfg w e → not_now cfg w e ≡ None → (c : Container) (p : Place) → (effect cfg w e).place c ≡ Some p → is_reduce p.attempt ≡ true →
+containers_after : (job : Job) (cfg : Config) (w : World) (e : Event) → JobLaws job cfg → Known cfg w → Carried job cfg w → Hands job cfg w e → not_now cfg w e ≡ None → (c : ContainerId) (p : Place) → (effect cfg w e).place c ≡ Some p → is_reduce p.attempt ≡ true →
     Gathers job cfg p.attempt ((effect cfg w e).container_past c)
 containers_after job cfg w e laws kn o h n c p q r = by (place_was cfg w e kn.cluster kn.heard n c p q)
   where

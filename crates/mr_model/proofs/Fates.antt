@@ -3,7 +3,7 @@ use Rattle.std.proofs.Common.{ℕ, zero, suc, ◌-◌, ◌≤◌, ◌<◌, ◌�
 use Rattle.std.proofs.lemmas.Bool.{false≢true, true≢false, eqb-true, eqb-false, cases_lt}
 use Rattle.std.proofs.lemmas.Bool.Decides.{nat_tests}
 use Rattle.mr_model.specs.Claims.{IsOf, IsReduce}
-use Rattle.mr_model.specs.Ids.{Path, Attempt, Container, task_attempt, committed, job_attempt, commit_started, task_name, TaskId, JobId, is_reduce, task_eq, reduce_of, attempt_name, temporary_name}
+use Rattle.mr_model.specs.Ids.{Path, Attempt, ContainerId, task_attempt, committed, job_attempt, commit_started, task_name, TaskId, JobId, is_reduce, task_eq, reduce_of, attempt_name, temporary_name}
 use Rattle.mr_model.proofs.Names.{task_eq-true, task_eq-false, task_ne, generation-ne, task_name-ne}
 use Rattle.mr_model.specs.Content.{Content, Entry, Dir, File, entry_at, beneath, Op, MkDirs, Create, Delete, Rename, Exist, bar_of, left, refusal}
 use Rattle.mr_model.specs.Records.{Record, ReduceSucceeded, JobUnsuccessful, records_below, winner_in}
@@ -137,7 +137,7 @@ commit-op k a bytes To_clear op q e = inl cc
 commit-op k a bytes To_rename op q e = inr (cc, refl)
 commit-op k a bytes v op q e = absurd (false≢true e)
 
-pub empty-launched : (cfg : Config) (w : World) → Known cfg w → is_early (newest cfg w).phase ≡ true → (c : Container) (p : Place) → c.app ≡ w.fence → w.place c ≡ Some p → ⊥
+pub empty-launched : (cfg : Config) (w : World) → Known cfg w → is_early (newest cfg w).phase ≡ true → (c : ContainerId) (p : Place) → c.app ≡ w.fence → w.place c ≡ Some p → ⊥
 empty-launched cfg w kn e c p app q = subst (λ z. In (launched_as c p.attempt p.node p.incarnation) z) (kn.masters.early w.fence e) (subst (λ z. IsLaunched cfg w z (launched_as c p.attempt p.node p.incarnation)) app (kn.cluster.places c p q).0)
 
 -- an accepted reduce's whole file is in the newest generation
@@ -336,7 +336,7 @@ module _ (cfg : Config) (w : World) (e : Event) (kn : Known cfg w) (n : not_now 
   early-recovering : (x : Todo_winner) (ws : List Todo_winner) (i : Recover_step) → (newest cfg w).phase ≡ Recovering (x ∷ ws) i → is_early (newest cfg w).phase ≡ true
   early-recovering x ws i q = subst (λ z. is_early z ≡ true) (sym q) refl
 
-  renamed_kept : (c : Container) (p : Place) → c.app ≡ w.fence → w.place c ≡ Some p → is_reduce p.attempt ≡ true → renamed_as cfg w c p ≡ true → is_over (newest cfg w).ended p.attempt ≡ false →
+  renamed_kept : (c : ContainerId) (p : Place) → c.app ≡ w.fence → w.place c ≡ Some p → is_reduce p.attempt ≡ true → renamed_as cfg w c p ≡ true → is_over (newest cfg w).ended p.attempt ≡ false →
       Holds (effect cfg w e).content (committed c.app p.attempt.task) p.attempt.task (File (computed (w.container_past c)) true)
   renamed_kept c p app q d r o = by (fates p.attempt.task)
     where
@@ -369,7 +369,7 @@ module _ (cfg : Config) (w : World) (e : Event) (kn : Known cfg w) (n : not_now 
   unfolding wished_op
   rename-op k a bytes v op q m = let z : wished_op k a bytes To_rename ≡ Some op = subst (λ u. wished_op k a bytes u ≡ Some op) m q in cc
 
-  renamed_after : (c : Container) (p : Place) → c.app ≡ w.fence → (effect cfg w e).place c ≡ Some p → is_reduce p.attempt ≡ true → renamed_as cfg (effect cfg w e) c p ≡ true →
+  renamed_after : (c : ContainerId) (p : Place) → c.app ≡ w.fence → (effect cfg w e).place c ≡ Some p → is_reduce p.attempt ≡ true → renamed_as cfg (effect cfg w e) c p ≡ true →
       is_over (seen_by cfg (effect cfg w e) w.fence).ended p.attempt ≡ false → Holds (effect cfg w e).content (committed c.app p.attempt.task) p.attempt.task (File (computed ((effect cfg w e).container_past c)) true)
   unfolding renamed
   renamed_after c p app q d r o = by (place_was cfg w e kn.cluster kn.heard n c p q)
@@ -777,7 +777,7 @@ module _ (cfg : Config) (w : World) (e : Event) (kn : Known cfg w) (n : not_now 
       fresh : (x : Path) → entry_at (effect cfg w e).content (job_attempt (suc w.fence) ++ x) ≡ None
       fresh x = ap (λ z. entry_at z (job_attempt (suc w.fence) ++ x)) c ∙ dirs.unborn (suc w.fence) (omega arith) x
 
-      nobody : (c : Container) (p : Place) → c.app ≡ (effect cfg w e).fence → (effect cfg w e).place c ≡ Some p → ⊥
+      nobody : (c : ContainerId) (p : Place) → c.app ≡ (effect cfg w e).fence → (effect cfg w e).place c ≡ Some p → ⊥
       nobody c p app q = let h' = cluster cfg w e kn.cluster n in
           subst (λ (z : Seen). In (launched_as c p.attempt p.node p.incarnation) z.launched) s (subst (λ z. IsLaunched cfg (effect cfg w e) z (launched_as c p.attempt p.node p.incarnation)) (app ∙ fe) (h'.places c p q).0)
 

@@ -3,7 +3,7 @@ use Rattle.std.proofs.Common.{ℕ, zero, suc, ◌+◌, ◌≤◌, ◌<◌, ◌�
 use Rattle.std.specs.Option.{option_map}
 use Rattle.std.proofs.lemmas.Bool.{and_parts, false≢true, eqb-true, ltb-true, ltb-false, leb-true}
 use Rattle.mr_model.specs.Ids.{Attempt, attempt_eq, is_reduce}
-use Rattle.mr_model.specs.Packets.{Config, Packet, MapReady, Piece, Lost}
+use Rattle.mr_model.specs.Packets.{Config, Packet, MapReady, Piece, FetchLost}
 use Rattle.mr_model.specs.Pasts.{Step, Got, Sent, Computed, Called, Wish, To_ask_where, To_fetch, To_say_lost, To_compute, next_wish, ask_from, is_awaited, is_all, completed, with_block, computed}
 use Rattle.mr_model.specs.World.{piece_limit}
 use Rattle.mr_model.specs.Effect.{wants_compute}
@@ -181,7 +181,7 @@ early-next job cfg x blocks (To_ask_where m) (Got (MapReady m' a n i)) k c o =
 early-next job cfg x blocks (To_ask_where m) s k c o = o
 early-next job cfg x blocks (To_fetch m a n i got) (Got (Piece b r off total bytes)) k c o =
     piece-early job cfg x blocks m a n i got b r off total bytes c.0 c.1 o.0 o.1 o.2 o.3 (is_awaited a got b off) (is_all total (got ++ bytes)) refl refl
-early-next job cfg x blocks (To_fetch m a n i got) (Got (Lost d b)) k c o = if_cases (Early job cfg x.task.number blocks) (attempt_eq a b) _ _ (λ t. (o.0, o.1)) (λ t. o)
+early-next job cfg x blocks (To_fetch m a n i got) (Got (FetchLost d b)) k c o = if_cases (Early job cfg x.task.number blocks) (attempt_eq a b) _ _ (λ t. (o.0, o.1)) (λ t. o)
 early-next job cfg x blocks (To_fetch m a n i got) s k c o = o
 early-next job cfg x blocks (To_say_lost m a) (Sent p) k c o = o
 early-next job cfg x blocks (To_say_lost m a) s k c o = o

@@ -7,7 +7,7 @@ use Rattle.mr_model.proofs.Files.{Absent, at_itself}
 use Rattle.mr_model.proofs.Commits.{may-read}
 use Rattle.std.proofs.Common.{ℕ, zero, suc, ◌≡◌, refl, sym, ◌∙◌, ap, subst, Bool, true, false, ◌&&◌, not, List, [], ◌∷◌, ◌++◌, Option, Some, None, if◌then◌else◌, is_some, nat_eq, nat_lt, nat_le, ◌⊎◌, inl, inr, length, ◌<◌, ◌≤◌, arith, is_none}
 use Rattle.std.proofs.lemmas.Bool.{false≢true, true≢false, eq-eqb, cases_lt}
-use Rattle.mr_model.specs.Ids.{Attempt, Container, TaskId, Path, is_reduce, task_eq, committed, part_name}
+use Rattle.mr_model.specs.Ids.{Attempt, ContainerId, TaskId, Path, is_reduce, task_eq, committed, part_name}
 use Rattle.mr_model.specs.Content.{bar_of, Read, Entry, File, entry_at, bytes_of, is_file, refusal, NameFault, Superseded}
 use Rattle.mr_model.specs.Records.{Record, History, AttemptStarted, MapSucceeded, ReduceSucceeded, AttemptFailed, JobUnsuccessful, records_below, as_written, winner_in, length_in}
 use Rattle.mr_model.specs.Packets.{Config, Packet, Envelope, Store, Reply, Names, Append_record, Flush, Read_history, Done, Bytes, Refused}
@@ -107,7 +107,7 @@ module _ (cfg : Config) (u : World) (k : ℕ) where
   end-noted : (s : Seen) (b : Attempt) (f : Bool) → NotedBy u k s → NotedBy u k (after_end cfg s b f)
   end-noted s b f o = if_cases (NotedBy u k) (is_live s b) _ _ (λ e. ended-noted s b f o) (λ e. o)
 
-  of-noted : (s : Seen) (d : Container) (l : Option Launched) → NotedBy u k s → NotedBy u k (after_ended cfg s d l)
+  of-noted : (s : Seen) (d : ContainerId) (l : Option Launched) → NotedBy u k s → NotedBy u k (after_ended cfg s d l)
   of-noted s d None o = o
   of-noted s d (Some l) o = end-noted s _ _ o
 
@@ -132,7 +132,7 @@ module _ (cfg : Config) (u : World) (k : ℕ) where
   heard-noted s (Packet.Failed b) i o = end-noted s b true o
   heard-noted s (Packet.Ended d) i o = of-noted s d _ o
   heard-noted s (Packet.NodeUp m j) i o = if_cases (NotedBy u k) (nat_lt (s.known m) j) _ _ (λ t. there-noted m j s.launched _ o) (λ t. o)
-  heard-noted s (Packet.Lost d b) i o = if_cases (NotedBy u k) (is_some (find_container s.launched d) && has s.recorded b) _ _ (λ t. o) (λ t. o)
+  heard-noted s (Packet.FetchLost d b) i o = if_cases (NotedBy u k) (is_some (find_container s.launched d) && has s.recorded b) _ _ (λ t. o) (λ t. o)
   heard-noted s (Packet.Where d m) i o = o
   heard-noted s _ i o = o
 

@@ -11,9 +11,9 @@ use Rattle.mr_task.specs.Readings as task
 use Rattle.mr_grant.proofs.Same.{same-is}
 use Rattle.mr_task.proofs.Arrivals.{arrivals, nothing-arrived}
 use Rattle.mr_task.proofs.Growth.{accepted-arrived}
-use Rattle.mr_model.specs.Ids.{Attempt, Container, TaskId, TaskKind, Map, Reduce, task_eq, attempt_eq, is_reduce, of_reduces}
+use Rattle.mr_model.specs.Ids.{Attempt, ContainerId, TaskId, TaskKind, Map, Reduce, task_eq, attempt_eq, is_reduce, of_reduces}
 use Rattle.mr_model.specs.Content.{bar_of}
-use Rattle.mr_model.specs.Packets.{Config, Packet, Pending, Poll, Done, Failed, Ended, NodeUp, Lost, Store, Names, Append_record, Flush, Read_history, Reply}
+use Rattle.mr_model.specs.Packets.{Config, Packet, Pending, Poll, Done, Failed, Ended, NodeUp, FetchLost, Store, Names, Append_record, Flush, Read_history, Reply}
 use Rattle.mr_model.specs.Hearing.{Seen, Phase, Placed, Launched, containers_of, live_on, more_bars, in_task_order, stands, know, still_there, lose_there, without_placed, find_launched, find_container, has, has_container, is_over, is_live, is_won, is_named, may_accept, failures, is_running, heard, only_known, after_ask, after_end, ended_by, over_with, after_ended, after_bar, end_there, end_maps, expired, placed, success_record, can_hear}
 use Rattle.mr_model.specs.Duties.{Master_step, Came, Launches, Expires, Asks, seen, next_seen, is_fine, is_read, told, worked, with_phase, with_read, phase_told, successes, success_of, newest_maps, attempts_of, without_task, rest_of}
 use Rattle.mr_model.specs.Records.{Record, AttemptStarted, MapSucceeded, ReduceSucceeded, AttemptFailed, JobUnsuccessful}
@@ -188,7 +188,7 @@ quiet-end cfg s a f = if_cases (λ x. Quiet s x) (is_live s a) _ _ (λ e. by f) 
         (λ e. record { phase = λ h. absurd (false≢true h); launched = refl; standing = refl; recorded = refl; dues = λ b. no-more s.due (AttemptFailed a ∷ JobUnsuccessful ∷ []) b refl; tail = refl })
         (λ e. record { phase = λ h. h; launched = refl; standing = refl; recorded = refl; dues = λ b. no-more s.due (AttemptFailed a ∷ []) b refl; tail = refl })
 
-quiet-ended : (cfg : Config) (s : Seen) (d : Container) (l : Option Launched) → Quiet s (after_ended cfg s d l)
+quiet-ended : (cfg : Config) (s : Seen) (d : ContainerId) (l : Option Launched) → Quiet s (after_ended cfg s d l)
 quiet-ended cfg s d None = still s
 quiet-ended cfg s d (Some l) = quiet-end cfg s l.attempt (not (has_container s.killed d))
 
@@ -398,7 +398,7 @@ module _ (t : TaskId) (k : ℕ) (cfg : Config) (map : of_reduces t.kind ≡ fals
           (losing (is_below s.recorded n i) (still_there s.recorded n i s.standing) (lost_below s.recorded n i s.standing) (still-keep s.recorded n i s.standing) (below-gone s.recorded n i s.standing) (λ p e. (and_parts (has s.recorded p.attempt) _ e).0))
       by false = o
 
-  lost-heard : (d : Container) (a : Attempt) → MapsOf t (heard cfg s (Lost d a)) (T (calls_heard s (Lost d a) c))
+  lost-heard : (d : ContainerId) (a : Attempt) → MapsOf t (heard cfg s (FetchLost d a)) (T (calls_heard s (FetchLost d a) c))
   unfolding heard calls_heard
   lost-heard d a = by (is_some (find_container s.launched d))
     where
@@ -617,7 +617,7 @@ module _ (t : TaskId) (k : ℕ) (cfg : Config) (map : of_reduces t.kind ≡ fals
     heard-fits run (Failed a) = calm t s (after_end cfg s a true) R _ (quiet-end cfg s a true) (keep-tell t k c a.task (task_call.Fails a) (keep-fails t k R a)) o
     heard-fits run (Ended d) = calm t s (after_ended cfg s d (find_container s.launched d)) R _ (quiet-ended cfg s d (find_container s.launched d)) (keep-ended (find_container s.launched d) (has_container s.killed d)) o
     heard-fits run (NodeUp n i) = node-heard n i
-    heard-fits run (Lost d a) = lost-heard d a
+    heard-fits run (FetchLost d a) = lost-heard d a
     heard-fits run _ = o
 
 -- ---- Running starts

@@ -2,7 +2,7 @@
 use Rattle.std.proofs.Common.{ℕ, ◌≡◌, refl, sym, ◌∙◌, subst, Bool, true, false, ◌&&◌, not, List, [], ◌∷◌, Option, Some, None, if◌then◌else◌, is_some, nat_eq, nat_lt, nat_le, ◌⊎◌, inl, inr}
 use Rattle.std.proofs.lemmas.Bool.{false≢true}
 use Rattle.mr_model.specs.Claims.{IsReduce}
-use Rattle.mr_model.specs.Ids.{Attempt, Container, is_reduce}
+use Rattle.mr_model.specs.Ids.{Attempt, ContainerId, is_reduce}
 use Rattle.mr_model.specs.Records.{Record}
 use Rattle.mr_model.specs.Packets.{Config, Packet, Store, Reply, Names, Append_record, Flush, Read_history, Found, Entries, Refused, Done}
 use Rattle.mr_model.specs.Content.{Superseded, bar_of}
@@ -31,7 +31,7 @@ ended_by-phase cfg s b true = if_cases (λ (x : Seen). SameOrFails s.phase x.pha
 after_end-phase : (cfg : Config) (s : Seen) (b : Attempt) (f : Bool) → SameOrFails s.phase (after_end cfg s b f).phase
 after_end-phase cfg s b f = if_cases (λ (x : Seen). SameOrFails s.phase x.phase) (is_live s b) _ _ (λ e. ended_by-phase cfg s b f) (λ e. inl refl)
 
-after_ended-phase : (cfg : Config) (s : Seen) (d : Container) (l : Option Launched) → SameOrFails s.phase (after_ended cfg s d l).phase
+after_ended-phase : (cfg : Config) (s : Seen) (d : ContainerId) (l : Option Launched) → SameOrFails s.phase (after_ended cfg s d l).phase
 after_ended-phase cfg s d None = inl refl
 after_ended-phase cfg s d (Some l) = after_end-phase cfg s _ _
 
@@ -47,7 +47,7 @@ heard-phase cfg s (Packet.Done b z) = if_cases (λ (x : Seen). SameOrFails s.pha
 heard-phase cfg s (Packet.Failed b) = after_end-phase cfg s b true
 heard-phase cfg s (Packet.Ended d) = after_ended-phase cfg s d _
 heard-phase cfg s (Packet.NodeUp m i) = if_cases (λ (x : Seen). SameOrFails s.phase x.phase) (nat_lt (s.known m) i) _ _ (λ t. inl (end_there-phase m i s.launched _)) (λ t. inl refl)
-heard-phase cfg s (Packet.Lost d b) = if_cases (λ (x : Seen). SameOrFails s.phase x.phase) (is_some (find_container s.launched d) && has s.recorded b) _ _ (λ t. inl refl) (λ t. inl refl)
+heard-phase cfg s (Packet.FetchLost d b) = if_cases (λ (x : Seen). SameOrFails s.phase x.phase) (is_some (find_container s.launched d) && has s.recorded b) _ _ (λ t. inl refl) (λ t. inl refl)
 heard-phase cfg s (Packet.Where d m) = inl refl
 heard-phase cfg s _ = inl refl
 
@@ -192,7 +192,7 @@ same-accepted cfg bs s p e n = by p n
     end : (b : Attempt) (f : Bool) → P (after_end cfg s b f)
     end b f = if_cases P (is_live s b) _ _ (λ t. ended b f) (λ t. e)
 
-    of_container : (d : Container) (l : Option Launched) → P (after_ended cfg s d l)
+    of_container : (d : ContainerId) (l : Option Launched) → P (after_ended cfg s d l)
     of_container d None = e
     of_container d (Some l) = end _ _
 
@@ -207,7 +207,7 @@ same-accepted cfg bs s p e n = by p n
     by (Packet.Failed b) n = end b true
     by (Packet.Ended d) n = of_container d _
     by (Packet.NodeUp m i) n = if_cases P (nat_lt (s.known m) i) _ _ (λ t. there m i s.launched _ e) (λ t. e)
-    by (Packet.Lost d b) n = if_cases P (is_some (find_container s.launched d) && has s.recorded b) _ _ (λ t. e) (λ t. e)
+    by (Packet.FetchLost d b) n = if_cases P (is_some (find_container s.launched d) && has s.recorded b) _ _ (λ t. e) (λ t. e)
     by (Packet.Where d m) n = e
     by _ n = e
 
@@ -233,7 +233,7 @@ came-said cfg u k s p i o = if_cases (SaidFor u k) (is_running s.phase) _ _ (λ 
     hear (Packet.Failed b) i = other (Packet.Failed b) (λ b' z' (q : Packet.Failed b ≡ Packet.Done b' z'). cc)
     hear (Packet.Ended d) i = other (Packet.Ended d) (λ b' z' (q : Packet.Ended d ≡ Packet.Done b' z'). cc)
     hear (Packet.NodeUp m j) i = other (Packet.NodeUp m j) (λ b' z' (q : Packet.NodeUp m j ≡ Packet.Done b' z'). cc)
-    hear (Packet.Lost d b) i = other (Packet.Lost d b) (λ b' z' (q : Packet.Lost d b ≡ Packet.Done b' z'). cc)
+    hear (Packet.FetchLost d b) i = other (Packet.FetchLost d b) (λ b' z' (q : Packet.FetchLost d b ≡ Packet.Done b' z'). cc)
     hear (Packet.Where d m) i = other (Packet.Where d m) (λ b' z' (q : Packet.Where d m ≡ Packet.Done b' z'). cc)
     hear (Packet.Launch c a j) i = other (Packet.Launch c a j) (λ b' z' (q : Packet.Launch c a j ≡ Packet.Done b' z'). cc)
     hear (Packet.Kill c) i = other (Packet.Kill c) (λ b' z' (q : Packet.Kill c ≡ Packet.Done b' z'). cc)

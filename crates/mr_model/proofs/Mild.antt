@@ -1,7 +1,7 @@
 -- Masters: a record of failure makes a phase that runs nothing, what was read has none, and a merge stays in the destination.
 use Rattle.std.proofs.Common.{ℕ, ◌≤◌, ◌<◌, ◌≡◌, refl, sym, ◌∙◌, ap, subst, Bool, true, false, ◌&&◌, not, List, [], ◌∷◌, ◌++◌, Option, Some, None, if◌then◌else◌, is_some, nat_eq, nat_lt, nat_le, ◌⊎◌, inl, inr}
 use Rattle.std.proofs.lemmas.Bool.{false≢true}
-use Rattle.mr_model.specs.Ids.{Attempt, Container, Path, job_attempt, is_reduce, dest_name}
+use Rattle.mr_model.specs.Ids.{Attempt, ContainerId, Path, job_attempt, is_reduce, dest_name}
 use Rattle.mr_model.specs.Records.{Record, JobUnsuccessful, AttemptFailed, AttemptStarted, ReduceSucceeded, MapSucceeded, records_below}
 use Rattle.mr_model.specs.Packets.{Config, Packet, Store, Reply, Names, Append_record, Flush, Read_history, Found, Bytes, Records, Entries, Refused}
 use Rattle.mr_model.specs.Content.{Superseded, Listed, bar_of}
@@ -53,7 +53,7 @@ ended_by-bad cfg s b true o = if_cases BadIf (nat_le cfg.limit (failures (over_w
 after_end-bad : (cfg : Config) (s : Seen) (b : Attempt) (f : Bool) → BadIf s → BadIf (after_end cfg s b f)
 after_end-bad cfg s b f o = if_cases BadIf (is_live s b) _ _ (λ e. ended_by-bad cfg s b f o) (λ e. o)
 
-after_ended-bad : (cfg : Config) (s : Seen) (d : Container) (l : Option Launched) → BadIf s → BadIf (after_ended cfg s d l)
+after_ended-bad : (cfg : Config) (s : Seen) (d : ContainerId) (l : Option Launched) → BadIf s → BadIf (after_ended cfg s d l)
 after_ended-bad cfg s d None o = o
 after_ended-bad cfg s d (Some l) o = after_end-bad cfg s _ _ o
 
@@ -78,7 +78,7 @@ heard-bad cfg s (Packet.Done b z) o = if_cases BadIf (may_accept s b) _ _ (λ t.
 heard-bad cfg s (Packet.Failed b) o = after_end-bad cfg s b true o
 heard-bad cfg s (Packet.Ended d) o = after_ended-bad cfg s d _ o
 heard-bad cfg s (Packet.NodeUp m i) o = if_cases BadIf (nat_lt (s.known m) i) _ _ (λ t. end_there-bad m i s.launched _ o) (λ t. o)
-heard-bad cfg s (Packet.Lost d b) o = if_cases BadIf (is_some (find_container s.launched d) && has s.recorded b) _ _ (λ t. o) (λ t. o)
+heard-bad cfg s (Packet.FetchLost d b) o = if_cases BadIf (is_some (find_container s.launched d) && has s.recorded b) _ _ (λ t. o) (λ t. o)
 heard-bad cfg s (Packet.Where d m) o = o
 heard-bad cfg s _ o = o
 

@@ -1,7 +1,7 @@
 -- An attempt's number tells its generation, so an attempt has one container and one whole output.
 use Rattle.std.proofs.Common.{ℕ, ◌+◌, ◌-◌, ◌*◌, ◌≤◌, ◌<◌, ◌≡◌, sym, ◌∙◌, ap, subst, true, not, List, ◌∷◌, Option, Some, None, nat_eq, nat_lt, ◌⊎◌, inl, inr, arith, slice_get}
 use Rattle.std.proofs.lemmas.Bool.{and_parts, false≢true, eqb-true, ltb-true}
-use Rattle.mr_model.specs.Ids.{Attempt, Container, TaskId, of_reduces}
+use Rattle.mr_model.specs.Ids.{Attempt, ContainerId, TaskId, of_reduces}
 use Rattle.mr_model.specs.Packets.{Config, Store}
 use Rattle.mr_model.specs.Pasts.{Place, computed}
 use Rattle.mr_model.specs.Hearing.{Seen, Launched, is_won, is_running}
@@ -111,7 +111,7 @@ same-number : (j k n : ℕ) → 1 ≤ j → 1 ≤ k → 1000 * (j - 1) ≤ n →
 same-number j k n a b c d f g = omega arith
 
 -- two containers of one attempt are one
-same-container : (cfg : Config) (w : World) → Numbers cfg w → (c d : Container) (p q : Place) → w.place c ≡ Some p → w.place d ≡ Some q → p.attempt ≡ q.attempt → c ≡ d
+same-container : (cfg : Config) (w : World) → Numbers cfg w → (c d : ContainerId) (p q : Place) → w.place c ≡ Some p → w.place d ≡ Some q → p.attempt ≡ q.attempt → c ≡ d
 same-container cfg w h c d p q pc qd e = same_attempt cfg w h.clusters c d p q pc qd app e
   where
     r : IsNumbered c.app (launched_as c p.attempt p.node p.incarnation)

@@ -1,9 +1,9 @@
 -- An attempt's own directory through each step of its container.
 use Rattle.std.proofs.Common.{ℕ, ◌≡◌, refl, sym, ◌∙◌, ap, subst, Bool, true, false, ◌&&◌, not, List, [], ◌∷◌, Option, Some, None, is_none, nat_eq, nat_lt, inl, inr, slice_get}
 use Rattle.std.proofs.lemmas.Bool.{false≢true}
-use Rattle.mr_model.specs.Ids.{Path, Attempt, Container, container_eq, attempt_eq, task_attempt, committed, part_name, TaskId, is_reduce}
+use Rattle.mr_model.specs.Ids.{Path, Attempt, ContainerId, container_eq, attempt_eq, task_attempt, committed, part_name, TaskId, is_reduce}
 use Rattle.mr_model.specs.Content.{Full, NoMemory, Content, Kind, entry_at, Op, MkDirs, Create, Append, Close, Delete, Exist, left, refusal, NameFault, Missing, Superseded, Exists, NotDir, NotFile, NoParent, IntoItself, Barred, option_kind}
-use Rattle.mr_model.specs.Packets.{Config, Packet, Envelope, Address, Master, At, Node, Answer, MapReady, Piece, Lost, DoneAck, Reply, Fine, Found, Refused, Names}
+use Rattle.mr_model.specs.Packets.{Config, Packet, Envelope, Address, Master, Container, Node, Answer, MapReady, Piece, FetchLost, DoneAck, Reply, Fine, Found, Refused, Names}
 use Rattle.mr_model.specs.Pasts.{Step, Got, Sent, Computed, Called, Wish, To_ask_where, To_fetch, To_say_lost, To_compute, To_mkdirs, To_create, To_write, To_close, To_need, To_pend, To_poll, To_look, To_clear, To_rename, To_report, To_abort, To_fail, next_wish, if_found, if_cleared, wished_op, wished_packet, computed, part_at, Place}
 use Rattle.mr_model.specs.Hearing.{has}
 use Rattle.mr_model.specs.World.{World, Event, Start, Crash, Duty, LaunchOn, Deliver, ContainerStep, Compute, Die, NodeRestart, Expire, unless_stopped, is_stopped, caller_of, caller_as, attempt_of, reply_to, Weather, container_act, Container_act, step_act, op_of, packet_of, call_of, reply_under, wish_at}
@@ -32,7 +32,7 @@ plain-own c d t maps x h To_compute (Computed b) k i o = if_cases (λ z. OwnDir 
 plain-own c d t maps x h v (Computed b) k i o = absurd (false≢true k)
 plain-own c d t maps x h (To_ask_where m) (Got (MapReady m' a n j)) k i o = if_cases (λ z. OwnDir c d t (computed h) z) (nat_eq m m') _ _ (λ q. o) (λ q. o)
 plain-own c d t maps x h (To_fetch m a n j got) (Got (Piece a' r off total bytes)) k i o = piece-wish (λ z. OwnDir c d t (computed h) z) maps m a n j got a' off total bytes o o (λ g. o)
-plain-own c d t maps x h (To_fetch m a n j got) (Got (Lost e a')) k i o = if_cases (λ z. OwnDir c d t (computed h) z) (attempt_eq a a') _ _ (λ q. o) (λ q. o)
+plain-own c d t maps x h (To_fetch m a n j got) (Got (FetchLost e a')) k i o = if_cases (λ z. OwnDir c d t (computed h) z) (attempt_eq a a') _ _ (λ q. o) (λ q. o)
 plain-own c d t maps x h (To_say_lost m a) (Sent p) k i o = o
 plain-own c d t maps x h To_pend (Sent p) k i o = o
 plain-own c d t maps x h To_poll (Sent p) k i o = o
@@ -140,21 +140,21 @@ module _ (c c' : Content) (k : ℕ) (a : Attempt) (bytes : List ℕ) (maps : ℕ
   call-own _ op r e o x = cc
 
 -- What an event adds to a container's past
-pub data PastCase (cfg : Config) (w : World) (e : Event) (c : Container) (p : Place) : Type 0 where
+pub data PastCase (cfg : Config) (w : World) (e : Event) (c : ContainerId) (p : Place) : Type 0 where
   stays : (effect cfg w e).container_past c ≡ w.container_past c → ((k : Calls cfg w e) → k.who ≡ c → ⊥) → PastCase cfg w e c p
   takes : (s : Step) → (effect cfg w e).container_past c ≡ s ∷ w.container_past c → IsPlain s → StepOk (wish_as cfg w c p) s → (effect cfg w e).content ≡ w.content → PastCase cfg w e c p
   called : (op : Op) → (g : Weather) → e ≡ ContainerStep c g → wished_op c.app p.attempt (computed (w.container_past c)) (wish_as cfg w c p) ≡ Some op →
       (effect cfg w e).container_past c ≡ Called op (reply_under g (reply_to w (caller_as c p.attempt) (Names op))) ∷ w.container_past c →
       (effect cfg w e).content ≡ content_after w (unless_stopped (is_stopped w (caller_as c p.attempt)) (Some (record { app = c.app; call = Names op; fault = g }))) → PastCase cfg w e c p
 
-no-calls : {cfg : Config} {w : World} {e : Event} → ((c : Container) (g : Weather) → e ≡ ContainerStep c g → ⊥) → (c : Container) → (k : Calls cfg w e) → k.who ≡ c → ⊥
+no-calls : {cfg : Config} {w : World} {e : Event} → ((c : ContainerId) (g : Weather) → e ≡ ContainerStep c g → ⊥) → (c : ContainerId) → (k : Calls cfg w e) → k.who ≡ c → ⊥
 no-calls n c k q = n k.who k.weather k.event
 
 unstopped : (w : World) (b : Bool) → content_after w (unless_stopped b None) ≡ w.content
 unstopped w true = refl
 unstopped w false = refl
 
-step-past : (cfg : Config) (w : World) (d : Container) (g : Weather) (c : Container) (p : Place) → w.place c ≡ Some p → PastCase cfg w (ContainerStep d g) c p
+step-past : (cfg : Config) (w : World) (d : ContainerId) (g : Weather) (c : ContainerId) (p : Place) → w.place c ≡ Some p → PastCase cfg w (ContainerStep d g) c p
 unfolding container_act call_of
 step-past cfg w d g c p q = by (container_eq c d) refl
   where
@@ -196,7 +196,7 @@ step-past cfg w d g c p q = by (container_eq c d) refl
                 none-some : {x : Op} → None ≡ Some x → ⊥
                 none-some e = cc
 
-deliver-past : (cfg : Config) (w : World) (i : ℕ) (c : Container) (p : Place) → PastCase cfg w (Deliver i) c p
+deliver-past : (cfg : Config) (w : World) (i : ℕ) (c : ContainerId) (p : Place) → PastCase cfg w (Deliver i) c p
 unfolding container_act call_of
 deliver-past cfg w i c p = by (slice_get w.bag i) refl
   where
@@ -210,13 +210,13 @@ deliver-past cfg w i c p = by (slice_get w.bag i) refl
         to : (x : Address) (b : Packet) → slice_get w.bag i ≡ Some (record { to = x; body = b }) → PastCase cfg w (Deliver i) c p
         to (Master k) b q = stays (rw q refl) nope
         to (Node n) b q = stays (rw q refl) nope
-        to (At d) b q = eq (container_eq c d) refl
+        to (Container d) b q = eq (container_eq c d) refl
           where
             eq : (t : Bool) → container_eq c d ≡ t → PastCase cfg w (Deliver i) c p
             eq true t = takes (Got b) (rw (q, t) refl) tt tt refl
             eq false t = stays (rw (q, t) refl) nope
 
-compute-past : (cfg : Config) (w : World) (d : Container) (b : List ℕ) (c : Container) (p : Place) → w.place c ≡ Some p → not_now cfg w (Compute d b) ≡ None → PastCase cfg w (Compute d b) c p
+compute-past : (cfg : Config) (w : World) (d : ContainerId) (b : List ℕ) (c : ContainerId) (p : Place) → w.place c ≡ Some p → not_now cfg w (Compute d b) ≡ None → PastCase cfg w (Compute d b) c p
 unfolding container_act call_of not_now
 compute-past cfg w d b c p q n = eq (container_eq c d) refl
   where
@@ -224,7 +224,7 @@ compute-past cfg w d b c p q n = eq (container_eq c d) refl
     eq true t = takes (Computed b) (rw t refl) tt (subst (λ o. wants_compute (wish_at cfg c o (w.container_past c)) ≡ true) q (subst (λ z. wants_compute (wish_at cfg z (w.place z) (w.container_past z)) ≡ true) (sym (container_eq-true c d t)) (unless_parts _ _ _ (unless_parts _ _ _ n).1).0)) refl
     eq false t = stays (rw t refl) (no-calls (λ d g e. cc) c)
 
-pub past_case : (cfg : Config) (w : World) (e : Event) → not_now cfg w e ≡ None → (c : Container) (p : Place) → w.place c ≡ Some p → PastCase cfg w e c p
+pub past_case : (cfg : Config) (w : World) (e : Event) → not_now cfg w e ≡ None → (c : ContainerId) (p : Place) → w.place c ≡ Some p → PastCase cfg w e c p
 unfolding container_act
 past_case cfg w (Deliver i) n c p q = deliver-past cfg w i c p
 past_case cfg w (ContainerStep d g) n c p q = step-past cfg w d g c p q

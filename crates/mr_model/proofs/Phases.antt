@@ -2,12 +2,12 @@
 use Rattle.std.proofs.Common.{ℕ, zero, suc, ◌≡◌, refl, sym, ◌∙◌, ap, subst, Bool, true, false, ◌&&◌, ◌||◌, not, List, [], ◌∷◌, ◌++◌, Option, Some, None, if◌then◌else◌, is_some, nat_eq, nat_lt, nat_le, ◌⊎◌, inl, inr, arith}
 use Rattle.std.proofs.lemmas.Bool.{true≢false, eqb-true, eqb-false}
 use Rattle.mr_model.specs.Claims.{IsOf}
-use Rattle.mr_model.specs.Ids.{Attempt, Container, TaskId, JobId, is_reduce, task_eq, reduce_of}
+use Rattle.mr_model.specs.Ids.{Attempt, ContainerId, TaskId, JobId, is_reduce, task_eq, reduce_of}
 use Rattle.mr_model.proofs.Names.{task_eq-refl}
 use Rattle.mr_model.specs.Records.{Record, winner_in, length_in}
 use Rattle.mr_model.specs.Content.{Superseded, bar_of}
 use Rattle.mr_model.proofs.Closed.{expired-by, bar-by}
-use Rattle.mr_model.specs.Packets.{Config, Packet, Pending, Poll, Done, Failed, Ended, NodeUp, Where, Lost, Store, Reply, Names, Append_record, Flush, Read_history, Found, Entries, Bytes, Records, Refused}
+use Rattle.mr_model.specs.Packets.{Config, Packet, Pending, Poll, Done, Failed, Ended, NodeUp, Where, FetchLost, Store, Reply, Names, Append_record, Flush, Read_history, Found, Entries, Bytes, Records, Refused}
 use Rattle.mr_model.specs.Hearing.{Seen, Phase, Opening, Setting_up, Recovering, Running, Committing, Failing, Finished, Stopped, Todo_winner, Launched, has, find_launched, may_accept, is_live, has_winner, heard, after_end, after_ended, end_there, only_known, Recover_step, Measure, Look_below, Clear_own, Move_from, Commit_step, is_running, ended_by, over_with, failures, is_won, Merge_step, Look_at, List_into, Delete_then, Move_to, expired, List_job, Merging, Cleaning, Marking, Succeeding, Failing_mark, Aborting, find_container, can_hear}
 use Rattle.mr_model.specs.Duties.{told, worked, with_phase, with_read, is_fine, is_cleared, is_read, winners_of, one_winner, recover_rest, recovering, looked, was_read, phase_told, right_length, committing, running, failing, is_unsuccessful, records_of, duty_of, record_call, recover_call, merging, refused, bar_call, first_bar, wants_flush, all_won, is_superseded}
 use Rattle.mr_model.proofs.Basic.{if_cases}
@@ -74,7 +74,7 @@ ended_by-fits cfg R j n s a true o = if_cases (Fits R j n) (nat_le cfg.limit (fa
 after_end-fits : (cfg : Config) (R : List Record) (j : JobId) (n : ℕ) (s : Seen) (a : Attempt) (f : Bool) → Fits R j n s → Fits R j n (after_end cfg s a f)
 after_end-fits cfg R j n s a f o = if_cases (Fits R j n) (is_live s a) _ _ (λ e. ended_by-fits cfg R j n s a f o) (λ e. o)
 
-after_ended-fits : (cfg : Config) (R : List Record) (j : JobId) (n : ℕ) (s : Seen) (c : Container) (l : Option Launched) → Fits R j n s → Fits R j n (after_ended cfg s c l)
+after_ended-fits : (cfg : Config) (R : List Record) (j : JobId) (n : ℕ) (s : Seen) (c : ContainerId) (l : Option Launched) → Fits R j n s → Fits R j n (after_ended cfg s c l)
 after_ended-fits cfg R j n s c None o = o
 after_ended-fits cfg R j n s c (Some l) o = after_end-fits cfg R j n s _ _ o
 
@@ -92,7 +92,7 @@ heard-fits cfg R j n s (Done a z) o = if_cases (Fits R j n) (may_accept s a) _ _
 heard-fits cfg R j n s (Failed a) o = after_end-fits cfg R j n s a true o
 heard-fits cfg R j n s (Ended c) o = after_ended-fits cfg R j n s c _ o
 heard-fits cfg R j n s (NodeUp m i) o = if_cases (Fits R j n) (nat_lt (s.known m) i) _ _ (λ t. end_there-fits R j n m i s.launched _ o) (λ t. o)
-heard-fits cfg R j n s (Lost c a) o = if_cases (Fits R j n) (is_some (find_container s.launched c) && has s.recorded a) _ _ (λ t. o) (λ t. o)
+heard-fits cfg R j n s (FetchLost c a) o = if_cases (Fits R j n) (is_some (find_container s.launched c) && has s.recorded a) _ _ (λ t. o) (λ t. o)
 heard-fits cfg R j n s (Where c m) o = o
 heard-fits cfg R j n s _ o = o
 

@@ -2,7 +2,7 @@
 use Rattle.std.proofs.Common.{ℕ, zero, suc, ◌≡◌, refl, sym, ◌∙◌, ap, subst, Bool, true, false, ◌&&◌, ◌||◌, not, List, [], ◌∷◌, ◌++◌, Option, Some, None, if◌then◌else◌, is_some, nat_eq, nat_lt, nat_le, ◌⊎◌, inl, inr, arith}
 use Rattle.std.proofs.lemmas.Bool.{and_parts, false≢true, true≢false, eqb-true, eqb-false}
 use Rattle.mr_model.specs.Claims.{IsOf, IsReduce}
-use Rattle.mr_model.specs.Ids.{Attempt, Container, commit_started, TaskId, JobId, is_reduce, task_eq, reduce_of}
+use Rattle.mr_model.specs.Ids.{Attempt, ContainerId, commit_started, TaskId, JobId, is_reduce, task_eq, reduce_of}
 use Rattle.mr_model.proofs.Names.{task_eq-true}
 use Rattle.mr_model.specs.Content.{Op, Create, bar_of}
 use Rattle.mr_model.specs.Records.{Record, AttemptStarted, MapSucceeded, ReduceSucceeded, AttemptFailed, JobUnsuccessful, Segment, flushed, records_below, winner_in, as_written, bytes_kept}
@@ -60,7 +60,7 @@ ended_by-noted cfg s b true o = if_cases NotedBy (nat_le cfg.limit (failures (ov
 after_end-noted : (cfg : Config) (s : Seen) (b : Attempt) (f : Bool) → NotedBy s → NotedBy (after_end cfg s b f)
 after_end-noted cfg s b f o = if_cases NotedBy (is_live s b) _ _ (λ e. ended_by-noted cfg s b f o) (λ e. o)
 
-after_ended-noted : (cfg : Config) (s : Seen) (d : Container) (l : Option Launched) → NotedBy s → NotedBy (after_ended cfg s d l)
+after_ended-noted : (cfg : Config) (s : Seen) (d : ContainerId) (l : Option Launched) → NotedBy s → NotedBy (after_ended cfg s d l)
 after_ended-noted cfg s d None o = o
 after_ended-noted cfg s d (Some l) o = after_end-noted cfg s _ _ o
 
@@ -84,7 +84,7 @@ heard-noted cfg s (Packet.Done b z) o = if_cases NotedBy (may_accept s b) _ _ (�
 heard-noted cfg s (Packet.Failed b) o = after_end-noted cfg s b true o
 heard-noted cfg s (Packet.Ended d) o = after_ended-noted cfg s d _ o
 heard-noted cfg s (Packet.NodeUp m i) o = if_cases NotedBy (nat_lt (s.known m) i) _ _ (λ t. end_there-noted m i s.launched _ o) (λ t. o)
-heard-noted cfg s (Packet.Lost d b) o = if_cases NotedBy (is_some (find_container s.launched d) && has s.recorded b) _ _ (λ t. o) (λ t. o)
+heard-noted cfg s (Packet.FetchLost d b) o = if_cases NotedBy (is_some (find_container s.launched d) && has s.recorded b) _ _ (λ t. o) (λ t. o)
 heard-noted cfg s (Packet.Where d m) o = o
 heard-noted cfg s _ o = o
 

@@ -1,8 +1,8 @@
 -- Over every list of events: a reduce's Done was sent by a container whose rename was answered, and what it computed stays.
 use Rattle.std.proofs.Common.{ℕ, ◌≡◌, refl, sym, ◌∙◌, ap, subst, Bool, true, false, ◌||◌, List, [], ◌∷◌, Option, Some, None, nat_lt, ◌⊎◌, inl, inr, length, slice_get}
 use Rattle.std.proofs.lemmas.Bool.{false≢true, true≢false}
-use Rattle.mr_model.specs.Ids.{Attempt, Container, is_reduce}
-use Rattle.mr_model.specs.Packets.{Config, Packet, Envelope, Address, Master, At, Node, Done}
+use Rattle.mr_model.specs.Ids.{Attempt, ContainerId, is_reduce}
+use Rattle.mr_model.specs.Packets.{Config, Packet, Envelope, Address, Master, Container, Node, Done}
 use Rattle.mr_model.specs.Content.{Op}
 use Rattle.mr_model.specs.Pasts.{first_wish, Place, Step, Got, Sent, Computed, Called, Wish, To_rename, wish, was_computed, computed, part_length}
 use Rattle.mr_model.specs.World.{World, Event, Deliver, ContainerStep, Compute, Weather, Container_act, container_act, got_act, step_act, opening_world, op_of, packet_of, wish_at}
@@ -19,30 +19,30 @@ use Rattle.mr_model.proofs.Yes.{past_yes}
 use Rattle.mr_model.proofs.Said.{Sayings, sent-each, is_plain}
 
 -- a container that was launched as p
-abbrev pub wish_as : Config → World → Container → Place → Wish
+abbrev pub wish_as : Config → World → ContainerId → Place → Wish
 wish_as cfg w c p = wish (length cfg.splits) p.attempt (w.container_past c)
 
-abbrev pub renamed_as : Config → World → Container → Place → Bool
+abbrev pub renamed_as : Config → World → ContainerId → Place → Bool
 renamed_as cfg w c p = renamed (length cfg.splits) p.attempt (w.container_past c)
 
 abbrev pub Sender : Config → World → ℕ → Attempt → Type 0
-Sender cfg w k a = (c : Container) × (p : Place) × (c.app ≡ k) × (p.attempt ≡ a) × (w.place c ≡ Some p) × (renamed_as cfg w c p ≡ true)
+Sender cfg w k a = (c : ContainerId) × (p : Place) × (c.app ≡ k) × (p.attempt ≡ a) × (w.place c ≡ Some p) × (renamed_as cfg w c p ≡ true)
 
 abbrev pub SaysDone : Config → World → Envelope → Type 0
 SaysDone cfg w v = (k : ℕ) (a : Attempt) (z : Option ℕ) → v ≡ to_app k (Done a z) → is_reduce a ≡ true → Sender cfg w k a
 
 pub record Reports (cfg : Config) (w : World) : Type 0 where
-  pub late : (c : Container) (p : Place) → w.place c ≡ Some p → was_computed (w.container_past c) ≡ is_late (wish_as cfg w c p)
-  pub report : (c : Container) (p : Place) → w.place c ≡ Some p → is_reduce p.attempt ≡ true → is_report (wish_as cfg w c p) ≡ true → renamed_as cfg w c p ≡ true
-  pub told : (c : Container) (p : Place) → w.place c ≡ Some p → is_reduce p.attempt ≡ true → renamed_as cfg w c p ≡ true → WasTold w c p.attempt
+  pub late : (c : ContainerId) (p : Place) → w.place c ≡ Some p → was_computed (w.container_past c) ≡ is_late (wish_as cfg w c p)
+  pub report : (c : ContainerId) (p : Place) → w.place c ≡ Some p → is_reduce p.attempt ≡ true → is_report (wish_as cfg w c p) ≡ true → renamed_as cfg w c p ≡ true
+  pub told : (c : ContainerId) (p : Place) → w.place c ≡ Some p → is_reduce p.attempt ≡ true → renamed_as cfg w c p ≡ true → WasTold w c p.attempt
   pub done : Each (SaysDone cfg w) w.bag
 
 -- a place stays
-pub place_kept : (cfg : Config) (w : World) (e : Event) → Cluster cfg w → (c : Container) (p : Place) → w.place c ≡ Some p → (effect cfg w e).place c ≡ Some p
+pub place_kept : (cfg : Config) (w : World) (e : Event) → Cluster cfg w → (c : ContainerId) (p : Place) → w.place c ≡ Some p → (effect cfg w e).place c ≡ Some p
 place_kept cfg w e h c p q = place_after w e c (λ v. v ≡ Some p) q (λ x o m. let n : w.place c ≡ None = subst (λ z. w.place z ≡ None) (sym m) (obeyed-new cfg w e h x o) in cc)
 
 -- a place is an old one, or new and with an empty past
-pub place_was : (cfg : Config) (w : World) (e : Event) → Cluster cfg w → Heard_yes cfg w → not_now cfg w e ≡ None → (c : Container) (p : Place) → (effect cfg w e).place c ≡ Some p →
+pub place_was : (cfg : Config) (w : World) (e : Event) → Cluster cfg w → Heard_yes cfg w → not_now cfg w e ≡ None → (c : ContainerId) (p : Place) → (effect cfg w e).place c ≡ Some p →
     (w.place c ≡ Some p) ⊎ ((w.place c ≡ None) × ((effect cfg w e).container_past c ≡ []))
 place_was cfg w e h y n c p = place_after w e c (λ v. v ≡ Some p → (w.place c ≡ Some p) ⊎ ((w.place c ≡ None) × ((effect cfg w e).container_past c ≡ [])))
     (λ q. inl q) (λ x o m q. let none : w.place c ≡ None = subst (λ z. w.place z ≡ None) (sym m) (obeyed-new cfg w e h x o) in
@@ -59,10 +59,10 @@ got-ok cfg w (Some v) = to v.to v.body
   where
     to : (x : Address) (p : Packet) → ActOk cfg w (got_act (Some (record { to = x; body = p })))
     to (Master k) p = tt
-    to (At c) p = λ p q. tt
+    to (Container c) p = λ p q. tt
     to (Node n) p = tt
 
-step-ok : (cfg : Config) (w : World) (c : Container) (f : Weather) (o : Option Op) (v : Option Envelope) → ActOk cfg w (step_act w c f o v)
+step-ok : (cfg : Config) (w : World) (c : ContainerId) (f : Weather) (o : Option Op) (v : Option Envelope) → ActOk cfg w (step_act w c f o v)
 step-ok cfg w c f (Some op) v = λ p q. tt
 step-ok cfg w c f None (Some v) = λ p q. tt
 step-ok cfg w c f None None = tt
@@ -74,10 +74,10 @@ act-ok cfg w (ContainerStep c f) n = step-ok cfg w c f (op_of cfg w c) (packet_o
 act-ok cfg w (Compute c b) n = λ p q. subst (λ z. wants_compute (wish_at cfg c z (w.container_past c)) ≡ true) q (unless_parts _ _ _ (unless_parts _ _ _ n).1).0
 act-ok cfg w _ n = tt
 
-pub steps-ok : (cfg : Config) (w : World) (e : Event) → not_now cfg w e ≡ None → (a : Container_act) → container_act cfg w e ≡ Some a → (c : Container) → c ≡ a.who → (p : Place) → w.place c ≡ Some p → StepOk (wish_as cfg w c p) a.step
+pub steps-ok : (cfg : Config) (w : World) (e : Event) → not_now cfg w e ≡ None → (a : Container_act) → container_act cfg w e ≡ Some a → (c : ContainerId) → c ≡ a.who → (p : Place) → w.place c ≡ Some p → StepOk (wish_as cfg w c p) a.step
 steps-ok cfg w e n a q c m p r = subst (λ z. StepOk (wish_as cfg w z p) a.step) (sym m) (let u : ActOk cfg w (Some a) = subst (ActOk cfg w) q (act-ok cfg w e n) in u p (subst (λ z. w.place z ≡ Some p) m r))
 
-pub renamed_after : (cfg : Config) (w : World) (e : Event) (c : Container) (p : Place) → renamed_as cfg w c p ≡ true → renamed_as cfg (effect cfg w e) c p ≡ true
+pub renamed_after : (cfg : Config) (w : World) (e : Event) (c : ContainerId) (p : Place) → renamed_as cfg w c p ≡ true → renamed_as cfg (effect cfg w e) c p ≡ true
 unfolding renamed
 renamed_after cfg w e c p r = past_after w (container_act cfg w e) c (λ x. renamed (length cfg.splits) p.attempt x ≡ true) r (λ a q m. rw r refl)
 
@@ -85,7 +85,7 @@ pub sender_after : (cfg : Config) (w : World) (e : Event) → Cluster cfg w → 
 sender_after cfg w e h k a s = (s.0, s.1, s.2, s.3, place_kept cfg w e h s.0 s.1 s.4, renamed_after cfg w e s.0 s.1 s.5)
 
 -- a result stays as it was handed in
-pub computed_kept : (cfg : Config) (w : World) (e : Event) → Reports cfg w → not_now cfg w e ≡ None → (c : Container) (p : Place) → w.place c ≡ Some p → was_computed (w.container_past c) ≡ true →
+pub computed_kept : (cfg : Config) (w : World) (e : Event) → Reports cfg w → not_now cfg w e ≡ None → (c : ContainerId) (p : Place) → w.place c ≡ Some p → was_computed (w.container_past c) ≡ true →
     (computed ((effect cfg w e).container_past c) ≡ computed (w.container_past c)) × (was_computed ((effect cfg w e).container_past c) ≡ true)
 computed_kept cfg w e r n c p q t = past_after w (container_act cfg w e) c (λ x. (computed x ≡ computed (w.container_past c)) × (was_computed x ≡ true)) (refl, t)
     (λ a z m. (computed-same a.step (w.container_past c) (plain a.step (steps-ok cfg w e n a z c m p q)), computed-step a.step (w.container_past c) ∙ rw t (or-true _)))
@@ -106,7 +106,7 @@ first-late maps x = if_cases (λ w. is_late w ≡ false) (is_reduce x) _ _ (λ t
 first-report : (maps : ℕ) (x : Attempt) → is_report (first_wish maps x) ≡ false
 first-report maps x = if_cases (λ w. is_report w ≡ false) (is_reduce x) _ _ (λ t. if_cases (λ w. is_report w ≡ false) (nat_lt 0 maps) _ _ (λ t. refl) (λ t. refl)) (λ t. refl)
 
-late_after : (cfg : Config) (w : World) (e : Event) → Cluster cfg w → Heard_yes cfg w → Reports cfg w → not_now cfg w e ≡ None → (c : Container) (p : Place) → (effect cfg w e).place c ≡ Some p →
+late_after : (cfg : Config) (w : World) (e : Event) → Cluster cfg w → Heard_yes cfg w → Reports cfg w → not_now cfg w e ≡ None → (c : ContainerId) (p : Place) → (effect cfg w e).place c ≡ Some p →
     was_computed ((effect cfg w e).container_past c) ≡ is_late (wish_as cfg (effect cfg w e) c p)
 unfolding wish was_computed
 late_after cfg w e h y r n c p q = by (place_was cfg w e h y n c p q)
@@ -116,7 +116,7 @@ late_after cfg w e h y r n c p q = by (place_was cfg w e h y n c p q)
     by (inl z) = past_after w (container_act cfg w e) c (λ x. was_computed x ≡ is_late (wish (length cfg.splits) p.attempt x)) (r.late c p z)
         (λ a v m. computed-step a.step (w.container_past c) ∙ (ap (λ b. is_result a.step || b) (r.late c p z) ∙ late-next (length cfg.splits) p.attempt (wish_as cfg w c p) a.step (steps-ok cfg w e n a v c m p z)))
 
-report_after : (cfg : Config) (w : World) (e : Event) → Cluster cfg w → Heard_yes cfg w → Reports cfg w → not_now cfg w e ≡ None → (c : Container) (p : Place) → (effect cfg w e).place c ≡ Some p → is_reduce p.attempt ≡ true →
+report_after : (cfg : Config) (w : World) (e : Event) → Cluster cfg w → Heard_yes cfg w → Reports cfg w → not_now cfg w e ≡ None → (c : ContainerId) (p : Place) → (effect cfg w e).place c ≡ Some p → is_reduce p.attempt ≡ true →
     is_report (wish_as cfg (effect cfg w e) c p) ≡ true → renamed_as cfg (effect cfg w e) c p ≡ true
 unfolding wish renamed
 report_after cfg w e h y r n c p q d = by (place_was cfg w e h y n c p q)
@@ -134,7 +134,7 @@ was_rename : (w : Wish) (s : Step) → renames w s ≡ true → past_yes w ≡ t
 was_rename To_rename s e = refl
 was_rename w s e = absurd (false≢true e)
 
-told_after : (cfg : Config) (w : World) (e : Event) → Cluster cfg w → Heard_yes cfg w → Reports cfg w → not_now cfg w e ≡ None → (c : Container) (p : Place) → (effect cfg w e).place c ≡ Some p → is_reduce p.attempt ≡ true →
+told_after : (cfg : Config) (w : World) (e : Event) → Cluster cfg w → Heard_yes cfg w → Reports cfg w → not_now cfg w e ≡ None → (c : ContainerId) (p : Place) → (effect cfg w e).place c ≡ Some p → is_reduce p.attempt ≡ true →
     renamed_as cfg (effect cfg w e) c p ≡ true → WasTold (effect cfg w e) c p.attempt
 unfolding renamed
 told_after cfg w e h y r n c p q d = by (place_was cfg w e h y n c p q)
@@ -179,5 +179,5 @@ pub opening-reports : (cfg : Config) → Reports cfg opening_world
 opening-reports cfg = record { late = λ c p e. cc; report = λ c p e. cc; told = λ c p e. cc; done = tt }
 
 -- what a renamed container computed is whole
-pub sender-whole : (cfg : Config) (w : World) → Reports cfg w → (c : Container) (p : Place) → w.place c ≡ Some p → is_late (wish_as cfg w c p) ≡ true → IsWhole w p.attempt (computed (w.container_past c))
+pub sender-whole : (cfg : Config) (w : World) → Reports cfg w → (c : ContainerId) (p : Place) → w.place c ≡ Some p → is_late (wish_as cfg w c p) ≡ true → IsWhole w p.attempt (computed (w.container_past c))
 sender-whole cfg w r c p q t = (c, p, q, refl, refl, r.late c p q ∙ t)

@@ -1,8 +1,8 @@
 -- What holds of every packet that an event sends: a proof for each kind that matters, and one for the rest.
 use Rattle.std.proofs.Common.{ℕ, zero, suc, ◌≡◌, refl, Bool, true, false, ◌&&◌, ◌||◌, not, List, [], ◌∷◌, Option, Some, None, nat_eq, slice_get, length, nat_le}
-use Rattle.mr_model.specs.Ids.{Attempt, Container, TaskId}
+use Rattle.mr_model.specs.Ids.{Attempt, ContainerId, TaskId}
 use Rattle.mr_model.specs.Content.{bar_of}
-use Rattle.mr_model.specs.Packets.{Config, Packet, Store, Reply, Names, Flush, Fine, Envelope, Master, At, Node, Address, Won, Outcome, NodeUp, Done}
+use Rattle.mr_model.specs.Packets.{Config, Packet, Store, Reply, Names, Flush, Fine, Envelope, Master, Container, Node, Address, Won, Outcome, NodeUp, Done}
 use Rattle.mr_model.specs.Pasts.{is_known, incarnation_of, wished_packet, wished_op, Wish, Place, wish, computed, part_length, To_report}
 use Rattle.mr_model.specs.Hearing.{Seen, Phase, Opening, Setting_up, Running, Committing, Failing, Finished, Stopped, Recovering, Move_from, Launched, Placed, find_launched, is_running, may_accept, has, stands, find_container}
 use Rattle.mr_model.specs.Duties.{Master_step, Came, Launches, Expires, Asks, next_seen}
@@ -39,7 +39,7 @@ module _ (P : Envelope → Type 0) (y : Sayings P) where
   kills-each [] = tt
   kills-each (l ∷ ls) = (y.plain _ refl, kills-each ls)
 
-  ready-each : (c : Container) (m : ℕ) (rs : List Attempt) (p : Option Placed) → Each P (ready c m rs p)
+  ready-each : (c : ContainerId) (m : ℕ) (rs : List Attempt) (p : Option Placed) → Each P (ready c m rs p)
   ready-each c m rs None = tt
   ready-each c m rs (Some p) = if_cases (Each P) (has rs p.attempt) _ _ (λ t. (y.plain _ refl, tt)) (λ t. tt)
 
@@ -99,7 +99,7 @@ module _ (P : Envelope → Type 0) (y : Sayings P) where
   master-each cfg w None f = tt
   master-each cfg w (Some a) f = step-each cfg (seen_by cfg w a.who) (next_seen cfg a.who (seen_by cfg w a.who) a.step) a.step (f a refl)
 
-  piece-each : (c : Container) (a : Attempt) (r o : ℕ) (b : Option (List ℕ)) → Each P (piece_of c a r o b)
+  piece-each : (c : ContainerId) (a : Attempt) (r o : ℕ) (b : Option (List ℕ)) → Each P (piece_of c a r o b)
   piece-each c a r o None = (y.plain _ refl, tt)
   piece-each c a r o (Some block) = if_cases (Each P) (nat_le o (length block)) _ _ (λ t. (y.plain _ refl, tt)) (λ t. (y.plain _ refl, tt))
 
@@ -115,10 +115,10 @@ module _ (P : Envelope → Type 0) (y : Sayings P) where
     where
       to : (a : Address) (p : Packet) → Each P (node_sends cfg w (Some (record { to = a; body = p })))
       to (Master k) p = tt
-      to (At c) p = tt
+      to (Container c) p = tt
       to (Node n) p = node-each cfg w n p
 
-  ended-each : (b : Bool) (c : Container) → Each P (said_ended b c)
+  ended-each : (b : Bool) (c : ContainerId) → Each P (said_ended b c)
   ended-each true c = (y.plain _ refl, tt)
   ended-each false c = tt
 
@@ -132,10 +132,10 @@ module _ (P : Envelope → Type 0) (y : Sayings P) where
   masters-each f (suc k) n i = Each-append P (to_masters f k (NodeUp n i)) _ (masters-each f k n i) (if_cases (Each P) (f (suc k)) _ _ (λ t. (y.plain _ refl, tt)) (λ t. tt))
 
   abbrev pub DoneSaid : Config → World → Event → Type 0
-  DoneSaid cfg w e = (c : Container) (f : Weather) (p : Place) → e ≡ ContainerStep c f → w.place c ≡ Some p →
+  DoneSaid cfg w e = (c : ContainerId) (f : Weather) (p : Place) → e ≡ ContainerStep c f → w.place c ≡ Some p →
       wish (length cfg.splits) p.attempt (w.container_past c) ≡ To_report → P (to_app c.app (Done p.attempt (part_length p.attempt (computed (w.container_past c)))))
 
-  wished-each : (cfg : Config) (w : World) (c : Container) (f : Weather) → DoneSaid cfg w (ContainerStep c f) → Each P (some_packet (op_of cfg w c) (packet_of cfg w c))
+  wished-each : (cfg : Config) (w : World) (c : ContainerId) (f : Weather) → DoneSaid cfg w (ContainerStep c f) → Each P (some_packet (op_of cfg w c) (packet_of cfg w c))
   unfolding wished_op wished_packet
   wished-each cfg w c f d = by (w.place c) refl
     where

@@ -1,9 +1,9 @@
 -- What an event sends fits the world after it.
 use Rattle.std.proofs.Common.{ℕ, zero, suc, ◌≤◌, ◌≡◌, refl, sym, ◌∙◌, ap, subst, Bool, true, false, ◌&&◌, ◌||◌, not, List, [], ◌∷◌, ◌++◌, Option, Some, None, if◌then◌else◌, nat_eq, nat_le, ◌⊎◌, inl, inr, arith, length, slice_get}
 use Rattle.std.proofs.lemmas.Bool.{and_parts, false≢true, eq-eqb}
-use Rattle.mr_model.specs.Ids.{Attempt, Container, attempt_eq, bool_eq, is_reduce, task_eq}
+use Rattle.mr_model.specs.Ids.{Attempt, ContainerId, attempt_eq, bool_eq, is_reduce, task_eq}
 use Rattle.mr_model.specs.Records.{Record, AttemptStarted, MapSucceeded, ReduceSucceeded, AttemptFailed, JobUnsuccessful}
-use Rattle.mr_model.specs.Packets.{Config, Packet, Envelope, Address, Master, At, Node, Kill, Failed, NodeUp, Answer, Won, Outcome, Store, Reply, Names, Flush, Fine}
+use Rattle.mr_model.specs.Packets.{Config, Packet, Envelope, Address, Master, Container, Node, Kill, Failed, NodeUp, Answer, Won, Outcome, Store, Reply, Names, Flush, Fine}
 use Rattle.mr_model.specs.Content.{Op, bar_of}
 use Rattle.mr_model.specs.Pasts.{Place, incarnation_of, is_known, Wish, wish, wished_op, wished_packet, next_wish, To_fail, on_shelf, Got, computed}
 use Rattle.mr_model.specs.Hearing.{Seen, Phase, Recovering, Move_from, Finished, Opening, Setting_up, Running, Committing, Failing, Stopped, Launched, Placed, in_task_order, in_place, task_before, live_on, find_launched, named_in, is_named, is_attempt, is_live, has, may_accept, stands, is_running, find_container}
@@ -127,7 +127,7 @@ answer-fit : (cfg : Config) (u : World) (k : ℕ) (s' : Seen) (a : Attempt) (l :
 answer-fit cfg u k s' a None e f = tt
 answer-fit cfg u k s' a (Some m) e f = (by (is_named s' a) refl, tt)
   where
-    fits : IsLaunched cfg u k m × (m.container.app ≡ k) × (m.attempt ≡ a) → is_named s' a ≡ true → PacketFits cfg u (At m.container) (Answer m.attempt true)
+    fits : IsLaunched cfg u k m × (m.container.app ≡ k) × (m.attempt ≡ a) → is_named s' a ≡ true → PacketFits cfg u (Container m.container) (Answer m.attempt true)
     fits o t = (
       m,
       subst (λ z. IsLaunched cfg u z m) (sym o.1) o.0,
@@ -144,7 +144,7 @@ answer-fit cfg u k s' a (Some m) e f = (by (is_named s' a) refl, tt)
         named None t = absurd (false≢true t)
         named (Some b) t = ap Some (sym (attempt_eq-true a b t))
 
-    by : (t : Bool) → is_named s' a ≡ t → PacketFits cfg u (At m.container) (Answer m.attempt t)
+    by : (t : Bool) → is_named s' a ≡ t → PacketFits cfg u (Container m.container) (Answer m.attempt t)
     by true t = fits (f m refl) t
     by false t = tt
 
@@ -228,7 +228,7 @@ own-end-fit cfg w e (Some a) h f = by (is_over_by cfg w a) refl
 
 -- what a node answers
 node-fit : (cfg : Config) (w : World) (e : Event) → Cluster cfg w → (n : ℕ) (p : Packet) → In (to_node n p) w.bag →
-    ((c : Container) → p ≡ Kill c → (ends cfg w e c ≡ true) × (is_known (node_past_after w e n) c ≡ true)) → Each (EnvelopeFits cfg (effect cfg w e)) (node_replies cfg w n p)
+    ((c : ContainerId) → p ≡ Kill c → (ends cfg w e c ≡ true) × (is_known (node_past_after w e n) c ≡ true)) → Each (EnvelopeFits cfg (effect cfg w e)) (node_replies cfg w n p)
 node-fit cfg w e h n (Packet.Launch c a i) j f = if_cases (Each (EnvelopeFits cfg (effect cfg w e))) (not (is_known (w.node_past n) c) && not (nat_eq i (incarnation_of (w.node_past n)))) _ _
     (λ t. (incarnation_after w e n, tt)) (λ t. tt)
 node-fit cfg w e h n (Packet.Kill c) j f = let r = f c refl in (killed-fits cfg w e h n c j r.0 r.1, tt)
@@ -239,7 +239,7 @@ node-fit cfg w e h n (Packet.Fetch c a r i off) j f = if_cases (Each (EnvelopeFi
     piece (Some block) = if_cases (Each (EnvelopeFits cfg (effect cfg w e))) (nat_le off (length block)) _ _ (λ t. (tt, tt)) (λ t. (tt, tt))
 node-fit cfg w e h n _ j f = tt
 
-kill-ends : (cfg : Config) (w : World) (i n : ℕ) (c : Container) → slice_get w.bag i ≡ Some (to_node n (Kill c)) → (ends cfg w (Deliver i) c ≡ true) × (is_known (node_past_after w (Deliver i) n) c ≡ true)
+kill-ends : (cfg : Config) (w : World) (i n : ℕ) (c : ContainerId) → slice_get w.bag i ≡ Some (to_node n (Kill c)) → (ends cfg w (Deliver i) c ≡ true) × (is_known (node_past_after w (Deliver i) n) c ≡ true)
 unfolding ends node_past_after is_known
 kill-ends cfg w i n c q = (rw (q, container_eq-refl c) refl, rw (q, eq-eqb n n refl, container_eq-refl c) refl)
 
@@ -252,7 +252,7 @@ node-deliver cfg w i h = by (slice_get w.bag i) refl
       where
         to : (x : Address) (p : Packet) → slice_get w.bag i ≡ Some (record { to = x; body = p }) → Each (EnvelopeFits cfg (effect cfg w (Deliver i))) (node_sends cfg w (Some (record { to = x; body = p })))
         to (Master k) p q = tt
-        to (At c) p q = tt
+        to (Container c) p q = tt
         to (Node n) p q = node-fit cfg w (Deliver i) h n p (slice_get-In w.bag i _ q) (λ c r. kill-ends cfg w i n c (q ∙ ap (λ z. Some (to_node n z)) r))
 
 pub got-alive : (cfg : Config) (w : World) (o : Option Envelope) → addressee w o ≡ None → (a : Container_act) → got_act o ≡ Some a → w.is_alive a.who ≡ true
@@ -261,7 +261,7 @@ got-alive cfg w (Some v) n a q = to v.to v.body n q
   where
     to : (x : Address) (p : Packet) → addressee w (Some (record { to = x; body = p })) ≡ None → got_act (Some (record { to = x; body = p })) ≡ Some a → w.is_alive a.who ≡ true
     to (Master k) p n q = cc
-    to (At c) p n q = let f : record { who = c; step = Got p } ≡ a = cc in subst (λ (z : Container_act). w.is_alive z.who ≡ true) f (unless_parts _ _ _ n).0
+    to (Container c) p n q = let f : record { who = c; step = Got p } ≡ a = cc in subst (λ (z : Container_act). w.is_alive z.who ≡ true) f (unless_parts _ _ _ n).0
     to (Node m) p n q = cc
 
 deliver-over : (cfg : Config) (w : World) (i : ℕ) (a : Container_act) → container_act cfg w (Deliver i) ≡ Some a → is_over_by cfg w a ≡ true → ends cfg w (Deliver i) a.who ≡ true
@@ -272,7 +272,7 @@ deliver-over cfg w i a q t = rw (q, container_eq-refl a.who, t) (or (kills w (sl
     or true = refl
     or false = refl
 
-step-over : (cfg : Config) (w : World) (c : Container) (f : Weather) (a : Container_act) → container_act cfg w (ContainerStep c f) ≡ Some a → is_over_by cfg w a ≡ true → ends cfg w (ContainerStep c f) a.who ≡ true
+step-over : (cfg : Config) (w : World) (c : ContainerId) (f : Weather) (a : Container_act) → container_act cfg w (ContainerStep c f) ≡ Some a → is_over_by cfg w a ≡ true → ends cfg w (ContainerStep c f) a.who ≡ true
 unfolding ends
 step-over cfg w c f a q t = rw (q, container_eq-refl a.who, t) refl
 
@@ -280,12 +280,12 @@ pub deliver-alive : (cfg : Config) (w : World) (i : ℕ) (a : Container_act) →
 unfolding container_act
 deliver-alive cfg w i a q n = got-alive cfg w (slice_get w.bag i) n a q
 
-step-who : (w : World) (c : Container) (f : Weather) (o : Option Op) (p : Option Envelope) (a : Container_act) → step_act w c f o p ≡ Some a → a.who ≡ c
+step-who : (w : World) (c : ContainerId) (f : Weather) (o : Option Op) (p : Option Envelope) (a : Container_act) → step_act w c f o p ≡ Some a → a.who ≡ c
 step-who w c f (Some op) p a q = cc
 step-who w c f None (Some e) a q = cc
 step-who w c f None None a q = cc
 
-pub step-is : (cfg : Config) (w : World) (c : Container) (f : Weather) (a : Container_act) → container_act cfg w (ContainerStep c f) ≡ Some a → a.who ≡ c
+pub step-is : (cfg : Config) (w : World) (c : ContainerId) (f : Weather) (a : Container_act) → container_act cfg w (ContainerStep c f) ≡ Some a → a.who ≡ c
 unfolding container_act
 step-is cfg w c f a q = step-who w c f (op_of cfg w c) (packet_of cfg w c) a q
 
@@ -299,11 +299,11 @@ unfolding node_past_after incarnation_of
 restart-incarnation w n = rw (eq-eqb n n refl) (omega arith)
 
 -- what a container sends: its one failure ends it
-fail-ends : (cfg : Config) (w : World) (c : Container) (f : Weather) (p : Place) → w.place c ≡ Some p → wish (length cfg.splits) p.attempt (w.container_past c) ≡ To_fail → ends cfg w (ContainerStep c f) c ≡ true
+fail-ends : (cfg : Config) (w : World) (c : ContainerId) (f : Weather) (p : Place) → w.place c ≡ Some p → wish (length cfg.splits) p.attempt (w.container_past c) ≡ To_fail → ends cfg w (ContainerStep c f) c ≡ true
 unfolding ends container_act wish next_wish wished_op wished_packet
 fail-ends cfg w c f p e v = rw (e, v, container_eq-refl c, e, v) refl
 
-wished-fit : (cfg : Config) (w : World) (c : Container) (f : Weather) → Cluster cfg w → w.is_alive c ≡ true → Each (EnvelopeFits cfg (effect cfg w (ContainerStep c f))) (some_packet (op_of cfg w c) (packet_of cfg w c))
+wished-fit : (cfg : Config) (w : World) (c : ContainerId) (f : Weather) → Cluster cfg w → w.is_alive c ≡ true → Each (EnvelopeFits cfg (effect cfg w (ContainerStep c f))) (some_packet (op_of cfg w c) (packet_of cfg w c))
 unfolding wished_op wished_packet
 wished-fit cfg w c f h a = by (w.place c) refl
   where
@@ -328,7 +328,7 @@ wished-fit cfg w c f h a = by (w.place c) refl
     by None q = tt
     by (Some p) q = wishes p _ q refl
 
-die-ends : (cfg : Config) (w : World) (c : Container) → ends cfg w (Die c) c ≡ true
+die-ends : (cfg : Config) (w : World) (c : ContainerId) → ends cfg w (Die c) c ≡ true
 unfolding ends
 die-ends cfg w c = container_eq-refl c
 

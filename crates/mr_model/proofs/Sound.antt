@@ -1,9 +1,9 @@
 -- What a master that reads the records R of the earlier generations keeps true of what it has seen.
 use Rattle.std.proofs.Common.{ℕ, ◌≡◌, refl, sym, ◌∙◌, ap, subst, Bool, true, false, ◌&&◌, not, List, [], ◌∷◌, ◌++◌, Option, Some, None, if◌then◌else◌, is_some, nat_eq, nat_lt, nat_le, ◌⊎◌, inl, inr}
 use Rattle.std.proofs.lemmas.Bool.{and_parts, false≢true, not-true}
-use Rattle.mr_model.specs.Ids.{Attempt, Container, is_reduce}
+use Rattle.mr_model.specs.Ids.{Attempt, ContainerId, is_reduce}
 use Rattle.mr_model.specs.Records.{Record, winner_in, ReduceSucceeded, MapSucceeded, AttemptFailed, JobUnsuccessful}
-use Rattle.mr_model.specs.Packets.{Config, Packet, Launch, Kill, Fetch, Won, Outcome, Pending, Poll, Done, Failed, Ended, NodeUp, Where, Lost, Answer, DoneAck, MapReady, Piece, Store, Reply, Names, Append_record, Flush, Read_history}
+use Rattle.mr_model.specs.Packets.{Config, Packet, Launch, Kill, Fetch, Won, Outcome, Pending, Poll, Done, Failed, Ended, NodeUp, Where, FetchLost, Answer, DoneAck, MapReady, Piece, Store, Reply, Names, Append_record, Flush, Read_history}
 use Rattle.mr_model.specs.Content.{bar_of}
 use Rattle.mr_model.proofs.Closed.{expired-by, bar-by}
 use Rattle.mr_model.specs.Hearing.{Seen, Phase, Launched, Ending, Placed, has, find_launched, named_in, is_named, is_attempt, may_accept, is_live, heard, after_ask, after_end, after_ended, end_there, only_known, success_record, expired, is_running, ended_by, over_with, failures, is_won, find_container, can_hear}
@@ -72,7 +72,7 @@ ended_by-steady cfg R s a true e o =
 after_end-steady : (cfg : Config) (R : List Record) (s : Seen) (a : Attempt) (f : Bool) → SteadyOf R s → SteadyOf R (after_end cfg s a f)
 after_end-steady cfg R s a f o = if_cases (SteadyOf R) (is_live s a) _ _ (λ e. ended_by-steady cfg R s a f e o) (λ e. o)
 
-after_ended-steady : (cfg : Config) (R : List Record) (s : Seen) (c : Container) (l : Option Launched) → SteadyOf R s → SteadyOf R (after_ended cfg s c l)
+after_ended-steady : (cfg : Config) (R : List Record) (s : Seen) (c : ContainerId) (l : Option Launched) → SteadyOf R s → SteadyOf R (after_ended cfg s c l)
 after_ended-steady cfg R s c None o = o
 after_ended-steady cfg R s c (Some l) o = after_end-steady cfg R s _ _ o
 
@@ -147,7 +147,7 @@ heard-steady cfg R s (Failed a) o = after_end-steady cfg R s a true o
 heard-steady cfg R s (Ended c) o = after_ended-steady cfg R s c _ o
 heard-steady cfg R s (NodeUp n i) o = if_cases (SteadyOf R) (nat_lt (s.known n) i) _ _ (λ t. end_there-steady R n i s.launched _ o) (λ t. o)
 heard-steady cfg R s (Where c m) o = o
-heard-steady cfg R s (Lost c a) o = if_cases (SteadyOf R) (is_some (find_container s.launched c) && has s.recorded a) _ _ (λ t. o) (λ t. o)
+heard-steady cfg R s (FetchLost c a) o = if_cases (SteadyOf R) (is_some (find_container s.launched c) && has s.recorded a) _ _ (λ t. o) (λ t. o)
 heard-steady cfg R s (Launch c a i) o = o
 heard-steady cfg R s (Kill c) o = o
 heard-steady cfg R s (Fetch c a r i off) o = o

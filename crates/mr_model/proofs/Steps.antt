@@ -1,7 +1,7 @@
 -- What an event can be to the newest generation: nothing, a step of its master that makes no call, a call of its master, a call of one of its containers that is applied, or the start of the next.
 use Rattle.std.proofs.Common.{ℕ, suc, ◌≤◌, ◌<◌, ◌≡◌, refl, sym, ◌∙◌, ap, subst, Bool, true, false, ◌&&◌, not, Option, Some, None, if◌then◌else◌, nat_eq, nat_lt, ◌⊎◌, inl, inr, arith, slice_get, length}
 use Rattle.std.proofs.lemmas.Bool.{false≢true, true≢false, eqb-true, eqb-false, cases_lt}
-use Rattle.mr_model.specs.Ids.{Container}
+use Rattle.mr_model.specs.Ids.{ContainerId}
 use Rattle.mr_model.specs.Content.{Op, refusal, left, NameFault}
 use Rattle.mr_model.specs.Packets.{Config, Store}
 use Rattle.mr_model.specs.Pasts.{Place, wish, computed, wished_op}
@@ -28,7 +28,7 @@ newest cfg w = seen_by cfg w w.fence
 
 -- a call of a container of the newest generation that is applied
 pub record Calls (cfg : Config) (w : World) (e : Event) : Type 0 where
-  pub who : Container
+  pub who : ContainerId
   pub place : Place
   pub op : Op
   pub weather : Weather
@@ -54,7 +54,7 @@ pub data Case (cfg : Config) (w : World) (e : Event) : Type 0 where
   starts : (effect cfg w e).fence ≡ suc w.fence → (effect cfg w e).content ≡ w.content → seen_by cfg (effect cfg w e) (suc w.fence) ≡ opening → Case cfg w e
 
 -- a container with a place was launched by a master that started
-pub old_app : (cfg : Config) (w : World) → Honest cfg w → Cluster cfg w → (c : Container) (p : Place) → w.place c ≡ Some p → c.app ≤ w.fence
+pub old_app : (cfg : Config) (w : World) → Honest cfg w → Cluster cfg w → (c : ContainerId) (p : Place) → w.place c ≡ Some p → c.app ≤ w.fence
 unfolding seen
 old_app cfg w h k c p q = by (cases_lt w.fence c.app)
   where
@@ -103,7 +103,7 @@ duty-case cfg w k g h n = by (duty cfg w k) refl
             not-applied true f = absurd (f refl)
             not-applied false f = refl
 
-step-case : (cfg : Config) (w : World) (c : Container) (g : Weather) → Honest cfg w → Cluster cfg w → not_now cfg w (ContainerStep c g) ≡ None → Case cfg w (ContainerStep c g)
+step-case : (cfg : Config) (w : World) (c : ContainerId) (g : Weather) → Honest cfg w → Cluster cfg w → not_now cfg w (ContainerStep c g) ≡ None → Case cfg w (ContainerStep c g)
 unfolding master_act call_of seen not_now
 step-case cfg w c g h k n = by (w.place c) refl
   where

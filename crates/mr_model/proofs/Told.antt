@@ -1,10 +1,10 @@
 -- Every node that is told of a winner is told the recorded one.
 use Rattle.std.proofs.Common.{ℕ, suc, ◌-◌, ◌≤◌, ◌<◌, ◌≡◌, refl, sym, ◌∙◌, ap, subst, Bool, true, false, ◌&&◌, not, List, [], ◌∷◌, ◌++◌, Option, Some, None, if◌then◌else◌, is_some, nat_eq, nat_lt, nat_le, ◌⊎◌, inl, inr, arith, slice_get}
 use Rattle.std.proofs.lemmas.Bool.{false≢true, true≢false, eqb-true, cases_lt}
-use Rattle.mr_model.specs.Ids.{Attempt, Container, is_reduce}
+use Rattle.mr_model.specs.Ids.{Attempt, ContainerId, is_reduce}
 use Rattle.mr_model.specs.Content.{Op, Superseded, bar_of}
 use Rattle.mr_model.specs.Records.{Record, History, Segment, ReduceSucceeded, records_below, sealed, sealed_below, with_segment, whole_in, appended, as_written, head_width, AttemptStarted, MapSucceeded, AttemptFailed, JobUnsuccessful}
-use Rattle.mr_model.specs.Packets.{Config, Packet, Store, Reply, Names, Append_record, Flush, Read_history, Refused, Envelope, Master, At, Node, Address}
+use Rattle.mr_model.specs.Packets.{Config, Packet, Store, Reply, Names, Append_record, Flush, Read_history, Refused, Envelope, Master, Container, Node, Address}
 use Rattle.mr_model.specs.Hearing.{Seen, Phase, Launched, is_running, heard, only_known, Placed, after_end, after_ended, end_there, ended_by, over_with, has, find_launched, may_accept, is_live, is_won, failures, find_container, can_hear}
 use Rattle.mr_model.specs.Duties.{Master_step, Came, Launches, Expires, Asks, seen, next_seen, told, worked, with_read, is_fine, is_read, opening, phase_told}
 use Rattle.mr_model.specs.World.{World, Event, Start, Crash, Duty, LaunchOn, Deliver, ContainerStep, Compute, Die, NodeRestart, Expire, unless_stopped, is_stopped, caller_of, Weather, Calm, Unavailable, Unanswered, Master_act, master_act, duty_act, came_act, duty, seen_by, reply_of, own_reply, reply_under, launch_of, call_of, segment_left, is_applied, duty_made, op_made, op_of, Made, unless_sealed}
@@ -55,7 +55,7 @@ module _ (cfg : Config) (P : Seen → Type 0) (c : Closed cfg P) where
   after_end-closed : (s : Seen) (b : Attempt) (f : Bool) → P s → P (after_end cfg s b f)
   after_end-closed s b f o = if_cases P (is_live s b) _ _ (λ e. ended_by-closed s b f o) (λ e. o)
 
-  after_ended-closed : (s : Seen) (d : Container) (l : Option Launched) → P s → P (after_ended cfg s d l)
+  after_ended-closed : (s : Seen) (d : ContainerId) (l : Option Launched) → P s → P (after_ended cfg s d l)
   after_ended-closed s d None o = o
   after_ended-closed s d (Some l) o = after_end-closed s _ _ o
 
@@ -72,7 +72,7 @@ module _ (cfg : Config) (P : Seen → Type 0) (c : Closed cfg P) where
   heard-closed s (Packet.Failed b) o = after_end-closed s b true o
   heard-closed s (Packet.Ended d) o = after_ended-closed s d _ o
   heard-closed s (Packet.NodeUp m i) o = if_cases P (nat_lt (s.known m) i) _ _ (λ t. end_there-closed m i s.launched _ (c.knows s _ _ o)) (λ t. o)
-  heard-closed s (Packet.Lost d b) o = if_cases P (is_some (find_container s.launched d) && has s.recorded b) _ _ (λ t. c.knows s s.known _ o) (λ t. o)
+  heard-closed s (Packet.FetchLost d b) o = if_cases P (is_some (find_container s.launched d) && has s.recorded b) _ _ (λ t. c.knows s s.known _ o) (λ t. o)
   heard-closed s (Packet.Where d m) o = o
   heard-closed s _ o = o
 
@@ -374,7 +374,7 @@ came_act-is (Some v) a e = to v.to v.body e
   where
     to : (x : Address) (p : Packet) → came_act (Some (record { to = x; body = p })) ≡ Some a → (p : Packet) × (a.step ≡ Came p)
     to (Master k) p e = (p, cc)
-    to (At c) p e = cc
+    to (Container c) p e = cc
     to (Node n) p e = cc
 
 abbrev MadeBy : ℕ → Store → Weather → Option Made

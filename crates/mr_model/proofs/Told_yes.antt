@@ -1,8 +1,8 @@
 -- Over every list of events, a reduce's container that looks, clears, renames or reports was told yes.
 use Rattle.std.proofs.Common.{ℕ, ◌≡◌, refl, sym, ◌∙◌, ap, subst, true, false, List, [], ◌∷◌, ◌++◌, Option, Some, None, nat_lt, ◌⊎◌, inl, inr, length, slice_get}
 use Rattle.std.proofs.lemmas.Bool.{false≢true}
-use Rattle.mr_model.specs.Ids.{Attempt, Container, container_eq, is_reduce}
-use Rattle.mr_model.specs.Packets.{Config, Packet, Envelope, Address, Master, At, Node, Answer}
+use Rattle.mr_model.specs.Ids.{Attempt, ContainerId, container_eq, is_reduce}
+use Rattle.mr_model.specs.Packets.{Config, Packet, Envelope, Address, Master, Container, Node, Answer}
 use Rattle.mr_model.specs.Content.{Op}
 use Rattle.mr_model.specs.Pasts.{first_wish, is_known, Place, Step, Got, Sent, Computed, Called, wish}
 use Rattle.mr_model.specs.Hearing.{Launched}
@@ -18,16 +18,16 @@ use Rattle.mr_model.proofs.Sends.{got-alive}
 use Rattle.mr_model.proofs.Yes.{past_yes, next-yes}
 
 -- the yes for a container's own attempt
-abbrev pub WasTold : World → Container → Attempt → Type 0
+abbrev pub WasTold : World → ContainerId → Attempt → Type 0
 WasTold w c a = In (to_container c (Answer a true)) w.bag
 
 pub record Heard_yes (cfg : Config) (w : World) : Type 0 where
-  pub unborn : (c : Container) → w.place c ≡ None → w.container_past c ≡ []
-  pub yes : (c : Container) (p : Place) → w.place c ≡ Some p → is_reduce p.attempt ≡ true →
+  pub unborn : (c : ContainerId) → w.place c ≡ None → w.container_past c ≡ []
+  pub yes : (c : ContainerId) (p : Place) → w.place c ≡ Some p → is_reduce p.attempt ≡ true →
       past_yes (wish (length cfg.splits) p.attempt (w.container_past c)) ≡ true → WasTold w c p.attempt
 
 -- where a container's step comes from
-abbrev pub Comes : World → Container → Step → Type 0
+abbrev pub Comes : World → ContainerId → Step → Type 0
 Comes w c (Got p) = In (to_container c p) w.bag
 Comes w c (Sent p) = Unit {0}
 Comes w c (Computed bytes) = Unit {0}
@@ -47,10 +47,10 @@ got-comes cfg w i n = by (slice_get w.bag i) refl (λ a q. got-alive cfg w (slic
       where
         to : (x : Address) (p : Packet) → slice_get w.bag i ≡ Some (record { to = x; body = p }) → ActComes w (got_act (Some (record { to = x; body = p })))
         to (Master k) p q = tt
-        to (At c) p q = (f (record { who = c; step = Got p }) (ap got_act q), slice_get-In w.bag i _ q)
+        to (Container c) p q = (f (record { who = c; step = Got p }) (ap got_act q), slice_get-In w.bag i _ q)
         to (Node n) p q = tt
 
-step-comes : (w : World) (c : Container) (f : Weather) (o : Option Op) (p : Option Envelope) → w.is_alive c ≡ true → ActComes w (step_act w c f o p)
+step-comes : (w : World) (c : ContainerId) (f : Weather) (o : Option Op) (p : Option Envelope) → w.is_alive c ≡ true → ActComes w (step_act w c f o p)
 step-comes w c f (Some op) p a = (a, tt)
 step-comes w c f None (Some e) a = (a, tt)
 step-comes w c f None None a = tt
@@ -63,20 +63,20 @@ act-comes cfg w (Compute c b) n = ((unless_parts _ _ _ n).0, tt)
 act-comes cfg w _ n = tt
 
 -- a past after an event
-pub past_after : (w : World) (o : Option Container_act) (c : Container) (P : List Step → Type 0) → P (w.container_past c) →
+pub past_after : (w : World) (o : Option Container_act) (c : ContainerId) (P : List Step → Type 0) → P (w.container_past c) →
     ((a : Container_act) → o ≡ Some a → c ≡ a.who → P (a.step ∷ w.container_past c)) → P (with_container_step w.container_past o c)
 past_after w None c P p f = p
 past_after w (Some a) c P p f = if_cases P (container_eq c a.who) _ _ (λ t. f a refl (container_eq-true c a.who t)) (λ t. p)
 
 -- a yes that is delivered is for the container's own attempt
-own-yes : (cfg : Config) (w : World) → Cluster cfg w → (c : Container) (p : Place) (a : Attempt) → w.place c ≡ Some p → In (to_container c (Answer a true)) w.bag → a ≡ p.attempt
+own-yes : (cfg : Config) (w : World) → Cluster cfg w → (c : ContainerId) (p : Place) (a : Attempt) → w.place c ≡ Some p → In (to_container c (Answer a true)) w.bag → a ≡ p.attempt
 own-yes cfg w h c p a e i =
-    let o : PacketFits cfg w (At c) (Answer a true) = Each-In (EnvelopeFits cfg w) w.bag h.packets _ i in
+    let o : PacketFits cfg w (Container c) (Answer a true) = Each-In (EnvelopeFits cfg w) w.bag h.packets _ i in
     let q = h.places c p e in
     sym o.3 ∙ ap (λ (l : Rattle.mr_model.specs.Hearing.Launched). l.attempt) ((h.distinct c.app).containers o.0 (launched_as c p.attempt p.node p.incarnation) o.1 q.0 o.2)
 
 -- no step for one that has no place
-pub no-step : (cfg : Config) (w : World) (e : Event) → Cluster cfg w → not_now cfg w e ≡ None → (c : Container) → w.place c ≡ None → w.container_past c ≡ [] →
+pub no-step : (cfg : Config) (w : World) (e : Event) → Cluster cfg w → not_now cfg w e ≡ None → (c : ContainerId) → w.place c ≡ None → w.container_past c ≡ [] →
     with_container_step w.container_past (container_act cfg w e) c ≡ []
 no-step cfg w e h n c none empty = past_after w (container_act cfg w e) c (λ x. x ≡ []) empty
     (λ a q m. absurd (dead a (subst (ActComes w) q (act-comes cfg w e n)) m))
@@ -106,15 +106,15 @@ heard_yes cfg w e h o n = record {
   yes = λ c. place_after w e c (λ v. (p : Place) → v ≡ Some p → Out c p) (λ p q r. old c p q r) (λ x q f p r u t. fresh c x q f p r u t);
 }
   where
-    Out : Container → Place → Type 0
+    Out : ContainerId → Place → Type 0
     Out c p = (is_reduce p.attempt) ≡ true → past_yes (wish (length cfg.splits) p.attempt (with_container_step w.container_past (container_act cfg w e) c)) ≡ true → In (to_container c (Answer p.attempt true)) (w.bag ++ sent cfg w e)
 
-    fresh : (c : Container) (x : Obeyed) → obeyed w e ≡ Some x → c ≡ x.container → (p : Place) → Some x.place ≡ Some p → Out c p
+    fresh : (c : ContainerId) (x : Obeyed) → obeyed w e ≡ Some x → c ≡ x.container → (p : Place) → Some x.place ≡ Some p → Out c p
     fresh c x q f p r u t =
         let none : w.place c ≡ None = subst (λ z. w.place z ≡ None) (sym f) (obeyed-new cfg w e h x q) in
         absurd (false≢true (sym (subst (λ z. past_yes (wish (length cfg.splits) p.attempt z) ≡ false) (sym (no-step cfg w e h n c none (o.unborn c none))) (first-none (length cfg.splits) p.attempt u)) ∙ t))
 
-    old : (c : Container) (p : Place) → w.place c ≡ Some p → Out c p
+    old : (c : ContainerId) (p : Place) → w.place c ≡ Some p → Out c p
     old c p q r = past_after w (container_act cfg w e) c (λ x. past_yes (wish (length cfg.splits) p.attempt x) ≡ true → In (to_container c (Answer p.attempt true)) (w.bag ++ sent cfg w e))
         (λ t. In-left _ w.bag (sent cfg w e) (o.yes c p q r t))
         (λ a s m t. by a (subst (ActComes w) s (act-comes cfg w e n)) m (next-yes (length cfg.splits) p.attempt (wish (length cfg.splits) p.attempt (w.container_past c)) a.step r t))

@@ -12,9 +12,9 @@ use Rattle.mr_task.specs.Calls.{TaskCall}
 use Rattle.mr_task.specs.Readings as task
 use Rattle.mr_task.proofs.Arrivals.{arrivals}
 use Rattle.mr_task.proofs.Growth.{accepted-arrived}
-use Rattle.mr_model.specs.Ids.{Attempt, Container, TaskId, TaskKind, Map, Reduce, task_eq, is_reduce, of_reduces}
+use Rattle.mr_model.specs.Ids.{Attempt, ContainerId, TaskId, TaskKind, Map, Reduce, task_eq, is_reduce, of_reduces}
 use Rattle.mr_model.specs.Content.{bar_of, Superseded}
-use Rattle.mr_model.specs.Packets.{Config, Packet, Pending, Poll, Done, Failed, Ended, NodeUp, Lost, Store, Names, Append_record, Flush, Read_history, Reply, Refused, Found, Entries}
+use Rattle.mr_model.specs.Packets.{Config, Packet, Pending, Poll, Done, Failed, Ended, NodeUp, FetchLost, Store, Names, Append_record, Flush, Read_history, Reply, Refused, Found, Entries}
 use Rattle.mr_model.specs.Hearing.{Seen, lose_there, containers_of, live_on, more_bars, in_task_order, is_named, is_over, stands, know, still_there, Phase, Opening, Setting_up, Recovering, Running, Committing, Failing, Finished, Stopped, Commit_step, List_job, Merging, Cleaning, Marking, Succeeding, Failing_mark, Aborting, Merge_step, Look_at, List_into, Delete_then, Move_to, Todo_winner, Launched, find_launched, find_container, has, has_container, has_winner, accepts_task, is_live, is_won, may_accept, failures, is_running, heard, only_known, after_ask, after_end, ended_by, over_with, after_ended, after_bar, end_there, end_maps, expired, placed, success_record, can_hear}
 use Rattle.mr_model.specs.Duties.{Master_step, Came, Launches, Expires, Asks, seen, next_seen, is_fine, is_read, is_cleared, is_superseded, told, worked, with_phase, with_read, phase_told, failing, committing, merging, refused, after_flush, successes, newest_maps, attempts_of}
 use Rattle.mr_model.specs.Records.{Record, AttemptStarted}
@@ -121,7 +121,7 @@ quiet-end cfg s a f = if_cases (λ x. Quiet s x) (is_live s a) _ _ (λ e. by f) 
     by false = (refl, refl)
     by true = if_cases (λ x. Quiet s x) (nat_le cfg.limit (failures (over_with s a true) a) && not (is_won s (is_reduce a) a.task)) _ _ (λ e. (refl, refl)) (λ e. (refl, refl))
 
-quiet-ended : (cfg : Config) (s : Seen) (d : Container) (l : Option Launched) → Quiet s (after_ended cfg s d l)
+quiet-ended : (cfg : Config) (s : Seen) (d : ContainerId) (l : Option Launched) → Quiet s (after_ended cfg s d l)
 quiet-ended cfg s d None = (refl, refl)
 quiet-ended cfg s d (Some l) = quiet-end cfg s l.attempt (not (has_container s.killed d))
 
@@ -386,7 +386,7 @@ module _ (t : TaskId) (k : ℕ) (cfg : Config) (reduces : of_reduces t.kind ≡ 
   wins-heard run (NodeUp n i) = calm t s (heard cfg s (NodeUp n i)) (task.seen t k (c t)) (task.seen t k (calls_heard s (NodeUp n i) c t)) (heard-phase cfg s (NodeUp n i))
       (if_cases (λ x. Quiet s x) (nat_lt (s.known n) i) _ _ (λ e. quiet-there n i s.launched (record s { known = know s.known n i; standing = still_there s.recorded n i s.standing })) (λ e. (refl, refl)))
       (if_cases (λ (x : Calls). Keeps (task.seen t k (c t)) (task.seen t k (x t))) (nat_lt (s.known n) i) _ _ (λ e. keep-two (lost_below s.recorded n i s.standing) (below n i s.launched)) (λ e. (refl, refl))) o
-  wins-heard run (Lost d a) = calm t s (heard cfg s (Lost d a)) (task.seen t k (c t)) (task.seen t k (calls_heard s (Lost d a) c t)) (heard-phase cfg s (Lost d a))
+  wins-heard run (FetchLost d a) = calm t s (heard cfg s (FetchLost d a)) (task.seen t k (c t)) (task.seen t k (calls_heard s (FetchLost d a) c t)) (heard-phase cfg s (FetchLost d a))
       (if_cases (λ x. Quiet s x) (is_some (find_container s.launched d) && has s.recorded a) _ _ (λ e. (refl, refl)) (λ e. (refl, refl)))
       (if_cases (λ (x : Calls). Keeps (task.seen t k (c t)) (task.seen t k (x t))) (is_some (find_container s.launched d)) _ _ (λ e. keep-tell t k c a.task (task_call.Loses a) (keep-loses t k (task.seen t k (c t)) a)) (λ e. (refl, refl))) o
   wins-heard run _ = o

@@ -2,7 +2,7 @@
 use Rattle.std.proofs.Common.{ℕ, ◌≡◌, refl, sym, ◌∙◌, subst, Bool, true, false, ◌||◌, List, [], ◌∷◌, Some, None, if◌then◌else◌, nat_eq, ◌⊎◌, inl, inr}
 use Rattle.std.proofs.lemmas.Bool.{false≢true, true≢false}
 use Rattle.mr_model.specs.Ids.{Attempt, attempt_eq, is_reduce}
-use Rattle.mr_model.specs.Packets.{Answer, MapReady, Piece, Lost, DoneAck, Reply, Fine, Found, Refused}
+use Rattle.mr_model.specs.Packets.{Answer, MapReady, Piece, FetchLost, DoneAck, Reply, Fine, Found, Refused}
 use Rattle.mr_model.specs.Content.{Op, Missing}
 use Rattle.mr_model.specs.Pasts.{Step, Got, Sent, Computed, Called, Wish, To_ask_where, To_fetch, To_say_lost, To_compute, To_mkdirs, To_create, To_write, To_close, To_need, To_pend, To_poll, To_look, To_clear, To_rename, To_report, To_abort, To_fail, Over, next_wish, wish, if_fine, if_found, if_cleared, wished_op, was_computed, computed}
 use Rattle.mr_model.specs.Effect.{wants_compute}
@@ -49,7 +49,7 @@ unfolding next_wish
 late-next maps x To_compute (Computed bytes) o = if_cases (λ v. true ≡ is_late v) (is_reduce x) _ _ (λ t. refl) (λ t. refl)
 late-next maps x (To_ask_where m) (Got (MapReady m' a n i)) o = if_cases (λ v. false ≡ is_late v) (nat_eq m m') _ _ (λ t. refl) (λ t. refl)
 late-next maps x (To_fetch m a n i got) (Got (Piece a' q off total bytes)) o = piece-wish (λ v. false ≡ is_late v) maps m a n i got a' off total bytes refl refl (λ g. refl)
-late-next maps x (To_fetch m a n i got) (Got (Lost c a')) o = if_cases (λ v. false ≡ is_late v) (attempt_eq a a') _ _ (λ t. refl) (λ t. refl)
+late-next maps x (To_fetch m a n i got) (Got (FetchLost c a')) o = if_cases (λ v. false ≡ is_late v) (attempt_eq a a') _ _ (λ t. refl) (λ t. refl)
 late-next maps x (To_say_lost m a) (Sent p) o = refl
 late-next maps x To_mkdirs (Called op r) o = sym (fine-late r To_create refl)
 late-next maps x To_create (Called op r) o = sym (fine-late r To_write refl)
@@ -137,7 +137,7 @@ report-next maps x To_look (Called op q) r e = none-report _ (found-report q To_
 report-next maps x To_clear (Called op q) r e = none-report _ (cleared-report q To_rename refl) e
 report-next maps x (To_ask_where m) (Got (MapReady m' a n i)) r e = none-report _ (if_cases (λ w. is_report w ≡ false) (nat_eq m m') _ _ (λ t. refl) (λ t. refl)) e
 report-next maps x (To_fetch m a n i got) (Got (Piece a' q off total bytes)) r e = none-report _ (piece-wish (λ w. is_report w ≡ false) maps m a n i got a' off total bytes refl refl (λ g. refl)) e
-report-next maps x (To_fetch m a n i got) (Got (Lost c a')) r e = none-report _ (if_cases (λ w. is_report w ≡ false) (attempt_eq a a') _ _ (λ t. refl) (λ t. refl)) e
+report-next maps x (To_fetch m a n i got) (Got (FetchLost c a')) r e = none-report _ (if_cases (λ w. is_report w ≡ false) (attempt_eq a a') _ _ (λ t. refl) (λ t. refl)) e
 report-next maps x To_compute (Computed bytes) r e = none-report _ (subst (λ b. is_report (if b then To_mkdirs else To_report) ≡ false) (sym r) refl) e
 report-next maps x To_mkdirs (Called op q) r e = none-report _ (fine-report q To_create refl) e
 report-next maps x To_create (Called op q) r e = none-report _ (fine-report q To_write refl) e

@@ -1,10 +1,10 @@
 -- Who is told of a winner, and that it is the recorded one.
 use Rattle.std.proofs.Common.{ℕ, zero, suc, ◌≤◌, ◌<◌, ◌≡◌, refl, ◌∙◌, ap, subst, Bool, true, false, ◌&&◌, ◌||◌, not, List, [], ◌∷◌, ◌++◌, Option, Some, None, if◌then◌else◌, nat_eq, nat_le, ◌⊎◌, inl, inr, arith, slice_get, length}
 use Rattle.std.proofs.lemmas.Bool.{false≢true, cases_lt}
-use Rattle.mr_model.specs.Ids.{Attempt, Container, TaskId, is_reduce}
+use Rattle.mr_model.specs.Ids.{Attempt, ContainerId, TaskId, is_reduce}
 use Rattle.mr_model.specs.Content.{Op, bar_of}
 use Rattle.mr_model.specs.Records.{Record, History, winner_in, AttemptStarted, MapSucceeded, AttemptFailed, JobUnsuccessful, ReduceSucceeded, records_below, as_written, bytes_kept}
-use Rattle.mr_model.specs.Packets.{Config, Packet, Store, Reply, Names, Flush, Fine, Sealed, Envelope, Master, At, Node, Address, Won, Outcome, NodeUp}
+use Rattle.mr_model.specs.Packets.{Config, Packet, Store, Reply, Names, Flush, Fine, Sealed, Envelope, Master, Container, Node, Address, Won, Outcome, NodeUp}
 use Rattle.mr_model.specs.Pasts.{is_known, incarnation_of, wished_packet, Wish, Place, Step}
 use Rattle.mr_model.specs.Hearing.{Seen, Phase, Opening, Setting_up, Running, Committing, Failing, Finished, Stopped, Recovering, Move_from, Todo_winner, Launched, Placed, in_task_order, live_on, find_launched, is_running, may_accept, has, stands, find_container}
 use Rattle.mr_model.specs.Duties.{Came, seen, next_seen, is_fine, success_of, all_rivals}
@@ -55,7 +55,7 @@ bar-silent s (Names op) Fine = by (bar_of op)
     by (Some a) = to (find_launched s.launched a)
 bar-silent s call r = tt
 
-ready-silent : (c : Container) (m : ℕ) (rs : List Attempt) (p : Option Placed) → Each Silent (ready c m rs p)
+ready-silent : (c : ContainerId) (m : ℕ) (rs : List Attempt) (p : Option Placed) → Each Silent (ready c m rs p)
 ready-silent c m rs None = tt
 ready-silent c m rs (Some p) = if_cases (Each Silent) (has rs p.attempt) _ _ (λ t. (λ t a q. cc, tt)) (λ t. tt)
 
@@ -84,7 +84,7 @@ outcome-silent n (Failing f) (Finished b) = all-silent n b
 outcome-silent n Stopped (Finished b) = all-silent n b
 outcome-silent n p _ = tt
 
-piece-silent : (c : Container) (a : Attempt) (r o : ℕ) (b : Option (List ℕ)) → Each Silent (piece_of c a r o b)
+piece-silent : (c : ContainerId) (a : Attempt) (r o : ℕ) (b : Option (List ℕ)) → Each Silent (piece_of c a r o b)
 piece-silent c a r o None = (λ t a q. cc, tt)
 piece-silent c a r o (Some block) = if_cases (Each Silent) (nat_le o (length block)) _ _ (λ t. (λ t a q. cc, tt)) (λ t. (λ t a q. cc, tt))
 
@@ -100,10 +100,10 @@ node_sends-silent cfg w (Some e) = to e.to e.body
   where
     to : (a : Address) (p : Packet) → Each Silent (node_sends cfg w (Some (record { to = a; body = p })))
     to (Master k) p = tt
-    to (At c) p = tt
+    to (Container c) p = tt
     to (Node n) p = node-silent cfg w n p
 
-ended-silent : (b : Bool) (c : Container) → Each Silent (said_ended b c)
+ended-silent : (b : Bool) (c : ContainerId) → Each Silent (said_ended b c)
 ended-silent true c = (λ t a q. cc, tt)
 ended-silent false c = tt
 
@@ -116,7 +116,7 @@ unfolding to_masters
 masters-silent f zero n i = tt
 masters-silent f (suc k) n i = Each-append Silent (to_masters f k (NodeUp n i)) _ (masters-silent f k n i) (if_cases (Each Silent) (f (suc k)) _ _ (λ t. (λ t a q. cc, tt)) (λ t. tt))
 
-wished-silent : (c : Container) (a : Attempt) (bs : List ℕ) (x : Wish) (e : Envelope) → wished_packet c a bs x ≡ Some e → Silent e
+wished-silent : (c : ContainerId) (a : Attempt) (bs : List ℕ) (x : Wish) (e : Envelope) → wished_packet c a bs x ≡ Some e → Silent e
 unfolding wished_packet
 wished-silent c a bs (Wish.To_ask_where m) e q t b r = cc
 wished-silent c a bs (Wish.To_fetch m d n i got) e q t b r = cc
@@ -127,7 +127,7 @@ wished-silent c a bs Wish.To_report e q t b r = cc
 wished-silent c a bs Wish.To_fail e q t b r = cc
 wished-silent c a bs _ e q t b r = cc
 
-packet-silent : (cfg : Config) (c : Container) (p : Option Place) (h : List Step) (e : Envelope) → packet_at cfg c p h ≡ Some e → Silent e
+packet-silent : (cfg : Config) (c : ContainerId) (p : Option Place) (h : List Step) (e : Envelope) → packet_at cfg c p h ≡ Some e → Silent e
 packet-silent cfg c None h e q = cc
 packet-silent cfg c (Some p) h e q = wished-silent c p.attempt _ _ e q
 
@@ -250,7 +250,7 @@ came-tells cfg w (Some v) = to v.to v.body
   where
     to : (a : Address) (p : Packet) → Each Silent (master_sends cfg w (came_act (Some (record { to = a; body = p }))))
     to (Master k) p = if_cases (Each Silent) (is_running (seen_by cfg w k).phase) _ _ (λ t. replies-silent (seen_by cfg w k) (next_seen cfg k (seen_by cfg w k) (Came p)) p) (λ t. tt)
-    to (At c) p = tt
+    to (Container c) p = tt
     to (Node n) p = tt
 
 -- what an event sends tells no other winner than the recorded one

@@ -7,7 +7,7 @@ use Rattle.mr_task.specs.Calls.{TaskCall}
 use Rattle.mr_task.specs.Readings as task
 use Rattle.mr_model.specs.Ids.{Attempt, TaskId, task_eq, is_reduce, of_reduces}
 use Rattle.mr_model.specs.Content.{bar_of}
-use Rattle.mr_model.specs.Packets.{Config, Packet, Pending, Poll, Done, Failed, Ended, NodeUp, Lost, Store, Names, Append_record, Flush, Read_history, Reply}
+use Rattle.mr_model.specs.Packets.{Config, Packet, Pending, Poll, Done, Failed, Ended, NodeUp, FetchLost, Store, Names, Append_record, Flush, Read_history, Reply}
 use Rattle.mr_model.specs.World.{count_of}
 use Rattle.mr_model.specs.Effect.{live_count, task_fault}
 use Rattle.mr_model.specs.Claims.{In}
@@ -71,7 +71,7 @@ calls_heard s (NodeUp n i) c =
     if nat_lt (s.known n) i
     then tell_each (λ a. task_call.Dies a) (below n i s.launched) (tell_each (λ a. task_call.Loses a) (lost_below s.recorded n i s.standing) c)
     else c
-calls_heard s (Lost d a) c = if is_some (find_container s.launched d) then tell a.task (task_call.Loses a) c else c
+calls_heard s (FetchLost d a) c = if is_some (find_container s.launched d) then tell a.task (task_call.Loses a) c else c
 calls_heard s _ c = c
 
 abbrev pub winning : List Todo_winner → List Attempt

@@ -1,9 +1,9 @@
 -- What is claimed of every run: the winner, what nodes are told, what a reader of the destination sees, and the outcome.
 use Rattle.std.specs.Prelude.{ℕ, suc, nat_lt, ◌<◌, ◌≤◌, Bool, true, false, List, [], ◌∷◌, ◌++◌, ◌≡◌, Option, Some, None, if◌then◌else◌, ◌⊎◌, length}
-use Rattle.mr_model.specs.Ids.{Attempt, Container, Path, Name, JobId, TaskId, is_reduce, reduce_of, dest, marker, part, is_hidden, committed, part_name, commit_started}
+use Rattle.mr_model.specs.Ids.{Attempt, ContainerId, Path, Name, JobId, TaskId, is_reduce, reduce_of, dest, marker, part, is_hidden, committed, part_name, commit_started}
 use Rattle.mr_model.specs.Content.{Op, Bar, Superseded, Barred, Entry, File, Dir, entry_at, is_file}
 use Rattle.mr_model.specs.Records.{Record, records_below, winner_in, JobUnsuccessful, ReduceSucceeded}
-use Rattle.mr_model.specs.Packets.{Config, Won, Outcome, Envelope, Answer, At, Caller, Names, Fine, Refused, Store, Bytes}
+use Rattle.mr_model.specs.Packets.{Config, Won, Outcome, Envelope, Answer, Container, Caller, Names, Fine, Refused, Store, Bytes}
 use Rattle.mr_model.specs.Pasts.{computed, was_computed, Place}
 use Rattle.mr_model.specs.Hearing.{Phase, Opening, Setting_up, Recovering, Launched, is_running, has, is_over, Todo_winner, Measure}
 use Rattle.mr_model.specs.Duties.{winners_of, Asks, right_length}
@@ -72,14 +72,14 @@ pub record OneAttemptIsRecorded (cfg : Config) (within : Limits) : Type 0 where
 
 -- of one master's containers for one reduce, at most one that lives and is not barred was sent a yes
 abbrev pub OneContainerWasToldYes : Config → Limits → Type 0
-OneContainerWasToldYes cfg within = (es : List Event) (c d : Container) (a b : Attempt) →
+OneContainerWasToldYes cfg within = (es : List Event) (c d : ContainerId) (a b : Attempt) →
     (world_of cfg within es).is_alive c ≡ true → (world_of cfg within es).is_alive d ≡ true → c.app ≡ d.app → a.task ≡ b.task →
     has (world_of cfg within es).barred a ≡ false → has (world_of cfg within es).barred b ≡ false →
-    In (record { to = At c; body = Answer a true }) (world_of cfg within es).bag → In (record { to = At d; body = Answer b true }) (world_of cfg within es).bag → c ≡ d
+    In (record { to = Container c; body = Answer a true }) (world_of cfg within es).bag → In (record { to = Container d; body = Answer b true }) (world_of cfg within es).bag → c ≡ d
 
 -- the bytes that were handed in for the container of an attempt that was launched so
 abbrev pub IsWhole : World → Attempt → List ℕ → Type 0
-IsWhole w a bytes = (c : Container) × (p : Place) × (w.place c ≡ Some p) × (p.attempt ≡ a) × (computed (w.container_past c) ≡ bytes) × (was_computed (w.container_past c) ≡ true)
+IsWhole w a bytes = (c : ContainerId) × (p : Place) × (w.place c ≡ Some p) × (p.attempt ≡ a) × (computed (w.container_past c) ≡ bytes) × (was_computed (w.container_past c) ≡ true)
 
 -- they are one: no two containers have an attempt, and a container's bytes are handed in once
 abbrev pub OneWholeOutput : Config → Limits → Type 0

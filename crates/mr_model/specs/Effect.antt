@@ -1,7 +1,7 @@
 -- What each part of the world is after an event, when an event is taken, and a run (our own profile).
 use Rattle.std.specs.Prelude.{ℕ, suc, Bool, true, false, ◌&&◌, ◌||◌, not, nat_eq, nat_lt, nat_le, List, [], ◌∷◌, ◌++◌, Option, Some, None, if◌then◌else◌, is_some, is_none, length, slice_get}
-use Rattle.mr_model.specs.Ids.{Attempt, Container, TaskId, is_reduce, task_eq, container_eq, TaskKind, Map, Reduce, of_reduces, same_job}
-use Rattle.mr_model.specs.Packets.{Config, Packet, Master, Node, Envelope, Address, At}
+use Rattle.mr_model.specs.Ids.{Attempt, ContainerId, TaskId, is_reduce, task_eq, container_eq, TaskKind, Map, Reduce, of_reduces, same_job}
+use Rattle.mr_model.specs.Packets.{Config, Packet, Master, Node, Envelope, Address, Container}
 use Rattle.mr_mapside.specs.Cutting.{cut}
 use Rattle.mr_model.specs.Content.{Content}
 use Rattle.mr_model.specs.Records.{History, with_segment, with_version, sealed_below, sealed}
@@ -42,11 +42,11 @@ abbrev pub with_master_step : (ℕ → List Master_step) → Option Master_act �
 with_master_step f None k = f k
 with_master_step f (Some a) k = if nat_eq k a.who then a.step ∷ f k else f k
 
-abbrev pub with_container_step : (Container → List Step) → Option Container_act → Container → List Step
+abbrev pub with_container_step : (ContainerId → List Step) → Option Container_act → ContainerId → List Step
 with_container_step f None c = f c
 with_container_step f (Some a) c = if container_eq c a.who then a.step ∷ f c else f c
 
-abbrev pub with_place : (Container → Option Place) → Option Obeyed → Container → Option Place
+abbrev pub with_place : (ContainerId → Option Place) → Option Obeyed → ContainerId → Option Place
 with_place f None c = f c
 with_place f (Some o) c = if container_eq c o.container then Some o.place else f c
 
@@ -55,7 +55,7 @@ is_master_after w (Start k kept) j = nat_eq j k || w.is_master j
 is_master_after w (Crash k kept) j = not (nat_eq j k) && w.is_master j
 is_master_after w _ j = w.is_master j
 
-abbrev pub is_obeyed : Option Obeyed → Container → Bool
+abbrev pub is_obeyed : Option Obeyed → ContainerId → Bool
 is_obeyed None c = false
 is_obeyed (Some o) c = container_eq c o.container
 
@@ -65,7 +65,7 @@ got_at_node (Some e) n h = to e.to e.body
   where
     to : Address → Packet → List Node_step
     to (Master k) p = h
-    to (At c) p = h
+    to (Container c) p = h
     to (Node m) p = if nat_eq n m then Node_got p ∷ h else h
 
 abbrev pub shelved : Option Place → List ℕ → ℕ → List Node_step → List Node_step
@@ -130,7 +130,7 @@ addressee w (Some e) = to e.to
   where
     to : Address → Option Why
     to (Master k) = unless (w.is_master k) NoAddressee None
-    to (At c) = unless (w.is_alive c) NoAddressee None
+    to (Container c) = unless (w.is_alive c) NoAddressee None
     to (Node n) = None
 
 abbrev pub wants_compute : Wish → Bool

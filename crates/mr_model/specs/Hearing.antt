@@ -1,13 +1,13 @@
 -- What is read off a master's past, and what it hears. That one of a task's attempts may commit restates Hadoop's `canCommit`; that a lost map
 -- runs again, Dean and Ghemawat 3.3; who is named once that attempt ends, expiry and bars are our own profile.
 use Rattle.std.specs.Prelude.{ℕ, suc, Bool, true, false, ◌&&◌, ◌||◌, not, nat_eq, nat_lt, nat_le, List, [], ◌∷◌, ◌++◌, Option, Some, None, if◌then◌else◌, is_some, is_none}
-use Rattle.mr_model.specs.Ids.{Attempt, Container, Path, TaskId, is_reduce, task_eq, bool_eq, attempt_eq, container_eq}
+use Rattle.mr_model.specs.Ids.{Attempt, ContainerId, Path, TaskId, is_reduce, task_eq, bool_eq, attempt_eq, container_eq}
 use Rattle.mr_model.specs.Records.{Record, MapSucceeded, ReduceSucceeded, AttemptFailed, JobUnsuccessful}
-use Rattle.mr_model.specs.Packets.{Config, Packet, Pending, Poll, Done, Failed, Ended, NodeUp, Where, Lost}
+use Rattle.mr_model.specs.Packets.{Config, Packet, Pending, Poll, Done, Failed, Ended, NodeUp, Where, FetchLost}
 
 pub record Launched : Type 0 where
   pub attempt : Attempt
-  pub container : Container
+  pub container : ContainerId
   pub node : ℕ
   pub incarnation : ℕ
 
@@ -62,7 +62,7 @@ pub record Seen : Type 0 where
   pub accepted : List Attempt
   pub standing : List Placed  -- the maps' successes that were not lost
   pub recorded : List Attempt
-  pub killed : List Container
+  pub killed : List ContainerId
   pub bars : List Attempt  -- the bars that are due, in order
   pub known : ℕ → ℕ
   pub history : List Record  -- what was read of the earlier generations
@@ -81,11 +81,11 @@ abbrev pub find_launched : List Launched → Attempt → Option Launched
 find_launched [] a = None
 find_launched (l ∷ ls) a = if attempt_eq a l.attempt then Some l else find_launched ls a
 
-abbrev pub find_container : List Launched → Container → Option Launched
+abbrev pub find_container : List Launched → ContainerId → Option Launched
 find_container [] c = None
 find_container (l ∷ ls) c = if container_eq c l.container then Some l else find_container ls c
 
-abbrev pub has_container : List Container → Container → Bool
+abbrev pub has_container : List ContainerId → ContainerId → Bool
 has_container [] c = false
 has_container (d ∷ ds) c = container_eq c d || has_container ds c
 
@@ -144,7 +144,7 @@ abbrev pub over_with : Seen → Attempt → Bool → List Ending
 over_with s a is_failure = record { attempt = a; is_failure = is_failure } ∷ s.ended
 
 -- a bar was answered
-abbrev pub container_of : Option Launched → List Container
+abbrev pub container_of : Option Launched → List ContainerId
 container_of None = []
 container_of (Some l) = l.container ∷ []
 
@@ -189,7 +189,7 @@ abbrev pub after_ask : Seen → Attempt → Seen
 after_ask s a =
     if is_some (find_launched s.launched a) && not (has s.asked a) then record s { asked = s.asked ++ a ∷ [] } else s
 
-abbrev pub after_ended : Config → Seen → Container → Option Launched → Seen
+abbrev pub after_ended : Config → Seen → ContainerId → Option Launched → Seen
 after_ended cfg s c None = s
 after_ended cfg s c (Some l) = after_end cfg s l.attempt (not (has_container s.killed c))
 
@@ -208,7 +208,7 @@ heard cfg s (NodeUp n i) =
     then end_there n i s.launched (record s { known = know s.known n i; standing = still_there s.recorded n i s.standing })
     else s
 heard cfg s (Where c m) = s
-heard cfg s (Lost c a) = if is_some (find_container s.launched c) && has s.recorded a then record s { standing = without_placed s.standing a } else s
+heard cfg s (FetchLost c a) = if is_some (find_container s.launched c) && has s.recorded a then record s { standing = without_placed s.standing a } else s
 heard cfg s _ = s
 
 -- An expiry
@@ -240,7 +240,7 @@ abbrev pub more_bars : List Attempt → List Launched → List Attempt
 more_bars bs [] = bs
 more_bars bs (l ∷ ls) = more_bars (if has bs l.attempt then bs else bs ++ l.attempt ∷ []) ls
 
-abbrev pub containers_of : List Launched → List Container
+abbrev pub containers_of : List Launched → List ContainerId
 containers_of [] = []
 containers_of (l ∷ ls) = l.container ∷ containers_of ls
 

@@ -10,11 +10,8 @@ pub use Rattle.mr_ids.specs.declared.id.JobId.{JobId}
 pub use Rattle.mr_ids.specs.declared.id.TaskId.{TaskId}
 pub use Rattle.mr_ids.specs.declared.id.TaskKind.{TaskKind}
 pub use Rattle.mr_ids.specs.declared.id.TaskKind.TheVariants.{Map, Reduce}
+pub use Rattle.mr_packet.specs.declared.packet.ContainerId.{ContainerId}
 pub use Rattle.mr_paths.specs.Layout.{temporary_name, marker_name, is_hidden}
-
-pub record Container : Type 0 where
-  pub app : ℕ
-  pub number : ℕ
 
 -- a name is its bytes, a path its names
 abbrev pub Name : Type 0
@@ -35,7 +32,7 @@ task_eq t u = same_task t u
 abbrev pub attempt_eq : Attempt → Attempt → Bool
 attempt_eq a b = task_eq a.task b.task && nat_eq a.number b.number
 
-abbrev pub container_eq : Container → Container → Bool
+abbrev pub container_eq : ContainerId → ContainerId → Bool
 container_eq a b = nat_eq a.app b.app && nat_eq a.number b.number
 
 abbrev pub name_eq : Name → Name → Bool

@@ -1,9 +1,9 @@
 -- The pasts of containers and nodes, and what is read off them. A past is a list, the newest first. The order of a reduce's calls is that of
 -- Hadoop's OutputCommitter: setupTask (no call), needsTaskCommit, canCommit, commitTask, abortTask; pieces, nodes' memory and shelves are our own profile.
 use Rattle.std.specs.Prelude.{ℕ, suc, Bool, true, false, ◌&&◌, ◌||◌, nat_eq, nat_lt, nat_le, List, [], ◌∷◌, ◌++◌, Option, Some, None, if◌then◌else◌, length}
-use Rattle.mr_model.specs.Ids.{Attempt, Container, Path, is_reduce, attempt_eq, container_eq, task_attempt, committed, part_name}
+use Rattle.mr_model.specs.Ids.{Attempt, ContainerId, Path, is_reduce, attempt_eq, container_eq, task_attempt, committed, part_name}
 use Rattle.mr_model.specs.Content.{Op, MkDirs, Create, Append, Close, Delete, Rename, Exist, Missing}
-use Rattle.mr_model.specs.Packets.{Packet, Launch, Kill, Fetch, Pending, Poll, Done, Failed, Where, Lost, Answer, DoneAck, MapReady, Piece, Master, Node, Envelope, Reply, Fine, Found, Refused}
+use Rattle.mr_model.specs.Packets.{Packet, Launch, Kill, Fetch, Pending, Poll, Done, Failed, Where, FetchLost, Answer, DoneAck, MapReady, Piece, Master, Node, Envelope, Reply, Fine, Found, Refused}
 
 -- Containers
 
@@ -63,7 +63,7 @@ unfoldable pub next_wish : ℕ → Attempt → Wish → Step → Wish
 next_wish maps x (To_ask_where m) (Got (MapReady m' a n i)) = if nat_eq m m' then To_fetch m a n i [] else To_ask_where m
 next_wish maps x (To_fetch m a n i got) (Got (Piece a' r o total bytes)) =
     if is_awaited a got a' o then (if is_all total (got ++ bytes) then ask_from maps (suc m) else To_fetch m a n i (got ++ bytes)) else To_fetch m a n i got
-next_wish maps x (To_fetch m a n i got) (Got (Lost c a')) = if attempt_eq a a' then To_say_lost m a else To_fetch m a n i got
+next_wish maps x (To_fetch m a n i got) (Got (FetchLost c a')) = if attempt_eq a a' then To_say_lost m a else To_fetch m a n i got
 next_wish maps x (To_say_lost m a) (Sent p) = To_ask_where m
 next_wish maps x To_compute (Computed bytes) = if is_reduce x then To_mkdirs else To_report
 next_wish maps x To_mkdirs (Called op r) = if_fine r To_create
@@ -138,10 +138,10 @@ abbrev pub to_master : ℕ → Packet → Option Envelope
 to_master k p = Some (record { to = Master k; body = p })
 
 -- the packet of a wish
-unfoldable pub wished_packet : Container → Attempt → List ℕ → Wish → Option Envelope
+unfoldable pub wished_packet : ContainerId → Attempt → List ℕ → Wish → Option Envelope
 wished_packet c a bytes (To_ask_where m) = to_master c.app (Where c m)
 wished_packet c a bytes (To_fetch m b n i got) = Some (record { to = Node n; body = Fetch c b a.task.number i (length got) })
-wished_packet c a bytes (To_say_lost m b) = to_master c.app (Lost c b)
+wished_packet c a bytes (To_say_lost m b) = to_master c.app (FetchLost c b)
 wished_packet c a bytes To_pend = to_master c.app (Pending a)
 wished_packet c a bytes To_poll = to_master c.app (Poll a)
 wished_packet c a bytes To_report = to_master c.app (Done a (part_length a bytes))
@@ -153,7 +153,7 @@ wished_packet c a bytes _ = None
 pub data Node_step : Type 0 where
   Node_got : (p : Packet) → Node_step
   Shelved : (a : Attempt) → (bytes : List ℕ) → Node_step
-  Gone : (c : Container) → Node_step
+  Gone : (c : ContainerId) → Node_step
   Restarted : Node_step
 
 unfoldable pub incarnation_of : List Node_step → ℕ
@@ -163,13 +163,13 @@ incarnation_of (Node_got p ∷ h) = incarnation_of h
 incarnation_of (Shelved a bytes ∷ h) = incarnation_of h
 incarnation_of (Gone c ∷ h) = incarnation_of h
 
-abbrev pub remembers : ℕ → Container → Packet → Bool
+abbrev pub remembers : ℕ → ContainerId → Packet → Bool
 remembers i c (Launch d a j) = container_eq c d && nat_eq i j
 remembers i c (Kill d) = container_eq c d
 remembers i c _ = false
 
 -- a node remembers what it launched and what it was asked to kill
-unfoldable pub is_known : List Node_step → Container → Bool
+unfoldable pub is_known : List Node_step → ContainerId → Bool
 is_known [] c = false
 is_known (Node_got p ∷ h) c = remembers (incarnation_of h) c p || is_known h c
 is_known (Restarted ∷ h) c = is_known h c

@@ -1,9 +1,9 @@
 -- The packets that an event sends (our own profile).
 use Rattle.std.specs.Prelude.{ℕ, zero, suc, Bool, true, false, ◌&&◌, ◌||◌, not, nat_eq, nat_le, List, [], ◌∷◌, ◌++◌, Option, Some, None, if◌then◌else◌, length, slice_get, take, drop}
-use Rattle.mr_model.specs.Ids.{Attempt, Container}
+use Rattle.mr_model.specs.Ids.{Attempt, ContainerId}
 use Rattle.mr_model.specs.Content.{Op, bar_of}
 use Rattle.mr_model.specs.Records.{Record, AttemptStarted, MapSucceeded, ReduceSucceeded, AttemptFailed, JobUnsuccessful}
-use Rattle.mr_model.specs.Packets.{Config, Packet, Launch, Kill, Fetch, Pending, Poll, Done, Failed, Ended, NodeUp, Where, Lost, Answer, DoneAck, MapReady, Piece, Master, Node, Envelope, Store, Names, Flush, Reply, Fine, Won, Outcome, Address, At}
+use Rattle.mr_model.specs.Packets.{Config, Packet, Launch, Kill, Fetch, Pending, Poll, Done, Failed, Ended, NodeUp, Where, FetchLost, Answer, DoneAck, MapReady, Piece, Master, Node, Envelope, Store, Names, Flush, Reply, Fine, Won, Outcome, Address, Container}
 use Rattle.mr_model.specs.Pasts.{incarnation_of, is_known, on_shelf}
 use Rattle.mr_model.specs.Hearing.{Failing, Finished, Launched, Move_from, Phase, Placed, Recovering, Seen, find_launched, has, in_task_order, is_live, is_named, is_running, live_on, may_accept, stands, find_container}
 use Rattle.mr_model.specs.Duties.{Asks, Came, Expires, Launches, Master_step, all_rivals, next_seen, success_of}
@@ -12,8 +12,8 @@ use Rattle.mr_model.specs.World.{Compute, ContainerStep, Container_act, Crash, D
 abbrev pub to_node : ℕ → Packet → Envelope
 to_node n p = record { to = Node n; body = p }
 
-abbrev pub to_container : Container → Packet → Envelope
-to_container c p = record { to = At c; body = p }
+abbrev pub to_container : ContainerId → Packet → Envelope
+to_container c p = record { to = Container c; body = p }
 
 abbrev pub to_app : ℕ → Packet → Envelope
 to_app k p = record { to = Master k; body = p }
@@ -44,7 +44,7 @@ abbrev pub if_ours : Option Launched → Option Placed → Option Placed
 if_ours None p = None
 if_ours (Some l) p = p
 
-abbrev pub ready : Container → ℕ → List Attempt → Option Placed → List Envelope
+abbrev pub ready : ContainerId → ℕ → List Attempt → Option Placed → List Envelope
 ready c m rs None = []
 ready c m rs (Some p) = if has rs p.attempt then to_container c (MapReady m p.attempt p.node p.incarnation) ∷ [] else []
 
@@ -115,10 +115,10 @@ master_sends cfg w None = []
 master_sends cfg w (Some a) = step_sends cfg (seen_by cfg w a.who) (next_seen cfg a.who (seen_by cfg w a.who) a.step) a.step
 
 -- a block from an offset on
-abbrev pub piece_of : Container → Attempt → (reduce offset : ℕ) → Option (List ℕ) → List Envelope
-piece_of c a r o None = to_container c (Lost c a) ∷ []
+abbrev pub piece_of : ContainerId → Attempt → (reduce offset : ℕ) → Option (List ℕ) → List Envelope
+piece_of c a r o None = to_container c (FetchLost c a) ∷ []
 piece_of c a r o (Some block) =
-    if nat_le o (length block) then to_container c (Piece a r o (length block) (take piece_limit (drop o block))) ∷ [] else to_container c (Lost c a) ∷ []
+    if nat_le o (length block) then to_container c (Piece a r o (length block) (take piece_limit (drop o block))) ∷ [] else to_container c (FetchLost c a) ∷ []
 
 abbrev pub node_replies : Config → World → ℕ → Packet → List Envelope
 node_replies cfg w n (Launch c a i) =
@@ -127,7 +127,7 @@ node_replies cfg w n (Launch c a i) =
 node_replies cfg w n (Kill c) = to_app c.app (Ended c) ∷ []
 node_replies cfg w n (Fetch c a r i o) =
     if nat_eq i (incarnation_of (w.node_past n))
-    then piece_of c a r o (block_there cfg.reduces (on_shelf (w.node_past n) a) r) else to_container c (Lost c a) ∷ []
+    then piece_of c a r o (block_there cfg.reduces (on_shelf (w.node_past n) a) r) else to_container c (FetchLost c a) ∷ []
 node_replies cfg w n _ = []
 
 abbrev pub node_sends : Config → World → Option Envelope → List Envelope
@@ -136,7 +136,7 @@ node_sends cfg w (Some e) = to e.to e.body
   where
     to : Address → Packet → List Envelope
     to (Master k) p = []
-    to (At c) p = []
+    to (Container c) p = []
     to (Node n) p = node_replies cfg w n p
 
 abbrev pub some_packet : Option Op → Option Envelope → List Envelope
@@ -144,7 +144,7 @@ some_packet (Some op) e = []
 some_packet None None = []
 some_packet None (Some e) = e ∷ []
 
-abbrev pub said_ended : Bool → Container → List Envelope
+abbrev pub said_ended : Bool → ContainerId → List Envelope
 said_ended true c = to_app c.app (Ended c) ∷ []
 said_ended false c = []
 

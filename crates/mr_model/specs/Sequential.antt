@@ -1,7 +1,7 @@
 -- What is claimed of files where a job's functions are deterministic: they are those of the sequential execution (Dean and Ghemawat 3.3).
 use Rattle.std.specs.Prelude.{ℕ, ◌+◌, ◌<◌, ◌≤◌, Bool, true, false, ◌&&◌, List, [], ◌∷◌, ◌++◌, ◌≡◌, Option, Some, None, if◌then◌else◌, is_none, length, slice_get}
 use Rattle.std.specs.Option.{option_map, option_and_then}
-use Rattle.mr_model.specs.Ids.{Attempt, Container, TaskId, is_reduce, part}
+use Rattle.mr_model.specs.Ids.{Attempt, ContainerId, TaskId, is_reduce, part}
 use Rattle.mr_model.specs.Content.{File, entry_at}
 use Rattle.mr_mapside.specs.Cutting.{cut}
 use Rattle.mr_model.specs.Packets.{Config}
@@ -58,7 +58,7 @@ abbrev pub input_at : Config → Option Place → List Step → Option Input
 input_at cfg None h = None
 input_at cfg (Some p) h = if wants_compute (wish (length cfg.splits) p.attempt h) then given cfg p.attempt h else None
 
-abbrev pub input_of : Config → World → Container → Option Input
+abbrev pub input_of : Config → World → ContainerId → Option Input
 input_of cfg w c = input_at cfg (w.place c) (w.container_past c)
 
 -- the definition's bytes of an input; none where it refuses
@@ -80,7 +80,7 @@ IsFaithful job cfg within es = (before after : List Event) (e : Event) → es �
 
 -- no map's output beyond what it may have is taken
 abbrev pub BoundsOutputs : Limits → Type 0
-BoundsOutputs within = (w : World) (c : Container) (p : Place) (bytes : List ℕ) → w.place c ≡ Some p → is_reduce p.attempt ≡ false → within w (Compute c bytes) ≡ true → length bytes ≤ most_output
+BoundsOutputs within = (w : World) (c : ContainerId) (p : Place) (bytes : List ℕ) → w.place c ≡ Some p → is_reduce p.attempt ≡ false → within w (Compute c bytes) ≡ true → length bytes ≤ most_output
 
 -- over a faithful list a reduce's whole output is what the sequential execution writes, which then exists
 abbrev pub WholeIsSequential : Job → Config → Limits → Type 0

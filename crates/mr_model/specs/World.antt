@@ -1,8 +1,8 @@
 -- The world, its events, the store calls that an event makes, and the step that it adds to a past (our own profile).
 use Rattle.std.specs.Prelude.{ℕ, suc, ◌-◌, Bool, true, false, ◌&&◌, ◌||◌, not, nat_eq, nat_lt, List, [], ◌∷◌, ◌++◌, Option, Some, None, if◌then◌else◌, is_none, length, ◌+◌, ◌*◌, slice_get}
-use Rattle.mr_model.specs.Ids.{Attempt, Container, TaskId, task_eq, container_eq, staged}
+use Rattle.mr_model.specs.Ids.{Attempt, ContainerId, TaskId, task_eq, container_eq, staged}
 use Rattle.mr_model.specs.Content.{Op, ListDir, Exist, Read, bar_of, Superseded, NameFault, Barred, Content, Dir, refusal, left, put, entry_at, children, bytes_of, option_kind}
-use Rattle.mr_model.specs.Packets.{Config, Packet, Launch, Kill, Master, Node, Envelope, Store, Names, Append_record, Flush, Read_history, Reply, Fine, Found, Entries, Bytes, Records, Refused, Address, At, Caller, Sealed, Fault}
+use Rattle.mr_model.specs.Packets.{Config, Packet, Launch, Kill, Master, Node, Envelope, Store, Names, Append_record, Flush, Read_history, Reply, Fine, Found, Entries, Bytes, Records, Refused, Address, Container, Caller, Sealed, Fault}
 use Rattle.mr_mapside.specs.Cutting.{cut}
 use Rattle.mr_model.specs.Records.{History, Segment, records_below, fresh, appended, flushed}
 use Rattle.mr_model.specs.Pasts.{Called, Computed, Got, Node_step, Over, Place, Sent, Step, Wish, computed, incarnation_of, is_known, wish, wished_op, wished_packet}
@@ -17,11 +17,11 @@ pub record World : Type 0 where
   pub history : History
   pub bag : List Envelope  -- every packet ever sent, the oldest first
   pub master_past : ℕ → List Master_step
-  pub container_past : Container → List Step
+  pub container_past : ContainerId → List Step
   pub node_past : ℕ → List Node_step
-  pub place : Container → Option Place  -- what a launched container was launched as
+  pub place : ContainerId → Option Place  -- what a launched container was launched as
   pub is_master : ℕ → Bool  -- the masters that are alive
-  pub is_alive : Container → Bool  -- the containers that are alive
+  pub is_alive : ContainerId → Bool  -- the containers that are alive
 
 pub data Weather : Type 0 where
   Calm Unavailable Unanswered : Weather
@@ -32,9 +32,9 @@ pub data Event : Type 0 where
   Duty : (k : ℕ) → (fault : Weather) → Event
   LaunchOn : (k : ℕ) → (t : TaskId) → (n : ℕ) → Event
   Deliver : (i : ℕ) → Event
-  ContainerStep : (c : Container) → (fault : Weather) → Event
-  Compute : (c : Container) → (bytes : List ℕ) → Event
-  Die : (c : Container) → Event
+  ContainerStep : (c : ContainerId) → (fault : Weather) → Event
+  Compute : (c : ContainerId) → (bytes : List ℕ) → Event
+  Die : (c : ContainerId) → Event
   NodeRestart : (n : ℕ) → Event
   Expire : (k n : ℕ) → Event
 
@@ -134,36 +134,36 @@ pub record Made : Type 0 where
 abbrev pub seen_by : Config → World → ℕ → Seen
 seen_by cfg w k = seen cfg k (w.master_past k)
 
-abbrev pub wish_at : Config → Container → Option Place → List Step → Wish
+abbrev pub wish_at : Config → ContainerId → Option Place → List Step → Wish
 wish_at cfg c None h = Over
 wish_at cfg c (Some p) h = wish (length cfg.splits) p.attempt h
 
-abbrev pub wish_of : Config → World → Container → Wish
+abbrev pub wish_of : Config → World → ContainerId → Wish
 wish_of cfg w c = wish_at cfg c (w.place c) (w.container_past c)
 
-abbrev pub op_at : Config → Container → Option Place → List Step → Option Op
+abbrev pub op_at : Config → ContainerId → Option Place → List Step → Option Op
 op_at cfg c None h = None
 op_at cfg c (Some p) h = wished_op c.app p.attempt (computed h) (wish (length cfg.splits) p.attempt h)
 
-abbrev pub op_of : Config → World → Container → Option Op
+abbrev pub op_of : Config → World → ContainerId → Option Op
 op_of cfg w c = op_at cfg c (w.place c) (w.container_past c)
 
-abbrev pub packet_at : Config → Container → Option Place → List Step → Option Envelope
+abbrev pub packet_at : Config → ContainerId → Option Place → List Step → Option Envelope
 packet_at cfg c None h = None
 packet_at cfg c (Some p) h = wished_packet c p.attempt (computed h) (wish (length cfg.splits) p.attempt h)
 
-abbrev pub packet_of : Config → World → Container → Option Envelope
+abbrev pub packet_of : Config → World → ContainerId → Option Envelope
 packet_of cfg w c = packet_at cfg c (w.place c) (w.container_past c)
 
 abbrev pub attempt_of : Option Place → Option Attempt
 attempt_of None = None
 attempt_of (Some p) = Some p.attempt
 
-abbrev pub caller_as : Container → Attempt → Caller
+abbrev pub caller_as : ContainerId → Attempt → Caller
 caller_as c a = record { app = c.app; attempt = Some a }
 
 -- a container calls for its attempt
-abbrev pub caller_of : World → Container → Caller
+abbrev pub caller_of : World → ContainerId → Caller
 caller_of w c = record { app = c.app; attempt = attempt_of (w.place c) }
 
 abbrev pub duty : Config → World → ℕ → Option Store
@@ -201,7 +201,7 @@ pub record Master_act : Type 0 where
   pub step : Master_step
 
 pub record Container_act : Type 0 where
-  pub who : Container
+  pub who : ContainerId
   pub step : Step
 
 abbrev pub duty_act : World → ℕ → Weather → Option Store → Option Master_act
@@ -214,7 +214,7 @@ came_act (Some e) = to e.to e.body
   where
     to : Address → Packet → Option Master_act
     to (Master k) p = Some (record { who = k; step = Came p })
-    to (At c) p = None
+    to (Container c) p = None
     to (Node n) p = None
 
 unfoldable pub master_act : Config → World → Event → Option Master_act
@@ -242,7 +242,7 @@ call_of cfg w (Duty k f) = duty_made k f (duty cfg w k)
 call_of cfg w (ContainerStep c f) = unless_stopped (is_stopped w (caller_of w c)) (op_made c.app f (op_of cfg w c))
 call_of cfg w _ = None
 
-abbrev pub step_act : World → Container → Weather → Option Op → Option Envelope → Option Container_act
+abbrev pub step_act : World → ContainerId → Weather → Option Op → Option Envelope → Option Container_act
 step_act w c f (Some op) p = Some (record { who = c; step = Called op (reply_under f (reply_to w (caller_of w c) (Names op))) })
 step_act w c f None (Some e) = Some (record { who = c; step = Sent e.body })
 step_act w c f None None = None
@@ -253,7 +253,7 @@ got_act (Some e) = to e.to e.body
   where
     to : Address → Packet → Option Container_act
     to (Master k) p = None
-    to (At c) p = Some (record { who = c; step = Got p })
+    to (Container c) p = Some (record { who = c; step = Got p })
     to (Node n) p = None
 
 unfoldable pub container_act : Config → World → Event → Option Container_act
@@ -264,7 +264,7 @@ container_act cfg w _ = None
 
 -- a launch that node n obeys
 pub record Obeyed : Type 0 where
-  pub container : Container
+  pub container : ContainerId
   pub place : Place
 
 abbrev pub obeys : World → ℕ → Packet → Option Obeyed
@@ -279,7 +279,7 @@ obeyed_at w (Some e) = to e.to e.body
   where
     to : Address → Packet → Option Obeyed
     to (Master k) p = None
-    to (At c) p = None
+    to (Container c) p = None
     to (Node n) p = obeys w n p
 
 unfoldable pub obeyed : World → Event → Option Obeyed
@@ -295,11 +295,11 @@ abbrev pub is_over_by : Config → World → Container_act → Bool
 is_over_by cfg w a = is_over (wish_at cfg a.who (w.place a.who) (a.step ∷ w.container_past a.who))
 
 -- the step is the last of its container
-abbrev pub ends_by : Config → World → Option Container_act → Container → Bool
+abbrev pub ends_by : Config → World → Option Container_act → ContainerId → Bool
 ends_by cfg w None c = false
 ends_by cfg w (Some a) c = container_eq c a.who && is_over_by cfg w a
 
-abbrev pub kills : World → Option Envelope → Container → Bool
+abbrev pub kills : World → Option Envelope → ContainerId → Bool
 kills w None c = false
 kills w (Some e) c = to e.to e.body
   where
@@ -311,7 +311,7 @@ abbrev pub is_on : ℕ → Option Place → Bool
 is_on n None = false
 is_on n (Some p) = nat_eq n p.node
 
-unfoldable pub ends : Config → World → Event → Container → Bool
+unfoldable pub ends : Config → World → Event → ContainerId → Bool
 ends cfg w (Die d) c = container_eq c d
 ends cfg w (NodeRestart n) c = is_on n (w.place c)
 ends cfg w (Deliver i) c = kills w (slice_get w.bag i) c || ends_by cfg w (container_act cfg w (Deliver i)) c
