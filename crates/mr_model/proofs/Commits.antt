@@ -1,19 +1,14 @@
 -- An attempt's own calls, and its rename.
 use Rattle.std.proofs.Common.{ℕ, ◌≡◌, refl, sym, ◌∙◌, subst, Bool, true, false, List, [], ◌∷◌, Option, Some, None, is_some, is_none, ◌⊎◌, inl, inr}
 use Rattle.std.proofs.lemmas.Bool.{false≢true}
-use Rattle.mr_names.specs.declared.fault.NameFault as name
 use Rattle.mr_names.specs.declared.op.Op.TheVariants as op
 use Rattle.mr_names.specs.Laws.{MayMkdirs, MayCreate, MayAppend, MayDelete, MayRename, IsOpenFile}
 use Rattle.mr_names.proofs.CallLaws.{answered_only}
 use Rattle.mr_paths.proofs.Apart.{parent_of_child}
 use Rattle.mr_model.specs.Ids.{Path, Attempt, task_attempt, committed, part_name}
-use Rattle.mr_model.specs.Content.{Entry, Dir, File, Content, entry_at, MkDirs, Create, Append, Close, Delete, Rename, ListDir, Read, is_file, left, refusal, told}
+use Rattle.mr_model.specs.Content.{Entry, Dir, File, Content, entry_at, MkDirs, Create, Append, Close, Delete, Rename, ListDir, Read, is_file, left, refusal}
 use Rattle.mr_model.specs.Pasts.{To_mkdirs, To_create, To_write, To_close, To_rename, part_at}
 use Rattle.mr_model.proofs.Files.{Absent, Holds, OwnDir, Holds-moved, create-own, write-own, mkdirs-own}
-
-pub told-none : (o : Option name.NameFault) → told o ≡ None → o ≡ None
-told-none None e = refl
-told-none (Some f) e = cc
 
 pub some-there : (o : Option Entry) → is_some o ≡ true → is_none o ≡ false
 some-there (Some x) e = refl
@@ -26,35 +21,35 @@ there o x e = rw e refl
 
 pub may-mkdirs : (c : Content) (p : Path) → refusal c (MkDirs p) ≡ None → MayMkdirs c p
 unfolding refusal
-may-mkdirs c p e = answered_only c (op.Mkdirs p) (told-none _ e)
+may-mkdirs c p e = answered_only c (op.Mkdirs p) e
 
 pub may-create : (c : Content) (p : Path) (closed : Bool) → refusal c (Create p closed) ≡ None → MayCreate c p
 unfolding refusal
-may-create c p closed e = answered_only c (op.Create p closed) (told-none _ e)
+may-create c p closed e = answered_only c (op.Create p closed) e
 
 pub may-append : (c : Content) (p : Path) (bytes : List ℕ) → refusal c (Append p bytes) ≡ None → MayAppend c p bytes
 unfolding refusal
-may-append c p bytes e = answered_only c (op.Append p bytes) (told-none _ e)
+may-append c p bytes e = answered_only c (op.Append p bytes) e
 
 pub may-close : (c : Content) (p : Path) → refusal c (Close p) ≡ None → IsOpenFile c p
 unfolding refusal
-may-close c p e = answered_only c (op.Close p) (told-none _ e)
+may-close c p e = answered_only c (op.Close p) e
 
 pub may-delete : (c : Content) (p : Path) → refusal c (Delete p) ≡ None → MayDelete c p
 unfolding refusal
-may-delete c p e = answered_only c (op.Delete p) (told-none _ e)
+may-delete c p e = answered_only c (op.Delete p) e
 
 pub may-rename : (c : Content) (p q : Path) → refusal c (Rename p q) ≡ None → MayRename c p q
 unfolding refusal
-may-rename c p q e = answered_only c (op.Rename p q) (told-none _ e)
+may-rename c p q e = answered_only c (op.Rename p q) e
 
 pub may-list : (c : Content) (p : Path) → refusal c (ListDir p) ≡ None → entry_at c p ≡ Some Dir
 unfolding refusal
-may-list c p e = answered_only c (op.List p) (told-none _ e)
+may-list c p e = answered_only c (op.List p) e
 
 pub may-read : (c : Content) (p : Path) → refusal c (Read p) ≡ None → is_file (entry_at c p) ≡ true
 unfolding refusal
-may-read c p e = answered_only c (op.Read p) (told-none _ e)
+may-read c p e = answered_only c (op.Read p) e
 
 -- a rename that is not refused finds its source there and its goal free
 pub rename-parts : (c : Content) (p q : Path) → refusal c (Rename p q) ≡ None → (is_none (entry_at c p) ≡ false) × (entry_at c q ≡ None)

@@ -9,7 +9,7 @@ use Rattle.mr_history.specs.Recorded.{tail_width}
 use Rattle.mr_history.specs.Calls as history
 use Rattle.mr_history.specs.Line as lines
 use Rattle.mr_model.specs.Ids.{Attempt, TaskId, dest, temporary, job_attempt, task_attempt, committed, marker, part}
-use Rattle.mr_model.specs.Content.{Op, real}
+use Rattle.mr_model.specs.Content.{Op}
 use Rattle.mr_model.specs.Records.{Record, winner_in, length_in, with_segment, with_version, sealed_below, sealed}
 use Rattle.mr_model.specs.Packets.{Caller, Config, Store, Names, Append_record}
 use Rattle.mr_model.specs.World.{World, opening_world, Event, seen_by, duty, reply_of, segment_left, reply_to}
@@ -31,9 +31,9 @@ pub record PathsAreTheLayouts : Type 0 where
 -- A call of a store is answered as the model's master or container hears it, and leaves what the model has after it. That a call is `Full` is no answer
 -- of the model.
 pub record StoresAreTheModels : Type 0 where
-  pub names_reply : (s : names.State) (w : World) → NamesStand s w → (c : Caller) (o : Op) → names.passes_limit s.barred (real o) ≡ false → reply_to w c (Names o) ≡ reply_of_names (names.call_of s c (real o)).0
-  pub names_left : (s : names.State) (w : World) → NamesStand s w → (c : Caller) (o : Op) → names.passes_limit s.barred (real o) ≡ false →
-      NamesStand (names.call_of s c (real o)).1 (record w { content = content_after w (made_by w c o); barred = barred_after w (made_by w c o) })
+  pub names_reply : (s : names.State) (w : World) → NamesStand s w → (c : Caller) (o : Op) → names.passes_limit s.barred o ≡ false → reply_to w c (Names o) ≡ reply_of_names (names.call_of s c o).0
+  pub names_left : (s : names.State) (w : World) → NamesStand s w → (c : Caller) (o : Op) → names.passes_limit s.barred o ≡ false →
+      NamesStand (names.call_of s c o).1 (record w { content = content_after w (made_by w c o); barred = barred_after w (made_by w c o) })
   -- the fence is raised, and at first nothing is barred
   pub names_raised : (s : names.State) (w : World) (k : ℕ) → NamesStand s w → w.fence ≤ k → NamesStand (names.raised s k) (record w { fence = k })
   pub history_reply : (h : State) (w : World) (k : ℕ) → Stands h w k → (call : Store) (q : history.Call) → call_of_history call ≡ Some q → HasRoom h k call → reply_of w k call ≡ reply_of_history (history.call_of h k q).0
