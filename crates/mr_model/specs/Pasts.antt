@@ -1,6 +1,7 @@
 -- The pasts of containers and nodes, and what is read off them. A past is a list, the newest first. The order of a reduce's calls is that of
 -- Hadoop's OutputCommitter: setupTask (no call), needsTaskCommit, canCommit, commitTask, abortTask; pieces, nodes' memory and shelves are our own profile.
 use Rattle.std.specs.Prelude.{ℕ, suc, Bool, true, false, ◌&&◌, ◌||◌, nat_eq, nat_lt, nat_le, List, [], ◌∷◌, ◌++◌, Option, Some, None, if◌then◌else◌, length}
+pub use Rattle.mr_node.specs.Past.{Step as Node_step, Hears as Node_got, Shelves as Shelved, Ends as Gone, Restarts as Restarted}
 use Rattle.mr_model.specs.Ids.{Attempt, ContainerId, Path, is_reduce, attempt_eq, container_eq, task_attempt, committed, part_name}
 use Rattle.mr_model.specs.Content.{Op, MkDirs, Create, Append, Close, Delete, Rename, Exist, Missing}
 use Rattle.mr_model.specs.Packets.{Packet, Launch, Kill, Fetch, Pending, Poll, Done, Failed, Where, FetchLost, Answer, DoneAck, MapReady, Piece, Master, Node, Envelope, Reply, Fine, Found, Refused}
@@ -149,12 +150,6 @@ wished_packet c a bytes To_fail = to_master c.app (Failed a)
 wished_packet c a bytes _ = None
 
 -- Nodes
-
-pub data Node_step : Type 0 where
-  Node_got : (p : Packet) → Node_step
-  Shelved : (a : Attempt) → (bytes : List ℕ) → Node_step
-  Gone : (c : ContainerId) → Node_step
-  Restarted : Node_step
 
 unfoldable pub incarnation_of : List Node_step → ℕ
 incarnation_of [] = 1
