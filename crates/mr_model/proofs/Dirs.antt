@@ -6,10 +6,10 @@ use Rattle.mr_model.specs.Ids.{Name, Path, Attempt, ContainerId, task_attempt, c
 use Rattle.mr_model.specs.Content.{File, entry_at, Op, MkDirs, Create, Delete, Rename}
 use Rattle.mr_model.specs.Records.{Record, records_below, winner_in}
 use Rattle.mr_model.specs.Packets.{Config, Answer, Container, Names}
-use Rattle.mr_model.specs.Pasts.{Wish, To_clear, To_rename, wish, computed, Place, Step}
+use Rattle.mr_model.specs.Pasts.{Wish, To_clear, To_rename, wish, computed, Place, Step, Called}
 use Rattle.mr_model.specs.Hearing.{has, Phase, Opening, Setting_up, Recovering, Running, Committing, Failing, Finished, Stopped, Recover_step, Look_below, Measure, Clear_own, Move_from, Todo_winner, Launched, has_winner, is_over, named_in}
 use Rattle.mr_model.specs.Duties.{is_temporary}
-use Rattle.mr_model.specs.World.{World, caller_as, reply_to, Event, reply_under, seen_by}
+use Rattle.mr_model.specs.World.{World, caller_as, reply_to, Event, reply_under, seen_by, as_heard}
 use Rattle.mr_model.specs.Effect.{content_after, effect, not_now}
 use Rattle.mr_model.specs.Claims.{IsWhole}
 use Rattle.mr_model.proofs.Lists.{Each, Each-In}
@@ -275,6 +275,6 @@ module _ (cfg : Config) (w : World) (e : Event) (kn : Known cfg w) (n : not_now 
                 (λ x. ap (λ y. entry_at y (task_attempt c.app p.attempt ++ x)) v)
                 (plain-own w.content (task_attempt c.app p.attempt) p.attempt.task (length cfg.splits) p.attempt (w.container_past c) (wish_as cfg w c p) s k i own))
             past (called op g ev wi u v) = subst Out (sym u)
-                (subst (λ b. OwnDir (effect cfg w e).content (task_attempt c.app p.attempt) p.attempt.task b (wish (length cfg.splits) p.attempt (Step.Called op (reply_under g (reply_to w (caller_as c p.attempt) (Names op))) ∷ w.container_past c))) (sym (computed-same _ (w.container_past c) refl))
-                (subst (λ y. OwnDir y (task_attempt c.app p.attempt) p.attempt.task (computed (w.container_past c)) (wish (length cfg.splits) p.attempt (Step.Called op (reply_under g (reply_to w (caller_as c p.attempt) (Names op))) ∷ w.container_past c))) (sym v)
+                (subst (λ b. OwnDir (effect cfg w e).content (task_attempt c.app p.attempt) p.attempt.task b (wish (length cfg.splits) p.attempt (Called op (as_heard (reply_under g (reply_to w (caller_as c p.attempt) (Names op)))) ∷ w.container_past c))) (sym (computed-same _ (w.container_past c) refl))
+                (subst (λ y. OwnDir y (task_attempt c.app p.attempt) p.attempt.task (computed (w.container_past c)) (wish (length cfg.splits) p.attempt (Called op (as_heard (reply_under g (reply_to w (caller_as c p.attempt) (Names op)))) ∷ w.container_past c))) (sym v)
                 (call-own w.content _ c.app p.attempt (computed (w.container_past c)) (length cfg.splits) (wish_as cfg w c p) op _ wi own (answered-to w (caller_as c p.attempt) op g))))

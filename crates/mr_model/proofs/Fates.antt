@@ -7,11 +7,13 @@ use Rattle.mr_model.specs.Ids.{Path, Attempt, ContainerId, task_attempt, committ
 use Rattle.mr_model.proofs.Names.{task_eq-true, task_eq-false, task_ne, generation-ne, task_name-ne}
 use Rattle.mr_model.specs.Content.{Content, Entry, Dir, File, entry_at, beneath, Op, MkDirs, Create, Delete, Rename, Exist, bar_of, left, refusal}
 use Rattle.mr_model.specs.Records.{Record, ReduceSucceeded, JobUnsuccessful, records_below, winner_in}
-use Rattle.mr_model.specs.Packets.{Config, Done, Store, Reply, Names, Append_record, Flush, Read_history, Fine, Found, Bytes, Records}
-use Rattle.mr_model.specs.Pasts.{Wish, To_clear, To_rename, wished_op, computed, Place, Step}
+use Rattle.mr_model.specs.Packets.{Config, Done, Store, Reply, Names, Append_record, Flush, Read_history, Found, Bytes, Records}
+use Rattle.mr_model.specs.Pasts.{Wish, To_clear, To_rename, wished_op, computed, Place, Step, Got, Sent, Computed, Called}
+use Rattle.mr_container.specs.declared.reply.Reply as heard
+use Rattle.mr_container.specs.Readings as container
 use Rattle.mr_model.specs.Hearing.{Seen, Phase, Opening, Setting_up, Recovering, Running, Committing, Failing, Finished, Stopped, Recover_step, Look_below, Measure, Clear_own, Move_from, Todo_winner, Launched, has_winner, is_over, named_in}
 use Rattle.mr_model.specs.Duties.{right_length, duty_of, Master_step, Came, Launches, Expires, Asks, opening, winners_of, one_winner, next_seen}
-use Rattle.mr_model.specs.World.{World, Event, caller_as, reply_to, Weather, reply_of, reply_under, seen_by, ContainerStep}
+use Rattle.mr_model.specs.World.{World, Event, caller_as, reply_to, Weather, reply_of, reply_under, seen_by, ContainerStep, as_heard}
 use Rattle.mr_model.specs.Sending.{to_app}
 use Rattle.mr_model.specs.Effect.{content_after, effect, not_now}
 use Rattle.mr_model.specs.Claims.{In, IsWhole}
@@ -356,14 +358,14 @@ module _ (cfg : Config) (w : World) (e : Event) (kn : Known cfg w) (n : not_now 
       by false q = q
       by true q = absurd (false≢true (sym o ∙ over-stays cfg w e w.fence a q))
 
-  renames-is : (v : Wish) (s : Step) → renames v s ≡ true → (v ≡ To_rename) × (op : Op) × (s ≡ Step.Called op Fine)
-  renames-is To_rename (Step.Called op Fine) q = (refl, op, refl)
+  renames-is : (v : Wish) (s : Step) → renames v s ≡ true → (v ≡ To_rename) × (op : Op) × (r : heard.Reply) × (s ≡ Called op r) × (container.is_fine r ≡ true)
+  renames-is To_rename (Called op r) q = (refl, op, r, refl, q)
   renames-is v s q = absurd (false≢true q)
 
-  good-rename : (k : ℕ) (a : Attempt) (op : Op) (g : Weather) (c' : Content) → op ≡ Rename (task_attempt k a) (committed k a.task) → (r : Reply) → Answered w.content op c' r → r ≡ Fine → (refusal w.content op ≡ None) × (c' ≡ left w.content op)
+  good-rename : (k : ℕ) (a : Attempt) (op : Op) (g : Weather) (c' : Content) → op ≡ Rename (task_attempt k a) (committed k a.task) → (r : Reply) → Answered w.content op c' r → container.is_fine (as_heard r) ≡ true → (refusal w.content op ≡ None) × (c' ≡ left w.content op)
   good-rename k a op g c' o _ (good ok l) q = (ok, l)
-  good-rename k a op g c' o _ (no f l) q = cc
-  good-rename k a op g c' o _ lost q = cc
+  good-rename k a op g c' o _ (no f l) q = absurd (false≢true q)
+  good-rename k a op g c' o _ lost q = absurd (false≢true q)
 
   rename-op : (k : ℕ) (a : Attempt) (bytes : List ℕ) (v : Wish) (op : Op) → wished_op k a bytes v ≡ Some op → v ≡ To_rename → op ≡ Rename (task_attempt k a) (committed k a.task)
   unfolding wished_op
@@ -386,10 +388,10 @@ module _ (cfg : Config) (w : World) (e : Event) (kn : Known cfg w) (n : not_now 
               subst (λ b. Holds (effect cfg w e).content (committed c.app p.attempt.task) p.attempt.task (File b true)) (sym k.0) (renamed_kept c p app z d t (not-over-before p.attempt o))
 
           plain : (s : Step) → Rattle.mr_model.proofs.Own.IsPlain s → (v : Wish) → renames v s ≡ true → ⊥
-          plain (Step.Called op a) i v t = i
-          plain (Step.Got a) i v t = let u = renames-is v (Step.Got a) t in cc (u.2)
-          plain (Step.Sent a) i v t = let u = renames-is v (Step.Sent a) t in cc (u.2)
-          plain (Step.Computed a) i v t = let u = renames-is v (Step.Computed a) t in cc (u.2)
+          plain (Called op a) i v t = i
+          plain (Got a) i v t = let u = renames-is v (Got a) t in cc (u.3)
+          plain (Sent a) i v t = let u = renames-is v (Sent a) t in cc (u.3)
+          plain (Computed a) i v t = let u = renames-is v (Computed a) t in cc (u.3)
 
           now : (s : Step) → (effect cfg w e).container_past c ≡ s ∷ w.container_past c → (renames (wish_as cfg w c p) s ≡ true → Out ((effect cfg w e).container_past c)) → Out ((effect cfg w e).container_past c)
           now s u f = split (Rattle.mr_model.proofs.Basic.or_parts _ _ (subst (λ h. renamed (length cfg.splits) p.attempt h ≡ true) u r))
@@ -401,12 +403,12 @@ module _ (cfg : Config) (w : World) (e : Event) (kn : Known cfg w) (n : not_now 
           past : PastCase cfg w e c p → Out ((effect cfg w e).container_past c)
           past (stays u v) = before (subst (λ h. renamed (length cfg.splits) p.attempt h ≡ true) u r)
           past (takes s u i k v) = now s u (λ t. absurd (plain s i (wish_as cfg w c p) t))
-          past (called op g ev wi u v) = now (Step.Called op (reply_under g (reply_to w (caller_as c p.attempt) (Names op)))) u (λ t. new (renames-is (wish_as cfg w c p) _ t))
+          past (called op g ev wi u v) = now (Called op (as_heard (reply_under g (reply_to w (caller_as c p.attempt) (Names op))))) u (λ t. new (renames-is (wish_as cfg w c p) _ t))
             where
-              new : (wish_as cfg w c p ≡ To_rename) × (op2 : Op) × (Step.Called op (reply_under g (reply_to w (caller_as c p.attempt) (Names op))) ≡ Step.Called op2 Fine) → Out ((effect cfg w e).container_past c)
+              new : (wish_as cfg w c p ≡ To_rename) × (op2 : Op) × (r2 : heard.Reply) × (Called op (as_heard (reply_under g (reply_to w (caller_as c p.attempt) (Names op)))) ≡ Called op2 r2) × (container.is_fine r2 ≡ true) → Out ((effect cfg w e).container_past c)
               new t =
                   let ro = rename-op c.app p.attempt (computed (w.container_past c)) (wish_as cfg w c p) op wi t.0 in
-                  let fine : reply_under g (reply_to w (caller_as c p.attempt) (Names op)) ≡ Fine = let tt2 = t.2 in cc in
+                  let same : as_heard (reply_under g (reply_to w (caller_as c p.attempt) (Names op))) ≡ t.2 = let tt2 = t.3 in cc in let fine = ap container.is_fine same ∙ t.4 in
                   let gr = good-rename c.app p.attempt op g _ ro _ (answered-to w (caller_as c p.attempt) op g) fine in
                   subst Out (sym u) (subst (λ b. Holds (effect cfg w e).content (committed c.app p.attempt.task) p.attempt.task (File b true)) (sym (computed-same _ (w.container_past c) refl))
                   (subst (λ y. Holds y (committed c.app p.attempt.task) p.attempt.task (File (computed (w.container_past c)) true)) (sym (v ∙ (gr.1 ∙ ap (left w.content) ro)))

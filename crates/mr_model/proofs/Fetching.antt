@@ -151,13 +151,13 @@ PieceEarly job cfg x blocks m a n i got total bytes t u = Early job cfg x.task.n
 
 piece-early : (job : Job) (cfg : Config) (x : Attempt) (blocks : List (List ℕ)) (m : ℕ) (a : Attempt) (n i : ℕ) (got : List ℕ) (b : Attempt) (r o total : ℕ) (bytes : List ℕ) →
     IsPiece job cfg b r o total bytes → r ≡ x.task.number → m < length cfg.splits → AreFirst job cfg x.task.number m blocks → a.task.number ≡ m → ((c : List ℕ) → IsBlock job cfg m x.task.number c → Extends got c) →
-    (t u : Bool) → is_awaited a got b o ≡ t → is_all total (got ++ bytes) ≡ u → PieceEarly job cfg x blocks m a n i got total bytes t u
+    (t u : Bool) → is_awaited x a got b r o ≡ t → is_all total (got ++ bytes) ≡ u → PieceEarly job cfg x blocks m a n i got total bytes t u
 piece-early job cfg x blocks m a n i got b r o total bytes p own-r l f at g false true t u = (l, f, at, g)
 piece-early job cfg x blocks m a n i got b r o total bytes p own-r l f at g false false t u = (l, f, at, g)
 piece-early job cfg x blocks m a n i got b r o total bytes p own-r l f at g true u t v = by u v
   where
     parts : (attempt_eq a b ≡ true) × (nat_eq o (length got) ≡ true)
-    parts = and_parts _ _ t
+    parts = let p = and_parts (attempt_eq a b) (nat_eq r x.task.number && nat_eq o (length got)) t in (p.0, (and_parts (nat_eq r x.task.number) (nat_eq o (length got)) p.1).1)
 
     own : IsBlock job cfg m x.task.number p.block
     own = subst (λ z. IsBlock job cfg m z p.block) own-r
@@ -174,13 +174,13 @@ piece-early job cfg x blocks m a n i got b r o total bytes p own-r l f at g true
     by false v = (l, f, at, λ c y. subst (λ z. Extends (got ++ bytes) z) (one_block job cfg m x.task.number p.block c own y) more)
 
 pub early-next : (job : Job) (cfg : Config) (x : Attempt) (blocks : List (List ℕ)) (v : Wish) (s : Step) → StepOk v s → CameFits job cfg x s → Early job cfg x.task.number blocks v →
-    Early job cfg x.task.number (with_block blocks (completed v s)) (next_wish (length cfg.splits) x v s)
+    Early job cfg x.task.number (with_block blocks (completed x v s)) (next_wish (length cfg.splits) x v s)
 unfolding next_wish
 early-next job cfg x blocks (To_ask_where m) (Got (MapReady m' a n i)) k c o =
     if_cases (Early job cfg x.task.number blocks) (nat_eq m m') _ _ (λ t. (o.0, o.1, c ∙ sym (eqb-true m m' t), λ b y. Extends-more [] b)) (λ t. o)
 early-next job cfg x blocks (To_ask_where m) s k c o = o
 early-next job cfg x blocks (To_fetch m a n i got) (Got (Piece b r off total bytes)) k c o =
-    piece-early job cfg x blocks m a n i got b r off total bytes c.0 c.1 o.0 o.1 o.2 o.3 (is_awaited a got b off) (is_all total (got ++ bytes)) refl refl
+    piece-early job cfg x blocks m a n i got b r off total bytes c.0 c.1 o.0 o.1 o.2 o.3 (is_awaited x a got b r off) (is_all total (got ++ bytes)) refl refl
 early-next job cfg x blocks (To_fetch m a n i got) (Got (FetchLost d b)) k c o = if_cases (Early job cfg x.task.number blocks) (attempt_eq a b) _ _ (λ t. (o.0, o.1)) (λ t. o)
 early-next job cfg x blocks (To_fetch m a n i got) s k c o = o
 early-next job cfg x blocks (To_say_lost m a) (Sent p) k c o = o

@@ -3,11 +3,12 @@ use Rattle.std.proofs.Common.{ℕ, ◌≡◌, refl, sym, ◌∙◌, ap, subst, B
 use Rattle.std.proofs.lemmas.Bool.{false≢true}
 use Rattle.mr_model.specs.Ids.{Path, Attempt, ContainerId, container_eq, attempt_eq, task_attempt, committed, part_name, TaskId, is_reduce}
 use Rattle.mr_model.specs.Content.{Full, NoMemory, Content, Kind, entry_at, Op, MkDirs, Create, Append, Close, Delete, Exist, left, refusal, NameFault, Missing, Superseded, Exists, NotDir, NotFile, NoParent, IntoItself, Barred, option_kind}
-use Rattle.mr_model.specs.Packets.{Config, Packet, Envelope, Address, Master, Container, Node, Answer, MapReady, Piece, FetchLost, DoneAck, Reply, Fine, Found, Refused, Names}
-use Rattle.mr_model.specs.Pasts.{Step, Got, Sent, Computed, Called, Wish, To_ask_where, To_fetch, To_say_lost, To_compute, To_mkdirs, To_create, To_write, To_close, To_need, To_pend, To_poll, To_look, To_clear, To_rename, To_report, To_abort, To_fail, next_wish, if_found, if_cleared, wished_op, wished_packet, computed, part_at, Place}
+use Rattle.mr_model.specs.Packets.{Config, Packet, Envelope, Address, Master, Container, Node, Answer, MapReady, Piece, FetchLost, DoneAck, Reply, Found, Refused, Names}
+use Rattle.mr_model.specs.Pasts.{Step, Got, Sent, Computed, Called, Wish, To_ask_where, To_fetch, To_say_lost, To_compute, To_mkdirs, To_create, To_write, To_close, To_need, To_pend, To_poll, To_look, To_clear, To_rename, To_report, To_abort, To_fail, next_wish, is_awaited, if_found, if_cleared, wished_op, wished_packet, computed, part_at, Place}
 use Rattle.mr_model.specs.Hearing.{has}
-use Rattle.mr_model.specs.World.{World, Event, Start, Crash, Duty, LaunchOn, Deliver, ContainerStep, Compute, Die, NodeRestart, Expire, unless_stopped, is_stopped, caller_of, caller_as, attempt_of, reply_to, Weather, container_act, Container_act, step_act, op_of, packet_of, call_of, reply_under, wish_at}
+use Rattle.mr_model.specs.World.{World, Event, Start, Crash, Duty, LaunchOn, Deliver, ContainerStep, Compute, Die, NodeRestart, Expire, unless_stopped, is_stopped, caller_of, caller_as, attempt_of, reply_to, Weather, container_act, Container_act, step_act, op_of, packet_of, call_of, reply_under, wish_at, as_heard}
 use Rattle.mr_model.specs.Effect.{with_container_step, effect, not_now, content_after, wants_compute}
+use Rattle.mr_container.specs.Readings.{is_fine}
 use Rattle.mr_model.proofs.Pieces.{piece-wish}
 use Rattle.mr_model.proofs.Basic.{if_cases, unless_parts}
 use Rattle.mr_model.proofs.Files.{OwnDir, OwnDir-same, close-own}
@@ -31,7 +32,7 @@ plain-own c d t maps x h v (Called op r) k i o = absurd i
 plain-own c d t maps x h To_compute (Computed b) k i o = if_cases (λ z. OwnDir c d t b z) (is_reduce x) _ _ (λ q. o) (λ q. tt)
 plain-own c d t maps x h v (Computed b) k i o = absurd (false≢true k)
 plain-own c d t maps x h (To_ask_where m) (Got (MapReady m' a n j)) k i o = if_cases (λ z. OwnDir c d t (computed h) z) (nat_eq m m') _ _ (λ q. o) (λ q. o)
-plain-own c d t maps x h (To_fetch m a n j got) (Got (Piece a' r off total bytes)) k i o = piece-wish (λ z. OwnDir c d t (computed h) z) maps m a n j got a' off total bytes o o (λ g. o)
+plain-own c d t maps x h (To_fetch m a n j got) (Got (Piece a' r off total bytes)) k i o = piece-wish (λ z. OwnDir c d t (computed h) z) maps m a n j got (is_awaited x a got a' r off) total bytes o o (λ g. o)
 plain-own c d t maps x h (To_fetch m a n j got) (Got (FetchLost e a')) k i o = if_cases (λ z. OwnDir c d t (computed h) z) (attempt_eq a a') _ _ (λ q. o) (λ q. o)
 plain-own c d t maps x h (To_say_lost m a) (Sent p) k i o = o
 plain-own c d t maps x h To_pend (Sent p) k i o = o
@@ -40,7 +41,7 @@ plain-own c d t maps x h To_pend (Got (Answer a true)) k i o = if_cases (λ z. O
 plain-own c d t maps x h To_pend (Got (Answer a false)) k i o = if_cases (λ z. OwnDir c d t (computed h) z) (attempt_eq x a) _ _ (λ q. o) (λ q. o)
 plain-own c d t maps x h To_poll (Got (Answer a true)) k i o = if_cases (λ z. OwnDir c d t (computed h) z) (attempt_eq x a) _ _ (λ q. o) (λ q. o)
 plain-own c d t maps x h To_poll (Got (Answer a false)) k i o = if_cases (λ z. OwnDir c d t (computed h) z) (attempt_eq x a) _ _ (λ q. o) (λ q. o)
-plain-own c d t maps x h To_report (Got (DoneAck a)) k i o = tt
+plain-own c d t maps x h To_report (Got (DoneAck a)) k i o = if_cases (λ z. OwnDir c d t (computed h) z) (attempt_eq x a) _ _ (λ q. tt) (λ q. o)
 plain-own c d t maps x h To_fail (Sent p) k i o = tt
 plain-own c d t maps x h v (Got p) k i o = o
 plain-own c d t maps x h v (Sent p) k i o = o
@@ -54,13 +55,13 @@ close-step c k a bytes (inl gone) ok = absurd (false≢true (sym (close-there c 
 close-step c k a bytes (inr h) ok = inr (close-own c (task_attempt k a) a.task bytes h)
 
 abbrev After : Content → ℕ → Attempt → List ℕ → ℕ → Wish → Op → Reply → Type 0
-After c' k a bytes maps v op r = OwnDir c' (task_attempt k a) a.task bytes (next_wish maps a v (Called op r))
+After c' k a bytes maps v op r = OwnDir c' (task_attempt k a) a.task bytes (next_wish maps a v (Called op (as_heard r)))
 
-found-own : (c : Content) (d : Path) (t : TaskId) (bytes : List ℕ) (o : Option Kind) (v : Wish) → OwnDir c d t bytes v → OwnDir c d t bytes (if_found (Found o) v)
+found-own : (c : Content) (d : Path) (t : TaskId) (bytes : List ℕ) (o : Option Kind) (v : Wish) → OwnDir c d t bytes v → OwnDir c d t bytes (if_found (as_heard (Found o)) v)
 found-own c d t bytes None v i = tt
 found-own c d t bytes (Some k) v i = i
 
-cleared-own : (c : Content) (d : Path) (t : TaskId) (bytes : List ℕ) (f : NameFault) → OwnDir c d t bytes To_rename → OwnDir c d t bytes (if_cleared (Refused f) To_rename)
+cleared-own : (c : Content) (d : Path) (t : TaskId) (bytes : List ℕ) (f : NameFault) → OwnDir c d t bytes To_rename → OwnDir c d t bytes (if_cleared (as_heard (Refused f)) To_rename)
 cleared-own c d t bytes Missing i = i
 cleared-own c d t bytes (Superseded g) i = tt
 cleared-own c d t bytes Exists i = tt
@@ -119,8 +120,7 @@ module _ (c c' : Content) (k : ℕ) (a : Attempt) (bytes : List ℕ) (maps : ℕ
 
   rename-own : (op : Op) (r : Reply) → Answered c op c' r → After c' k a bytes maps To_rename op r
   unfolding next_wish
-  rename-own op Fine x = tt
-  rename-own op _ x = tt
+  rename-own op r x = if_cases (λ z. OwnDir c' (task_attempt k a) a.task bytes z) (is_fine (as_heard r)) _ _ (λ t. tt) (λ t. tt)
 
   abort-own : (op : Op) (r : Reply) → After c' k a bytes maps To_abort op r
   unfolding next_wish
@@ -144,7 +144,7 @@ pub data PastCase (cfg : Config) (w : World) (e : Event) (c : ContainerId) (p : 
   stays : (effect cfg w e).container_past c ≡ w.container_past c → ((k : Calls cfg w e) → k.who ≡ c → ⊥) → PastCase cfg w e c p
   takes : (s : Step) → (effect cfg w e).container_past c ≡ s ∷ w.container_past c → IsPlain s → StepOk (wish_as cfg w c p) s → (effect cfg w e).content ≡ w.content → PastCase cfg w e c p
   called : (op : Op) → (g : Weather) → e ≡ ContainerStep c g → wished_op c.app p.attempt (computed (w.container_past c)) (wish_as cfg w c p) ≡ Some op →
-      (effect cfg w e).container_past c ≡ Called op (reply_under g (reply_to w (caller_as c p.attempt) (Names op))) ∷ w.container_past c →
+      (effect cfg w e).container_past c ≡ Called op (as_heard (reply_under g (reply_to w (caller_as c p.attempt) (Names op)))) ∷ w.container_past c →
       (effect cfg w e).content ≡ content_after w (unless_stopped (is_stopped w (caller_as c p.attempt)) (Some (record { app = c.app; call = Names op; fault = g }))) → PastCase cfg w e c p
 
 no-calls : {cfg : Config} {w : World} {e : Event} → ((c : ContainerId) (g : Weather) → e ≡ ContainerStep c g → ⊥) → (c : ContainerId) → (k : Calls cfg w e) → k.who ≡ c → ⊥
@@ -181,7 +181,7 @@ step-past cfg w d g c p q = by (container_eq c d) refl
         refl-eq = container_eq-refl c
 
         at : (o : Option Op) → wished_op c.app p.attempt (computed (w.container_past c)) (wish_as cfg w c p) ≡ o → (v : Option Envelope) → wished_packet c p.attempt (computed (w.container_past c)) (wish_as cfg w c p) ≡ v → PastCase cfg w (ContainerStep c g) c p
-        at (Some op) r v s = called op g refl r (rw (q, r, refl-eq) (ap (λ z. Called op (reply_under g (reply_to w z (Names op))) ∷ w.container_past c) callers)) (rw (q, r) refl)
+        at (Some op) r v s = called op g refl r (rw (q, r, refl-eq) (ap (λ z. Called op (as_heard (reply_under g (reply_to w z (Names op)))) ∷ w.container_past c) callers)) (rw (q, r) refl)
         at None r (Some v) s = takes (Sent v.body) (rw (q, r, s, refl-eq) refl) tt tt (rw (q, r) (unstopped w (has w.barred p.attempt && not (nat_lt c.app w.fence))))
         at None r None s = stays (rw (q, r, s) refl) (λ k m. none k m)
           where

@@ -1,10 +1,12 @@
 -- What a container's wish says of its past: it computed, and its rename was answered.
-use Rattle.std.proofs.Common.{ℕ, ◌≡◌, refl, sym, ◌∙◌, subst, Bool, true, false, ◌||◌, List, [], ◌∷◌, Some, None, if◌then◌else◌, nat_eq, ◌⊎◌, inl, inr}
+use Rattle.std.proofs.Common.{ℕ, ◌≡◌, refl, sym, ◌∙◌, subst, Bool, true, false, ◌||◌, List, [], ◌∷◌, None, if◌then◌else◌, nat_eq, ◌⊎◌, inl, inr}
 use Rattle.std.proofs.lemmas.Bool.{false≢true, true≢false}
 use Rattle.mr_model.specs.Ids.{Attempt, attempt_eq, is_reduce}
-use Rattle.mr_model.specs.Packets.{Answer, MapReady, Piece, FetchLost, DoneAck, Reply, Fine, Found, Refused}
-use Rattle.mr_model.specs.Content.{Op, Missing}
-use Rattle.mr_model.specs.Pasts.{Step, Got, Sent, Computed, Called, Wish, To_ask_where, To_fetch, To_say_lost, To_compute, To_mkdirs, To_create, To_write, To_close, To_need, To_pend, To_poll, To_look, To_clear, To_rename, To_report, To_abort, To_fail, Over, next_wish, wish, if_fine, if_found, if_cleared, wished_op, was_computed, computed}
+use Rattle.mr_model.specs.Packets.{Answer, MapReady, Piece, FetchLost, DoneAck}
+use Rattle.mr_model.specs.Content.{Op}
+use Rattle.mr_container.specs.declared.reply.Reply.{Reply}
+use Rattle.mr_container.specs.Readings.{is_fine, is_found, is_cleared}
+use Rattle.mr_model.specs.Pasts.{Step, Got, Sent, Computed, Called, Wish, To_ask_where, To_fetch, To_say_lost, To_compute, To_mkdirs, To_create, To_write, To_close, To_need, To_pend, To_poll, To_look, To_clear, To_rename, To_report, To_abort, To_fail, Over, next_wish, is_awaited, wish, if_fine, if_found, if_cleared, wished_op, was_computed, computed}
 use Rattle.mr_model.specs.Effect.{wants_compute}
 use Rattle.mr_model.proofs.Pieces.{piece-wish}
 use Rattle.mr_model.proofs.Basic.{if_cases, or_parts}
@@ -31,24 +33,19 @@ is_result (Sent p) = false
 is_result (Called op r) = false
 
 fine-late : (r : Reply) (w : Wish) → is_late w ≡ true → is_late (if_fine r w) ≡ true
-fine-late Fine w e = e
-fine-late _ w e = refl
+fine-late r w e = if_cases (λ v. is_late v ≡ true) (is_fine r) _ _ (λ t. e) (λ t. refl)
 
 found-late : (r : Reply) (w : Wish) → is_late w ≡ true → is_late (if_found r w) ≡ true
-found-late (Found (Some k)) w e = e
-found-late (Found None) w e = refl
-found-late _ w e = refl
+found-late r w e = if_cases (λ v. is_late v ≡ true) (is_found r) _ _ (λ t. e) (λ t. refl)
 
 cleared-late : (r : Reply) (w : Wish) → is_late w ≡ true → is_late (if_cleared r w) ≡ true
-cleared-late Fine w e = e
-cleared-late (Refused Missing) w e = e
-cleared-late _ w e = refl
+cleared-late r w e = if_cases (λ v. is_late v ≡ true) (is_cleared r) _ _ (λ t. e) (λ t. refl)
 
 pub late-next : (maps : ℕ) (x : Attempt) (w : Wish) (s : Step) → StepOk w s → (is_result s || is_late w) ≡ is_late (next_wish maps x w s)
 unfolding next_wish
 late-next maps x To_compute (Computed bytes) o = if_cases (λ v. true ≡ is_late v) (is_reduce x) _ _ (λ t. refl) (λ t. refl)
 late-next maps x (To_ask_where m) (Got (MapReady m' a n i)) o = if_cases (λ v. false ≡ is_late v) (nat_eq m m') _ _ (λ t. refl) (λ t. refl)
-late-next maps x (To_fetch m a n i got) (Got (Piece a' q off total bytes)) o = piece-wish (λ v. false ≡ is_late v) maps m a n i got a' off total bytes refl refl (λ g. refl)
+late-next maps x (To_fetch m a n i got) (Got (Piece a' q off total bytes)) o = piece-wish (λ v. false ≡ is_late v) maps m a n i got (is_awaited x a got a' q off) total bytes refl refl (λ g. refl)
 late-next maps x (To_fetch m a n i got) (Got (FetchLost c a')) o = if_cases (λ v. false ≡ is_late v) (attempt_eq a a') _ _ (λ t. refl) (λ t. refl)
 late-next maps x (To_say_lost m a) (Sent p) o = refl
 late-next maps x To_mkdirs (Called op r) o = sym (fine-late r To_create refl)
@@ -65,7 +62,7 @@ late-next maps x To_poll (Got (Answer a false)) o = if_cases (λ v. true ≡ is_
 late-next maps x To_look (Called op r) o = sym (found-late r To_clear refl)
 late-next maps x To_clear (Called op r) o = sym (cleared-late r To_rename refl)
 late-next maps x To_rename (Called op r) o = sym (fine-late r To_report refl)
-late-next maps x To_report (Got (DoneAck a)) o = refl
+late-next maps x To_report (Got (DoneAck a)) o = if_cases (λ v. true ≡ is_late v) (attempt_eq x a) _ _ (λ t. refl) (λ t. refl)
 late-next maps x To_abort (Called op r) o = refl
 late-next maps x To_fail (Sent p) o = refl
 late-next maps x w (Computed bytes) o = absurd (false≢true o)
@@ -92,7 +89,7 @@ wants-early w e = absurd (false≢true e)
 -- The rename was answered
 
 abbrev pub renames : Wish → Step → Bool
-renames To_rename (Called op Fine) = true
+renames To_rename (Called op r) = is_fine r
 renames w s = false
 
 unfoldable pub renamed : ℕ → Attempt → List Step → Bool
@@ -112,22 +109,20 @@ none-report : {P : Type 0} (b : Bool) → b ≡ false → b ≡ true → P
 none-report b e f = absurd (false≢true (sym e ∙ f))
 
 fine-report : (r : Reply) (w : Wish) → is_report w ≡ false → is_report (if_fine r w) ≡ false
-fine-report Fine w e = e
-fine-report _ w e = refl
+fine-report r w e = if_cases (λ v. is_report v ≡ false) (is_fine r) _ _ (λ t. e) (λ t. refl)
 
 found-report : (r : Reply) (w : Wish) → is_report w ≡ false → is_report (if_found r w) ≡ false
-found-report (Found (Some k)) w e = e
-found-report (Found None) w e = refl
-found-report _ w e = refl
+found-report r w e = if_cases (λ v. is_report v ≡ false) (is_found r) _ _ (λ t. e) (λ t. refl)
 
 cleared-report : (r : Reply) (w : Wish) → is_report w ≡ false → is_report (if_cleared r w) ≡ false
-cleared-report Fine w e = e
-cleared-report (Refused Missing) w e = e
-cleared-report _ w e = refl
+cleared-report r w e = if_cases (λ v. is_report v ≡ false) (is_cleared r) _ _ (λ t. e) (λ t. refl)
 
 rename-report : (op : Op) (r : Reply) → is_report (if_fine r To_report) ≡ true → renames To_rename (Called op r) ≡ true
-rename-report op Fine e = refl
-rename-report op _ e = absurd (false≢true e)
+rename-report op r e = by (is_fine r) e
+  where
+    by : (t : Bool) → is_report (if t then To_report else To_abort) ≡ true → t ≡ true
+    by true e = refl
+    by false e = absurd (false≢true e)
 
 pub report-next : (maps : ℕ) (x : Attempt) (w : Wish) (s : Step) → is_reduce x ≡ true → is_report (next_wish maps x w s) ≡ true → (is_report w ≡ true) ⊎ (renames w s ≡ true)
 unfolding next_wish
@@ -136,7 +131,7 @@ report-next maps x To_rename (Called op q) r e = inr (rename-report op q e)
 report-next maps x To_look (Called op q) r e = none-report _ (found-report q To_clear refl) e
 report-next maps x To_clear (Called op q) r e = none-report _ (cleared-report q To_rename refl) e
 report-next maps x (To_ask_where m) (Got (MapReady m' a n i)) r e = none-report _ (if_cases (λ w. is_report w ≡ false) (nat_eq m m') _ _ (λ t. refl) (λ t. refl)) e
-report-next maps x (To_fetch m a n i got) (Got (Piece a' q off total bytes)) r e = none-report _ (piece-wish (λ w. is_report w ≡ false) maps m a n i got a' off total bytes refl refl (λ g. refl)) e
+report-next maps x (To_fetch m a n i got) (Got (Piece a' q off total bytes)) r e = none-report _ (piece-wish (λ w. is_report w ≡ false) maps m a n i got (is_awaited x a got a' q off) total bytes refl refl (λ g. refl)) e
 report-next maps x (To_fetch m a n i got) (Got (FetchLost c a')) r e = none-report _ (if_cases (λ w. is_report w ≡ false) (attempt_eq a a') _ _ (λ t. refl) (λ t. refl)) e
 report-next maps x To_compute (Computed bytes) r e = none-report _ (subst (λ b. is_report (if b then To_mkdirs else To_report) ≡ false) (sym r) refl) e
 report-next maps x To_mkdirs (Called op q) r e = none-report _ (fine-report q To_create refl) e
@@ -157,13 +152,12 @@ report-next maps x w s r e = absurd (false≢true e)
 
 renames-done : (maps : ℕ) (x : Attempt) (w : Wish) (s : Step) → renames w s ≡ true → is_done (next_wish maps x w s) ≡ true
 unfolding next_wish
-renames-done maps x To_rename (Called op Fine) e = refl
-renames-done maps x To_rename (Called op r) e = absurd (false≢true e)
+renames-done maps x To_rename (Called op r) e = rw e refl
 renames-done maps x w s e = absurd (false≢true e)
 
 done-next : (maps : ℕ) (x : Attempt) (w : Wish) (s : Step) → is_done w ≡ true → is_done (next_wish maps x w s) ≡ true
 unfolding next_wish
-done-next maps x To_report (Got (DoneAck a)) e = refl
+done-next maps x To_report (Got (DoneAck a)) e = if_cases (λ v. is_done v ≡ true) (attempt_eq x a) _ _ (λ t. refl) (λ t. refl)
 done-next maps x To_report s e = refl
 done-next maps x Over s e = refl
 done-next maps x w s e = absurd (false≢true e)
@@ -201,7 +195,7 @@ maps-next : (maps : ℕ) (x : Attempt) (w : Wish) (s : Step) → is_reduce x ≡
 unfolding next_wish
 maps-next maps x To_compute (Computed bytes) r e = rw r refl
 maps-next maps x To_compute s r e = refl
-maps-next maps x To_report (Got (DoneAck a)) r e = refl
+maps-next maps x To_report (Got (DoneAck a)) r e = if_cases (λ v. is_maps v ≡ true) (attempt_eq x a) _ _ (λ t. refl) (λ t. refl)
 maps-next maps x To_report s r e = refl
 maps-next maps x Over s r e = refl
 maps-next maps x w s r e = absurd (false≢true e)

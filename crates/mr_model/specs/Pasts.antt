@@ -1,24 +1,16 @@
 -- The pasts of containers and nodes, and what is read off them. A past is a list, the newest first. The order of a reduce's calls is that of
 -- Hadoop's OutputCommitter: setupTask (no call), needsTaskCommit, canCommit, commitTask, abortTask; pieces, nodes' memory and shelves are our own profile.
 use Rattle.std.specs.Prelude.{ℕ, suc, Bool, true, false, ◌&&◌, ◌||◌, nat_eq, nat_lt, nat_le, List, [], ◌∷◌, ◌++◌, Option, Some, None, if◌then◌else◌, length}
+use Rattle.mr_container.specs.declared.reply.Reply as reply
+use Rattle.mr_container.specs.Readings.{is_fine, is_found, is_cleared}
+pub use Rattle.mr_container.specs.declared.place.Place.{Place}
+pub use Rattle.mr_container.specs.Past.{Step, Hears as Got, Sends as Sent, Computes as Computed, Calls as Called}
 pub use Rattle.mr_node.specs.Past.{Step as Node_step, Hears as Node_got, Shelves as Shelved, Ends as Gone, Restarts as Restarted}
 use Rattle.mr_model.specs.Ids.{Attempt, ContainerId, Path, is_reduce, attempt_eq, container_eq, task_attempt, committed, part_name}
-use Rattle.mr_model.specs.Content.{Op, MkDirs, Create, Append, Close, Delete, Rename, Exist, Missing}
-use Rattle.mr_model.specs.Packets.{Packet, Launch, Kill, Fetch, Pending, Poll, Done, Failed, Where, FetchLost, Answer, DoneAck, MapReady, Piece, Master, Node, Envelope, Reply, Fine, Found, Refused}
+use Rattle.mr_model.specs.Content.{Op, MkDirs, Create, Append, Close, Delete, Rename, Exist}
+use Rattle.mr_model.specs.Packets.{Packet, Launch, Kill, Fetch, Pending, Poll, Done, Failed, Where, FetchLost, Answer, DoneAck, MapReady, Piece, Master, Node, Envelope}
 
 -- Containers
-
--- what a container was launched as
-pub record Place : Type 0 where
-  pub attempt : Attempt
-  pub node : ℕ
-  pub incarnation : ℕ
-
-pub data Step : Type 0 where
-  Got : (p : Packet) → Step
-  Sent : (p : Packet) → Step
-  Computed : (bytes : List ℕ) → Step
-  Called : (op : Op) → (r : Reply) → Step
 
 pub data Wish : Type 0 where
   To_ask_where : (map : ℕ) → Wish
@@ -33,27 +25,23 @@ ask_from maps m = if nat_lt m maps then To_ask_where m else To_compute
 abbrev pub first_wish : ℕ → Attempt → Wish
 first_wish maps a = if is_reduce a then ask_from maps 0 else To_compute
 
-abbrev pub if_fine : Reply → Wish → Wish
-if_fine Fine w = w
-if_fine _ w = To_abort
+abbrev pub if_fine : reply.Reply → Wish → Wish
+if_fine r w = if is_fine r then w else To_abort
 
-abbrev pub if_found : Reply → Wish → Wish
-if_found (Found (Some kind)) w = w
-if_found _ w = To_abort
+abbrev pub if_found : reply.Reply → Wish → Wish
+if_found r w = if is_found r then w else To_abort
 
-abbrev pub if_cleared : Reply → Wish → Wish
-if_cleared Fine w = w
-if_cleared (Refused Missing) w = w
-if_cleared _ w = To_abort
+abbrev pub if_cleared : reply.Reply → Wish → Wish
+if_cleared r w = if is_cleared r then w else To_abort
 
 -- the answer to its own attempt: a yes goes on, a no leads to the other
 abbrev pub answered : Bool → Wish → Wish
 answered true w = To_look
 answered false w = w
 
--- a piece that is waited for: of the attempt, from where the bytes that were got end
-abbrev pub is_awaited : Attempt → List ℕ → Attempt → (offset : ℕ) → Bool
-is_awaited a got b o = attempt_eq a b && nat_eq o (length got)
+-- a piece that is waited for: of the attempt, for its own reduce, from where the bytes that were got end
+abbrev pub is_awaited : Attempt → Attempt → List ℕ → Attempt → (reduce offset : ℕ) → Bool
+is_awaited x a got b r o = attempt_eq a b && (nat_eq r x.task.number && nat_eq o (length got))
 
 -- the block is there in full
 abbrev pub is_all : (total : ℕ) → List ℕ → Bool
@@ -63,7 +51,7 @@ is_all total got = nat_le total (length got)
 unfoldable pub next_wish : ℕ → Attempt → Wish → Step → Wish
 next_wish maps x (To_ask_where m) (Got (MapReady m' a n i)) = if nat_eq m m' then To_fetch m a n i [] else To_ask_where m
 next_wish maps x (To_fetch m a n i got) (Got (Piece a' r o total bytes)) =
-    if is_awaited a got a' o then (if is_all total (got ++ bytes) then ask_from maps (suc m) else To_fetch m a n i (got ++ bytes)) else To_fetch m a n i got
+    if is_awaited x a got a' r o then (if is_all total (got ++ bytes) then ask_from maps (suc m) else To_fetch m a n i (got ++ bytes)) else To_fetch m a n i got
 next_wish maps x (To_fetch m a n i got) (Got (FetchLost c a')) = if attempt_eq a a' then To_say_lost m a else To_fetch m a n i got
 next_wish maps x (To_say_lost m a) (Sent p) = To_ask_where m
 next_wish maps x To_compute (Computed bytes) = if is_reduce x then To_mkdirs else To_report
@@ -77,7 +65,7 @@ next_wish maps x To_poll (Got (Answer a is_yes)) = if attempt_eq x a then answer
 next_wish maps x To_look (Called op r) = if_found r To_clear
 next_wish maps x To_clear (Called op r) = if_cleared r To_rename
 next_wish maps x To_rename (Called op r) = if_fine r To_report
-next_wish maps x To_report (Got (DoneAck a)) = Over
+next_wish maps x To_report (Got (DoneAck a)) = if attempt_eq x a then Over else To_report
 next_wish maps x To_abort (Called op r) = To_fail
 next_wish maps x To_fail (Sent p) = Over
 next_wish maps x w s = w
@@ -87,9 +75,9 @@ wish maps x [] = first_wish maps x
 wish maps x (s ∷ h) = next_wish maps x (wish maps x h) s
 
 -- the block that a step completes
-abbrev pub completed : Wish → Step → Option (List ℕ)
-completed (To_fetch m a n i got) (Got (Piece a' r o total bytes)) = if is_awaited a got a' o && is_all total (got ++ bytes) then Some (got ++ bytes) else None
-completed w s = None
+abbrev pub completed : Attempt → Wish → Step → Option (List ℕ)
+completed x (To_fetch m a n i got) (Got (Piece a' r o total bytes)) = if is_awaited x a got a' r o && is_all total (got ++ bytes) then Some (got ++ bytes) else None
+completed x w s = None
 
 abbrev pub with_block : List (List ℕ) → Option (List ℕ) → List (List ℕ)
 with_block blocks None = blocks
@@ -98,7 +86,7 @@ with_block blocks (Some block) = blocks ++ block ∷ []
 -- the fetched pieces: of each map all that was got of it, joined, in the order of the maps
 unfoldable pub fetched : ℕ → Attempt → List Step → List (List ℕ)
 fetched maps x [] = []
-fetched maps x (s ∷ h) = with_block (fetched maps x h) (completed (wish maps x h) s)
+fetched maps x (s ∷ h) = with_block (fetched maps x h) (completed x (wish maps x h) s)
 
 -- the bytes that were handed in
 unfoldable pub computed : List Step → List ℕ

@@ -1,9 +1,12 @@
 -- The world, its events, the store calls that an event makes, and the step that it adds to a past (our own profile).
-use Rattle.std.specs.Prelude.{ℕ, suc, ◌-◌, Bool, true, false, ◌&&◌, ◌||◌, not, nat_eq, nat_lt, List, [], ◌∷◌, ◌++◌, Option, Some, None, if◌then◌else◌, is_none, length, ◌+◌, ◌*◌, slice_get}
+use Rattle.std.specs.Prelude.{ℕ, suc, ◌-◌, Bool, true, false, ◌&&◌, ◌||◌, not, nat_eq, nat_lt, List, [], ◌∷◌, ◌++◌, Option, Some, None, if◌then◌else◌, is_none, length, ◌+◌, ◌*◌, slice_get, Ok, Err}
 use Rattle.mr_model.specs.Ids.{Attempt, ContainerId, TaskId, task_eq, container_eq, staged}
 use Rattle.mr_model.specs.Content.{Op, ListDir, Exist, Read, bar_of, Superseded, NameFault, Barred, Content, Dir, refusal, left, put, entry_at, children, bytes_of, option_kind}
 use Rattle.mr_model.specs.Packets.{Config, Packet, Launch, Kill, Master, Node, Envelope, Store, Names, Append_record, Flush, Read_history, Reply, Fine, Found, Entries, Bytes, Records, Refused, Address, Container, Caller, Sealed, Fault}
 use Rattle.mr_mapside.specs.Cutting.{cut}
+use Rattle.mr_names.specs.declared.op.Answer.TheVariants as answers
+use Rattle.mr_container.specs.declared.reply.Reply as heard
+use Rattle.mr_container.specs.declared.reply.Reply.TheVariants as hears
 use Rattle.mr_model.specs.Records.{History, Segment, records_below, fresh, appended, flushed}
 use Rattle.mr_model.specs.Pasts.{Called, Computed, Got, Node_step, Over, Place, Sent, Step, Wish, computed, incarnation_of, is_known, wish, wished_op, wished_packet}
 use Rattle.mr_model.specs.Hearing.{Launched, Seen, has}
@@ -242,8 +245,17 @@ call_of cfg w (Duty k f) = duty_made k f (duty cfg w k)
 call_of cfg w (ContainerStep c f) = unless_stopped (is_stopped w (caller_of w c)) (op_made c.app f (op_of cfg w c))
 call_of cfg w _ = None
 
+-- what a container hears of an answer of the namespace
+abbrev pub as_heard : Reply → heard.Reply
+as_heard Fine = hears.Answered (Ok answers.Done)
+as_heard (Found kind) = hears.Answered (Ok (answers.Found kind))
+as_heard (Entries names) = hears.Answered (Ok (answers.Listed names))
+as_heard (Bytes bytes) = hears.Answered (Ok (answers.Contents bytes))
+as_heard (Refused why) = hears.Answered (Err why)
+as_heard _ = hears.Fault
+
 abbrev pub step_act : World → ContainerId → Weather → Option Op → Option Envelope → Option Container_act
-step_act w c f (Some op) p = Some (record { who = c; step = Called op (reply_under f (reply_to w (caller_of w c) (Names op))) })
+step_act w c f (Some op) p = Some (record { who = c; step = Called op (as_heard (reply_under f (reply_to w (caller_of w c) (Names op)))) })
 step_act w c f None (Some e) = Some (record { who = c; step = Sent e.body })
 step_act w c f None None = None
 
