@@ -10,6 +10,7 @@ pub mod Sorted
 pub mod Apart
 pub mod Commits
 pub mod Closed
+pub mod Containers
 pub mod Follows
 pub mod Late
 pub mod Pieces

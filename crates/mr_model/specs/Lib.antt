@@ -14,3 +14,4 @@ pub mod Sequential
 pub mod Stores
 pub mod Laws
 pub mod Calls
+pub mod Containers

@@ -1,0 +1,8 @@
+//! What ties the readings of containers and nodes to their machines' crates: these functions do nothing.
+ghost use Rattle.mr_model.specs.Containers.{ContainersAgree};
+
+/// What is read off a container's past is what mr_container reads of it: its wish, the blocks that it fetched, what it computed, its call and
+/// who makes it, its packet, and whether it is over.
+pub fn containers_agree()
+    ensures { ContainersAgree }
+{}
