@@ -11,6 +11,7 @@ pub mod Apart
 pub mod Commits
 pub mod Closed
 pub mod Containers
+pub mod Nodes
 pub mod Follows
 pub mod Late
 pub mod Pieces

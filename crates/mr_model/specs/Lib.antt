@@ -15,3 +15,4 @@ pub mod Stores
 pub mod Laws
 pub mod Calls
 pub mod Containers
+pub mod Nodes

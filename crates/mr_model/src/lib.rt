@@ -42,7 +42,7 @@ ghost use Rattle.mr_model.specs.Packets.{Config};
 ghost use Rattle.mr_model.specs.Calls.{CallsAgree, MapCallsAgree};
 ghost use Rattle.mr_model.specs.Sequential.{Job, JobLaws, BoundsOutputs, WholeIsSequential, MarkedFilesAreSequential};
 
-pub use actors::containers_agree;
+pub use actors::{containers_agree, nodes_agree};
 
 // The headline
 
