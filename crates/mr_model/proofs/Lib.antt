@@ -12,6 +12,7 @@ pub mod Commits
 pub mod Closed
 pub mod Containers
 pub mod Nodes
+pub mod Acts
 pub mod Follows
 pub mod Late
 pub mod Pieces

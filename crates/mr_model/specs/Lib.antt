@@ -16,3 +16,5 @@ pub mod Laws
 pub mod Calls
 pub mod Containers
 pub mod Nodes
+pub mod Actors
+pub mod Acts

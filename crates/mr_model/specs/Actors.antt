@@ -1,0 +1,91 @@
+-- What the machines of a running cluster's containers and nodes stand for, and what each event changes of it: for whoever runs them.
+use Rattle.std.specs.Prelude.{◌≡◌, ◌<◌, ◌^◌, ℕ, Bool, true, false, ◌&&◌, not, List, [], ◌∷◌, Option, Some, None, length, slice_get}
+use Rattle.mr_packet.specs.Sends as sends
+use Rattle.mr_container.specs.declared.wish.Wish as container_wish
+use Rattle.mr_container.specs.declared.wish.Wish.TheVariants as wished
+use Rattle.mr_container.specs.Past as container_past
+use Rattle.mr_container.specs.State as container
+use Rattle.mr_container.specs.Wished as called
+use Rattle.mr_node.specs.declared.reaction.Reaction.{Reaction}
+use Rattle.mr_node.specs.declared.reaction.Reaction.TheVariants.{Starts}
+use Rattle.mr_node.specs.Readings as readings
+use Rattle.mr_node.specs.State as node
+use Rattle.mr_model.specs.Ids.{Attempt, ContainerId, container_eq, dest, is_reduce}
+use Rattle.mr_model.specs.Content.{Op}
+use Rattle.mr_model.specs.Packets.{Config, Packet, Kill, NodeUp, Envelope, Master, Container, Node, Names}
+use Rattle.mr_model.specs.Pasts.{Step, Got, Sent, Computed, Called, Node_got, Shelved, Restarted, Place}
+use Rattle.mr_model.specs.World.{World, Weather, Event, Start, Crash, Duty, LaunchOn, Deliver, ContainerStep, Compute, Die, NodeRestart, Expire, Obeyed, obeyed, wish_of, op_of, packet_of, caller_of, reply_to, reply_under, as_heard, is_on}
+use Rattle.mr_model.specs.Sending.{sent, to_masters}
+use Rattle.mr_model.specs.Effect.{effect, not_now}
+use Rattle.mr_model.specs.Claims.{Limits, world_of}
+use Rattle.mr_model.specs.Containers.{wish_of_seen}
+use Rattle.mr_model.specs.Nodes.{added}
+
+-- the machine m of container c stands for its past in the world
+pub record ContainerIn (cfg : Config) (w : World) (c : ContainerId) (m : container.Container) : Type 0 where
+  pub launched : Place
+  pub place : w.place c ≡ Some launched
+  pub stands : container.StandsFor m c (length cfg.splits) (record { launched = launched; steps = w.container_past c })
+
+-- the machine m of node n stands for its past in the world
+abbrev pub NodeIn : Config → World → ℕ → node.Node → Type 0
+NodeIn cfg w n m = node.StandsFor m n cfg.reduces (w.node_past n)
+
+-- What a machine says is what the cluster's definitions say of its container: its wish, its call and who makes it, its packet
+pub record ContainerSays (cfg : Config) (w : World) (c : ContainerId) (m : container.Container) : Type 0 where
+  pub wish : wish_of cfg w c ≡ wish_of_seen m.seen
+  pub call : op_of cfg w c ≡ called.wished_op dest m.id.app m.place.attempt m.seen.result m.seen.wish
+  pub caller : (op : Op) → op_of cfg w c ≡ Some op → caller_of w c ≡ called.caller_of m.id m.place.attempt
+  pub packet : packet_of cfg w c ≡ called.wished_packet m.id m.place.attempt m.seen m.seen.wish
+
+-- the limits take no bytes of which a packet could not tell the length
+abbrev pub BoundsBytes : Limits → Type 0
+BoundsBytes within = (w : World) (c : ContainerId) (bytes : List ℕ) → within w (Compute c bytes) ≡ true → length bytes < 2 ^ 32
+
+abbrev pub ContainersSay : Type 0
+ContainersSay = (cfg : Config) (within : Limits) → BoundsBytes within → (es : List Event) (c : ContainerId) (m : container.Container) →
+    ContainerIn cfg (world_of cfg within es) c m → ContainerSays cfg (world_of cfg within es) c m
+
+-- a container that lives was launched, and one that a delivery starts was not: it has done nothing
+pub record BeginsOnce : Type 0 where
+  pub placed : (cfg : Config) (within : Limits) (es : List Event) (c : ContainerId) → (world_of cfg within es).is_alive c ≡ true → (p : Place) × ((world_of cfg within es).place c ≡ Some p)
+  pub unborn : (cfg : Config) (within : Limits) (es : List Event) (e : Event) (o : Obeyed) → not_now cfg (world_of cfg within es) e ≡ None → obeyed (world_of cfg within es) e ≡ Some o →
+      ((world_of cfg within es).place o.container ≡ None) × ((world_of cfg within es).container_past o.container ≡ []) × ((world_of cfg within es).is_alive o.container ≡ false)
+
+-- Each kind of event
+
+-- all machines of containers stand, and all containers live, as before
+pub record SameContainers (cfg : Config) (w u : World) : Type 0 where
+  pub machines : (c : ContainerId) (m : container.Container) → ContainerIn cfg w c m → ContainerIn cfg u c m
+  pub living : (c : ContainerId) → u.is_alive c ≡ w.is_alive c
+
+-- all machines of nodes stand as before
+abbrev pub SameNodes : Config → World → World → Type 0
+SameNodes cfg w u = (n : ℕ) (m : node.Node) → NodeIn cfg w n m → NodeIn cfg u n m
+
+abbrev pub is_finished : container_wish.Wish → Bool
+is_finished wished.Over = true
+is_finished _ = false
+
+-- the machine of container c went on to m, all others stand as before; the container lives on unless it is over
+pub record ContainerMoved (cfg : Config) (w u : World) (c : ContainerId) (m : container.Container) : Type 0 where
+  pub now : ContainerIn cfg u c m
+  pub others : (d : ContainerId) (o : container.Container) → container_eq d c ≡ false → ContainerIn cfg w d o → ContainerIn cfg u d o
+  pub living : (d : ContainerId) → u.is_alive d ≡ (w.is_alive d && not (container_eq d c && is_finished m.seen.wish))
+
+-- the machine of node n went on to m, all others stand as before
+pub record NodeMoved (cfg : Config) (w u : World) (n : ℕ) (m : node.Node) : Type 0 where
+  pub now : NodeIn cfg u n m
+  pub others : (k : ℕ) (o : node.Node) → (k ≡ n → ⊥) → NodeIn cfg w k o → NodeIn cfg u k o
+
+abbrev pub is_of_masters : Event → Bool
+is_of_masters (Start k kept) = true
+is_of_masters (Crash k kept) = true
+is_of_masters (Duty k f) = true
+is_of_masters (LaunchOn k t n) = true
+is_of_masters (Expire k n) = true
+is_of_masters _ = false
+
+-- the envelope of a delivery
+abbrev pub Carries : World → ℕ → Envelope → Type 0
+Carries w i e = slice_get w.bag i ≡ Some e
