@@ -1,11 +1,11 @@
 -- What each kind of event changes of the machines of containers and nodes.
-use Rattle.std.proofs.Common.{ℕ, suc, ◌≡◌, refl, sym, ◌∙◌, ap, subst, Bool, true, false, ◌&&◌, ◌||◌, not, List, [], ◌∷◌, ◌++◌, Option, Some, None, if◌then◌else◌, nat_eq, length, slice_get, append-nil}
-use Rattle.std.proofs.lemmas.Bool.{false≢true, true≢false, eqb-true, eq-eqb, ne_eqb}
-use Rattle.std.proofs.Math.Numerals.{add-one}
+use Rattle.std.proofs.Common.{ℕ, suc, ◌≡◌, refl, sym, ◌∙◌, ap, subst, Bool, true, false, ◌&&◌, ◌||◌, not, List, [], ◌∷◌, Option, Some, None, if◌then◌else◌, nat_eq, length, append-nil}
+use Rattle.std.proofs.lemmas.Bool.{false≢true, eq-eqb, ne_eqb}
 use Rattle.mr_container.specs.declared.wish.Wish as container_wish
 use Rattle.mr_container.specs.declared.wish.Wish.TheVariants as wished
 use Rattle.mr_container.specs.Readings as container_readings
 use Rattle.mr_container.specs.State as container
+use Rattle.mr_container.specs.Past as container_past
 use Rattle.mr_container.specs.Wished as called
 use Rattle.mr_node.specs.Readings as readings
 use Rattle.mr_node.specs.State as node
@@ -18,14 +18,16 @@ use Rattle.mr_model.specs.Content.{Op}
 use Rattle.mr_model.specs.Ids.{Attempt, ContainerId, container_eq, is_reduce}
 use Rattle.mr_model.specs.Packets.{Config, Packet, Kill, NodeUp, Envelope, Master, Container, Node, Names}
 use Rattle.mr_model.specs.Pasts.{Step, Got, Sent, Computed, Called, Node_step, Node_got, Shelved, Restarted, Wish, To_mkdirs, To_create, To_write, To_close, To_need, To_look, To_clear, To_rename, To_abort, wish, next_wish, wished_op, computed, incarnation_of, Place}
-use Rattle.mr_model.specs.World.{World, Weather, Event, Start, Crash, Duty, LaunchOn, Deliver, ContainerStep, Compute, Die, NodeRestart, Expire, Container_act, container_act, master_act, obeyed, ends, ends_by, is_over, is_over_by, wish_at, op_at, op_of, packet_of, caller_of, reply_to, reply_under, as_heard}
-use Rattle.mr_model.specs.Sending.{sent, said_ended, own_end}
-use Rattle.mr_model.specs.Effect.{effect, with_container_step, with_place, node_past_after}
+use Rattle.mr_model.specs.World.{World, Weather, Event, Start, Crash, Duty, LaunchOn, Deliver, ContainerStep, Compute, Die, NodeRestart, Expire, container_act, master_act, kills, obeyed, ends, is_over, is_over_by, wish_at, op_at, op_of, packet_of, caller_of, reply_to, reply_under, as_heard}
+use Rattle.mr_model.specs.Sending.{sent, said_ended, node_replies, to_masters}
+use Rattle.mr_model.specs.Effect.{effect, with_place, node_past_after, is_obeyed}
 use Rattle.mr_model.specs.Containers.{as_wish, wish_of_seen}
-use Rattle.mr_model.specs.Actors.{ContainerIn, NodeIn, SameContainers, SameNodes, ContainerMoved, NodeMoved, Carries, is_of_masters, is_finished}
-use Rattle.mr_model.specs.Acts.{MastersAct, ContainersAct, Shelves, MapsAct, Went}
+use Rattle.mr_model.specs.Actors.{ContainerIn, NodeIn, SameContainers, SameNodes, ContainerMoved, Carries, is_of_masters, is_finished}
+use Rattle.mr_model.specs.Acts.{MastersAct, ContainersAct, Shelves, MapsAct, Went, Dies, Restarts, begins, is_killed, NodeHeard, NodesAct}
+use Rattle.mr_model.specs.Nodes.{added, started}
+use Rattle.mr_model.proofs.Nodes.{incarnation-agrees, replies-agree, starts-agree}
 use Rattle.mr_model.proofs.Basic.{if_cases}
-use Rattle.mr_model.proofs.Closed.{container_eq-true, container_eq-refl}
+use Rattle.mr_model.proofs.Closed.{container_eq-refl}
 use Rattle.mr_model.proofs.Containers.{wish-agrees, ends-agree}
 
 -- a machine stands on, where its past and its place are as they were
@@ -249,7 +251,7 @@ module _ (cfg : Config) (w : World) (c : ContainerId) (bytes : List ℕ) (m new 
   unfolding container_readings.seen container_readings.next_seen step-now moves-in
   bytes-on =
       let now : new.seen ≡ container_readings.after_bytes i.launched.attempt (container_readings.seen (length cfg.splits) i.launched.attempt (w.container_past c)) bytes =
-          (by c (length cfg.splits) (record { launched = i.launched; steps = w.container_past c }) i.stands).seen in
+      (by c (length cfg.splits) (record { launched = i.launched; steps = w.container_past c }) i.stands).seen in
       let from : new.seen ≡ container_readings.after_bytes i.launched.attempt m.seen bytes = now ∙ ap (λ s. container_readings.after_bytes i.launched.attempt s bytes) (sym i.stands.seen) in
       ap (λ (s : container_readings.Seen). is_finished s.wish) from ∙ rw wishes (at i.launched.attempt.task.kind)
     where
@@ -312,3 +314,125 @@ containers_act = record {
 
 pub maps_act : MapsAct
 maps_act cfg w c bytes m new n on r wishes i by j go = shelves cfg w c bytes m new wishes i by n on r j go
+
+-- Nodes
+
+and-true : (b : Bool) → (b && true) ≡ b
+and-true true = refl
+and-true false = refl
+
+-- what a packet kills
+kills-is : (w : World) (n : ℕ) (p : Packet) (d : ContainerId) → kills w (Some (record { to = Node n; body = p })) d ≡ is_killed p d
+kills-is w n (Kill c) d = refl
+kills-is w n p d = refl
+
+-- what a reaction starts
+begins-is : (n i : ℕ) (r : Reaction) (d : ContainerId) → is_obeyed (started n i r) d ≡ begins r d
+begins-is n i Nothing d = refl
+begins-is n i (Starts c a) d = refl
+begins-is n i (Adds e) d = refl
+
+started-else : (n i : ℕ) (r : Reaction) (d : ContainerId) (f : ContainerId → Option Place) → begins r d ≡ false → with_place f (started n i r) d ≡ f d
+started-else n i Nothing d f e = refl
+started-else n i (Starts c a) d f e = rw e refl
+started-else n i (Adds v) d f e = refl
+
+module _ (cfg : Config) (w : World) (i n : ℕ) (p : Packet) (m new : node.Node) (q : Carries w i (record { to = Node n; body = p })) (j : NodeIn cfg w n m) (by : node.Stands m (Node_got p) new) where
+  abbrev React : Reaction
+  React = readings.reaction m.number m.seen p
+
+  -- its own reading, by its past
+  reaction-is : readings.reaction n (readings.seen cfg.reduces (w.node_past n)) p ≡ React
+  reaction-is = (λ i. readings.reaction (sym j.number i) (sym j.seen i) p)
+
+  node-obeyed : obeyed w (Deliver i) ≡ started n m.seen.incarnation React
+  unfolding obeyed
+  node-obeyed = rw q (starts-agree cfg w n p ∙ (λ i. started n ((incarnation-agrees cfg.reduces (w.node_past n) ∙ ap (λ (s : readings.Seen). s.incarnation) (sym j.seen)) i) (reaction-is i)))
+
+  node-act : container_act cfg w (Deliver i) ≡ None
+  unfolding container_act
+  node-act = rw q refl
+
+  node-ends : (d : ContainerId) → ends cfg w (Deliver i) d ≡ is_killed p d
+  unfolding ends
+  node-ends d = rw (q, node-act) (or-none (kills w (Some (record { to = Node n; body = p })) d) ∙ kills-is w n p d)
+    where
+      or-none : (b : Bool) → (b || false) ≡ b
+      or-none true = refl
+      or-none false = refl
+
+  node-here : node_past_after w (Deliver i) n ≡ Node_got p ∷ w.node_past n
+  unfolding node_past_after
+  node-here = rw (q, eq-eqb n n refl) refl
+
+  node-there : (k : ℕ) → nat_eq k n ≡ false → node_past_after w (Deliver i) k ≡ w.node_past k
+  unfolding node_past_after
+  node-there k ne = rw (q, ne) refl
+
+  node-sends : sent cfg w (Deliver i) ≡ added React
+  unfolding sent master_act
+  node-sends = rw (q, node-act) (append-nil (node_replies cfg w n p) ∙ (replies-agree cfg w n p ∙ ap added reaction-is))
+
+  node-started : (c : ContainerId) (a : Attempt) (k : container.Container) → React ≡ Starts c a → w.container_past c ≡ [] →
+      container.StandsFor k c (length cfg.splits) (container_past.launched_as (record { attempt = a; node = n; incarnation = m.seen.incarnation })) → ContainerIn cfg (effect cfg w (Deliver i)) c k
+  node-started c a k r none st = record {
+    launched = record { attempt = a; node = n; incarnation = m.seen.incarnation };
+    place = rw (node-obeyed, r, container_eq-refl c) refl;
+    stands = subst (λ h. container.StandsFor k c (length cfg.splits) (record { launched = record { attempt = a; node = n; incarnation = m.seen.incarnation }; steps = h })) (sym past) st;
+  }
+    where
+      past : (effect cfg w (Deliver i)).container_past c ≡ []
+      past = rw node-act none
+
+  node-heard : NodeHeard cfg w (effect cfg w (Deliver i)) n p m new (sent cfg w (Deliver i))
+  node-heard = record {
+    node = record {
+      now = node-moves cfg w (effect cfg w (Deliver i)) (Node_got p) node-here by j;
+      others = λ k o ne l. node-stays cfg w (effect cfg w (Deliver i)) (node-there k (ne_eqb k n ne)) l;
+    };
+    sends = node-sends;
+    started = node-started;
+    others = λ d o e l. stays-in (effect cfg w (Deliver i)) (rw node-obeyed (started-else n m.seen.incarnation React d w.place e)) (rw node-act refl) l;
+    living = λ d. rw (node-obeyed, node-ends d) (ap (λ b. (b || w.is_alive d) && not (is_killed p d)) (begins-is n m.seen.incarnation React d));
+  }
+
+-- a restart
+module _ (cfg : Config) (w : World) (n : ℕ) (m new : node.Node) (j : NodeIn cfg w n m) (by : node.Stands m Restarted new) where
+  restart-here : node_past_after w (NodeRestart n) n ≡ Restarted ∷ w.node_past n
+  unfolding node_past_after
+  restart-here = rw (eq-eqb n n refl) refl
+
+  restart-there : (k : ℕ) → nat_eq k n ≡ false → node_past_after w (NodeRestart n) k ≡ w.node_past k
+  unfolding node_past_after
+  restart-there k ne = rw ne refl
+
+  restart-now : NodeIn cfg (effect cfg w (NodeRestart n)) n new
+  restart-now = node-moves cfg w (effect cfg w (NodeRestart n)) Restarted restart-here by j
+
+  restart-incarnation : suc (incarnation_of (w.node_past n)) ≡ new.seen.incarnation
+  unfolding incarnation_of
+  restart-incarnation = incarnation-agrees cfg.reduces (Restarted ∷ w.node_past n) ∙ ap (λ (s : readings.Seen). s.incarnation) (sym (by n cfg.reduces (w.node_past n) j).seen)
+
+  restarts : Restarts cfg w (effect cfg w (NodeRestart n)) n new (sent cfg w (NodeRestart n))
+  unfolding container_act obeyed ends sent
+  restarts = record {
+    machines = λ c o l. stays-in (effect cfg w (NodeRestart n)) refl refl l;
+    living = λ c. refl;
+    node = record {
+      now = restart-now;
+      others = λ k o ne l. node-stays cfg w (effect cfg w (NodeRestart n)) (restart-there k (ne_eqb k n ne)) l;
+    };
+    sends = ap (λ i. to_masters w.is_master w.fence (NodeUp n i)) restart-incarnation;
+  }
+
+dies : (cfg : Config) (w : World) (c : ContainerId) → Dies cfg w (effect cfg w (Die c)) c (sent cfg w (Die c))
+unfolding container_act obeyed ends sent node_past_after
+dies cfg w c = record {
+  machines = λ d m l. stays-in (effect cfg w (Die c)) refl refl l;
+  living = λ d. refl;
+  nodes = same-nodes cfg w (Die c) (λ n. refl);
+  sends = refl;
+}
+
+pub nodes_act : NodesAct
+nodes_act = record { hears = node-heard; restarts = restarts; dies = dies }

@@ -13,6 +13,7 @@ pub mod Closed
 pub mod Containers
 pub mod Nodes
 pub mod Acts
+pub mod Runs
 pub mod Follows
 pub mod Late
 pub mod Pieces

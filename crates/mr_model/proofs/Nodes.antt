@@ -192,7 +192,7 @@ module _ (cfg : Config) (w : World) (n : ℕ) where
       by true v = rw (same ∙ v) (piece-is c a r o _ ∙ ap (λ b. node.piece_or_lost c a r o b ∷ []) (shelves-agree cfg.reduces Past a r))
       by false v = rw (same ∙ v) refl
 
-  replies-agree : (p : Packet) → node_replies cfg w n p ≡ added (node.reaction n Read p)
+  pub replies-agree : (p : Packet) → node_replies cfg w n p ≡ added (node.reaction n Read p)
   unfolding node.reaction
   replies-agree (Launch c a i) = launch-replies c a i
   replies-agree (Kill c) = refl
@@ -211,7 +211,7 @@ module _ (cfg : Config) (w : World) (n : ℕ) where
       by false e true v = rw (e, same ∙ v) (ap (λ j. Some (record { container = c; place = record { attempt = a; node = n; incarnation = j } })) (eqb-true i (incarnation_of Past) v))
       by false e false v = rw (e, same ∙ v) refl
 
-  starts-agree : (p : Packet) → obeys w n p ≡ started n (incarnation_of Past) (node.reaction n Read p)
+  pub starts-agree : (p : Packet) → obeys w n p ≡ started n (incarnation_of Past) (node.reaction n Read p)
   unfolding node.reaction
   starts-agree (Launch c a i) = launch-starts c a i
   starts-agree p = refl

@@ -1,25 +1,22 @@
 -- What the machines of a running cluster's containers and nodes stand for, and what each event changes of it: for whoever runs them.
-use Rattle.std.specs.Prelude.{◌≡◌, ◌<◌, ◌^◌, ℕ, Bool, true, false, ◌&&◌, not, List, [], ◌∷◌, Option, Some, None, length, slice_get}
-use Rattle.mr_packet.specs.Sends as sends
+use Rattle.std.specs.Prelude.{◌≡◌, ◌<◌, ◌^◌, ℕ, Bool, true, false, ◌&&◌, not, List, [], Some, None, length, slice_get, Result}
+use Rattle.mr_names.specs.declared.fault.NameFault as faults
+use Rattle.mr_names.specs.declared.op.Answer as answers
+use Rattle.mr_container.specs.declared.reply.Reply.TheVariants as replies
 use Rattle.mr_container.specs.declared.wish.Wish as container_wish
 use Rattle.mr_container.specs.declared.wish.Wish.TheVariants as wished
-use Rattle.mr_container.specs.Past as container_past
 use Rattle.mr_container.specs.State as container
 use Rattle.mr_container.specs.Wished as called
-use Rattle.mr_node.specs.declared.reaction.Reaction.{Reaction}
-use Rattle.mr_node.specs.declared.reaction.Reaction.TheVariants.{Starts}
-use Rattle.mr_node.specs.Readings as readings
 use Rattle.mr_node.specs.State as node
-use Rattle.mr_model.specs.Ids.{Attempt, ContainerId, container_eq, dest, is_reduce}
+use Rattle.mr_model.specs.Ids.{ContainerId, container_eq, dest}
 use Rattle.mr_model.specs.Content.{Op}
-use Rattle.mr_model.specs.Packets.{Config, Packet, Kill, NodeUp, Envelope, Master, Container, Node, Names}
-use Rattle.mr_model.specs.Pasts.{Step, Got, Sent, Computed, Called, Node_got, Shelved, Restarted, Place}
-use Rattle.mr_model.specs.World.{World, Weather, Event, Start, Crash, Duty, LaunchOn, Deliver, ContainerStep, Compute, Die, NodeRestart, Expire, Obeyed, obeyed, wish_of, op_of, packet_of, caller_of, reply_to, reply_under, as_heard, is_on}
-use Rattle.mr_model.specs.Sending.{sent, to_masters}
-use Rattle.mr_model.specs.Effect.{effect, not_now}
+use Rattle.mr_model.specs.Packets.{Config, Envelope, Reply}
+use Rattle.mr_model.specs.Pasts.{Place, incarnation_of}
+use Rattle.mr_model.specs.World.{World, Calm, Unavailable, Unanswered, Event, Start, Crash, Duty, LaunchOn, Compute, Expire, Obeyed, obeyed, wish_of, op_of, packet_of, caller_of, reply_under, as_heard}
+use Rattle.mr_model.specs.Effect.{not_now}
 use Rattle.mr_model.specs.Claims.{Limits, world_of}
-use Rattle.mr_model.specs.Containers.{wish_of_seen}
-use Rattle.mr_model.specs.Nodes.{added}
+use Rattle.mr_model.specs.Containers.{wish_of_seen, AllWished}
+use Rattle.mr_model.specs.Stores.{reply_of_names}
 
 -- the machine m of container c stands for its past in the world
 pub record ContainerIn (cfg : Config) (w : World) (c : ContainerId) (m : container.Container) : Type 0 where
@@ -46,11 +43,22 @@ abbrev pub ContainersSay : Type 0
 ContainersSay = (cfg : Config) (within : Limits) → BoundsBytes within → (es : List Event) (c : ContainerId) (m : container.Container) →
     ContainerIn cfg (world_of cfg within es) c m → ContainerSays cfg (world_of cfg within es) c m
 
--- a container that lives was launched, and one that a delivery starts was not: it has done nothing
+-- a container that lives was launched, in its node's present incarnation, and one that a delivery starts was not: it has done nothing
 pub record BeginsOnce : Type 0 where
-  pub placed : (cfg : Config) (within : Limits) (es : List Event) (c : ContainerId) → (world_of cfg within es).is_alive c ≡ true → (p : Place) × ((world_of cfg within es).place c ≡ Some p)
+  pub placed : (cfg : Config) (within : Limits) (es : List Event) (c : ContainerId) → (world_of cfg within es).is_alive c ≡ true →
+      (p : Place) × ((world_of cfg within es).place c ≡ Some p) × (p.incarnation ≡ incarnation_of ((world_of cfg within es).node_past p.node))
   pub unborn : (cfg : Config) (within : Limits) (es : List Event) (e : Event) (o : Obeyed) → not_now cfg (world_of cfg within es) e ≡ None → obeyed (world_of cfg within es) e ≡ Some o →
       ((world_of cfg within es).place o.container ≡ None) × ((world_of cfg within es).container_past o.container ≡ []) × ((world_of cfg within es).is_alive o.container ≡ false)
+
+-- in every run bytes were handed in only where they were wished
+abbrev pub PastsAreWished : Type 0
+PastsAreWished = (cfg : Config) (within : Limits) (es : List Event) (c : ContainerId) (p : Place) → (world_of cfg within es).place c ≡ Some p → AllWished (length cfg.splits) p.attempt ((world_of cfg within es).container_past c)
+
+-- what a container hears of a call is what the namespace answered, or that nobody can tell
+pub record AnswersAreHeard : Type 0 where
+  pub answered : (r : Result answers.Answer faults.NameFault) → as_heard (reply_under Calm (reply_of_names r)) ≡ replies.Answered r
+  pub unavailable : (r : Reply) → as_heard (reply_under Unavailable r) ≡ replies.Fault
+  pub unanswered : (r : Reply) → as_heard (reply_under Unanswered r) ≡ replies.Fault
 
 -- Each kind of event
 

@@ -1,5 +1,5 @@
 -- What each kind of event changes of the machines of containers and nodes, and the packets that it adds to the bag.
-use Rattle.std.specs.Prelude.{◌≡◌, ℕ, Bool, true, false, ◌&&◌, ◌||◌, not, List, [], ◌∷◌, Option, Some, None, length}
+use Rattle.std.specs.Prelude.{◌≡◌, ℕ, Bool, true, false, ◌&&◌, ◌||◌, not, List, [], ◌∷◌, Some, None, length}
 use Rattle.mr_packet.specs.Sends as sends
 use Rattle.mr_container.specs.Past as container_past
 use Rattle.mr_container.specs.Readings as container_readings
@@ -12,7 +12,7 @@ use Rattle.mr_node.specs.State as node
 use Rattle.mr_model.specs.Ids.{Attempt, ContainerId, container_eq, is_reduce}
 use Rattle.mr_model.specs.Content.{Op}
 use Rattle.mr_model.specs.Packets.{Config, Packet, Kill, NodeUp, Envelope, Master, Container, Node, Names}
-use Rattle.mr_model.specs.Pasts.{Step, Got, Sent, Computed, Called, Node_got, Shelved, Restarted}
+use Rattle.mr_model.specs.Pasts.{Got, Sent, Computed, Called, Node_got, Shelved, Restarted}
 use Rattle.mr_model.specs.World.{World, Weather, Event, Deliver, ContainerStep, Compute, Die, NodeRestart, op_of, packet_of, caller_of, reply_to, reply_under, as_heard, is_on}
 use Rattle.mr_model.specs.Sending.{sent, to_masters}
 use Rattle.mr_model.specs.Effect.{effect}

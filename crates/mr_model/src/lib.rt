@@ -42,7 +42,10 @@ ghost use Rattle.mr_model.specs.Packets.{Config};
 ghost use Rattle.mr_model.specs.Calls.{CallsAgree, MapCallsAgree};
 ghost use Rattle.mr_model.specs.Sequential.{Job, JobLaws, BoundsOutputs, WholeIsSequential, MarkedFilesAreSequential};
 
-pub use actors::{containers_agree, nodes_agree};
+pub use actors::{
+    answers_are_heard, begins_once, containers_act, containers_agree, containers_say, maps_act,
+    masters_act, nodes_act, nodes_agree, pasts_are_wished,
+};
 
 // The headline
 
