@@ -17,11 +17,11 @@ use Rattle.mr_container.specs.declared.reply.Reply.{Reply}
 use Rattle.mr_model.specs.Content.{Op}
 use Rattle.mr_model.specs.Ids.{Attempt, ContainerId, container_eq, is_reduce}
 use Rattle.mr_model.specs.Packets.{Config, Packet, Kill, NodeUp, Envelope, Master, Container, Node, Names}
-use Rattle.mr_model.specs.Pasts.{Step, Got, Sent, Computed, Called, Node_step, Node_got, Shelved, Restarted, Wish, To_mkdirs, To_create, To_write, To_close, To_need, To_look, To_clear, To_rename, To_abort, wish, next_wish, wished_op, computed, incarnation_of, Place}
+use Rattle.mr_model.specs.Pasts.{as_wish, wish_of_seen, Step, Got, Sent, Computed, Called, Node_step, Node_got, Shelved, Restarted, Wish, To_mkdirs, To_create, To_write, To_close, To_need, To_look, To_clear, To_rename, To_abort, wish, wished_op, computed, incarnation_of, Place}
+use Rattle.mr_model.proofs.Nexts.{next_wish, wish-step}
 use Rattle.mr_model.specs.World.{World, Weather, Event, Start, Crash, Duty, LaunchOn, Deliver, ContainerStep, Compute, Die, NodeRestart, Expire, container_act, master_act, kills, obeyed, ends, is_over, is_over_by, wish_at, op_at, op_of, packet_of, caller_of, reply_to, reply_under, as_heard}
 use Rattle.mr_model.specs.Sending.{sent, said_ended, node_replies, to_masters}
 use Rattle.mr_model.specs.Effect.{effect, with_place, node_past_after, is_obeyed}
-use Rattle.mr_model.specs.Containers.{as_wish, wish_of_seen}
 use Rattle.mr_model.specs.Actors.{ContainerIn, NodeIn, SameContainers, SameNodes, ContainerMoved, Carries, is_of_masters, is_finished}
 use Rattle.mr_model.specs.Acts.{MastersAct, ContainersAct, Shelves, MapsAct, Went, Dies, Restarts, begins, is_killed, NodeHeard, NodesAct}
 use Rattle.mr_model.specs.Nodes.{added, started}
@@ -212,8 +212,7 @@ module _ (cfg : Config) (w : World) (c : ContainerId) (f : Weather) (op : Op) (m
   call-act = rw q refl
 
   call-on : is_over_by cfg w (record { who = c; step = Call }) ≡ false
-  unfolding wish
-  call-on = ap (λ p. is_over (wish_at cfg c p (Call ∷ w.container_past c))) i.place
+  call-on = ap (λ p. is_over (wish_at cfg c p (Call ∷ w.container_past c))) i.place ∙ ap is_over (wish-step (length cfg.splits) i.launched.attempt (w.container_past c) Call)
       ∙ calls-on (length cfg.splits) c.app i.launched.attempt (computed (w.container_past c)) (wish (length cfg.splits) i.launched.attempt (w.container_past c)) op op _ (ap (λ p. op_at cfg c p (w.container_past c)) (sym i.place) ∙ q)
 
   call-sends : sent cfg w (ContainerStep c f) ≡ []

@@ -7,6 +7,7 @@ use Rattle.mr_model.specs.Content.{File, entry_at, Op, MkDirs, Create, Delete, R
 use Rattle.mr_model.specs.Records.{Record, records_below, winner_in}
 use Rattle.mr_model.specs.Packets.{Config, Answer, Container, Names}
 use Rattle.mr_model.specs.Pasts.{Wish, To_clear, To_rename, wish, computed, Place, Step, Called}
+use Rattle.mr_model.proofs.Nexts.{wish-step}
 use Rattle.mr_model.specs.Hearing.{has, Phase, Opening, Setting_up, Recovering, Running, Committing, Failing, Finished, Stopped, Recover_step, Look_below, Measure, Clear_own, Move_from, Todo_winner, Launched, has_winner, is_over, named_in}
 use Rattle.mr_model.specs.Duties.{is_temporary}
 use Rattle.mr_model.specs.World.{World, caller_as, reply_to, Event, reply_under, seen_by, as_heard}
@@ -246,7 +247,6 @@ module _ (cfg : Config) (w : World) (e : Event) (kn : Known cfg w) (n : not_now 
 
     pub own_after : (c : ContainerId) (p : Place) → c.app ≡ w.fence → (effect cfg w e).place c ≡ Some p → is_reduce p.attempt ≡ true →
         OwnDir (effect cfg w e).content (task_attempt c.app p.attempt) p.attempt.task (computed ((effect cfg w e).container_past c)) (wish_as cfg (effect cfg w e) c p)
-    unfolding wish
     own_after c p app q d = by (place_was cfg w e kn.cluster kn.heard n c p q)
       where
         h' : Cluster cfg (effect cfg w e)
@@ -273,8 +273,10 @@ module _ (cfg : Config) (w : World) (e : Event) (kn : Known cfg w) (n : not_now 
                 (attempt-kept c.app p.attempt app (λ k m. v k (same_attempt cfg w kn.cluster k.who c k.place p k.placed z (k.app ∙ sym app) m))) own)
             past (takes s u i k v) = subst Out (sym u) (OwnDir-same w.content (effect cfg w e).content (task_attempt c.app p.attempt) p.attempt.task (computed (s ∷ w.container_past c)) (wish (length cfg.splits) p.attempt (s ∷ w.container_past c))
                 (λ x. ap (λ y. entry_at y (task_attempt c.app p.attempt ++ x)) v)
-                (plain-own w.content (task_attempt c.app p.attempt) p.attempt.task (length cfg.splits) p.attempt (w.container_past c) (wish_as cfg w c p) s k i own))
+                (subst (OwnDir w.content (task_attempt c.app p.attempt) p.attempt.task (computed (s ∷ w.container_past c))) (sym (wish-step (length cfg.splits) p.attempt (w.container_past c) s))
+                (plain-own w.content (task_attempt c.app p.attempt) p.attempt.task (length cfg.splits) p.attempt (w.container_past c) (wish_as cfg w c p) s k i own)))
             past (called op g ev wi u v) = subst Out (sym u)
                 (subst (λ b. OwnDir (effect cfg w e).content (task_attempt c.app p.attempt) p.attempt.task b (wish (length cfg.splits) p.attempt (Called op (as_heard (reply_under g (reply_to w (caller_as c p.attempt) (Names op)))) ∷ w.container_past c))) (sym (computed-same _ (w.container_past c) refl))
                 (subst (λ y. OwnDir y (task_attempt c.app p.attempt) p.attempt.task (computed (w.container_past c)) (wish (length cfg.splits) p.attempt (Called op (as_heard (reply_under g (reply_to w (caller_as c p.attempt) (Names op)))) ∷ w.container_past c))) (sym v)
-                (call-own w.content _ c.app p.attempt (computed (w.container_past c)) (length cfg.splits) (wish_as cfg w c p) op _ wi own (answered-to w (caller_as c p.attempt) op g))))
+                (subst (OwnDir _ (task_attempt c.app p.attempt) p.attempt.task (computed (w.container_past c))) (sym (wish-step (length cfg.splits) p.attempt (w.container_past c) _))
+                (call-own w.content _ c.app p.attempt (computed (w.container_past c)) (length cfg.splits) (wish_as cfg w c p) op _ wi own (answered-to w (caller_as c p.attempt) op g)))))

@@ -7,6 +7,8 @@ use Rattle.mr_model.specs.Content.{Op}
 use Rattle.mr_model.specs.Records.{Record, ReduceSucceeded, History, records_below}
 use Rattle.mr_model.specs.Packets.{Config, Packet, Envelope, Address, Master, Container, Node}
 use Rattle.mr_model.specs.Pasts.{Place, Step, Got, Sent, Computed, Called, To_ask_where, To_compute, wish, fetched, computed}
+use Rattle.mr_container.specs.Readings as container
+use Rattle.mr_model.proofs.Nexts.{wish-first, wish-step, fetched-step}
 use Rattle.mr_model.specs.World.{World, Event, Deliver, ContainerStep, Compute, Weather, Container_act, container_act, got_act, step_act, op_of, packet_of, opening_world}
 use Rattle.mr_model.specs.Sending.{sent}
 use Rattle.mr_model.specs.Effect.{effect, not_now, happens, run, wants_compute}
@@ -113,18 +115,17 @@ came-fits job cfg w c p (Called op r) q o i = tt
 -- a step more
 gathers-step : (job : Job) (cfg : Config) (x : Attempt) (h : List Step) (s : Step) → JobLaws job cfg → StepOk (wish (length cfg.splits) x h) s → CameFits job cfg x s → ResultFits job (fetched (length cfg.splits) x h) s →
     Gathers job cfg x h → Gathers job cfg x (s ∷ h)
-unfolding wish fetched
 gathers-step job cfg x h s laws k c r g = record {
-  early = early-next job cfg x (fetched (length cfg.splits) x h) (wish (length cfg.splits) x h) s k c g.early;
-  late = late-text job cfg x (fetched (length cfg.splits) x h) h (wish (length cfg.splits) x h) s laws k r g.early g.late;
+  early = rw (fetched-step (length cfg.splits) x h s, wish-step (length cfg.splits) x h s) (early-next job cfg x (fetched (length cfg.splits) x h) (wish (length cfg.splits) x h) s k c g.early);
+  late = λ e. late-text job cfg x (fetched (length cfg.splits) x h) h (wish (length cfg.splits) x h) s laws k r g.early g.late (ap is_late (sym (wish-step (length cfg.splits) x h s)) ∙ e);
 }
 
 -- a container that has done nothing
 gathers-first : (job : Job) (cfg : Config) (x : Attempt) → is_reduce x ≡ true → Gathers job cfg x []
-unfolding wish fetched
+unfolding fetched container.seen
 gathers-first job cfg x r = record {
-  early = rw r (asks-early job cfg x.task.number 0 [] (omega arith) refl);
-  late = rw r (λ e. absurd (false≢true (sym (if_cases (λ v. is_late v ≡ false) (nat_lt 0 (length cfg.splits)) (To_ask_where 0) To_compute (λ t. refl) (λ t. refl)) ∙ e)));
+  early = rw (wish-first (length cfg.splits) x, r) (asks-early job cfg x.task.number 0 [] (omega arith) refl);
+  late = rw (wish-first (length cfg.splits) x, r) (λ e. absurd (false≢true (sym (if_cases (λ v. is_late v ≡ false) (nat_lt 0 (length cfg.splits)) (To_ask_where 0) To_compute (λ t. refl) (λ t. refl)) ∙ e)));
 }
 
 containers_after : (job : Job) (cfg : Config) (w : World) (e : Event) → JobLaws job cfg → Known cfg w → Carried job cfg w → Hands job cfg w e → not_now cfg w e ≡ None → (c : ContainerId) (p : Place) → (effect cfg w e).place c ≡ Some p → is_reduce p.attempt ≡ true →

@@ -4,7 +4,8 @@ use Rattle.std.specs.Option.{option_map}
 use Rattle.std.proofs.lemmas.Bool.{and_parts, false≢true, eqb-true, ltb-true, ltb-false, leb-true}
 use Rattle.mr_model.specs.Ids.{Attempt, attempt_eq, is_reduce}
 use Rattle.mr_model.specs.Packets.{Config, Packet, MapReady, Piece, FetchLost}
-use Rattle.mr_model.specs.Pasts.{Step, Got, Sent, Computed, Called, Wish, To_ask_where, To_fetch, To_say_lost, To_compute, next_wish, ask_from, is_awaited, is_all, completed, with_block, computed}
+use Rattle.mr_model.specs.Pasts.{Step, Got, Sent, Computed, Called, Wish, To_ask_where, To_fetch, To_say_lost, To_compute, computed}
+use Rattle.mr_model.proofs.Nexts.{next_wish, ask_from, is_awaited, is_all, completed, with_block}
 use Rattle.mr_model.specs.World.{piece_limit}
 use Rattle.mr_model.specs.Effect.{wants_compute}
 use Rattle.mr_model.specs.Sequential.{Job, JobLaws, blocks_from, in_front}

@@ -16,6 +16,7 @@ pub mod Acts
 pub mod Runs
 pub mod Follows
 pub mod Late
+pub mod Nexts
 pub mod Pieces
 pub mod Distinct
 pub mod Phases

@@ -4,7 +4,8 @@ use Rattle.std.proofs.lemmas.Bool.{false≢true}
 use Rattle.mr_model.specs.Ids.{Path, Attempt, ContainerId, container_eq, attempt_eq, task_attempt, committed, part_name, TaskId, is_reduce}
 use Rattle.mr_model.specs.Content.{Full, NoMemory, Content, Kind, entry_at, Op, MkDirs, Create, Append, Close, Delete, Exist, left, refusal, NameFault, Missing, Superseded, Exists, NotDir, NotFile, NoParent, IntoItself, Barred, option_kind}
 use Rattle.mr_model.specs.Packets.{Config, Packet, Envelope, Address, Master, Container, Node, Answer, MapReady, Piece, FetchLost, DoneAck, Reply, Found, Refused, Names}
-use Rattle.mr_model.specs.Pasts.{Step, Got, Sent, Computed, Called, Wish, To_ask_where, To_fetch, To_say_lost, To_compute, To_mkdirs, To_create, To_write, To_close, To_need, To_pend, To_poll, To_look, To_clear, To_rename, To_report, To_abort, To_fail, next_wish, is_awaited, if_found, if_cleared, wished_op, wished_packet, computed, part_at, Place}
+use Rattle.mr_model.specs.Pasts.{Step, Got, Sent, Computed, Called, Wish, To_ask_where, To_fetch, To_say_lost, To_compute, To_mkdirs, To_create, To_write, To_close, To_need, To_pend, To_poll, To_look, To_clear, To_rename, To_report, To_abort, To_fail, wished_op, wished_packet, computed, part_at, Place}
+use Rattle.mr_model.proofs.Nexts.{next_wish, is_awaited, if_found, if_cleared}
 use Rattle.mr_model.specs.Hearing.{has}
 use Rattle.mr_model.specs.World.{World, Event, Start, Crash, Duty, LaunchOn, Deliver, ContainerStep, Compute, Die, NodeRestart, Expire, unless_stopped, is_stopped, caller_of, caller_as, attempt_of, reply_to, Weather, container_act, Container_act, step_act, op_of, packet_of, call_of, reply_under, wish_at, as_heard}
 use Rattle.mr_model.specs.Effect.{with_container_step, effect, not_now, content_after, wants_compute}

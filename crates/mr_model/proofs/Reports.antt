@@ -4,7 +4,8 @@ use Rattle.std.proofs.lemmas.Bool.{false≢true, true≢false}
 use Rattle.mr_model.specs.Ids.{Attempt, ContainerId, is_reduce}
 use Rattle.mr_model.specs.Packets.{Config, Packet, Envelope, Address, Master, Container, Node, Done}
 use Rattle.mr_model.specs.Content.{Op}
-use Rattle.mr_model.specs.Pasts.{first_wish, Place, Step, Got, Sent, Computed, Called, Wish, To_rename, wish, was_computed, computed, part_length}
+use Rattle.mr_model.specs.Pasts.{Place, Step, Got, Sent, Computed, Called, Wish, To_rename, wish, was_computed, computed, part_length}
+use Rattle.mr_model.proofs.Nexts.{wish-first, wish-step}
 use Rattle.mr_model.specs.World.{World, Event, Deliver, ContainerStep, Compute, Weather, Container_act, container_act, got_act, step_act, opening_world, op_of, packet_of, wish_at}
 use Rattle.mr_model.specs.Sending.{sent, to_app}
 use Rattle.mr_model.specs.Effect.{effect, not_now, wants_compute}
@@ -100,31 +101,31 @@ pub whole_after : (cfg : Config) (w : World) (e : Event) → Cluster cfg w → R
 whole_after cfg w e h r n a bytes x = let k = computed_kept cfg w e r n x.0 x.1 x.2 x.5 in
     (x.0, x.1, place_kept cfg w e h x.0 x.1 x.2, x.3, k.0 ∙ x.4, k.1)
 
-first-late : (maps : ℕ) (x : Attempt) → is_late (first_wish maps x) ≡ false
-first-late maps x = if_cases (λ w. is_late w ≡ false) (is_reduce x) _ _ (λ t. if_cases (λ w. is_late w ≡ false) (nat_lt 0 maps) _ _ (λ t. refl) (λ t. refl)) (λ t. refl)
+first-late : (maps : ℕ) (x : Attempt) → is_late (wish maps x []) ≡ false
+first-late maps x = ap is_late (wish-first maps x) ∙ if_cases (λ w. is_late w ≡ false) (is_reduce x) _ _ (λ t. if_cases (λ w. is_late w ≡ false) (nat_lt 0 maps) _ _ (λ t. refl) (λ t. refl)) (λ t. refl)
 
-first-report : (maps : ℕ) (x : Attempt) → is_report (first_wish maps x) ≡ false
-first-report maps x = if_cases (λ w. is_report w ≡ false) (is_reduce x) _ _ (λ t. if_cases (λ w. is_report w ≡ false) (nat_lt 0 maps) _ _ (λ t. refl) (λ t. refl)) (λ t. refl)
+first-report : (maps : ℕ) (x : Attempt) → is_report (wish maps x []) ≡ false
+first-report maps x = ap is_report (wish-first maps x) ∙ if_cases (λ w. is_report w ≡ false) (is_reduce x) _ _ (λ t. if_cases (λ w. is_report w ≡ false) (nat_lt 0 maps) _ _ (λ t. refl) (λ t. refl)) (λ t. refl)
 
 late_after : (cfg : Config) (w : World) (e : Event) → Cluster cfg w → Heard_yes cfg w → Reports cfg w → not_now cfg w e ≡ None → (c : ContainerId) (p : Place) → (effect cfg w e).place c ≡ Some p →
     was_computed ((effect cfg w e).container_past c) ≡ is_late (wish_as cfg (effect cfg w e) c p)
-unfolding wish was_computed
+unfolding was_computed
 late_after cfg w e h y r n c p q = by (place_was cfg w e h y n c p q)
   where
     by : (w.place c ≡ Some p) ⊎ ((w.place c ≡ None) × ((effect cfg w e).container_past c ≡ [])) → was_computed ((effect cfg w e).container_past c) ≡ is_late (wish_as cfg (effect cfg w e) c p)
     by (inr z) = subst (λ x. was_computed x ≡ is_late (wish (length cfg.splits) p.attempt x)) (sym z.1) (sym (first-late (length cfg.splits) p.attempt))
     by (inl z) = past_after w (container_act cfg w e) c (λ x. was_computed x ≡ is_late (wish (length cfg.splits) p.attempt x)) (r.late c p z)
-        (λ a v m. computed-step a.step (w.container_past c) ∙ (ap (λ b. is_result a.step || b) (r.late c p z) ∙ late-next (length cfg.splits) p.attempt (wish_as cfg w c p) a.step (steps-ok cfg w e n a v c m p z)))
+        (λ a v m. computed-step a.step (w.container_past c) ∙ (ap (λ b. is_result a.step || b) (r.late c p z) ∙ (late-next (length cfg.splits) p.attempt (wish_as cfg w c p) a.step (steps-ok cfg w e n a v c m p z) ∙ ap is_late (sym (wish-step (length cfg.splits) p.attempt (w.container_past c) a.step)))))
 
 report_after : (cfg : Config) (w : World) (e : Event) → Cluster cfg w → Heard_yes cfg w → Reports cfg w → not_now cfg w e ≡ None → (c : ContainerId) (p : Place) → (effect cfg w e).place c ≡ Some p → is_reduce p.attempt ≡ true →
     is_report (wish_as cfg (effect cfg w e) c p) ≡ true → renamed_as cfg (effect cfg w e) c p ≡ true
-unfolding wish renamed
+unfolding renamed
 report_after cfg w e h y r n c p q d = by (place_was cfg w e h y n c p q)
   where
     by : (w.place c ≡ Some p) ⊎ ((w.place c ≡ None) × ((effect cfg w e).container_past c ≡ [])) → is_report (wish_as cfg (effect cfg w e) c p) ≡ true → renamed_as cfg (effect cfg w e) c p ≡ true
     by (inr z) = λ t. absurd (false≢true (sym (subst (λ x. is_report (wish (length cfg.splits) p.attempt x) ≡ false) (sym z.1) (first-report (length cfg.splits) p.attempt)) ∙ t))
     by (inl z) = past_after w (container_act cfg w e) c (λ x. is_report (wish (length cfg.splits) p.attempt x) ≡ true → renamed (length cfg.splits) p.attempt x ≡ true) (r.report c p z d)
-        (λ a v m t. one a (report-next (length cfg.splits) p.attempt (wish_as cfg w c p) a.step d t))
+        (λ a v m t. one a (report-next (length cfg.splits) p.attempt (wish_as cfg w c p) a.step d (ap is_report (sym (wish-step (length cfg.splits) p.attempt (w.container_past c) a.step)) ∙ t)))
       where
         one : (a : Container_act) → (is_report (wish_as cfg w c p) ≡ true) ⊎ (renames (wish_as cfg w c p) a.step ≡ true) → (renamed_as cfg w c p || renames (wish_as cfg w c p) a.step) ≡ true
         one a (inl t) = rw (r.report c p z d t) refl

@@ -13,12 +13,12 @@ use Rattle.mr_container.specs.Wished as called
 use Rattle.mr_model.specs.Ids.{Attempt, ContainerId, dest}
 use Rattle.mr_model.specs.Content.{Op}
 use Rattle.mr_model.specs.Packets.{Config, Packet, Envelope, Address, Master, Container, Node}
-use Rattle.mr_model.specs.Pasts.{Step, Got, Sent, Computed, Called, Place, wish, computed}
+use Rattle.mr_model.specs.Pasts.{as_wish, wish_of_seen, Step, Got, Sent, Computed, Called, Place, wish, computed}
 use Rattle.mr_model.specs.World.{World, Event, Deliver, ContainerStep, Compute, Container_act, Obeyed, Weather, Calm, reply_under, as_heard, container_act, got_act, step_act, obeyed, opening_world, wish_at, op_at, packet_at, attempt_of, op_of, packet_of}
 use Rattle.mr_model.specs.Effect.{effect, happens, not_now, run, wants_compute}
 use Rattle.mr_model.specs.Claims.{Limits, world_of}
 use Rattle.mr_model.specs.Stores.{reply_of_names}
-use Rattle.mr_model.specs.Containers.{as_wish, wish_of_seen, IsWished, AllWished}
+use Rattle.mr_model.specs.Containers.{IsWished, AllWished}
 use Rattle.mr_model.specs.Actors.{ContainersSay, BoundsBytes, BeginsOnce, PastsAreWished, AnswersAreHeard}
 use Rattle.mr_model.proofs.Basic.{if_cases, is_none-eq}
 use Rattle.mr_model.proofs.Wishes.{StepOk}

@@ -5,7 +5,8 @@ use Rattle.mr_model.specs.Ids.{Attempt, ContainerId, attempt_eq, bool_eq, is_red
 use Rattle.mr_model.specs.Records.{Record, AttemptStarted, MapSucceeded, ReduceSucceeded, AttemptFailed, JobUnsuccessful}
 use Rattle.mr_model.specs.Packets.{Config, Packet, Envelope, Address, Master, Container, Node, Kill, Failed, NodeUp, Answer, Won, Outcome, Store, Reply, Names, Flush, Fine}
 use Rattle.mr_model.specs.Content.{Op, bar_of}
-use Rattle.mr_model.specs.Pasts.{Place, incarnation_of, is_known, Wish, wish, wished_op, wished_packet, next_wish, To_fail, on_shelf, Got, computed}
+use Rattle.mr_model.specs.Pasts.{Place, incarnation_of, is_known, Wish, wish, wished_op, wished_packet, To_fail, on_shelf, Got, Sent, computed}
+use Rattle.mr_model.proofs.Nexts.{next_wish, wish-step}
 use Rattle.mr_model.specs.Hearing.{Seen, Phase, Recovering, Move_from, Finished, Opening, Setting_up, Running, Committing, Failing, Stopped, Launched, Placed, in_task_order, in_place, task_before, live_on, find_launched, named_in, is_named, is_attempt, is_live, has, may_accept, stands, is_running, find_container}
 use Rattle.mr_model.specs.Duties.{Master_step, Came, Launches, Expires, Asks, seen, next_seen, rivals, all_rivals}
 use Rattle.mr_model.specs.World.{World, Event, Start, Crash, Duty, LaunchOn, Deliver, ContainerStep, Compute, Die, NodeRestart, Expire, Weather, Master_act, Container_act, master_act, container_act, got_act, step_act, ends, seen_by, op_of, packet_of, packet_at, op_at, opening_world, kills, is_over_by, block_there}
@@ -300,8 +301,8 @@ restart-incarnation w n = rw (eq-eqb n n refl) (omega arith)
 
 -- what a container sends: its one failure ends it
 fail-ends : (cfg : Config) (w : World) (c : ContainerId) (f : Weather) (p : Place) → w.place c ≡ Some p → wish (length cfg.splits) p.attempt (w.container_past c) ≡ To_fail → ends cfg w (ContainerStep c f) c ≡ true
-unfolding ends container_act wish next_wish wished_op wished_packet
-fail-ends cfg w c f p e v = rw (e, v, container_eq-refl c, e, v) refl
+unfolding ends container_act next_wish wished_op wished_packet
+fail-ends cfg w c f p e v = rw (e, v, container_eq-refl c, e, wish-step (length cfg.splits) p.attempt (w.container_past c) (Sent (Failed p.attempt)), v) refl
 
 wished-fit : (cfg : Config) (w : World) (c : ContainerId) (f : Weather) → Cluster cfg w → w.is_alive c ≡ true → Each (EnvelopeFits cfg (effect cfg w (ContainerStep c f))) (some_packet (op_of cfg w c) (packet_of cfg w c))
 unfolding wished_op wished_packet

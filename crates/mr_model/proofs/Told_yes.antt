@@ -4,7 +4,8 @@ use Rattle.std.proofs.lemmas.Bool.{false≢true}
 use Rattle.mr_model.specs.Ids.{Attempt, ContainerId, container_eq, is_reduce}
 use Rattle.mr_model.specs.Packets.{Config, Packet, Envelope, Address, Master, Container, Node, Answer}
 use Rattle.mr_model.specs.Content.{Op}
-use Rattle.mr_model.specs.Pasts.{first_wish, is_known, Place, Step, Got, Sent, Computed, Called, wish}
+use Rattle.mr_model.specs.Pasts.{is_known, Place, Step, Got, Sent, Computed, Called, wish}
+use Rattle.mr_model.proofs.Nexts.{wish-first, wish-step}
 use Rattle.mr_model.specs.Hearing.{Launched}
 use Rattle.mr_model.specs.World.{World, Event, Deliver, ContainerStep, Compute, Weather, Container_act, Obeyed, container_act, got_act, step_act, obeyed, opening_world, op_of, packet_of}
 use Rattle.mr_model.specs.Sending.{sent, to_container}
@@ -84,8 +85,8 @@ no-step cfg w e h n c none empty = past_after w (container_act cfg w e) c (λ x.
     dead : (a : Container_act) → (w.is_alive a.who ≡ true) × Comes w a.who a.step → c ≡ a.who → ⊥
     dead a o m = let p = h.alive a.who o.0 in let u : w.place c ≡ Some p.0 = subst (λ z. w.place z ≡ Some p.0) (sym m) p.1 in cc (none, u)
 
-pub first-none : (maps : ℕ) (a : Attempt) → is_reduce a ≡ true → past_yes (first_wish maps a) ≡ false
-first-none maps a e = rw e (if_cases (λ w. past_yes w ≡ false) (nat_lt 0 maps) _ _ (λ t. refl) (λ t. refl))
+pub first-none : (maps : ℕ) (a : Attempt) → is_reduce a ≡ true → past_yes (wish maps a []) ≡ false
+first-none maps a e = ap past_yes (wish-first maps a) ∙ rw e (if_cases (λ w. past_yes w ≡ false) (nat_lt 0 maps) _ _ (λ t. refl) (λ t. refl))
 
 -- a container is obeyed once
 pub obeyed-new : (cfg : Config) (w : World) (e : Event) → Cluster cfg w → (x : Obeyed) → obeyed w e ≡ Some x → w.place x.container ≡ None
@@ -100,7 +101,6 @@ obeyed-new cfg w e h x q = by (w.place x.container) refl
         absurd (false≢true (sym i.not_known ∙ subst (λ (l : Launched). is_known (w.node_past l.node) x.container ≡ true) same old.1))
 
 pub heard_yes : (cfg : Config) (w : World) (e : Event) → Cluster cfg w → Heard_yes cfg w → not_now cfg w e ≡ None → Heard_yes cfg (effect cfg w e)
-unfolding wish
 heard_yes cfg w e h o n = record {
   unborn = λ c. place_after w e c (λ v. v ≡ None → with_container_step w.container_past (container_act cfg w e) c ≡ []) (λ q. no-step cfg w e h n c q (o.unborn c q)) (λ x q f r. cc);
   yes = λ c. place_after w e c (λ v. (p : Place) → v ≡ Some p → Out c p) (λ p q r. old c p q r) (λ x q f p r u t. fresh c x q f p r u t);
@@ -117,7 +117,7 @@ heard_yes cfg w e h o n = record {
     old : (c : ContainerId) (p : Place) → w.place c ≡ Some p → Out c p
     old c p q r = past_after w (container_act cfg w e) c (λ x. past_yes (wish (length cfg.splits) p.attempt x) ≡ true → In (to_container c (Answer p.attempt true)) (w.bag ++ sent cfg w e))
         (λ t. In-left _ w.bag (sent cfg w e) (o.yes c p q r t))
-        (λ a s m t. by a (subst (ActComes w) s (act-comes cfg w e n)) m (next-yes (length cfg.splits) p.attempt (wish (length cfg.splits) p.attempt (w.container_past c)) a.step r t))
+        (λ a s m t. by a (subst (ActComes w) s (act-comes cfg w e n)) m (next-yes (length cfg.splits) p.attempt (wish (length cfg.splits) p.attempt (w.container_past c)) a.step r (ap past_yes (sym (wish-step (length cfg.splits) p.attempt (w.container_past c) a.step)) ∙ t)))
       where
         by : (a : Container_act) → (w.is_alive a.who ≡ true) × Comes w a.who a.step → c ≡ a.who →
             (past_yes (wish (length cfg.splits) p.attempt (w.container_past c)) ≡ true) ⊎ ((b : Attempt) × (a.step ≡ Got (Answer b true))) → In (to_container c (Answer p.attempt true)) (w.bag ++ sent cfg w e)

@@ -1,12 +1,13 @@
 -- What a container's wish says of its past: it computed, and its rename was answered.
-use Rattle.std.proofs.Common.{ℕ, ◌≡◌, refl, sym, ◌∙◌, subst, Bool, true, false, ◌||◌, List, [], ◌∷◌, None, if◌then◌else◌, nat_eq, ◌⊎◌, inl, inr}
+use Rattle.std.proofs.Common.{ℕ, ◌≡◌, refl, sym, ◌∙◌, ap, subst, Bool, true, false, ◌||◌, List, [], ◌∷◌, None, if◌then◌else◌, nat_eq, ◌⊎◌, inl, inr}
 use Rattle.std.proofs.lemmas.Bool.{false≢true, true≢false}
 use Rattle.mr_model.specs.Ids.{Attempt, attempt_eq, is_reduce}
 use Rattle.mr_model.specs.Packets.{Answer, MapReady, Piece, FetchLost, DoneAck}
 use Rattle.mr_model.specs.Content.{Op}
 use Rattle.mr_container.specs.declared.reply.Reply.{Reply}
 use Rattle.mr_container.specs.Readings.{is_fine, is_found, is_cleared}
-use Rattle.mr_model.specs.Pasts.{Step, Got, Sent, Computed, Called, Wish, To_ask_where, To_fetch, To_say_lost, To_compute, To_mkdirs, To_create, To_write, To_close, To_need, To_pend, To_poll, To_look, To_clear, To_rename, To_report, To_abort, To_fail, Over, next_wish, is_awaited, wish, if_fine, if_found, if_cleared, wished_op, was_computed, computed}
+use Rattle.mr_model.specs.Pasts.{Step, Got, Sent, Computed, Called, Wish, To_ask_where, To_fetch, To_say_lost, To_compute, To_mkdirs, To_create, To_write, To_close, To_need, To_pend, To_poll, To_look, To_clear, To_rename, To_report, To_abort, To_fail, Over, wish, wished_op, was_computed, computed}
+use Rattle.mr_model.proofs.Nexts.{wish-first, wish-step, next_wish, is_awaited, if_fine, if_found, if_cleared}
 use Rattle.mr_model.specs.Effect.{wants_compute}
 use Rattle.mr_model.proofs.Pieces.{piece-wish}
 use Rattle.mr_model.proofs.Basic.{if_cases, or_parts}
@@ -164,9 +165,9 @@ done-next maps x w s e = absurd (false≢true e)
 
 -- after it nothing is called
 pub renamed-done : (maps : ℕ) (x : Attempt) (h : List Step) → renamed maps x h ≡ true → is_done (wish maps x h) ≡ true
-unfolding renamed wish
+unfolding renamed
 renamed-done maps x [] e = absurd (false≢true e)
-renamed-done maps x (s ∷ h) e = by (or_parts _ _ e) (renamed-done maps x h)
+renamed-done maps x (s ∷ h) e = ap is_done (wish-step maps x h s) ∙ by (or_parts _ _ e) (renamed-done maps x h)
   where
     by : (renamed maps x h ≡ true) ⊎ (renames (wish maps x h) s ≡ true) → (renamed maps x h ≡ true → is_done (wish maps x h) ≡ true) → is_done (next_wish maps x (wish maps x h) s) ≡ true
     by (inl t) f = done-next maps x (wish maps x h) s (f t)
@@ -201,9 +202,8 @@ maps-next maps x Over s r e = refl
 maps-next maps x w s r e = absurd (false≢true e)
 
 pub map-wish : (maps : ℕ) (x : Attempt) (h : List Step) → is_reduce x ≡ false → is_maps (wish maps x h) ≡ true
-unfolding wish
-map-wish maps x [] r = rw r refl
-map-wish maps x (s ∷ h) r = maps-next maps x (wish maps x h) s r (map-wish maps x h r)
+map-wish maps x [] r = ap is_maps (wish-first maps x) ∙ rw r refl
+map-wish maps x (s ∷ h) r = ap is_maps (wish-step maps x h s) ∙ maps-next maps x (wish maps x h) s r (map-wish maps x h r)
 
 pub maps-no_op : (k : ℕ) (a : Attempt) (bytes : List ℕ) (w : Wish) → is_maps w ≡ true → wished_op k a bytes w ≡ None
 unfolding wished_op

@@ -11,11 +11,11 @@ use Rattle.mr_node.specs.State as node
 use Rattle.mr_model.specs.Ids.{ContainerId, container_eq, dest}
 use Rattle.mr_model.specs.Content.{Op}
 use Rattle.mr_model.specs.Packets.{Config, Envelope, Reply}
-use Rattle.mr_model.specs.Pasts.{Place, incarnation_of}
+use Rattle.mr_model.specs.Pasts.{wish_of_seen, Place, incarnation_of}
 use Rattle.mr_model.specs.World.{World, Calm, Unavailable, Unanswered, Event, Start, Crash, Duty, LaunchOn, Compute, Expire, Obeyed, obeyed, wish_of, op_of, packet_of, caller_of, reply_under, as_heard}
 use Rattle.mr_model.specs.Effect.{not_now}
 use Rattle.mr_model.specs.Claims.{Limits, world_of}
-use Rattle.mr_model.specs.Containers.{wish_of_seen, AllWished}
+use Rattle.mr_model.specs.Containers.{AllWished}
 use Rattle.mr_model.specs.Stores.{reply_of_names}
 
 -- the machine m of container c stands for its past in the world

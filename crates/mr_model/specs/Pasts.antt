@@ -1,14 +1,15 @@
 -- The pasts of containers and nodes, and what is read off them. A past is a list, the newest first. The order of a reduce's calls is that of
 -- Hadoop's OutputCommitter: setupTask (no call), needsTaskCommit, canCommit, commitTask, abortTask; pieces, nodes' memory and shelves are our own profile.
-use Rattle.std.specs.Prelude.{ℕ, suc, Bool, true, false, ◌&&◌, ◌||◌, nat_eq, nat_lt, nat_le, List, [], ◌∷◌, ◌++◌, Option, Some, None, if◌then◌else◌, length}
-use Rattle.mr_container.specs.declared.reply.Reply as reply
-use Rattle.mr_container.specs.Readings.{is_fine, is_found, is_cleared}
+use Rattle.std.specs.Prelude.{ℕ, suc, Bool, true, false, ◌&&◌, ◌||◌, nat_eq, List, [], ◌∷◌, ◌++◌, Option, Some, None, if◌then◌else◌, length}
+use Rattle.mr_container.specs.declared.wish.Wish as container_wish
+use Rattle.mr_container.specs.declared.wish.Wish.TheVariants as wished
+use Rattle.mr_container.specs.Readings as container
 pub use Rattle.mr_container.specs.declared.place.Place.{Place}
 pub use Rattle.mr_container.specs.Past.{Step, Hears as Got, Sends as Sent, Computes as Computed, Calls as Called}
 pub use Rattle.mr_node.specs.Past.{Step as Node_step, Hears as Node_got, Shelves as Shelved, Ends as Gone, Restarts as Restarted}
 use Rattle.mr_model.specs.Ids.{Attempt, ContainerId, Path, is_reduce, attempt_eq, container_eq, task_attempt, committed, part_name}
 use Rattle.mr_model.specs.Content.{Op, MkDirs, Create, Append, Close, Delete, Rename, Exist}
-use Rattle.mr_model.specs.Packets.{Packet, Launch, Kill, Fetch, Pending, Poll, Done, Failed, Where, FetchLost, Answer, DoneAck, MapReady, Piece, Master, Node, Envelope}
+use Rattle.mr_model.specs.Packets.{Packet, Launch, Kill, Fetch, Pending, Poll, Done, Failed, Where, FetchLost, Master, Node, Envelope}
 
 -- Containers
 
@@ -18,75 +19,36 @@ pub data Wish : Type 0 where
   To_say_lost : (map : ℕ) → (a : Attempt) → Wish
   To_compute To_mkdirs To_create To_write To_close To_need To_pend To_poll To_look To_clear To_rename To_report To_abort To_fail Over : Wish
 
--- the first map to ask for from this one on, or computing
-abbrev pub ask_from : ℕ → ℕ → Wish
-ask_from maps m = if nat_lt m maps then To_ask_where m else To_compute
+-- what mr_container reads, as one value: the wish, with the map that it is about (the first of which there is no block) and what was got of its block
+abbrev pub as_wish : container.Pieces → container_wish.Wish → Wish
+as_wish p (wished.Where m) = To_ask_where m
+as_wish p (wished.Fetch a n i) = To_fetch (length p.blocks) a n i p.got
+as_wish p (wished.Lost a) = To_say_lost (length p.blocks) a
+as_wish p wished.Compute = To_compute
+as_wish p wished.Mkdirs = To_mkdirs
+as_wish p wished.Create = To_create
+as_wish p wished.Write = To_write
+as_wish p wished.Close = To_close
+as_wish p wished.Needs = To_need
+as_wish p wished.Pending = To_pend
+as_wish p wished.Poll = To_poll
+as_wish p wished.Look = To_look
+as_wish p wished.Clear = To_clear
+as_wish p wished.Rename = To_rename
+as_wish p wished.Report = To_report
+as_wish p wished.Abort = To_abort
+as_wish p wished.Failed = To_fail
+as_wish p wished.Over = Over
 
-abbrev pub first_wish : ℕ → Attempt → Wish
-first_wish maps a = if is_reduce a then ask_from maps 0 else To_compute
-
-abbrev pub if_fine : reply.Reply → Wish → Wish
-if_fine r w = if is_fine r then w else To_abort
-
-abbrev pub if_found : reply.Reply → Wish → Wish
-if_found r w = if is_found r then w else To_abort
-
-abbrev pub if_cleared : reply.Reply → Wish → Wish
-if_cleared r w = if is_cleared r then w else To_abort
-
--- the answer to its own attempt: a yes goes on, a no leads to the other
-abbrev pub answered : Bool → Wish → Wish
-answered true w = To_look
-answered false w = w
-
--- a piece that is waited for: of the attempt, for its own reduce, from where the bytes that were got end
-abbrev pub is_awaited : Attempt → Attempt → List ℕ → Attempt → (reduce offset : ℕ) → Bool
-is_awaited x a got b r o = attempt_eq a b && (nat_eq r x.task.number && nat_eq o (length got))
-
--- the block is there in full
-abbrev pub is_all : (total : ℕ) → List ℕ → Bool
-is_all total got = nat_le total (length got)
-
--- the wish after a step
-unfoldable pub next_wish : ℕ → Attempt → Wish → Step → Wish
-next_wish maps x (To_ask_where m) (Got (MapReady m' a n i)) = if nat_eq m m' then To_fetch m a n i [] else To_ask_where m
-next_wish maps x (To_fetch m a n i got) (Got (Piece a' r o total bytes)) =
-    if is_awaited x a got a' r o then (if is_all total (got ++ bytes) then ask_from maps (suc m) else To_fetch m a n i (got ++ bytes)) else To_fetch m a n i got
-next_wish maps x (To_fetch m a n i got) (Got (FetchLost c a')) = if attempt_eq a a' then To_say_lost m a else To_fetch m a n i got
-next_wish maps x (To_say_lost m a) (Sent p) = To_ask_where m
-next_wish maps x To_compute (Computed bytes) = if is_reduce x then To_mkdirs else To_report
-next_wish maps x To_mkdirs (Called op r) = if_fine r To_create
-next_wish maps x To_create (Called op r) = if_fine r To_write
-next_wish maps x To_write (Called op r) = if_fine r To_close
-next_wish maps x To_close (Called op r) = if_fine r To_need
-next_wish maps x To_need (Called op r) = if_found r To_pend
-next_wish maps x To_pend (Got (Answer a is_yes)) = if attempt_eq x a then answered is_yes To_poll else To_pend
-next_wish maps x To_poll (Got (Answer a is_yes)) = if attempt_eq x a then answered is_yes To_pend else To_poll
-next_wish maps x To_look (Called op r) = if_found r To_clear
-next_wish maps x To_clear (Called op r) = if_cleared r To_rename
-next_wish maps x To_rename (Called op r) = if_fine r To_report
-next_wish maps x To_report (Got (DoneAck a)) = if attempt_eq x a then Over else To_report
-next_wish maps x To_abort (Called op r) = To_fail
-next_wish maps x To_fail (Sent p) = Over
-next_wish maps x w s = w
+abbrev pub wish_of_seen : container.Seen → Wish
+wish_of_seen s = as_wish s.pieces s.wish
 
 unfoldable pub wish : ℕ → Attempt → List Step → Wish
-wish maps x [] = first_wish maps x
-wish maps x (s ∷ h) = next_wish maps x (wish maps x h) s
-
--- the block that a step completes
-abbrev pub completed : Attempt → Wish → Step → Option (List ℕ)
-completed x (To_fetch m a n i got) (Got (Piece a' r o total bytes)) = if is_awaited x a got a' r o && is_all total (got ++ bytes) then Some (got ++ bytes) else None
-completed x w s = None
-
-abbrev pub with_block : List (List ℕ) → Option (List ℕ) → List (List ℕ)
-with_block blocks None = blocks
-with_block blocks (Some block) = blocks ++ block ∷ []
+wish maps x h = wish_of_seen (container.seen maps x h)
 
 -- the fetched pieces: of each map all that was got of it, joined, in the order of the maps
 unfoldable pub fetched : ℕ → Attempt → List Step → List (List ℕ)
-fetched maps x [] = []
-fetched maps x (s ∷ h) = with_block (fetched maps x h) (completed x (wish maps x h) s)
+fetched maps x h = (container.seen maps x h).pieces.blocks
 
 -- the bytes that were handed in
 unfoldable pub computed : List Step → List ℕ
