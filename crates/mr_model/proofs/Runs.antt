@@ -123,7 +123,9 @@ wishes cfg within es = along_within (Wishes cfg (BoundsBytes within)) cfg within
 -- a machine that stands for its container's past says what the definitions say
 pub containers_say : ContainersSay
 containers_say cfg within bound es c m i = record {
-  wish = ap (λ o. wish_at cfg c o h) i.place ∙ (wish-agrees n x h ∙ ap wish_of_seen (sym seen));
+  place = i.place ∙ ap Some (sym i.stands.place);
+  wish = wish;
+  computes = ap wants_compute wish ∙ wants-is m.seen.pieces m.seen.wish;
   call = ap (λ o. op_at cfg c o h) i.place ∙ (calls-agree n c.app x h all
       ∙ (λ j. called.wished_op dest (sym i.stands.id j).app (sym i.stands.place j).attempt (sym seen j).result (sym seen j).wish));
   caller = λ op q. ap (λ o. record { app = c.app; attempt = attempt_of o }) i.place
@@ -149,6 +151,9 @@ containers_say cfg within bound es c m i = record {
 
     seen : m.seen ≡ readings.seen n x h
     seen = i.stands.seen
+
+    wish : wish_at cfg c (w.place c) h ≡ wish_of_seen m.seen
+    wish = ap (λ o. wish_at cfg c o h) i.place ∙ (wish-agrees n x h ∙ ap wish_of_seen (sym seen))
 
     all : AllWished n x h
     all = k.wished c i.launched i.place

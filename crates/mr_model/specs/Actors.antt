@@ -5,6 +5,7 @@ use Rattle.mr_names.specs.declared.op.Answer as answers
 use Rattle.mr_container.specs.declared.reply.Reply.TheVariants as replies
 use Rattle.mr_container.specs.declared.wish.Wish as container_wish
 use Rattle.mr_container.specs.declared.wish.Wish.TheVariants as wished
+use Rattle.mr_container.specs.Readings as readings_of
 use Rattle.mr_container.specs.State as container
 use Rattle.mr_container.specs.Wished as called
 use Rattle.mr_node.specs.State as node
@@ -13,7 +14,7 @@ use Rattle.mr_model.specs.Content.{Op}
 use Rattle.mr_model.specs.Packets.{Config, Envelope, Reply}
 use Rattle.mr_model.specs.Pasts.{wish_of_seen, Place, incarnation_of}
 use Rattle.mr_model.specs.World.{World, Calm, Unavailable, Unanswered, Event, Start, Crash, Duty, LaunchOn, Compute, Expire, Obeyed, obeyed, wish_of, op_of, packet_of, caller_of, reply_under, as_heard}
-use Rattle.mr_model.specs.Effect.{not_now}
+use Rattle.mr_model.specs.Effect.{not_now, wants_compute}
 use Rattle.mr_model.specs.Claims.{Limits, world_of}
 use Rattle.mr_model.specs.Containers.{AllWished}
 use Rattle.mr_model.specs.Stores.{reply_of_names}
@@ -28,9 +29,12 @@ pub record ContainerIn (cfg : Config) (w : World) (c : ContainerId) (m : contain
 abbrev pub NodeIn : Config → World → ℕ → node.Node → Type 0
 NodeIn cfg w n m = node.StandsFor m n cfg.reduces (w.node_past n)
 
--- What a machine says is what the cluster's definitions say of its container: its wish, its call and who makes it, its packet
+-- What a machine says is what the cluster's definitions say of its container: what it was launched as, its wish, whether it computes, its call and
+-- who makes it, its packet
 pub record ContainerSays (cfg : Config) (w : World) (c : ContainerId) (m : container.Container) : Type 0 where
+  pub place : w.place c ≡ Some m.place
   pub wish : wish_of cfg w c ≡ wish_of_seen m.seen
+  pub computes : wants_compute (wish_of cfg w c) ≡ readings_of.is_computing m.seen.wish
   pub call : op_of cfg w c ≡ called.wished_op dest m.id.app m.place.attempt m.seen.result m.seen.wish
   pub caller : (op : Op) → op_of cfg w c ≡ Some op → caller_of w c ≡ called.caller_of m.id m.place.attempt
   pub packet : packet_of cfg w c ≡ called.wished_packet m.id m.place.attempt m.seen m.seen.wish

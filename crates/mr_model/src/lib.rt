@@ -26,11 +26,19 @@
 //!   is what is read off the master's
 //!   past (`calls_agree`: clause `agree` for reduces; clause `maps` for the maps of the job, also which attempts
 //!   stand and which are recorded). Its premises say that each step fits; that all steps of a run do is not proved
-//!   yet (docs/PROOFS.md).
+//!   yet (docs/PROOFS.md);
+//! - what ties containers and nodes to their machines: their pasts, packets and calls are those of `mr_container`,
+//!   `mr_node`, `mr_packet` and `mr_names`; what is read off them is what these machines are proved to read
+//!   (`containers_agree`, `nodes_agree`), so that a machine that stands for its container's past in a run has the
+//!   wish, the call, the caller and the packet of the definitions (`containers_say`, under limits on what is handed
+//!   in) and hears what the namespace answered (`answers_are_heard`); what each kind of event changes of all
+//!   machines of containers and nodes, who lives after it, and what it adds to the bag (`masters_act`,
+//!   `containers_act`, `maps_act`, `nodes_act`); bytes are handed in only as wished (`pasts_are_wished`), and no
+//!   container begins twice (`begins_once`).
 //!
 //! What each word means: [docs/MODEL.md](../../../docs/MODEL.md). Why it holds:
-//! [docs/INVARIANT.md](../../../docs/INVARIANT.md). Neither proved nor claimed: that any machine of this repository
-//! is one of these containers, nodes or masters.
+//! [docs/INVARIANT.md](../../../docs/INVARIANT.md). Neither proved nor claimed: that any master of this repository
+//! is one of these, or that a cluster of machines is run.
 #![tactic(auto)]
 
 mod actors;
