@@ -65,3 +65,6 @@ pub mod Agree
 pub mod Wins
 pub mod Standing
 pub mod Maps
+pub mod Entries
+pub mod Small
+pub mod Reached

@@ -10,6 +10,7 @@ pub mod World
 pub mod Sending
 pub mod Effect
 pub mod Claims
+pub mod Reachable
 pub mod Sequential
 pub mod Stores
 pub mod Laws

@@ -45,6 +45,7 @@ mod actors;
 
 ghost use Rattle.mr_model.specs.Claims.{Limits, WinnerStays, NodesAreToldTheWinner, MarkerMeansWholeFiles, MarkerIsFinal, OneOutcome, RecoveryFindsTheWinners, WrongSuspicionDoesNoHarm};
 ghost use Rattle.mr_model.specs.Claims.{OneAttemptIsRecorded, OneContainerWasToldYes, CommittedFileIsTheWinners, PublishedFilesAreTheWinners, OneWholeOutput, LengthsAreRight};
+ghost use Rattle.mr_model.specs.Reachable.{AMarkedWorldIsReached};
 ghost use Rattle.mr_model.specs.Laws.{PathsAreTheLayouts, StoresAreTheModels, AppendedRecordsFit, MastersAreRaised};
 ghost use Rattle.mr_model.specs.Packets.{Config};
 ghost use Rattle.mr_model.specs.Calls.{CallsAgree, MapCallsAgree};
@@ -99,6 +100,11 @@ pub fn recovery_finds_the_winners()
 /// attempt is refused and the attempt is over; an expiry alone ends no attempt of a reduce.
 pub fn a_wrong_suspicion_does_no_harm()
     ensures hold { (config : Config) (within : Limits) → WrongSuspicionDoesNoHarm config within }
+{}
+
+/// None of this is said of nothing: where limits refuse nothing, some events of some job lead to its success, told and marked, with a file that has bytes.
+pub fn a_marked_world_is_reached()
+    ensures reached { AMarkedWorldIsReached }
 {}
 
 // The facts that it rests on
