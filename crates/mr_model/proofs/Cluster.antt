@@ -209,7 +209,7 @@ not_obeyed cfg w e h k l i g = by (obeyed w e) refl
             bars (inl y) = false≢true (sym x.not_known ∙ subst (λ (z : Launched). is_known (w.node_past z.node) z.container ≡ true) same y)
             bars (inr y) = let z = subst (λ (z : Launched). z.incarnation < incarnation_of (w.node_past z.node)) same y in let v = x.now in omega arith
 
-gone_after : (cfg : Config) (w : World) (e : Event) → Cluster cfg w → (k : ℕ) (l : Launched) → IsLaunched cfg w k l → IsGone w l → IsGone (effect cfg w e) l
+pub gone_after : (cfg : Config) (w : World) (e : Event) → Cluster cfg w → (k : ℕ) (l : Launched) → IsLaunched cfg w k l → IsGone w l → IsGone (effect cfg w e) l
 gone_after cfg w e h k l i g = record {
   not_alive = rw (not_obeyed cfg w e h k l i g, g.not_alive) refl;
   barred = by g.barred;

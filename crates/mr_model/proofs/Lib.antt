@@ -68,3 +68,6 @@ pub mod Maps
 pub mod Entries
 pub mod Small
 pub mod Reached
+pub mod Beside
+pub mod Begins
+pub mod Renamed

@@ -39,7 +39,7 @@ some-winner (JobUnsuccessful ∷ rs) a z (inl q) e = cc
 some-winner (JobUnsuccessful ∷ rs) a z (inr i) e = some-winner rs a z i e
 
 module _ (cfg : Config) (w : World) (h : Honest cfg w) where
-  abbrev Accepted : ℕ → Attempt → Type 0
+  abbrev pub Accepted : ℕ → Attempt → Type 0
   Accepted k a = In a (seen_by cfg w k).accepted × (is_reduce a ≡ true)
 
   stable-accepted : (k : ℕ) (a : Attempt) → SuccessIn a (w.history k).stable → Accepted k a
@@ -72,7 +72,7 @@ module _ (cfg : Config) (w : World) (h : Honest cfg w) where
   below-one zero l a b i j e = absurd i.1
   below-one (suc k) l a b i j e = meet k (omega arith) a b (split k a i) (split k b j) e (λ x y. below-one k (omega arith) a b x y e)
 
-  recorded-case : (a : Attempt) → IsRecorded cfg w a → SuccessIn a (records_below w.history w.fence) ⊎ Accepted w.fence a
+  pub recorded-case : (a : Attempt) → IsRecorded cfg w a → SuccessIn a (records_below w.history w.fence) ⊎ Accepted w.fence a
   recorded-case a (z, inl i) = split w.fence a (z, i)
   recorded-case a (z, inr (inl i)) = inr (h.held w.fence a z (In-right (ReduceSucceeded a z) (w.history w.fence).stable (w.history w.fence).tail i))
   recorded-case a (z, inr (inr i)) = inr ((h.steady w.fence (omega arith)).dues a z i)
@@ -81,7 +81,7 @@ module _ (cfg : Config) (w : World) (h : Honest cfg w) where
   recorded-one a b i j e = meet w.fence (omega arith) a b (recorded-case a i) (recorded-case b j) e (λ x y. below-one w.fence (omega arith) a b x y e)
 
   -- what is among the records of earlier generations is their winner
-  old-winner : (k : ℕ) → k ≤ suc w.fence → (a : Attempt) → SuccessIn a (records_below w.history k) → winner_in (records_below w.history k) a.task ≡ Some a
+  pub old-winner : (k : ℕ) → k ≤ suc w.fence → (a : Attempt) → SuccessIn a (records_below w.history k) → winner_in (records_below w.history k) a.task ≡ Some a
   old-winner k l a i = by (winner_in (records_below w.history k) a.task) refl
     where
       by : (o : Option Attempt) → winner_in (records_below w.history k) a.task ≡ o → winner_in (records_below w.history k) a.task ≡ Some a

@@ -11,6 +11,7 @@ pub mod Sending
 pub mod Effect
 pub mod Claims
 pub mod Reachable
+pub mod Beside
 pub mod Sequential
 pub mod Stores
 pub mod Laws

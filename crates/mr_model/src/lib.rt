@@ -46,6 +46,7 @@ mod actors;
 ghost use Rattle.mr_model.specs.Claims.{Limits, WinnerStays, NodesAreToldTheWinner, MarkerMeansWholeFiles, MarkerIsFinal, OneOutcome, RecoveryFindsTheWinners, WrongSuspicionDoesNoHarm};
 ghost use Rattle.mr_model.specs.Claims.{OneAttemptIsRecorded, OneContainerWasToldYes, CommittedFileIsTheWinners, PublishedFilesAreTheWinners, OneWholeOutput, LengthsAreRight};
 ghost use Rattle.mr_model.specs.Reachable.{AMarkedWorldIsReached};
+ghost use Rattle.mr_model.specs.Beside.{OnlyTheRecordedMayCommit, NewestCommittedIsItsOwn, CommitsAreAllowed, OverIsGoneOrBarred, OnlyStartedCommits, AbortsAreMarked};
 ghost use Rattle.mr_model.specs.Laws.{PathsAreTheLayouts, StoresAreTheModels, AppendedRecordsFit, MastersAreRaised};
 ghost use Rattle.mr_model.specs.Packets.{Config};
 ghost use Rattle.mr_model.specs.Calls.{CallsAgree, MapCallsAgree};
@@ -137,6 +138,38 @@ pub fn an_attempt_has_one_whole_output()
 /// A length that is recorded is that of the attempt's whole output, and no recovery stops for one.
 pub fn recorded_lengths_are_right()
     ensures right { (config : Config) (within : Limits) → LengthsAreRight config within }
+{}
+
+// What these need beside them
+
+/// Where an attempt is recorded, no container of its master and of its reduce other than its own lives, is not barred and was sent a yes.
+pub fn only_the_recorded_may_commit()
+    ensures alone { (config : Config) (within : Limits) → OnlyTheRecordedMayCommit config within }
+{}
+
+/// While the newest master runs or fails, its own generation has the newest committed directory of each recorded reduce.
+pub fn the_newest_committed_is_its_own()
+    ensures own { (config : Config) (within : Limits) → NewestCommittedIsItsOwn config within }
+{}
+
+/// A reduce's container that looks, clears, renames or reports was sent a yes; where it reports, its rename was answered.
+pub fn commits_are_allowed()
+    ensures allowed { (config : Config) (within : Limits) → CommitsAreAllowed config within }
+{}
+
+/// The container of a reduce's attempt that is over does not live and never will, or the attempt is barred.
+pub fn an_end_is_an_end()
+    ensures gone { (config : Config) (within : Limits) → OverIsGoneOrBarred config within }
+{}
+
+/// Only an answered COMMIT_STARTED, with no record due and nothing unflushed that matters, begins a job commit; no failure is stable then.
+pub fn only_started_commits()
+    ensures begins { (config : Config) (within : Limits) → OnlyStartedCommits config within }
+{}
+
+/// A master that aborts a job commit has COMMIT_FAIL there.
+pub fn aborts_are_marked()
+    ensures marked { (config : Config) (within : Limits) → AbortsAreMarked config within }
 {}
 
 // What ties the definitions to the crates beneath

@@ -1,0 +1,84 @@
+-- What the four facts need beside them, each of every run: which container may still change a reduce's committed directory, what a container's directory
+-- holds, that an end is an end, and how a job commit begins and fails.
+use Rattle.std.specs.Prelude.{ℕ, Bool, true, false, List, [], ◌∷◌, ◌++◌, ◌≡◌, Option, Some, ◌⊎◌, is_some}
+use Rattle.mr_container.specs.declared.reply.Reply as reply
+use Rattle.mr_container.specs.Readings.{is_fine}
+use Rattle.mr_model.specs.Ids.{Attempt, ContainerId, is_reduce, generation, commit_started, commit_fail, task_attempt, committed}
+use Rattle.mr_model.specs.Content.{Create, Rename, entry_at}
+use Rattle.mr_model.specs.Records.{JobUnsuccessful}
+use Rattle.mr_model.specs.Packets.{Config, Answer, Done, Container, Master, Names, Fine}
+use Rattle.mr_model.specs.Pasts.{Place, Called, Wish, To_look, To_clear, To_rename, To_report}
+use Rattle.mr_model.specs.Hearing.{Phase, Running, Committing, Failing, Aborting, Launched, has, is_over}
+use Rattle.mr_model.specs.Duties.{wants_flush}
+use Rattle.mr_model.specs.World.{World, Event, Duty, Calm, seen_by, duty, wish_of}
+use Rattle.mr_model.specs.Claims.{Limits, In, world_of, records, IsRecorded, IsQuiet, HoldsWhole}
+
+-- Where an attempt is recorded, no container of its master and of its reduce other than its own lives, is not barred and was sent a yes. (The recorded attempt's own
+-- may be dead: DoneAck ends it before the flush.)
+abbrev pub OnlyTheRecordedMayCommit : Config → Limits → Type 0
+OnlyTheRecordedMayCommit cfg within = (es : List Event) (a b : Attempt) (c : ContainerId) → IsRecorded cfg (world_of cfg within es) a → c.app ≡ generation a → b.task ≡ a.task →
+    (world_of cfg within es).is_alive c ≡ true → has (world_of cfg within es).barred b ≡ false → In (record { to = Container c; body = Answer b true }) (world_of cfg within es).bag → b ≡ a
+
+-- a master that runs, or fails
+abbrev pub runs_or_fails : Phase → Bool
+runs_or_fails Running = true
+runs_or_fails (Failing f) = true
+runs_or_fails _ = false
+
+-- While the newest master runs, or fails, and neither job commit nor job abort has begun, the newest committed directory of a recorded reduce is its own. (One that fails by what
+-- it read is no such master: a failure is stable then.)
+abbrev pub NewestCommittedIsItsOwn : Config → Limits → Type 0
+NewestCommittedIsItsOwn cfg within = (es : List Event) (a : Attempt) → IsQuiet (world_of cfg within es) →
+    runs_or_fails (seen_by cfg (world_of cfg within es) (world_of cfg within es).fence).phase ≡ true → IsRecorded cfg (world_of cfg within es) a →
+    HoldsWhole (world_of cfg within es) (world_of cfg within es).fence a.task a
+
+-- the wishes that only a yes leads to
+abbrev pub needs_yes : Wish → Bool
+needs_yes To_look = true
+needs_yes To_clear = true
+needs_yes To_rename = true
+needs_yes To_report = true
+needs_yes _ = false
+
+-- a reduce's container had its rename answered
+abbrev pub HasRenamed : World → ContainerId → Attempt → Type 0
+HasRenamed w c a = (r : reply.Reply) × (is_fine r ≡ true) × In (Called (Rename (task_attempt c.app a) (committed c.app a.task)) r) (w.container_past c)
+
+pub record CommitsAreAllowed (cfg : Config) (within : Limits) : Type 0 where
+  -- a reduce's container that looks, clears, renames or reports was sent a yes
+  pub yes : (es : List Event) (c : ContainerId) (p : Place) → (world_of cfg within es).place c ≡ Some p → is_reduce p.attempt ≡ true → needs_yes (wish_of cfg (world_of cfg within es) c) ≡ true →
+      In (record { to = Container c; body = Answer p.attempt true }) (world_of cfg within es).bag
+  -- one that reports had its rename answered
+  pub reports : (es : List Event) (c : ContainerId) (p : Place) → (world_of cfg within es).place c ≡ Some p → is_reduce p.attempt ≡ true → wish_of cfg (world_of cfg within es) c ≡ To_report →
+      HasRenamed (world_of cfg within es) c p.attempt
+  -- and so had the one that a report in the bag is of
+  pub done : (es : List Event) (k : ℕ) (a : Attempt) (bytes : Option ℕ) → is_reduce a ≡ true → In (record { to = Master k; body = Done a bytes }) (world_of cfg within es).bag →
+      (c : ContainerId) × (p : Place) × (c.app ≡ k) × ((world_of cfg within es).place c ≡ Some p) × (p.attempt ≡ a) × HasRenamed (world_of cfg within es) c a
+
+-- An attempt of a reduce that is over for its master: its container does not live and never will, or it is barred
+abbrev pub OverIsGoneOrBarred : Config → Limits → Type 0
+OverIsGoneOrBarred cfg within = (es fs : List Event) (k : ℕ) (l : Launched) → In l (seen_by cfg (world_of cfg within es) k).launched → is_reduce l.attempt ≡ true →
+    is_over (seen_by cfg (world_of cfg within es) k).ended l.attempt ≡ true →
+    ((world_of cfg within (es ++ fs)).is_alive l.container ≡ false) ⊎ (has (world_of cfg within es).barred l.attempt ≡ true)
+
+abbrev pub is_committing : Phase → Bool
+is_committing (Committing at) = true
+is_committing _ = false
+
+-- How a job commit begins
+pub record BeginsToCommit (cfg : Config) (w : World) (e : Event) (k : ℕ) : Type 0 where
+  pub event : e ≡ Duty k Calm
+  pub call : duty cfg w k ≡ Some (Names (Create commit_started true))
+  pub none_due : (seen_by cfg w k).due ≡ []
+  pub none_unflushed : wants_flush (seen_by cfg w k).tail ≡ false
+  pub newest : k ≡ w.fence
+  pub none_unsuccessful : In JobUnsuccessful (records w) → ⊥
+
+-- Only an answered COMMIT_STARTED, of a master with no record due and nothing unflushed that matters, leads to a job commit; no failure is stable then
+abbrev pub OnlyStartedCommits : Config → Limits → Type 0
+OnlyStartedCommits cfg within = (es : List Event) (e : Event) (k : ℕ) → is_committing (seen_by cfg (world_of cfg within es) k).phase ≡ false →
+    is_committing (seen_by cfg (world_of cfg within (es ++ e ∷ [])) k).phase ≡ true → BeginsToCommit cfg (world_of cfg within es) e k
+
+-- A master that aborts a job commit, of any generation, has COMMIT_FAIL there
+abbrev pub AbortsAreMarked : Config → Limits → Type 0
+AbortsAreMarked cfg within = (es : List Event) (k : ℕ) → (seen_by cfg (world_of cfg within es) k).phase ≡ Committing Aborting → is_some (entry_at (world_of cfg within es).content commit_fail) ≡ true
