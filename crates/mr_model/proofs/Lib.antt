@@ -71,3 +71,6 @@ pub mod Reached
 pub mod Beside
 pub mod Begins
 pub mod Renamed
+pub mod Accounted
+pub mod Exactly
+pub mod First

@@ -177,14 +177,14 @@ hears-recorded cfg k s (Launches l) i = refl
 hears-recorded cfg k s (Expires n) i = expired-by (λ (x : Seen). x.recorded ≡ s.recorded) (λ u a t v. v) n s (λ st ks bs. refl)
 hears-recorded cfg k s (Asks call r) i = absurd i
 
-abbrev IsMap : Placed → Type 0
+abbrev pub IsMap : Placed → Type 0
 IsMap p = (is_reduce p.attempt) ≡ false
 
 without-maps : (m : TaskId) (ps : List Placed) → Each IsMap ps → Each IsMap (without_task m ps)
 without-maps m [] o = tt
 without-maps m (p ∷ ps) o = if_cases (λ z. Each IsMap z) (task_eq p.attempt.task m) _ _ (λ t. without-maps m ps o.1) (λ t. (o.0, without-maps m ps o.1))
 
-newest-maps : (known : ℕ → ℕ) (rs : List Record) (ps : List Placed) → Each OnlyMaps rs → Each IsMap ps → Each IsMap (newest_maps known rs ps)
+pub newest-maps : (known : ℕ → ℕ) (rs : List Record) (ps : List Placed) → Each OnlyMaps rs → Each IsMap ps → Each IsMap (newest_maps known rs ps)
 unfolding newest_maps
 newest-maps known [] ps f o = o
 newest-maps known (MapSucceeded a n i ∷ rs) ps f o = newest-maps known rs _ f.1 (if_cases (λ z. Each IsMap z) (nat_lt i (known n)) _ _ (λ t. without-maps a.task ps o) (λ t. (f.0, without-maps a.task ps o)))
@@ -193,7 +193,7 @@ newest-maps known (ReduceSucceeded a z ∷ rs) ps f o = newest-maps known rs ps 
 newest-maps known (AttemptFailed a ∷ rs) ps f o = newest-maps known rs ps f.1 o
 newest-maps known (JobUnsuccessful ∷ rs) ps f o = newest-maps known rs ps f.1 o
 
-attempts-maps : (ps : List Placed) → Each IsMap ps → (a : Attempt) → In a (attempts_of ps) → is_reduce a ≡ false
+pub attempts-maps : (ps : List Placed) → Each IsMap ps → (a : Attempt) → In a (attempts_of ps) → is_reduce a ≡ false
 attempts-maps [] o a i = absurd i
 attempts-maps (p ∷ ps) o a (inl e) = subst (λ (z : Attempt). (is_reduce z) ≡ false) e o.0
 attempts-maps (p ∷ ps) o a (inr i) = attempts-maps ps o.1 a i

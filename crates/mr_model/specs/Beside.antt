@@ -1,17 +1,36 @@
 -- What the four facts need beside them, each of every run: which container may still change a reduce's committed directory, what a container's directory
 -- holds, that an end is an end, and how a job commit begins and fails.
-use Rattle.std.specs.Prelude.{ℕ, Bool, true, false, List, [], ◌∷◌, ◌++◌, ◌≡◌, Option, Some, ◌⊎◌, is_some}
+use Rattle.std.specs.Prelude.{ℕ, Bool, true, false, List, [], ◌∷◌, ◌++◌, ◌≡◌, ◌≤◌, ◌||◌, Option, Some, ◌⊎◌, is_some}
 use Rattle.mr_container.specs.declared.reply.Reply as reply
 use Rattle.mr_container.specs.Readings.{is_fine}
 use Rattle.mr_model.specs.Ids.{Attempt, ContainerId, is_reduce, generation, commit_started, commit_fail, task_attempt, committed}
 use Rattle.mr_model.specs.Content.{Create, Rename, entry_at}
-use Rattle.mr_model.specs.Records.{JobUnsuccessful}
+use Rattle.mr_model.specs.Records.{JobUnsuccessful, records_below}
 use Rattle.mr_model.specs.Packets.{Config, Answer, Done, Container, Master, Names, Fine}
 use Rattle.mr_model.specs.Pasts.{Place, Called, Wish, To_look, To_clear, To_rename, To_report}
-use Rattle.mr_model.specs.Hearing.{Phase, Running, Committing, Failing, Aborting, Launched, has, is_over}
-use Rattle.mr_model.specs.Duties.{wants_flush}
+use Rattle.mr_model.specs.Hearing.{Phase, Running, Committing, Failing, Aborting, Launched, Seen, Todo_winner, has, is_over, is_running}
+use Rattle.mr_model.specs.Duties.{Master_step, wants_flush, seen, winners_of}
 use Rattle.mr_model.specs.World.{World, Event, Duty, Calm, seen_by, duty, wish_of}
 use Rattle.mr_model.specs.Claims.{Limits, In, world_of, records, IsRecorded, IsQuiet, HoldsWhole}
+
+-- a master that runs, fails or commits
+abbrev pub is_at_work : Phase → Bool
+is_at_work Running = true
+is_at_work (Failing f) = true
+is_at_work (Committing at) = true
+is_at_work _ = false
+
+-- an attempt that a master accepted the success of, or that had won before it
+abbrev pub HasSucceeded : Seen → Attempt → Type 0
+HasSucceeded s a = (In a s.accepted × (is_reduce a ≡ true)) ⊎ ((x : Todo_winner) × In x s.winners × (x.attempt ≡ a))
+
+-- While the newest master runs, fails or commits, what is recorded of a reduce is exactly the attempt that succeeded for it. (That it lives is asked for one of the two: a crash
+-- may cut its tail.)
+pub record RecordedIsSucceeded (cfg : Config) (within : Limits) : Type 0 where
+  pub succeeded : (es : List Event) (a : Attempt) → is_at_work (seen_by cfg (world_of cfg within es) (world_of cfg within es).fence).phase ≡ true →
+      IsRecorded cfg (world_of cfg within es) a → HasSucceeded (seen_by cfg (world_of cfg within es) (world_of cfg within es).fence) a
+  pub recorded : (es : List Event) (a : Attempt) → (world_of cfg within es).is_master (world_of cfg within es).fence ≡ true → is_at_work (seen_by cfg (world_of cfg within es) (world_of cfg within es).fence).phase ≡ true →
+      HasSucceeded (seen_by cfg (world_of cfg within es) (world_of cfg within es).fence) a → IsRecorded cfg (world_of cfg within es) a
 
 -- Where an attempt is recorded, no container of its master and of its reduce other than its own lives, is not barred and was sent a yes. (The recorded attempt's own
 -- may be dead: DoneAck ends it before the flush.)
@@ -82,3 +101,20 @@ OnlyStartedCommits cfg within = (es : List Event) (e : Event) (k : ℕ) → is_c
 -- A master that aborts a job commit, of any generation, has COMMIT_FAIL there
 abbrev pub AbortsAreMarked : Config → Limits → Type 0
 AbortsAreMarked cfg within = (es : List Event) (k : ℕ) → (seen_by cfg (world_of cfg within es) k).phase ≡ Committing Aborting → is_some (entry_at (world_of cfg within es).content commit_fail) ≡ true
+
+-- whether a master ran at some place of its past
+unfoldable pub has_run : Config → ℕ → List Master_step → Bool
+has_run cfg k [] = false
+has_run cfg k (x ∷ h) = is_running (seen cfg k (x ∷ h)).phase || has_run cfg k h
+
+-- Until a master runs it launches and accepts nothing, also where it stops, ends or fails by what it finds; and as it begins to run, no reduce has succeeded but those that have
+-- winners among the records of the generations before it
+pub record BeginsWithItsWinners (cfg : Config) (within : Limits) : Type 0 where
+  pub launches : (es : List Event) (k : ℕ) → has_run cfg k ((world_of cfg within es).master_past k) ≡ false → (seen_by cfg (world_of cfg within es) k).launched ≡ []
+  pub accepts : (es : List Event) (k : ℕ) → has_run cfg k ((world_of cfg within es).master_past k) ≡ false → (seen_by cfg (world_of cfg within es) k).accepted ≡ []
+  pub none_accepted : (es : List Event) (e : Event) (k : ℕ) → is_running (seen_by cfg (world_of cfg within es) k).phase ≡ false → is_running (seen_by cfg (world_of cfg within (es ++ e ∷ [])) k).phase ≡ true →
+      (seen_by cfg (world_of cfg within (es ++ e ∷ [])) k).accepted ≡ []
+  pub none_recorded : (es : List Event) (e : Event) (k : ℕ) → is_running (seen_by cfg (world_of cfg within es) k).phase ≡ false → is_running (seen_by cfg (world_of cfg within (es ++ e ∷ [])) k).phase ≡ true →
+      (a : Attempt) → In a (seen_by cfg (world_of cfg within (es ++ e ∷ [])) k).recorded → is_reduce a ≡ false
+  pub winners : (es : List Event) (k : ℕ) → k ≤ (world_of cfg within es).fence → is_running (seen_by cfg (world_of cfg within es) k).phase ≡ true →
+      (seen_by cfg (world_of cfg within es) k).winners ≡ winners_of (records_below (world_of cfg within es).history k) cfg.job cfg.reduces

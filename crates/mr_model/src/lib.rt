@@ -46,7 +46,7 @@ mod actors;
 ghost use Rattle.mr_model.specs.Claims.{Limits, WinnerStays, NodesAreToldTheWinner, MarkerMeansWholeFiles, MarkerIsFinal, OneOutcome, RecoveryFindsTheWinners, WrongSuspicionDoesNoHarm};
 ghost use Rattle.mr_model.specs.Claims.{OneAttemptIsRecorded, OneContainerWasToldYes, CommittedFileIsTheWinners, PublishedFilesAreTheWinners, OneWholeOutput, LengthsAreRight};
 ghost use Rattle.mr_model.specs.Reachable.{AMarkedWorldIsReached};
-ghost use Rattle.mr_model.specs.Beside.{OnlyTheRecordedMayCommit, NewestCommittedIsItsOwn, CommitsAreAllowed, OverIsGoneOrBarred, OnlyStartedCommits, AbortsAreMarked};
+ghost use Rattle.mr_model.specs.Beside.{RecordedIsSucceeded, BeginsWithItsWinners, OnlyTheRecordedMayCommit, NewestCommittedIsItsOwn, CommitsAreAllowed, OverIsGoneOrBarred, OnlyStartedCommits, AbortsAreMarked};
 ghost use Rattle.mr_model.specs.Laws.{PathsAreTheLayouts, StoresAreTheModels, AppendedRecordsFit, MastersAreRaised};
 ghost use Rattle.mr_model.specs.Packets.{Config};
 ghost use Rattle.mr_model.specs.Calls.{CallsAgree, MapCallsAgree};
@@ -91,10 +91,11 @@ pub fn one_outcome()
     ensures one { (config : Config) (within : Limits) → OneOutcome config within }
 {}
 
-/// The newest master, while it runs, has found the winners of the earlier generations, and their whole files in its own generation; until it runs it launches
-/// nothing, and it never launches a reduce that had a winner, nor one whose success it accepted.
+/// The newest master, while it runs, has found the winners of the earlier generations, and their whole files in its own generation; until it runs, if ever, it launches
+/// nothing; as it begins to, no other reduce has succeeded; and it never launches a reduce that had a winner, nor one whose success it accepted.
 pub fn recovery_finds_the_winners()
     ensures finds { (config : Config) (within : Limits) → RecoveryFindsTheWinners config within }
+    ensures first { (config : Config) (within : Limits) → BeginsWithItsWinners config within }
 {}
 
 /// A node may be given up whose containers still run: all laws here hold over lists with expiries too. From an answered bar on each call for that
@@ -141,6 +142,11 @@ pub fn recorded_lengths_are_right()
 {}
 
 // What these need beside them
+
+/// While the newest master works, what is recorded of a reduce is exactly the attempt that succeeded for it.
+pub fn what_is_recorded_has_succeeded()
+    ensures exactly { (config : Config) (within : Limits) → RecordedIsSucceeded config within }
+{}
 
 /// Where an attempt is recorded, no container of its master and of its reduce other than its own lives, is not barred and was sent a yes.
 pub fn only_the_recorded_may_commit()
