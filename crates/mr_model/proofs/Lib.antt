@@ -74,3 +74,4 @@ pub mod Renamed
 pub mod Accounted
 pub mod Exactly
 pub mod First
+pub mod Owned

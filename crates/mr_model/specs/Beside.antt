@@ -1,13 +1,13 @@
 -- What the four facts need beside them, each of every run: which container may still change a reduce's committed directory, what a container's directory
 -- holds, that an end is an end, and how a job commit begins and fails.
-use Rattle.std.specs.Prelude.{ℕ, Bool, true, false, List, [], ◌∷◌, ◌++◌, ◌≡◌, ◌≤◌, ◌||◌, Option, Some, ◌⊎◌, is_some}
+use Rattle.std.specs.Prelude.{ℕ, Bool, true, false, List, [], ◌∷◌, ◌++◌, ◌≡◌, ◌≤◌, ◌||◌, Option, Some, None, ◌⊎◌, is_some}
 use Rattle.mr_container.specs.declared.reply.Reply as reply
 use Rattle.mr_container.specs.Readings.{is_fine}
-use Rattle.mr_model.specs.Ids.{Attempt, ContainerId, is_reduce, generation, commit_started, commit_fail, task_attempt, committed}
-use Rattle.mr_model.specs.Content.{Create, Rename, entry_at}
+use Rattle.mr_model.specs.Ids.{Attempt, ContainerId, TaskId, Path, part_name, is_reduce, generation, commit_started, commit_fail, task_attempt, committed}
+use Rattle.mr_model.specs.Content.{Create, Rename, Dir, File, entry_at}
 use Rattle.mr_model.specs.Records.{JobUnsuccessful, records_below}
 use Rattle.mr_model.specs.Packets.{Config, Answer, Done, Container, Master, Names, Fine}
-use Rattle.mr_model.specs.Pasts.{Place, Called, Wish, To_look, To_clear, To_rename, To_report}
+use Rattle.mr_model.specs.Pasts.{Place, Called, Wish, computed, To_need, To_pend, To_poll, To_look, To_clear, To_rename, To_report}
 use Rattle.mr_model.specs.Hearing.{Phase, Running, Committing, Failing, Aborting, Launched, Seen, Todo_winner, has, is_over, is_running}
 use Rattle.mr_model.specs.Duties.{Master_step, wants_flush, seen, winners_of}
 use Rattle.mr_model.specs.World.{World, Event, Duty, Calm, seen_by, duty, wish_of}
@@ -73,6 +73,30 @@ pub record CommitsAreAllowed (cfg : Config) (within : Limits) : Type 0 where
   -- and so had the one that a report in the bag is of
   pub done : (es : List Event) (k : ℕ) (a : Attempt) (bytes : Option ℕ) → is_reduce a ≡ true → In (record { to = Master k; body = Done a bytes }) (world_of cfg within es).bag →
       (c : ContainerId) × (p : Place) × (c.app ≡ k) × ((world_of cfg within es).place c ≡ Some p) × (p.attempt ≡ a) × HasRenamed (world_of cfg within es) c a
+
+-- the wishes of a reduce's container from the answered close to the rename
+abbrev pub has_closed : Wish → Bool
+has_closed To_need = true
+has_closed To_pend = true
+has_closed To_poll = true
+has_closed To_look = true
+has_closed To_clear = true
+has_closed To_rename = true
+has_closed _ = false
+
+-- a directory with one entry, reduce t's closed part file
+pub record HasOneFile (w : World) (d : Path) (t : TaskId) (bytes : List ℕ) : Type 0 where
+  pub dir : entry_at w.content d ≡ Some Dir
+  pub file : entry_at w.content (d ++ part_name t ∷ []) ≡ Some (File bytes true)
+  pub only : (x : Path) → (x ≡ [] → ⊥) → (x ≡ part_name t ∷ [] → ⊥) → entry_at w.content (d ++ x) ≡ None
+
+-- From the close to the rename an attempt's directory has exactly its one file, with the bytes that were handed in, or nothing is there: a job commit or abort took it away.
+-- Nobody else adds to it, of whatever generation it is, and whatever the masters do.
+abbrev pub AttemptsHoldTheirFiles : Config → Limits → Type 0
+AttemptsHoldTheirFiles cfg within = (es : List Event) (c : ContainerId) (p : Place) → (world_of cfg within es).place c ≡ Some p → is_reduce p.attempt ≡ true →
+    has_closed (wish_of cfg (world_of cfg within es) c) ≡ true →
+    ((x : Path) → entry_at (world_of cfg within es).content (task_attempt c.app p.attempt ++ x) ≡ None) ⊎
+    HasOneFile (world_of cfg within es) (task_attempt c.app p.attempt) p.attempt.task (computed ((world_of cfg within es).container_past c))
 
 -- An attempt of a reduce that is over for its master: its container does not live and never will, or it is barred
 abbrev pub OverIsGoneOrBarred : Config → Limits → Type 0

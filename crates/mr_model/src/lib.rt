@@ -46,7 +46,7 @@ mod actors;
 ghost use Rattle.mr_model.specs.Claims.{Limits, WinnerStays, NodesAreToldTheWinner, MarkerMeansWholeFiles, MarkerIsFinal, OneOutcome, RecoveryFindsTheWinners, WrongSuspicionDoesNoHarm};
 ghost use Rattle.mr_model.specs.Claims.{OneAttemptIsRecorded, OneContainerWasToldYes, CommittedFileIsTheWinners, PublishedFilesAreTheWinners, OneWholeOutput, LengthsAreRight};
 ghost use Rattle.mr_model.specs.Reachable.{AMarkedWorldIsReached};
-ghost use Rattle.mr_model.specs.Beside.{RecordedIsSucceeded, BeginsWithItsWinners, OnlyTheRecordedMayCommit, NewestCommittedIsItsOwn, CommitsAreAllowed, OverIsGoneOrBarred, OnlyStartedCommits, AbortsAreMarked};
+ghost use Rattle.mr_model.specs.Beside.{AttemptsHoldTheirFiles, RecordedIsSucceeded, BeginsWithItsWinners, OnlyTheRecordedMayCommit, NewestCommittedIsItsOwn, CommitsAreAllowed, OverIsGoneOrBarred, OnlyStartedCommits, AbortsAreMarked};
 ghost use Rattle.mr_model.specs.Laws.{PathsAreTheLayouts, StoresAreTheModels, AppendedRecordsFit, MastersAreRaised};
 ghost use Rattle.mr_model.specs.Packets.{Config};
 ghost use Rattle.mr_model.specs.Calls.{CallsAgree, MapCallsAgree};
@@ -161,6 +161,11 @@ pub fn the_newest_committed_is_its_own()
 /// A reduce's container that looks, clears, renames or reports was sent a yes; where it reports, its rename was answered.
 pub fn commits_are_allowed()
     ensures allowed { (config : Config) (within : Limits) → CommitsAreAllowed config within }
+{}
+
+/// From the close of its file to the rename an attempt's directory has exactly that file, with the bytes that were handed in, or nothing is there.
+pub fn attempts_hold_their_files()
+    ensures hold { (config : Config) (within : Limits) → AttemptsHoldTheirFiles config within }
 {}
 
 /// The container of a reduce's attempt that is over does not live and never will, or the attempt is barred.
