@@ -37,7 +37,7 @@ IsLengthOf w a z = (bytes : List ℕ) × IsWhole w a bytes × (z ≡ Some (lengt
 
 -- What a reduce's container reports
 
-abbrev SaysLength : World → Envelope → Type 0
+abbrev pub SaysLength : World → Envelope → Type 0
 SaysLength w v = (k : ℕ) (a : Attempt) (z : Option ℕ) → v ≡ to_app k (Done a z) → is_reduce a ≡ true → IsLengthOf w a z
 
 length-stays : (cfg : Config) (w : World) (e : Event) → Known cfg w → not_now cfg w e ≡ None → (a : Attempt) (z : Option ℕ) → IsLengthOf w a z → IsLengthOf (effect cfg w e) a z
@@ -70,14 +70,14 @@ sent-lengths cfg w e kn n = sent-each (SaysLength (effect cfg w e)) (sayings (ef
 
 -- What a master has due and in its tail was reported
 
-abbrev Reported : World → ℕ → List Record → Type 0
+abbrev pub Reported : World → ℕ → List Record → Type 0
 Reported u k rs = (a : Attempt) (z : Option ℕ) → In (ReduceSucceeded a z) rs → In (to_app k (Done a z)) u.bag
 
-record Noted (u : World) (k : ℕ) (due tail : List Record) : Type 0 where
-  dues : Reported u k due
-  tails : Reported u k tail
+pub record Noted (u : World) (k : ℕ) (due tail : List Record) : Type 0 where
+  pub dues : Reported u k due
+  pub tails : Reported u k tail
 
-abbrev NotedBy : World → ℕ → Seen → Type 0
+abbrev pub NotedBy : World → ℕ → Seen → Type 0
 NotedBy u k s = Noted u k s.due s.tail
 
 more-noted : (u : World) (k : ℕ) (s : Seen) (rs : List Record) → Reported u k rs → NotedBy u k s → Noted u k (s.due ++ rs) s.tail
@@ -178,11 +178,11 @@ next-noted cfg w u k (Asks call r) a i g o = told-noted cfg u k (seen_by cfg w k
 
 -- The whole
 
-record Measured (cfg : Config) (w : World) : Type 0 where
-  sures : Sure cfg w
-  lengths : Each (SaysLength w) w.bag
-  noted : (k : ℕ) → NotedBy w k (seen_by cfg w k)
-  stored : (k : ℕ) (a : Attempt) (z : Option ℕ) → Stores (w.history k) (ReduceSucceeded a z) → (z ≡ None) ⊎ In (to_app k (Done a z)) w.bag
+pub record Measured (cfg : Config) (w : World) : Type 0 where
+  pub sures : Sure cfg w
+  pub lengths : Each (SaysLength w) w.bag
+  pub noted : (k : ℕ) → NotedBy w k (seen_by cfg w k)
+  pub stored : (k : ℕ) (a : Attempt) (z : Option ℕ) → Stores (w.history k) (ReduceSucceeded a z) → (z ≡ None) ⊎ In (to_app k (Done a z)) w.bag
 
 kept-or-none : (v : ℕ) (r : Record) (a : Attempt) (y z : Option ℕ) → r ≡ ReduceSucceeded a y → as_written v r ≡ ReduceSucceeded a z → (z ≡ None) ⊎ (y ≡ z)
 kept-or-none v r a y z e q = by (nat_eq v 2) (subst (λ x. as_written v x ≡ ReduceSucceeded a z) e q)
@@ -191,7 +191,7 @@ kept-or-none v r a y z e q = by (nat_eq v 2) (subst (λ x. as_written v x ≡ Re
     by true q = inr cc
     by false q = inl (sym (let f : None ≡ z = cc in f))
 
-measured : (cfg : Config) (w : World) (e : Event) → Measured cfg w → not_now cfg w e ≡ None → Measured cfg (effect cfg w e)
+pub measured : (cfg : Config) (w : World) (e : Event) → Measured cfg w → not_now cfg w e ≡ None → Measured cfg (effect cfg w e)
 measured cfg w e h n = record {
   sures = sure cfg w e h.sures n;
   lengths = Each-append (SaysLength (effect cfg w e)) w.bag _ (bag-stays cfg w e h.sures.known n w.bag h.lengths) (sent-lengths cfg w e h.sures.known n);
@@ -217,7 +217,7 @@ measured cfg w e h n = record {
         due y x (inr f) = inr (In-left _ w.bag (sent cfg w e) (subst (λ t. In (to_app k (Done a t)) w.bag) f
             ((h.noted k).dues a y (subst (λ t. In t (seen_by cfg w k).due) x (first-due cfg k (seen_by cfg w k) (Append_record q.1) q.2)))))
 
-opening-measured : (cfg : Config) → Measured cfg opening_world
+pub opening-measured : (cfg : Config) → Measured cfg opening_world
 unfolding seen
 opening-measured cfg = record { sures = opening-sure cfg; lengths = tt; noted = λ k. record { dues = λ a z i. absurd i; tails = λ a z i. absurd i }; stored = λ k a z i. absurd i }
 

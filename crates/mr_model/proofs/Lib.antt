@@ -75,3 +75,5 @@ pub mod Accounted
 pub mod Exactly
 pub mod First
 pub mod Owned
+pub mod Sized
+pub mod Fitting

@@ -82,7 +82,7 @@ module _ (cfg : Config) (P : Seen → Type 0) (c : Closed cfg P) where
 
 -- Segments
 
-stores-sealed : (kept : ℕ) (s : Segment) (a : Record) → Stores (sealed kept s) a → Stores s a
+pub stores-sealed : (kept : ℕ) (s : Segment) (a : Record) → Stores (sealed kept s) a → Stores s a
 stores-sealed kept s a = if_cases (λ (x : Segment). Stores x a → Stores s a) s.is_sealed _ _ (λ t i. i) (λ t i. cut (In-parts _ (s.stable ++ whole_in (kept - head_width s) s.tail) [] i))
   where
     kept_or : In a s.stable ⊎ In a (whole_in (kept - head_width s) s.tail) → Stores s a

@@ -6,7 +6,7 @@ use Rattle.mr_container.specs.Readings.{is_fine}
 use Rattle.mr_model.specs.Ids.{Attempt, ContainerId, TaskId, Path, part_name, is_reduce, generation, commit_started, commit_fail, task_attempt, committed}
 use Rattle.mr_model.specs.Content.{Create, Rename, Dir, File, entry_at}
 use Rattle.mr_model.specs.Records.{JobUnsuccessful, records_below}
-use Rattle.mr_model.specs.Packets.{Config, Answer, Done, Container, Master, Names, Fine}
+use Rattle.mr_model.specs.Packets.{Config, Answer, Done, Container, Master, Names}
 use Rattle.mr_model.specs.Pasts.{Place, Called, Wish, computed, To_need, To_pend, To_poll, To_look, To_clear, To_rename, To_report}
 use Rattle.mr_model.specs.Hearing.{Phase, Running, Committing, Failing, Aborting, Launched, Seen, Todo_winner, has, is_over, is_running}
 use Rattle.mr_model.specs.Duties.{Master_step, wants_flush, seen, winners_of}

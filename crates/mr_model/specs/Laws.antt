@@ -47,11 +47,13 @@ pub record StoresAreTheModels : Type 0 where
       TellsAll (history.raised k kept version h) (with_version version k (sealed_below k kept w.history))
   pub crashed : (h : State) (w : World) (k kept : ℕ) → Stands h w k → TellsAll (history.sealed_at k kept h) (with_segment w.history k (sealed kept (w.history k)))
 
--- Whatever a master appends has a line in each version: its attempt is of the kind that succeeds so, its incarnation is one, and the success of a reduce has
--- a length. That this is at most a file's is a limit.
-abbrev pub AppendedRecordsFit : Type 0
-AppendedRecordsFit = (cfg : Config) (within : Limits) (es : List Event) (k : ℕ) (r : Record) → duty cfg (world_of cfg within es) k ≡ Some (Append_record r) →
-    (lines.fits (lines.as_written 1 r) ≡ true) × ((version : ℕ) → lines.suits version r ≡ true)
+-- Whatever a master appends is a record that the history takes, in each version: its attempt is of the kind that succeeds so, its incarnation is one, and the success of a
+-- reduce has a length, at most a file's. (A longer write is refused to its container.) So what is stored tells a length exactly where its segment is of version 2.
+pub record AppendedRecordsFit : Type 0 where
+  pub fits : (cfg : Config) (within : Limits) (es : List Event) (k : ℕ) (r : Record) → duty cfg (world_of cfg within es) k ≡ Some (Append_record r) → lines.fits r ≡ true
+  pub suits : (cfg : Config) (within : Limits) (es : List Event) (k : ℕ) (r : Record) (version : ℕ) → duty cfg (world_of cfg within es) k ≡ Some (Append_record r) → lines.suits version r ≡ true
+  pub told : (cfg : Config) (within : Limits) (es : List Event) (k : ℕ) (r : Record) → In r (((world_of cfg within es).history k).stable ++ ((world_of cfg within es).history k).tail) →
+      lines.is_of ((world_of cfg within es).history k).version r ≡ true
 
 -- A living master's generation is one that both stores were raised to, and what it launches has the numbers of its generation.
 pub record MastersAreRaised : Type 0 where

@@ -195,7 +195,7 @@ pub fn stores_are_the_models()
     ensures { StoresAreTheModels }
 {}
 
-/// Whatever a master appends to the history has a line.
+/// Whatever a master appends the history takes, in each version: a length is at most a file's. What is stored tells a length exactly in version 2.
 pub fn appended_records_fit()
     ensures { AppendedRecordsFit }
 {}
