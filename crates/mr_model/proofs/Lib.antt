@@ -77,3 +77,4 @@ pub mod First
 pub mod Owned
 pub mod Sized
 pub mod Fitting
+pub mod Made

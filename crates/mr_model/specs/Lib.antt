@@ -20,3 +20,4 @@ pub mod Containers
 pub mod Nodes
 pub mod Actors
 pub mod Acts
+pub mod Made

@@ -50,6 +50,7 @@ ghost use Rattle.mr_model.specs.Beside.{AttemptsHoldTheirFiles, RecordedIsSuccee
 ghost use Rattle.mr_model.specs.Laws.{PathsAreTheLayouts, StoresAreTheModels, AppendedRecordsFit, MastersAreRaised};
 ghost use Rattle.mr_model.specs.Packets.{Config};
 ghost use Rattle.mr_model.specs.Calls.{CallsAgree, MapCallsAgree};
+ghost use Rattle.mr_model.specs.Made.{PastsAreMade};
 ghost use Rattle.mr_model.specs.Sequential.{Job, JobLaws, BoundsOutputs, WholeIsSequential, MarkedFilesAreSequential};
 
 pub use actors::{
@@ -210,4 +211,10 @@ pub fn masters_are_raised()
 pub fn calls_agree()
     ensures agree { CallsAgree }
     ensures maps { MapCallsAgree }
+{}
+
+/// Each step of a master's past is what an event makes: a launch is the next one of a task of the job that has no fault, a store call is the one that
+/// was due, and what is read was written by earlier generations. So launches, and what is taken over, meet the conditions of `calls_agree`.
+pub fn pasts_are_made()
+    ensures { PastsAreMade }
 {}
