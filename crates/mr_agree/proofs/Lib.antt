@@ -1,0 +1,5 @@
+pub mod Works
+pub mod Turns
+pub mod Turn
+pub mod Changes
+pub mod Agreed

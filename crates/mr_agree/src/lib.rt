@@ -1,0 +1,10 @@
+//! Masters of the cluster and masters' machines: what `mr_model` reads off a master's past is what `mr_master_model` reads off the same past. Each law
+//! stands on a function that does nothing.
+#![tactic(auto)]
+
+ghost use Rattle.mr_agree.specs.Agreement.{TurnsAgree};
+
+/// Of each phase that a master can be in: the machine is at the same phase, its next store call is the master's, and the answer leads both to the same.
+pub fn turns_agree()
+    ensures { TurnsAgree }
+{}
