@@ -2,9 +2,14 @@
 //! stands on a function that does nothing.
 #![tactic(auto)]
 
-ghost use Rattle.mr_agree.specs.Agreement.{TurnsAgree};
+ghost use Rattle.mr_agree.specs.Agreement.{ActsUntilItRuns, TurnsAgree};
 
 /// Of each phase that a master can be in: the machine is at the same phase, its next store call is the master's, and the answer leads both to the same.
 pub fn turns_agree()
     ensures { TurnsAgree }
+{}
+
+/// Until it runs, a master's phase, its next store call with what it is for, and what it sends at its next step are its machine's.
+pub fn acts_until_it_runs()
+    ensures { ActsUntilItRuns }
 {}

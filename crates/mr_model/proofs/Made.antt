@@ -26,7 +26,7 @@ use Rattle.mr_model.proofs.Told.{Stores, StoredOrDue, stores_after, is_allowed, 
 -- ---- what is due, and what was read, along a past
 
 -- a winner that was read is of its own task, a reduce of the job
-abbrev WinsOf : Config → ℕ → Todo_winner → Type 0
+abbrev pub WinsOf : Config → ℕ → Todo_winner → Type 0
 WinsOf cfg n w = (w.attempt.task ≡ w.task) × (BelongsTo cfg n w.attempt × (is_reduce w.attempt ≡ true))
 
 pub record Fitted (cfg : Config) (k : ℕ) (launched : List Launched) (winners : List Todo_winner) (history due : List Record) : Type 0 where
