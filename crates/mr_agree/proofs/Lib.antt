@@ -6,3 +6,5 @@ pub mod Agreed
 pub mod Answering
 pub mod Early
 pub mod Until
+pub mod Still
+pub mod Recorded

@@ -1,3 +1,4 @@
 pub mod Steps
 pub mod Works
 pub mod Agreement
+pub mod Recorded

@@ -2,6 +2,7 @@
 //! stands on a function that does nothing.
 #![tactic(auto)]
 
+ghost use Rattle.mr_agree.specs.Recorded.{ReducesAreRecorded};
 ghost use Rattle.mr_agree.specs.Agreement.{ActsUntilItRuns, TurnsAgree};
 
 /// Of each phase that a master can be in: the machine is at the same phase, its next store call is the master's, and the answer leads both to the same.
@@ -12,4 +13,9 @@ pub fn turns_agree()
 /// Until it runs, a master's phase, its next store call with what it is for, and what it sends at its next step are its machine's.
 pub fn acts_until_it_runs()
     ensures { ActsUntilItRuns }
+{}
+
+/// While a master runs, a reduce has a Succeeded attempt exactly where the master recorded one of it, or read its winner.
+pub fn reduces_are_recorded()
+    ensures { ReducesAreRecorded }
 {}

@@ -125,14 +125,14 @@ once-newest t known (JobUnsuccessful ∷ rs) ps o = once-newest t known rs ps o
 
 -- ---- the relation, over the parts that it speaks of
 
-record Maps (t : TaskId) (phase : Phase) (launched : List Launched) (ps : List Placed) (rs : List Attempt) (due tail : List Record) (r_arrived r_accepted r_recorded r_lost : List Attempt) : Type 0 where
+pub record Maps (t : TaskId) (phase : Phase) (launched : List Launched) (ps : List Placed) (rs : List Attempt) (due tail : List Record) (r_arrived r_accepted r_recorded r_lost : List Attempt) : Type 0 where
   pub early : is_early phase ≡ true → r_arrived ≡ []
   pub stood : Stood t ps rs r_accepted r_recorded r_lost
   pub dues : (a : Attempt) → a.task ≡ t → has (successes due) a ≡ true → grant.has r_accepted a ≡ true
   pub tails : (a : Attempt) → a.task ≡ t → has (successes tail) a ≡ true → grant.has r_accepted a ≡ true
   pub runs : (a : Attempt) → is_some (find_launched launched a) ≡ true → is_reduce a ≡ false → nat_eq a.task.number t.number ≡ true → a.task ≡ t
 
-abbrev MapsOf : TaskId → Seen → task.Seen → Type 0
+abbrev pub MapsOf : TaskId → Seen → task.Seen → Type 0
 MapsOf t s r = Maps t s.phase s.launched s.standing s.recorded s.due s.tail r.arrived r.accepted r.recorded r.lost
 
 -- the task keeps what it has
@@ -720,11 +720,11 @@ module _ (t : TaskId) (k : ℕ) (cfg : Config) (map : of_reduces t.kind ≡ fals
 
 -- ---- over every past
 
-record Both (t : TaskId) (s : Seen) (r : task.Seen) : Type 0 where
+pub record Both (t : TaskId) (s : Seen) (r : task.Seen) : Type 0 where
   pub agrees : AgreesOf t s r
   pub maps : MapsOf t s r
 
-both : (cfg : Config) (k : ℕ) (h : List Master_step) (t : TaskId) → of_reduces t.kind ≡ false → t.job ≡ cfg.job → AllFit cfg k h → AllOfJob cfg k h → Both t (seen cfg k h) (of_task cfg k h t)
+pub both : (cfg : Config) (k : ℕ) (h : List Master_step) (t : TaskId) → of_reduces t.kind ≡ false → t.job ≡ cfg.job → AllFit cfg k h → AllOfJob cfg k h → Both t (seen cfg k h) (of_task cfg k h t)
 unfolding seen calls task.seen
 both cfg k [] t map job fit here = record {
   agrees = nothing-agrees t k cfg;

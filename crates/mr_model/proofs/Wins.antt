@@ -84,11 +84,11 @@ reduce-won t k h reduces = by (task.seen t k h).accepted refl
 
 -- ---- the relation, over the parts that it speaks of
 
-record Wins (t : TaskId) (phase : Phase) (taken : List Attempt) (winners : List Todo_winner) (r_arrived r_accepted : List Attempt) : Type 0 where
+pub record Wins (t : TaskId) (phase : Phase) (taken : List Attempt) (winners : List Todo_winner) (r_arrived r_accepted : List Attempt) : Type 0 where
   pub early : is_early phase ≡ true → (r_arrived ≡ []) × ((r_accepted ≡ []) × (accepts_task taken t ≡ false))
   pub during : is_running phase ≡ true → is_some (first_of r_accepted) ≡ (accepts_task taken t || has_winner winners t)
 
-abbrev WinsOf : TaskId → Seen → task.Seen → Type 0
+abbrev pub WinsOf : TaskId → Seen → task.Seen → Type 0
 WinsOf t s r = Wins t s.phase s.accepted s.winners r.arrived r.accepted
 
 -- the task keeps what has arrived and what was accepted
@@ -249,7 +249,7 @@ starts-early k s (Finished b) call r e n' = absurd (false≢true e)
 starts-early k s Stopped call r e n' = absurd (false≢true e)
 
 -- a Running master that runs on read nothing
-runs-on : (k : ℕ) (s : Seen) (p : Phase) (call : Store) (r : Reply) → is_running p ≡ true → is_running (phase_told k s p call r) ≡ true → is_read call ≡ false
+pub runs-on : (k : ℕ) (s : Seen) (p : Phase) (call : Store) (r : Reply) → is_running p ≡ true → is_running (phase_told k s p call r) ≡ true → is_read call ≡ false
 unfolding phase_told
 runs-on k s Running Read_history r e f = absurd (false≢true f)
 runs-on k s Running (Names op) r e f = refl
@@ -485,11 +485,11 @@ module _ (t : TaskId) (k : ℕ) (cfg : Config) (reduces : of_reduces t.kind ≡ 
 
 -- ---- both, over every past
 
-record Both (t : TaskId) (s : Seen) (r : task.Seen) : Type 0 where
+pub record Both (t : TaskId) (s : Seen) (r : task.Seen) : Type 0 where
   pub agrees : AgreesOf t s r
   pub wins : WinsOf t s r
 
-both : (cfg : Config) (k : ℕ) (h : List Master_step) (t : TaskId) → of_reduces t.kind ≡ true → AllFit cfg k h → Both t (seen cfg k h) (of_task cfg k h t)
+pub both : (cfg : Config) (k : ℕ) (h : List Master_step) (t : TaskId) → of_reduces t.kind ≡ true → AllFit cfg k h → Both t (seen cfg k h) (of_task cfg k h t)
 unfolding seen calls task.seen
 both cfg k [] t reduces fit = record { agrees = nothing-agrees t k cfg; wins = record { early = λ e. (refl, (refl, refl)); during = λ e. absurd (false≢true e) } }
 both cfg k (x ∷ h) t reduces fit =
