@@ -8,3 +8,5 @@ pub mod Early
 pub mod Until
 pub mod Still
 pub mod Recorded
+pub mod Bars
+pub mod Points

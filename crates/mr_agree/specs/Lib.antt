@@ -2,3 +2,4 @@ pub mod Steps
 pub mod Works
 pub mod Agreement
 pub mod Recorded
+pub mod Points

@@ -2,6 +2,7 @@
 //! stands on a function that does nothing.
 #![tactic(auto)]
 
+ghost use Rattle.mr_agree.specs.Points.{PointsAgree};
 ghost use Rattle.mr_agree.specs.Recorded.{ReducesAreRecorded};
 ghost use Rattle.mr_agree.specs.Agreement.{ActsUntilItRuns, TurnsAgree};
 
@@ -18,4 +19,10 @@ pub fn acts_until_it_runs()
 /// While a master runs, a reduce has a Succeeded attempt exactly where the master recorded one of it, or read its winner.
 pub fn reduces_are_recorded()
     ensures { ReducesAreRecorded }
+{}
+
+/// Wherever a master's past has led, a machine whose tasks have heard alike has its phase, its next store call, its refusals of launches and expiries, and its
+/// next attempt.
+pub fn points_agree()
+    ensures { PointsAgree }
 {}
