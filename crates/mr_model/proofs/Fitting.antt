@@ -12,7 +12,7 @@ use Rattle.mr_model.specs.World.{World, Event, Start, Crash, Duty, LaunchOn, Del
 use Rattle.mr_model.specs.Effect.{effect, not_now, history_called}
 use Rattle.mr_model.specs.Sending.{to_app}
 use Rattle.mr_model.specs.Claims.{Limits, In, IsWhole, world_of}
-use Rattle.mr_model.specs.Laws.{AppendedRecordsFit}
+use Rattle.mr_model.specs.Laws.{AppendedRecordsFit, IsRanged}
 use Rattle.mr_model.proofs.Basic.{if_cases, along}
 use Rattle.mr_model.proofs.Lists.{In-parts, In-left, In-right, Each-In}
 use Rattle.mr_model.proofs.Grows.{is_started, duty_master}
@@ -24,6 +24,14 @@ use Rattle.mr_model.proofs.Numbers.{whole_is_one}
 use Rattle.mr_model.proofs.Lengths.{Measured, measured, opening-measured, SaysLength}
 use Rattle.mr_model.proofs.Due.{HasLine, always-lined}
 use Rattle.mr_model.proofs.Sized.{always-sized}
+use Rattle.mr_model.proofs.Ranges.{always-placed, NamesOne, Says, LaunchIn}
+use Rattle.mr_model.proofs.Numbers.{Numbers, IsNumbered}
+use Rattle.mr_model.proofs.Beside.{numbers-always}
+use Rattle.mr_ids.specs.Text.{IsAttempt, IsJob}
+use Rattle.mr_model.specs.Hearing.{Launched}
+use Rattle.mr_model.specs.Effect.{tasks_of}
+use Rattle.std.proofs.Common.{◌^◌}
+use Rattle.std.proofs.lemmas.Bool.{leb-true}
 
 -- The length that is due
 
@@ -195,10 +203,67 @@ versioned cfg w e h n = record { measure = measured cfg w e h.measure n; none = 
 opening-versioned : (cfg : Config) → Versioned cfg opening_world
 opening-versioned cfg = record { measure = opening-measured cfg; none = λ k l r i. i; told = λ k r i. absurd i }
 
+-- The numbers
+
+attempt-in : (cfg : Config) (w : World) → IsRanged cfg w → (k : ℕ) → k ≤ w.fence → (l : Launched) → LaunchIn cfg w l → IsNumbered k l → IsAttempt l.attempt
+attempt-in cfg w g k old l i n = record {
+  task = record { job = subst IsJob (sym i.job) g.job; number = small l.attempt.task.kind i.number };
+  number = (let a = n.1.1 in let b = g.generations in let c = n.0 in omega (arith, a, b, c, old));
+}
+  where
+    small : (d : TaskKind) → l.attempt.task.number < tasks_of cfg d → l.attempt.task.number < 2 ^ 32
+    small Map u = let b = g.splits in omega (arith, u, b)
+    small Reduce u = let b = g.reduces in omega (arith, u, b)
+
+short-32 : (z : Option ℕ) → lines.is_length z ≡ true → lines.IsIn32 z
+short-32 None e = tt
+short-32 (Some n) e = let l = leb-true n MAX_PART_LEN e in omega (arith, l)
+
+record-in : (cfg : Config) (w : World) → IsRanged cfg w → (k : ℕ) → k ≤ w.fence → Numbers cfg w → (r : Record) → (l : Launched) → In l (seen_by cfg w k).launched → LaunchIn cfg w l → Says r l →
+    ((a : Attempt) (z : Option ℕ) → r ≡ ReduceSucceeded a z → lines.IsIn32 z) → lines.InRange r
+record-in cfg w g k old o r l i u s f = by r s f
+  where
+    x : IsAttempt l.attempt
+    x = attempt-in cfg w g k old l u (o.ranged k l i)
+
+    node : l.node < 2 ^ 32
+    node = let a = u.node in let b = g.nodes in omega (arith, a, b)
+
+    incarnation : l.incarnation < 2 ^ 32
+    incarnation = let a = u.incarnation in let b = g.incarnations l.node in omega (arith, a, b)
+
+    by : (r : Record) → Says r l → ((a : Attempt) (z : Option ℕ) → r ≡ ReduceSucceeded a z → lines.IsIn32 z) → lines.InRange r
+    by (AttemptStarted a n) s f = (subst IsAttempt s.0 x, subst (λ z. z < 2 ^ 32) s.1 node)
+    by (MapSucceeded a n j) s f = (subst IsAttempt s.0 x, subst (λ z. z < 2 ^ 32) s.1 node, subst (λ z. z < 2 ^ 32) s.2 incarnation)
+    by (ReduceSucceeded a z) s f = (subst IsAttempt s x, f a z refl)
+    by (AttemptFailed a) s f = subst IsAttempt s x
+    by JobUnsuccessful s f = tt
+
+ranged : (cfg : Config) (within : Limits) (es : List Event) (k : ℕ) (r : Record) → IsRanged cfg (world_of cfg within es) → (world_of cfg within es).is_master k ≡ true → duty cfg (world_of cfg within es) k ≡ Some (Append_record r) → lines.InRange r
+ranged cfg within es k r g m d = by (Each-In (NamesOne (seen_by cfg w k).launched) (seen_by cfg w k).due ((always-placed cfg within es).named k) r i)
+  where
+    w : World
+    w = world_of cfg within es
+
+    i : In r (seen_by cfg w k).due
+    i = first-due cfg k (seen_by cfg w k) (Append_record r) d
+
+    old : k ≤ w.fence
+    old = (always-measured cfg within es).sures.known.honest.is_aged.masters_started k m
+
+    short : (a : Attempt) (z : Option ℕ) → r ≡ ReduceSucceeded a z → lines.IsIn32 z
+    short a z q = let j : In (ReduceSucceeded a z) (seen_by cfg w k).due = subst (λ x. In x (seen_by cfg w k).due) q i in
+        short-32 z (due-short cfg within es k a z (((always-measured cfg within es).sures.known.honest.steady k old).dues a z j).1 j)
+
+    by : NamesOne (seen_by cfg w k).launched r → lines.InRange r
+    by (inl q) = subst lines.InRange (sym q) tt
+    by (inr x) = record-in cfg w g k old (numbers-always cfg within es) r x.0 x.1 ((always-placed cfg within es).launched k x.0 x.1) x.2 short
+
 pub appended_records_fit : AppendedRecordsFit
 appended_records_fit = record {
   fits = λ cfg within es k r d. let i = first-due cfg k (seen_by cfg (world_of cfg within es) k) (Append_record r) d in
       due-fits cfg within es k r (Each-In HasLine (seen_by cfg (world_of cfg within es) k).due (always-lined cfg within es k).dues r i) i;
   suits = λ cfg within es k r v d. (Rattle.mr_model.proofs.Due.appended-fits cfg within es k r d).1 v;
+  ranges = ranged;
   told = λ cfg within es k r i. (along (Versioned cfg) cfg within (versioned cfg) opening_world es (opening-versioned cfg)).told k r i;
 }

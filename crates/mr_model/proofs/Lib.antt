@@ -75,6 +75,7 @@ pub mod Accounted
 pub mod Exactly
 pub mod First
 pub mod Owned
+pub mod Ranges
 pub mod Sized
 pub mod Fitting
 pub mod Made

@@ -1,5 +1,5 @@
 -- What ties the model to the crates beneath it.
-use Rattle.std.specs.Prelude.{length, replicate, ◌≤◌, ◌+◌, ◌*◌, ◌-◌, ℕ, ◌≡◌, ◌<◌, true, List, [], ◌∷◌, ◌++◌, Some, not, nat_lt, if◌then◌else◌, false}
+use Rattle.std.specs.Prelude.{length, replicate, ◌≤◌, ◌+◌, ◌*◌, ◌-◌, ◌^◌, ℕ, ◌≡◌, ◌<◌, true, List, [], ◌∷◌, ◌++◌, Some, not, nat_lt, if◌then◌else◌, false}
 use Rattle.mr_paths.specs.Layout as layout
 use Rattle.mr_names.specs.Calls as names
 use Rattle.mr_history.specs.State.{State}
@@ -8,6 +8,8 @@ use Rattle.mr_history.specs.Winner as winners
 use Rattle.mr_history.specs.Recorded.{tail_width}
 use Rattle.mr_history.specs.Calls as history
 use Rattle.mr_history.specs.Line as lines
+use Rattle.mr_ids.specs.Text.{IsJob}
+use Rattle.mr_model.specs.Pasts.{incarnation_of}
 use Rattle.mr_model.specs.Ids.{Attempt, TaskId, dest, temporary, job_attempt, task_attempt, committed, marker, part}
 use Rattle.mr_model.specs.Content.{Op}
 use Rattle.mr_model.specs.Records.{Record, winner_in, length_in, with_segment, with_version, sealed_below, sealed}
@@ -47,11 +49,23 @@ pub record StoresAreTheModels : Type 0 where
       TellsAll (history.raised k kept version h) (with_version version k (sealed_below k kept w.history))
   pub crashed : (h : State) (w : World) (k kept : ℕ) → Stands h w k → TellsAll (history.sealed_at k kept h) (with_segment w.history k (sealed kept (w.history k)))
 
+-- the numbers of a config and of a world are in the ranges of the machines' types: generations are at most 1,000, all else is below 2^32
+pub record IsRanged (cfg : Config) (w : World) : Type 0 where
+  pub job : IsJob cfg.job
+  pub splits : length cfg.splits ≤ 2 ^ 32
+  pub reduces : cfg.reduces ≤ 2 ^ 32
+  pub nodes : cfg.nodes ≤ 2 ^ 32
+  pub generations : w.fence ≤ 1000
+  pub incarnations : (n : ℕ) → incarnation_of (w.node_past n) < 2 ^ 32
+
 -- Whatever a master appends is a record that the history takes, in each version: its attempt is of the kind that succeeds so, its incarnation is one, and the success of a
 -- reduce has a length, at most a file's. (A longer write is refused to its container.) So what is stored tells a length exactly where its segment is of version 2.
 pub record AppendedRecordsFit : Type 0 where
   pub fits : (cfg : Config) (within : Limits) (es : List Event) (k : ℕ) (r : Record) → duty cfg (world_of cfg within es) k ≡ Some (Append_record r) → lines.fits r ≡ true
   pub suits : (cfg : Config) (within : Limits) (es : List Event) (k : ℕ) (r : Record) (version : ℕ) → duty cfg (world_of cfg within es) k ≡ Some (Append_record r) → lines.suits version r ≡ true
+  -- its numbers are in their ranges, where the cluster's are
+  pub ranges : (cfg : Config) (within : Limits) (es : List Event) (k : ℕ) (r : Record) → IsRanged cfg (world_of cfg within es) → (world_of cfg within es).is_master k ≡ true →
+      duty cfg (world_of cfg within es) k ≡ Some (Append_record r) → lines.InRange r
   pub told : (cfg : Config) (within : Limits) (es : List Event) (k : ℕ) (r : Record) → In r (((world_of cfg within es).history k).stable ++ ((world_of cfg within es).history k).tail) →
       lines.is_of ((world_of cfg within es).history k).version r ≡ true
 
