@@ -18,6 +18,7 @@ use Rattle.mr_model.specs.World.{World, Event, Deliver, ContainerStep, Compute, 
 use Rattle.mr_model.specs.Effect.{effect, happens, not_now, run, wants_compute}
 use Rattle.mr_model.specs.Claims.{Limits, world_of}
 use Rattle.mr_model.specs.Stores.{reply_of_names}
+use Rattle.mr_model.proofs.Stores.{stores_are_the_models}
 use Rattle.mr_model.specs.Containers.{IsWished, AllWished}
 use Rattle.mr_model.specs.Actors.{ContainersSay, BoundsBytes, BeginsOnce, PastsAreWished, AnswersAreHeard}
 use Rattle.mr_model.proofs.Basic.{if_cases, is_none-eq}
@@ -179,7 +180,7 @@ pub pasts_are_wished : PastsAreWished
 pasts_are_wished cfg within es c p q = (wishes cfg within es).wished c p q
 
 pub answers_are_heard : AnswersAreHeard
-answers_are_heard = record { answered = answered; unavailable = λ r. refl; unanswered = λ r. refl }
+answers_are_heard = record { answered = answered; called = λ s w n c o l. ap (λ r. as_heard (reply_under Calm r)) (stores_are_the_models.names_reply s w n c o l) ∙ answered _; unavailable = λ r. refl; unanswered = λ r. refl }
   where
     answered : (r : Result answers.Answer faults.NameFault) → as_heard (reply_under Calm (reply_of_names r)) ≡ replies.Answered r
     answered (Ok kinds.Done) = refl

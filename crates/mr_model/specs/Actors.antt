@@ -2,6 +2,7 @@
 use Rattle.std.specs.Prelude.{◌≡◌, ◌<◌, ◌^◌, ℕ, Bool, true, false, ◌&&◌, not, List, [], Some, None, length, slice_get, Result}
 use Rattle.mr_names.specs.declared.fault.NameFault as faults
 use Rattle.mr_names.specs.declared.op.Answer as answers
+use Rattle.mr_names.specs.Calls as names
 use Rattle.mr_container.specs.declared.reply.Reply.TheVariants as replies
 use Rattle.mr_container.specs.declared.wish.Wish as container_wish
 use Rattle.mr_container.specs.declared.wish.Wish.TheVariants as wished
@@ -11,13 +12,13 @@ use Rattle.mr_container.specs.Wished as called
 use Rattle.mr_node.specs.State as node
 use Rattle.mr_model.specs.Ids.{ContainerId, container_eq, dest}
 use Rattle.mr_model.specs.Content.{Op}
-use Rattle.mr_model.specs.Packets.{Config, Envelope, Reply}
+use Rattle.mr_model.specs.Packets.{Config, Envelope, Reply, Caller, Names}
 use Rattle.mr_model.specs.Pasts.{wish_of_seen, Place, incarnation_of}
-use Rattle.mr_model.specs.World.{World, Calm, Unavailable, Unanswered, Event, Start, Crash, Duty, LaunchOn, Compute, Expire, Obeyed, obeyed, wish_of, op_of, packet_of, caller_of, reply_under, as_heard}
+use Rattle.mr_model.specs.World.{World, Calm, Unavailable, Unanswered, Event, Start, Crash, Duty, LaunchOn, Compute, Expire, Obeyed, obeyed, wish_of, op_of, packet_of, caller_of, reply_under, as_heard, reply_to}
 use Rattle.mr_model.specs.Effect.{not_now, wants_compute}
 use Rattle.mr_model.specs.Claims.{Limits, world_of}
 use Rattle.mr_model.specs.Containers.{AllWished}
-use Rattle.mr_model.specs.Stores.{reply_of_names}
+use Rattle.mr_model.specs.Stores.{reply_of_names, NamesStand}
 
 -- the machine m of container c stands for its past in the world
 pub record ContainerIn (cfg : Config) (w : World) (c : ContainerId) (m : container.Container) : Type 0 where
@@ -61,6 +62,9 @@ PastsAreWished = (cfg : Config) (within : Limits) (es : List Event) (c : Contain
 -- what a container hears of a call is what the namespace answered, or that nobody can tell
 pub record AnswersAreHeard : Type 0 where
   pub answered : (r : Result answers.Answer faults.NameFault) → as_heard (reply_under Calm (reply_of_names r)) ≡ replies.Answered r
+  -- so of a namespace that stands for the world's, whoever calls (that it is full is no answer)
+  pub called : (s : names.State) (w : World) → NamesStand s w → (c : Caller) (o : Op) → names.passes_limit s.barred o ≡ false →
+      as_heard (reply_under Calm (reply_to w c (Names o))) ≡ replies.Answered (names.call_of s c o).0
   pub unavailable : (r : Reply) → as_heard (reply_under Unavailable r) ≡ replies.Fault
   pub unanswered : (r : Reply) → as_heard (reply_under Unanswered r) ≡ replies.Fault
 
