@@ -235,6 +235,23 @@ module _ (cfg : Config) (w : World) (c : ContainerId) (f : Weather) (e : Envelop
   sends : Went cfg w (ContainerStep c f) c new (e ∷ called.end_of c new.seen.wish)
   sends = record { moved = acts-moved cfg w c f (Sent e.body) m new send-act i by; nodes = same-nodes cfg w (ContainerStep c f) (acts-nodes cfg w c f (Sent e.body) m new send-act i by); sends = send-sends }
 
+module _ (cfg : Config) (w : World) (c : ContainerId) (f : Weather) (q : op_of cfg w c ≡ None) (r : packet_of cfg w c ≡ None) where
+  rest-act : container_act cfg w (ContainerStep c f) ≡ None
+  unfolding container_act
+  rest-act = rw (q, r) refl
+
+  rest-containers : SameContainers cfg w (effect cfg w (ContainerStep c f))
+  unfolding obeyed ends
+  rest-containers = same-containers cfg w (ContainerStep c f) rest-act refl (λ d. rw rest-act refl)
+
+  rest-nodes : SameNodes cfg w (effect cfg w (ContainerStep c f))
+  unfolding node_past_after
+  rest-nodes = same-nodes cfg w (ContainerStep c f) (λ n. refl)
+
+  rest-sends : sent cfg w (ContainerStep c f) ≡ []
+  unfolding sent
+  rest-sends = rw (q, r, rest-act) refl
+
 -- its bytes are handed in
 module _ (cfg : Config) (w : World) (c : ContainerId) (bytes : List ℕ) (m new : container.Container) (wishes : container_readings.is_computing m.seen.wish ≡ true) (i : ContainerIn cfg w c m) (by : container.Stands m (Computed bytes) new) where
   bytes-act : container_act cfg w (Compute c bytes) ≡ Some (record { who = c; step = Computed bytes })
@@ -308,6 +325,7 @@ containers_act = record {
   hears = hears;
   calls = calls;
   sends = sends;
+  rests = λ cfg w c f q r. (rest-containers cfg w c f q r, rest-nodes cfg w c f q r, rest-sends cfg w c f q r);
   computes = λ cfg w c bytes m new r wishes i by. computes cfg w c bytes m new wishes i by r;
 }
 

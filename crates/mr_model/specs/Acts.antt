@@ -43,6 +43,9 @@ pub record ContainersAct : Type 0 where
   -- it sends the packet that it wishes to send
   pub sends : (cfg : Config) (w : World) (c : ContainerId) (f : Weather) (e : Envelope) (m new : container.Container) → op_of cfg w c ≡ None → packet_of cfg w c ≡ Some e → ContainerIn cfg w c m →
       container.Stands m (Sent e.body) new → Went cfg w (ContainerStep c f) c new (e ∷ called.end_of c new.seen.wish)
+  -- it wishes neither: nothing changes
+  pub rests : (cfg : Config) (w : World) (c : ContainerId) (f : Weather) → op_of cfg w c ≡ None → packet_of cfg w c ≡ None →
+      SameContainers cfg w (effect cfg w (ContainerStep c f)) × SameNodes cfg w (effect cfg w (ContainerStep c f)) × (sent cfg w (ContainerStep c f) ≡ [])
   -- a reduce's bytes are handed in
   pub computes : (cfg : Config) (w : World) (c : ContainerId) (bytes : List ℕ) (m new : container.Container) → is_reduce m.place.attempt ≡ true → container_readings.is_computing m.seen.wish ≡ true → ContainerIn cfg w c m →
       container.Stands m (Computed bytes) new → Went cfg w (Compute c bytes) c new []
