@@ -3,7 +3,7 @@
 //!
 //! # What is proved
 //!
-//! The cluster as definitions (`crates/mr_model/specs/`, 2,400 lines, in a reader's order), and what holds over
+//! The cluster as definitions (`crates/mr_model/specs/`, 2,800 lines, in a reader's order), and what holds over
 //! **every list of events**: deliveries, losses, repeats and reorderings of packets, containers that die,
 //! nodes that restart or are given up, masters that crash and start, store calls that are lost or whose answers are
 //! lost. There is no code in these crates: each law is the contract of a function that does nothing. **It is a
@@ -18,10 +18,14 @@
 //! - the facts beneath it: `one_attempt_is_recorded`, `one_container_was_told_yes`,
 //!   `the_committed_file_is_the_winners`, `the_published_files_are_the_winners`, `an_attempt_has_one_whole_output`,
 //!   `recorded_lengths_are_right`;
+//! - what these need beside them: `what_is_recorded_has_succeeded`, `only_the_recorded_may_commit`,
+//!   `the_newest_committed_is_its_own`, `commits_are_allowed`, `attempts_hold_their_files`, `an_end_is_an_end`,
+//!   `only_started_commits`, `aborts_are_marked`;
+//! - that it is not said of nothing: `a_marked_world_is_reached` (one job, event by event, to its told success);
 //! - what ties the definitions to the crates beneath: paths are the layout's (`paths_are_the_layouts`); each call
 //!   of the namespace, for callers with and without an attempt, and of the history, in both versions, is answered
 //!   as the definitions say and leaves what they say
-//!   (`stores_are_the_models`); whatever a master appends has a line in each version (`appended_records_fit`); a
+//!   (`stores_are_the_models`); whatever a master appends the history takes, in each version (`appended_records_fit`); a
 //!   living master was raised to (`masters_are_raised`); what is read off the calls of a task's machine (`mr_task`)
 //!   is what is read off the master's
 //!   past (`calls_agree`: clause `agree` for reduces; clause `maps` for the maps of the job, also which attempts
