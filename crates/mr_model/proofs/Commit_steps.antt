@@ -4,15 +4,15 @@ use Rattle.std.proofs.lemmas.Bool.{false≢true, true≢false}
 use Rattle.mr_model.proofs.Names.{part-marker, part_name-visible}
 use Rattle.mr_model.proofs.Tasks.{is-task, part-same}
 use Rattle.mr_model.specs.Claims.{IsReduce}
-use Rattle.mr_model.specs.Ids.{Path, path_eq, committed, job_attempt, marker, dest, commit_started, commit_success, commit_fail, part_name, task_name, part, is_hidden, TaskId, marker_name}
-use Rattle.mr_model.specs.Content.{Content, Entry, Dir, File, entry_at, Op, MkDirs, Create, Rename, ListDir, Exist, bar_of, left, refusal, is_file, children, Listed, option_kind, Superseded}
+use Rattle.mr_model.specs.Ids.{Path, path_eq, committed, job_attempt, marker, dest, commit_started, commit_success, commit_fail, part_name, task_name, part, TaskId}
+use Rattle.mr_model.specs.Content.{Content, Entry, Dir, File, entry_at, Op, MkDirs, Create, Rename, ListDir, Exist, bar_of, left, is_file, children, Listed, option_kind, Superseded}
 use Rattle.mr_model.specs.Records.{JobUnsuccessful}
 use Rattle.mr_model.specs.Packets.{Config, Store, Reply, Names, Append_record, Flush, Read_history, Found, Refused, Fault, Records}
 use Rattle.mr_model.specs.Hearing.{Seen, Phase, Opening, Setting_up, Recovering, Running, Committing, Failing, Finished, Stopped, Commit_step, List_job, Merging, Cleaning, Marking, Succeeding, Failing_mark, Aborting, Merge_step, Todo_winner, is_running}
 use Rattle.mr_model.specs.Duties.{duty_of, merge_call, merge_next, merging, committing, refused, is_fine, is_cleared, is_superseded, tops, inners, is_dir_kind, Master_step, Came, Launches, Expires, Asks, next_seen, phase_told, looked, was_read, is_unsuccessful, is_read, mark_at, running, failing, recover_rest, all_won}
-use Rattle.mr_model.specs.World.{World, Event, Weather, is_applied, reply_of, reply_under, seen_by}
+use Rattle.mr_model.specs.World.{World, Event, Weather, reply_of, reply_under, seen_by}
 use Rattle.mr_model.specs.Effect.{effect, not_now, content_after}
-use Rattle.mr_model.specs.Claims.{In, records, IsMarked, IsVisible, IsComplete}
+use Rattle.mr_model.specs.Claims.{In, records, IsMarked, IsComplete}
 use Rattle.mr_model.proofs.Basic.{if_cases}
 use Rattle.mr_model.proofs.Lists.{Each-by}
 use Rattle.mr_model.proofs.Paths.{put-same}
@@ -31,63 +31,7 @@ use Rattle.mr_model.proofs.Sorted.{Waits, waiting, children-rise, IsTask, Tops, 
 use Rattle.mr_model.proofs.Outside.{Outside, elsewhere-at, Kept, same-kept, calls-kept, visible-outside, Result, good, no, gone, blind, result, made-there, mkdirs-dest, clear-dest, move-dest, start-dest}
 use Rattle.mr_model.proofs.Merge.{IsNotThere, IsThere, NothingSeen, Unmarked, Lists, Looks, Moves, Stage, waits, lists, looking, moving, Tasks, Begun, HasDest, Loose, MergePhase, Merge, created_by, is_created, is_merging, Outer, outer, same-at, fail-op}
 use Rattle.mr_model.proofs.Merged.{next-merge, one-part, some-true, some-not, ready-on, complete-on, loose-on, loose-none, tasks-on, begun-on, success-on, fail-on, unmarked-on, kept-loose, phase-on, record-on, VisibleSame, other-at, moved-tasks, moved-dest}
-
-pub created-visible : (p : Phase) (x : Path) → IsVisible x → is_created (created_by p) x ≡ false
-created-visible (Opening i) x v = refl
-created-visible Setting_up x v = refl
-created-visible (Recovering ws at) x v = refl
-created-visible Running x v = subst (λ z. path_eq commit_started z ≡ false) (sym v.2) refl
-created-visible (Failing f) x v = refl
-created-visible (Committing List_job) x v = refl
-created-visible (Committing (Merging ms)) x v = refl
-created-visible (Committing Cleaning) x v = refl
-created-visible (Committing Marking) x v = subst (λ z. path_eq marker z ≡ false) (sym v.2)
-    (rw (name-ne marker_name v.0 (λ q. true≢false (subst (λ z. is_hidden z ≡ false) (sym q) v.3))) refl)
-created-visible (Committing Succeeding) x v = subst (λ z. path_eq commit_success z ≡ false) (sym v.2) refl
-created-visible (Committing Failing_mark) x v = subst (λ z. path_eq commit_fail z ≡ false) (sym v.2) refl
-created-visible (Committing Aborting) x v = refl
-created-visible (Finished b) x v = refl
-created-visible Stopped x v = refl
-
--- looking for a mark changes nothing
-mark-same : (w : World) (g : Weather) (i : ℕ) → content_after w (Some (record { app = w.fence; call = mark_at i; fault = g })) ≡ w.content
-unfolding refusal left
-mark-same w g zero = if_cases (λ z. z ≡ w.content) (is_applied w w.fence g) _ _ (λ t. refl) (λ t. refl)
-mark-same w g (suc zero) = if_cases (λ z. z ≡ w.content) (is_applied w w.fence g) _ _ (λ t. refl) (λ t. refl)
-mark-same w g (suc (suc zero)) = if_cases (λ z. z ≡ w.content) (is_applied w w.fence g) _ _ (λ t. refl) (λ t. refl)
-mark-same w g (suc (suc (suc i))) = if_cases (λ z. z ≡ w.content) (is_applied w w.fence g) _ _ (λ t. refl) (λ t. refl)
-
-result-at : (w : World) (op : Op) (call : Store) (g : Weather) → Names op ≡ call → Result w.content op (content_after w (Some (record { app = w.fence; call = call; fault = g }))) (reply_under g (reply_of w w.fence call))
-result-at w op call g q = subst (λ y. Result w.content op (content_after w (Some (record { app = w.fence; call = y; fault = g }))) (reply_under g (reply_of w w.fence y))) q (result w w.fence op g)
-
--- what a marked world's phase says, whichever it is
-pub loose-of : (cfg : Config) (w : World) → Merge cfg w → Loose cfg w
-loose-of cfg w m = by (newest cfg w).phase m.phase
-  where
-    not_marked : Unmarked w → Loose cfg w
-    not_marked x k = absurd (false≢true (sym (ap is_file x.0) ∙ k))
-
-    by : (p : Phase) → MergePhase cfg w w.fence p → Loose cfg w
-    by (Opening zero) o = o
-    by (Opening (suc zero)) o = o.1
-    by (Opening (suc (suc i))) o = o.1
-    by Setting_up o = o
-    by (Recovering ws at) o = o.1
-    by Running o = o.1
-    by (Failing f) o = o
-    by (Committing List_job) o = not_marked o.0
-    by (Committing (Merging ms)) o = not_marked o.0
-    by (Committing Cleaning) o = not_marked o.0
-    by (Committing Marking) o = not_marked o.0
-    by (Committing Succeeding) o = λ k. o.1.1
-    by (Committing Failing_mark) o = o.1
-    by (Committing Aborting) o = o.1
-    by (Finished b) o = o.1
-    by Stopped o = o
-
-setup-call : (cfg : Config) (k : ℕ) (s : Seen) (call : Store) → duty_of cfg k s Setting_up ≡ Some call → Names (MkDirs (job_attempt k)) ≡ call
-unfolding duty_of
-setup-call cfg k s call d = cc
+pub use Rattle.mr_model.proofs.Before_commit.{created-visible, mark-same, result-at, loose-of, setup-call}
 
 module _ (cfg : Config) (w : World) (e : Event) (su : Sure cfg w) (rec : Recorded cfg w) (m : Merge cfg w) (n : not_now cfg w e ≡ None) where
   pub kn : Known cfg w

@@ -41,6 +41,7 @@ pub mod Reports
 pub mod Own
 pub mod Dirs
 pub mod Fates
+pub mod Reaching
 pub mod Marks
 pub mod Found
 pub mod Opening
@@ -50,7 +51,9 @@ pub mod One_recorded
 pub mod Outside
 pub mod Merge
 pub mod Merged
+pub mod Before_commit
 pub mod Commit_steps
+pub mod Stills
 pub mod Outcomes
 pub mod Published
 pub mod Fetching

@@ -1,24 +1,23 @@
 -- The mark of a begun commit against the phase of the newest master, and so that a quiet world's master makes no loud call.
-use Rattle.std.proofs.Common.{ℕ, zero, suc, ◌≡◌, refl, sym, ◌∙◌, ap, subst, Bool, true, false, ◌||◌, List, [], ◌∷◌, Option, Some, None, if◌then◌else◌, is_some, is_none, nat_le, ◌⊎◌, inl, inr, arith}
+use Rattle.std.proofs.Common.{ℕ, zero, suc, ◌≡◌, refl, sym, ◌∙◌, ap, subst, Bool, true, false, ◌||◌, List, [], ◌∷◌, Option, Some, None, if◌then◌else◌, is_some, is_none, ◌⊎◌, inl, inr, arith}
 use Rattle.std.proofs.lemmas.Bool.{false≢true, true≢false}
-use Rattle.mr_model.specs.Ids.{Attempt, Path, job_attempt, commit_started, commit_success, commit_fail, marker, temporary, committed}
+use Rattle.mr_model.specs.Ids.{Attempt, commit_started}
 use Rattle.mr_model.specs.Records.{Record, JobUnsuccessful, AttemptFailed, AttemptStarted, ReduceSucceeded, MapSucceeded, records_below}
-use Rattle.mr_model.specs.Packets.{Config, Store, Reply, Names, Append_record, Flush, Read_history, Found, Bytes, Records, Entries, Refused}
-use Rattle.mr_model.specs.Content.{Superseded, Content, Entry, File, entry_at, left, Op, Create, Delete, Rename, MkDirs, Exist, Bar, bar_of, option_kind}
-use Rattle.mr_model.specs.Hearing.{Seen, Phase, Opening, Setting_up, Recovering, Running, Committing, Failing, Finished, Stopped, Commit_step, List_job, Merging, Cleaning, Marking, Succeeding, Failing_mark, Aborting, Merge_step, Look_at, List_into, Delete_then, Move_to, Recover_step, Measure, Look_below, Clear_own, Move_from, Todo_winner, is_running}
-use Rattle.mr_model.specs.Duties.{right_length, Master_step, Came, Launches, Expires, Asks, bar_call, first_bar, next_seen, is_fine, is_cleared, is_superseded, is_read, phase_told, was_read, looked, is_unsuccessful, recover_rest, recovering, running, failing, committing, merging, refused, duty_of, records_of}
+use Rattle.mr_model.specs.Packets.{Config, Store, Reply, Names, Append_record, Flush, Read_history, Found, Records}
+use Rattle.mr_model.specs.Content.{Content, Entry, File, entry_at, left, Op, Create, Exist, Bar, bar_of, option_kind}
+use Rattle.mr_model.specs.Hearing.{Seen, Phase, Opening, Setting_up, Recovering, Running, Committing, Failing, Finished, Stopped, List_job, is_running}
+use Rattle.mr_model.specs.Duties.{Master_step, Came, Launches, Expires, Asks, bar_call, first_bar, next_seen, is_fine, is_cleared, is_read, phase_told, was_read, looked, is_unsuccessful, running, failing, duty_of, records_of}
 use Rattle.mr_model.specs.World.{duty, reply_of, reply_under, World, Event, seen_by}
 use Rattle.mr_model.specs.Effect.{effect, not_now}
 use Rattle.mr_model.specs.Claims.{In}
 use Rattle.mr_model.proofs.Basic.{if_cases}
-use Rattle.mr_model.proofs.Lists.{In-left, In-right, In-parts, Each}
+use Rattle.mr_model.proofs.Lists.{In-left, In-right, In-parts}
 use Rattle.mr_model.proofs.Masters.{came-phase, told-phase, launches-phase, expires-phase}
 use Rattle.mr_model.proofs.Phases.{ReadFits}
 use Rattle.mr_model.proofs.Allowed.{read-replies}
-use Rattle.mr_model.proofs.Mild.{Mild, failing-bad, is_bad, running-not-bad, OurMerge, OurStep, Ours, Clean}
+use Rattle.mr_model.proofs.Mild.{Mild, failing-bad, is_bad, running-not-bad, Clean}
 use Rattle.mr_model.proofs.Regions.{AwayFrom, away-same, Leaves, did, made-left, Answered, good, no, lost, answered, is_loud}
 use Rattle.mr_model.proofs.Regions
-use Rattle.mr_model.proofs.Apart.{Diverge, elsewhere-away}
 use Rattle.mr_model.proofs.Paths.{put-same}
 use Rattle.mr_model.proofs.Steps.{Case, still, hears, asks, calls, starts, case_of, newest, IsHeard}
 use Rattle.mr_model.proofs.Dirs.{Known, R, calls-away}
@@ -26,129 +25,10 @@ use Rattle.mr_model.proofs.Grows.{records_extend}
 use Rattle.mr_model.proofs.Basic.{Extends}
 use Rattle.mr_model.proofs.Told.{fine-applied, called_at}
 use Rattle.mr_model.specs.Claims.{records, IsQuiet}
-use Rattle.mr_model.specs.Duties.{mark_at, record_call, recover_call, merge_call, commit_call, all_won, wants_flush}
+use Rattle.mr_model.specs.Duties.{mark_at, record_call, all_won, wants_flush}
 use Rattle.mr_model.specs.World.{Weather, Calm, call_of, own_reply, is_applied}
 use Rattle.mr_model.specs.Effect.{content_after}
-
-abbrev pub Started : World → Option Entry
-Started w = entry_at w.content commit_started
-
--- which calls reach the mark
-abbrev Reaches : Phase → Op → Type 0
-Reaches p op = AwayFrom op commit_started ⊎ ((p ≡ Running) × (op ≡ Create commit_started true))
-
-abbrev CallReaches : Phase → Option Store → Type 0
-CallReaches p None = Unit {0}
-CallReaches p (Some (Names op)) = Reaches p op
-CallReaches p (Some (Append_record r)) = Unit {0}
-CallReaches p (Some Flush) = Unit {0}
-CallReaches p (Some Read_history) = Unit {0}
-
-mark-reaches : (p : Phase) (n : ℕ) → CallReaches p (Some (mark_at n))
-mark-reaches p zero = inl (λ x. tt)
-mark-reaches p (suc zero) = inl (λ x. tt)
-mark-reaches p (suc (suc zero)) = inl (λ x. tt)
-mark-reaches p (suc (suc (suc n))) = tt
-
-record-reaches : (p : Phase) (due tail : List Record) (o : Option Store) → CallReaches p o → CallReaches p (record_call due tail o)
-record-reaches p (r ∷ due) tail o q = tt
-record-reaches p [] tail o q = if_cases (CallReaches p) (wants_flush tail) _ _ (λ t. tt) (λ t. q)
-
-bar-reaches : (p : Phase) (m : Option Attempt) (o : Option Store) → CallReaches p o → CallReaches p (bar_call m o)
-bar-reaches p None o q = q
-bar-reaches p (Some a) o q = inl (λ x. tt)
-
-recover-reaches : (p : Phase) (k : ℕ) (ws : List Todo_winner) (at : Recover_step) → CallReaches p (recover_call k ws at)
-recover-reaches p k [] at = tt
-recover-reaches p k (x ∷ ws) (Look_below j) = inl (λ x. tt)
-recover-reaches p k (x ∷ ws) (Measure j) = inl (λ x. tt)
-recover-reaches p k (x ∷ ws) (Clear_own j) = inl (λ y. elsewhere-away (Delete (committed k x.task)) commit_started y (inl refl))
-recover-reaches p k (x ∷ ws) (Move_from j) = inl (λ y. elsewhere-away (Rename (committed j x.task) (committed k x.task)) commit_started y (inl refl, inl refl))
-
-ours-away : (q : Path) → Ours q → Diverge q commit_started
-ours-away q o = subst (λ z. Diverge z commit_started) (sym o.1) (inl refl)
-
-merge-reaches : (p : Phase) (ms : List Merge_step) → Each OurStep ms → CallReaches p (merge_call ms)
-merge-reaches p [] o = tt
-merge-reaches p (Look_at f t d ∷ ms) o = inl (λ x. tt)
-merge-reaches p (List_into f t ∷ ms) o = inl (λ x. tt)
-merge-reaches p (Delete_then f t ∷ ms) o = inl (λ y. elsewhere-away (Delete t) commit_started y (ours-away t o.0.1))
-merge-reaches p (Move_to f t ∷ ms) o = inl (λ y. elsewhere-away (Rename f t) commit_started y (ours-away f o.0.0, ours-away t o.0.1))
-
-commit-reaches : (p : Phase) (k : ℕ) (at : Commit_step) → OurMerge (Committing at) → CallReaches p (commit_call k at)
-commit-reaches p k List_job o = inl (λ x. tt)
-commit-reaches p k (Merging ms) o = merge-reaches p ms o
-commit-reaches p k Cleaning o = inl (λ y. elsewhere-away (Delete temporary) commit_started y (inl refl))
-commit-reaches p k Marking o = inl (λ y. elsewhere-away (Create marker true) commit_started y (inl refl))
-commit-reaches p k Succeeding o = inl (λ y. elsewhere-away (Create commit_success true) commit_started y (inr (inl refl)))
-commit-reaches p k Failing_mark o = inl (λ y. elsewhere-away (Create commit_fail true) commit_started y (inr (inl refl)))
-commit-reaches p k Aborting o = inl (λ y. elsewhere-away (Delete temporary) commit_started y (inl refl))
-
-duty-reaches : (cfg : Config) (k : ℕ) (s : Seen) (p : Phase) → OurMerge p → CallReaches p (duty_of cfg k s p)
-unfolding duty_of
-duty-reaches cfg k s (Opening n) o = mark-reaches (Opening n) n
-duty-reaches cfg k s Setting_up o = inl (λ y. elsewhere-away (MkDirs (job_attempt k)) commit_started y (inl refl))
-duty-reaches cfg k s (Recovering ws at) o = recover-reaches (Recovering ws at) k ws at
-duty-reaches cfg k s Running o = bar-reaches Running (first_bar s s.bars) _ (record-reaches Running s.due s.tail _ (if_cases (CallReaches Running) (all_won s.recorded s.winners cfg.job cfg.reduces) _ _ (λ t. inr (refl, refl)) (λ t. tt)))
-duty-reaches cfg k s (Failing f) o = record-reaches (Failing f) s.due s.tail _ (if_cases (CallReaches (Failing f)) f _ _ (λ t. inl (λ y. elsewhere-away (Delete temporary) commit_started y (inl refl))) (λ t. tt))
-duty-reaches cfg k s (Committing at) o = commit-reaches (Committing at) k at o
-duty-reaches cfg k s (Finished b) o = tt
-duty-reaches cfg k s Stopped o = tt
-
--- Phases that follow
-
-abbrev pub is_settled : Phase → Bool
-is_settled (Committing at) = true
-is_settled (Finished b) = true
-is_settled Stopped = true
-is_settled _ = false
-
-abbrev pub may_run : Phase → Bool
-may_run (Recovering ws at) = true
-may_run Running = true
-may_run Stopped = true
-may_run _ = false
-
-refused-settled : (r : Reply) → is_settled (refused r) ≡ true
-refused-settled (Refused (Superseded f)) = refl
-refused-settled _ = refl
-
-merging-settled : (ms : List Merge_step) (r : Reply) (ok : Commit_step) → is_settled (merging ms r ok) ≡ true
-merging-settled [] r ok = refused-settled r
-merging-settled (Look_at f t d ∷ ms) (Found None) ok = refl
-merging-settled (Look_at f t d ∷ ms) (Found (Some k)) ok = refl
-merging-settled (Look_at f t d ∷ ms) (Refused (Superseded g)) ok = refl
-merging-settled (Look_at f t d ∷ ms) _ ok = refl
-merging-settled (List_into f t ∷ ms) (Entries es) ok = refl
-merging-settled (List_into f t ∷ ms) (Refused (Superseded g)) ok = refl
-merging-settled (List_into f t ∷ ms) _ ok = refl
-merging-settled (Delete_then f t ∷ ms) r ok = if_cases (λ q. is_settled q ≡ true) (is_fine r) _ _ (λ t. refl) (λ t. refused-settled r)
-merging-settled (Move_to f t ∷ ms) r ok = if_cases (λ q. is_settled q ≡ true) (is_fine r) _ _ (λ t. refl) (λ t. refused-settled r)
-
-committing-settled : (k : ℕ) (at : Commit_step) (r : Reply) → is_settled (committing k at r) ≡ true
-committing-settled k List_job (Entries es) = refl
-committing-settled k List_job (Refused (Superseded g)) = refl
-committing-settled k List_job _ = refl
-committing-settled k (Merging ms) r = merging-settled ms r _
-committing-settled k Cleaning r = if_cases (λ q. is_settled q ≡ true) (is_cleared r) _ _ (λ t. refl) (λ t. refused-settled r)
-committing-settled k Marking r = if_cases (λ q. is_settled q ≡ true) (is_fine r) _ _ (λ t. refl) (λ t. refused-settled r)
-committing-settled k Succeeding r = if_cases (λ q. is_settled q ≡ true) (is_fine r) _ _ (λ t. refl) (λ t. refl)
-committing-settled k Failing_mark r = if_cases (λ q. is_settled q ≡ true) (is_fine r) _ _ (λ t. refl) (λ t. refl)
-committing-settled k Aborting r = if_cases (λ q. is_settled q ≡ true) (is_superseded r) _ _ (λ t. refl) (λ t. refl)
-
-pub rest-runs : (k : ℕ) (ws : List Todo_winner) → may_run (recover_rest k ws) ≡ true
-rest-runs k [] = refl
-rest-runs k (w ∷ ws) = if_cases (λ q. may_run q ≡ true) (nat_le k 1) _ _ (λ t. refl) (λ t. refl)
-
-pub recovering-runs : (k : ℕ) (ws : List Todo_winner) (at : Recover_step) (r : Reply) → may_run (recovering k ws at r) ≡ true
-recovering-runs k ws (Look_below j) (Found (Some kind)) = refl
-recovering-runs k ws (Look_below j) (Found None) = if_cases (λ q. may_run q ≡ true) (nat_le j 1) _ _ (λ t. refl) (λ t. refl)
-recovering-runs k ws (Look_below j) _ = refl
-recovering-runs k ws (Measure j) (Bytes bs) = if_cases (λ q. may_run q ≡ true) (right_length ws bs) _ _ (λ t. refl) (λ t. refl)
-recovering-runs k ws (Measure j) _ = refl
-recovering-runs k ws (Clear_own j) r = if_cases (λ q. may_run q ≡ true) (is_cleared r) _ _ (λ t. refl) (λ t. refl)
-recovering-runs k [] (Move_from j) r = refl
-recovering-runs k (w ∷ ws) (Move_from j) r = if_cases (λ q. may_run q ≡ true) (is_fine r) _ _ (λ t. rest-runs k ws) (λ t. refl)
+pub use Rattle.mr_model.proofs.Reaching.{Started, Reaches, CallReaches, mark-reaches, record-reaches, bar-reaches, recover-reaches, ours-away, merge-reaches, commit-reaches, duty-reaches, is_settled, may_run, refused-settled, merging-settled, committing-settled, rest-runs, recovering-runs}
 
 -- What a phase says of the mark, s being what is there, and of the record of failure
 

@@ -1,25 +1,25 @@
 -- A marker means whole files, a marker is final, and there is one outcome.
-use Rattle.std.proofs.Common.{◌∷◌, [], ℕ, suc, ◌≡◌, refl, sym, ◌∙◌, ap, subst, Bool, true, false, List, ◌++◌, Option, Some, None, if◌then◌else◌, is_none, nat_lt, ◌⊎◌, inl, inr, arith}
+use Rattle.std.proofs.Common.{◌∷◌, [], ℕ, suc, ◌≡◌, refl, sym, ◌∙◌, ap, subst, Bool, true, false, List, ◌++◌, Option, Some, None, is_none, nat_lt, ◌⊎◌, inl, inr, arith}
 use Rattle.std.proofs.lemmas.Bool.{false≢true, true≢false, eq-eqb, ltb-false}
 use Rattle.mr_model.proofs.Opening.{opening-dest, opening-mark}
 use Rattle.mr_model.specs.Ids.{Path, marker, commit_started, commit_success, commit_fail, marker_name}
 use Rattle.mr_model.specs.Content.{Entry, entry_at, is_file}
 use Rattle.mr_model.specs.Records.{JobUnsuccessful, records_below}
-use Rattle.mr_model.specs.Packets.{Config, Store, Reply, Envelope, Won, Outcome, Done, Records, Found}
+use Rattle.mr_model.specs.Packets.{Config, Envelope, Won, Outcome, Done}
 use Rattle.mr_model.specs.Pasts.{part_length, computed}
 use Rattle.mr_model.specs.Hearing.{Seen, Phase, Opening, Setting_up, Recovering, Running, Committing, Failing, Finished, Stopped, List_job, Merging, Cleaning, Marking, Succeeding, Failing_mark, Aborting, is_running}
-use Rattle.mr_model.specs.Duties.{Master_step, Came, Launches, Expires, Asks, seen, next_seen, phase_told, is_read, looked, was_read, is_unsuccessful, is_superseded}
+use Rattle.mr_model.specs.Duties.{Master_step, Came, Launches, Expires, Asks, seen, next_seen, is_unsuccessful}
 use Rattle.mr_model.specs.World.{World, Event, Start, Crash, Duty, LaunchOn, Deliver, ContainerStep, Compute, Die, NodeRestart, Expire, Master_act, master_act, seen_by, opening_world, reply_of, reply_under}
 use Rattle.mr_model.specs.Sending.{sent}
 use Rattle.mr_model.specs.Effect.{effect, not_now, run}
 use Rattle.mr_model.specs.Claims.{In, records, IsMarked, IsToldOutcome, Limits, world_of, MarkerMeansWholeFiles, LooksTheSame, MarkerIsFinal, OneOutcome}
-use Rattle.mr_model.proofs.Basic.{if_cases, along, run-append}
+use Rattle.mr_model.proofs.Basic.{along, run-append}
 use Rattle.mr_model.proofs.Lists.{In-left, In-parts, Each, Each-In}
 use Rattle.mr_model.proofs.Allowed.{Allowed, permits, seen_after}
 use Rattle.mr_model.proofs.Told.{is_allowed}
 use Rattle.mr_model.proofs.Said.{Sayings, sent-each, is_plain, is_finished}
 use Rattle.mr_model.proofs.Masters.{came-phase, launches-phase, expires-phase, told-phase}
-use Rattle.mr_model.proofs.Mild.{is_bad, failing-bad, Clean}
+use Rattle.mr_model.proofs.Mild.{is_bad, Clean}
 use Rattle.mr_model.proofs.Marks.{StartPhase, Started, In-unsuccessful}
 use Rattle.mr_model.proofs.Steps.{Case, still, hears, asks, calls, starts, case_of, newest, IsHeard}
 use Rattle.mr_model.proofs.Dirs.{Known, R}
@@ -29,15 +29,7 @@ use Rattle.mr_model.proofs.Merge.{IsNotThere, IsThere, Unmarked, Ended, MergePha
 use Rattle.mr_model.proofs.Merged.{record-on}
 use Rattle.mr_model.proofs.Commit_steps.{merge_after, marker-at, success-at, fail-at, started-at, visible-at, loose-of}
 use Rattle.mr_model.proofs.Late.{IsLate, late-reply, Late, stops, fails, ends, rests, late-told}
-
--- The phases in which no success will come: their calls reach nothing outside the staging folder
-abbrev pub is_still : Phase → Bool
-is_still (Opening n) = true
-is_still (Failing f) = true
-is_still (Finished b) = true
-is_still Stopped = true
-is_still (Committing Aborting) = true
-is_still _ = false
+pub use Rattle.mr_model.proofs.Stills.{is_still, still-free, may_still, still-may, bad-may, open-may, told-may}
 
 abbrev pub IsSettled : Config → World → Type 0
 IsSettled cfg w = Ended w false × (is_still (newest cfg w).phase ≡ true)
@@ -52,70 +44,6 @@ pub record All (cfg : Config) (w : World) : Type 0 where
   pub records : Recorded cfg w
   pub merge : Merge cfg w
   pub outcomes : Outcomes cfg w
-
-still-free : (p : Phase) → is_still p ≡ true → ((d : Path) → is_created (created_by p) d ≡ false) × (is_merging p ≡ false)
-still-free (Opening n) s = (λ d. refl, refl)
-still-free (Failing f) s = (λ d. refl, refl)
-still-free (Finished b) s = (λ d. refl, refl)
-still-free Stopped s = (λ d. refl, refl)
-still-free (Committing Aborting) s = (λ d. refl, refl)
-still-free (Committing List_job) s = absurd (false≢true s)
-still-free (Committing (Merging ms)) s = absurd (false≢true s)
-still-free (Committing Cleaning) s = absurd (false≢true s)
-still-free (Committing Marking) s = absurd (false≢true s)
-still-free (Committing Succeeding) s = absurd (false≢true s)
-still-free (Committing Failing_mark) s = absurd (false≢true s)
-still-free p s = absurd (false≢true s)
-
--- what a still phase may become
-abbrev may_still : Phase → Bool
-may_still Setting_up = true
-may_still p = is_still p
-
-still-may : (p : Phase) → is_still p ≡ true → may_still p ≡ true
-still-may (Committing at) s = s
-still-may (Opening n) s = s
-still-may (Failing f) s = s
-still-may (Finished b) s = s
-still-may Stopped s = s
-still-may Setting_up s = refl
-still-may (Recovering ws at) s = absurd (false≢true s)
-still-may Running s = absurd (false≢true s)
-
-bad-may : (p : Phase) → is_bad p ≡ true → may_still p ≡ true
-bad-may (Failing f) s = refl
-bad-may (Finished b) s = refl
-bad-may Stopped s = refl
-bad-may p s = absurd (false≢true s)
-
-open-may : (n : ℕ) (call : Store) (r : Reply) → may_still (if is_read call then was_read r else looked n r) ≡ true
-open-may n call r = if_cases (λ p. may_still p ≡ true) (is_read call) _ _ (λ t. read r) (λ t. look r)
-  where
-    read : (r : Reply) → may_still (was_read r) ≡ true
-    read (Records rs) = if_cases (λ p. may_still p ≡ true) (is_unsuccessful rs) _ _ (λ t. refl) (λ t. refl)
-    read _ = refl
-
-    look : (r : Reply) → may_still (looked n r) ≡ true
-    look (Found (Some k)) = refl
-    look (Found None) = refl
-    look _ = refl
-
-told-may : (k : ℕ) (s : Seen) (p : Phase) (call : Store) (r : Reply) → is_still p ≡ true → may_still (phase_told k s p call r) ≡ true
-unfolding phase_told
-told-may k s (Opening n) call r t = open-may n call r
-told-may k s (Failing f) call r t = bad-may _ (failing-bad f s.tail call r)
-told-may k s (Finished b) call r t = refl
-told-may k s Stopped call r t = refl
-told-may k s (Committing Aborting) call r t = if_cases (λ p. may_still p ≡ true) (is_superseded r) _ _ (λ q. refl) (λ q. refl)
-told-may k s (Committing List_job) call r t = absurd (false≢true t)
-told-may k s (Committing (Merging ms)) call r t = absurd (false≢true t)
-told-may k s (Committing Cleaning) call r t = absurd (false≢true t)
-told-may k s (Committing Marking) call r t = absurd (false≢true t)
-told-may k s (Committing Succeeding) call r t = absurd (false≢true t)
-told-may k s (Committing Failing_mark) call r t = absurd (false≢true t)
-told-may k s Setting_up call r t = absurd (false≢true t)
-told-may k s (Recovering ws at) call r t = absurd (false≢true t)
-told-may k s Running call r t = absurd (false≢true t)
 
 -- where a failure's reason is there, no job is set up
 ended-still : (cfg : Config) (w : World) → Sure cfg w → IsThere w commit_started ⊎ In JobUnsuccessful (records w) → may_still (newest cfg w).phase ≡ true → is_still (newest cfg w).phase ≡ true
