@@ -10,3 +10,4 @@ pub mod Still
 pub mod Recorded
 pub mod Bars
 pub mod Points
+pub mod Alike

@@ -3,3 +3,4 @@ pub mod Works
 pub mod Agreement
 pub mod Recorded
 pub mod Points
+pub mod Alike

@@ -2,6 +2,7 @@
 //! stands on a function that does nothing.
 #![tactic(auto)]
 
+ghost use Rattle.mr_agree.specs.Alike.{TasksStayAlike};
 ghost use Rattle.mr_agree.specs.Points.{PointsAgree};
 ghost use Rattle.mr_agree.specs.Recorded.{ReducesAreRecorded};
 ghost use Rattle.mr_agree.specs.Agreement.{ActsUntilItRuns, TurnsAgree};
@@ -25,4 +26,10 @@ pub fn reduces_are_recorded()
 /// next attempt.
 pub fn points_agree()
     ensures { PointsAgree }
+{}
+
+/// Tasks that have heard alike stay so where they hear the same. Endings and losses may come in any order, and an end of an attempt that is not live, or the loss
+/// of what is not recorded, changes nothing.
+pub fn tasks_stay_alike()
+    ensures { TasksStayAlike }
 {}
