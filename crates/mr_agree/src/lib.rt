@@ -1,5 +1,23 @@
 //! Masters of the cluster and masters' machines: what `mr_model` reads off a master's past is what `mr_master_model` reads off the same past. Each law
-//! stands on a function that does nothing.
+//! stands on a function that does nothing. `specs/Steps` is the translation: `setting` of a config and a generation, `steps` of a past; `specs/Works` says
+//! what a phase is for the machine: the lines that are left of a committer's table.
+//!
+//! # What is proved
+//!
+//! Every past here is any list of steps that events can make (`AllMade`), as each master's past in each run is
+//! (`pasts_are_made` of `mr_model`). Proved:
+//!
+//! - from every phase, of any two values: the machine's next store call, with what it is for, is the master's, and an
+//!   answer leads both to the same (`turns_agree`);
+//! - until a master runs: its phase, its next store call and what it sends at its next step are its machine's
+//!   (`acts_until_it_runs`);
+//! - at every point of a past: a machine whose tasks have heard alike has the master's phase, next store call, refusals
+//!   of launches and expiries, and next attempt (`points_agree`), for which a reduce is Succeeded exactly where the
+//!   master recorded one of it or read its winner (`reduces_are_recorded`);
+//! - what keeps tasks alike: the same calls, and endings and losses in any order (`tasks_stay_alike`).
+//!
+//! Not proved yet: that a machine's tasks stay alike at each step while it runs, and what it sends then
+//! (docs/PROOFS.md, "Masters and their machines").
 #![tactic(auto)]
 
 ghost use Rattle.mr_agree.specs.Alike.{TasksStayAlike};

@@ -29,8 +29,8 @@
 //!   living master was raised to (`masters_are_raised`); what is read off the calls of a task's machine (`mr_task`)
 //!   is what is read off the master's
 //!   past (`calls_agree`: clause `agree` for reduces; clause `maps` for the maps of the job, also which attempts
-//!   stand and which are recorded). Its premises say that each step fits; that all steps of a run do is not proved
-//!   yet (docs/PROOFS.md);
+//!   stand and which are recorded). Its premises say that each step fits, as all steps of a run do
+//!   (`pasts_are_made`);
 //! - what ties containers and nodes to their machines: their pasts, packets and calls are those of `mr_container`,
 //!   `mr_node`, `mr_packet` and `mr_names`; what is read off them is what these machines are proved to read
 //!   (`containers_agree`, `nodes_agree`), so that a machine that stands for its container's past in a run has the
