@@ -39,7 +39,9 @@
 mod cut_output;
 mod cutting;
 mod fault;
+mod front;
 mod laws;
+mod merging;
 mod output;
 mod work;
 
@@ -47,6 +49,7 @@ pub use cut_output::CutOutput;
 pub use cutting::{OutputBlocks, blocks};
 pub use fault::{ShuffleFault, WorkFault};
 pub use laws::{blocks_are_one, output_is_its_blocks};
+pub use merging::{RunGroups, read_pair};
 pub use output::MapOutput;
 pub use work::map_work;
 

@@ -1,0 +1,44 @@
+-- Runs: pairs by rising keys, kept as they are written, and merged by key (our own profile; the values of a key come by run and
+-- then by place).
+use Rattle.std.specs.Prelude.{◌≡◌, ℕ, zero, suc, ◌+◌, false, List, [], ◌∷◌, length, drop, Option, Some, None}
+use Rattle.std.specs.Option.{option_map, option_map_or, option_and_then}
+use Rattle.std.specs.List.{flat_map, AllByRecursion}
+use Rattle.std.specs.Ordering.{is_lt}
+use Rattle.mr_user.specs.Computation.{Computation}
+use Rattle.mr_user.specs.Groups.{groups_of}
+
+module _ {K V : Type 0} (job : Computation K V) where
+  -- the pair at the front of bytes, and its length
+  abbrev pub pair_at : List ℕ → Option ((K × V) × ℕ)
+  pair_at bytes = option_and_then (λ key. option_map (λ value. ((key.0, value.0), key.1 + value.1)) (job.value.read_at (drop key.1 bytes))) (job.key.read_at bytes)
+
+  -- the pairs that bytes begin with, up to a number of them
+  abbrev pub pairs_upto : ℕ → List ℕ → List (K × V)
+  pairs_upto zero bytes = []
+  pairs_upto (suc most) bytes = option_map_or (λ found. found.0 ∷ pairs_upto most (drop found.1 bytes)) (pair_at bytes) []
+
+  -- the pairs that bytes begin with: each has a byte at least
+  abbrev pub pairs_in : List ℕ → List (K × V)
+  pairs_in bytes = pairs_upto (length bytes) bytes
+
+  -- no key is less than one before it
+  abbrev pub IsRun : List (K × V) → Type 0
+  IsRun [] = Unit {0}
+  IsRun (p ∷ ps) = AllByRecursion (λ q. is_lt (job.cmp q.0 p.0) ≡ false) ps × IsRun ps
+
+  -- the pairs in each list are by rising keys
+  abbrev pub AreRuns : List (List ℕ) → Type 0
+  AreRuns lists = AllByRecursion (λ bytes. IsRun (pairs_in bytes)) lists
+
+  -- the pairs in lists, by list and then by place
+  abbrev pub pairs_in_all : List (List ℕ) → List (K × V)
+  pairs_in_all lists = flat_map pairs_in lists
+
+  -- the groups of the pairs in lists
+  abbrev pub merged : List (List ℕ) → List (K × List V)
+  merged lists = groups_of job.cmp (pairs_in_all lists)
+
+-- What is given where the groups of the first list were to come and those of the second are left: the first of them, or none.
+abbrev pub GivesGroup : {K V W : Type 0} → (W → List V) → List (K × List V) → Option (K × W) → List (K × List V) → Type 0
+GivesGroup values before None after = (before ≡ []) × (after ≡ [])
+GivesGroup values before (Some group) after = before ≡ (group.0, values group.1) ∷ after

@@ -1,0 +1,190 @@
+//! Runs, merged by key.
+ghost use Rattle.std.specs.Prelude.{◌≡◌, ◌≢◌, ◌≤◌, ◌<◌, [], length, map, get_or, vec_len, Some, IfOk, IfErr, OnOk, OnErr};
+ghost use Rattle.std.specs.BinaryHeap.{heap_items};
+ghost use Rattle.mr_user.specs.Computation.{computation};
+ghost use Rattle.mr_user.specs.Faults.{BadWireIf};
+ghost use Rattle.mr_mapside.specs.Runs.{pair_at, AreRuns, merged, GivesGroup};
+ghost use Rattle.mr_mapside.specs.Fronts.{Adds, Holds, AreNotBelow, Takes, rest_at, with_rest};
+
+use crate::front::Front;
+use mr_user::{Job, UserFault, Wire};
+use std::alloc::{AllocError, Global};
+use std::cmp::{Ordering, Reverse};
+use std::collections::BinaryHeap;
+use std::marker::Model;
+
+/// The pair at the front of bytes, and its length. Answers `BadWire` where they begin with none.
+pub fn read_pair<J: Job>(
+    alloc: Global,
+    bytes: &[u8],
+) -> Result<((J::Key, J::Value), usize), UserFault>
+    ensures read { IfOk result (λ found. pair_at (computation J.Key.cmp J.Key.codec J.Value.codec J.functions) bytes.now ≡ Some found) }
+    ensures some { IfOk result (λ found. 0 < found.1) }
+    ensures within { IfOk result (λ found. found.1 ≤ length bytes.now) }
+    ensures bad { IfErr result (λ fault. BadWireIf fault (pair_at (computation J.Key.cmp J.Key.codec J.Value.codec J.functions) bytes.now ≡ None)) }
+{
+    let (key, key_len) = J::Key::read(alloc, bytes)?;
+    let (value, value_len) = J::Value::read(alloc, &bytes[key_len..])?;
+    Ok(((key, value), key_len + value_len))
+}
+
+// Adds the first pair of a list, if it has one.
+fn add_front<J: Job>(
+    alloc: Global,
+    fronts: &mut BinaryHeap<Reverse<Front<J::Key, J::Value>>>,
+    list: usize,
+    bytes: &[u8],
+) -> Result<(), AllocError>
+    ensures { OnOk result (Adds (computation J.Key.cmp J.Key.codec J.Value.codec J.functions) list bytes.now (heap_items fronts.old) (heap_items fronts.new)) }
+{
+    if bytes.is_empty() {
+        return Ok(());
+    }
+    let Ok((pair, len)) = read_pair::<J>(alloc, bytes) else {
+        return Err(AllocError);
+    };
+    let (key, value) = pair;
+    fronts.push(Reverse(Front {
+        key,
+        list,
+        value,
+        len,
+    }))?;
+    Ok(())
+}
+
+// Takes the first bytes of a list off it, and adds the pair that is then its first.
+fn refill<'a, J: Job>(
+    alloc: Global,
+    lists: &mut Vec<&'a [u8]>,
+    fronts: &mut BinaryHeap<Reverse<Front<J::Key, J::Value>>>,
+    list: usize,
+    len: usize,
+) -> Result<(), AllocError>
+    requires there { list < vec_len lists.old }
+    requires within { len ≤ length (get_or (map (λ bytes. bytes.now) lists.old.items) list []) }
+    ensures lists { OnOk result (map (λ bytes. bytes.now) lists.new.items ≡ with_rest (map (λ bytes. bytes.now) lists.old.items) list len) }
+    ensures fronts { OnOk result (Adds (computation J.Key.cmp J.Key.codec J.Value.codec J.functions) list (rest_at (map (λ bytes. bytes.now) lists.old.items) list len) (heap_items fronts.old) (heap_items fronts.new)) }
+{
+    let rest = &lists[list][len..];
+    lists[list] = rest;
+    add_front::<J>(alloc, fronts, list, rest)
+}
+
+// Takes the first value of a key off the lists, if they have one.
+fn take_tied<'a, J: Job>(
+    alloc: Global,
+    lists: &mut Vec<&'a [u8]>,
+    fronts: &mut BinaryHeap<Reverse<Front<J::Key, J::Value>>>,
+    key: &J::Key,
+) -> Result<Option<J::Value>, AllocError>
+    requires holds { Holds (computation J.Key.cmp J.Key.codec J.Value.codec J.functions) (map (λ bytes. bytes.now) lists.old.items) (heap_items fronts.old) }
+    requires least { AreNotBelow (computation J.Key.cmp J.Key.codec J.Value.codec J.functions) key.now (map (λ bytes. bytes.now) lists.old.items) }
+    ensures holds { OnOk result (Holds (computation J.Key.cmp J.Key.codec J.Value.codec J.functions) (map (λ bytes. bytes.now) lists.new.items) (heap_items fronts.new)) }
+    ensures least { OnOk result (AreNotBelow (computation J.Key.cmp J.Key.codec J.Value.codec J.functions) key.now (map (λ bytes. bytes.now) lists.new.items)) }
+    ensures takes { IfOk result (λ value. Takes (computation J.Key.cmp J.Key.codec J.Value.codec J.functions) key.now (map (λ bytes. bytes.now) lists.old.items) value (map (λ bytes. bytes.now) lists.new.items)) }
+{
+    match fronts.peek() {
+        Some(front) => {
+            if key.cmp(&front.0.key) == Ordering::Less {
+                return Ok(None);
+            }
+        }
+        None => return Ok(None),
+    }
+    match fronts.pop() {
+        Some(front) => {
+            let front = front.0;
+            refill::<J>(alloc, lists, fronts, front.list, front.len)?;
+            Ok(Some(front.value))
+        }
+        None => Ok(None),
+    }
+}
+
+// Takes the group of the least key off the lists, if they have a pair.
+fn take_group<'a, J: Job>(
+    alloc: Global,
+    lists: &mut Vec<&'a [u8]>,
+    fronts: &mut BinaryHeap<Reverse<Front<J::Key, J::Value>>>,
+) -> Result<Option<(J::Key, Vec<J::Value>)>, AllocError>
+    requires { Holds (computation J.Key.cmp J.Key.codec J.Value.codec J.functions) (map (λ bytes. bytes.now) lists.old.items) (heap_items fronts.old) }
+    ensures holds { OnOk result (Holds (computation J.Key.cmp J.Key.codec J.Value.codec J.functions) (map (λ bytes. bytes.now) lists.new.items) (heap_items fronts.new)) }
+    ensures gives { let all = computation J.Key.cmp J.Key.codec J.Value.codec J.functions in
+        IfOk result (λ group. GivesGroup (λ values. values.items) (merged all (map (λ bytes. bytes.now) lists.old.items)) group (merged all (map (λ bytes. bytes.now) lists.new.items))) }
+    ensures err { OnErr result (merged (computation J.Key.cmp J.Key.codec J.Value.codec J.functions) (map (λ bytes. bytes.now) lists.old.items) ≢ []) }
+{
+    let Some(front) = fronts.pop() else {
+        return Ok(None);
+    };
+    let front = front.0;
+    let Front {
+        key,
+        list,
+        value,
+        len,
+    } = front;
+    refill::<J>(alloc, lists, fronts, list, len)?;
+    let mut values = Vec::new(alloc);
+    values.push(value)?;
+    while let Some(value) = take_tied::<J>(alloc, lists, fronts, &key)? {
+        values.push(value)?;
+    }
+    Ok(Some((key, values)))
+}
+
+/// The groups of runs: the keys in any run, rising, each with all its values by run and then by place. It holds one pair of
+/// each run at a time, beside the values of the group that it gives. For n pairs in m runs it compares keys n log m times.
+/// Contracts see the groups that are still to come.
+#[derive(Drop)]
+pub struct RunGroups<'a, J: Job> {
+    lists: Vec<&'a [u8]>,
+    fronts: BinaryHeap<Reverse<Front<J::Key, J::Value>>>,
+}
+
+impl<'a, J: Job> Model for RunGroups<'a, J> {
+    ghost use Rattle.std.specs.Prelude.{List, map};
+    ghost use Rattle.std.specs.BinaryHeap.{heap_items};
+    ghost use Rattle.mr_user.specs.Computation.{computation};
+    ghost use Rattle.mr_mapside.specs.Runs.{merged};
+    ghost use Rattle.mr_mapside.specs.Fronts.{Holds};
+
+    ghost Value = { List (J.Key × List J.Value) };
+
+    ghost view = { λ m. merged (computation J.Key.cmp J.Key.codec J.Value.codec J.functions) (map (λ bytes. bytes.now) m.lists.items) };
+
+    ghost invariant = { λ m. Holds (computation J.Key.cmp J.Key.codec J.Value.codec J.functions) (map (λ bytes. bytes.now) m.lists.items) (heap_items m.fronts) };
+}
+
+impl<'a, J: Job> RunGroups<'a, J> {
+    /// The groups of the pairs in lists, where those of each list are by rising keys.
+    pub fn new(alloc: Global, lists: Vec<&'a [u8]>) -> Result<RunGroups<'a, J>, AllocError>
+        requires { AreRuns (computation J.Key.cmp J.Key.codec J.Value.codec J.functions) (map (λ bytes. bytes.now) lists.items) }
+        ensures { IfOk result (λ groups. groups ≡ merged (computation J.Key.cmp J.Key.codec J.Value.codec J.functions) (map (λ bytes. bytes.now) lists.entry.items)) }
+    {
+        let mut fronts = BinaryHeap::new(alloc);
+        for (list, bytes) in lists.iter().enumerate() {
+            add_front::<J>(alloc, &mut fronts, list, bytes)?;
+        }
+        Ok(RunGroups { lists, fronts })
+    }
+
+    /// The next group. Answers no fault but want of memory, and that only where a group was to come; then nothing comes after it.
+    pub fn next_group(
+        &mut self,
+        alloc: Global,
+    ) -> Result<Option<(J::Key, Vec<J::Value>)>, AllocError>
+        ensures gives { IfOk result (λ group. GivesGroup (λ values. values.items) self.old group self.new) }
+        ensures some { OnErr result (self.old ≢ []) }
+        ensures over { OnErr result (self.new ≡ []) }
+    {
+        match take_group::<J>(alloc, &mut self.lists, &mut self.fronts) {
+            Ok(group) => Ok(group),
+            Err(fault) => {
+                self.lists.clear();
+                self.fronts.clear();
+                Err(fault)
+            }
+        }
+    }
+}
