@@ -42,7 +42,7 @@ module _ {K V : Type 0} (job : Computation K V) (key_laws : CodecLaws job.key) (
     none None is = refl
     none (Some k) is = let some = key_laws.read_some [] k.0 k.1 is in absurd (omega arith)
 
-  nothing_upto : (most : ℕ) → pairs_upto job most [] ≡ []
+  pub nothing_upto : (most : ℕ) → pairs_upto job most [] ≡ []
   nothing_upto zero = refl
   nothing_upto (suc most) = ap (λ o. option_map_or (λ (found : (K × V) × ℕ). found.0 ∷ pairs_upto job most (drop found.1 [])) o []) no_pair_left
 

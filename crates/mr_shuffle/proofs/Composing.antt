@@ -18,7 +18,8 @@ use Rattle.mr_user.specs.Sequential.{onto_first, lines_of, both, pairs_of_lines,
 use Rattle.mr_user.proofs.Rising.{and_left, and_right}
 use Rattle.mr_mapside.specs.Block.{combined_pairs, spelled_pair, spelled, block, blocks_from}
 use Rattle.mr_mapside.specs.declared.fault.ShuffleFault.TheVariants.{Truncated, Disorder}
-use Rattle.mr_shuffle.specs.Part.{result_map, in_front, first_then, pair_at, goes_down, pairs_at, pairs_of_piece, pairs_of_pieces, part}
+use Rattle.mr_mapside.specs.Runs.{pair_at}
+use Rattle.mr_shuffle.specs.Part.{result_map, in_front, first_then, goes_down, pairs_at, pairs_of_piece, pairs_of_pieces, part}
 use Rattle.mr_shuffle.specs.PieceMeaning.{IsLevel}
 use Rattle.mr_shuffle.specs.SequentialText.{AreSplits}
 use Rattle.mr_shuffle.proofs.Combining.{flat_map-map, all_append, AllPairsFit, text-combined, combined_pairs_fit, by_keys}

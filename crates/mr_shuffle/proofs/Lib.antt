@@ -3,6 +3,7 @@ pub mod Combining
 pub mod Composing
 pub mod Decoding
 pub mod Merges
+pub mod Opening
 pub mod PieceLaws
 pub mod Shelves
 pub mod Works

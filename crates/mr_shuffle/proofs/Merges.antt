@@ -1,5 +1,5 @@
 -- What a merge of pieces gives, where they are read as a whole.
-use Rattle.std.proofs.Common.{◌≡◌, ◌≢◌, ◌⊎◌, inl, inr, ℕ, List, [], ◌∷◌, Some, None, Result, Ok, Err, refl, ap, ◌∙◌}
+use Rattle.std.proofs.Common.{◌≡◌, ◌≢◌, ◌⊎◌, inl, inr, ℕ, List, [], ◌∷◌, Option, Some, None, Result, Ok, Err, refl, ap, ◌∙◌}
 use Rattle.std.specs.List.{flat_map}
 use Rattle.mr_user.specs.Computation.{Computation}
 use Rattle.mr_user.specs.Groups.{groups_of}
@@ -8,6 +8,11 @@ use Rattle.mr_mapside.specs.declared.fault.ShuffleFault.TheVariants as shuffle
 use Rattle.mr_shuffle.specs.Fault.{ReadFaultIs}
 use Rattle.mr_shuffle.specs.Part.{result_map, first_then, pairs_of_piece, pairs_of_pieces, pairs_of_all}
 use Rattle.mr_shuffle.specs.Merging.{items_of, HasFault, IsMergeOf}
+
+-- no items have no groups
+pub no_items : {K V : Type 0} (groups : List (K × List V)) (fault : Option ShuffleFault) → items_of groups fault ≡ [] → groups ≡ []
+no_items [] fault e = refl
+no_items (group ∷ groups) fault e = cc
 
 module _ {K V : Type 0} (job : Computation K V) where
   is_err : {A B E : Type 0} (f : A → B) (r : Result A E) (e : E) → result_map f r ≡ Err e → r ≡ Err e

@@ -7,10 +7,12 @@ use Rattle.mr_user.specs.Laws.{PairFits, PairsFit, AreBytes}
 use Rattle.mr_mapside.specs.Block.{spelled_pair, spelled}
 use Rattle.mr_mapside.specs.declared.fault.ShuffleFault.{ShuffleFault}
 use Rattle.mr_mapside.specs.declared.fault.ShuffleFault.TheVariants as shuffle
-use Rattle.mr_shuffle.specs.Part.{last_key, in_front, pair_at, goes_down, pairs_at, pairs_of_piece}
+use Rattle.mr_mapside.specs.Runs.{pair_at}
+use Rattle.mr_shuffle.specs.Part.{last_key, in_front, goes_down, pairs_at, pairs_of_piece}
 use Rattle.mr_shuffle.specs.PieceMeaning.{IsLevel, ArePairsThen, BeginsNoPair, Says, PieceIsWhatItSays}
 use Rattle.mr_shuffle.proofs.Composing.{Lawful, pair_again, one_pair}
-use Rattle.mr_shuffle.proofs.Decoding.{in_front_all, enough, pair_some, read_down}
+use Rattle.mr_mapside.proofs.RunReading.{pair_some}
+use Rattle.mr_shuffle.proofs.Decoding.{in_front_all, enough, read_down}
 
 bytes-drop : (n : ℕ) (bytes : List ℕ) → AreBytes bytes → AreBytes (drop n bytes)
 bytes-drop zero bytes h = h

@@ -1,12 +1,13 @@
 -- What a reduce makes of the pieces that the maps handed to it (Dean and Ghemawat 2004, section 3.1: the reduce worker
 -- reads all intermediate pairs, sorted by key so that all values of a key stand together, and passes each key with its
 -- values to the reduce function). The bytes of a piece and the faults are our own profile.
-use Rattle.std.specs.Prelude.{ℕ, zero, suc, ◌+◌, Bool, false, cond, List, [], ◌∷◌, length, drop, Option, Some, None, Result, Ok, Err}
-use Rattle.std.specs.Option.{option_map, option_map_or, option_and_then}
+use Rattle.std.specs.Prelude.{ℕ, zero, suc, Bool, false, cond, List, [], ◌∷◌, length, drop, Option, Some, None, Result, Ok, Err}
+use Rattle.std.specs.Option.{option_map_or}
 use Rattle.std.specs.List.{flat_map}
 use Rattle.std.specs.Ordering.{is_lt}
 use Rattle.mr_user.specs.Computation.{Computation}
 use Rattle.mr_user.specs.Sequential.{text_of}
+use Rattle.mr_mapside.specs.Runs.{pair_at}
 use Rattle.mr_mapside.specs.declared.fault.ShuffleFault.{ShuffleFault}
 use Rattle.mr_mapside.specs.declared.fault.ShuffleFault.TheVariants.{Truncated, Disorder}
 
@@ -31,10 +32,6 @@ last_key (p ∷ []) = Some p.0
 last_key (p ∷ q ∷ ps) = last_key (q ∷ ps)
 
 module _ {K V : Type 0} (job : Computation K V) where
-  -- the pair at the front of bytes, and its length
-  abbrev pub pair_at : List ℕ → Option ((K × V) × ℕ)
-  pair_at bytes = option_and_then (λ key. option_map (λ value. ((key.0, value.0), key.1 + value.1)) (job.value.read_at (drop key.1 bytes))) (job.key.read_at bytes)
-
   -- a key is less than the one before it
   abbrev pub goes_down : Option K → K → Bool
   goes_down None key = false
@@ -45,7 +42,7 @@ module _ {K V : Type 0} (job : Computation K V) where
   pairs_at most before [] = Ok []
   pairs_at zero before (b ∷ bytes) = Err Truncated
   pairs_at (suc most) before (b ∷ bytes) =
-      option_map_or (λ found. cond (goes_down before found.0.0) (Err Disorder) (in_front found.0 (pairs_at most (Some found.0.0) (drop found.1 (b ∷ bytes))))) (pair_at (b ∷ bytes)) (Err Truncated)
+      option_map_or (λ found. cond (goes_down before found.0.0) (Err Disorder) (in_front found.0 (pairs_at most (Some found.0.0) (drop found.1 (b ∷ bytes))))) (pair_at job (b ∷ bytes)) (Err Truncated)
 
   -- the pairs of a piece, or its first fault: each pair has a byte at least
   abbrev pub pairs_of_piece : List ℕ → Result (List (K × V)) ShuffleFault

@@ -6,47 +6,49 @@ ghost use Rattle.mr_shuffle.specs.Work.{bytes_of};
 ghost use Rattle.mr_shuffle.specs.Merging.{IsMergeOf, Gives};
 
 use crate::piece::Piece;
-use crate::work::read_pieces;
-use mr_mapside::ShuffleFault;
-use mr_user::{Job, groups};
+use crate::work::open_pieces;
+use mr_mapside::{RunGroups, ShuffleFault};
+use mr_user::Job;
 use std::alloc::{AllocError, Global};
 use std::marker::Model;
-use std::vec::IntoIter;
 
 /// The groups of pieces: the keys in any piece, rising, each with all its values by piece and then by place. Where a
-/// piece can't be read or is not in order, a fault comes after some groups or none, and nothing after it.
+/// piece can't be read or is not in order, a fault comes after some groups or none, and nothing after it. It holds one
+/// pair of each piece at a time, beside the values of the group that it gives.
 /// Contracts see the items that are still to come.
 #[derive(Drop)]
-pub struct Merge<J: Job> {
-    groups: IntoIter<(J::Key, Vec<J::Value>), Global>,
+pub struct Merge<'a, J: Job> {
+    alloc: Global,
+    groups: RunGroups<'a, J>,
     fault: Option<ShuffleFault>,
 }
 
-impl<J: Job> Model for Merge<J> {
-    ghost use Rattle.std.specs.Prelude.{List, map};
-    ghost use Rattle.std.specs.Vec.Iter.{into_iter_items};
+impl<'a, J: Job> Model for Merge<'a, J> {
+    ghost use Rattle.std.specs.Prelude.{List};
     ghost use Rattle.mr_shuffle.specs.Merging.{Item, items_of};
 
     ghost Value = { List (Item J.Key J.Value) };
 
-    ghost view = { λ m. items_of (map (λ g. (g.0, g.1.items)) (into_iter_items m.groups)) m.fault };
+    ghost view = { λ m. items_of m.groups m.fault };
 }
 
-impl<J: Job> Merge<J> {
-    /// The merge of pieces, in their order. It reads what they hold and not of which map and reduce they are.
-    /// Answers no fault but want of memory.
-    pub fn new(alloc: Global, parts: &[Piece]) -> Result<Merge<J>, AllocError>
+impl<'a, J: Job> Merge<'a, J> {
+    /// The merge of pieces, in their order: they are read through once, and each pair is read again when it comes. It reads
+    /// what they hold and not of which map and reduce they are. Answers no fault but want of memory.
+    pub fn new(alloc: Global, parts: &'a [Piece]) -> Result<Merge<'a, J>, AllocError>
         ensures { IfOk result (IsMergeOf (computation J.Key.cmp J.Key.codec J.Value.codec J.functions) (bytes_of parts.now)) }
     {
-        match read_pieces::<J>(alloc, parts) {
-            Ok(pairs) => Ok(Merge {
-                groups: groups(alloc, pairs)?.into_iter(),
+        match open_pieces::<J>(alloc, parts) {
+            Ok(groups) => Ok(Merge {
+                alloc,
+                groups,
                 fault: None,
             }),
             Err(fault) => match fault {
                 ShuffleFault::NoMemory => Err(AllocError),
                 _ => Ok(Merge {
-                    groups: Vec::new(alloc).into_iter(),
+                    alloc,
+                    groups: RunGroups::new(alloc, Vec::new(alloc))?,
                     fault: Some(fault),
                 }),
             },
@@ -54,21 +56,26 @@ impl<J: Job> Merge<J> {
     }
 }
 
-impl<J: Job> Iterator for Merge<J> {
+impl<'a, J: Job> Iterator for Merge<'a, J> {
     type Item = Result<(J::Key, Vec<J::Value>), ShuffleFault>;
 
     ghost next_gives = { Gives (λ values. values.items) };
 
     ghost remaining = { item_count (λ items. items) };
 
-    /// The next group or the fault. Want of memory is answered as a fault, after which nothing comes either.
+    /// The next group or the fault. Want of memory is answered as a fault, after which nothing comes either; it is answered only
+    /// where something was to come.
     fn next(&mut self) -> Option<Result<(J::Key, Vec<J::Value>), ShuffleFault>> {
-        match self.groups.next() {
-            Some(group) => Some(Ok(group)),
-            None => match self.fault.take() {
+        match self.groups.next_group(self.alloc) {
+            Ok(Some(group)) => Some(Ok(group)),
+            Ok(None) => match self.fault.take() {
                 Some(fault) => Some(Err(fault)),
                 None => None,
             },
+            Err(_) => {
+                self.fault = None;
+                Some(Err(ShuffleFault::NoMemory))
+            }
         }
     }
 }

@@ -1,58 +1,52 @@
-//! The pairs of a piece.
-ghost use Rattle.std.specs.Prelude.{◌≡◌, ◌≤◌, ◌<◌, length, Some, None, Ok, IfOk, IfErr};
+//! The pairs of a piece, read through.
+ghost use Rattle.std.specs.Prelude.{◌≡◌, None, OnOk, IfErr};
+ghost use Rattle.std.specs.Result.{result_err};
 ghost use Rattle.mr_user.specs.Computation.{computation};
-ghost use Rattle.mr_user.specs.Faults.{BadWireIf};
-ghost use Rattle.mr_shuffle.specs.Part.{goes_down, last_key, pair_at, pairs_of_piece};
-ghost use Rattle.mr_shuffle.specs.Fault.{ReadFaultIs};
+ghost use Rattle.mr_shuffle.specs.Part.{goes_down, pairs_of_piece};
+ghost use Rattle.mr_shuffle.specs.Fault.{ReadFaultIs, read_fault};
 
-use mr_mapside::ShuffleFault;
-use mr_user::{Job, UserFault, Wire};
+use mr_mapside::{ShuffleFault, read_pair};
+use mr_user::{Job, UserFault};
 use std::alloc::Global;
 
-// The pair at the front of bytes, and its length.
-fn read_pair<J: Job>(alloc: Global, bytes: &[u8]) -> Result<((J::Key, J::Value), usize), UserFault>
-    ensures read { IfOk result (λ found. pair_at (computation J.Key.cmp J.Key.codec J.Value.codec J.functions) bytes.now ≡ Some found) }
-    ensures some { IfOk result (λ found. 0 < found.1) }
-    ensures within { IfOk result (λ found. found.1 ≤ length bytes.now) }
-    ensures bad { IfErr result (λ fault. BadWireIf fault (pair_at (computation J.Key.cmp J.Key.codec J.Value.codec J.functions) bytes.now ≡ None)) }
+// Whether a key is less than the one before it.
+fn falls<J: Job>(before: &Option<J::Key>, key: &J::Key) -> bool
+    ensures { result ≡ goes_down (computation J.Key.cmp J.Key.codec J.Value.codec J.functions) before.now key.now }
 {
-    let (key, key_len) = J::Key::read(alloc, bytes)?;
-    let (value, value_len) = J::Value::read(alloc, &bytes[key_len..])?;
-    Ok(((key, value), key_len + value_len))
-}
-
-// Whether a key is less than the last one.
-fn falls<J: Job>(pairs: &[(J::Key, J::Value)], key: &J::Key) -> bool
-    ensures { result ≡ goes_down (computation J.Key.cmp J.Key.codec J.Value.codec J.functions) (last_key pairs.now) key.now }
-{
-    match pairs.last() {
-        Some(before) => key.cmp(&before.0).is_lt(),
+    match before {
+        Some(before) => key.cmp(before).is_lt(),
         None => false,
     }
 }
 
-// The pairs of a piece, or its first fault.
-pub fn read_piece<J: Job>(
-    alloc: Global,
-    piece: &[u8],
-) -> Result<Vec<(J::Key, J::Value)>, ShuffleFault>
-    ensures read { IfOk result (λ pairs. pairs_of_piece (computation J.Key.cmp J.Key.codec J.Value.codec J.functions) piece.now ≡ Ok pairs.items) }
+// What a reading that gave no pair says of a piece.
+fn read_fault(fault: UserFault) -> ShuffleFault
+    ensures { result ≡ read_fault fault }
+{
+    match fault {
+        UserFault::NoMemory => ShuffleFault::NoMemory,
+        UserFault::Refused | UserFault::BadWire => ShuffleFault::Truncated,
+    }
+}
+
+// Reads a piece through, one pair at a time, to its first fault.
+pub fn check_piece<J: Job>(alloc: Global, piece: &[u8]) -> Result<(), ShuffleFault>
+    ensures whole { OnOk result (result_err (pairs_of_piece (computation J.Key.cmp J.Key.codec J.Value.codec J.functions) piece.now) ≡ None) }
     ensures fault { IfErr result (λ fault. ReadFaultIs fault (pairs_of_piece (computation J.Key.cmp J.Key.codec J.Value.codec J.functions) piece.now)) }
 {
-    let mut pairs: Vec<(J::Key, J::Value)> = Vec::new(alloc);
+    let mut before: Option<J::Key> = None;
     let mut rest = piece;
     while !rest.is_empty() {
         match read_pair::<J>(alloc, rest) {
-            Err(UserFault::NoMemory) => return Err(ShuffleFault::NoMemory),
-            Err(_) => return Err(ShuffleFault::Truncated),
+            Err(fault) => return Err(read_fault(fault)),
             Ok((pair, len)) => {
-                if falls::<J>(&pairs, &pair.0) {
+                if falls::<J>(&before, &pair.0) {
                     return Err(ShuffleFault::Disorder);
                 }
-                pairs.push(pair)?;
+                before = Some(pair.0);
                 rest = &rest[len..];
             }
         }
     }
-    Ok(pairs)
+    Ok(())
 }

@@ -1,16 +1,21 @@
-ghost use Rattle.std.specs.Prelude.{◌≡◌, ◌≤◌, length, Ok, IfOk, IfErr};
+ghost use Rattle.std.specs.Prelude.{◌≡◌, ◌≤◌, length, map, None, Ok, IfOk, IfErr, OnOk};
+ghost use Rattle.std.specs.List.{flat_map};
+ghost use Rattle.std.specs.Result.{result_err};
 ghost use Rattle.mr_ids.specs.declared.id.TaskKind.TheVariants as kind;
 ghost use Rattle.mr_user.specs.Computation.{computation};
-ghost use Rattle.mr_shuffle.specs.Part.{pairs_of_all, part};
+ghost use Rattle.mr_user.specs.Groups.{groups_of};
+ghost use Rattle.mr_user.specs.Sequential.{key_lines};
+ghost use Rattle.mr_mapside.specs.Work.{FullIf};
+ghost use Rattle.mr_shuffle.specs.Part.{result_map, pairs_of_pieces, pairs_of_all, part};
 ghost use Rattle.mr_shuffle.specs.Fault.{ReadFaultIs};
 ghost use Rattle.mr_shuffle.specs.Work.{bytes_of, ArePiecesOf, ReduceFaultIs, in_work};
 
 use crate::piece::{Piece, are_pieces_of};
-use crate::reading::read_piece;
+use crate::reading::check_piece;
 use mr_ids::TaskKind;
-use mr_mapside::{MAX_OUTPUT_LEN, ShuffleFault, WorkFault};
-use mr_user::{Gate, Job, text_of};
-use std::alloc::Global;
+use mr_mapside::{MAX_OUTPUT_LEN, RunGroups, ShuffleFault, WorkFault};
+use mr_user::{Gate, Job, write_lines};
+use std::alloc::{AllocError, Global};
 
 /// The text of reduce `reduce`: the lines of the keys in any piece, rising, each reduced with all its values by piece and
 /// then by place. `parts` has the pieces of the maps 0, 1, 2 and so on, all of them for this reduce; no pieces make an
@@ -39,15 +44,10 @@ pub fn reduce_work<J: Job, G: Gate>(
     if !are_pieces_of(reduce, parts) {
         return Err(WorkFault::Shuffle(ShuffleFault::WrongPiece));
     }
-    let pairs = match read_pieces::<J>(alloc, parts) {
-        Ok(pairs) => pairs,
-        Err(fault) => return Err(in_work(fault)),
-    };
-    let text = text_of(alloc, job, pairs)?;
-    if text.len() > MAX_OUTPUT_LEN {
-        return Err(WorkFault::Full);
+    match open_pieces::<J>(alloc, parts) {
+        Ok(groups) => merged_text(alloc, job, groups),
+        Err(fault) => Err(in_work(fault)),
     }
-    Ok(text)
 }
 
 // A fault of pieces, as the fault of a work.
@@ -60,19 +60,59 @@ fn in_work(fault: ShuffleFault) -> WorkFault
     }
 }
 
-// The pairs of all pieces, by piece and then by place, or the first fault in that order.
-pub fn read_pieces<J: Job>(
+// The text of groups.
+fn merged_text<'a, J: Job>(
     alloc: Global,
-    parts: &[Piece],
-) -> Result<Vec<(J::Key, J::Value)>, ShuffleFault>
-    ensures read { let all = computation J.Key.cmp J.Key.codec J.Value.codec J.functions in
-        IfOk result (λ pairs. pairs_of_all all (bytes_of parts.now) ≡ Ok pairs.items) }
+    job: &J,
+    mut groups: RunGroups<'a, J>,
+) -> Result<Vec<u8>, WorkFault>
+    ensures text { let all = computation J.Key.cmp J.Key.codec J.Value.codec J.functions in
+        IfOk result (λ text. text.items ≡ flat_map (key_lines all) groups.entry) }
+    ensures short { IfOk result (λ text. length text.items ≤ MAX_OUTPUT_LEN) }
+    ensures fault { let all = computation J.Key.cmp J.Key.codec J.Value.codec J.functions in
+        IfErr result (λ fault. FullIf fault (flat_map (key_lines all) groups.entry)) }
+{
+    let mut text = Vec::new(alloc);
+    while let Some((key, values)) = groups.next_group(alloc)? {
+        write_lines(alloc, job, &key, &values, &mut text)?;
+        if text.len() > MAX_OUTPUT_LEN {
+            return Err(WorkFault::Full);
+        }
+    }
+    Ok(text)
+}
+
+// Reads all pieces through, one pair at a time, to the first fault in the order of the pieces and then of the bytes.
+fn check_pieces<J: Job>(alloc: Global, parts: &[Piece]) -> Result<(), ShuffleFault>
+    ensures whole { let all = computation J.Key.cmp J.Key.codec J.Value.codec J.functions in
+        OnOk result (result_err (pairs_of_pieces all (bytes_of parts.now)) ≡ None) }
     ensures fault { let all = computation J.Key.cmp J.Key.codec J.Value.codec J.functions in
         IfErr result (λ fault. ReadFaultIs fault (pairs_of_all all (bytes_of parts.now))) }
 {
-    let mut pairs = Vec::new(alloc);
     for part in parts {
-        pairs.append(&mut read_piece::<J>(alloc, part.bytes.as_slice())?)?;
+        check_piece::<J>(alloc, part.bytes.as_slice())?;
     }
-    Ok(pairs)
+    Ok(())
+}
+
+// The bytes of pieces, lent.
+fn lent_bytes(alloc: Global, parts: &[Piece]) -> Result<Vec<&[u8]>, AllocError>
+    ensures { IfOk result (λ lists. map (λ bytes. bytes.now) lists.items ≡ bytes_of parts.now) }
+{
+    let mut lists = Vec::with_capacity(alloc, parts.len())?;
+    for part in parts {
+        lists.push(part.bytes.as_slice())?;
+    }
+    Ok(lists)
+}
+
+// The groups of pieces that have been read through, or the first fault.
+pub fn open_pieces<J: Job>(alloc: Global, parts: &[Piece]) -> Result<RunGroups<'_, J>, ShuffleFault>
+    ensures groups { let all = computation J.Key.cmp J.Key.codec J.Value.codec J.functions in
+        IfOk result (λ groups. result_map (groups_of J.Key.cmp) (pairs_of_all all (bytes_of parts.now)) ≡ Ok groups) }
+    ensures fault { let all = computation J.Key.cmp J.Key.codec J.Value.codec J.functions in
+        IfErr result (λ fault. ReadFaultIs fault (pairs_of_all all (bytes_of parts.now))) }
+{
+    check_pieces::<J>(alloc, parts)?;
+    Ok(RunGroups::new(alloc, lent_bytes(alloc, parts)?)?)
 }

@@ -150,8 +150,9 @@ pub fn text_of<J: Job>(
     Ok(text)
 }
 
-// Appends the lines of a key.
-fn write_lines<J: Job>(
+/// Appends the lines of a key, reduced with the values: its text, a tab, a value text and a line feed, for each value text.
+/// Answers no fault but want of memory.
+pub fn write_lines<J: Job>(
     alloc: Global,
     job: &J,
     key: &J::Key,

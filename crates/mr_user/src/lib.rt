@@ -58,7 +58,7 @@ mod word;
 mod word_count;
 
 pub use execution::{
-    MAX_REDUCES, MAX_SPLIT_LEN, MAX_SPLITS, sequential, shares, split_pairs, text_of,
+    MAX_REDUCES, MAX_SPLIT_LEN, MAX_SPLITS, sequential, shares, split_pairs, text_of, write_lines,
 };
 pub use fault::{GateFault, UserFault};
 pub use gate::{Gate, OpenGate};
