@@ -1,8 +1,10 @@
 -- The pairs that bytes begin with, one by one.
-use Rattle.std.proofs.Common.{◌≡◌, ℕ, zero, suc, ◌+◌, ◌<◌, ◌≤◌, List, [], ◌∷◌, length, drop, Option, Some, None, refl, sym, ap, ◌∙◌, arith, length-drop}
+use Rattle.std.proofs.Common.{◌≡◌, ℕ, zero, suc, ◌+◌, ◌<◌, ◌≤◌, List, [], ◌∷◌, ◌++◌, length, drop, Option, Some, None, refl, sym, ap, ◌∙◌, arith, length-drop, length-append, append_assoc}
+use Rattle.std.proofs.lemmas.List.{drop_at}
 use Rattle.std.specs.Option.{option_map, option_map_or, option_and_then}
 use Rattle.mr_user.specs.Computation.{Computation}
-use Rattle.mr_user.specs.Laws.{CodecLaws}
+use Rattle.mr_user.specs.Laws.{CodecLaws, PairFits, PairsFit}
+use Rattle.mr_mapside.specs.Block.{spelled_pair, spelled}
 use Rattle.mr_mapside.specs.Runs.{pair_at, pairs_upto, pairs_in}
 
 module _ {K V : Type 0} (job : Computation K V) (key_laws : CodecLaws job.key) (value_laws : CodecLaws job.value) where
@@ -69,3 +71,24 @@ module _ {K V : Type 0} (job : Computation K V) (key_laws : CodecLaws job.key) (
       let left = length-drop found.1 (b ∷ bytes) in
       ap (λ o. option_map_or (λ (found : (K × V) × ℕ). found.0 ∷ pairs_upto job (length bytes) (drop found.1 (b ∷ bytes))) o []) e
       ∙ ap (λ ps. found.0 ∷ ps) (fuel (length bytes) (length (drop found.1 (b ∷ bytes))) (drop found.1 (b ∷ bytes)) (omega arith) (omega arith))
+
+  -- a pair that was written is read again, whatever follows it
+  pub pair_again : (p : K × V) (rest : List ℕ) → PairFits job p → pair_at job (spelled_pair job p ++ rest) ≡ Some (p, length (spelled_pair job p))
+  pair_again p rest h =
+      let k = job.key.written p.0 in
+      let v = job.value.written p.1 in
+      let at_key : job.key.read_at (spelled_pair job p ++ rest) ≡ Some (p.0, length k) =
+      ap job.key.read_at (append_assoc k v rest) ∙ key_laws.read_written p.0 (v ++ rest) h.0 in
+      let at_value : job.value.read_at (drop (length k) (spelled_pair job p ++ rest)) ≡ Some (p.1, length v) =
+      ap job.value.read_at (ap (drop (length k)) (append_assoc k v rest) ∙ drop_at k (v ++ rest) (length k) refl) ∙ value_laws.read_written p.1 rest h.1 in
+      ap (option_and_then (λ (key : K × ℕ). option_map (λ (value : V × ℕ). ((key.0, value.0), key.1 + value.1)) (job.value.read_at (drop key.1 (spelled_pair job p ++ rest))))) at_key
+      ∙ ap (option_map (λ (value : V × ℕ). ((p.0, value.0), length k + value.1))) at_value
+      ∙ ap (λ n. Some (p, n)) (sym (length-append k v))
+
+  -- pairs that were written are read again
+  pub read_back : (ps : List (K × V)) → PairsFit job ps → pairs_in job (spelled job ps) ≡ ps
+  read_back [] fit = refl
+  read_back (p ∷ ps) fit =
+      first_pair (spelled job (p ∷ ps)) (p, length (spelled_pair job p)) (pair_again p (spelled job ps) fit.0)
+      ∙ ap (λ bytes. p ∷ pairs_in job bytes) (drop_at (spelled_pair job p) (spelled job ps) (length (spelled_pair job p)) refl)
+      ∙ ap (λ qs. p ∷ qs) (read_back ps fit.1)

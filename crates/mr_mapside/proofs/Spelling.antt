@@ -1,6 +1,5 @@
 -- A block, group by group.
-use Rattle.std.proofs.Common.{◌≡◌, ◌≢◌, ℕ, zero, suc, ◌<◌, ◌≤◌, ◌||◌, true, false, cond, List, [], ◌∷◌, map, filter, take, length, get_or, sym, ap, subst, ◌∙◌, arith}
-use Rattle.std.proofs.lemmas.List.{take_all}
+use Rattle.std.proofs.Common.{◌≡◌, ◌≢◌, ◌||◌, true, false, cond, List, [], ◌∷◌, map, filter, subst}
 use Rattle.std.specs.Cmp.{IsTotalOrder}
 use Rattle.std.specs.List.{list_any, AllByRecursion}
 use Rattle.std.specs.Ordering.{eq_by_cmp}
@@ -13,11 +12,6 @@ each_mapped : {A B : Type 0} (P : B → Type 0) (f : A → B) (xs : List A) → 
 each_mapped P f [] h = tt
 each_mapped P f (x ∷ xs) h = (h.0, each_mapped P f xs h.1)
 
-at_place : {A B : Type 0} (P : B → Type 0) (f : A → B) (xs : List A) (i : ℕ) (x : A) → i < length xs → x ≡ get_or xs i x → AllByRecursion P (map f xs) → P (f x)
-at_place P f [] i x h e a = absurd (omega arith)
-at_place P f (y ∷ xs) zero x h e a = subst (λ z. P (f z)) (sym e) a.0
-at_place P f (y ∷ xs) (suc i) x h e a = at_place P f xs i x (omega arith) e a.1
-
 module _ {K V : Type 0} (cmp : K → K → Ordering) where
   some_values : (k : K) (ps : List (K × V)) → list_any (eq_by_cmp cmp k) (map (λ p. p.0) ps) ≡ true → values_of cmp k ps ≢ []
   some_values k [] h = cc
@@ -27,17 +21,13 @@ module _ {K V : Type 0} (cmp : K → K → Ordering) where
         | false ↦ λ e. some_values k ps e
       ] h
 
-module _ {K V W : Type 0} (cmp : K → K → Ordering) (order : IsTotalOrder cmp) (same : IsAntisymmetric cmp) (items : W → List V) where
-  abbrev view : K × W → K × List V
-  view g = (g.0, items g.1)
+module _ {K V : Type 0} (cmp : K → K → Ordering) (order : IsTotalOrder cmp) (same : IsAntisymmetric cmp) where
+  -- each group has a value
+  pub all_groups : (ps : List (K × V)) → AllByRecursion (λ g. g.1 ≢ []) (groups_of cmp ps)
+  all_groups ps =
+      each_mapped (λ (g : K × List V). g.1 ≢ []) (λ k. (k, values_of cmp k ps)) (keys_of cmp ps)
+      (each-rising cmp order same (λ k. values_of cmp k ps ≢ []) (map (λ p. p.0) ps) (λ q m. some_values cmp q ps m))
 
-  -- a group has a value
-  pub group_some : (ps : List (K × V)) (gs : List (K × W)) (i : ℕ) (g : K × W) → map view gs ≡ groups_of cmp ps → i < length gs → g ≡ get_or gs i g → items g.1 ≢ []
-  group_some ps gs i g is h e =
-      at_place (λ (g : K × List V). g.1 ≢ []) view gs i g h e
-      (subst (AllByRecursion (λ (g : K × List V). g.1 ≢ [])) (sym is)
-      (each_mapped (λ (g : K × List V). g.1 ≢ []) (λ k. (k, values_of cmp k ps)) (keys_of cmp ps)
-      (each-rising cmp order same (λ k. values_of cmp k ps ≢ []) (map (λ p. p.0) ps) (λ q m. some_values cmp q ps m))))
-
-  pub groups_done : (ps : List (K × V)) (gs : List (K × W)) (i : ℕ) → map view gs ≡ groups_of cmp ps → length gs ≤ i → map view (take i gs) ≡ groups_of cmp ps
-  groups_done ps gs i is h = ap (map view) (take_all i gs h) ∙ is
+-- the first of groups has a value, and so have the others
+pub group_some : {K V : Type 0} (before after : List (K × List V)) (k : K) (vs : List V) → before ≡ (k, vs) ∷ after → AllByRecursion (λ g. g.1 ≢ []) before → (vs ≢ []) × AllByRecursion (λ g. g.1 ≢ []) after
+group_some before after k vs e h = subst (AllByRecursion (λ g. g.1 ≢ [])) e h

@@ -40,6 +40,7 @@ mod cut_output;
 mod cutting;
 mod fault;
 mod front;
+mod kept;
 mod laws;
 mod merging;
 mod output;

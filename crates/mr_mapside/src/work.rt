@@ -1,16 +1,19 @@
 //! The work of a map task.
 ghost use Rattle.std.specs.Prelude.{◌≡◌, ◌≢◌, ◌≤◌, ◌<◌, ◌++◌, [], length, Some, IfOk, IfErr, OnOk};
-ghost use Rattle.std.specs.List.{flat_map};
+ghost use Rattle.std.specs.List.{flat_map, AllByRecursion};
 ghost use Rattle.mr_user.specs.Computation.{computation};
-ghost use Rattle.mr_mapside.specs.Block.{framed, combined_group, combined_pairs, spelled, output_of, map_output};
+ghost use Rattle.mr_mapside.specs.Block.{framed, combined_group, spelled, map_output};
+ghost use Rattle.mr_mapside.specs.Runs.{AreRuns, merged};
 ghost use Rattle.mr_mapside.specs.Work.{FullIf, MapFaultIs};
 ghost use Rattle.mr_ids.specs.declared.id.TaskKind.TheVariants as kind;
 
 use crate::MAX_OUTPUT_LEN;
 use crate::fault::WorkFault;
+use crate::kept::{KeptRuns, kept_runs};
+use crate::merging::RunGroups;
 use crate::output::MapOutput;
 use mr_ids::TaskKind;
-use mr_user::{Gate, Job, MAX_REDUCES, MAX_SPLIT_LEN, Wire, groups, shares, split_pairs};
+use mr_user::{Gate, Job, MAX_REDUCES, MAX_SPLIT_LEN, Wire};
 use std::alloc::{AllocError, Global};
 
 /// The output of map `number` over its split, for so many reduces: for each reduce, in order, the length of its block
@@ -37,27 +40,22 @@ pub fn map_work<J: Job, G: Gate>(
         IfErr result (λ fault. MapFaultIs (G.refuses gate.now kind.Map) fault (map_output all reduces number split.now)) }
 {
     gate.enter(TaskKind::Map)?;
-    let pairs = split_pairs(alloc, job, number, split)?;
-    spelled_output(alloc, job, pairs, reduces)
+    let kept = kept_runs(alloc, job, number, split, reduces)?;
+    merged_output(alloc, job, &kept)
 }
 
-// The output of a split's pairs.
-fn spelled_output<J: Job>(
-    alloc: Global,
-    job: &J,
-    pairs: Vec<(J::Key, J::Value)>,
-    reduces: u32,
-) -> Result<MapOutput, WorkFault>
-    requires { 0 < reduces }
+// The output of the runs that were kept for each reduce.
+fn merged_output<J: Job>(alloc: Global, job: &J, kept: &[KeptRuns]) -> Result<MapOutput, WorkFault>
+    requires { AllByRecursion (AreRuns (computation J.Key.cmp J.Key.codec J.Value.codec J.functions)) kept.now }
     ensures output { let all = computation J.Key.cmp J.Key.codec J.Value.codec J.functions in
-        IfOk result (λ output. output ≡ output_of all reduces pairs.items) }
+        IfOk result (λ output. output ≡ flat_map (λ runs. framed (spelled all (flat_map (combined_group all) (merged all runs)))) kept.now) }
     ensures short { IfOk result (λ output. length output ≤ MAX_OUTPUT_LEN) }
     ensures fault { let all = computation J.Key.cmp J.Key.codec J.Value.codec J.functions in
-        IfErr result (λ fault. FullIf fault (output_of all reduces pairs.items)) }
+        IfErr result (λ fault. FullIf fault (flat_map (λ runs. framed (spelled all (flat_map (combined_group all) (merged all runs)))) kept.now)) }
 {
     let mut bytes = Vec::new(alloc);
-    for share in shares(alloc, job, pairs, reduces)? {
-        let block = spelled_block(alloc, job, share)?;
+    for runs in kept {
+        let block = merged_block(alloc, job, runs)?;
         append_block(&mut bytes, &block)?;
     }
     Ok(MapOutput::from_vec(bytes))
@@ -78,18 +76,16 @@ fn append_block(bytes: &mut Vec<u8>, block: &[u8]) -> Result<(), WorkFault>
     Ok(())
 }
 
-// The block of the pairs of one reduce.
-fn spelled_block<J: Job>(
-    alloc: Global,
-    job: &J,
-    pairs: Vec<(J::Key, J::Value)>,
-) -> Result<Vec<u8>, AllocError>
+// The block of the runs for one reduce.
+fn merged_block<J: Job>(alloc: Global, job: &J, runs: &KeptRuns) -> Result<Vec<u8>, AllocError>
+    requires { AreRuns (computation J.Key.cmp J.Key.codec J.Value.codec J.functions) runs.now }
     ensures { let all = computation J.Key.cmp J.Key.codec J.Value.codec J.functions in
-        IfOk result (λ block. block.items ≡ spelled all (combined_pairs all pairs.items)) }
+        IfOk result (λ block. block.items ≡ spelled all (flat_map (combined_group all) (merged all runs.now))) }
 {
+    let mut groups = RunGroups::<J>::new(alloc, runs.lent(alloc)?)?;
     let mut block = Vec::new(alloc);
-    for (key, values) in &groups(alloc, pairs)? {
-        spell_group(alloc, job, key, values, &mut block)?;
+    while let Some((key, values)) = groups.next_group(alloc)? {
+        spell_group(alloc, job, &key, &values, &mut block)?;
     }
     Ok(block)
 }

@@ -192,7 +192,7 @@ module _ {K V : Type 0} (cmp : K → K → Ordering) (order : IsTotalOrder cmp) 
   value_of k [] h = absurd cc
   value_of k (p ∷ ps) h = p.1
 
-  same_values : (xs ys : List (K × V)) → IsStableByKey (λ p. p.0) cmp xs ys → (k : K) → V → filter (λ (p : K × V). eq_by_cmp cmp k p.0) ys ≡ filter (λ (p : K × V). eq_by_cmp cmp k p.0) xs
+  pub same_values : (xs ys : List (K × V)) → IsStableByKey (λ p. p.0) cmp xs ys → (k : K) → V → filter (λ (p : K × V). eq_by_cmp cmp k p.0) ys ≡ filter (λ (p : K × V). eq_by_cmp cmp k p.0) xs
   same_values xs ys s k v =
       let agree : (p : K × V) → ties below (k, v) p ≡ eq_by_cmp cmp k p.0 = λ p. tie_is (cmp k p.0) (cmp p.0 k) (order.antisymm p.0 k) in
       sym (filter_agree (ties below (k, v)) (λ p. eq_by_cmp cmp k p.0) agree ys) ∙ s (k, v) ∙ filter_agree (ties below (k, v)) (λ p. eq_by_cmp cmp k p.0) agree xs

@@ -1,5 +1,5 @@
 -- A least key's group comes first, and then the groups of the pairs of other keys.
-use Rattle.std.proofs.Common.{◌≡◌, not, Bool, true, false, cond, ◌||◌, List, [], ◌∷◌, map, filter, refl, sym, ap, subst, ◌∙◌, T}
+use Rattle.std.proofs.Common.{◌≡◌, not, Bool, true, false, cond, ◌||◌, List, [], ◌∷◌, map, filter, refl, sym, ap, subst, ◌∙◌}
 use Rattle.std.specs.declared.cmp.Ordering.{Ordering}
 use Rattle.std.specs.declared.cmp.Ordering.TheVariants.{Less, Equal, Greater}
 use Rattle.std.specs.Cmp.{IsTotalOrder}
@@ -8,7 +8,7 @@ use Rattle.std.specs.Ordering.{eq_by_cmp, is_eq, is_gt, is_lt, ordering_reverse}
 use Rattle.std.specs.FinMap as finmap
 use Rattle.std.specs.FinMap.Entries.{put, by_order}
 use Rattle.mr_user.specs.Groups.{rising, values_of, groups_of}
-use Rattle.mr_user.specs.Meaning.{others_of, LeastGroupFirst}
+use Rattle.mr_user.specs.Meaning.{others_of}
 use Rattle.mr_user.proofs.Rising.{tied, units, any-rising, rising_same, all_members, member_passes, each-rising}
 
 map_agree : {A B : Type 0} (f g : A → B) (xs : List A) → AllByRecursion (λ x. f x ≡ g x) xs → map f xs ≡ map g xs

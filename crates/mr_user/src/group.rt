@@ -6,8 +6,9 @@ ghost use Rattle.mr_user.specs.Groups.{groups_of, with_pair};
 use std::alloc::{AllocError, Global};
 use std::cmp::Ordering;
 
-// The pairs by rising keys, those of a key as they stood.
-fn sort_pairs<K: Ord + Drop, V: Drop>(pairs: &mut Vec<(K, V)>) -> Result<(), AllocError>
+/// Sorts pairs by rising keys; those of a key stay as they stood. Takes n log n comparisons of keys for n pairs, and answers no
+/// fault but want of memory.
+pub fn sort_pairs<K: Ord + Drop, V: Drop>(pairs: &mut Vec<(K, V)>) -> Result<(), AllocError>
     ensures permutation { IsPermutation pairs.old.items pairs.new.items }
     ensures sorted { OnOk result (IsSortedByKey (λ p. p.0) K.cmp pairs.new.items) }
     ensures stable { IsStableByKey (λ p. p.0) K.cmp pairs.old.items pairs.new.items }

@@ -62,9 +62,10 @@ pub use execution::{
 };
 pub use fault::{GateFault, UserFault};
 pub use gate::{Gate, OpenGate};
-pub use group::groups;
+pub use group::{groups, sort_pairs};
 pub use job::Job;
 pub use laws::{keys_rise, least_group_first, lines_are_pieces};
+pub use line::next_line;
 pub use line_index::LineIndex;
 pub use max_by_key::MaxByKey;
 pub use position::Position;
