@@ -2,8 +2,8 @@
 
 use mr_ids::TaskKind;
 use mr_mapside::{
-    CutOutput, MAX_OUTPUT_LEN, MapOutput, WorkFault, blocks, blocks_are_one, map_work,
-    output_is_its_blocks,
+    CutOutput, MAX_OUTPUT_LEN, MapOutput, RunGroups, WorkFault, blocks, blocks_are_one, map_work,
+    output_is_its_blocks, read_pair,
 };
 use mr_user::{
     Gate, GateFault, Job, LineIndex, MAX_REDUCES, MAX_SPLIT_LEN, MaxByKey, OpenGate, UserFault,
@@ -66,6 +66,32 @@ fn map_output_bytes(rt: HostRuntime) {
     assert!(rt; matches!(&output, Ok(bytes) if bytes.as_slice() == want));
     let output = output_of(&rt, alloc, &WordCount, &OpenGate, b"", 2);
     assert!(rt; matches!(&output, Ok(bytes) if bytes.as_slice() == b"\0\0\0\0\0\0\0\0".as_slice()));
+}
+
+// One pair more than a run holds, on one line.
+#[test]
+fn long_line_of_one_word(rt: HostRuntime) {
+    let alloc = rt.alloc();
+    let mut split = Vec::new(alloc);
+    for _ in 0..4097 {
+        with_memory(&rt, split.extend_from_slice(b"a "));
+    }
+    let output = output_of(&rt, alloc, &WordCount, &OpenGate, &split, 1);
+    let want = b"\0\0\0\x0d\0\0\0\x01a\0\0\0\0\0\0\x10\x01".as_slice();
+    assert!(rt; matches!(&output, Ok(bytes) if bytes.as_slice() == want));
+}
+
+#[test]
+fn runs_are_read(rt: HostRuntime) {
+    let alloc = rt.alloc();
+    let pair = read_pair::<WordCount>(alloc, b"\0\0\0\x01a\0\0\0\0\0\0\0\x02b");
+    assert!(rt;
+        matches!(&pair, Ok((pair, len)) if *len == 13 && pair.0.as_slice() == b"a".as_slice() && pair.1 == 2)
+    );
+    let pair = read_pair::<WordCount>(alloc, b"\0\0\0\x01a\0");
+    assert!(rt; matches!(&pair, Err(UserFault::BadWire)));
+    let mut groups = with_memory(&rt, RunGroups::<WordCount>::new(alloc, Vec::new(alloc)));
+    assert!(rt; matches!(groups.next_group(alloc), Ok(None)));
 }
 
 #[test]
