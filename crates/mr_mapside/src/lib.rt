@@ -22,7 +22,13 @@
 //! - **`map_work`**: proved that Ok is exactly the map's output (for each reduce, in order, the length of its block
 //!   in 4 bytes and the block: the pairs of the keys that go to that reduce, rising, each key's values combined),
 //!   of at most 2^24 bytes; that `User(Refused)` is answered only where the job refuses a line of the split, and
-//!   never another `User`; `Full` only where the output's bytes pass 2^24; `Shuffle` never.
+//!   never another `User`; `Full` only where the output's bytes pass 2^24; `Shuffle` never. Read in the code, not proved:
+//!   it holds at most 4,096 decoded pairs beside those of the present line and the values of the one key that is
+//!   combined; the others are kept as they are written, in sorted runs, which it merges at the end.
+//! - **`RunGroups`** merges lists of written pairs, each by rising keys: `next_group` gives the groups of all their pairs, by
+//!   rising keys, each key's values by list and then by place. Want of memory is answered only where a group was to
+//!   come, and nothing comes after it. It holds one pair of each list, beside the group that it gives.
+//!   `read_pair` is the pair that bytes begin with.
 //! - **`blocks`** cuts bytes into so many blocks and takes no memory: some exactly where the bytes are so many
 //!   blocks behind their lengths and nothing else, and then it is those. `OutputBlocks::get` is the block at a
 //!   place, `count` how many there are.

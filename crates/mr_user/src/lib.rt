@@ -24,8 +24,9 @@
 //! - **Forms**: `Text`, `u64` and `Position` are written as the tables of docs/MODEL.md say; what was written is
 //!   read again whatever follows; what is read fits and was written so; `read` answers `BadWire` exactly where the
 //!   bytes begin with no value.
-//! - `split_pairs`, `shares` and `text_of`, of which the sequential execution and the works of a cluster are made,
-//!   give exactly a split's pairs, the pairs of each reduce, and the text of a reduce's pairs.
+//! - `next_line`, `split_pairs`, `sort_pairs`, `shares`, `write_lines` and `text_of`, of which the sequential execution
+//!   and the works of a cluster are made, give exactly the first line, a split's pairs, a stable sort of pairs by key,
+//!   the pairs of each reduce, the lines of a key, and the text of a reduce's pairs.
 //! - **`sequential(alloc, job, splits, reduces)`** answers exactly the sequential execution: `reduces` files, file
 //!   r being `output reduces r splits`. `Refused` only where a line is refused (then no output exists), `NoMemory`
 //!   only from a refused growth. It sorts each reduce's pairs once: n log n comparisons for n pairs. Measured, not
