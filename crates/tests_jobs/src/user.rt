@@ -3,7 +3,7 @@
 use mr_ids::TaskKind;
 use mr_user::{
     Gate, Job, LineIndex, MAX_SPLIT_LEN, MaxByKey, OpenGate, Position, Text, UserFault, Wire,
-    WordCount, groups,
+    WordCount, groups, next_line, sort_pairs, write_lines,
 };
 use std::alloc::Global;
 use std::process::Abort;
@@ -182,5 +182,34 @@ fn pairs_are_grouped(rt: HostRuntime) -> Result<(), Fail> {
 fn an_open_gate_answers_at_once(rt: HostRuntime) -> Result<(), Fail> {
     OpenGate.enter(TaskKind::Map)?;
     OpenGate.enter(TaskKind::Reduce)?;
+    Ok(())
+}
+
+#[test]
+fn pairs_are_sorted(rt: HostRuntime) -> Result<(), Fail> {
+    let alloc = rt.alloc();
+    let mut pairs: Vec<(u64, u64)> = Vec::from_slice(alloc, &[(2, 5), (1, 7), (2, 3)])?;
+    sort_pairs(&mut pairs)?;
+    assert!(rt; pairs.len() == 3);
+    assert!(rt; pairs[0] == (1, 7) && pairs[1] == (2, 5) && pairs[2] == (2, 3));
+    Ok(())
+}
+
+#[test]
+fn lines_are_read_and_written(rt: HostRuntime) -> Result<(), Fail> {
+    let alloc = rt.alloc();
+    let bytes = b"ab\nc".as_slice();
+    assert!(rt; !bytes.is_empty());
+    let (line, rest) = next_line(bytes);
+    assert!(rt; same(line, b"ab") && same(rest, b"c"));
+    let mut text = Vec::new(alloc);
+    write_lines(
+        alloc,
+        &WordCount,
+        &Text::from_slice(alloc, line)?,
+        &[2, 3],
+        &mut text,
+    )?;
+    assert!(rt; same(&text, b"ab\t5\n"));
     Ok(())
 }
