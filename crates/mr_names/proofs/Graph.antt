@@ -262,16 +262,12 @@ told_cut s t root at key c above path name told is leads edge bare cut =
     subst (λ p. IsTold (edges_of t) (nodes_of t) root (without_one p c)) (sym is)
     (leaf_told (edges_of s) (nodes_of s) root c told above name at key (edges_of t) (nodes_of t) leads edge bare cut.gone (cut_rest s t at key name bare cut) cut.out cut.nodes)
 
--- where the path led that is left, it leads still
-pub cut_leads : (s t : Slab Place) (root at key : ℕ) (c : Content) (above : List (List ℕ)) (name : List ℕ) → IsTold (edges_of s) (nodes_of s) root c
-    → steps (edges_of s) (Some root) above ≡ Some at → edges_of s at name ≡ Some key → ((n : List ℕ) → edges_of s key n ≡ None) → NodeCut s t at name key → steps (edges_of t) (Some root) above ≡ Some at
-cut_leads s t root at key c above name told leads edge bare cut =
-    leaf_stays (edges_of s) (nodes_of s) root c told above name at key (edges_of t) (nodes_of t) leads edge bare cut.gone (cut_rest s t at key name bare cut) cut.out cut.nodes above
-    (different above (above ++ name ∷ []) (λ is. longer above is)) ∙ leads
-  where
-    longer : (p : List (List ℕ)) → p ≡ p ++ name ∷ [] → ⊥
-    longer [] e = cc
-    longer (x ∷ p) e = let tails : p ≡ p ++ name ∷ [] = cc in longer p tails
+-- where another path led, it leads still
+pub cut_stays : (s t : Slab Place) (root at key k : ℕ) (c : Content) (above q : List (List ℕ)) (name : List ℕ) → IsTold (edges_of s) (nodes_of s) root c
+    → steps (edges_of s) (Some root) above ≡ Some at → edges_of s at name ≡ Some key → ((n : List ℕ) → edges_of s key n ≡ None) → NodeCut s t at name key → q ≢ above ++ name ∷ []
+    → steps (edges_of s) (Some root) q ≡ Some k → steps (edges_of t) (Some root) q ≡ Some k
+cut_stays s t root at key k c above q name told leads edge bare cut other led =
+    leaf_stays (edges_of s) (nodes_of s) root c told above name at key (edges_of t) (nodes_of t) leads edge bare cut.gone (cut_rest s t at key name bare cut) cut.out cut.nodes q (different q (above ++ name ∷ []) other) ∙ led
 
 some_is : (x y : List ℕ × ℕ) → Some x ≡ Some y → x ≡ y
 some_is x y e = cc
@@ -292,6 +288,14 @@ first_is s at key name = by (get s at)
             let there : e.1 ≡ key = ap (λ p. p.1) pairs in
             let same : is_eq (name_cmp name e.0) ≡ true = ap (λ x. is_eq (name_cmp name x)) here ∙ ap is_eq (tied_itself nat_list_cmp_total name) in
             rw same (ap Some there)
+
+-- a node from which an edge leads stands
+pub first_stands : (s : Slab Place) (at key : ℕ) (name : List ℕ) → first_edge s at ≡ Some (name, key) → is_some (nodes_of s at) ≡ true
+first_stands s at key name = by (get s at)
+  where
+    by : (o : Option Place) → first_by o ≡ Some (name, key) → is_some (node_of o) ≡ true
+    by None is = absurd (cc)
+    by (Some place) is = refl
 
 pub first_none : (s : Slab Place) (at : ℕ) → first_edge s at ≡ None → (n : List ℕ) → edges_of s at n ≡ None
 first_none s at is n = by (get s at) is

@@ -97,11 +97,11 @@ pub record NodeCut (old new : Slab Place) (at : ℕ) (name : List ℕ) (key : �
   pub out : nodes_of new key ≡ None
   pub nodes : (other : ℕ) → (other ≡ key → ⊥) → nodes_of new other ≡ nodes_of old other
 
--- entries are cut at a node: all that goes is beneath the path that leads there
-abbrev pub LeavesCut : Slab Place → Slab Place → ℕ → Type 0
-LeavesCut old new at =
-    (root : ℕ) (c : Content) (p : List (List ℕ)) → IsTold (edges_of old) (nodes_of old) root c → steps (edges_of old) (Some root) p ≡ Some at
-    → (d : Content) × IsTold (edges_of new) (nodes_of new) root d × ((top : List (List ℕ)) → within top p ≡ true → without top d ≡ without top c) × (finite.len d ≤ finite.len c)
+-- entries are cut beneath a node, from another beneath it on: all that goes is beneath the path that leads to the first
+abbrev pub CutBeneath : Slab Place → Slab Place → ℕ → ℕ → Type 0
+CutBeneath old new top at =
+    (root : ℕ) (c : Content) (t p : List (List ℕ)) → IsTold (edges_of old) (nodes_of old) root c → steps (edges_of old) (Some root) t ≡ Some top → steps (edges_of old) (Some root) p ≡ Some at → within t p ≡ true
+    → (d : Content) × IsTold (edges_of new) (nodes_of new) root d × (without t d ≡ without t c) × (finite.len d ≤ finite.len c)
 
 abbrev pub first_of : List (List ℕ × ℕ) → Option (List ℕ × ℕ)
 first_of [] = None

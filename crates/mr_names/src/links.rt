@@ -1,6 +1,6 @@
 //! The nodes as a graph: edges by name.
 ghost use Rattle.std.specs.Prelude.{◌≡◌, Some, None, true, is_some, OnOk, OnErr, IfOk, IfSome, [], ℕ, List, MatchOption, length, take, ◌≤◌, ◌<◌, ◌+◌, ◌++◌, reverse};
-ghost use Rattle.mr_names.specs.Tree.{edges_of, nodes_of, steps, IsTold, EdgeSet, SameGraph, NodeAdded, EdgeMoved, NodeChanged, NodeCut, LeavesCut, first_edge, DirsAdded, SomeAdded, links_of, line_at, ahead_of};
+ghost use Rattle.mr_names.specs.Tree.{edges_of, nodes_of, steps, IsTold, EdgeSet, SameGraph, NodeAdded, EdgeMoved, NodeChanged, NodeCut, CutBeneath, first_edge, DirsAdded, SomeAdded, links_of, line_at, ahead_of};
 ghost use Rattle.std.specs.Prelude.{map as list_map};
 ghost use Rattle.std.specs.List.{filter_map};
 ghost use Rattle.std.specs.List.Sorted.{IsStrictlySortedBy};
@@ -94,6 +94,7 @@ pub fn add_node(
     ensures err { OnErr result (SameGraph nodes.old nodes.new) }
 {
     let key = nodes.insert(Place {
+        above: at,
         node,
         children: BTreeMap::new(alloc),
     })?;
@@ -126,6 +127,15 @@ pub fn add_dirs(
     Ok(())
 }
 
+// Notes the node above a node.
+fn set_above(nodes: &mut Slab<Place>, key: usize, at: usize)
+    ensures { SameGraph nodes.old nodes.new }
+{
+    if let Some(place) = nodes.get_mut(key) {
+        place.above = at;
+    }
+}
+
 /// Moves an edge.
 pub fn move_edge(
     nodes: &mut Slab<Place>,
@@ -141,6 +151,7 @@ pub fn move_edge(
 {
     link(nodes, at, name, key)?;
     unlink(nodes, from, from_name);
+    set_above(nodes, key, at);
     Ok(())
 }
 
@@ -173,6 +184,7 @@ pub fn root_alone(alloc: Global) -> Result<(Slab<Place>, usize), AllocError>
 {
     let mut nodes = Slab::new(alloc);
     let root = nodes.insert(Place {
+        above: 0,
         node: Node::Dir,
         children: BTreeMap::new(alloc),
     })?;
@@ -219,23 +231,34 @@ pub fn cut_first(nodes: &mut Slab<Place>, at: usize)
     }
 }
 
-/// Takes out the edges of a node whose names come first, and the nodes to which they lead, up to the first that has
-/// edges itself.
-pub fn cut_leaves(nodes: &mut Slab<Place>, at: usize)
-    ensures { LeavesCut nodes.old nodes.new at }
+// The node above, if the edge from there whose name comes first leads here.
+fn first_above(nodes: &Slab<Place>, at: usize) -> Option<usize>
+    ensures { IfSome result (λ up. option_map (λ e. e.1) (first_edge nodes.now up) ≡ Some at) }
 {
-    let count = match nodes.get(at) {
-        Some(place) => place.children.len(),
-        None => 0,
-    };
-    for _index in 0..count {
-        let Some(first) = first_child(nodes, at) else {
-            return;
-        };
-        if first_child(nodes, first).is_some() {
+    match nodes.get(at) {
+        Some(place) if first_child(nodes, place.above) == Some(at) => Some(place.above),
+        _ => None,
+    }
+}
+
+/// Takes out entry after entry beneath the node `top`, by first names from below, from the node `at` beneath it on.
+pub fn cut_on(nodes: &mut Slab<Place>, top: usize, start: usize)
+    ensures { CutBeneath nodes.old nodes.new top start }
+{
+    let mut at = start;
+    for _turn in 0..usize::MAX {
+        if let Some(next) = first_child(nodes, at) {
+            at = next;
+            continue;
+        }
+        if at == top {
             return;
         }
-        cut_first(nodes, at);
+        let Some(up) = first_above(nodes, at) else {
+            return;
+        };
+        cut_first(nodes, up);
+        at = up;
     }
 }
 

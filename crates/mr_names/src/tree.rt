@@ -13,7 +13,7 @@ ghost use Rattle.mr_names.specs.Held.{is_absent, missing_count};
 ghost use Rattle.mr_paths.specs.Path.{parent, prefixes};
 
 use crate::links::{
-    add_dirs, add_node, append_at, child, close_at, cut, cut_first, cut_leaves, find, first_child,
+    add_dirs, add_node, append_at, child, close_at, cut, cut_first, cut_on, find, first_child,
     list, move_edge, push_ahead, reach, root_alone,
 };
 use crate::node::{Entries, Node};
@@ -208,8 +208,8 @@ impl Tree {
         while self.take_leaf(top) {}
     }
 
-    // Takes out an entry at or beneath a path that has no entries, and those beside it as far as they have none. False
-    // where nothing is at the path.
+    // Takes out an entry at or beneath a path that has no entries, and then one after another on the way up from there.
+    // False where nothing is at the path.
     fn take_leaf(&mut self, top: &[Name]) -> bool
         requires { 0 < length top.now }
         ensures more { IsTrue result → (without top.now self.new ≡ without top.now self.old) × (map.len self.new < map.len self.old) }
@@ -234,7 +234,7 @@ impl Tree {
             first = next;
         }
         cut_first(&mut self.nodes, at);
-        cut_leaves(&mut self.nodes, at);
+        cut_on(&mut self.nodes, key, at);
         true
     }
 }

@@ -75,12 +75,16 @@ down-preserved c =
 pub invariant_of-self-inside-2 : goal.invariant_of-self-inside-2
 invariant_of-self-inside-2 c =
     let inv = c.down.invariant in
-    let v = cut_and_more c.self.inside.nodes c.cut_first.new.nodes c.cut_leaves.new.nodes c.self.inside.root c.self.inside.held.0 c.self.inside.held.1 inv.0 inv.1 c.down.at c.down.first inv.2 inv.4
-    (opt_none (first_edge c.self.inside.nodes c.down.first) (sym c.in_default-first_child-2.ensures)) c.cut_first.ensures c.cut_leaves.ensures in
+    let v = cut_and_more c.self.inside.nodes c.cut_first.new.nodes c.cut_on.new.nodes c.self.inside.root c.in-Some-child.key c.self.inside.held.0 c.self.inside.held.1 c.args.top.now inv.0 inv.1 c.down.at c.down.first
+    (subst (λ p. steps (edges_of c.self.inside.nodes) (Some c.self.inside.root) p ≡ Some c.in-Some-child.key) (sym c.in-Some.ensures.cases.0)
+    (leads_on c.self.inside.nodes c.self.inside.root c.self.inside.held.0 c.self.inside.held.1 c.in-Some.above.now c.in-Some.name.now c.in-Some-find.above c.in-Some-child.key (sym c.in-Some-find.ensures) (sym c.in-Some-child.ensures))) inv.2 inv.3 inv.4
+    (opt_none (first_edge c.self.inside.nodes c.down.first) (sym c.in_default-first_child-2.ensures)) c.cut_first.ensures c.cut_on.ensures in
     ((v.0, v.1), tt)
 
 pub returns-clause-more : goal.returns-clause-more
 returns-clause-more c = λ _.
     let inv = c.down.invariant in
-    some_less c.self.inside.nodes c.cut_first.new.nodes c.cut_leaves.new.nodes c.self.inside.root c.self.inside.held.0 c.self.inside.held.1 c.self-2-1.given.0 c.args.self.now c.args.top.now inv.0 inv.1 c.down.at c.down.first
-    c.self.view_is inv.3 inv.2 inv.4 (opt_none (first_edge c.self.inside.nodes c.down.first) (sym c.in_default-first_child-2.ensures)) c.cut_first.ensures c.cut_leaves.ensures
+    some_less c.self.inside.nodes c.cut_first.new.nodes c.cut_on.new.nodes c.self.inside.root c.in-Some-child.key c.self.inside.held.0 c.self.inside.held.1 c.self-2-1.given.0 c.args.self.now c.args.top.now inv.0 inv.1 c.down.at c.down.first
+    c.self.view_is (subst (λ p. steps (edges_of c.self.inside.nodes) (Some c.self.inside.root) p ≡ Some c.in-Some-child.key) (sym c.in-Some.ensures.cases.0)
+    (leads_on c.self.inside.nodes c.self.inside.root c.self.inside.held.0 c.self.inside.held.1 c.in-Some.above.now c.in-Some.name.now c.in-Some-find.above c.in-Some-child.key (sym c.in-Some-find.ensures) (sym c.in-Some-child.ensures))) inv.2 inv.3 inv.4
+    (opt_none (first_edge c.self.inside.nodes c.down.first) (sym c.in_default-first_child-2.ensures)) c.cut_first.ensures c.cut_on.ensures
