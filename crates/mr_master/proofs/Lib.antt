@@ -1,0 +1,6 @@
+pub mod Apart
+pub mod Noting
+pub mod Opening
+pub mod Parts
+pub mod Keeping
+pub mod Standing

@@ -1,0 +1,18 @@
+use Rattle.std.proofs.Common.{ap, ◌∙◌, ◌≡◌, List, ◌++◌, ◌∷◌, [], None}
+use Rattle.std.specs.Map.{lookup}
+use Rattle.indexmap.proofs.MapLemmas.{absent_from_lookup, insert_entry-absent}
+use Rattle.mr_ids.specs.Attempt.{Attempt}
+use Rattle.mr_ids.specs.contracts.id.AttemptIdPartialEq.TheImpl.{eq-value}
+use Rattle.mr_grant.specs.Attempts.{same_attempt}
+use Rattle.mr_grant.proofs.Same.{the_same}
+use Rattle.mr_master_model.specs.declared.launch.Launch.{Launch}
+use Rattle.mr_master.proofs.launches.Entries.push.Goals as goal
+
+pub returns-clause-added : goal.returns-clause-added
+returns-clause-added c = λ absent.
+    let es = c.self.inside.map.entries in
+    let none : lookup (eq-value.it c.args.attempt) es ≡ None =
+    (λ j. lookup (the_same j c.args.attempt) es) ∙ ap (λ (xs : List (Attempt × Launch)). lookup (same_attempt c.args.attempt) xs) c.self.view_is ∙ absent in
+    c.in_ok-insert.ensures.entries
+    ∙ insert_entry-absent eq-value.it c.args.attempt c.args.launch es (absent_from_lookup (eq-value.it c.args.attempt) es none)
+    ∙ ap (λ (xs : List (Attempt × Launch)). xs ++ (c.args.attempt, c.args.launch) ∷ []) c.self.view_is

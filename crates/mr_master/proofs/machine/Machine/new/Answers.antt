@@ -1,0 +1,15 @@
+use Rattle.std.proofs.Common.{refl, ◌≡◌, List, [], arith}
+use Rattle.mr_master.proofs.Standing.{stands-at-first}
+use Rattle.mr_master.proofs.machine.Machine.new.Goals as goal
+
+pub returns : goal.returns
+returns c = stands-at-first _ c.args.setting (record {
+  setting = refl;
+  work = c.new-3.ensures;
+  tasks = c.in_ok-tasks.ensures;
+  launches = record { entries = c.new-4.ensures.entries; killed = λ n within. absurd (omega arith) };
+  nodes = c.in_ok-nodes.ensures;
+  earlier = c.new-5.ensures;
+  writing = c.new-6.ensures;
+  bars = c.new-7.ensures;
+})

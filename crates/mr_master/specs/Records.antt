@@ -1,0 +1,15 @@
+-- What is stored of the records that are to be appended, and of those that were appended and are not flushed.
+use Rattle.std.specs.Prelude.{◌≡◌, Bool, List}
+use Rattle.std.specs.List.{list_any}
+use Rattle.mr_history.specs.declared.record.Record.{Record}
+use Rattle.mr_master_model.specs.Duty.{wants_flush}
+
+pub record Writing : Type 0 where
+  pub due : List Record
+  pub tail : List Record
+  pub is_flush_wanted : Bool
+
+pub record KeepsRecords (m : Writing) (all_due all_tail : List Record) : Type 0 where
+  pub due : m.due ≡ all_due
+  pub tail : m.tail ≡ all_tail
+  pub is_flush_wanted : m.is_flush_wanted ≡ list_any wants_flush all_tail

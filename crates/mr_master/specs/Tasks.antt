@@ -1,0 +1,57 @@
+-- What is stored of the tasks, and which calls it stands for.
+use Rattle.std.specs.Prelude.{◌≡◌, ◌<◌, ◌+◌, ℕ, true, List, [], ◌∷◌, length, slice_get, Some, Result, Ok, Err, if◌then◌else◌}
+use Rattle.mr_ids.specs.Same.{same_task}
+use Rattle.mr_ids.specs.declared.id.TaskId.{TaskId}
+use Rattle.mr_ids.specs.declared.id.TaskKind.{TaskKind}
+use Rattle.mr_task.specs.declared.fault.TaskFault.{TaskFault}
+use Rattle.mr_task.specs.Calls.{TaskCall}
+use Rattle.mr_task.specs.Steps.{Task}
+use Rattle.mr_task.specs.State as task
+use Rattle.mr_master_model.specs.declared.setting.Setting.{Setting}
+use Rattle.mr_master_model.specs.Job.{is_task, task_of}
+use Rattle.mr_master.specs.Places.{place_of}
+
+pub record Tasks : Type 0 where
+  pub machines : List Task  -- maps, then reduces
+
+-- The machine of each task stands for the calls that the task got.
+pub record KeepsTasks (m : Tasks) (w : Setting) (calls : TaskId → List TaskCall) : Type 0 where
+  pub count : length m.machines ≡ w.maps + w.reduces
+  pub stand : (t : TaskId) (x : Task) → is_task w t ≡ true → slice_get m.machines (place_of w t) ≡ Some x → task.StandsFor x t w.app (calls t)
+
+-- task t is told something
+abbrev pub told : TaskId → TaskCall → (TaskId → List TaskCall) → TaskId → List TaskCall
+told t call calls u = if same_task u t then call ∷ calls u else calls u
+
+-- ---- machines by place
+
+-- the machine at place i takes a call, and the others stay
+pub record TakesAt (old : List Task) (i : ℕ) (call : TaskCall) (new : List Task) : Type 0 where
+  pub count : length new ≡ length old
+  pub there : (y : Task) → slice_get new i ≡ Some y → (x : Task) × (slice_get old i ≡ Some x) × task.Stands x call y
+  pub others : (j : ℕ) → (j ≡ i → ⊥) → slice_get new j ≡ slice_get old j
+
+-- the answer is what is read off the calls of the task at place i
+abbrev pub AnswersAt : {A : Type 0} → List Task → ℕ → (TaskId → ℕ → List TaskCall → A) → A → Type 0
+AnswersAt ms i reading answer = (x : Task) → slice_get ms i ≡ Some x → task.Answers x reading answer
+
+-- the machines of the first n tasks of a kind stand behind the old ones, and each got no call
+pub record NewTasks (w : Setting) (kind : TaskKind) (n : ℕ) (old new : List Task) : Type 0 where
+  pub count : length new ≡ length old + n
+  pub stand : (i : ℕ) (x : Task) → i < n → slice_get new (length old + i) ≡ Some x → task.StandsFor x (task_of w kind i) w.app []
+  pub others : (j : ℕ) → j < length old → slice_get new j ≡ slice_get old j
+
+-- an answer, or another one where there is a fault
+abbrev pub reply_or : {A : Type 0} → Result A TaskFault → A → A
+reply_or (Ok x) y = x
+reply_or (Err f) y = y
+
+-- ---- the same of all tasks
+
+-- the task at place i takes a call
+abbrev pub Takes : Tasks → ℕ → TaskCall → Tasks → Type 0
+Takes old i call new = (w : Setting) (calls : TaskId → List TaskCall) (t : TaskId) → is_task w t ≡ true → i ≡ place_of w t → KeepsTasks old w calls → KeepsTasks new w (told t call calls)
+
+-- what is answered is read off the calls of the task at place i
+abbrev pub ReadsAt : {A : Type 0} → Tasks → ℕ → (TaskId → ℕ → List TaskCall → A) → A → Type 0
+ReadsAt m i reading answer = (w : Setting) (calls : TaskId → List TaskCall) (t : TaskId) → is_task w t ≡ true → i ≡ place_of w t → KeepsTasks m w calls → answer ≡ reading t w.app (calls t)

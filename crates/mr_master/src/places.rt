@@ -1,0 +1,32 @@
+//! Where the machines of tasks stand: maps first.
+ghost use Rattle.std.specs.Prelude.{◌≡◌, Some, None, if◌then◌else◌};
+ghost use Rattle.mr_master_model.specs.Job.{is_task};
+ghost use Rattle.mr_master.specs.Places.{place_of};
+
+use mr_ids::{TaskId, TaskKind};
+use mr_master_model::Setting;
+
+// Where a task stands among all: maps first.
+pub fn place_of(setting: &Setting, task: TaskId) -> Option<usize>
+    ensures { result ≡ (if is_task setting.now task then Some (place_of setting.now task) else None) }
+{
+    if task.job.start != setting.job.start || task.job.number != setting.job.number {
+        return None;
+    }
+    match task.kind {
+        TaskKind::Map => {
+            if task.number < setting.maps {
+                Some(task.number as usize)
+            } else {
+                None
+            }
+        }
+        TaskKind::Reduce => {
+            if task.number < setting.reduces {
+                Some(setting.maps as usize + task.number as usize)
+            } else {
+                None
+            }
+        }
+    }
+}
