@@ -1,4 +1,5 @@
 pub mod Arrivals
+pub mod Asking
 pub mod Bits
 pub mod Changes
 pub mod Failing

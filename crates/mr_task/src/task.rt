@@ -1,6 +1,6 @@
 ghost use Rattle.std.specs.Prelude.{◌≡◌, ◌≤◌, ◌<◌, ◌+◌, ◌*◌, ◌-◌, [], ◌∷◌, length, if◌then◌else◌, true, false, Some, None, Ok, Err, IfOk, OnOk, OnErr, IfErr, IfNone, IsOkUnless, unwrap_or, not};
 ghost use Rattle.mr_attempt.specs.Table.{is_live};
-ghost use Rattle.mr_grant.specs.Attempts.{has};
+ghost use Rattle.mr_grant.specs.Attempts.{has, is_first};
 ghost use Rattle.mr_task.specs.Calls.{Launches, Hears, Asks, Reports, Fails, Ends, Dies, Records, Recovers, Loses};
 ghost use Rattle.mr_task.specs.Readings.{seen, named, is_named, failures, is_won, winner, launch_refusal, next_attempt, refusal_of, numbered_up_to};
 ghost use Rattle.mr_task.specs.State.{StandsFor, StandsForSome, StandsAfterSome, Stands, Answers, known, launch_answer, done_answer, state_answer, fault_or};
@@ -172,6 +172,20 @@ impl TaskMachine {
         ensures unchanged { OnErr result (self.new ≡ self.old) }
     {
         self.ask(&attempt)
+    }
+
+    /// Whether the attempt would be the named one once it asked. It takes no memory and changes nothing.
+    pub fn would_name(&self, attempt: AttemptId) -> bool
+        ensures { Answers self.now (λ t k calls. is_named (seen t k (Asks attempt ∷ calls)) attempt) result }
+    {
+        self.is_first_if_asked(&attempt)
+    }
+
+    /// What `done` of the attempt would be answered. It takes no memory and changes nothing.
+    pub fn done_reply(&self, attempt: AttemptId) -> Result<DoneReply, TaskFault>
+        ensures { Answers self.now (done_answer attempt) result }
+    {
+        self.reply_to_done(&attempt)
     }
 
     /// Whether the attempt is the named one, which may commit. Of one that the machine never had the answer is no.
@@ -368,6 +382,38 @@ impl TaskMachine {
         entry.machine.on(AttemptEvent::Pending);
         self.attempts.set(attempt, entry);
         Ok(())
+    }
+
+    // Whether the attempt is the first that waits, once it asked.
+    fn is_first_if_asked(&self, attempt: &AttemptId) -> bool
+        ensures { result ≡ is_first (asked self.now attempt.now).grant.attempts attempt.now }
+    {
+        let is_first = self.grant.can_commit(*attempt);
+        match self.attempts.get(attempt) {
+            Some(entry) => is_first || (!entry.is_over() && self.grant.first().is_none()),
+            None => is_first,
+        }
+    }
+
+    // What Done of the attempt is answered.
+    fn reply_to_done(&self, attempt: &AttemptId) -> Result<DoneReply, TaskFault>
+        ensures { result ≡ (done self.now attempt.now).0 }
+    {
+        let Some(entry) = self.attempts.get(attempt) else {
+            return Err(TaskFault::Unknown);
+        };
+        if entry.accepted {
+            return Ok(DoneReply::Again);
+        }
+        let may_accept = match attempt.task().kind {
+            TaskKind::Map => !entry.is_over() && !self.attempts.any_won(),
+            TaskKind::Reduce => self.grant.can_commit(*attempt),
+        };
+        if may_accept {
+            Ok(DoneReply::Accepted)
+        } else {
+            Ok(DoneReply::Ignored)
+        }
     }
 
     // The attempt says that it is done.
