@@ -36,8 +36,8 @@ told-elsewhere t call calls u e = ap (λ b. if b then call ∷ calls u else call
 pub told-it : (t : TaskId) (call : TaskCall) (calls : TaskId → List TaskCall) → told t call calls t ≡ call ∷ calls t
 told-it t call calls = told-here t call calls t (task-itself t)
 
-pub takes-keeps : (old new : Tasks) (i : ℕ) (call : TaskCall) → TakesAt old.machines i call new.machines → Takes old i call new
-takes-keeps old new i call takes w calls t there at k = record {
+pub takes_keeps : (old new : Tasks) (i : ℕ) (call : TaskCall) → TakesAt old.machines i call new.machines → Takes old i call new
+takes_keeps old new i call takes w calls t there at k = record {
   count = takes.count ∙ k.count;
   stand = λ u y is found. by u y is found (same_task u t) refl;
 }

@@ -1,5 +1,5 @@
 //! The machines of a master's tasks, by place.
-ghost use Rattle.std.specs.Prelude.{◌≡◌, ◌<◌, length, true, [], Some, ℕ, slice_get, OnOk, OnErr, IfOk, vec_len};
+ghost use Rattle.std.specs.Prelude.{◌≡◌, ◌<◌, length, true, [], ◌∷◌, Some, ℕ, slice_get, OnOk, OnErr, IfOk, vec_len};
 ghost use Rattle.mr_grant.specs.Attempts.{has};
 ghost use Rattle.mr_task.specs.Calls.{Asks, Reports, Hears, Fails, Ends, Dies, Loses, Records};
 ghost use Rattle.mr_task.specs.Readings.{seen, is_named, is_live};
@@ -50,6 +50,100 @@ impl Tasks {
     {
         is_arrived(&self.machines, place, attempt)
     }
+
+    // Whether the attempt would be the named one once it asked.
+    pub fn would_name(&self, place: usize, attempt: AttemptId) -> bool
+        requires { place < length self.now.machines }
+        ensures { AnswersAt self.now.machines place (λ t k calls. is_named (seen t k (Asks attempt ∷ calls)) attempt) result }
+    {
+        let task = &self.machines[place];
+        task.would_name(attempt)
+    }
+
+    // What Done of the attempt would be answered. Of one that the task never had: ignored.
+    pub fn done_reply(&self, place: usize, attempt: AttemptId) -> DoneReply
+        requires { place < length self.now.machines }
+        ensures { AnswersAt self.now.machines place (λ t k calls. reply_or (done_answer attempt t k calls) DoneReply.Ignored) result }
+    {
+        let task = &self.machines[place];
+        task.done_reply(attempt).unwrap_or(DoneReply::Ignored)
+    }
+
+    // Whether the attempt is live.
+    pub fn is_live_at(&self, place: usize, attempt: AttemptId) -> bool
+        requires { place < length self.now.machines }
+        ensures { AnswersAt self.now.machines place (λ t k calls. is_live (seen t k calls) attempt) result }
+    {
+        let task = &self.machines[place];
+        is_live(task, attempt)
+    }
+
+    // The attempt asks.
+    pub fn ask(&mut self, place: usize, attempt: AttemptId) -> Result<(), AllocError>
+        requires { place < length self.old.machines }
+        ensures takes { OnOk result (Takes self.old place (Asks attempt) self.new) }
+        ensures err { OnErr result (self.new ≡ self.old) }
+    {
+        ask_at(&mut self.machines, place, attempt)?;
+        Ok(())
+    }
+
+    // The attempt says that it is done. Of one that the task never had: ignored.
+    pub fn report(&mut self, place: usize, attempt: AttemptId) -> DoneReply
+        requires { place < length self.old.machines }
+        ensures takes { Takes self.old place (Reports attempt) self.new }
+        ensures answer { AnswersAt self.old.machines place (λ t k calls. reply_or (done_answer attempt t k calls) DoneReply.Ignored) result }
+    {
+        report_at(&mut self.machines, place, attempt)
+    }
+
+    // The attempt is heard of.
+    pub fn note(&mut self, place: usize, attempt: AttemptId)
+        requires { place < length self.old.machines }
+        ensures { Takes self.old place (Hears attempt) self.new }
+    {
+        note_at(&mut self.machines, place, attempt);
+    }
+
+    // The attempt failed.
+    pub fn fail(&mut self, place: usize, attempt: AttemptId)
+        requires { place < length self.old.machines }
+        ensures { Takes self.old place (Fails attempt) self.new }
+    {
+        fail_at(&mut self.machines, place, attempt);
+    }
+
+    // The attempt's container ended.
+    pub fn end(&mut self, place: usize, attempt: AttemptId, was_killed: bool)
+        requires { place < length self.old.machines }
+        ensures { Takes self.old place (Ends attempt was_killed) self.new }
+    {
+        end_at(&mut self.machines, place, attempt, was_killed);
+    }
+
+    // The attempt ended, and that is no failure of it.
+    pub fn die(&mut self, place: usize, attempt: AttemptId)
+        requires { place < length self.old.machines }
+        ensures { Takes self.old place (Dies attempt) self.new }
+    {
+        die_at(&mut self.machines, place, attempt);
+    }
+
+    // The output of the map's Succeeded attempt is lost.
+    pub fn lose(&mut self, place: usize, attempt: AttemptId)
+        requires { place < length self.old.machines }
+        ensures { Takes self.old place (Loses attempt) self.new }
+    {
+        lose_at(&mut self.machines, place, attempt);
+    }
+
+    // The success of the attempt is recorded.
+    pub fn record(&mut self, place: usize, attempt: AttemptId)
+        requires { place < length self.old.machines }
+        ensures { Takes self.old place (Records attempt) self.new }
+    {
+        record_at(&mut self.machines, place, attempt);
+    }
 }
 
 fn is_arrived(tasks: &Vec<TaskMachine>, place: usize, attempt: AttemptId) -> bool
@@ -82,4 +176,83 @@ fn push_tasks(
         tasks.push(TaskMachine::new(alloc, task, setting.app))?;
     }
     Ok(())
+}
+
+// Whether the attempt is live.
+pub fn is_live(task: &TaskMachine, attempt: AttemptId) -> bool
+    ensures { Answers task.now (λ t k calls. is_live (seen t k calls) attempt) result }
+{
+    match task.state(attempt) {
+        Some(state) => state.is_live(),
+        None => false,
+    }
+}
+
+fn ask_at(tasks: &mut Vec<TaskMachine>, place: usize, attempt: AttemptId) -> Result<(), AllocError>
+    requires { place < vec_len tasks.old }
+    ensures takes { OnOk result (TakesAt tasks.old.items place (Asks attempt) tasks.new.items) }
+    ensures err { OnErr result (tasks.new.items ≡ tasks.old.items) }
+{
+    let task = &mut tasks[place];
+    match task.pending(attempt) {
+        Ok(()) => Ok(()),
+        Err(_) => Err(AllocError),
+    }
+}
+
+fn report_at(tasks: &mut Vec<TaskMachine>, place: usize, attempt: AttemptId) -> DoneReply
+    requires { place < vec_len tasks.old }
+    ensures takes { TakesAt tasks.old.items place (Reports attempt) tasks.new.items }
+    ensures answer { AnswersAt tasks.old.items place (λ t k calls. reply_or (done_answer attempt t k calls) DoneReply.Ignored) result }
+{
+    let task = &mut tasks[place];
+    task.done(attempt).unwrap_or(DoneReply::Ignored)
+}
+
+fn note_at(tasks: &mut Vec<TaskMachine>, place: usize, attempt: AttemptId)
+    requires { place < vec_len tasks.old }
+    ensures { TakesAt tasks.old.items place (Hears attempt) tasks.new.items }
+{
+    let task = &mut tasks[place];
+    let _ = task.heard(attempt);
+}
+
+fn fail_at(tasks: &mut Vec<TaskMachine>, place: usize, attempt: AttemptId)
+    requires { place < vec_len tasks.old }
+    ensures { TakesAt tasks.old.items place (Fails attempt) tasks.new.items }
+{
+    let task = &mut tasks[place];
+    let _ = task.failed(attempt);
+}
+
+fn die_at(tasks: &mut Vec<TaskMachine>, place: usize, attempt: AttemptId)
+    requires { place < vec_len tasks.old }
+    ensures { TakesAt tasks.old.items place (Dies attempt) tasks.new.items }
+{
+    let task = &mut tasks[place];
+    let _ = task.killed(attempt);
+}
+
+fn lose_at(tasks: &mut Vec<TaskMachine>, place: usize, attempt: AttemptId)
+    requires { place < vec_len tasks.old }
+    ensures { TakesAt tasks.old.items place (Loses attempt) tasks.new.items }
+{
+    let task = &mut tasks[place];
+    let _ = task.lost(attempt);
+}
+
+fn record_at(tasks: &mut Vec<TaskMachine>, place: usize, attempt: AttemptId)
+    requires { place < vec_len tasks.old }
+    ensures { TakesAt tasks.old.items place (Records attempt) tasks.new.items }
+{
+    let task = &mut tasks[place];
+    let _ = task.recorded(attempt);
+}
+
+fn end_at(tasks: &mut Vec<TaskMachine>, place: usize, attempt: AttemptId, was_killed: bool)
+    requires { place < vec_len tasks.old }
+    ensures { TakesAt tasks.old.items place (Ends attempt was_killed) tasks.new.items }
+{
+    let task = &mut tasks[place];
+    let _ = task.ended(attempt, was_killed);
 }

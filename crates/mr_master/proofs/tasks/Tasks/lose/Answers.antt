@@ -1,0 +1,11 @@
+use Rattle.std.proofs.Common.{subst}
+use Rattle.mr_task.specs.Calls.{Loses}
+use Rattle.mr_master.specs.Tasks.{Tasks, Takes}
+use Rattle.mr_master.proofs.Keeping.{takes_keeps}
+use Rattle.mr_master.proofs.tasks.Tasks.lose.Goals as goal
+
+pub returns : goal.returns
+returns c =
+    let old : Tasks = record { machines = c.self.inside.machines.items } in
+    let new : Tasks = record { machines = c.lose_at.new.tasks.items } in
+    subst (λ (x : Tasks). Takes x c.args.place (Loses c.args.attempt) new) c.self.view_is (takes_keeps old new c.args.place (Loses c.args.attempt) c.lose_at.ensures)
