@@ -2,3 +2,4 @@ pub mod Growing
 pub mod Recording
 pub mod Rows
 pub mod Final
+pub mod Launching

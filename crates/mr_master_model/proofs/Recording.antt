@@ -34,7 +34,7 @@ use Rattle.mr_master_model.specs.Next.{moved, next_seen, seen}
 use Rattle.mr_master_model.specs.Laws.{In, OneIsRecorded}
 use Rattle.mr_master_model.proofs.Growing.{if_cases, step-grows, accepted-grew}
 
-In-parts : {A : Type 0} (x : A) (xs ys : List A) → In x (xs ++ ys) → In x xs ⊎ In x ys
+pub In-parts : {A : Type 0} (x : A) (xs ys : List A) → In x (xs ++ ys) → In x xs ⊎ In x ys
 In-parts x [] ys i = inr i
 In-parts x (y ∷ xs) ys (inl e) = inl (inl e)
 In-parts x (y ∷ xs) ys (inr i) = by (In-parts x xs ys i)

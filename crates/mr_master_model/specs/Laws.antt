@@ -1,15 +1,17 @@
 -- What follows from the readings alone, for every past of a master, the newest step first.
-use Rattle.std.specs.Prelude.{◌≡◌, ℕ, true, false, List, [], ◌∷◌, ◌++◌, Option, Some, ◌⊎◌}
+use Rattle.std.specs.Prelude.{◌≡◌, ℕ, true, false, List, [], ◌∷◌, ◌++◌, Option, Some, None, ◌⊎◌}
 use Rattle.mr_ids.specs.Attempt.{Attempt}
 use Rattle.mr_ids.specs.declared.id.TaskId.{TaskId}
 use Rattle.mr_ids.specs.declared.id.TaskKind.TheVariants.{Reduce}
-use Rattle.mr_grant.specs.Attempts.{has}
+use Rattle.std.specs.Map.{lookup}
+use Rattle.mr_grant.specs.Attempts.{same_attempt, has}
 use Rattle.mr_task.specs.Calls.{TaskCall}
 use Rattle.mr_task.specs.Readings as task
 use Rattle.mr_history.specs.declared.record.Record.TheVariants.{ReduceSucceeded}
 use Rattle.mr_master_model.specs.declared.setting.Setting.{Setting}
 use Rattle.mr_master_model.specs.Past.{Step}
-use Rattle.mr_master_model.specs.Readings.{is_over, of_task}
+use Rattle.mr_master_model.specs.declared.launch.Launch.{Launch}
+use Rattle.mr_master_model.specs.Readings.{is_over, of_task, is_known, launch_refusal, next_attempt}
 use Rattle.mr_master_model.specs.Next.{seen, sent}
 
 abbrev pub In : {A : Type 0} → A → List A → Type 0
@@ -39,3 +41,12 @@ OneIsRecorded = (w : Setting) (past : List Step) (a b : Attempt) (m n : Option �
 abbrev pub OverIsFinal : Type 0
 OverIsFinal = (w : Setting) (past : List Step) (step : Step) → is_over (seen w past).work ≡ true
     → (seen w (step ∷ past) ≡ seen w past) × (sent w past step ≡ [])
+
+-- Whoever was launched is known: its task, which is of the job, has it.
+abbrev pub LaunchedAreKnown : Type 0
+LaunchedAreKnown = (w : Setting) (past : List Step) (p : Attempt × Launch) → In p (seen w past).launched → is_known w (seen w past) p.0 ≡ true
+
+-- The attempt that is launched next was not launched before.
+abbrev pub LaunchesAreFresh : Type 0
+LaunchesAreFresh = (w : Setting) (past : List Step) (t : TaskId) (n : ℕ) → launch_refusal w (seen w past) t n ≡ None
+    → lookup (same_attempt (next_attempt w (seen w past) t)) (seen w past).launched ≡ None

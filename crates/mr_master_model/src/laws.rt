@@ -1,5 +1,5 @@
 //! Laws of the readings, for the layers above: these functions do nothing.
-ghost use Rattle.mr_master_model.specs.Laws.{CallsGrow, AcceptedStays, NameStays, OneIsRecorded, OverIsFinal};
+ghost use Rattle.mr_master_model.specs.Laws.{CallsGrow, AcceptedStays, NameStays, OneIsRecorded, OverIsFinal, LaunchedAreKnown, LaunchesAreFresh};
 ghost use Rattle.mr_master_model.specs.Rows.{FreshMaster, SmallJob};
 
 /// A task is only ever told more, so all laws of tasks hold along a master's past.
@@ -20,6 +20,12 @@ pub fn name_stays()
 /// Of one reduce, the records of a success that are due or unflushed name one attempt.
 pub fn one_is_recorded()
     ensures { OneIsRecorded }
+{}
+
+/// Whoever was launched is known, and the attempt that is launched next was not launched before.
+pub fn launched_are_known()
+    ensures known { LaunchedAreKnown }
+    ensures fresh { LaunchesAreFresh }
 {}
 
 /// A master that is Ended or Stopped stays so and sends nothing.

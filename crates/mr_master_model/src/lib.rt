@@ -22,7 +22,8 @@ mod store;
 
 pub use launch::Launch;
 pub use laws::{
-    accepted_stays, calls_grow, fresh_master, name_stays, one_is_recorded, over_is_final, small_job,
+    accepted_stays, calls_grow, fresh_master, launched_are_known, name_stays, one_is_recorded,
+    over_is_final, small_job,
 };
 pub use phase::{DutyName, LaunchFault, Phase};
 pub use setting::Setting;

@@ -1,0 +1,5 @@
+use Rattle.mr_master_model.proofs.Launching.{launched_are_known, launches_are_fresh}
+use Rattle.mr_master_model.proofs.laws.launched_are_known.Goals as goal
+
+pub returns : goal.returns
+returns c = record { known = launched_are_known; fresh = launches_are_fresh }
