@@ -4,3 +4,5 @@ pub mod Opening
 pub mod Parts
 pub mod Keeping
 pub mod Standing
+pub mod Incarnations
+pub mod Telling

@@ -5,3 +5,5 @@ pub mod Launches
 pub mod Nodes
 pub mod Records
 pub mod State
+pub mod Gone
+pub mod Told

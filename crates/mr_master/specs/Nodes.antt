@@ -1,9 +1,11 @@
--- What is stored of the nodes.
-use Rattle.std.specs.Prelude.{◌≡◌, ◌<◌, ℕ, List, Some, slice_get}
+-- What is stored of the nodes: the incarnation of each that was heard of in one above the first.
+use Rattle.std.specs.Prelude.{◌≡◌, ℕ, nat_eq, List}
+use Rattle.std.specs.Map.{lookup}
+use Rattle.std.specs.Option.{unwrap_or}
 
-pub record Nodes : Type 0 where
-  pub known : List ℕ  -- by node: its incarnation
+-- the known incarnation of a node
+abbrev pub known_in : List (ℕ × ℕ) → ℕ → ℕ
+known_in m n = unwrap_or (lookup (nat_eq n) m) 1
 
--- of so many nodes
-pub record KeepsNodes (m : Nodes) (count : ℕ) (incarnation : ℕ → ℕ) : Type 0 where
-  pub known : (n : ℕ) → n < count → slice_get m.known n ≡ Some (incarnation n)
+abbrev pub KeepsNodes : List (ℕ × ℕ) → (ℕ → ℕ) → Type 0
+KeepsNodes m known = (n : ℕ) → known_in m n ≡ known n

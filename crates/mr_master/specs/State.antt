@@ -1,15 +1,16 @@
 -- Which past the machine of a master stands for.
-use Rattle.std.specs.Prelude.{◌≡◌, List, ◌∷◌, ◌++◌}
+use Rattle.std.specs.Prelude.{◌≡◌, ℕ, true, List, ◌∷◌, ◌++◌}
 use Rattle.mr_ids.specs.Attempt.{Attempt}
-use Rattle.mr_packet.specs.declared.packet.Envelope.{Envelope}
+use Rattle.mr_grant.specs.Attempts.{has}
 use Rattle.mr_history.specs.declared.record.Record.{Record}
 use Rattle.mr_master_model.specs.declared.setting.Setting.{Setting}
+use Rattle.mr_master_model.specs.Job.{is_task}
 use Rattle.mr_master_model.specs.Past.{Work, Step}
 use Rattle.mr_master_model.specs.Readings.{Seen}
 use Rattle.mr_master_model.specs.Next.{seen}
 use Rattle.mr_master.specs.Tasks.{Tasks, KeepsTasks}
 use Rattle.mr_master.specs.Launches.{Launched, KeepsLaunches}
-use Rattle.mr_master.specs.Nodes.{Nodes, KeepsNodes}
+use Rattle.mr_master.specs.Nodes.{KeepsNodes}
 use Rattle.mr_master.specs.Records.{Writing, KeepsRecords}
 
 -- what a machine stores, part by part
@@ -18,7 +19,7 @@ pub record Master : Type 0 where
   pub work : Work
   pub tasks : Tasks
   pub launches : Launched
-  pub nodes : Nodes
+  pub nodes : List (ℕ × ℕ)  -- the incarnation of each that is not in its first
   pub earlier : List Record
   pub writing : Writing
   pub bars : List Attempt
@@ -29,10 +30,11 @@ pub record Keeps (m : Master) (w : Setting) (s : Seen) : Type 0 where
   pub work : m.work ≡ s.work
   pub tasks : KeepsTasks m.tasks w s.calls
   pub launches : KeepsLaunches m.launches s.launched s.killed
-  pub nodes : KeepsNodes m.nodes w.nodes s.known
+  pub nodes : KeepsNodes m.nodes s.known
   pub earlier : m.earlier ≡ s.earlier
   pub writing : KeepsRecords m.writing s.due s.tail
   pub bars : m.bars ≡ s.bars
+  pub barred : (a : Attempt) → has s.bars a ≡ true → is_task w a.task ≡ true
 
 -- The machine stands for a past: it keeps what is read off it.
 abbrev pub StandsFor : Master → Setting → List Step → Type 0

@@ -1,13 +1,16 @@
-//! The attempts whose bar was ever due, in order.
-ghost use Rattle.std.specs.Prelude.{◌≡◌, []};
+//! The attempts whose bar was ever due, in order. This is the only place that knows how they are kept.
+ghost use Rattle.std.specs.Prelude.{◌≡◌, ◌<◌, ◌++◌, [], ◌∷◌, length, slice_get, IfOk, OnOk, OnErr};
+ghost use Rattle.mr_grant.specs.Attempts.{has, with_last};
 
+use indexmap::IndexSet;
 use mr_ids::AttemptId;
-use std::alloc::Global;
+use std::alloc::{AllocError, Global};
 use std::marker::Model;
 
+/// Attempts, each once, in the order in which their bars came due.
 #[derive(Drop)]
 pub struct Bars {
-    due: Vec<AttemptId>,
+    due: IndexSet<AttemptId>,
 }
 
 impl Model for Bars {
@@ -16,7 +19,7 @@ impl Model for Bars {
 
     ghost Value = { List Attempt };
 
-    ghost view = { λ b. b.due.items };
+    ghost view = { λ b. b.due.keys };
 }
 
 impl Bars {
@@ -24,7 +27,37 @@ impl Bars {
         ensures { result ≡ [] }
     {
         Bars {
-            due: Vec::new(alloc),
+            due: IndexSet::new(alloc),
         }
+    }
+
+    pub fn copy(&self) -> Result<Bars, AllocError>
+        ensures { IfOk result (λ bars. bars ≡ self.now) }
+    {
+        Ok(Bars {
+            due: self.due.clone()?,
+        })
+    }
+
+    pub fn len(&self) -> usize
+        ensures { result ≡ length self.now }
+    {
+        self.due.len()
+    }
+
+    // The attempt at a place, counted from 0.
+    pub fn at(&self, place: usize) -> Option<AttemptId>
+        ensures { result ≡ slice_get self.now place }
+    {
+        self.due.get_index(place).copied()
+    }
+
+    // Adds an attempt as the last, if it is not there.
+    pub fn add(&mut self, attempt: AttemptId) -> Result<(), AllocError>
+        ensures added { OnOk result (self.new ≡ with_last self.old attempt) }
+        ensures err { OnErr result (self.new ≡ self.old) }
+    {
+        self.due.insert(attempt)?;
+        Ok(())
     }
 }

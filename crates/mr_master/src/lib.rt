@@ -2,6 +2,7 @@
 #![tactic(auto)]
 
 mod bars;
+mod gone;
 mod launches;
 mod machine;
 mod master;

@@ -45,14 +45,13 @@ impl Machine {
         ensures { IfOk result (λ machine. StandsFor machine setting []) }
     {
         let tasks = Tasks::new(alloc, &setting)?;
-        let nodes = Nodes::new(alloc, setting.nodes)?;
         Ok(Machine {
             alloc,
             setting,
             work: Work::new(),
             tasks,
             launches: Launches::new(alloc),
-            nodes,
+            nodes: Nodes::new(alloc),
             earlier: Records::new(alloc),
             writing: Writing::new(alloc),
             bars: Bars::new(alloc),

@@ -1,40 +1,59 @@
-//! What the master knows of the nodes.
-ghost use Rattle.std.specs.Prelude.{◌≡◌, ◌<◌, ℕ, Some, slice_get, IfOk};
-ghost use Rattle.mr_master.specs.Nodes.{KeepsNodes};
+//! Which incarnation of each node is known. This is the only place that knows the map.
+ghost use Rattle.std.specs.Prelude.{◌≡◌, ℕ, IfOk, OnOk, OnErr, nat_eq, if◌then◌else◌};
+ghost use Rattle.mr_master.specs.Nodes.{KeepsNodes, known_in};
 
+use indexmap::IndexMap;
 use std::alloc::{AllocError, Global};
 use std::marker::Model;
 
+/// The known incarnations: 1 of each node that none is noted of.
 #[derive(Drop)]
 pub struct Nodes {
-    // the incarnations
-    known: Vec<u32>,
+    known: IndexMap<u32, u32>,
 }
 
 impl Model for Nodes {
-    ghost use Rattle.mr_master.specs.Nodes.{Nodes};
+    ghost use Rattle.std.specs.Prelude.{List, ℕ};
 
-    ghost Value = { Nodes };
+    ghost Value = { List (ℕ × ℕ) };
 
-    ghost view = { λ n. record { known = n.known.items } };
+    ghost view = { λ n. n.known.entries };
 }
 
 impl Nodes {
-    // So many nodes, each in its first incarnation.
-    pub fn new(alloc: Global, count: u32) -> Result<Nodes, AllocError>
-        ensures { IfOk result (λ nodes. KeepsNodes nodes count (λ n. 1)) }
+    // Each node is known in its first incarnation.
+    pub fn new(alloc: Global) -> Nodes
+        ensures { KeepsNodes result (λ n. 1) }
     {
-        let known = ones(alloc, count)?;
-        Ok(Nodes { known })
+        Nodes {
+            known: IndexMap::new(alloc),
+        }
     }
-}
 
-fn ones(alloc: Global, count: u32) -> Result<Vec<u32>, AllocError>
-    ensures { IfOk result (λ known. (n : ℕ) → n < count → slice_get known.items n ≡ Some 1) }
-{
-    let mut known = Vec::new(alloc);
-    for _node in 0..count {
-        known.push(1)?;
+    pub fn copy(&self) -> Result<Nodes, AllocError>
+        ensures { IfOk result (λ nodes. nodes ≡ self.now) }
+    {
+        Ok(Nodes {
+            known: self.known.clone()?,
+        })
     }
-    Ok(known)
+
+    // The known incarnation of a node.
+    pub fn incarnation(&self, node: u32) -> u32
+        ensures { result ≡ known_in self.now node }
+    {
+        match self.known.get(&node) {
+            Some(incarnation) => *incarnation,
+            None => 1,
+        }
+    }
+
+    // This incarnation of the node is known from then on.
+    pub fn note(&mut self, node: u32, incarnation: u32) -> Result<(), AllocError>
+        ensures noted { OnOk result ((n : ℕ) → known_in self.new n ≡ (if nat_eq n node then incarnation else known_in self.old n)) }
+        ensures err { OnErr result (self.new ≡ self.old) }
+    {
+        self.known.insert(node, incarnation)?;
+        Ok(())
+    }
 }

@@ -1,15 +1,16 @@
-use Rattle.std.proofs.Common.{refl, ◌≡◌, List, [], arith}
+use Rattle.std.proofs.Common.{refl, sym, true≢false, arith}
 use Rattle.mr_master.proofs.Standing.{stands-at-first}
 use Rattle.mr_master.proofs.machine.Machine.new.Goals as goal
 
 pub returns : goal.returns
 returns c = stands-at-first _ c.args.setting (record {
   setting = refl;
-  work = c.new-3.ensures;
+  work = c.new-2.ensures;
   tasks = c.in_ok-tasks.ensures;
-  launches = record { entries = c.new-4.ensures.entries; killed = λ n within. absurd (omega arith) };
-  nodes = c.in_ok-nodes.ensures;
+  launches = record { entries = c.new-3.ensures.entries; killed = λ n within. absurd (omega arith) };
+  nodes = c.new-4.ensures;
   earlier = c.new-5.ensures;
   writing = c.new-6.ensures;
   bars = c.new-7.ensures;
+  barred = λ a there. absurd (true≢false (sym there));
 })
