@@ -1,5 +1,5 @@
 -- A step value is the lines of its table that are left: what is called next, and what becomes of the answer.
-use Rattle.std.specs.Prelude.{◌≡◌, true, List, [], ◌∷◌, ◌++◌, Option, Some, None, Result, Ok, Err}
+use Rattle.std.specs.Prelude.{◌≡◌, Bool, true, false, List, [], ◌∷◌, ◌++◌, Option, Some, None, Result, Ok, Err}
 use Rattle.mr_names.specs.declared.op.Caller.{Caller}
 use Rattle.mr_names.specs.Calls.{State, call_of, refused}
 use Rattle.mr_names.specs.declared.fault.NameFault.{NameFault}
@@ -10,12 +10,17 @@ use Rattle.mr_commit.specs.declared.fault.CommitFault.{CommitFault}
 use Rattle.mr_commit.specs.declared.fault.CommitFault.TheVariants as fault
 use Rattle.mr_commit.specs.declared.fault.StepDone.{StepDone}
 use Rattle.mr_commit.specs.declared.fault.StepDone.TheVariants as done
-use Rattle.mr_commit.specs.Line.{Line, op_of, replaced, more_follow, wants_memory}
+use Rattle.mr_commit.specs.Line.{Line, op_of, replaced, passes_missing, more_follow, wants_memory}
 
 -- the call that is next
 abbrev pub next_call : List Line → Option Op
 next_call [] = None
 next_call (line ∷ rest) = Some (op_of line)
+
+-- whether it passes where there is nothing at its path
+abbrev pub next_passes : List Line → Bool
+next_passes [] = false
+next_passes (line ∷ rest) = passes_missing line
 
 abbrev pub done_at : List Line → StepDone
 done_at [] = done.Finished

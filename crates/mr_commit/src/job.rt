@@ -1,6 +1,6 @@
 ghost use Rattle.std.specs.Prelude.{◌≡◌, [], ◌∷◌, IfOk};
 ghost use Rattle.std.specs.Option.{option_copied};
-ghost use Rattle.mr_commit.specs.Steps.{next_call, Hears, Steps};
+ghost use Rattle.mr_commit.specs.Steps.{next_call, next_passes, Hears, Steps};
 ghost use Rattle.mr_commit.specs.Whole.{Commits, HasEffect};
 ghost use Rattle.mr_commit.specs.Tables.{commit_job};
 
@@ -56,6 +56,13 @@ impl CommitJob {
         ensures { option_copied result ≡ next_call self.now }
     {
         self.lines.call()
+    }
+
+    /// Whether the next call is the deletion of what was temporary, for which it is well if nothing is there. It takes no memory.
+    pub fn cleans_up(&self) -> bool
+        ensures { result ≡ next_passes self.now }
+    {
+        self.lines.next_passes()
     }
 
     /// Hears the answer of the next call, and tells whether calls are left.

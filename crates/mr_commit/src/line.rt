@@ -226,6 +226,13 @@ impl TableLine {
         &self.op
     }
 
+    /// Whether it is well if there is nothing to delete.
+    pub fn passes_missing(&self) -> bool
+        ensures { result ≡ passes_missing self.now }
+    {
+        matches!(self.rule, Rule::MissingPasses)
+    }
+
     /// An equal line.
     pub fn copy(&self) -> Result<TableLine, AllocError>
         ensures { IfOk result (λ line. line ≡ self.now) }

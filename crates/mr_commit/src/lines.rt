@@ -1,7 +1,7 @@
 ghost use Rattle.std.specs.Prelude.{◌≡◌, [], ◌∷◌, ◌++◌, IfOk, OnOk, OnErr, length, drop, ◌<◌};
 ghost use Rattle.std.specs.Option.{option_copied};
 ghost use Rattle.mr_commit.specs.Settles.{Settles};
-ghost use Rattle.mr_commit.specs.Steps.{next_call, done_at, Hears, Steps};
+ghost use Rattle.mr_commit.specs.Steps.{next_call, next_passes, done_at, Hears, Steps};
 ghost use Rattle.mr_commit.specs.Whole.{Finishes, HasEffect};
 
 use crate::fault::{CommitFault, StepDone};
@@ -48,6 +48,16 @@ impl Lines {
         ensures { option_copied result ≡ next_call self.now }
     {
         self.stack.last().map(|line| line.op())
+    }
+
+    /// Whether nothing at the path of the next call is well.
+    pub fn next_passes(&self) -> bool
+        ensures { result ≡ next_passes self.now }
+    {
+        match self.stack.last() {
+            Some(line) => line.passes_missing(),
+            None => false,
+        }
     }
 
     /// An equal value.
