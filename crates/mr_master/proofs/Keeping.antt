@@ -1,5 +1,5 @@
 -- What the machines of tasks keep, after a call of one of them.
-use Rattle.std.proofs.Common.{ℕ, ◌+◌, ◌<◌, ◌≡◌, refl, sym, ◌∙◌, ap, subst, Bool, true, false, ◌&&◌, ◌||◌, List, [], ◌∷◌, ◌++◌, Option, Some, None, slice_get, get_or, length, ◌≤◌, ◌⊎◌, inl, inr, nat_lt, arith, if◌then◌else◌, true≢false}
+use Rattle.std.proofs.Common.{ℕ, ◌+◌, ◌<◌, ◌≡◌, refl, sym, ◌∙◌, ap, subst, Bool, true, false, ◌&&◌, List, ◌∷◌, Option, Some, None, slice_get, get_or, length, ◌≤◌, ◌⊎◌, inl, inr, nat_lt, arith, if◌then◌else◌, true≢false}
 use Rattle.std.specs.Option.{option_map}
 use Rattle.std.specs.Map.{lookup}
 use Rattle.std.proofs.lemmas.Bool.{and_parts, ltb-true}

@@ -6,3 +6,4 @@ pub mod Keeping
 pub mod Standing
 pub mod Incarnations
 pub mod Telling
+pub mod Stepping

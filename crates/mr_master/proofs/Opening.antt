@@ -12,7 +12,7 @@ use Rattle.mr_task.specs.Steps.{Task}
 use Rattle.mr_master_model.specs.declared.setting.Setting.{Setting}
 use Rattle.mr_master_model.specs.Job.{is_task, count_of, task_of}
 use Rattle.mr_master.specs.Places.{place_by}
-use Rattle.mr_master.specs.Tasks.{Tasks, KeepsTasks, NewTasks}
+use Rattle.mr_master.specs.Tasks.{KeepsTasks, NewTasks}
 
 front : (xs : List Task) (y : Task) (i : ℕ) → i < length xs → slice_get (xs ++ y ∷ []) i ≡ slice_get xs i
 front xs y i within =

@@ -1,5 +1,5 @@
 -- What stands for a past.
-use Rattle.std.proofs.Common.{◌≡◌, sym, subst, List, [], ◌∷◌}
+use Rattle.std.proofs.Common.{sym, subst, List, [], ◌∷◌}
 use Rattle.mr_master_model.specs.declared.setting.Setting.{Setting}
 use Rattle.mr_master_model.specs.Past.{Step}
 use Rattle.mr_master_model.specs.Readings.{opening}

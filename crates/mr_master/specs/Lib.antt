@@ -7,3 +7,5 @@ pub mod Records
 pub mod State
 pub mod Gone
 pub mod Told
+pub mod Heard
+pub mod Kinds

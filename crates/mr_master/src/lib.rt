@@ -3,14 +3,18 @@
 
 mod bars;
 mod gone;
+mod duty;
 mod launches;
 mod machine;
 mod master;
 mod nodes;
+mod ops;
 mod packets;
 mod places;
 mod records;
+mod store;
 mod tasks;
 mod work;
 
+pub use duty::Duty;
 pub use master::MasterMachine;

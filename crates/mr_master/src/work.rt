@@ -1,8 +1,25 @@
-//! What the master is at in its phase.
-ghost use Rattle.std.specs.Prelude.{◌≡◌, false};
-ghost use Rattle.mr_master_model.specs.Past.{LooksForSuccess, Fails};
-ghost use Rattle.mr_master_model.specs.Readings.{is_running, is_over};
+//! What the master is at in its phase, with what is left of a committer's table.
+ghost use Rattle.std.specs.Prelude.{◌≡◌, true, false, Some, None, Err, IfOk, OnOk, OnErr};
+ghost use Rattle.mr_master_model.specs.Past.{Work, LooksForSuccess, Runs, Fails, Ends, Stops, phase_of};
+ghost use Rattle.mr_master_model.specs.Readings.{Seen, is_running, is_over};
+ghost use Rattle.mr_master_model.specs.Duty.{duty_at, does, commit_name, abort_duty};
+ghost use Rattle.mr_master.specs.Kinds.{is_own, is_look, looks_for_success, looked_on, is_tell, left_of, with_left, refused_by, refused_when, is_step, finished_by, wants_more, lines_of};
+ghost use Rattle.mr_master.specs.Work.{is_left};
+ghost use Rattle.mr_master.specs.Heard.{heard_as};
+ghost use Rattle.mr_commit.specs.Steps.{heard};
+ghost use Rattle.mr_commit.specs.Recovery.{Left};
+ghost use Rattle.mr_master_model.specs.Answered.{work_after, heard_by};
+ghost use Rattle.mr_master_model.specs.declared.setting.Setting.{Setting};
 
+use crate::duty::{Duty, of_line, of_look, of_mark};
+use crate::ops::{fail_mark, started_mark, success_mark};
+use crate::store::{Heard, Look, is_fine, is_superseded, looked, named, outcome_of};
+use mr_commit::{CommitJob, RecoverTask, SetupJob};
+use mr_master_model::{DutyName, Phase, Setting, StoreAnswer, StoreCall};
+use mr_names::{Answer, NameFault, Op};
+use mr_recover::TaskWinner;
+use std::alloc::{AllocError, Global};
+use std::collections::VecDeque;
 use std::marker::Model;
 
 /// What the master is at.
@@ -14,19 +31,36 @@ pub struct Work {
 #[derive(Drop)]
 enum At {
     LooksForSuccess,
+    LooksForFail,
+    LooksForStarted,
+    Reads,
+    SetsUp(SetupJob),
+    /// A reduce is taken over, and then the others.
+    TakesOver {
+        winner: TaskWinner,
+        step: RecoverTask,
+        others: VecDeque<TaskWinner>,
+    },
     Runs,
+    CommitsJob(CommitJob),
+    TellsSuccess,
+    TellsFail,
+    AbortsCommit,
     Fails(bool),
     Ends(bool),
     Stops,
 }
 
 impl Model for Work {
+    ghost use Rattle.std.specs.Prelude.{◌≡◌, true};
     ghost use Rattle.mr_master_model.specs.Past.{Work};
-    ghost use Rattle.mr_master.specs.Work.{work_of};
+    ghost use Rattle.mr_master.specs.Work.{work_of, has_table};
 
     ghost Value = { Work };
 
     ghost view = { λ w. work_of w.at };
+
+    ghost invariant = { λ w. has_table w.at ≡ true };
 }
 
 impl Work {
@@ -47,6 +81,34 @@ impl Work {
         }
     }
 
+    pub fn running() -> Work
+        ensures { result ≡ Runs }
+    {
+        Work { at: At::Runs }
+    }
+
+    pub fn stopped() -> Work
+        ensures { result ≡ Stops }
+    {
+        Work { at: At::Stops }
+    }
+
+    pub fn phase(&self) -> Phase
+        ensures { result ≡ phase_of self.now }
+    {
+        match &self.at {
+            At::LooksForSuccess | At::LooksForFail | At::LooksForStarted | At::Reads =>
+                Phase::Opening,
+            At::SetsUp(_) | At::TakesOver { .. } => Phase::Recovering,
+            At::Runs => Phase::Running,
+            At::CommitsJob(_) | At::TellsSuccess | At::TellsFail | At::AbortsCommit =>
+                Phase::Committing,
+            At::Fails(_) => Phase::Failing,
+            At::Ends(_) => Phase::Ended,
+            At::Stops => Phase::Stopped,
+        }
+    }
+
     pub fn is_running(&self) -> bool
         ensures { result ≡ is_running self.now }
     {
@@ -64,4 +126,185 @@ impl Work {
             _ => false,
         }
     }
+}
+
+impl Work {
+    // The next call, for all that is told by the work alone.
+    #[tactic(auto, unfolding(mr_master_model::specs::Duty::duty_at))]
+    pub fn duty(&self, setting: &Setting) -> Result<Option<Duty>, AllocError>
+        ensures { IfOk result (λ due. (s : Seen) → is_own self.now ≡ true → due ≡ duty_at setting.now s self.now) }
+    {
+        let alloc = setting.layout.dest.allocator();
+        match &self.at {
+            At::LooksForSuccess => Ok(of_look(success_mark(alloc)?)),
+            At::LooksForFail => Ok(of_look(fail_mark(alloc)?)),
+            At::LooksForStarted => Ok(of_look(started_mark(alloc)?)),
+            At::Reads => Ok(Some(Duty::new(DutyName::Read, StoreCall::Read))),
+            At::SetsUp(step) => of_line(DutyName::Setup, step.call()),
+            At::TakesOver { step, .. } => of_line(DutyName::Recover, step.call()),
+            At::CommitsJob(step) => commit_duty(step),
+            At::TellsSuccess => Ok(of_mark(DutyName::Success, success_mark(alloc)?)),
+            At::TellsFail => Ok(of_mark(DutyName::Fail, fail_mark(alloc)?)),
+            At::AbortsCommit => abort_duty(setting),
+            At::Runs | At::Fails(_) | At::Ends(_) | At::Stops => Ok(None),
+        }
+    }
+}
+
+// The call of the line of the job commit that is next.
+fn commit_duty(step: &CommitJob) -> Result<Option<Duty>, AllocError>
+    ensures { IfOk result (λ due. due ≡ does (commit_name step.now) step.now) }
+{
+    of_line(commit_name(step), step.call())
+}
+
+fn commit_name(step: &CommitJob) -> DutyName
+    ensures { result ≡ commit_name step.now }
+{
+    if step.cleans_up() {
+        return DutyName::Cleanup;
+    }
+    match step.call() {
+        Some(Op::Create(_, _)) => DutyName::Marker,
+        _ => DutyName::Merge,
+    }
+}
+
+// The call of the job's abort.
+pub fn abort_duty(setting: &Setting) -> Result<Option<Duty>, AllocError>
+    ensures { IfOk result (λ due. due ≡ abort_duty setting.now) }
+{
+    let path = setting.layout.temporary()?;
+    Ok(Some(Duty::new(DutyName::Abort, StoreCall::Names(Op::Delete(path)))))
+}
+
+impl Work {
+    // A look for a mark was answered.
+    #[tactic(auto, unfolding(mr_master_model::specs::Answered::work_after))]
+    pub fn look(&mut self, answer: &StoreAnswer)
+        ensures { (w : Setting) (s : Seen) → is_look self.old ≡ true → self.new ≡ work_after w s answer.now self.old }
+    {
+        match looked(answer) {
+            Look::There => self.at = At::Ends(self.looks_for_success()),
+            Look::Absent => self.look_on(),
+            Look::Unclear => self.at = At::Stops,
+        }
+    }
+
+    fn looks_for_success(&self) -> bool
+        ensures { result ≡ looks_for_success self.now }
+    {
+        match self.at {
+            At::LooksForSuccess => true,
+            _ => false,
+        }
+    }
+
+    // The next look, and after the last the reading.
+    fn look_on(&mut self)
+        ensures { self.new ≡ looked_on self.old }
+    {
+        match self.at {
+            At::LooksForSuccess => self.at = At::LooksForFail,
+            At::LooksForFail => self.at = At::LooksForStarted,
+            At::LooksForStarted => self.at = At::Reads,
+            _ => {}
+        }
+    }
+
+    // The creation of a mark, or the abort after COMMIT_FAIL, was answered.
+    #[tactic(auto, unfolding(mr_master_model::specs::Answered::work_after))]
+    pub fn told(&mut self, answer: &StoreAnswer)
+        ensures { (w : Setting) (s : Seen) → is_tell self.old ≡ true → self.new ≡ work_after w s answer.now self.old }
+    {
+        let fine = is_fine(answer);
+        let superseded = is_superseded(answer);
+        match self.at {
+            At::TellsSuccess if fine => self.at = At::Ends(true),
+            At::TellsFail if fine => self.at = At::AbortsCommit,
+            At::AbortsCommit if !superseded => self.at = At::Ends(false),
+            _ => self.at = At::Stops,
+        }
+    }
+
+    // A committer's call was answered. After the last one, `next` is what is next. Where memory is refused, nothing has changed.
+    pub fn step(&mut self, answer: StoreAnswer, next: Work) -> Result<Heard, AllocError>
+        ensures heard { IfOk result (λ h. h ≡ heard_as (heard_by (left_of self.old) answer).0) }
+        ensures moved { OnOk result ((w : Setting) (s : Seen) → is_step self.old ≡ true → next ≡ finished_by w s self.old → self.new ≡ work_after w s answer self.old) }
+        ensures err { OnErr result (self.new ≡ self.old) }
+        ensures memory { OnErr result (wants_more (left_of self.old) ≡ true) }
+    {
+        let superseded = is_superseded(&answer);
+        let heard = self.hear(answer)?;
+        match heard {
+            Heard::More => {}
+            Heard::Finished => *self = next,
+            Heard::Refused => self.refuse(superseded),
+        }
+        Ok(heard)
+    }
+
+    // A call was refused, or its answer was lost.
+    fn refuse(&mut self, superseded: bool)
+        ensures { self.new ≡ refused_when superseded self.old }
+    {
+        match self.at {
+            At::SetsUp(_) | At::TakesOver { .. } => self.at = At::Stops,
+            At::CommitsJob(_) if superseded => self.at = At::Stops,
+            At::CommitsJob(_) => self.at = At::TellsFail,
+            _ => {}
+        }
+    }
+
+    // A committer's call was answered: the lines that follow take its place. Where memory is refused, nothing has changed.
+    fn hear(&mut self, answer: StoreAnswer) -> Result<Heard, AllocError>
+        ensures heard { IfOk result (λ h. h ≡ heard_as (heard_by (left_of self.old) answer).0) }
+        ensures more { IfOk result (λ h. h ≡ Heard.More → self.new ≡ with_left self.old (heard_by (left_of self.old) answer).1) }
+        ensures kept { OnOk result (refused_by self.new ≡ refused_by self.old) }
+        ensures err { OnErr result (self.new ≡ self.old) }
+        ensures memory { OnErr result (wants_more (left_of self.old) ≡ true) }
+    {
+        let Some(r) = named(answer) else {
+            return Ok(Heard::Refused);
+        };
+        match &mut self.at {
+            At::SetsUp(step) => hear_setup(step, r),
+            At::TakesOver { step, .. } => hear_recovery(step, r),
+            At::CommitsJob(step) => hear_commit(step, r),
+            _ => Ok(Heard::Refused),
+        }
+    }
+}
+
+fn hear_setup(step: &mut SetupJob, r: Result<Answer, NameFault>) -> Result<Heard, AllocError>
+    requires { r ≡ Err NameFault.NoMemory → ⊥ }
+    ensures heard { IfOk result (λ h. h ≡ heard_as (heard step.old r).0) }
+    ensures left { OnOk result (step.new ≡ (heard step.old r).1) }
+    ensures err { OnErr result (step.new ≡ step.old) }
+    ensures memory { OnErr result (wants_more step.old ≡ true) }
+{
+    let done = step.took(r);
+    outcome_of(done)
+}
+
+fn hear_commit(step: &mut CommitJob, r: Result<Answer, NameFault>) -> Result<Heard, AllocError>
+    requires { r ≡ Err NameFault.NoMemory → ⊥ }
+    ensures heard { IfOk result (λ h. h ≡ heard_as (heard step.old r).0) }
+    ensures left { OnOk result (step.new ≡ (heard step.old r).1) }
+    ensures err { OnErr result (step.new ≡ step.old) }
+    ensures memory { OnErr result (wants_more step.old ≡ true) }
+{
+    let done = step.took(r);
+    outcome_of(done)
+}
+
+fn hear_recovery(step: &mut RecoverTask, r: Result<Answer, NameFault>) -> Result<Heard, AllocError>
+    requires { r ≡ Err NameFault.NoMemory → ⊥ }
+    ensures heard { IfOk result (λ h. h ≡ heard_as (heard (lines_of step.old) r).0) }
+    ensures left { OnOk result (is_left step.old ≡ true → step.new ≡ Left (heard (lines_of step.old) r).1) }
+    ensures err { OnErr result (step.new ≡ step.old) }
+    ensures memory { OnErr result (wants_more (lines_of step.old) ≡ true) }
+{
+    let done = step.took(r);
+    outcome_of(done)
 }

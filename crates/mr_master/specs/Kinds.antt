@@ -1,0 +1,92 @@
+-- Kinds of work, and what the answer of a committer's call changes of one.
+use Rattle.std.specs.Prelude.{Bool, true, false, List, [], ◌∷◌, if◌then◌else◌}
+use Rattle.mr_commit.specs.Line.{Line, more_follow}
+use Rattle.mr_commit.specs.Recovery.{Recovery}
+use Rattle.mr_commit.specs.Recovery.Recovery.{Nowhere, Left}
+use Rattle.mr_master_model.specs.declared.setting.Setting.{Setting}
+use Rattle.mr_master_model.specs.Readings.{Seen}
+use Rattle.mr_master_model.specs.Answered.{next_winner, winners}
+use Rattle.mr_master_model.specs.Past.{Work, LooksForSuccess, LooksForFail, LooksForStarted, Reads, SetsUp, TakesOver, Runs, CommitsJob, TellsSuccess, TellsFail, AbortsCommit, Fails, Stops}
+
+-- its next call follows from the work alone
+abbrev pub is_own : Work → Bool
+is_own Runs = false
+is_own (Fails is_stable) = false
+is_own _ = true
+
+-- ---- looks for marks
+
+abbrev pub is_look : Work → Bool
+is_look LooksForSuccess = true
+is_look LooksForFail = true
+is_look LooksForStarted = true
+is_look _ = false
+
+abbrev pub looks_for_success : Work → Bool
+looks_for_success LooksForSuccess = true
+looks_for_success _ = false
+
+abbrev pub looked_on : Work → Work
+looked_on LooksForSuccess = LooksForFail
+looked_on LooksForFail = LooksForStarted
+looked_on LooksForStarted = Reads
+looked_on work = work
+
+-- ---- marks are created, and a failed job commit is aborted
+
+abbrev pub is_tell : Work → Bool
+is_tell TellsSuccess = true
+is_tell TellsFail = true
+is_tell AbortsCommit = true
+is_tell _ = false
+
+-- ---- a committer's table
+
+abbrev pub is_step : Work → Bool
+is_step (SetsUp left) = true
+is_step (TakesOver winner left others) = true
+is_step (CommitsJob left) = true
+is_step _ = false
+
+-- what is next after the last line
+abbrev pub finished_by : Setting → Seen → Work → Work
+finished_by w s (SetsUp left) = next_winner w (winners w s)
+finished_by w s (TakesOver winner left others) = next_winner w others
+finished_by w s (CommitsJob left) = TellsSuccess
+finished_by w s work = work
+
+-- the lines that are left
+abbrev pub left_of : Work → List Line
+left_of (SetsUp left) = left
+left_of (TakesOver winner left others) = left
+left_of (CommitsJob left) = left
+left_of _ = []
+
+abbrev pub with_left : Work → List Line → Work
+with_left (SetsUp old) left = SetsUp left
+with_left (TakesOver winner old others) left = TakesOver winner left others
+with_left (CommitsJob old) left = CommitsJob left
+with_left work left = work
+
+-- where a refusal or a fault leads, and where Superseded does
+pub record Refusals : Type 0 where
+  pub refused : Work
+  pub superseded : Work
+
+abbrev pub refused_by : Work → Refusals
+refused_by (SetsUp left) = record { refused = Stops; superseded = Stops }
+refused_by (TakesOver winner left others) = record { refused = Stops; superseded = Stops }
+refused_by (CommitsJob left) = record { refused = TellsFail; superseded = Stops }
+refused_by work = record { refused = work; superseded = work }
+
+abbrev pub refused_when : Bool → Work → Work
+refused_when b work = if b then (refused_by work).superseded else (refused_by work).refused
+
+-- whether lines may follow the one that is next, for which memory is wanted
+abbrev pub wants_more : List Line → Bool
+wants_more [] = false
+wants_more (line ∷ left) = more_follow line
+
+abbrev pub lines_of : Recovery → List Line
+lines_of Nowhere = []
+lines_of (Left lines) = lines
