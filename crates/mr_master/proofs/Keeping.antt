@@ -1,5 +1,5 @@
 -- What the machines of tasks keep, after a call of one of them.
-use Rattle.std.proofs.Common.{ℕ, ◌+◌, ◌<◌, ◌≡◌, refl, sym, ◌∙◌, ap, subst, Bool, true, false, ◌&&◌, List, ◌∷◌, Option, Some, None, slice_get, get_or, length, ◌≤◌, ◌⊎◌, inl, inr, nat_lt, arith, if◌then◌else◌, true≢false}
+use Rattle.std.proofs.Common.{ℕ, ◌+◌, ◌<◌, ◌≡◌, refl, sym, ◌∙◌, ap, subst, Bool, true, false, ◌&&◌, List, [], ◌∷◌, Option, Some, None, slice_get, get_or, length, ◌≤◌, ◌⊎◌, inl, inr, nat_lt, arith, if◌then◌else◌, true≢false}
 use Rattle.std.specs.Option.{option_map}
 use Rattle.std.specs.Map.{lookup}
 use Rattle.std.proofs.lemmas.Bool.{and_parts, ltb-true}
@@ -40,8 +40,13 @@ pub takes_keeps : (old new : Tasks) (i : ℕ) (call : TaskCall) → TakesAt old.
 takes_keeps old new i call takes w calls t there at k = record {
   count = takes.count ∙ k.count;
   stand = λ u y is found. by u y is found (same_task u t) refl;
+  outside = λ u not_one. none u not_one (same_task u t) refl;
 }
   where
+    none : (u : TaskId) → is_task w u ≡ false → (b : Bool) → same_task u t ≡ b → told t call calls u ≡ []
+    none u not_one false e = told-elsewhere t call calls u e ∙ k.outside u not_one
+    none u not_one true e = absurd (true≢false (sym there ∙ ap (λ (v : TaskId). is_task w v) (sym (task-is u t e)) ∙ not_one))
+
     here : (y : Task) → slice_get new.machines (place_of w t) ≡ Some y → task.StandsFor y t w.app (call ∷ calls t)
     here y found =
         let x = takes.there y (ap (λ j. slice_get new.machines j) at ∙ found) in

@@ -4,6 +4,7 @@ pub mod Opening
 pub mod Parts
 pub mod Keeping
 pub mod Standing
+pub mod Containers
 pub mod Incarnations
 pub mod Telling
 pub mod Stepping

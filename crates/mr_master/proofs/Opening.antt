@@ -58,6 +58,7 @@ pub opens : (w : Setting) (maps all : List Task) → NewTasks w Map w.maps [] ma
 opens w maps all k l = record {
   count = let e = k.count in let f = l.count in omega arith;
   stand = λ t x there at. subst (λ (u : TaskId). task.StandsFor x u w.app []) (sym (task-is-of w t there)) (by t.kind t.number x (ltb-true _ _ (and_parts _ _ there).1) at);
+  outside = λ t not_one. refl;
 }
   where
     by : (kind : TaskKind) (n : ℕ) (x : Task) → n < count_of w kind → slice_get all (place_by w kind n) ≡ Some x → task.StandsFor x (task_of w kind n) w.app []

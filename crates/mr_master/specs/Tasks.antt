@@ -1,5 +1,5 @@
 -- What is stored of the tasks, and which calls it stands for.
-use Rattle.std.specs.Prelude.{◌≡◌, ◌<◌, ◌+◌, ℕ, true, List, [], ◌∷◌, length, slice_get, Some, Result, Ok, Err, if◌then◌else◌}
+use Rattle.std.specs.Prelude.{◌≡◌, ◌<◌, ◌+◌, ℕ, true, false, List, [], ◌∷◌, length, slice_get, Some, Result, Ok, Err, if◌then◌else◌}
 use Rattle.mr_ids.specs.Same.{same_task}
 use Rattle.mr_ids.specs.declared.id.TaskId.{TaskId}
 use Rattle.mr_ids.specs.declared.id.TaskKind.{TaskKind}
@@ -18,6 +18,8 @@ pub record Tasks : Type 0 where
 pub record KeepsTasks (m : Tasks) (w : Setting) (calls : TaskId → List TaskCall) : Type 0 where
   pub count : length m.machines ≡ w.maps + w.reduces
   pub stand : (t : TaskId) (x : Task) → is_task w t ≡ true → slice_get m.machines (place_of w t) ≡ Some x → task.StandsFor x t w.app (calls t)
+  -- what is no task of the job got none
+  pub outside : (t : TaskId) → is_task w t ≡ false → calls t ≡ []
 
 -- task t is told something
 abbrev pub told : TaskId → TaskCall → (TaskId → List TaskCall) → TaskId → List TaskCall

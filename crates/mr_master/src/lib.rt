@@ -2,8 +2,8 @@
 #![tactic(auto)]
 
 mod bars;
-mod gone;
 mod duty;
+mod gone;
 mod launches;
 mod machine;
 mod master;

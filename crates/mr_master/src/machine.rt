@@ -1,6 +1,6 @@
 //! The machine of a master, part by part.
-ghost use Rattle.std.specs.Prelude.{◌≡◌, ◌<◌, length, option_map, IfSome, IfOk, []};
-ghost use Rattle.mr_master_model.specs.Readings.{launch_of};
+ghost use Rattle.std.specs.Prelude.{◌≡◌, ◌<◌, length, option_map, Some, None, IfSome, IfOk, [], if◌then◌else◌};
+ghost use Rattle.mr_master_model.specs.Readings.{launch_of, is_known, launched_in};
 ghost use Rattle.mr_master.specs.Places.{place_of};
 ghost use Rattle.mr_master.specs.State.{StandsFor, Reads};
 
@@ -14,6 +14,7 @@ use crate::work::Work;
 use mr_history::Records;
 use mr_ids::AttemptId;
 use mr_master_model::{Launch, Setting};
+use mr_packet::ContainerId;
 use std::alloc::{AllocError, Global};
 use std::marker::Model;
 
@@ -56,6 +57,32 @@ impl Machine {
             writing: Writing::new(alloc),
             bars: Bars::new(alloc),
         })
+    }
+
+    // Where the task of an attempt stands, if the attempt is known.
+    pub fn place_if_known(&self, attempt: AttemptId) -> Option<usize>
+        ensures known { Reads self.now (λ w s. if is_known w s attempt then Some (place_of w attempt.task) else None) result }
+        ensures within { IfSome result (λ p. p < length self.now.tasks.machines) }
+    {
+        let place = place_of(&self.setting, attempt.task())?;
+        if self.tasks.is_arrived(place, attempt) {
+            Some(place)
+        } else {
+            None
+        }
+    }
+
+    // The attempt that a container was launched for, where its task stands, and what it was launched as.
+    pub fn launched_in(&self, container: ContainerId) -> Option<(usize, (AttemptId, Launch))>
+        ensures known { Reads self.now (λ w s. option_map (λ p. (place_of w p.0.task, p)) (launched_in w s container)) result }
+        ensures within { IfSome result (λ p. p.0 < length self.now.tasks.machines) }
+    {
+        if container.app.number() != self.setting.app.number() {
+            return None;
+        }
+        let launched = self.launches.at(container.number as usize)?;
+        let place = self.place_if_known(launched.0)?;
+        Some((place, launched))
     }
 
     // Where the task of a known attempt stands, and what the attempt was launched as.
