@@ -8,3 +8,4 @@ pub mod Containers
 pub mod Incarnations
 pub mod Telling
 pub mod Stepping
+pub mod Listing

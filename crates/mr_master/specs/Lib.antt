@@ -9,3 +9,4 @@ pub mod Gone
 pub mod Told
 pub mod Heard
 pub mod Kinds
+pub mod Earlier

@@ -4,6 +4,7 @@
 mod bars;
 mod duty;
 mod gone;
+mod earlier;
 mod launches;
 mod machine;
 mod master;

@@ -7,8 +7,8 @@ ghost use Rattle.mr_master.specs.Kinds.{is_own, is_look, looks_for_success, look
 ghost use Rattle.mr_master.specs.Work.{is_left};
 ghost use Rattle.mr_master.specs.Heard.{heard_as};
 ghost use Rattle.mr_commit.specs.Steps.{heard};
-ghost use Rattle.mr_commit.specs.Recovery.{Left};
-ghost use Rattle.mr_master_model.specs.Answered.{work_after, heard_by};
+ghost use Rattle.mr_commit.specs.Recovery.{Left, recover_task};
+ghost use Rattle.mr_master_model.specs.Answered.{work_after, heard_by, takes_over};
 ghost use Rattle.mr_master_model.specs.declared.setting.Setting.{Setting};
 
 use crate::duty::{Duty, of_line, of_look, of_mark};
@@ -91,6 +91,27 @@ impl Work {
         ensures { result ≡ Stops }
     {
         Work { at: At::Stops }
+    }
+
+    // A reduce is taken over, and then the others.
+    pub fn takes_over(
+        setting: &Setting,
+        winner: TaskWinner,
+        others: VecDeque<TaskWinner>,
+    ) -> Result<Work, AllocError>
+        ensures { IfOk result (λ work. work ≡ takes_over winner (recover_task setting.now.layout.dest setting.now.app winner.task winner.bytes) others.items) }
+    {
+        let step = RecoverTask::new(&setting.layout, setting.app, winner.task, winner.bytes)?;
+        if step.call().is_none() {
+            return Ok(Work::stopped());
+        }
+        Ok(Work {
+            at: At::TakesOver {
+                winner,
+                step,
+                others,
+            },
+        })
     }
 
     pub fn phase(&self) -> Phase
