@@ -9,3 +9,5 @@ pub mod Incarnations
 pub mod Telling
 pub mod Stepping
 pub mod Listing
+pub mod Gathering
+pub mod Dying

@@ -20,7 +20,6 @@ use Rattle.mr_master.specs.Told.{is_of, told_one, told_all}
 -- ---- of one task
 
 pub told-at : (w : Setting) (call : Attempt → TaskCall) (xs : List Attempt) (calls : TaskId → List TaskCall) (u : TaskId) → told_all w call xs calls u ≡ told_each call (filter (is_of w u) xs) (calls u)
-unfolding told_all
 told-at w call [] calls u = refl
 told-at w call (a ∷ xs) calls u = told-at w call xs (told_one w call a calls) u ∙ by (is_of w u a)
   where

@@ -6,6 +6,7 @@ mod duty;
 mod gone;
 mod earlier;
 mod launches;
+mod leaving;
 mod machine;
 mod master;
 mod nodes;

@@ -1,5 +1,6 @@
 //! The machines of a master's tasks, by place.
 ghost use Rattle.std.specs.Prelude.{◌≡◌, ◌<◌, length, true, [], ◌∷◌, Some, ℕ, slice_get, OnOk, OnErr, IfOk, vec_len};
+ghost use Rattle.std.specs.Option.{option_copied};
 ghost use Rattle.mr_grant.specs.Attempts.{has};
 ghost use Rattle.mr_task.specs.Calls.{Asks, Reports, Hears, Fails, Ends, Dies, Loses, Records};
 ghost use Rattle.mr_task.specs.Readings.{seen, is_named, is_live};
@@ -41,6 +42,20 @@ impl Tasks {
             setting.reduces,
         )?;
         Ok(Tasks { machines })
+    }
+
+    // How many tasks there are.
+    pub fn len(&self) -> usize
+        ensures { result ≡ length self.now.machines }
+    {
+        self.machines.len()
+    }
+
+    // The machine at a place.
+    pub fn at(&self, place: usize) -> Option<&TaskMachine>
+        ensures { option_copied result ≡ slice_get self.now.machines place }
+    {
+        self.machines.get(place)
     }
 
     // Whether the task has the attempt. At a place where there is no machine: no.

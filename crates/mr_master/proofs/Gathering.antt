@@ -1,0 +1,100 @@
+-- A list that a loop gathers, item by item.
+use Rattle.std.proofs.Common.{ℕ, zero, suc, ◌+◌, ◌<◌, ◌≤◌, length, take, get_or, add-one, append-nil, append_assoc, ◌≡◌, refl, sym, ap, ◌∙◌, Bool, true, false, List, [], ◌∷◌, ◌++◌, filter, cond, arith, Option, Some, None, slice_get, subst}
+use Rattle.std.specs.List.{flat_map}
+use Rattle.std.proofs.lemmas.Grind.{flat_map-append}
+use Rattle.std.proofs.Math.Seq.{take-suc}
+use Rattle.std.proofs.lemmas.List.{take_all}
+use Rattle.mr_ids.specs.Attempt.{Attempt}
+use Rattle.mr_ids.specs.declared.id.TaskId.{TaskId}
+use Rattle.mr_ids.specs.declared.id.TaskKind.{TaskKind}
+use Rattle.mr_task.specs.Calls.{TaskCall}
+use Rattle.mr_task.specs.Steps.{Task}
+use Rattle.mr_task.specs.State as state
+use Rattle.mr_task.specs.Readings as task
+use Rattle.mr_master_model.specs.declared.setting.Setting.{Setting}
+use Rattle.mr_master_model.specs.Job.{is_task, task_of, count_of, first_tasks}
+use Rattle.mr_master_model.specs.Readings.{Seen, launch_of, of_task}
+use Rattle.mr_master.specs.declared.gone.Gone.{Gone}
+use Rattle.mr_master.specs.Gone.{is_gone, gone_of, if_gone, of_job}
+use Rattle.mr_master.specs.Places.{place_of}
+use Rattle.mr_master.specs.Tasks.{Tasks, KeepsTasks}
+use Rattle.mr_master.proofs.Keeping.{machine-of}
+use Rattle.mr_master.proofs.Telling.{task-of-is}
+
+-- one item more
+pub gather-step : {X Y : Type 0} (f : X → List Y) (xs : List X) (i : ℕ) (x : X) (old mid new : List Y) → i < length xs → x ≡ get_or xs i x
+    → mid ≡ old ++ flat_map f (take i xs) → new ≡ mid ++ f x → new ≡ old ++ flat_map f (take (i + 1) xs)
+gather-step {X} {Y} f xs i x old mid new within is before now =
+    let more : take (i + 1) xs ≡ take i xs ++ x ∷ [] = ap (λ (n : ℕ). take n xs) (add-one i) ∙ take-suc xs i x within ∙ ap (λ (y : X). take i xs ++ y ∷ []) (sym is) in
+    let both : flat_map f (take (i + 1) xs) ≡ flat_map f (take i xs) ++ f x =
+    ap (λ (l : List X). flat_map f l) more ∙ flat_map-append f (take i xs) (x ∷ []) ∙ ap (λ (l : List Y). flat_map f (take i xs) ++ l) (append-nil (f x)) in
+    now ∙ ap (λ (l : List Y). l ++ f x) before ∙ append_assoc old (flat_map f (take i xs)) (f x) ∙ ap (λ (l : List Y). old ++ l) (sym both)
+
+-- what is done for those that pass a test
+pub passing : {X Y : Type 0} (p : X → Bool) (f : X → List Y) (xs : List X) → flat_map (λ x. cond (p x) (f x) []) xs ≡ flat_map f (filter p xs)
+passing p f [] = refl
+passing p f (x ∷ xs) = by (p x) (passing p f xs)
+  where
+    by : (b : Bool) → flat_map (λ x. cond (p x) (f x) []) xs ≡ flat_map f (filter p xs) → cond b (f x) [] ++ flat_map (λ x. cond (p x) (f x) []) xs ≡ flat_map f (cond b (x ∷ filter p xs) (filter p xs))
+    by true rest = ap (λ ys. f x ++ ys) rest
+    by false rest = rest
+
+-- those that pass, gathered one by one
+pub singles : {X : Type 0} (p : X → Bool) (xs : List X) → flat_map (λ x. cond (p x) (x ∷ []) []) xs ≡ filter p xs
+singles p [] = refl
+singles p (x ∷ xs) = by (p x) (singles p xs)
+  where
+    by : (b : Bool) → flat_map (λ x. cond (p x) (x ∷ []) []) xs ≡ filter p xs → cond b (x ∷ []) [] ++ flat_map (λ x. cond (p x) (x ∷ []) []) xs ≡ cond b (x ∷ filter p xs) (filter p xs)
+    by true rest = ap (λ ys. x ∷ ys) rest
+    by false rest = rest
+
+-- ---- of one task
+
+abbrev pub gone_if_live : Setting → Seen → Gone → TaskId → Attempt → List Attempt
+gone_if_live w s g t a = cond (task.is_live (of_task w s t) a) (if_gone w s g a) []
+
+pub gone-all : (w : Setting) (s : Seen) (g : Gone) (t : TaskId) (xs : List Attempt) (i : ℕ) → length xs ≤ i → is_task w t ≡ true → xs ≡ (of_task w s t).arrived
+    → flat_map (gone_if_live w s g t) (take i xs) ≡ of_job w t (gone_of w s g t)
+gone-all w s g t xs i all e is =
+    ap (λ (l : List Attempt). flat_map (gone_if_live w s g t) l) (take_all i xs all ∙ is)
+    ∙ passing (task.is_live (of_task w s t)) (if_gone w s g) (of_task w s t).arrived
+    ∙ singles (λ a. is_gone g (launch_of w s a)) (task.live (of_task w s t))
+    ∙ ap (λ b. cond b (gone_of w s g t) []) (sym e)
+
+pub one-live : {Y : Type 0} (f : List Y) (b c : Bool) → b ≡ true → b ≡ c → f ≡ cond c f []
+one-live f b c e q = ap (λ d. cond d f []) (sym e ∙ q)
+
+pub one-dead : {Y : Type 0} (f mid : List Y) (b c : Bool) → b ≡ false → b ≡ c → mid ≡ mid ++ cond c f []
+one-dead f mid b c e q = sym (append-nil mid) ∙ ap (λ d. mid ++ cond d f []) (sym e ∙ q)
+
+-- ---- of the tasks of a kind
+
+pub next-task : {Y : Type 0} (w : Setting) (kind : TaskKind) (f : TaskId → List Y) (n : ℕ) (old mid new : List Y) → n < count_of w kind
+    → mid ≡ old ++ flat_map f (first_tasks w kind n) → new ≡ mid ++ of_job w (task_of w kind n) (f (task_of w kind n)) → new ≡ old ++ flat_map f (first_tasks w kind (n + 1))
+unfolding first_tasks
+next-task {Y} w kind f n old mid new within before now =
+    now
+    ∙ (λ i. before i ++ cond (task-of-is w kind n within i) (f (task_of w kind n)) [])
+    ∙ append_assoc old (flat_map f (first_tasks w kind n)) (f (task_of w kind n))
+    ∙ ap (λ (l : List Y). old ++ l)
+    (ap (λ (l : List Y). flat_map f (first_tasks w kind n) ++ l) (sym (append-nil (f (task_of w kind n))))
+    ∙ sym (flat_map-append f (first_tasks w kind n) (task_of w kind n ∷ [])))
+    ∙ ap (λ (m : ℕ). old ++ flat_map f (first_tasks w kind m)) (sym (add-one n))
+
+pub no-task : {Y : Type 0} (w : Setting) (kind : TaskKind) (f : TaskId → List Y) (old : List Y) → old ≡ old ++ flat_map f (first_tasks w kind 0)
+unfolding first_tasks
+no-task w kind f old = sym (append-nil old)
+
+some-is : {A : Type 0} {x y : A} → Some x ≡ Some y → x ≡ y
+some-is e = cc
+
+-- the machine that was found at a task's place
+pub found-at : (m : Tasks) (w : Setting) (calls : TaskId → List TaskCall) (t : TaskId) (i : ℕ) (y : Task) → KeepsTasks m w calls → is_task w t ≡ true → i ≡ place_of w t → Some y ≡ slice_get m.machines i → state.StandsFor y t w.app (calls t)
+found-at m w calls t i y k e at is =
+    let x = machine-of m w calls t k e in
+    let same : y ≡ x.0 = some-is (is ∙ ap (λ j. slice_get m.machines j) at ∙ x.1) in
+    subst (λ (z : Task). state.StandsFor z t w.app (calls t)) (sym same) x.2
+
+-- each task of the job has one
+pub never-none : (m : Tasks) (w : Setting) (calls : TaskId → List TaskCall) (t : TaskId) (i : ℕ) → KeepsTasks m w calls → is_task w t ≡ true → i ≡ place_of w t → None ≡ slice_get m.machines i → ⊥
+never-none m w calls t i k e at is = let x = machine-of m w calls t k e in let bad : None ≡ Some x.0 = is ∙ ap (λ j. slice_get m.machines j) at ∙ x.1 in cc
