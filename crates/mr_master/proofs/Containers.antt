@@ -1,5 +1,5 @@
 -- Which attempt a container was launched for.
-use Rattle.std.proofs.Common.{ℕ, ◌≡◌, refl, sym, ◌∙◌, ap, subst, Bool, true, false, ◌&&◌, nat_eq, List, Option, Some, None, slice_get, if◌then◌else◌}
+use Rattle.std.proofs.Common.{ℕ, ◌≡◌, refl, sym, ◌∙◌, ap, subst, Bool, true, false, ◌&&◌, nat_eq, Option, Some, None, slice_get, if◌then◌else◌}
 use Rattle.std.specs.Option.{option_map}
 use Rattle.std.proofs.lemmas.Bool.{and_parts}
 use Rattle.mr_ids.specs.Attempt.{Attempt}
@@ -10,7 +10,6 @@ use Rattle.mr_master_model.specs.declared.setting.Setting.{Setting}
 use Rattle.mr_master_model.specs.Job.{is_task}
 use Rattle.mr_master_model.specs.Readings.{Seen, of_task, is_known, if_known, launched_in}
 use Rattle.mr_master.specs.Places.{place_of}
-use Rattle.mr_master.specs.State.{Master, Keeps}
 
 -- ---- the place of a known attempt
 

@@ -182,3 +182,7 @@ by-launch {A} {m} w f e k = subst (λ x. Keeps m w (f x)) (sym e) k
 
 pub by-test : {m : Master} (w : Setting) (f : Bool → Seen) {b c : Bool} → b ≡ c → Keeps m w (f c) → Keeps m w (f b)
 by-test {m} w f e k = subst (λ x. Keeps m w (f x)) (sym e) k
+
+-- the same of equal readings
+pub by-seen : {m : Master} (w : Setting) {r t : Seen} → r ≡ t → Keeps m w t → Keeps m w r
+by-seen {m} w e k = subst (λ x. Keeps m w x) (sym e) k

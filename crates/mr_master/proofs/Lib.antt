@@ -4,6 +4,8 @@ pub mod Opening
 pub mod Parts
 pub mod Keeping
 pub mod Standing
+pub mod Kills
+pub mod Answering
 pub mod Containers
 pub mod Incarnations
 pub mod Telling

@@ -11,7 +11,7 @@ use Rattle.mr_master_model.specs.Next.{seen}
 use Rattle.mr_master.specs.Tasks.{Tasks, KeepsTasks}
 use Rattle.mr_master.specs.Launches.{Launched, KeepsLaunches}
 use Rattle.mr_master.specs.Nodes.{KeepsNodes}
-use Rattle.mr_master.specs.Records.{Writing, KeepsRecords}
+use Rattle.mr_master.specs.Records.{Writing, KeepsRecords, SameRecords}
 
 -- what a machine stores, part by part
 pub record Master : Type 0 where
@@ -45,6 +45,10 @@ abbrev pub StandsForSome : Master → Type 0
 StandsForSome m = (past : List Step) × StandsFor m m.setting past
 
 -- ---- how the contracts say it
+
+-- the same, spare room aside: what an error leaves
+abbrev pub Unchanged : Master → Master → Type 0
+Unchanged old new = (new ≡ record old { writing = new.writing }) × SameRecords old.writing new.writing
 
 -- whatever past the machine stood for, it stands for it and this step
 abbrev pub Stands : Master → Step → Master → Type 0

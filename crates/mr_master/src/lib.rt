@@ -3,8 +3,10 @@
 
 mod bars;
 mod duty;
-mod gone;
 mod earlier;
+mod gone;
+mod hearing;
+mod killing;
 mod launches;
 mod leaving;
 mod machine;

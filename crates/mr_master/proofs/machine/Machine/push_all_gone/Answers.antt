@@ -1,5 +1,4 @@
-use Rattle.std.proofs.Common.{◌≡◌, ◌<◌, sym, subst, ◌∙◌, ap, List, ◌++◌, arith, ℕ}
-use Rattle.mr_ids.specs.Attempt.{Attempt}
+use Rattle.std.proofs.Common.{◌≡◌, ◌<◌, sym, subst, ◌∙◌, ap, ◌++◌, arith, ℕ}
 use Rattle.mr_ids.specs.declared.id.TaskId.{TaskId}
 use Rattle.std.specs.List.{flat_map}
 use Rattle.mr_master_model.specs.declared.setting.Setting.{Setting}
