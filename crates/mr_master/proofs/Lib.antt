@@ -13,3 +13,5 @@ pub mod Stepping
 pub mod Listing
 pub mod Gathering
 pub mod Dying
+pub mod AllDone
+pub mod Due

@@ -1,5 +1,5 @@
 -- Kinds of work, and what the answer of a committer's call changes of one.
-use Rattle.std.specs.Prelude.{Bool, true, false, List, [], ◌∷◌, if◌then◌else◌}
+use Rattle.std.specs.Prelude.{Bool, true, false, Option, Some, None, List, [], ◌∷◌, if◌then◌else◌}
 use Rattle.mr_commit.specs.Line.{Line, more_follow}
 use Rattle.mr_commit.specs.Recovery.{Recovery}
 use Rattle.mr_commit.specs.Recovery.Recovery.{Nowhere, Left}
@@ -13,6 +13,15 @@ abbrev pub is_own : Work → Bool
 is_own Runs = false
 is_own (Fails is_stable) = false
 is_own _ = true
+
+-- while it is Failing: whether a JobUnsuccessful is stable
+abbrev pub fails_as : Work → Option Bool
+fails_as (Fails is_stable) = Some is_stable
+fails_as _ = None
+
+abbrev pub is_read : Work → Bool
+is_read Reads = true
+is_read _ = false
 
 -- ---- looks for marks
 

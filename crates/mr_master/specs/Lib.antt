@@ -10,3 +10,4 @@ pub mod Told
 pub mod Heard
 pub mod Kinds
 pub mod Earlier
+pub mod Answering

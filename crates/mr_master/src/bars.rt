@@ -45,6 +45,13 @@ impl Bars {
         self.due.len()
     }
 
+    // The attempts, in order.
+    pub fn as_slice(&self) -> &[AttemptId]
+        ensures { result.now ≡ self.now }
+    {
+        self.due.as_slice()
+    }
+
     // The attempt at a place, counted from 0.
     pub fn at(&self, place: usize) -> Option<AttemptId>
         ensures { result ≡ slice_get self.now place }

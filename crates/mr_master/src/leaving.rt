@@ -120,7 +120,7 @@ impl Machine {
 }
 
 // How many tasks of a kind the job has.
-fn count_of(setting: &Setting, kind: TaskKind) -> u32
+pub fn count_of(setting: &Setting, kind: TaskKind) -> u32
     ensures { result ≡ count_of setting.now kind }
 {
     match kind {

@@ -2,6 +2,7 @@
 #![tactic(auto)]
 
 mod bars;
+mod duties;
 mod duty;
 mod earlier;
 mod gone;
@@ -15,6 +16,7 @@ mod nodes;
 mod ops;
 mod packets;
 mod places;
+mod progress;
 mod records;
 mod store;
 mod tasks;

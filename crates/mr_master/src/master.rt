@@ -1,6 +1,9 @@
 ghost use Rattle.std.specs.Prelude.{◌≡◌, [], IfOk};
-ghost use Rattle.mr_master.specs.State.{StandsFor, StandsForSome};
+ghost use Rattle.mr_master.specs.State.{StandsFor, StandsForSome, Answers};
+ghost use Rattle.mr_master_model.specs.Duty.{duty};
+ghost use Rattle.mr_master_model.specs.Next.{seen};
 
+use crate::duty::Duty;
 use crate::machine::Machine;
 use mr_master_model::Setting;
 use std::alloc::{AllocError, Global};
@@ -36,5 +39,16 @@ impl MasterMachine {
         ensures { StandsForSome self.now }
     {
         let _machine = &self.machine;
+    }
+}
+
+impl MasterMachine {
+    /// The next store call, and what it is for: the first that applies by the table of phases. Without one: there is nothing to do
+    /// until something is heard or launched, or the master is Ended or Stopped. Where memory is refused: an error.
+    pub fn duty(&self) -> Result<Option<Duty>, AllocError>
+        ensures { IfOk result (λ due. Answers self.now (λ w past. duty w (seen w past)) due) }
+    {
+        let due = self.machine.duty()?;
+        Ok(due)
     }
 }

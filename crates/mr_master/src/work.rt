@@ -3,7 +3,7 @@ ghost use Rattle.std.specs.Prelude.{◌≡◌, true, false, Some, None, Err, IfO
 ghost use Rattle.mr_master_model.specs.Past.{Work, LooksForSuccess, Runs, Fails, Ends, Stops, phase_of};
 ghost use Rattle.mr_master_model.specs.Readings.{Seen, is_running, is_over};
 ghost use Rattle.mr_master_model.specs.Duty.{duty_at, does, commit_name, abort_duty};
-ghost use Rattle.mr_master.specs.Kinds.{is_own, is_look, looks_for_success, looked_on, is_tell, left_of, with_left, refused_by, refused_when, is_step, finished_by, wants_more, lines_of};
+ghost use Rattle.mr_master.specs.Kinds.{is_own, fails_as, is_read, is_look, looks_for_success, looked_on, is_tell, left_of, with_left, refused_by, refused_when, is_step, finished_by, wants_more, lines_of};
 ghost use Rattle.mr_master.specs.Work.{is_left};
 ghost use Rattle.mr_master.specs.Heard.{heard_as};
 ghost use Rattle.mr_commit.specs.Steps.{heard};
@@ -135,6 +135,52 @@ impl Work {
     {
         match self.at {
             At::Runs => true,
+            _ => false,
+        }
+    }
+
+    // While it is Failing: whether a JobUnsuccessful is stable.
+    pub fn fails(&self) -> Option<bool>
+        ensures { result ≡ fails_as self.now }
+    {
+        match self.at {
+            At::Fails(is_stable) => Some(is_stable),
+            _ => None,
+        }
+    }
+
+    pub fn is_look(&self) -> bool
+        ensures { result ≡ is_look self.now }
+    {
+        match self.at {
+            At::LooksForSuccess | At::LooksForFail | At::LooksForStarted => true,
+            _ => false,
+        }
+    }
+
+    pub fn is_read(&self) -> bool
+        ensures { result ≡ is_read self.now }
+    {
+        match self.at {
+            At::Reads => true,
+            _ => false,
+        }
+    }
+
+    pub fn is_step(&self) -> bool
+        ensures { result ≡ is_step self.now }
+    {
+        match &self.at {
+            At::SetsUp(_) | At::TakesOver { .. } | At::CommitsJob(_) => true,
+            _ => false,
+        }
+    }
+
+    pub fn is_tell(&self) -> bool
+        ensures { result ≡ is_tell self.now }
+    {
+        match self.at {
+            At::TellsSuccess | At::TellsFail | At::AbortsCommit => true,
             _ => false,
         }
     }
