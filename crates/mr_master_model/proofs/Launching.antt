@@ -87,25 +87,25 @@ known-grew w s r g a e =
     ap (λ (l : List TaskCall). has (task.seen a.task w.app l).arrived a) x.1 ∙ arrived-stays a.task w.app x.0 (s.calls a.task) a p.1 in
     (λ i. p.0 i && there i)
 
--- ---- all steps but a launch leave the launches
+-- ---- all steps but a launch leave the launches, and what is sent aside all leave which containers were sent a Kill
 
-abbrev Stays : Seen → Seen → Type 0
-Stays s r = r.launched ≡ s.launched
+abbrev pub Stays : Seen → Seen → Type 0
+Stays s r = (r.launched ≡ s.launched) × (r.killed ≡ s.killed)
 
 stays-same : (s : Seen) → Stays s s
-stays-same s = refl
+stays-same s = (refl, refl)
 
 stays-then : (s r q : Seen) → Stays s r → Stays r q → Stays s q
-stays-then s r q e f = f ∙ e
+stays-then s r q e f = (f.0 ∙ e.0, f.1 ∙ e.1)
 
 stays-tell : (s : Seen) (t : TaskId) (call : TaskCall) → Stays s (tell s t call)
-stays-tell s t call = refl
+stays-tell s t call = (refl, refl)
 
 stays-each : (w : Setting) (s : Seen) (call : Attempt → TaskCall) (which : TaskId → List Attempt) → Stays s (tell_each w s call which)
-stays-each w s call which = refl
+stays-each w s call which = (refl, refl)
 
 stays-twice : (w : Setting) (s : Seen) (call call' : Attempt → TaskCall) (which which' : TaskId → List Attempt) → Stays s (tell_each w (tell_each w s call which) call' which')
-stays-twice w s call call' which which' = refl
+stays-twice w s call call' which which' = (refl, refl)
 
 -- ---- packets
 
@@ -141,7 +141,7 @@ lost-stays : (w : Setting) (s : Seen) (a : Attempt) (p : Option (Attempt × Laun
 lost-stays w s a None = stays-same s
 lost-stays w s a (Some p) = if_cases (λ r. Stays s r) (is_lost_map w s a a.task.kind) _ _ (λ e. stays-tell s a.task (task_call.Loses a)) (λ e. stays-same s)
 
-heard-stays : (w : Setting) (s : Seen) (p : Packet) → Stays s (heard w s p)
+pub heard-stays : (w : Setting) (s : Seen) (p : Packet) → Stays s (heard w s p)
 unfolding heard
 heard-stays w s (packet.Pending a) = asks-stays s a (launch_of w s a)
 heard-stays w s (packet.Poll a) = asks-stays s a (launch_of w s a)
@@ -160,7 +160,7 @@ up-stays w s n i =
 if-running : (w : Setting) (s : Seen) (p : Packet) → Stays s (if is_running s.work then heard w s p else s)
 if-running w s p = if_cases (λ r. Stays s r) (is_running s.work) _ _ (λ e. heard-stays w s p) (λ e. stays-same s)
 
-delivered-stays : (w : Setting) (s : Seen) (p : Packet) → Stays s (delivered w s p)
+pub delivered-stays : (w : Setting) (s : Seen) (p : Packet) → Stays s (delivered w s p)
 unfolding delivered
 delivered-stays w s (packet.NodeUp n i) = if_cases (λ r. Stays s r) (is_over s.work) _ _ (λ e. stays-same s) (λ e. up-stays w s n i)
 delivered-stays w s p = if-running w s p
@@ -214,7 +214,7 @@ work-stays w s x = by (is_running x && not (is_running s.work))
     by true = stays-each w s (λ a. task_call.Recovers a) (taken_of s)
     by false = stays-same s
 
-answer-stays : (w : Setting) (s : Seen) (a : StoreAnswer) → Stays s (after_answer w s a)
+pub answer-stays : (w : Setting) (s : Seen) (a : StoreAnswer) → Stays s (after_answer w s a)
 answer-stays w s a =
     let r = changed w s a s.work in
     if_cases (λ q. Stays s q) (is_some (duty w s)) _ _ (λ e. stays-then s r (with_work w r (work_after w s a s.work)) (changed-stays w s a s.work) (work-stays w r (work_after w s a s.work))) (λ e. stays-same s)
@@ -268,7 +268,7 @@ launch-known w s t n m =
     (λ i. m.is_of_job i && there i)
 
 known-stays : (w : Setting) (s r : Seen) → Grew s r → Stays s r → Known w s → Known w r
-known-stays w s r g e k p i = known-grew w s r g p.0 (k p (subst (λ l. In p l) e i))
+known-stays w s r g e k p i = known-grew w s r g p.0 (k p (subst (λ l. In p l) e.0 i))
 
 known-launch : (w : Setting) (s : Seen) (t : TaskId) (n : ℕ) → Grew s (after_launch w s t n) → Known w s → Known w (after_launch w s t n)
 known-launch w s t n g k = by (is_none (launch_refusal w s t n)) refl g
@@ -296,7 +296,7 @@ unfolding next_seen moved
 known-step w s (Hears p) g k = known-stays w s (delivered w s p) g (delivered-stays w s p) k
 known-step w s (Launches t n) g k = known-launch w s t n g k
 known-step w s (Expires n) g k =
-    known-stays w s (after_expiry w s n) g (if_cases (λ r. Stays s r) (is_none (expire_refusal w s n)) _ _ (λ e. refl) (λ e. refl)) k
+    known-stays w s (after_expiry w s n) g (if_cases (λ r. Stays s r) (is_none (expire_refusal w s n)) _ _ (λ e. (refl, refl)) (λ e. (refl, refl))) k
 known-step w s (Answered a) g k = known-stays w s (after_answer w s a) g (answer-stays w s a) k
 
 pub launched_are_known : LaunchedAreKnown

@@ -3,3 +3,4 @@ pub mod Recording
 pub mod Rows
 pub mod Final
 pub mod Launching
+pub mod Killing

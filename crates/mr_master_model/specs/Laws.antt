@@ -1,5 +1,5 @@
 -- What follows from the readings alone, for every past of a master, the newest step first.
-use Rattle.std.specs.Prelude.{◌≡◌, ℕ, true, false, List, [], ◌∷◌, ◌++◌, Option, Some, None, ◌⊎◌}
+use Rattle.std.specs.Prelude.{◌≡◌, ℕ, true, false, List, [], ◌∷◌, ◌++◌, length, nat_lt, Option, Some, None, ◌⊎◌}
 use Rattle.mr_ids.specs.Attempt.{Attempt}
 use Rattle.mr_ids.specs.declared.id.TaskId.{TaskId}
 use Rattle.mr_ids.specs.declared.id.TaskKind.TheVariants.{Reduce}
@@ -50,3 +50,7 @@ LaunchedAreKnown = (w : Setting) (past : List Step) (p : Attempt × Launch) → 
 abbrev pub LaunchesAreFresh : Type 0
 LaunchesAreFresh = (w : Setting) (past : List Step) (t : TaskId) (n : ℕ) → launch_refusal w (seen w past) t n ≡ None
     → lookup (same_attempt (next_attempt w (seen w past) t)) (seen w past).launched ≡ None
+
+-- A Kill goes only to a container that was launched: to those with later numbers none was sent.
+abbrev pub KillsGoToLaunched : Type 0
+KillsGoToLaunched = (w : Setting) (past : List Step) (n : ℕ) → nat_lt n (length (seen w past).launched) ≡ false → (seen w past).killed n ≡ false

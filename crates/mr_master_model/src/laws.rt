@@ -1,5 +1,5 @@
 //! Laws of the readings, for the layers above: these functions do nothing.
-ghost use Rattle.mr_master_model.specs.Laws.{CallsGrow, AcceptedStays, NameStays, OneIsRecorded, OverIsFinal, LaunchedAreKnown, LaunchesAreFresh};
+ghost use Rattle.mr_master_model.specs.Laws.{CallsGrow, AcceptedStays, NameStays, OneIsRecorded, OverIsFinal, LaunchedAreKnown, LaunchesAreFresh, KillsGoToLaunched};
 ghost use Rattle.mr_master_model.specs.Rows.{FreshMaster, SmallJob};
 
 /// A task is only ever told more, so all laws of tasks hold along a master's past.
@@ -22,10 +22,12 @@ pub fn one_is_recorded()
     ensures { OneIsRecorded }
 {}
 
-/// Whoever was launched is known, and the attempt that is launched next was not launched before.
+/// Whoever was launched is known, the attempt that is launched next was not launched before, and a Kill goes only to a container
+/// that was launched.
 pub fn launched_are_known()
     ensures known { LaunchedAreKnown }
     ensures fresh { LaunchesAreFresh }
+    ensures killed { KillsGoToLaunched }
 {}
 
 /// A master that is Ended or Stopped stays so and sends nothing.
