@@ -32,7 +32,6 @@ unchanged-keeps old new w s u k = subst (λ (m : Master). Keeps m w s) (sym u.0)
   earlier = k.earlier;
   writing = record { due = u.1.due ∙ k.writing.due; tail = u.1.tail ∙ k.writing.tail; is_flush_wanted = u.1.is_flush_wanted ∙ k.writing.is_flush_wanted };
   bars = k.bars;
-  barred = k.barred;
 })
 
 pub stands-unchanged : (old new : Master) → Unchanged old new → StandsForSome old → StandsForSome new

@@ -5,9 +5,21 @@ use Rattle.mr_packet.specs.declared.packet.Envelope.{Envelope}
 use Rattle.mr_master_model.specs.declared.launch.Launch.{Launch}
 use Rattle.mr_master_model.specs.Sends.{killed_by}
 
+-- with how many more need no memory for sure
+pub record Entries : Type 0 where
+  pub entries : List (Attempt × Launch)
+  pub spare : ℕ
+
 pub record Launched : Type 0 where
   pub entries : List (Attempt × Launch)
   pub killed : List Bool  -- whether a Kill was sent to the container
+  pub room : ℕ  -- how many more launches need no memory for sure, for the entries and for the truth values
+  pub killed_room : ℕ
+
+-- the same, room aside
+pub record SameLaunches (old new : Launched) : Type 0 where
+  pub entries : new.entries ≡ old.entries
+  pub killed : new.killed ≡ old.killed
 
 pub record KeepsLaunches (m : Launched) (launched : List (Attempt × Launch)) (was_killed : ℕ → Bool) : Type 0 where
   pub entries : m.entries ≡ launched

@@ -1,10 +1,8 @@
 -- Which past the machine of a master stands for.
-use Rattle.std.specs.Prelude.{◌≡◌, ℕ, true, List, ◌∷◌, ◌++◌}
+use Rattle.std.specs.Prelude.{◌≡◌, ℕ, List, ◌∷◌, ◌++◌}
 use Rattle.mr_ids.specs.Attempt.{Attempt}
-use Rattle.mr_grant.specs.Attempts.{has}
 use Rattle.mr_history.specs.declared.record.Record.{Record}
 use Rattle.mr_master_model.specs.declared.setting.Setting.{Setting}
-use Rattle.mr_master_model.specs.Job.{is_task}
 use Rattle.mr_master_model.specs.Past.{Work, Step}
 use Rattle.mr_master_model.specs.Readings.{Seen}
 use Rattle.mr_master_model.specs.Next.{seen}
@@ -34,7 +32,6 @@ pub record Keeps (m : Master) (w : Setting) (s : Seen) : Type 0 where
   pub earlier : m.earlier ≡ s.earlier
   pub writing : KeepsRecords m.writing s.due s.tail
   pub bars : m.bars ≡ s.bars
-  pub barred : (a : Attempt) → has s.bars a ≡ true → is_task w a.task ≡ true
 
 -- The machine stands for a past: it keeps what is read off it.
 abbrev pub StandsFor : Master → Setting → List Step → Type 0

@@ -1,8 +1,8 @@
 //! What attempts were launched as, by the numbers of their containers. This is the only place that knows the map.
-ghost use Rattle.std.specs.Prelude.{◌≡◌, ◌++◌, [], ◌∷◌, None, OnOk, OnErr, slice_get, length, get_or, false};
+ghost use Rattle.std.specs.Prelude.{◌≡◌, ◌<◌, ◌++◌, [], ◌∷◌, None, OnOk, OnErr, slice_get, length, get_or, false};
 ghost use Rattle.std.specs.Map.{lookup};
 ghost use Rattle.mr_grant.specs.Attempts.{same_attempt};
-ghost use Rattle.mr_master.specs.Launches.{Marks, NotesKills, Notes};
+ghost use Rattle.mr_master.specs.Launches.{SameLaunches, Marks, NotesKills, Notes};
 
 use indexmap::IndexMap;
 use mr_ids::AttemptId;
@@ -24,7 +24,9 @@ impl Model for Launches {
 
     ghost Value = { Launched };
 
-    ghost view = { λ l. record { entries = l.entries; killed = l.killed.items } };
+    ghost use Rattle.std.specs.Prelude.{◌-◌, vec_len, vec_capacity};
+
+    ghost view = { λ l. record { entries = l.entries.entries; killed = l.killed.items; room = l.entries.spare; killed_room = vec_capacity l.killed - vec_len l.killed } };
 }
 
 impl Launches {
@@ -69,6 +71,27 @@ impl Launches {
         }
     }
 
+    // Makes room: after it one more launch needs no memory.
+    pub fn reserve(&mut self) -> Result<(), AllocError>
+        ensures same { SameLaunches self.old self.new }
+        ensures room { OnOk result (0 < self.new.room) }
+        ensures killed_room { OnOk result (0 < self.new.killed_room) }
+    {
+        self.killed.reserve(1)?;
+        self.entries.reserve()
+    }
+
+    // Adds a launch as the last. No Kill was sent to its container.
+    pub fn push_reserved(&mut self, attempt: AttemptId, launch: Launch)
+        requires room { 0 < self.old.room }
+        requires killed_room { 0 < self.old.killed_room }
+        ensures entries { lookup (same_attempt attempt) self.old.entries ≡ None → self.new.entries ≡ self.old.entries ++ (attempt, launch) ∷ [] }
+        ensures killed { self.new.killed ≡ self.old.killed ++ false ∷ [] }
+    {
+        self.entries.push_reserved(attempt, launch);
+        self.killed.push_reserved(false);
+    }
+
     // Notes which containers are sent a Kill.
     pub fn note(&mut self, packets: &[Envelope])
         ensures { Notes self.old packets.now self.new }
@@ -107,18 +130,17 @@ struct Entries {
 }
 
 impl Model for Entries {
-    ghost use Rattle.std.specs.Prelude.{List};
-    ghost use Rattle.mr_ids.specs.Attempt.{Attempt};
-    ghost use Rattle.mr_master_model.specs.declared.launch.Launch.{Launch};
+    ghost use Rattle.indexmap.specs.IndexMap.{spare};
+    ghost use Rattle.mr_master.specs.Launches.{Entries};
 
-    ghost Value = { List (Attempt × Launch) };
+    ghost Value = { Entries };
 
-    ghost view = { λ e. e.map.entries };
+    ghost view = { λ e. record { entries = e.map.entries; spare = spare e.map } };
 }
 
 impl Entries {
     fn new(alloc: Global) -> Entries
-        ensures { result ≡ [] }
+        ensures { result.entries ≡ [] }
     {
         Entries {
             map: IndexMap::new(alloc),
@@ -126,19 +148,19 @@ impl Entries {
     }
 
     fn len(&self) -> usize
-        ensures { result ≡ length self.now }
+        ensures { result ≡ length self.now.entries }
     {
         self.map.len()
     }
 
     fn of(&self, attempt: &AttemptId) -> Option<Launch>
-        ensures { result ≡ lookup (same_attempt attempt.now) self.now }
+        ensures { result ≡ lookup (same_attempt attempt.now) self.now.entries }
     {
         self.map.get(attempt).copied()
     }
 
     fn at(&self, number: usize) -> Option<(AttemptId, Launch)>
-        ensures { result ≡ slice_get self.now number }
+        ensures { result ≡ slice_get self.now.entries number }
     {
         match self.map.get_index(number) {
             Some(pair) => Some((*pair.0, *pair.1)),
@@ -146,12 +168,18 @@ impl Entries {
         }
     }
 
-    // Adds a launch as the last.
-    fn push(&mut self, attempt: AttemptId, launch: Launch) -> Result<(), AllocError>
-        ensures added { OnOk result (lookup (same_attempt attempt) self.old ≡ None → self.new ≡ self.old ++ (attempt, launch) ∷ []) }
-        ensures err { OnErr result (self.new ≡ self.old) }
+    fn reserve(&mut self) -> Result<(), AllocError>
+        ensures same { self.new.entries ≡ self.old.entries }
+        ensures room { OnOk result (0 < self.new.spare) }
     {
-        self.map.insert(attempt, launch)?;
-        Ok(())
+        self.map.reserve(1)
+    }
+
+    // Adds a launch as the last.
+    fn push_reserved(&mut self, attempt: AttemptId, launch: Launch)
+        requires { 0 < self.old.spare }
+        ensures { lookup (same_attempt attempt) self.old.entries ≡ None → self.new.entries ≡ self.old.entries ++ (attempt, launch) ∷ [] }
+    {
+        self.map.insert(attempt, launch).unwrap();
     }
 }

@@ -9,6 +9,7 @@ mod gone;
 mod hearing;
 mod killing;
 mod launches;
+mod launching;
 mod leaving;
 mod machine;
 mod master;

@@ -1,15 +1,15 @@
 //! The machines of a master's tasks, by place.
-ghost use Rattle.std.specs.Prelude.{◌≡◌, ◌<◌, length, true, [], ◌∷◌, Some, ℕ, slice_get, OnOk, OnErr, IfOk, vec_len};
+ghost use Rattle.std.specs.Prelude.{◌≡◌, ◌<◌, length, true, [], ◌∷◌, Some, ℕ, slice_get, OnOk, OnErr, IfOk, IfErr, Ok, unwrap_or, vec_len};
 ghost use Rattle.std.specs.Option.{option_copied};
 ghost use Rattle.mr_grant.specs.Attempts.{has};
-ghost use Rattle.mr_task.specs.Calls.{Asks, Reports, Hears, Fails, Ends, Dies, Loses, Records};
-ghost use Rattle.mr_task.specs.Readings.{seen, is_named, is_live};
-ghost use Rattle.mr_task.specs.State.{done_answer, Answers};
+ghost use Rattle.mr_task.specs.Calls.{Launches, Asks, Reports, Hears, Fails, Ends, Dies, Loses, Records};
+ghost use Rattle.mr_task.specs.Readings.{seen, is_named, is_live, launch_refusal};
+ghost use Rattle.mr_task.specs.State.{done_answer, launch_answer, Answers};
 ghost use Rattle.mr_master.specs.Tasks.{KeepsTasks, TakesAt, AnswersAt, Takes, ReadsAt, reply_or, NewTasks};
 
 use mr_ids::{AttemptId, TaskId, TaskKind};
 use mr_master_model::Setting;
-use mr_task::{DoneReply, TaskMachine};
+use mr_task::{DoneReply, TaskFault, TaskMachine};
 use std::alloc::{AllocError, Global};
 use std::marker::Model;
 
@@ -91,6 +91,18 @@ impl Tasks {
     {
         let task = &self.machines[place];
         is_live(task, attempt)
+    }
+
+    // An attempt is launched: which one. The fault is the task's refusal, or `NoMemory` where it has none.
+    pub fn launch(&mut self, place: usize) -> Result<AttemptId, TaskFault>
+        requires { place < length self.old.machines }
+        ensures launched { IfOk result (λ attempt. AnswersAt self.old.machines place launch_answer (Ok attempt)) }
+        ensures takes { OnOk result (Takes self.old place Launches self.new) }
+        ensures refused { IfErr result (λ fault. AnswersAt self.old.machines place (λ t k calls. unwrap_or (launch_refusal (seen t k calls)) TaskFault.NoMemory) fault) }
+        ensures err { OnErr result (self.new ≡ self.old) }
+    {
+        let attempt = launch_at(&mut self.machines, place)?;
+        Ok(attempt)
     }
 
     // The attempt asks.
@@ -201,6 +213,17 @@ pub fn is_live(task: &TaskMachine, attempt: AttemptId) -> bool
         Some(state) => state.is_live(),
         None => false,
     }
+}
+
+fn launch_at(tasks: &mut Vec<TaskMachine>, place: usize) -> Result<AttemptId, TaskFault>
+    requires { place < vec_len tasks.old }
+    ensures launched { IfOk result (λ attempt. AnswersAt tasks.old.items place launch_answer (Ok attempt)) }
+    ensures takes { OnOk result (TakesAt tasks.old.items place Launches tasks.new.items) }
+    ensures refused { IfErr result (λ fault. AnswersAt tasks.old.items place (λ t k calls. unwrap_or (launch_refusal (seen t k calls)) TaskFault.NoMemory) fault) }
+    ensures err { OnErr result (tasks.new.items ≡ tasks.old.items) }
+{
+    let task = &mut tasks[place];
+    task.launch()
 }
 
 fn ask_at(tasks: &mut Vec<TaskMachine>, place: usize, attempt: AttemptId) -> Result<(), AllocError>

@@ -4,9 +4,10 @@ use Rattle.mr_ids.specs.Attempt.{Attempt}
 use Rattle.mr_grant.specs.Attempts.{same_attempt}
 use Rattle.mr_grant.proofs.Same.{the_same}
 use Rattle.mr_master_model.specs.declared.launch.Launch.{Launch}
+use Rattle.mr_master.specs.Launches.{Entries}
 use Rattle.mr_master.proofs.launches.Entries.of.Goals as goal
 
 pub returns : goal.returns
 returns c =
     c.copied.ensures ∙ c.get.ensures.value ∙ (λ j. lookup (the_same j c.args.attempt.now) c.self.inside.map.entries)
-    ∙ ap (λ (es : List (Attempt × Launch)). lookup (same_attempt c.args.attempt.now) es) c.self.view_is
+    ∙ ap (λ (x : Entries). lookup (same_attempt c.args.attempt.now) x.entries) c.self.view_is

@@ -12,5 +12,4 @@ returns c = stands-at-first _ c.args.setting (record {
   earlier = c.new-5.ensures;
   writing = c.new-6.ensures;
   bars = c.new-7.ensures;
-  barred = λ a there. absurd (true≢false (sym there));
 })

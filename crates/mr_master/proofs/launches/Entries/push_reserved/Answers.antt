@@ -6,13 +6,14 @@ use Rattle.mr_ids.specs.contracts.id.AttemptIdPartialEq.TheImpl.{eq-value}
 use Rattle.mr_grant.specs.Attempts.{same_attempt}
 use Rattle.mr_grant.proofs.Same.{the_same}
 use Rattle.mr_master_model.specs.declared.launch.Launch.{Launch}
-use Rattle.mr_master.proofs.launches.Entries.push.Goals as goal
+use Rattle.mr_master.specs.Launches.{Entries}
+use Rattle.mr_master.proofs.launches.Entries.push_reserved.Goals as goal
 
-pub returns-clause-added : goal.returns-clause-added
-returns-clause-added c = λ absent.
+pub returns : goal.returns
+returns c = λ absent.
     let es = c.self.inside.map.entries in
     let none : lookup (eq-value.it c.args.attempt) es ≡ None =
-    (λ j. lookup (the_same j c.args.attempt) es) ∙ ap (λ (xs : List (Attempt × Launch)). lookup (same_attempt c.args.attempt) xs) c.self.view_is ∙ absent in
-    c.in_ok-insert.ensures.entries
+    (λ j. lookup (the_same j c.args.attempt) es) ∙ ap (λ (x : Entries). lookup (same_attempt c.args.attempt) x.entries) c.self.view_is ∙ absent in
+    (rw c.unwrap.ensures at c.insert.ensures.entries)
     ∙ insert_entry-absent eq-value.it c.args.attempt c.args.launch es (absent_from_lookup (eq-value.it c.args.attempt) es none)
-    ∙ ap (λ (xs : List (Attempt × Launch)). xs ++ (c.args.attempt, c.args.launch) ∷ []) c.self.view_is
+    ∙ ap (λ (x : Entries). x.entries ++ (c.args.attempt, c.args.launch) ∷ []) c.self.view_is
