@@ -15,3 +15,4 @@ pub mod Gathering
 pub mod Dying
 pub mod AllDone
 pub mod Due
+pub mod Entering

@@ -14,16 +14,16 @@ use Rattle.mr_master_model.specs.Job.{is_task, count_of, task_of}
 use Rattle.mr_master.specs.Places.{place_by}
 use Rattle.mr_master.specs.Tasks.{KeepsTasks, NewTasks}
 
-front : (xs : List Task) (y : Task) (i : ℕ) → i < length xs → slice_get (xs ++ y ∷ []) i ≡ slice_get xs i
-front xs y i within =
+pub front : {A : Type 0} (xs : List A) (y : A) (i : ℕ) → i < length xs → slice_get (xs ++ y ∷ []) i ≡ slice_get xs i
+front {A} xs y i within =
     slice_get-get_or (xs ++ y ∷ []) i y (let e = length-append xs (y ∷ []) in omega arith)
-    ∙ ap (λ (z : Task). Some z) (get_or_append_left xs (y ∷ []) y i within)
+    ∙ ap (λ (z : A). Some z) (get_or_append_left xs (y ∷ []) y i within)
     ∙ sym (slice_get-get_or xs i y within)
 
-seam : (xs : List Task) (y : Task) → slice_get (xs ++ y ∷ []) (length xs) ≡ Some y
-seam xs y =
+pub seam : {A : Type 0} (xs : List A) (y : A) → slice_get (xs ++ y ∷ []) (length xs) ≡ Some y
+seam {A} xs y =
     slice_get-get_or (xs ++ y ∷ []) (length xs) y (let e = length-append xs (y ∷ []) in omega arith)
-    ∙ ap (λ (z : Task). Some z) (get_or-append_seam xs y [] y)
+    ∙ ap (λ (z : A). Some z) (get_or-append_seam xs y [] y)
 
 some-is : {A : Type 0} {x y : A} → Some x ≡ Some y → x ≡ y
 some-is e = cc

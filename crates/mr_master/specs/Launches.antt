@@ -23,6 +23,7 @@ pub record SameLaunches (old new : Launched) : Type 0 where
 
 pub record KeepsLaunches (m : Launched) (launched : List (Attempt × Launch)) (was_killed : ℕ → Bool) : Type 0 where
   pub entries : m.entries ≡ launched
+  pub count : length m.killed ≡ length launched
   pub killed : (n : ℕ) → n < length launched → slice_get m.killed n ≡ Some (was_killed n)
 
 -- the truth value at place i becomes true, the others stay

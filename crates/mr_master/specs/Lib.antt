@@ -11,3 +11,4 @@ pub mod Heard
 pub mod Kinds
 pub mod Earlier
 pub mod Answering
+pub mod Launching

@@ -101,7 +101,8 @@ impl Launches {
 }
 
 fn note_kills(killed: &mut Vec<bool>, packets: &[Envelope])
-    ensures { NotesKills killed.old.items packets.now killed.new.items }
+    ensures noted { NotesKills killed.old.items packets.now killed.new.items }
+    ensures count { length killed.new.items ≡ length killed.old.items }
 {
     for i in 0..packets.len() {
         note_kill(killed, &packets[i]);
@@ -109,7 +110,8 @@ fn note_kills(killed: &mut Vec<bool>, packets: &[Envelope])
 }
 
 fn note_kill(killed: &mut Vec<bool>, packet: &Envelope)
-    ensures { NotesKills killed.old.items (packet.now ∷ []) killed.new.items }
+    ensures noted { NotesKills killed.old.items (packet.now ∷ []) killed.new.items }
+    ensures count { length killed.new.items ≡ length killed.old.items }
 {
     if let Packet::Kill { c } = &packet.body {
         mark(killed, c.number as usize);
@@ -117,7 +119,8 @@ fn note_kill(killed: &mut Vec<bool>, packet: &Envelope)
 }
 
 fn mark(marks: &mut Vec<bool>, place: usize)
-    ensures { Marks marks.old.items place marks.new.items }
+    ensures marks { Marks marks.old.items place marks.new.items }
+    ensures count { length marks.new.items ≡ length marks.old.items }
 {
     if place < marks.len() {
         marks[place] = true;

@@ -1,10 +1,11 @@
 //! Launches of attempts.
-ghost use Rattle.std.specs.Prelude.{◌≡◌, None, IfOk, IfErr, OnErr, OnOk, unwrap_or, [], ◌∷◌};
-ghost use Rattle.mr_task.specs.declared.fault.TaskFault.TheVariants as task_fault;
+ghost use Rattle.std.specs.Prelude.{◌≡◌, ◌<◌, Some, None, IfOk, IfErr, IfSome, OnErr, unwrap_or, length, if◌then◌else◌};
+ghost use Rattle.mr_packet.specs.Sends.{to_node};
+ghost use Rattle.mr_master_model.specs.Job.{is_task};
 ghost use Rattle.mr_master_model.specs.Readings.{launch_refusal, by_task};
-ghost use Rattle.mr_master_model.specs.Hearing.{after_launch};
-ghost use Rattle.mr_master_model.specs.Sends.{launch_sends};
-ghost use Rattle.mr_master.specs.State.{Reads, Moves, Keeps};
+ghost use Rattle.mr_master.specs.Launching.{HasLaunched};
+ghost use Rattle.mr_master.specs.Places.{place_of};
+ghost use Rattle.mr_master.specs.State.{Reads, Moves};
 
 use crate::machine::Machine;
 use crate::packets::to_node;
@@ -34,6 +35,55 @@ impl Machine {
             None => None,
         }
     }
+
+    // Launches the next attempt of the task on the node, and gives the packet that tells the node so.
+    pub fn launch(&mut self, task: TaskId, node: u32) -> Result<Envelope, LaunchFault>
+        ensures launched { IfOk result (λ packet. HasLaunched self.old task node packet self.new) }
+        ensures refused { IfErr result (λ fault. Reads self.old (λ w s. unwrap_or (launch_refusal w s task node) (LaunchFault.Task TaskFault.NoMemory)) fault) }
+        ensures unchanged { OnErr result (Moves self.old (λ w s. s) self.new) }
+    {
+        if let Some(fault) = self.launch_refusal(task, node) {
+            return Err(fault);
+        }
+        let Some(place) = self.place_within(task) else {
+            return Err(no_memory());
+        };
+        let Some(number) = number_after(self.launches.len()) else {
+            return Err(no_memory());
+        };
+        if self.writing.reserve(1).is_err() || self.launches.reserve().is_err() {
+            return Err(no_memory());
+        }
+        let attempt = match self.tasks.launch(place) {
+            Ok(attempt) => attempt,
+            Err(_) => return Err(no_memory()),
+        };
+        let launch = Launch {
+            container: ContainerId {
+                app: self.setting.app,
+                number,
+            },
+            node,
+            incarnation: self.nodes.incarnation(node),
+        };
+        self.launches.push_reserved(attempt, launch);
+        self.writing
+            .push_reserved(Record::AttemptStarted { attempt, node });
+        Ok(told(attempt, &launch))
+    }
+
+    // Where a task stands that is of the job.
+    fn place_within(&self, task: TaskId) -> Option<usize>
+        ensures place { Reads self.now (λ w s. if is_task w task then Some (place_of w task) else None) result }
+        ensures within { IfSome result (λ place. place < length self.now.tasks.machines) }
+    {
+        let place = place_of(&self.setting, task)?;
+        if place < self.tasks.len() {
+            Some(place)
+        } else {
+            None
+        }
+    }
 }
 
 fn by_task(refusal: Option<TaskFault>) -> Option<LaunchFault>
@@ -43,4 +93,36 @@ fn by_task(refusal: Option<TaskFault>) -> Option<LaunchFault>
         Some(fault) => Some(LaunchFault::Task(fault)),
         None => None,
     }
+}
+
+// The number of the next container after so many.
+fn number_after(count: usize) -> Option<u32>
+    ensures { IfSome result (λ number. number ≡ count) }
+{
+    if count <= u32::MAX as usize {
+        Some(count as u32)
+    } else {
+        None
+    }
+}
+
+// Memory was refused.
+fn no_memory() -> LaunchFault
+    ensures { result ≡ LaunchFault.Task TaskFault.NoMemory }
+{
+    LaunchFault::Task(TaskFault::NoMemory)
+}
+
+// The packet that tells a node of a launch.
+fn told(attempt: AttemptId, launch: &Launch) -> Envelope
+    ensures { result ≡ to_node launch.now.node (Packet.Launch launch.now.container attempt launch.now.incarnation) }
+{
+    to_node(
+        launch.node,
+        Packet::Launch {
+            c: launch.container,
+            a: attempt,
+            incarnation: launch.incarnation,
+        },
+    )
 }
