@@ -5,6 +5,7 @@ pub mod Parts
 pub mod Keeping
 pub mod Standing
 pub mod Kills
+pub mod Ends
 pub mod Answering
 pub mod Containers
 pub mod Incarnations

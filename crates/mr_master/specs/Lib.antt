@@ -5,6 +5,7 @@ pub mod Launches
 pub mod Nodes
 pub mod Records
 pub mod State
+pub mod Ends
 pub mod Gone
 pub mod Told
 pub mod Heard

@@ -5,6 +5,8 @@ mod bars;
 mod duties;
 mod duty;
 mod earlier;
+mod ending;
+mod failing;
 mod gone;
 mod hearing;
 mod killing;

@@ -1,12 +1,14 @@
 //! The machines of a master's tasks, by place.
-ghost use Rattle.std.specs.Prelude.{◌≡◌, ◌<◌, length, true, [], ◌∷◌, Some, ℕ, slice_get, OnOk, OnErr, IfOk, IfErr, Ok, unwrap_or, vec_len};
+ghost use Rattle.std.specs.Prelude.{◌≡◌, ◌<◌, ◌+◌, ◌&&◌, not, nat_le, length, true, [], ◌∷◌, Some, ℕ, slice_get, OnOk, OnErr, IfOk, IfErr, Ok, unwrap_or, vec_len};
 ghost use Rattle.std.specs.Option.{option_copied};
 ghost use Rattle.mr_grant.specs.Attempts.{has};
 ghost use Rattle.mr_task.specs.Calls.{Launches, Asks, Reports, Hears, Fails, Ends, Dies, Loses, Records};
-ghost use Rattle.mr_task.specs.Readings.{seen, is_named, is_live, launch_refusal};
+ghost use Rattle.mr_task.specs.Readings.{seen, is_named, is_live, is_won, failures, launch_refusal};
 ghost use Rattle.mr_task.specs.State.{done_answer, launch_answer, Answers};
+ghost use Rattle.mr_master.specs.Ends.{call_of};
 ghost use Rattle.mr_master.specs.Tasks.{KeepsTasks, TakesAt, AnswersAt, Takes, ReadsAt, reply_or, NewTasks};
 
+use crate::ending::Ending;
 use mr_ids::{AttemptId, TaskId, TaskKind};
 use mr_master_model::Setting;
 use mr_task::{DoneReply, TaskFault, TaskMachine};
@@ -146,6 +148,37 @@ impl Tasks {
         ensures { Takes self.old place (Ends attempt was_killed) self.new }
     {
         end_at(&mut self.machines, place, attempt, was_killed);
+    }
+
+    // The attempt ended so.
+    pub fn tell_end(&mut self, place: usize, attempt: AttemptId, end: &Ending)
+        requires { place < length self.old.machines }
+        ensures { Takes self.old place (call_of end.now attempt) self.new }
+    {
+        match *end {
+            Ending::Failure => self.fail(place, attempt),
+            Ending::Exit(was_killed) => self.end(place, attempt, was_killed),
+        }
+    }
+
+    // Whether the task is not won and failed as often as the limit.
+    pub fn is_spent(&self, place: usize, limit: u32) -> bool
+        ensures { AnswersAt self.now.machines place (λ t k calls. not (is_won (seen t k calls)) && nat_le limit (failures (seen t k calls))) result }
+    {
+        if place >= self.machines.len() {
+            return false;
+        }
+        let task = &self.machines[place];
+        is_spent(task, limit)
+    }
+
+    // Whether it would be so if the attempt failed, which is live.
+    pub fn would_spend(&self, place: usize, attempt: AttemptId, limit: u32) -> bool
+        requires { place < length self.now.machines }
+        ensures { AnswersAt self.now.machines place (λ t k calls. is_live (seen t k calls) attempt && (not (is_won (seen t k calls)) && nat_le limit (failures (seen t k calls) + 1))) result }
+    {
+        let task = &self.machines[place];
+        would_spend(task, attempt, limit)
     }
 
     // The attempt ended, and that is no failure of it.
@@ -293,4 +326,29 @@ fn end_at(tasks: &mut Vec<TaskMachine>, place: usize, attempt: AttemptId, was_ki
 {
     let task = &mut tasks[place];
     let _ = task.ended(attempt, was_killed);
+}
+
+fn is_spent(task: &TaskMachine, limit: u32) -> bool
+    ensures { Answers task.now (λ t k calls. not (is_won (seen t k calls)) && nat_le limit (failures (seen t k calls))) result }
+{
+    let failures = task.failures();
+    let is_won = task.is_won();
+    all_of(!is_won, limit <= failures)
+}
+
+fn would_spend(task: &TaskMachine, attempt: AttemptId, limit: u32) -> bool
+    ensures { Answers task.now (λ t k calls. is_live (seen t k calls) attempt && (not (is_won (seen t k calls)) && nat_le limit (failures (seen t k calls) + 1))) result }
+{
+    let failures = u64::from(task.failures()) + 1;
+    let is_won = task.is_won();
+    all_of(
+        is_live(task, attempt),
+        all_of(!is_won, u64::from(limit) <= failures),
+    )
+}
+
+fn all_of(a: bool, b: bool) -> bool
+    ensures { result ≡ (a && b) }
+{
+    a && b
 }

@@ -72,6 +72,13 @@ impl Work {
         }
     }
 
+    // From now on the job failed, and nothing tells so yet.
+    pub fn fail(&mut self)
+        ensures { self.new ≡ Fails false }
+    {
+        *self = Work::failing();
+    }
+
     // The job failed, and nothing tells so yet.
     pub fn failing() -> Work
         ensures { result ≡ Fails false }

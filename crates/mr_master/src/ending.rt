@@ -1,0 +1,24 @@
+//! How attempts end.
+ghost use Rattle.std.specs.Prelude.{◌≡◌};
+ghost use Rattle.mr_master.specs.Ends.{is_failure};
+
+/// How an attempt ended.
+#[derive(Clone, Copy, Debug)]
+pub enum Ending {
+    /// It said that it failed.
+    Failure,
+    /// Its container ended. Whether a Kill was sent to it.
+    Exit(bool),
+}
+
+impl Ending {
+    // An exit that was not asked for is a failure.
+    pub fn is_failure(&self) -> bool
+        ensures { result ≡ is_failure self.now }
+    {
+        match *self {
+            Ending::Failure => true,
+            Ending::Exit(was_killed) => !was_killed,
+        }
+    }
+}
