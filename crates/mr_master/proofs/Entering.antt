@@ -2,6 +2,7 @@
 use Rattle.std.proofs.Common.{ℕ, ◌+◌, ◌<◌, ◌≡◌, refl, sym, ◌∙◌, ap, subst, Bool, true, false, List, [], ◌∷◌, ◌++◌, Option, Some, None, Ok, Err, is_none, Result, slice_get, length, length-append, if◌then◌else◌, arith, nat_eq}
 use Rattle.std.specs.Map.{lookup}
 use Rattle.std.proofs.lemmas.Bool.{eqb-true, eqb-false}
+use Rattle.std.proofs.lemmas.Bool.Decides.{nat_tests}
 use Rattle.mr_ids.specs.Attempt.{Attempt}
 use Rattle.mr_ids.specs.declared.id.TaskId.{TaskId}
 use Rattle.mr_grant.specs.Attempts.{same_attempt}
@@ -21,13 +22,17 @@ use Rattle.mr_master_model.specs.Job.{is_task}
 use Rattle.mr_master_model.specs.Readings.{Seen, of_task, launch_refusal, launched_as, next_attempt, tell}
 use Rattle.mr_master_model.specs.Hearing.{with_launch, after_launch}
 use Rattle.mr_master_model.specs.Sends.{launch_sends}
-use Rattle.mr_master_model.proofs.Launching.{may-launch}
+use Rattle.mr_master_model.specs.Sends.{killed_by}
+use Rattle.mr_master_model.specs.Past.{Step, Launches}
+use Rattle.mr_master_model.specs.Next.{moved, sent_by, next_seen, seen, sent}
+use Rattle.mr_master_model.proofs.Launching.{may-launch, launches_are_fresh}
+use Rattle.mr_master_model.proofs.Killing.{kills_go_to_launched}
 use Rattle.mr_master.specs.Places.{place_of}
 use Rattle.mr_master.specs.Tasks.{Tasks, AnswersAt, Takes, told}
 use Rattle.mr_master.specs.Launches.{Launched, KeepsLaunches, SameLaunches}
 use Rattle.mr_master.specs.Records.{Writing, KeepsRecords, SameRecords}
-use Rattle.mr_master.specs.Launching.{IsNew}
-use Rattle.mr_master.specs.State.{Master, Keeps}
+use Rattle.mr_master.specs.Launching.{IsNew, HasLaunched}
+use Rattle.mr_master.specs.State.{Master, Keeps, StandsFor, Stands}
 use Rattle.mr_master.proofs.Keeping.{read-at}
 use Rattle.mr_master.proofs.Opening.{front, seam}
 
@@ -126,3 +131,30 @@ found-place w t i e = by (is_task w t) refl e
     by : (b : Bool) → is_task w t ≡ b → Some i ≡ (if b then Some (place_of w t) else None) → (is_task w t ≡ true) × (i ≡ place_of w t)
     by true q h = (q, cc)
     by false q h = cc
+
+-- ---- along a past
+
+no-kill : (w : Setting) (s : Seen) (t : TaskId) (n : ℕ) (killed : ℕ → Bool) → killed_by (launch_sends w s t n) killed ≡ killed
+unfolding killed_by
+no-kill w s t n killed = by (is_none (launch_refusal w s t n))
+  where
+    by : (b : Bool) → killed_by (if b then to_node n (packet.Launch (launched_as w s n).container (next_attempt w s t) (launched_as w s n).incarnation) ∷ [] else []) killed ≡ killed
+    by true = refl
+    by false = refl
+
+is-new : (w : Setting) (past : List Step) (t : TaskId) (n : ℕ) → launch_refusal w (seen w past) t n ≡ None → IsNew w (seen w past) t
+is-new w past t n none = record {
+  attempt = launches_are_fresh w past t n none;
+  container = kills_go_to_launched w past (length (seen w past).launched) (grind (arith, nat_tests));
+}
+
+pub stands-launched : (old new : Master) (t : TaskId) (n : ℕ) (e : Envelope) → HasLaunched old t n e new → Stands old (Launches t n) new
+unfolding seen next_seen moved sent_by
+stands-launched old new t n e h w past k =
+    let s = seen w past in
+    let x = h w s k in
+    subst (λ (f : ℕ → Bool). Keeps new w (record (after_launch w s t n) { killed = f })) (sym (no-kill w s t n (after_launch w s t n).killed)) (x.keeps (is-new w past t n x.allowed))
+
+pub sent-launched : (old new : Master) (t : TaskId) (n : ℕ) (e : Envelope) → HasLaunched old t n e new → (w : Setting) (past : List Step) → StandsFor old w past → e ∷ [] ≡ sent w past (Launches t n)
+unfolding sent_by
+sent-launched old new t n e h w past k = sym (h w (seen w past) k).sent

@@ -51,6 +51,10 @@ Unchanged old new = (new ≡ record old { writing = new.writing }) × SameRecord
 abbrev pub Stands : Master → Step → Master → Type 0
 Stands old step new = (w : Setting) (past : List Step) → StandsFor old w past → StandsFor new w (step ∷ past)
 
+-- whatever past it stood for, it stands for it still
+abbrev pub StandsStill : Master → Master → Type 0
+StandsStill old new = (w : Setting) (past : List Step) → StandsFor old w past → StandsFor new w past
+
 -- the answer is what is read off the past that the machine stands for, whichever it is
 abbrev pub Answers : {A : Type 0} → Master → (Setting → List Step → A) → A → Type 0
 Answers m reading answer = (w : Setting) (past : List Step) → StandsFor m w past → answer ≡ reading w past

@@ -1,11 +1,16 @@
-ghost use Rattle.std.specs.Prelude.{◌≡◌, [], IfOk};
-ghost use Rattle.mr_master.specs.State.{StandsFor, StandsForSome, Answers};
+ghost use Rattle.std.specs.Prelude.{◌≡◌, [], ◌∷◌, None, IfOk, IfErr, OnOk, OnErr, unwrap_or};
+ghost use Rattle.mr_master.specs.State.{StandsFor, StandsForSome, Stands, StandsStill, Answers};
 ghost use Rattle.mr_master_model.specs.Duty.{duty};
-ghost use Rattle.mr_master_model.specs.Next.{seen};
+ghost use Rattle.mr_master_model.specs.Past.{Launches};
+ghost use Rattle.mr_master_model.specs.Readings.{launch_refusal};
+ghost use Rattle.mr_master_model.specs.Next.{seen, sent};
 
 use crate::duty::Duty;
 use crate::machine::Machine;
-use mr_master_model::Setting;
+use mr_ids::TaskId;
+use mr_master_model::{LaunchFault, Setting};
+use mr_packet::Envelope;
+use mr_task::TaskFault;
 use std::alloc::{AllocError, Global};
 use std::marker::Model;
 
@@ -50,5 +55,21 @@ impl MasterMachine {
     {
         let due = self.machine.duty()?;
         Ok(due)
+    }
+
+    /// Launches the next attempt of a task on a node, in the incarnation that is known of it, and gives the packet that tells the node
+    /// so, which is to be sent.
+    ///
+    /// Refusals in order: `NotRunning`, `NoTask` where the task is not the job's, `NoNode`, `Task` with the task's own refusal (it is won,
+    /// has two live attempts, or no numbers are left), and `Task(NoMemory)` where memory is refused. A refusal changes nothing.
+    pub fn launch(&mut self, task: TaskId, node: u32) -> Result<Envelope, LaunchFault>
+        ensures sent { IfOk result (λ packet. Answers self.old (λ w past. sent w past (Launches task node)) (packet ∷ [])) }
+        ensures stands { OnOk result (Stands self.old (Launches task node) self.new) }
+        ensures allowed { OnOk result (Answers self.old (λ w past. launch_refusal w (seen w past) task node) None) }
+        ensures refused { IfErr result (λ fault. Answers self.old (λ w past. unwrap_or (launch_refusal w (seen w past) task node) (LaunchFault.Task TaskFault.NoMemory)) fault) }
+        ensures unchanged { OnErr result (StandsStill self.old self.new) }
+    {
+        let packet = self.machine.launch(task, node)?;
+        Ok(packet)
     }
 }
