@@ -17,3 +17,4 @@ pub mod Dying
 pub mod AllDone
 pub mod Due
 pub mod Entering
+pub mod Waiting

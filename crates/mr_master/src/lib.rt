@@ -23,6 +23,7 @@ mod progress;
 mod records;
 mod store;
 mod tasks;
+mod wanting;
 mod work;
 
 pub use duty::Duty;

@@ -1,14 +1,14 @@
 ghost use Rattle.std.specs.Prelude.{◌≡◌, [], ◌∷◌, None, IfOk, IfErr, OnOk, OnErr, unwrap_or};
 ghost use Rattle.mr_master.specs.State.{StandsFor, StandsForSome, Stands, StandsStill, Answers};
 ghost use Rattle.mr_master_model.specs.Duty.{duty};
-ghost use Rattle.mr_master_model.specs.Past.{Launches};
-ghost use Rattle.mr_master_model.specs.Readings.{launch_refusal};
+ghost use Rattle.mr_master_model.specs.Past.{Launches, phase_of};
+ghost use Rattle.mr_master_model.specs.Readings.{launch_refusal, wanted};
 ghost use Rattle.mr_master_model.specs.Next.{seen, sent};
 
 use crate::duty::Duty;
 use crate::machine::Machine;
 use mr_ids::TaskId;
-use mr_master_model::{LaunchFault, Setting};
+use mr_master_model::{LaunchFault, Phase, Setting};
 use mr_packet::Envelope;
 use mr_task::TaskFault;
 use std::alloc::{AllocError, Global};
@@ -71,5 +71,21 @@ impl MasterMachine {
     {
         let packet = self.machine.launch(task, node)?;
         Ok(packet)
+    }
+
+    /// The phase that it is in. It takes no memory.
+    pub fn phase(&self) -> Phase
+        ensures { Answers self.now (λ w past. phase_of (seen w past).work) result }
+    {
+        self.machine.work.phase()
+    }
+
+    /// The task that is to be launched next: the first that waits for a launch while the master is Running, maps first, a reduce only
+    /// once every map is Succeeded. A task waits while none of its attempts is live, Recording or Succeeded and numbers are left. It
+    /// takes no memory.
+    pub fn wanted(&self) -> Option<TaskId>
+        ensures { Answers self.now (λ w past. wanted w (seen w past)) result }
+    {
+        self.machine.wanted()
     }
 }
