@@ -1,5 +1,6 @@
 -- Which attempt a container was launched for.
-use Rattle.std.proofs.Common.{ℕ, ◌≡◌, refl, sym, ◌∙◌, ap, subst, Bool, true, false, ◌&&◌, nat_eq, Option, Some, None, slice_get, if◌then◌else◌}
+use Rattle.std.proofs.Common.{ℕ, ◌<◌, ◌≤◌, ◌⊎◌, inl, inr, length, get_or, ◌≡◌, refl, sym, ◌∙◌, ap, subst, Bool, true, false, ◌&&◌, nat_eq, Option, Some, None, Result, Ok, Err, IfOk, OnOk, slice_get, if◌then◌else◌}
+use Rattle.std.proofs.lemmas.Option.{slice_get_cases, get_or_from_slice_get}
 use Rattle.std.specs.Option.{option_map}
 use Rattle.std.proofs.lemmas.Bool.{and_parts}
 use Rattle.mr_ids.specs.Attempt.{Attempt}
@@ -10,6 +11,7 @@ use Rattle.mr_master_model.specs.declared.setting.Setting.{Setting}
 use Rattle.mr_master_model.specs.Job.{is_task}
 use Rattle.mr_master_model.specs.Readings.{Seen, of_task, is_known, if_known, launched_in}
 use Rattle.mr_master.specs.Places.{place_of}
+use Rattle.mr_master.specs.State.{Master, Keeps}
 
 -- ---- the place of a known attempt
 
@@ -109,3 +111,36 @@ not-launched w s c e = by (launched_in w s c) e
     by : (o : Option (Attempt × Launch)) → None ≡ with-place w o → o ≡ None
     by None f = refl
     by (Some p) f = cc
+
+-- ---- whether a Kill was sent to it
+
+launched-at : (w : Setting) (s : Seen) (c : ContainerId) (p : Attempt × Launch) → launched_in w s c ≡ Some p → c.number < length s.launched
+launched-at w s c p e = by (nat_eq c.app w.app) (slice_get_cases s.launched c.number).1 e
+  where
+    none : (b : Bool) → slice_get s.launched c.number ≡ None → (if b then if_known w s (slice_get s.launched c.number) else None) ≡ Some p → ⊥
+    none b f g = let h : None ≡ Some p = sym (gone b) ∙ ap (λ o. if b then if_known w s o else None) (sym f) ∙ g in no h
+      where
+        gone : (d : Bool) → (if d then if_known w s None else None) ≡ None
+        gone true = refl
+        gone false = refl
+
+        no : None ≡ Some p → ⊥
+        no h = cc
+
+    by : (b : Bool) → ((x : Attempt × Launch) × (c.number < length s.launched) × (slice_get s.launched c.number ≡ Some x) × (get_or s.launched c.number x ≡ x)) ⊎ ((length s.launched ≤ c.number) × (slice_get s.launched c.number ≡ None))
+        → (if b then if_known w s (slice_get s.launched c.number) else None) ≡ Some p → c.number < length s.launched
+    by b (inl x) g = x.1
+    by b (inr x) g = absurd (none b x.1 g)
+
+pub killed-is : (m : Master) (w : Setting) (s : Seen) (c : ContainerId) (p : Attempt × Launch) → Keeps m w s → launched_in w s c ≡ Some p → get_or m.launches.killed c.number false ≡ s.killed c.number
+killed-is m w s c p k e = get_or_from_slice_get m.launches.killed c.number (s.killed c.number) false (k.launches.killed c.number (launched-at w s c p e))
+
+-- ---- answers
+
+pub if-ok : {A E : Type 0} (r : Result A E) (P Q : A → Type 0) → ((x : A) → P x → Q x) → IfOk r P → IfOk r Q
+if-ok (Ok x) P Q f h = f x h
+if-ok (Err e) P Q f h = h
+
+pub on-ok : {A E : Type 0} (r : Result A E) (P Q : Type 0) → (P → Q) → OnOk r P → OnOk r Q
+on-ok (Ok x) P Q f h = f h
+on-ok (Err e) P Q f h = h

@@ -6,6 +6,7 @@ pub mod Keeping
 pub mod Standing
 pub mod Kills
 pub mod Ends
+pub mod Lying
 pub mod Answering
 pub mod Containers
 pub mod Incarnations

@@ -1,5 +1,5 @@
 -- One part changes, and the machine keeps what was seen with that part changed.
-use Rattle.std.proofs.Common.{ℕ, ◌≡◌, Bool, true, List}
+use Rattle.std.proofs.Common.{ℕ, ◌≡◌, Bool, List}
 use Rattle.mr_ids.specs.Attempt.{Attempt}
 use Rattle.mr_ids.specs.declared.id.TaskId.{TaskId}
 use Rattle.mr_task.specs.Calls.{TaskCall}

@@ -52,3 +52,7 @@ SendsAtEnd m i a e packets = (w : Setting) (s : Seen) → Keeps m w s → is_run
 
 abbrev pub MovesAtEnd : Master → ℕ → Attempt → Ending → Master → Type 0
 MovesAtEnd old i a e new = (w : Setting) (s : Seen) → Keeps old w s → is_task w a.task ≡ true → i ≡ place_of w a.task → Keeps new w (ended w s a e)
+
+-- a Kill to every live attempt, where the master is Running no longer
+abbrev pub kills_if_over : Setting → Seen → List Envelope
+kills_if_over w s = if is_running s.work then [] else kill_all w s

@@ -1,5 +1,5 @@
 -- What a launch rests on.
-use Rattle.std.specs.Prelude.{◌≡◌, ℕ, false, None, List, [], ◌∷◌, length}
+use Rattle.std.specs.Prelude.{◌≡◌, ℕ, false, None, [], ◌∷◌, length}
 use Rattle.std.specs.Map.{lookup}
 use Rattle.mr_ids.specs.declared.id.TaskId.{TaskId}
 use Rattle.mr_grant.specs.Attempts.{same_attempt}

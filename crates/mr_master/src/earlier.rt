@@ -6,10 +6,11 @@ ghost use Rattle.mr_recover.specs.Plan.{AreWinners, listed, winners_among, with_
 ghost use Rattle.mr_recover.specs.declared.winner.TaskWinner.{TaskWinner};
 ghost use Rattle.mr_ids.specs.Same.{same_task};
 ghost use Rattle.mr_master_model.specs.Job.{all_reduces};
-ghost use Rattle.mr_master_model.specs.Readings.{newest_in};
+ghost use Rattle.mr_master_model.specs.Readings.{newest_in, place_in};
 ghost use Rattle.mr_master_model.specs.Answered.{is_unsuccessful, next_winner};
-ghost use Rattle.mr_master.specs.Earlier.{told_place, newer};
+ghost use Rattle.mr_master.specs.Earlier.{told_place, where_told, newer};
 
+use crate::failing::is_same;
 use crate::records::is_unsuccessful;
 use crate::work::Work;
 use mr_history::Record;
@@ -65,6 +66,46 @@ fn newer(older: Option<Success>, last: Option<Success>) -> Option<Success>
 {
     match last {
         Some(success) => Some(success),
+        None => older,
+    }
+}
+
+// Where the records say that the output of a map's attempt lies, by the last record of its success: the node and its incarnation.
+pub fn place_in(records: &[Record], attempt: &AttemptId) -> Option<(u32, u32)>
+    ensures { result ≡ option_map where_told (place_in records.now attempt.now) }
+{
+    let mut place = None;
+    for told in records {
+        place = later(place, told_in(told, attempt));
+    }
+    place
+}
+
+// Where one record says that it lies.
+fn told_in(told: &Record, attempt: &AttemptId) -> Option<(u32, u32)>
+    ensures { result ≡ option_map where_told (place_in (told.now ∷ []) attempt.now) }
+{
+    match *told {
+        Record::MapSucceeded {
+            attempt: succeeded,
+            node,
+            incarnation,
+        } => {
+            if is_same(attempt, &succeeded) {
+                Some((node, incarnation))
+            } else {
+                None
+            }
+        }
+        _ => None,
+    }
+}
+
+fn later(older: Option<(u32, u32)>, last: Option<(u32, u32)>) -> Option<(u32, u32)>
+    ensures { result ≡ newer older last }
+{
+    match last {
+        Some(place) => Some(place),
         None => older,
     }
 }

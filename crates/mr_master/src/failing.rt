@@ -132,7 +132,7 @@ fn is_other_live(machine: &TaskMachine, attempt: &AttemptId, ended: &AttemptId) 
     is_live(machine, *attempt) && !is_same(ended, attempt)
 }
 
-fn is_same(a: &AttemptId, b: &AttemptId) -> bool
+pub fn is_same(a: &AttemptId, b: &AttemptId) -> bool
     ensures { result ≡ same_attempt a.now b.now }
 {
     a == b

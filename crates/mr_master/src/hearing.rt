@@ -32,7 +32,7 @@ impl Machine {
     // An attempt asks.
     pub fn hear_ask(&mut self, attempt: AttemptId) -> Result<(), AllocError>
         ensures moves { OnOk result (Moves self.old (λ w s. after_ask s attempt (launch_of w s attempt)) self.new) }
-        ensures err { OnErr result (self.new ≡ self.old) }
+        ensures err { OnErr result (Unchanged self.old self.new) }
     {
         let Some((place, _launch)) = self.known(attempt) else {
             return Ok(());

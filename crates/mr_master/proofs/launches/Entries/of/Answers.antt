@@ -1,9 +1,7 @@
-use Rattle.std.proofs.Common.{ap, ◌∙◌, List}
+use Rattle.std.proofs.Common.{ap, ◌∙◌}
 use Rattle.std.specs.Map.{lookup}
-use Rattle.mr_ids.specs.Attempt.{Attempt}
 use Rattle.mr_grant.specs.Attempts.{same_attempt}
 use Rattle.mr_grant.proofs.Same.{the_same}
-use Rattle.mr_master_model.specs.declared.launch.Launch.{Launch}
 use Rattle.mr_master.specs.Launches.{Entries}
 use Rattle.mr_master.proofs.launches.Entries.of.Goals as goal
 

@@ -1,11 +1,9 @@
-use Rattle.std.proofs.Common.{ap, ◌∙◌, ◌≡◌, List, ◌++◌, ◌∷◌, [], None}
+use Rattle.std.proofs.Common.{ap, ◌∙◌, ◌≡◌, ◌++◌, ◌∷◌, [], None}
 use Rattle.std.specs.Map.{lookup}
 use Rattle.indexmap.proofs.MapLemmas.{absent_from_lookup, insert_entry-absent}
-use Rattle.mr_ids.specs.Attempt.{Attempt}
 use Rattle.mr_ids.specs.contracts.id.AttemptIdPartialEq.TheImpl.{eq-value}
 use Rattle.mr_grant.specs.Attempts.{same_attempt}
 use Rattle.mr_grant.proofs.Same.{the_same}
-use Rattle.mr_master_model.specs.declared.launch.Launch.{Launch}
 use Rattle.mr_master.specs.Launches.{Entries}
 use Rattle.mr_master.proofs.launches.Entries.push_reserved.Goals as goal
 

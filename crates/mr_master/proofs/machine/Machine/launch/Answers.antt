@@ -1,9 +1,8 @@
-use Rattle.std.proofs.Common.{◌≡◌, ℕ, sym, subst, ◌∙◌, ap, List, length, Some, Option}
+use Rattle.std.proofs.Common.{◌≡◌, sym, subst, ◌∙◌, ap, List, length}
 use Rattle.mr_ids.specs.Attempt.{Attempt}
 use Rattle.mr_master_model.specs.declared.launch.Launch.{Launch}
 use Rattle.mr_master_model.specs.Readings.{launched_as}
 use Rattle.mr_master.specs.State.{Master, Keeps}
-use Rattle.mr_master.proofs.Keeping.{placed}
 use Rattle.mr_master.proofs.Entering.{next-is, sends-it, launched-keeps, found-place}
 use Rattle.mr_master.proofs.machine.Machine.launch.Goals as goal
 

@@ -1,0 +1,104 @@
+//! What is heard, packet by packet: first what is sent for it, which changes nothing, then what it changes.
+ghost use Rattle.std.specs.Prelude.{◌≡◌, true, [], IfOk, OnOk, OnErr, if◌then◌else◌};
+ghost use Rattle.mr_master_model.specs.declared.setting.Setting.{Setting};
+ghost use Rattle.mr_master_model.specs.Readings.{Seen, is_running, launch_of, launched_in};
+ghost use Rattle.mr_master_model.specs.Hearing.{after_failed, after_ended, heard};
+ghost use Rattle.mr_master_model.specs.Sends.{kill_all, replies};
+ghost use Rattle.mr_master.specs.State.{Keeps, Moves, Unchanged};
+ghost use Rattle.mr_master.specs.Ends.{kills_if_over};
+
+use crate::ending::Ending;
+use crate::machine::Machine;
+use mr_ids::AttemptId;
+use mr_packet::{ContainerId, Envelope, Packet};
+use std::alloc::AllocError;
+
+impl Machine {
+    // What is sent where an attempt says that it failed.
+    fn failed_packets(&self, attempt: AttemptId) -> Result<Vec<Envelope>, AllocError>
+        ensures { IfOk result (λ packets. (w : Setting) (s : Seen) → Keeps self.now w s → is_running s.work ≡ true → packets.items ≡ kills_if_over w (after_failed w s attempt (launch_of w s attempt))) }
+    {
+        match self.known(attempt) {
+            Some((place, _launch)) => self.end_packets(place, attempt, &Ending::Failure),
+            None => Ok(Vec::new(self.alloc)),
+        }
+    }
+
+    // What is sent where a container ended.
+    fn ended_packets(&self, container: &ContainerId) -> Result<Vec<Envelope>, AllocError>
+        ensures { IfOk result (λ packets. (w : Setting) (s : Seen) → Keeps self.now w s → is_running s.work ≡ true → packets.items ≡ kills_if_over w (after_ended w s container.now (launched_in w s container.now))) }
+    {
+        match self.launched_in(*container) {
+            Some((place, launched)) => {
+                let was_killed = self.launches.is_killed(container.number as usize);
+                self.end_packets(place, launched.0, &Ending::Exit(was_killed))
+            }
+            None => Ok(Vec::new(self.alloc)),
+        }
+    }
+
+    // What is sent for a packet that is heard while Running.
+    #[tactic(auto, unfolding(mr_master_model::specs::Hearing::heard, mr_master_model::specs::Sends::replies))]
+    fn replies(&self, packet: &Packet) -> Result<Vec<Envelope>, AllocError>
+        ensures { IfOk result (λ packets. (w : Setting) (s : Seen) → Keeps self.now w s → is_running s.work ≡ true → packets.items ≡ replies w s (heard w s packet.now) packet.now) }
+    {
+        match packet {
+            Packet::Pending { a } => self.pending_answer(*a),
+            Packet::Poll { a } => self.pending_answer(*a),
+            Packet::Done { a, bytes: _ } => self.done_answer(*a),
+            Packet::Failed { a } => self.failed_packets(*a),
+            Packet::Ended { c } => self.ended_packets(c),
+            Packet::Where { c, map } => self.where_answer(*c, *map),
+            _ => Ok(Vec::new(self.alloc)),
+        }
+    }
+
+    // An attempt says that it failed.
+    fn hear_failed(&mut self, attempt: AttemptId) -> Result<(), AllocError>
+        ensures moves { OnOk result (Moves self.old (λ w s. after_failed w s attempt (launch_of w s attempt)) self.new) }
+        ensures err { OnErr result (Unchanged self.old self.new) }
+    {
+        match self.known(attempt) {
+            Some((place, _launch)) => self.hear_end(place, attempt, &Ending::Failure),
+            None => Ok(()),
+        }
+    }
+
+    // A container ended.
+    fn hear_ended(&mut self, container: &ContainerId) -> Result<(), AllocError>
+        ensures moves { OnOk result (Moves self.old (λ w s. after_ended w s container.now (launched_in w s container.now)) self.new) }
+        ensures err { OnErr result (Unchanged self.old self.new) }
+    {
+        match self.launched_in(*container) {
+            Some((place, launched)) => {
+                let was_killed = self.launches.is_killed(container.number as usize);
+                self.hear_end(place, launched.0, &Ending::Exit(was_killed))
+            }
+            None => Ok(()),
+        }
+    }
+
+    // A packet is heard while Running, NodeUp aside.
+    #[tactic(auto, unfolding(mr_master_model::specs::Hearing::heard))]
+    pub fn hear_running(&mut self, packet: &Packet) -> Result<(), AllocError>
+        ensures moves { OnOk result (Moves self.old (λ w s. heard w s packet.now) self.new) }
+        ensures err { OnErr result (Unchanged self.old self.new) }
+    {
+        match packet {
+            Packet::Pending { a } => self.hear_ask(*a),
+            Packet::Poll { a } => self.hear_ask(*a),
+            Packet::Done { a, bytes } => self.hear_done(*a, *bytes),
+            Packet::Failed { a } => self.hear_failed(*a),
+            Packet::Ended { c } => self.hear_ended(c),
+            Packet::Where { c, map: _ } => {
+                self.hear_where(*c);
+                Ok(())
+            }
+            Packet::FetchLost { c, a } => {
+                self.hear_fetch_lost(*c, *a);
+                Ok(())
+            }
+            _ => Ok(()),
+        }
+    }
+}
