@@ -19,3 +19,5 @@ pub mod AllDone
 pub mod Due
 pub mod Entering
 pub mod Waiting
+pub mod Flushes
+pub mod Replies

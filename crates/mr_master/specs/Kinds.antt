@@ -6,7 +6,7 @@ use Rattle.mr_commit.specs.Recovery.Recovery.{Nowhere, Left}
 use Rattle.mr_master_model.specs.declared.setting.Setting.{Setting}
 use Rattle.mr_master_model.specs.Readings.{Seen}
 use Rattle.mr_master_model.specs.Answered.{next_winner, winners}
-use Rattle.mr_master_model.specs.Past.{Work, LooksForSuccess, LooksForFail, LooksForStarted, Reads, SetsUp, TakesOver, Runs, CommitsJob, TellsSuccess, TellsFail, AbortsCommit, Fails, Stops}
+use Rattle.mr_master_model.specs.Past.{Work, LooksForSuccess, LooksForFail, LooksForStarted, Reads, SetsUp, TakesOver, Runs, CommitsJob, TellsSuccess, TellsFail, AbortsCommit, Fails, Ends, Stops}
 
 -- its next call follows from the work alone
 abbrev pub is_own : Work → Bool
@@ -31,10 +31,6 @@ is_look LooksForFail = true
 is_look LooksForStarted = true
 is_look _ = false
 
-abbrev pub looks_for_success : Work → Bool
-looks_for_success LooksForSuccess = true
-looks_for_success _ = false
-
 abbrev pub looked_on : Work → Work
 looked_on LooksForSuccess = LooksForFail
 looked_on LooksForFail = LooksForStarted
@@ -48,6 +44,16 @@ is_tell TellsSuccess = true
 is_tell TellsFail = true
 is_tell AbortsCommit = true
 is_tell _ = false
+
+-- which outcome it tells if it ends
+abbrev pub ending : Work → Bool
+ending LooksForSuccess = true
+ending TellsSuccess = true
+ending _ = false
+
+abbrev pub is_ended : Work → Bool
+is_ended (Ends succeeded) = true
+is_ended _ = false
 
 -- ---- a committer's table
 

@@ -1,12 +1,14 @@
 //! The machine of an application master: what it hears, which store call it makes next, what it launches, what it tells.
 #![tactic(auto)]
 
+mod answers;
 mod bars;
 mod duties;
 mod duty;
 mod earlier;
 mod ending;
 mod failing;
+mod flushing;
 mod gone;
 mod hear;
 mod hearing;

@@ -58,3 +58,17 @@ pub fn push_won(
     }
     Ok(())
 }
+
+// Tells every node of the outcome.
+pub fn push_outcome(
+    packets: &mut Vec<Envelope>,
+    nodes: u32,
+    succeeded: bool,
+) -> Result<(), AllocError>
+    ensures { OnOk result (packets.new.items ≡ packets.old.items ++ to_all nodes (Packet.Outcome succeeded)) }
+{
+    for node in 0..nodes {
+        packets.push(to_node(node, Packet::Outcome { succeeded }))?;
+    }
+    Ok(())
+}

@@ -1,15 +1,18 @@
 //! What the master is at in its phase, with what is left of a committer's table.
-ghost use Rattle.std.specs.Prelude.{◌≡◌, true, false, Some, None, Err, IfOk, OnOk, OnErr};
-ghost use Rattle.mr_master_model.specs.Past.{Work, LooksForSuccess, Runs, Fails, Ends, Stops, phase_of};
+ghost use Rattle.std.specs.Prelude.{◌≡◌, true, false, Some, None, Err, IfOk, OnOk, OnErr, [], if◌then◌else◌};
+ghost use Rattle.mr_master_model.specs.Past.{Work, LooksForSuccess, SetsUp, Runs, CommitsJob, Fails, Ends, Stops, phase_of};
 ghost use Rattle.mr_master_model.specs.Readings.{Seen, is_running, is_over};
 ghost use Rattle.mr_master_model.specs.Duty.{duty_at, does, commit_name, abort_duty};
-ghost use Rattle.mr_master.specs.Kinds.{is_own, fails_as, is_read, is_look, looks_for_success, looked_on, is_tell, left_of, with_left, refused_by, refused_when, is_step, finished_by, wants_more, lines_of};
+ghost use Rattle.mr_master.specs.Kinds.{is_own, fails_as, is_read, is_look, is_ended, ending, looked_on, is_tell, left_of, with_left, refused_by, refused_when, is_step, finished_by, wants_more, lines_of};
 ghost use Rattle.mr_master.specs.Work.{is_left};
 ghost use Rattle.mr_master.specs.Heard.{heard_as};
 ghost use Rattle.mr_commit.specs.Steps.{heard};
 ghost use Rattle.mr_commit.specs.Recovery.{Left, recover_task};
 ghost use Rattle.mr_master_model.specs.Answered.{work_after, heard_by, takes_over};
 ghost use Rattle.mr_master_model.specs.declared.setting.Setting.{Setting};
+ghost use Rattle.mr_commit.specs.Tables.{setup_job, commit_job};
+ghost use Rattle.mr_master_model.specs.Sends.{outcome_of, to_all};
+ghost use Rattle.mr_packet.specs.declared.packet.Packet.TheVariants as packet;
 
 use crate::duty::{Duty, of_line, of_look, of_mark};
 use crate::ops::{fail_mark, started_mark, success_mark};
@@ -256,22 +259,72 @@ impl Work {
     // A look for a mark was answered.
     #[tactic(auto, unfolding(mr_master_model::specs::Answered::work_after))]
     pub fn look(&mut self, answer: &StoreAnswer)
-        ensures { (w : Setting) (s : Seen) → is_look self.old ≡ true → self.new ≡ work_after w s answer.now self.old }
+        ensures outcome { (w : Setting) → is_look self.old ≡ true → outcome_of w self.new ≡ (if is_ended self.new then to_all w.nodes (packet.Outcome (ending self.old)) else []) }
+        ensures quiet { is_look self.old ≡ true → is_running self.new ≡ false }
+        ensures moved { (w : Setting) (s : Seen) → is_look self.old ≡ true → self.new ≡ work_after w s answer.now self.old }
     {
         match looked(answer) {
-            Look::There => self.at = At::Ends(self.looks_for_success()),
+            Look::There => self.at = At::Ends(self.ending()),
             Look::Absent => self.look_on(),
             Look::Unclear => self.at = At::Stops,
         }
     }
 
-    fn looks_for_success(&self) -> bool
-        ensures { result ≡ looks_for_success self.now }
+    // Which outcome it tells if it ends.
+    pub fn ending(&self) -> bool
+        ensures { result ≡ ending self.now }
     {
         match self.at {
-            At::LooksForSuccess => true,
+            At::LooksForSuccess | At::TellsSuccess => true,
             _ => false,
         }
+    }
+
+    pub fn is_ended(&self) -> bool
+        ensures { result ≡ is_ended self.now }
+    {
+        match self.at {
+            At::Ends(_) => true,
+            _ => false,
+        }
+    }
+
+    // The job ended.
+    pub fn ends(succeeded: bool) -> Work
+        ensures { result ≡ Ends succeeded }
+    {
+        Work {
+            at: At::Ends(succeeded),
+        }
+    }
+
+    // The job failed, and whether that is stable.
+    pub fn fails_so(is_stable: bool) -> Work
+        ensures { result ≡ Fails is_stable }
+    {
+        Work {
+            at: At::Fails(is_stable),
+        }
+    }
+
+    // It sets the job up.
+    pub fn sets_up(setting: &Setting) -> Result<Work, AllocError>
+        ensures { IfOk result (λ work. work ≡ SetsUp (setup_job setting.now.layout.dest setting.now.app)) }
+    {
+        let step = SetupJob::new(&setting.layout, setting.app)?;
+        Ok(Work {
+            at: At::SetsUp(step),
+        })
+    }
+
+    // It commits the job.
+    pub fn commits(setting: &Setting) -> Result<Work, AllocError>
+        ensures { IfOk result (λ work. work ≡ CommitsJob (commit_job setting.now.layout.dest setting.now.app)) }
+    {
+        let step = CommitJob::new(&setting.layout, setting.app)?;
+        Ok(Work {
+            at: At::CommitsJob(step),
+        })
     }
 
     // The next look, and after the last the reading.
@@ -289,7 +342,9 @@ impl Work {
     // The creation of a mark, or the abort after COMMIT_FAIL, was answered.
     #[tactic(auto, unfolding(mr_master_model::specs::Answered::work_after))]
     pub fn told(&mut self, answer: &StoreAnswer)
-        ensures { (w : Setting) (s : Seen) → is_tell self.old ≡ true → self.new ≡ work_after w s answer.now self.old }
+        ensures outcome { (w : Setting) → is_tell self.old ≡ true → outcome_of w self.new ≡ (if is_ended self.new then to_all w.nodes (packet.Outcome (ending self.old)) else []) }
+        ensures quiet { is_tell self.old ≡ true → is_running self.new ≡ false }
+        ensures moved { (w : Setting) (s : Seen) → is_tell self.old ≡ true → self.new ≡ work_after w s answer.now self.old }
     {
         let fine = is_fine(answer);
         let superseded = is_superseded(answer);
