@@ -1,5 +1,5 @@
 -- What records say, record by record and task by task.
-use Rattle.std.proofs.Common.{◌≡◌, ◌≤◌, ◌+◌, ℕ, suc, List, [], ◌∷◌, ◌++◌, length, Option, Some, None, refl, sym, ap, ◌∙◌, arith, add-one}
+use Rattle.std.proofs.Common.{◌≡◌, ◌<◌, ◌≤◌, ◌+◌, ℕ, suc, List, [], ◌∷◌, ◌++◌, length, Option, Some, None, refl, sym, ap, ◌∙◌, arith, add-one}
 use Rattle.std.specs.Option.{option_map}
 use Rattle.mr_ids.specs.Attempt.{Attempt}
 use Rattle.mr_ids.specs.declared.id.TaskId.{TaskId}
@@ -10,6 +10,8 @@ use Rattle.mr_recover.specs.declared.winner.TaskWinner.{TaskWinner}
 use Rattle.mr_recover.specs.Plan.{winner_of, with_first, winners_among}
 use Rattle.mr_master_model.specs.declared.setting.Setting.{Setting}
 use Rattle.mr_master_model.specs.Duty.{record_duty}
+use Rattle.mr_master_model.specs.Answered.{name_of}
+use Rattle.mr_master_model.specs.declared.phase.DutyName.TheVariants as name
 use Rattle.mr_master_model.specs.Job.{task_of, first_tasks}
 use Rattle.mr_master_model.specs.Readings.{Place, or_else, newest_in}
 use Rattle.mr_master.specs.Earlier.{told_place, newer}
@@ -67,3 +69,7 @@ pub newest-more : (rs : List Record) (r : Record) (t : TaskId) (older last : Opt
     → newer older last ≡ option_map told_place (newest_in (rs ++ r ∷ []) t)
 newest-more rs r t older last e q =
     (λ i. newer (e i) (q i)) ∙ newer-is (newest_in rs t) (newest_in (r ∷ []) t) ∙ ap (λ o. option_map told_place o) (sym (newest-append rs r t))
+
+pub some-due : (due tail : List Record) → 0 < length due → Some name.Append ≡ name_of (record_duty due tail)
+some-due [] tail e = absurd (omega (arith, e))
+some-due (r ∷ rs) tail e = refl

@@ -1,7 +1,7 @@
 -- What an answer changes and sends, in each work.
 use Rattle.std.proofs.Common.{◌≡◌, refl, sym, ap, ◌∙◌, subst, Bool, true, false, ◌&&◌, not, cond, List, [], ◌∷◌, ◌++◌, append-nil, Option, Some, None, if◌then◌else◌, true≢false}
 use Rattle.std.specs.List.{find}
-use Rattle.std.specs.Option.{option_map}
+use Rattle.std.specs.Option.{option_map, is_some}
 use Rattle.mr_ids.specs.Attempt.{Attempt}
 use Rattle.mr_task.specs.Calls as task_call
 use Rattle.mr_packet.specs.declared.packet.Envelope.{Envelope}
@@ -12,15 +12,20 @@ use Rattle.mr_master_model.specs.declared.setting.Setting.{Setting}
 use Rattle.mr_master_model.specs.declared.store.StoreAnswer.{StoreAnswer}
 use Rattle.mr_master_model.specs.declared.store.StoreCall.TheVariants as call
 use Rattle.mr_names.specs.declared.op.Op.TheVariants as op
-use Rattle.mr_master_model.specs.Job.{is_task}
+use Rattle.mr_master_model.specs.Job.{is_task, all_reduces}
 use Rattle.mr_master_model.specs.Past.{Work, LooksForSuccess, LooksForFail, LooksForStarted, Reads, SetsUp, TakesOver, Runs, CommitsJob, TellsSuccess, TellsFail, AbortsCommit, Fails, Ends, Stops}
-use Rattle.mr_master_model.specs.Readings.{Seen, is_running, is_live, or_else, tell}
-use Rattle.mr_master_model.specs.Duty.{Duty, duty, duty_at, record_duty, start_duty}
+use Rattle.mr_master_model.specs.Readings.{Seen, is_running, is_live, or_else, tell, all_succeeded}
+use Rattle.mr_master_model.specs.Duty.{Duty, duty, duty_at, record_duty, start_duty, creates, started_mark}
 use Rattle.mr_master_model.specs.Answered.{is_fine, changed, work_after, with_work, after_due, after_duty, running_after, failing_after, name_of, recorded, tell_recorded, success_in, moved_first, with_maps}
 use Rattle.mr_master_model.specs.Sends.{work_sends, outcome_of, due_sends, duty_sends, killed_by}
 use Rattle.mr_master_model.specs.Next.{with_kills}
 use Rattle.mr_master.specs.State.{Master, Keeps}
 use Rattle.mr_master.specs.Kinds.{is_look, is_tell}
+use Rattle.mr_master.specs.Launches.{Launched, Notes}
+use Rattle.mr_master.specs.Told.{with_deaths}
+use Rattle.mr_ids.specs.Same.{same_task}
+use Rattle.mr_master.proofs.Parts.{with-launches}
+use Rattle.mr_master.proofs.Due.{dead-outside}
 use Rattle.mr_master.specs.Answering.{answered_sends, answered_seen, answered_all}
 
 -- what is sent and what is seen
@@ -181,3 +186,63 @@ recorded-work w s (r ∷ rs) = recorded-work w (tell_recorded w s (success_in r)
 pub moved-work : (s : Seen) (due : List Record) → (moved_first s due).work ≡ s.work
 moved-work s [] = refl
 moved-work s (r ∷ due) = refl
+
+-- ---- Kills that are noted
+
+pub note-keeps : {m : Master} (w : Setting) (s : Seen) (new : Launched) (es fs : List Envelope) → Notes m.launches es new → es ≡ fs → Keeps m w s → Keeps (record m { launches = new }) w (with_kills fs s)
+note-keeps {m} w s new es fs notes e k =
+    subst (λ (l : List Envelope). Keeps (record m { launches = new }) w (with_kills l s)) e (with-launches new s.launched (killed_by es s.killed) (notes s.launched s.killed k.launches) k)
+
+-- ---- the call that was due while Running
+
+-- it runs on
+pub runs-on : (w : Setting) (s : Seen) (a : StoreAnswer) (n : Option DutyName) (t : Seen) → s.work ≡ Runs → is_fine a ≡ true → n ≡ name_of (duty w s) → t ≡ after_named w s n → t.work ≡ Runs → Runs ≡ running_after w n
+    → t ≡ answered_seen w s a
+runs-on w s a n t e f d q r again = (λ i. record t { work = (r ∙ again) i }) ∙ runs-seen w s a n t e f d q r
+
+-- by the name of what is due while it runs
+pub due-runs : (w : Setting) (s : Seen) (n : Option DutyName) → s.work ≡ Runs → n ≡ name_of (duty_at w s Runs) → n ≡ name_of (duty w s)
+due-runs w s n e q = q ∙ (λ i. name_of (duty_at w s (sym e i)))
+
+pub name-bar : (w : Setting) (s : Seen) (a : Attempt) → Some a ≡ find (is_live w s) s.bars → Some name.Bar ≡ name_of (duty_at w s Runs)
+unfolding duty_at
+name-bar w s a e = ap (λ o. name_of (or_else (barred o) (or_else (record_duty s.due s.tail) (start_duty w s)))) e
+
+pub name-start : (w : Setting) (s : Seen) → s.work ≡ Runs → None ≡ find (is_live w s) s.bars → None ≡ name_of (record_duty s.due s.tail) → is_some (duty w s) ≡ true → Some name.Started ≡ name_of (duty_at w s Runs)
+unfolding duty_at
+name-start w s e q r some =
+    by (record_duty s.due s.tail) r ((λ i. is_some (or_else (barred (q i)) (or_else (record_duty s.due s.tail) (start_duty w s)))) ∙ (λ i. is_some (duty_at w s (sym e i))) ∙ some)
+    ∙ ap (λ o. name_of (or_else (barred o) (or_else (record_duty s.due s.tail) (start_duty w s)))) q
+  where
+    start : (b : Bool) → is_some (if b then creates name.Started started_mark else None) ≡ true → Some name.Started ≡ name_of (if b then creates name.Started started_mark else None)
+    start true x = refl
+    start false x = absurd (true≢false (sym x))
+
+    by : (o : Option Duty) → None ≡ name_of o → is_some (or_else o (start_duty w s)) ≡ true → Some name.Started ≡ name_of (or_else o (start_duty w s))
+    by None x y = start (all_succeeded w s (all_reduces w)) y
+    by (Some d) x y = cc
+
+-- what is found passes
+pub found-passes : (p : Attempt → Bool) (xs : List Attempt) (a : Attempt) → Some a ≡ find p xs → p a ≡ true
+found-passes p [] a e = cc
+found-passes p (x ∷ xs) a e = by (p x) refl e (λ r. found-passes p xs a r)
+  where
+    by : (b : Bool) → p x ≡ b → Some a ≡ cond b (Some x) (find p xs) → (Some a ≡ find p xs → p a ≡ true) → p a ≡ true
+    by true q r go = let same : a ≡ x = cc in ap p same ∙ q
+    by false q r go = go r
+
+-- a live attempt is of the job
+pub live-of-job : (m : Master) (w : Setting) (s : Seen) (a : Attempt) → Keeps m w s → is_live w s a ≡ true → is_task w a.task ≡ true
+live-of-job m w s a k e = by (is_task w a.task) refl
+  where
+    by : (b : Bool) → is_task w a.task ≡ b → b ≡ true
+    by true q = refl
+    by false q = absurd (true≢false (sym e ∙ sym (dead-outside a.task w.app (s.calls a.task) a (k.tasks.outside a.task q))))
+
+-- the end of a barred attempt
+pub death-is : (w : Setting) (s : Seen) (a : Attempt) → is_task w a.task ≡ true → with_deaths w s (a ∷ []) ≡ tell s a.task (task_call.Dies a)
+death-is w s a e = λ j. record s { calls = λ u. if (e j && same_task u a.task) then task_call.Dies a ∷ s.calls u else s.calls u }
+
+-- nothing is sent
+pub quiet-keep : {m : Master} (w : Setting) (s t : Seen) (a : StoreAnswer) → [] ≡ answered_sends w s a → t ≡ answered_seen w s a → Keeps m w t → Keeps m w (answered_all w s a)
+quiet-keep {m} w s t a e q k = replies-keep w s t a [] e q (subst (λ (x : Seen). Keeps m w x) (no-kills t) k)

@@ -1,5 +1,8 @@
 -- What an answer changes and sends, where a call was due.
-use Rattle.std.specs.Prelude.{List, ◌++◌}
+use Rattle.std.specs.Prelude.{List, ◌++◌, ◌≡◌, true}
+use Rattle.std.specs.Option.{is_some}
+use Rattle.mr_master_model.specs.Duty.{duty}
+use Rattle.mr_master.specs.State.{Master, Keeps}
 use Rattle.mr_packet.specs.declared.packet.Envelope.{Envelope}
 use Rattle.mr_master_model.specs.declared.setting.Setting.{Setting}
 use Rattle.mr_master_model.specs.declared.store.StoreAnswer.{StoreAnswer}
@@ -17,3 +20,7 @@ answered_seen w s a = with_work w (changed w s a s.work) (work_after w s a s.wor
 -- with the Kills among what is sent
 abbrev pub answered_all : Setting → Seen → StoreAnswer → Seen
 answered_all w s a = with_kills (answered_sends w s a) (answered_seen w s a)
+
+-- a call is due
+abbrev pub IsDue : Master → Type 0
+IsDue m = (w : Setting) (s : Seen) → Keeps m w s → is_some (duty w s) ≡ true

@@ -1,7 +1,9 @@
 -- What is stored of the records that are to be appended, and of those that were appended and are not flushed.
-use Rattle.std.specs.Prelude.{◌≡◌, ℕ, Bool, List}
+use Rattle.std.specs.Prelude.{◌≡◌, ℕ, Bool, true, false, List}
 use Rattle.std.specs.List.{list_any}
 use Rattle.mr_history.specs.declared.record.Record.{Record}
+use Rattle.mr_master_model.specs.declared.phase.DutyName.{DutyName}
+use Rattle.mr_master_model.specs.declared.phase.DutyName.TheVariants as name
 use Rattle.mr_master_model.specs.Duty.{wants_flush}
 
 pub record Writing : Type 0 where
@@ -21,3 +23,8 @@ pub record SameRecords (old new : Writing) : Type 0 where
   pub due : new.due ≡ old.due
   pub tail : new.tail ≡ old.tail
   pub is_flush_wanted : new.is_flush_wanted ≡ old.is_flush_wanted
+
+-- what a call is for that appends, or flushes
+abbrev pub written_by : Bool → DutyName
+written_by true = name.Append
+written_by false = name.Flush

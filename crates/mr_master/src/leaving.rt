@@ -79,7 +79,7 @@ impl Machine {
     }
 
     // The attempt ends, and that is no failure of it.
-    fn tell_death(&mut self, attempt: AttemptId)
+    pub fn tell_death(&mut self, attempt: AttemptId)
         ensures { Moves self.old (λ w s. with_deaths w s (attempt ∷ [])) self.new }
     {
         if let Some(place) = place_of(&self.setting, attempt.task()) {

@@ -25,6 +25,7 @@ mod packets;
 mod places;
 mod progress;
 mod records;
+mod running;
 mod store;
 mod tasks;
 mod wanting;

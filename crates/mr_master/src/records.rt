@@ -3,8 +3,9 @@ ghost use Rattle.std.specs.Prelude.{◌≡◌, ◌≤◌, ◌<◌, ◌+◌, ◌|
 ghost use Rattle.std.specs.List.{list_any};
 ghost use Rattle.mr_history.specs.declared.record.Record.{Record};
 ghost use Rattle.mr_master_model.specs.Duty.{wants_flush, record_duty};
-ghost use Rattle.mr_master_model.specs.Answered.{is_unsuccessful};
-ghost use Rattle.mr_master.specs.Records.{KeepsRecords, SameRecords};
+ghost use Rattle.mr_master_model.specs.Answered.{is_unsuccessful, name_of};
+ghost use Rattle.mr_master.specs.Records.{KeepsRecords, SameRecords, written_by};
+ghost use Rattle.std.specs.Option.{option_map};
 
 use crate::duty::Duty;
 use mr_history::Record;
@@ -70,6 +71,26 @@ impl Writing {
         }
         let first = self.due[0];
         Some(Duty::new(DutyName::Append, StoreCall::Append(first)))
+    }
+
+    // Which call that is: whether it appends, else it flushes.
+    pub fn next(&self) -> Option<bool>
+        ensures { (due tail : List Record) → KeepsRecords self.now due tail → option_map written_by result ≡ name_of (record_duty due tail) }
+    {
+        if self.due.len() == 0 {
+            return self.next_flush();
+        }
+        Some(true)
+    }
+
+    fn next_flush(&self) -> Option<bool>
+        ensures { (due tail : List Record) → KeepsRecords self.now due tail → option_map written_by result ≡ name_of (record_duty [] tail) }
+    {
+        if self.is_flush_wanted {
+            Some(false)
+        } else {
+            None
+        }
     }
 
     fn flush_duty(&self) -> Option<Duty>
