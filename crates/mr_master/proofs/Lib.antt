@@ -21,3 +21,5 @@ pub mod Entering
 pub mod Waiting
 pub mod Flushes
 pub mod Replies
+pub mod Losing
+pub mod Distinct

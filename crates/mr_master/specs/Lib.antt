@@ -13,3 +13,5 @@ pub mod Kinds
 pub mod Earlier
 pub mod Answering
 pub mod Launching
+pub mod Leaving
+pub mod Expiring

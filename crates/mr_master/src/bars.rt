@@ -1,6 +1,7 @@
 //! The attempts whose bar was ever due, in order. This is the only place that knows how they are kept.
 ghost use Rattle.std.specs.Prelude.{◌≡◌, ◌<◌, ◌++◌, [], ◌∷◌, length, slice_get, IfOk, OnOk, OnErr};
 ghost use Rattle.mr_grant.specs.Attempts.{has, with_last};
+ghost use Rattle.mr_master.specs.Expiring.{all_added};
 
 use indexmap::IndexSet;
 use mr_ids::AttemptId;
@@ -65,6 +66,16 @@ impl Bars {
         ensures err { OnErr result (self.new ≡ self.old) }
     {
         self.due.insert(attempt)?;
+        Ok(())
+    }
+
+    // Adds attempts as the last, one after another, if they are not there.
+    pub fn add_all(&mut self, attempts: &[AttemptId]) -> Result<(), AllocError>
+        ensures { OnOk result (self.new ≡ all_added self.old attempts.now) }
+    {
+        for i in 0..attempts.len() {
+            self.add(attempts[i])?;
+        }
         Ok(())
     }
 }

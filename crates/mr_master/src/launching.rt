@@ -107,7 +107,7 @@ fn number_after(count: usize) -> Option<u32>
 }
 
 // Memory was refused.
-fn no_memory() -> LaunchFault
+pub fn no_memory() -> LaunchFault
     ensures { result ≡ LaunchFault.Task TaskFault.NoMemory }
 {
     LaunchFault::Task(TaskFault::NoMemory)

@@ -1,8 +1,12 @@
 //! What is gone with a node: its live attempts there, and the outputs that lay there.
-ghost use Rattle.std.specs.Prelude.{◌≡◌, flat_map, IfOk, OnOk};
-ghost use Rattle.mr_master_model.specs.Job.{first_tasks, count_of};
+ghost use Rattle.std.specs.Prelude.{◌≡◌, flat_map, IfOk, OnOk, OnErr, if◌then◌else◌};
+ghost use Rattle.mr_master_model.specs.Job.{first_tasks, count_of, all_maps, all_tasks};
 ghost use Rattle.std.specs.Prelude.{◌∷◌, []};
-ghost use Rattle.mr_master.specs.Gone.{gone_of, if_gone, of_job};
+ghost use Rattle.mr_master_model.specs.Readings as reading;
+ghost use Rattle.mr_master_model.specs.Readings.{succeeded_where, is_over};
+ghost use Rattle.mr_master_model.specs.Hearing.{with_known, after_restart, after_node_up};
+ghost use Rattle.mr_master.specs.Leaving.{without};
+ghost use Rattle.mr_master.specs.Gone.{gone_of, if_gone, of_job, is_lost, lost_of};
 ghost use Rattle.mr_master.specs.State.{Adds, Reads, Moves};
 ghost use Rattle.mr_master.specs.Told.{with_deaths, with_losses};
 
@@ -58,7 +62,7 @@ impl Machine {
     }
 
     // Adds the attempts at all tasks of a kind that are live and gone, by task number, then arrival.
-    fn push_all_gone(
+    pub fn push_all_gone(
         &self,
         attempts: &mut Vec<AttemptId>,
         kind: TaskKind,
@@ -76,6 +80,115 @@ impl Machine {
             self.push_gone(attempts, task, gone)?;
         }
         Ok(())
+    }
+
+    // Whether the output of the attempt is lost.
+    fn is_lost(&self, attempt: AttemptId, gone: &Gone) -> bool
+        ensures { Reads self.now (λ w s. is_lost gone.now (reading.place_of w s attempt)) result }
+    {
+        match self.place(attempt) {
+            Some(place) => gone.lies(place.0, place.1),
+            None => false,
+        }
+    }
+
+    // Adds the task's Succeeded attempt, if its output is lost.
+    fn push_lost(
+        &self,
+        attempts: &mut Vec<AttemptId>,
+        task: TaskId,
+        gone: &Gone,
+    ) -> Result<(), AllocError>
+        ensures { OnOk result (Adds self.now attempts.old.items (λ w s. succeeded_where w s (λ a. is_lost gone.now (reading.place_of w s a)) task) attempts.new.items) }
+    {
+        if let Some(attempt) = self.succeeded(task) {
+            if self.is_lost(attempt, gone) {
+                attempts.push(attempt)?;
+            }
+        }
+        Ok(())
+    }
+
+    // Adds the maps' Succeeded attempts whose outputs are lost, by map number.
+    fn push_all_lost(&self, attempts: &mut Vec<AttemptId>, gone: &Gone) -> Result<(), AllocError>
+        ensures { OnOk result (Adds self.now attempts.old.items (λ w s. flat_map (lost_of w s gone.now) (all_maps w)) attempts.new.items) }
+    {
+        for number in 0..self.setting.maps {
+            let task = TaskId {
+                job: self.setting.job,
+                kind: TaskKind::Map,
+                number,
+            };
+            self.push_lost(attempts, task, gone)?;
+        }
+        Ok(())
+    }
+
+    // A node is known in this incarnation from then on, if it is a greater one. While Running, the attempts that were launched there in a lower one end,
+    // and the outputs that lay there are lost.
+    pub fn hear_node_up(&mut self, node: u32, incarnation: u32) -> Result<(), AllocError>
+        ensures moves { OnOk result (Moves self.old (λ w s. if is_over s.work then s else after_node_up w s node incarnation) self.new) }
+        ensures err { OnErr result (self.new ≡ self.old) }
+    {
+        if self.work.is_over() {
+            return Ok(());
+        }
+        if incarnation <= self.nodes.incarnation(node) {
+            return Ok(());
+        }
+        if self.work.is_running() {
+            self.restart(node, incarnation)
+        } else {
+            self.note_node(node, incarnation)
+        }
+    }
+
+    // The node is known in this incarnation from then on.
+    fn note_node(&mut self, node: u32, incarnation: u32) -> Result<(), AllocError>
+        ensures moves { OnOk result (Moves self.old (λ w s. with_known s node incarnation) self.new) }
+        ensures err { OnErr result (self.new ≡ self.old) }
+    {
+        self.nodes.note(node, incarnation)
+    }
+
+    // The same while Running.
+    fn restart(&mut self, node: u32, incarnation: u32) -> Result<(), AllocError>
+        ensures moves { OnOk result (Moves self.old (λ w s. with_known (after_restart w s node incarnation) node incarnation) self.new) }
+        ensures err { OnErr result (self.new ≡ self.old) }
+    {
+        let gone = Gone::Restarted(node, incarnation);
+        let dead = self.all_gone(&gone)?;
+        let lost = self.all_lost(&gone)?;
+        self.note_node(node, incarnation)?;
+        self.leave(&dead, &lost);
+        Ok(())
+    }
+
+    // The attempts at all tasks that are live and gone.
+    fn all_gone(&self, gone: &Gone) -> Result<Vec<AttemptId>, AllocError>
+        ensures { IfOk result (λ attempts. Reads self.now (λ w s. flat_map (gone_of w s gone.now) (all_tasks w)) attempts.items) }
+    {
+        let mut attempts = Vec::new(self.alloc);
+        self.push_all_gone(&mut attempts, TaskKind::Map, gone)?;
+        self.push_all_gone(&mut attempts, TaskKind::Reduce, gone)?;
+        Ok(attempts)
+    }
+
+    // The maps' Succeeded attempts whose outputs are lost.
+    pub fn all_lost(&self, gone: &Gone) -> Result<Vec<AttemptId>, AllocError>
+        ensures { IfOk result (λ attempts. Reads self.now (λ w s. flat_map (lost_of w s gone.now) (all_maps w)) attempts.items) }
+    {
+        let mut attempts = Vec::new(self.alloc);
+        self.push_all_lost(&mut attempts, gone)?;
+        Ok(attempts)
+    }
+
+    // Attempts end, and the outputs of others are lost.
+    pub fn leave(&mut self, dead: &[AttemptId], lost: &[AttemptId])
+        ensures { Moves self.old (λ w s. without w s dead.now lost.now) self.new }
+    {
+        self.tell_deaths(dead);
+        self.tell_losses(lost);
     }
 
     // The attempt ends, and that is no failure of it.

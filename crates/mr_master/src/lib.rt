@@ -7,6 +7,7 @@ mod duties;
 mod duty;
 mod earlier;
 mod ending;
+mod expiring;
 mod failing;
 mod flushing;
 mod gone;

@@ -1,0 +1,96 @@
+//! A node is given up.
+ghost use Rattle.std.specs.Prelude.{◌≡◌, ◌++◌, flat_map, None, IfOk, IfErr, OnOk, OnErr, unwrap_or};
+ghost use Rattle.mr_ids.specs.declared.id.TaskKind.TheVariants.{Map, Reduce};
+ghost use Rattle.mr_master_model.specs.Job.{first_tasks, count_of};
+ghost use Rattle.mr_master_model.specs.Readings.{expire_refusal};
+ghost use Rattle.mr_master_model.specs.Hearing.{expired, new_bars};
+ghost use Rattle.mr_master_model.specs.Sends.{kill_of};
+ghost use Rattle.mr_master_model.specs.Next.{with_kills};
+ghost use Rattle.mr_master.specs.declared.gone.Gone.TheVariants.{GivenUp};
+ghost use Rattle.mr_master.specs.Expiring.{kills_on};
+ghost use Rattle.mr_master.specs.Gone.{gone_of};
+ghost use Rattle.mr_master.specs.State.{Reads, Moves, Adds};
+
+use crate::bars::Bars;
+use crate::gone::Gone;
+use crate::launching::no_memory;
+use crate::machine::Machine;
+use mr_ids::{AttemptId, TaskKind};
+use mr_master_model::LaunchFault;
+use mr_packet::Envelope;
+use std::alloc::AllocError;
+
+impl Machine {
+    // Why the node is not given up, memory aside.
+    pub fn expire_refusal(&self, node: u32) -> Option<LaunchFault>
+        ensures { Reads self.now (λ w s. expire_refusal w s node) result }
+    {
+        if !self.work.is_running() {
+            return Some(LaunchFault::NotRunning);
+        }
+        if node >= self.setting.nodes {
+            return Some(LaunchFault::NoNode);
+        }
+        None
+    }
+
+    // Gives the node up, and gives the Kills that are sent.
+    pub fn give_up(&mut self, node: u32) -> Result<Vec<Envelope>, AllocError>
+        ensures sent { IfOk result (λ packets. Reads self.old (λ w s. kills_on w s node) packets.items) }
+        ensures moves { OnOk result (Moves self.old (λ w s. with_kills (kills_on w s node) (expired w s node)) self.new) }
+        ensures err { OnErr result (self.new ≡ self.old) }
+    {
+        let gone = Gone::GivenUp(node);
+        let dead = self.gone_of_kind(TaskKind::Map, &gone)?;
+        let lost = self.all_lost(&gone)?;
+        let packets = self.kills(&dead)?;
+        let bars = self.bars_after(node)?;
+        self.leave(&dead, &lost);
+        self.bars = bars;
+        self.launches.note(&packets);
+        Ok(packets)
+    }
+
+    // The attempts at the tasks of a kind that are live and gone.
+    fn gone_of_kind(&self, kind: TaskKind, gone: &Gone) -> Result<Vec<AttemptId>, AllocError>
+        ensures { IfOk result (λ attempts. Reads self.now (λ w s. flat_map (gone_of w s gone.now) (first_tasks w kind (count_of w kind))) attempts.items) }
+    {
+        let mut attempts = Vec::new(self.alloc);
+        self.push_all_gone(&mut attempts, kind, gone)?;
+        Ok(attempts)
+    }
+
+    // Kills to the containers of attempts.
+    fn kills(&self, attempts: &[AttemptId]) -> Result<Vec<Envelope>, AllocError>
+        ensures { IfOk result (λ packets. Reads self.now (λ w s. flat_map (kill_of w s) attempts.now) packets.items) }
+    {
+        let mut packets = Vec::new(self.alloc);
+        self.push_each_kill(&mut packets, attempts)?;
+        Ok(packets)
+    }
+
+    fn push_each_kill(
+        &self,
+        packets: &mut Vec<Envelope>,
+        attempts: &[AttemptId],
+    ) -> Result<(), AllocError>
+        ensures { OnOk result (Adds self.now packets.old.items (λ w s. flat_map (kill_of w s) attempts.now) packets.new.items) }
+    {
+        for i in 0..attempts.len() {
+            let attempt = attempts[i];
+            self.push_kill(packets, attempt)?;
+        }
+        Ok(())
+    }
+
+    // The bars that are due then: those of the reduces' live attempts on the node come last.
+    fn bars_after(&self, node: u32) -> Result<Bars, AllocError>
+        ensures { IfOk result (λ bars. Reads self.now (λ w s. s.bars ++ new_bars w s node) bars) }
+    {
+        let gone = Gone::GivenUp(node);
+        let late = self.gone_of_kind(TaskKind::Reduce, &gone)?;
+        let mut bars = self.bars.copy()?;
+        bars.add_all(&late)?;
+        Ok(bars)
+    }
+}
