@@ -23,3 +23,4 @@ pub mod Flushes
 pub mod Replies
 pub mod Losing
 pub mod Distinct
+pub mod Aborts

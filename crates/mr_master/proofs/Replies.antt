@@ -101,11 +101,11 @@ abbrev pub named_sends : Setting → Seen → Option DutyName → List Envelope
 named_sends w s None = []
 named_sends w s (Some n) = duty_sends w s n
 
-due-named : (w : Setting) (s : Seen) (d : Option Duty) → after_named w s (name_of d) ≡ after_due w s d
+pub due-named : (w : Setting) (s : Seen) (d : Option Duty) → after_named w s (name_of d) ≡ after_due w s d
 due-named w s None = refl
 due-named w s (Some d) = refl
 
-sends-named : (w : Setting) (s : Seen) (d : Option Duty) → named_sends w s (name_of d) ≡ due_sends w s d
+pub sends-named : (w : Setting) (s : Seen) (d : Option Duty) → named_sends w s (name_of d) ≡ due_sends w s d
 sends-named w s None = refl
 sends-named w s (Some d) = refl
 

@@ -1,8 +1,11 @@
 -- Kinds of work, and what the answer of a committer's call changes of one.
-use Rattle.std.specs.Prelude.{Bool, true, false, Option, Some, None, List, [], ◌∷◌, if◌then◌else◌}
+use Rattle.std.specs.Prelude.{Bool, true, false, Option, Some, None, Ok, Err, List, [], ◌∷◌, if◌then◌else◌}
 use Rattle.mr_commit.specs.Line.{Line, more_follow}
 use Rattle.mr_commit.specs.Recovery.{Recovery}
 use Rattle.mr_commit.specs.Recovery.Recovery.{Nowhere, Left}
+use Rattle.mr_names.specs.declared.fault.NameFault.TheVariants as names
+use Rattle.mr_master_model.specs.declared.store.StoreAnswer.{StoreAnswer}
+use Rattle.mr_master_model.specs.declared.store.StoreAnswer.TheVariants as answer
 use Rattle.mr_master_model.specs.declared.setting.Setting.{Setting}
 use Rattle.mr_master_model.specs.Readings.{Seen}
 use Rattle.mr_master_model.specs.Answered.{next_winner, winners}
@@ -54,6 +57,16 @@ ending _ = false
 abbrev pub is_ended : Work → Bool
 is_ended (Ends succeeded) = true
 is_ended _ = false
+
+-- ---- the abort of a job that failed: nothing to delete is well
+
+abbrev pub passes_abort : StoreAnswer → Bool
+passes_abort (answer.Names (Ok a)) = true
+passes_abort (answer.Names (Err names.Missing)) = true
+passes_abort _ = false
+
+abbrev pub aborted : StoreAnswer → Work
+aborted a = if passes_abort a then Ends false else Stops
 
 -- ---- a committer's table
 

@@ -1,6 +1,7 @@
 //! The machine of an application master: what it hears, which store call it makes next, what it launches, what it tells.
 #![tactic(auto)]
 
+mod aborting;
 mod answers;
 mod bars;
 mod duties;

@@ -62,7 +62,7 @@ impl Machine {
     }
 
     // Notes which containers are sent a Kill.
-    fn note(&mut self, packets: &[Envelope])
+    pub fn note(&mut self, packets: &[Envelope])
         ensures { Moves self.old (λ w s. with_kills packets.now s) self.new }
     {
         self.launches.note(packets);
