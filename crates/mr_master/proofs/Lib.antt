@@ -7,6 +7,7 @@ pub mod Standing
 pub mod Kills
 pub mod Ends
 pub mod Lying
+pub mod Delivering
 pub mod Answering
 pub mod Containers
 pub mod Incarnations

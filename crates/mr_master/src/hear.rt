@@ -2,9 +2,11 @@
 ghost use Rattle.std.specs.Prelude.{◌≡◌, true, [], IfOk, OnOk, OnErr, if◌then◌else◌};
 ghost use Rattle.mr_master_model.specs.declared.setting.Setting.{Setting};
 ghost use Rattle.mr_master_model.specs.Readings.{Seen, is_running, launch_of, launched_in};
-ghost use Rattle.mr_master_model.specs.Hearing.{after_failed, after_ended, heard};
-ghost use Rattle.mr_master_model.specs.Sends.{kill_all, replies};
-ghost use Rattle.mr_master.specs.State.{Keeps, Moves, Unchanged};
+ghost use Rattle.mr_master_model.specs.Hearing.{after_failed, after_ended, heard, delivered};
+ghost use Rattle.mr_master_model.specs.Sends.{replies};
+ghost use Rattle.mr_master_model.specs.Past.{Hears};
+ghost use Rattle.mr_master_model.specs.Next.{sent_by, with_kills};
+ghost use Rattle.mr_master.specs.State.{Keeps, Moves, Reads, Unchanged};
 ghost use Rattle.mr_master.specs.Ends.{kills_if_over};
 
 use crate::ending::Ending;
@@ -100,5 +102,48 @@ impl Machine {
             }
             _ => Ok(()),
         }
+    }
+}
+
+impl Machine {
+    // What is sent for a packet.
+    pub fn hear_packets(&self, packet: &Packet) -> Result<Vec<Envelope>, AllocError>
+        ensures { IfOk result (λ packets. Reads self.now (λ w s. sent_by w s (Hears packet.now)) packets.items) }
+    {
+        if !self.work.is_running() {
+            return Ok(Vec::new(self.alloc));
+        }
+        self.replies(packet)
+    }
+
+    // A packet is delivered, and its packets are sent.
+    pub fn hear(&mut self, packet: &Packet, packets: &[Envelope]) -> Result<(), AllocError>
+        ensures moves { OnOk result (Moves self.old (λ w s. with_kills packets.now (delivered w s packet.now)) self.new) }
+        ensures err { OnErr result (Moves self.old (λ w s. s) self.new) }
+    {
+        self.deliver(packet)?;
+        self.launches.note(packets);
+        Ok(())
+    }
+
+    // NodeUp is heard in each phase but Ended and Stopped, all else while Running.
+    fn deliver(&mut self, packet: &Packet) -> Result<(), AllocError>
+        ensures moves { OnOk result (Moves self.old (λ w s. delivered w s packet.now) self.new) }
+        ensures err { OnErr result (Moves self.old (λ w s. s) self.new) }
+    {
+        match packet {
+            Packet::NodeUp { n, incarnation } => self.hear_node_up(*n, *incarnation),
+            _ => self.hear_if_running(packet),
+        }
+    }
+
+    fn hear_if_running(&mut self, packet: &Packet) -> Result<(), AllocError>
+        ensures moves { OnOk result (Moves self.old (λ w s. if is_running s.work then heard w s packet.now else s) self.new) }
+        ensures err { OnErr result (Moves self.old (λ w s. s) self.new) }
+    {
+        if !self.work.is_running() {
+            return Ok(());
+        }
+        self.hear_running(packet)
     }
 }

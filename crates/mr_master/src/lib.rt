@@ -1,4 +1,12 @@
 //! The machine of an application master: what it hears, which store call it makes next, what it launches, what it tells.
+//!
+//! `MasterMachine` stands for a past, a list of steps: packets that were heard, launches, expiries, answers of store calls. What it
+//! stores is what is read off that past by the words of `mr_master_model`, part by part (`specs/State.antt`), and each public call
+//! promises the past that it stands for then, and that what it answers or sends is what is read off the past before.
+//!
+//! Whoever runs a master keeps the bag. Of a packet: `hear_packets` first, which changes nothing and gives exactly the packets that will
+//! be sent; then room in the bag; then `hear` with those packets, whose only fault is want of memory, after which the master stands for
+//! what it stood for; then the packets are pushed, which takes no memory. Of a launch: room for one packet first, then `launch`.
 #![tactic(auto)]
 
 mod aborting;

@@ -1,7 +1,7 @@
 ghost use Rattle.std.specs.Prelude.{◌≡◌, [], ◌∷◌, None, IfOk, IfErr, OnOk, OnErr, unwrap_or};
 ghost use Rattle.mr_master.specs.State.{StandsFor, StandsForSome, Stands, StandsStill, Answers};
 ghost use Rattle.mr_master_model.specs.Duty.{duty};
-ghost use Rattle.mr_master_model.specs.Past.{Launches, phase_of};
+ghost use Rattle.mr_master_model.specs.Past.{Launches, Hears, phase_of};
 ghost use Rattle.mr_master_model.specs.Readings.{launch_refusal, wanted};
 ghost use Rattle.mr_master_model.specs.Next.{seen, sent};
 
@@ -9,7 +9,7 @@ use crate::duty::Duty;
 use crate::machine::Machine;
 use mr_ids::TaskId;
 use mr_master_model::{LaunchFault, Phase, Setting};
-use mr_packet::Envelope;
+use mr_packet::{Envelope, Packet};
 use mr_task::TaskFault;
 use std::alloc::{AllocError, Global};
 use std::marker::Model;
@@ -87,5 +87,30 @@ impl MasterMachine {
         ensures { Answers self.now (λ w past. wanted w (seen w past)) result }
     {
         self.machine.wanted()
+    }
+
+    /// What is sent once this packet is heard, in order; nothing while the master is not Running. It changes nothing. Where memory is
+    /// refused: an error.
+    ///
+    /// Whoever keeps the bag makes room for these packets, then has the packet heard (`hear`), then pushes them.
+    pub fn hear_packets(&self, packet: &Packet) -> Result<Vec<Envelope>, AllocError>
+        ensures { IfOk result (λ packets. Answers self.now (λ w past. sent w past (Hears packet.now)) packets.items) }
+    {
+        let packets = self.machine.hear_packets(packet)?;
+        Ok(packets)
+    }
+
+    /// Hears a packet, for which these packets are sent: what `hear_packets` gives.
+    ///
+    /// While Running every packet of an attempt, container or node is heard, in each other phase but Ended and Stopped only `NodeUp`;
+    /// what is told of an attempt or container that is not known is not heard. Where memory is refused: an error, and the master stands
+    /// for what it stood for.
+    pub fn hear(&mut self, packet: &Packet, packets: &[Envelope]) -> Result<(), AllocError>
+        requires { Answers self.old (λ w past. sent w past (Hears packet.now)) packets.now }
+        ensures stands { OnOk result (Stands self.old (Hears packet.now) self.new) }
+        ensures unchanged { OnErr result (StandsStill self.old self.new) }
+    {
+        self.machine.hear(packet, packets)?;
+        Ok(())
     }
 }
