@@ -25,3 +25,4 @@ pub mod Replies
 pub mod Losing
 pub mod Distinct
 pub mod Aborts
+pub mod GivenUp

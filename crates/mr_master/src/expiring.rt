@@ -7,7 +7,7 @@ ghost use Rattle.mr_master_model.specs.Hearing.{expired, new_bars};
 ghost use Rattle.mr_master_model.specs.Sends.{kill_of};
 ghost use Rattle.mr_master_model.specs.Next.{with_kills};
 ghost use Rattle.mr_master.specs.declared.gone.Gone.TheVariants.{GivenUp};
-ghost use Rattle.mr_master.specs.Expiring.{kills_on};
+ghost use Rattle.mr_master.specs.Expiring.{kills_on, HasExpired};
 ghost use Rattle.mr_master.specs.Gone.{gone_of};
 ghost use Rattle.mr_master.specs.State.{Reads, Moves, Adds};
 
@@ -18,6 +18,7 @@ use crate::machine::Machine;
 use mr_ids::{AttemptId, TaskKind};
 use mr_master_model::LaunchFault;
 use mr_packet::Envelope;
+use mr_task::TaskFault;
 use std::alloc::AllocError;
 
 impl Machine {
@@ -34,8 +35,23 @@ impl Machine {
         None
     }
 
+    // Gives the node up, and gives the packets that are sent.
+    pub fn expire(&mut self, node: u32) -> Result<Vec<Envelope>, LaunchFault>
+        ensures expired { IfOk result (λ packets. HasExpired self.old node packets.items self.new) }
+        ensures refused { IfErr result (λ fault. Reads self.old (λ w s. unwrap_or (expire_refusal w s node) (LaunchFault.Task TaskFault.NoMemory)) fault) }
+        ensures unchanged { OnErr result (self.new ≡ self.old) }
+    {
+        if let Some(fault) = self.expire_refusal(node) {
+            return Err(fault);
+        }
+        match self.give_up(node) {
+            Ok(packets) => Ok(packets),
+            Err(_) => Err(no_memory()),
+        }
+    }
+
     // Gives the node up, and gives the Kills that are sent.
-    pub fn give_up(&mut self, node: u32) -> Result<Vec<Envelope>, AllocError>
+    fn give_up(&mut self, node: u32) -> Result<Vec<Envelope>, AllocError>
         ensures sent { IfOk result (λ packets. Reads self.old (λ w s. kills_on w s node) packets.items) }
         ensures moves { OnOk result (Moves self.old (λ w s. with_kills (kills_on w s node) (expired w s node)) self.new) }
         ensures err { OnErr result (self.new ≡ self.old) }

@@ -1,8 +1,8 @@
 ghost use Rattle.std.specs.Prelude.{◌≡◌, [], ◌∷◌, None, IfOk, IfErr, OnOk, OnErr, unwrap_or};
 ghost use Rattle.mr_master.specs.State.{StandsFor, StandsForSome, Stands, StandsStill, Answers};
 ghost use Rattle.mr_master_model.specs.Duty.{duty};
-ghost use Rattle.mr_master_model.specs.Past.{Launches, Hears, phase_of};
-ghost use Rattle.mr_master_model.specs.Readings.{launch_refusal, wanted};
+ghost use Rattle.mr_master_model.specs.Past.{Launches, Hears, Expires, phase_of};
+ghost use Rattle.mr_master_model.specs.Readings.{launch_refusal, expire_refusal, wanted};
 ghost use Rattle.mr_master_model.specs.Next.{seen, sent};
 
 use crate::duty::Duty;
@@ -112,5 +112,21 @@ impl MasterMachine {
     {
         self.machine.hear(packet, packets)?;
         Ok(())
+    }
+
+    /// Gives a node up whose containers may still run, and gives the packets that are sent: a Kill to the container of each live attempt of
+    /// a map there, by map number, then arrival. These attempts end, the outputs of the Succeeded maps there count as lost, and of each
+    /// live attempt of a reduce there a bar is due, if none was. Launches on the node go on.
+    ///
+    /// Refusals in order: `NotRunning`, `NoNode`, and `Task(NoMemory)` where memory is refused. A refusal changes nothing.
+    pub fn expire(&mut self, node: u32) -> Result<Vec<Envelope>, LaunchFault>
+        ensures sent { IfOk result (λ packets. Answers self.old (λ w past. sent w past (Expires node)) packets.items) }
+        ensures stands { OnOk result (Stands self.old (Expires node) self.new) }
+        ensures allowed { OnOk result (Answers self.old (λ w past. expire_refusal w (seen w past) node) None) }
+        ensures refused { IfErr result (λ fault. Answers self.old (λ w past. unwrap_or (expire_refusal w (seen w past) node) (LaunchFault.Task TaskFault.NoMemory)) fault) }
+        ensures unchanged { OnErr result (self.new ≡ self.old) }
+    {
+        let packets = self.machine.expire(node)?;
+        Ok(packets)
     }
 }
