@@ -126,7 +126,7 @@ young-hears _ e = absurd (false≢true e)
 
 -- ---- the calls that are due then
 
-abbrev Mute : Store → Type 0
+abbrev pub Mute : Store → Type 0
 Mute (Names op) = bar_of op ≡ None
 Mute Read_history = Unit {0}
 Mute Flush = ⊥
@@ -144,7 +144,7 @@ mark-mute (suc zero) = refl
 mark-mute (suc (suc zero)) = refl
 mark-mute (suc (suc (suc n))) = tt
 
-mute : (cfg : Config) (k : ℕ) (s : Seen) (p : Phase) (call : Store) → has_not_run p ≡ true → CanBe p → duty_of cfg k s p ≡ Some call → Mute call
+pub mute : (cfg : Config) (k : ℕ) (s : Seen) (p : Phase) (call : Store) → has_not_run p ≡ true → CanBe p → duty_of cfg k s p ≡ Some call → Mute call
 unfolding duty_of
 mute cfg k s (Opening n) call y o d = subst Mute (some-is (mark_at n) call d) (mark-mute n)
 mute cfg k s Setting_up call y o d = subst Mute (some-is _ call d) refl

@@ -11,3 +11,4 @@ pub mod Recorded
 pub mod Bars
 pub mod Points
 pub mod Alike
+pub mod Begins

@@ -37,7 +37,7 @@ running-late : (p : Phase) → is_running p ≡ true → has_not_run p ≡ true 
 running-late Running e f = false≢true f
 running-late p e f = false≢true e
 
-before : (cfg : Config) (k : ℕ) (s : Seen) (x : Master_step) → IsMade cfg k s x → has_not_run (next_seen cfg k s x).phase ≡ true → has_not_run s.phase ≡ true
+pub before : (cfg : Config) (k : ℕ) (s : Seen) (x : Master_step) → IsMade cfg k s x → has_not_run (next_seen cfg k s x).phase ≡ true → has_not_run s.phase ≡ true
 before cfg k s (Came p) o y = by (came-phase cfg k s p)
   where
     by : ((next_seen cfg k s (Came p)).phase ≡ s.phase) ⊎ ((is_running s.phase ≡ true) × ((next_seen cfg k s (Came p)).phase ≡ Failing false)) → has_not_run s.phase ≡ true

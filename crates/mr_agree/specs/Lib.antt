@@ -4,3 +4,4 @@ pub mod Agreement
 pub mod Recorded
 pub mod Points
 pub mod Alike
+pub mod Begins

@@ -11,6 +11,8 @@
 //!   answer leads both to the same (`turns_agree`);
 //! - until a master runs: its phase, its next store call and what it sends at its next step are its machine's
 //!   (`acts_until_it_runs`);
+//! - where it begins to run: no task was told anything before, and of each map the same attempt is taken over
+//!   (`beginnings_agree`);
 //! - at every point of a past: a machine whose tasks have heard alike has the master's phase, next store call, refusals
 //!   of launches and expiries, and next attempt (`points_agree`), for which a reduce is Succeeded exactly where the
 //!   master recorded one of it or read its winner (`reduces_are_recorded`);
@@ -21,6 +23,7 @@
 #![tactic(auto)]
 
 ghost use Rattle.mr_agree.specs.Alike.{TasksStayAlike};
+ghost use Rattle.mr_agree.specs.Begins.{BeginningsAgree};
 ghost use Rattle.mr_agree.specs.Points.{PointsAgree};
 ghost use Rattle.mr_agree.specs.Recorded.{ReducesAreRecorded};
 ghost use Rattle.mr_agree.specs.Agreement.{ActsUntilItRuns, TurnsAgree};
@@ -50,4 +53,9 @@ pub fn points_agree()
 /// of what is not recorded, changes nothing.
 pub fn tasks_stay_alike()
     ensures { TasksStayAlike }
+{}
+
+/// Until a master runs, its past tells no task anything; and of each map the master and its machine take the same attempt over.
+pub fn beginnings_agree()
+    ensures { BeginningsAgree }
 {}
