@@ -1,11 +1,9 @@
 -- Where a master begins to run, the tasks of its machine have heard alike.
-use Rattle.std.proofs.Common.{ℕ, zero, suc, ◌-◌, ◌≡◌, refl, sym, ◌∙◌, ap, subst, Bool, true, false, ◌&&◌, ◌||◌, not, List, [], ◌∷◌, ◌++◌, Option, Some, None, if◌then◌else◌, is_some, is_none, nat_eq, nat_lt, nat_le, ◌⊎◌, inl, inr, append-nil}
-use Rattle.std.proofs.lemmas.Bool.{false≢true, true≢false}
+use Rattle.std.proofs.Common.{ℕ, ◌≡◌, refl, sym, ◌∙◌, ap, subst, Bool, true, false, ◌&&◌, not, List, [], ◌∷◌, Option, Some, None, if◌then◌else◌, nat_lt, inl, inr}
+use Rattle.std.proofs.lemmas.Bool.{false≢true}
 use Rattle.mr_ids.specs.Attempt.{Attempt}
 use Rattle.mr_ids.specs.Same.{same_task}
 use Rattle.mr_ids.specs.declared.id.TaskId.{TaskId}
-use Rattle.mr_ids.specs.declared.id.TaskKind.{TaskKind}
-use Rattle.mr_ids.specs.declared.id.TaskKind.TheVariants.{Map, Reduce}
 use Rattle.mr_history.specs.declared.record.Record.{Record}
 use Rattle.mr_history.specs.declared.record.Record.TheVariants.{AttemptStarted, MapSucceeded, ReduceSucceeded, AttemptFailed, JobUnsuccessful}
 use Rattle.mr_task.specs.Calls as task_call
@@ -18,27 +16,15 @@ use Rattle.mr_model.specs.Hearing.{Placed}
 use Rattle.mr_model.specs.Duties.{newest_maps, attempts_of, without_task}
 use Rattle.mr_model.specs.Claims.{In}
 use Rattle.mr_model.specs.Calls.{Calls, tell, tell_each}
-use Rattle.mr_model.proofs.Names.{task_eq-true, task_eq-refl}
-use Rattle.mr_agree.proofs.Early.{same_sym}
-use Rattle.mr_master_model.specs.declared.setting.Setting.{Setting}
-use Rattle.mr_master_model.specs.Job as job
-use Rattle.mr_master_model.specs.Hearing.{of_maps}
-use Rattle.mr_master_model.specs.Answered.{taken_of, with_maps, with_work, after_answer}
-use Rattle.mr_master_model.specs.Sends.{answer_sends, killed_by}
-use Rattle.mr_master_model.specs.Next as next
-use Rattle.mr_task.specs.Readings as task
-use Rattle.mr_model.specs.Packets.{Config, Store, Names, Append_record, Flush, Read_history, Reply}
-use Rattle.mr_model.specs.Content.{bar_of}
-use Rattle.mr_model.specs.Hearing.{Seen, Phase, Opening, Setting_up, Recovering, Running, Committing, Failing, Finished, Stopped, Todo_winner, Recover_step, Look_below, Measure, Clear_own, Move_from, is_running}
-use Rattle.mr_model.specs.Duties.{Master_step, Came, Launches, Expires, Asks, seen, next_seen, told, phase_told, duty_of, is_fine, is_read, worked, with_read, looked, was_read, recover_rest, recovering, recover_call, mark_at}
-use Rattle.mr_model.specs.Calls.{calls_heard, calls, next_calls, calls_told, calls_phased, calls_worked, tell_barred, winning, TakenEarlier, of_task, AllFit}
+use Rattle.mr_model.proofs.Names.{task_eq-true}
+use Rattle.mr_model.specs.Packets.{Config, Store, Names, Append_record, Flush, Read_history}
+use Rattle.mr_model.specs.Hearing.{Seen, Phase, is_running}
+use Rattle.mr_model.specs.Duties.{Master_step, Came, Launches, Expires, Asks, seen, next_seen, phase_told, duty_of, is_fine, worked, with_read}
+use Rattle.mr_model.specs.Calls.{calls_heard, calls, next_calls, calls_phased, calls_worked, tell_barred, winning}
 use Rattle.mr_model.specs.Claims.{has_not_run}
 use Rattle.mr_model.specs.Made.{IsMade, AllMade}
-use Rattle.mr_model.proofs.Made.{all-fit}
 use Rattle.mr_model.proofs.Masters.{told-phase}
-use Rattle.mr_agree.specs.Steps.{setting, answer_of, step_of}
-use Rattle.mr_agree.specs.Agreement.{machine_seen}
-use Rattle.mr_agree.proofs.Early.{Early, early_seen, early_machine, no_calls, recovered, Taken, Mute, mute, young-runs}
+use Rattle.mr_agree.proofs.Early.{early_seen, Mute, mute, young-runs}
 use Rattle.mr_agree.proofs.Until.{until, before}
 use Rattle.mr_agree.specs.Begins.{attempts_in, BeginningsAgree}
 
