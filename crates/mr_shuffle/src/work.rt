@@ -26,6 +26,7 @@ use std::alloc::{AllocError, Global};
 /// `Shuffle(Disorder)` where a key of a piece is less than the one before it, whichever is the first in the order of the
 /// pieces and then of the bytes; `Full` where the text would be longer than `MAX_OUTPUT_LEN`; and `NoMemory` only where a
 /// growth was refused, the pieces being in place. It never answers `User`. For n pairs it compares keys n log n times.
+/// It reads the pieces through once, and then holds one decoded pair of each beside the values of the one key that is reduced.
 pub fn reduce_work<J: Job, G: Gate>(
     alloc: Global,
     job: &J,
