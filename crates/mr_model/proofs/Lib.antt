@@ -40,6 +40,7 @@ pub mod Told_yes
 pub mod Reports
 pub mod Own
 pub mod Dirs
+pub mod Winners
 pub mod Fates
 pub mod Reaching
 pub mod Marks
@@ -64,9 +65,12 @@ pub mod Stores
 pub mod Due
 pub mod Living
 pub mod Failures
+pub mod Agree_steps
 pub mod Agree
+pub mod Reduce_won
 pub mod Wins
 pub mod Standing
+pub mod Map_steps
 pub mod Maps
 pub mod Entries
 pub mod Small

@@ -1,24 +1,23 @@
 -- Each step of a master's past is what an event makes, so all launches and all that is taken over fit.
-use Rattle.std.proofs.Common.{ℕ, zero, suc, ◌+◌, ◌-◌, ◌*◌, ◌≤◌, ◌<◌, ◌≡◌, refl, sym, ◌∙◌, ap, subst, Bool, true, false, ◌&&◌, not, List, [], ◌∷◌, ◌++◌, Option, Some, None, if◌then◌else◌, is_some, nat_eq, nat_lt, nat_le, ◌⊎◌, inl, inr, arith, slice_get}
-use Rattle.std.proofs.lemmas.Bool.{and_parts, false≢true, eqb-true, ltb-true}
+use Rattle.std.proofs.Common.{ℕ, zero, suc, ◌+◌, ◌-◌, ◌*◌, ◌≤◌, ◌<◌, ◌≡◌, refl, sym, ap, subst, Bool, true, false, ◌&&◌, not, List, [], ◌∷◌, ◌++◌, Option, Some, None, if◌then◌else◌, is_some, nat_eq, nat_lt, nat_le, ◌⊎◌, inl, inr, arith, slice_get}
+use Rattle.std.proofs.lemmas.Bool.{and_parts, eqb-true, ltb-true}
 use Rattle.std.proofs.lemmas.Bool.Decides.{nat_tests}
 use Rattle.mr_task.specs.Readings as task
-use Rattle.mr_model.specs.Ids.{Attempt, ContainerId, TaskId, JobId, is_reduce, of_reduces, task_eq, reduce_of, same_job, attempt_eq}
+use Rattle.mr_model.specs.Ids.{Attempt, ContainerId, TaskId, JobId, is_reduce, of_reduces, task_eq, reduce_of, same_job}
 use Rattle.mr_model.specs.Records.{Record, History, AttemptStarted, MapSucceeded, ReduceSucceeded, AttemptFailed, JobUnsuccessful, records_below, as_written, winner_in, length_in}
 use Rattle.mr_model.specs.Content.{Content, Op, NameFault, refusal, bar_of, MkDirs, Create, Append, Close, Delete, Rename, ListDir, Exist, Read, Bar}
-use Rattle.mr_model.specs.Packets.{Config, Packet, Envelope, Store, Names, Append_record, Flush, Read_history, Reply, Refused, Fault}
+use Rattle.mr_model.specs.Packets.{Config, Packet, Store, Names, Append_record, Flush, Read_history, Reply}
 use Rattle.mr_model.specs.Hearing.{Seen, Phase, Launched, Placed, Todo_winner, Commit_step, Recover_step, Merge_step, Opening, Setting_up, Recovering, Running, Committing, Failing, Finished, Stopped, Look_below, Measure, Clear_own, Move_from, List_job, Merging, Cleaning, Marking, Succeeding, Failing_mark, Aborting, Look_at, List_into, Delete_then, Move_to, has, find_launched, may_accept, is_live, is_won, failures, over_with, ended_by, after_end, after_ended, end_there, success_record, heard, only_known, is_running, find_container, can_hear}
-use Rattle.mr_model.specs.Duties.{Master_step, Came, Launches, Expires, Asks, worked, rest_of, with_phase, with_read, is_read, is_fine, told, phase_told, next_seen, seen, opening, duty_of, records_of, winners_of, one_winner, newest_maps, without_task, attempts_of, bar_call, first_bar, record_call, recover_call, commit_call, merge_call, mark_at, wants_flush, all_won}
+use Rattle.mr_model.specs.Duties.{Master_step, Came, Launches, Expires, Asks, worked, rest_of, with_phase, with_read, is_read, is_fine, told, phase_told, next_seen, seen, duty_of, records_of, winners_of, one_winner, newest_maps, without_task, attempts_of, bar_call, first_bar, record_call, recover_call, commit_call, merge_call, mark_at, wants_flush, all_won}
 use Rattle.mr_model.specs.World.{World, Event, Start, Crash, Duty, LaunchOn, Deliver, ContainerStep, Compute, Die, NodeRestart, Expire, Weather, Calm, Unavailable, Unanswered, Master_act, master_act, duty_act, duty, seen_by, launch_of, count_of, reply_of, own_reply, unless_refused, names_answer, reply_under, opening_world}
 use Rattle.mr_model.specs.Effect.{effect, not_now, is_task, tasks_of, task_fault, live_count, Task, AlreadyWon, TooManyLive, TooManyAttempts, with_master_step}
-use Rattle.mr_model.specs.Claims.{In, Limits, world_of}
-use Rattle.mr_model.specs.Calls.{Calls, AllFit, AllOfJob, Fits, IsOfJob, TakenEarlier, TakenHere, AppendsDue, winning, calls}
+use Rattle.mr_model.specs.Claims.{In}
+use Rattle.mr_model.specs.Calls.{AllFit, AllOfJob, Fits, IsOfJob, TakenEarlier, TakenHere, AppendsDue, winning, calls}
 use Rattle.mr_model.specs.Made.{BelongsTo, TellsOf, IsMade, AllMade, PastsAreMade}
 use Rattle.mr_model.proofs.Basic.{if_cases, unless_parts, along}
-use Rattle.mr_model.proofs.Lists.{Each, Each-append, Each-In, Each-by, In-left, In-right, In-parts, found_launched, attempt_eq-true}
-use Rattle.mr_model.proofs.Names.{task_eq-true, task_eq-false, same_job-true}
+use Rattle.mr_model.proofs.Lists.{Each, Each-append, Each-In, Each-by, In-left, In-parts, found_launched}
+use Rattle.mr_model.proofs.Names.{task_eq-true, same_job-true}
 use Rattle.mr_model.proofs.Closed.{expired-by, bar-by}
-use Rattle.mr_model.proofs.Grows.{Aged, aged, opening_aged}
 use Rattle.mr_model.proofs.Numbers.{Numbers, numbers, opening-numbers}
 use Rattle.mr_model.proofs.Allowed.{permits}
 use Rattle.mr_model.proofs.Told.{Stores, StoredOrDue, stores_after, is_allowed, came_act-is}

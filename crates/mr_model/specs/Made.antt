@@ -3,7 +3,7 @@ use Rattle.std.specs.Prelude.{◌≡◌, ℕ, ◌-◌, ◌*◌, ◌≤◌, ◌<�
 use Rattle.mr_model.specs.Ids.{Attempt, is_reduce}
 use Rattle.mr_model.specs.Records.{Record, AttemptStarted, MapSucceeded, ReduceSucceeded, AttemptFailed, JobUnsuccessful}
 use Rattle.mr_model.specs.Packets.{Config}
-use Rattle.mr_model.specs.Hearing.{Seen, Launched, is_running}
+use Rattle.mr_model.specs.Hearing.{Seen, is_running}
 use Rattle.mr_model.specs.Duties.{Master_step, Came, Launches, Expires, Asks, seen, duty_of, records_of}
 use Rattle.mr_model.specs.World.{Event, launch_of}
 use Rattle.mr_model.specs.Effect.{is_task, task_fault}
