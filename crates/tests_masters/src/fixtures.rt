@@ -1,0 +1,78 @@
+//! What the tests begin with.
+
+use mr_ids::{AppAttempt, AttemptId, JobId, TaskId, TaskKind};
+use mr_master::MasterMachine;
+use mr_master_model::Setting;
+use mr_packet::{ContainerId, Packet};
+use mr_paths::{Layout, Path, PathFault};
+use std::alloc::Global;
+use std::process::Abort;
+
+/// The job of the tests.
+pub fn job() -> JobId {
+    JobId {
+        start: 200707121733,
+        number: 3,
+    }
+}
+
+/// The task of this kind and number.
+pub fn task(kind: TaskKind, number: u32) -> TaskId {
+    TaskId {
+        job: job(),
+        kind,
+        number,
+    }
+}
+
+/// The first attempt of the first master at a task.
+pub fn attempt(rt: &impl Abort, task: TaskId) -> AttemptId {
+    match AttemptId::new(task, 0) {
+        Some(attempt) => attempt,
+        None => panic!(rt; "no attempt has the number 0"),
+    }
+}
+
+/// The generation of the first master.
+pub fn first(rt: &impl Abort) -> AppAttempt {
+    match AppAttempt::new(1) {
+        Some(app) => app,
+        None => panic!(rt; "no application attempt 1"),
+    }
+}
+
+/// The container 0 of the first master.
+pub fn container(rt: &impl Abort) -> ContainerId {
+    ContainerId {
+        app: first(rt),
+        number: 0,
+    }
+}
+
+/// The first master of a job of one map and one reduce on two nodes, with its output at `/out`.
+pub fn master(rt: &impl Abort, alloc: Global) -> MasterMachine {
+    let dest = match Path::parse(alloc, "/out") {
+        Ok(dest) => dest,
+        Err(PathFault::NoMemory) => panic!(rt; "no memory"),
+        Err(PathFault::BadName) => panic!(rt; "/out is no path"),
+    };
+    let setting = Setting {
+        app: first(rt),
+        job: job(),
+        maps: 1,
+        reduces: 1,
+        nodes: 2,
+        limit: 4,
+        layout: Layout { dest },
+    };
+    MasterMachine::new(alloc, setting).expect(rt, "no memory")
+}
+
+/// The master hears a packet. Gives how many packets are sent for it.
+pub fn hears(rt: &impl Abort, master: &mut MasterMachine, packet: &Packet) -> usize {
+    let packets = master.hear_packets(packet).expect(rt, "no memory");
+    if master.hear(packet, &packets).is_err() {
+        panic!(rt; "no memory");
+    }
+    packets.len()
+}

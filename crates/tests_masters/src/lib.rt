@@ -1,0 +1,7 @@
+//! Tests of masters.
+#![tactic(auto)]
+
+#[cfg(test)]
+mod fixtures;
+#[cfg(test)]
+mod opening;
