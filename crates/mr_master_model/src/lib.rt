@@ -2,7 +2,7 @@
 //!
 //! # What is proved
 //!
-//! No machine yet: definitions, and laws on functions that do nothing. A past is a list of steps (a packet
+//! Definitions (the machine is `mr_master`), and laws on functions that do nothing. A past is a list of steps (a packet
 //! delivered, a launch, an expiry, an answered store call). `seen w past` is what a master has seen, `duty` its
 //! next store call with its name, `sent` the packets of a step, `wanted` the task that it would launch next,
 //! `launch_refusal` and `expire_refusal` why it does not. Proved, for every past: a task is only ever told more, so
