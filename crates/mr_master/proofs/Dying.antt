@@ -18,10 +18,10 @@ use Rattle.mr_master.proofs.Keeping.{tell-keeps}
 abbrev with_calls : Seen → (TaskId → List TaskCall) → Seen
 with_calls s calls = record s { calls = calls }
 
-one-told : (w : Setting) (call : Attempt → TaskCall) (a : Attempt) (calls : TaskId → List TaskCall) → is_task w a.task ≡ true → told a.task (call a) calls ≡ told_one w call a calls
+pub one-told : (w : Setting) (call : Attempt → TaskCall) (a : Attempt) (calls : TaskId → List TaskCall) → is_task w a.task ≡ true → told a.task (call a) calls ≡ told_one w call a calls
 one-told w call a calls e = λ j u. if (sym e j && same_task u a.task) then call a ∷ calls u else calls u
 
-none-told : (w : Setting) (call : Attempt → TaskCall) (a : Attempt) (calls : TaskId → List TaskCall) → is_task w a.task ≡ false → calls ≡ told_one w call a calls
+pub none-told : (w : Setting) (call : Attempt → TaskCall) (a : Attempt) (calls : TaskId → List TaskCall) → is_task w a.task ≡ false → calls ≡ told_one w call a calls
 none-told w call a calls e = λ j u. if (sym e j && same_task u a.task) then call a ∷ calls u else calls u
 
 -- one of the job's, at its place
@@ -36,7 +36,7 @@ other-keeps {m} w s call a e k = subst (λ (calls : TaskId → List TaskCall). K
 
 -- ---- one more, and all
 
-told-more : (w : Setting) (call : Attempt → TaskCall) (xs : List Attempt) (a : Attempt) (calls : TaskId → List TaskCall) → told_all w call (xs ++ a ∷ []) calls ≡ told_one w call a (told_all w call xs calls)
+pub told-more : (w : Setting) (call : Attempt → TaskCall) (xs : List Attempt) (a : Attempt) (calls : TaskId → List TaskCall) → told_all w call (xs ++ a ∷ []) calls ≡ told_one w call a (told_all w call xs calls)
 told-more w call [] a calls = refl
 told-more w call (x ∷ xs) a calls = told-more w call xs a (told_one w call x calls)
 

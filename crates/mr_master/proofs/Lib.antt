@@ -25,4 +25,7 @@ pub mod Replies
 pub mod Losing
 pub mod Distinct
 pub mod Aborts
+pub mod Steps
+pub mod Taken
+pub mod Called
 pub mod GivenUp

@@ -1,5 +1,5 @@
 -- What comes of an answer: of a look at a path, and of a committer's call.
-use Rattle.std.specs.Prelude.{Result, Ok, Err}
+use Rattle.std.specs.Prelude.{Bool, true, false, Result, Ok, Err}
 use Rattle.mr_commit.specs.declared.fault.CommitFault.{CommitFault}
 use Rattle.mr_commit.specs.declared.fault.StepDone.{StepDone}
 use Rattle.mr_commit.specs.declared.fault.StepDone.TheVariants as done
@@ -19,3 +19,7 @@ abbrev pub heard_as : Result StepDone CommitFault → Heard
 heard_as (Ok done.More) = heard.More
 heard_as (Ok done.Finished) = heard.Finished
 heard_as (Err f) = heard.Refused
+
+abbrev pub has_finished : Heard → Bool
+has_finished heard.Finished = true
+has_finished _ = false

@@ -3,6 +3,7 @@ use Rattle.std.specs.Prelude.{Bool, true, false, Option, Some, None, Ok, Err, Li
 use Rattle.mr_commit.specs.Line.{Line, more_follow}
 use Rattle.mr_commit.specs.Recovery.{Recovery}
 use Rattle.mr_commit.specs.Recovery.Recovery.{Nowhere, Left}
+use Rattle.mr_history.specs.declared.record.Record.{Record}
 use Rattle.mr_names.specs.declared.fault.NameFault.TheVariants as names
 use Rattle.mr_master_model.specs.declared.store.StoreAnswer.{StoreAnswer}
 use Rattle.mr_master_model.specs.declared.store.StoreAnswer.TheVariants as answer
@@ -25,6 +26,11 @@ fails_as _ = None
 abbrev pub is_read : Work → Bool
 is_read Reads = true
 is_read _ = false
+
+-- what was read
+abbrev pub records_in : StoreAnswer → Option (List Record)
+records_in (answer.Told rs) = Some rs
+records_in _ = None
 
 -- ---- looks for marks
 

@@ -15,3 +15,4 @@ pub mod Answering
 pub mod Launching
 pub mod Leaving
 pub mod Expiring
+pub mod Taking

@@ -24,6 +24,8 @@
 #![tactic(auto)]
 
 mod aborting;
+mod advancing;
+
 mod answers;
 mod bars;
 mod duties;
@@ -48,9 +50,12 @@ mod ops;
 mod packets;
 mod places;
 mod progress;
+mod reading;
 mod records;
+mod replying;
 mod running;
 mod store;
+mod taking;
 mod tasks;
 mod wanting;
 mod work;

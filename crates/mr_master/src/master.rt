@@ -1,14 +1,14 @@
 ghost use Rattle.std.specs.Prelude.{◌≡◌, [], ◌∷◌, None, IfOk, IfErr, OnOk, OnErr, unwrap_or};
 ghost use Rattle.mr_master.specs.State.{StandsFor, StandsForSome, Stands, StandsStill, Answers};
 ghost use Rattle.mr_master_model.specs.Duty.{duty};
-ghost use Rattle.mr_master_model.specs.Past.{Launches, Hears, Expires, phase_of};
+ghost use Rattle.mr_master_model.specs.Past.{Launches, Hears, Expires, Answered, phase_of};
 ghost use Rattle.mr_master_model.specs.Readings.{launch_refusal, expire_refusal, wanted};
 ghost use Rattle.mr_master_model.specs.Next.{seen, sent};
 
 use crate::duty::Duty;
 use crate::machine::Machine;
 use mr_ids::TaskId;
-use mr_master_model::{LaunchFault, Phase, Setting};
+use mr_master_model::{LaunchFault, Phase, Setting, StoreAnswer};
 use mr_packet::{Envelope, Packet};
 use mr_task::TaskFault;
 use std::alloc::{AllocError, Global};
@@ -127,6 +127,22 @@ impl MasterMachine {
         ensures unchanged { OnErr result (self.new ≡ self.old) }
     {
         let packets = self.machine.expire(node)?;
+        Ok(packets)
+    }
+
+    /// Hears the answer of the store call that is due (`duty`), and gives the packets that are sent: of a bar a Kill, of a flush the winners
+    /// and Kills, of a reduce that is taken over its winner, and where the job ended the outcome, to every node. Where no call is due,
+    /// nothing changes, and nothing is sent.
+    ///
+    /// The steps of setup, recovery and job commit go on with the lines that follow; a reduce that is taken over is entered as Succeeded,
+    /// and where the master begins to run, each map's newest success is, unless its node is known in a higher incarnation. Where memory is
+    /// refused: an error, and the master stands for what it stood for.
+    pub fn answer(&mut self, answer: StoreAnswer) -> Result<Vec<Envelope>, AllocError>
+        ensures sent { IfOk result (λ packets. Answers self.old (λ w past. sent w past (Answered answer)) packets.items) }
+        ensures stands { OnOk result (Stands self.old (Answered answer) self.new) }
+        ensures unchanged { OnErr result (StandsStill self.old self.new) }
+    {
+        let packets = self.machine.answer(answer)?;
         Ok(packets)
     }
 }

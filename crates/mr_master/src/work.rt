@@ -5,6 +5,7 @@ ghost use Rattle.mr_master_model.specs.Readings.{Seen, is_running, is_over};
 ghost use Rattle.mr_master_model.specs.Duty.{duty_at, does, commit_name, abort_duty};
 ghost use Rattle.mr_master.specs.Kinds.{is_own, fails_as, is_read, is_look, is_ended, ending, looked_on, is_tell, left_of, with_left, refused_by, refused_when, is_step, finished_by, wants_more, lines_of};
 ghost use Rattle.mr_master.specs.Work.{is_left};
+ghost use Rattle.mr_master.specs.Taking.{winner_of};
 ghost use Rattle.mr_master.specs.Heard.{heard_as};
 ghost use Rattle.mr_commit.specs.Steps.{heard};
 ghost use Rattle.mr_commit.specs.Recovery.{Left, recover_task};
@@ -15,9 +16,11 @@ ghost use Rattle.mr_master_model.specs.Sends.{outcome_of, to_all};
 ghost use Rattle.mr_packet.specs.declared.packet.Packet.TheVariants as packet;
 
 use crate::duty::{Duty, of_line, of_look, of_mark};
+use crate::earlier::{next_winner, winners};
 use crate::ops::{fail_mark, started_mark, success_mark};
 use crate::store::{Heard, Look, is_fine, is_superseded, looked, named, outcome_of};
 use mr_commit::{CommitJob, RecoverTask, SetupJob};
+use mr_history::Record;
 use mr_master_model::{DutyName, Phase, Setting, StoreAnswer, StoreCall};
 use mr_names::{Answer, NameFault, Op};
 use mr_recover::TaskWinner;
@@ -228,6 +231,19 @@ impl Work {
     }
 }
 
+fn copied(
+    alloc: Global,
+    winners: &VecDeque<TaskWinner>,
+) -> Result<VecDeque<TaskWinner>, AllocError>
+    ensures { IfOk result (λ copy. copy.items ≡ winners.now.items) }
+{
+    let mut copy = VecDeque::new(alloc);
+    for i in 0..winners.len() {
+        copy.push_back(winners[i])?;
+    }
+    Ok(copy)
+}
+
 // The call of the line of the job commit that is next.
 fn commit_duty(step: &CommitJob) -> Result<Option<Duty>, AllocError>
     ensures { IfOk result (λ due. due ≡ does (commit_name step.now) step.now) }
@@ -277,6 +293,41 @@ impl Work {
         match self.at {
             At::LooksForSuccess | At::TellsSuccess => true,
             _ => false,
+        }
+    }
+
+    // The reduce that is taken over.
+    pub fn winner(&self) -> Option<TaskWinner>
+        ensures { result ≡ winner_of self.now }
+    {
+        match &self.at {
+            At::TakesOver { winner, .. } => Some(*winner),
+            _ => None,
+        }
+    }
+
+    // What is next after the last call of a table, by the records of earlier masters.
+    pub fn finished(
+        &self,
+        alloc: Global,
+        setting: &Setting,
+        earlier: &[Record],
+    ) -> Result<Work, AllocError>
+        ensures { IfOk result (λ next. (s : Seen) → is_step self.now ≡ true → next ≡ finished_by setting.now (record s { earlier = earlier.now }) self.now) }
+    {
+        match &self.at {
+            At::SetsUp(_) => {
+                let winners = winners(alloc, earlier, setting)?;
+                next_winner(setting, winners)
+            }
+            At::TakesOver { others, .. } => {
+                let others = copied(alloc, others)?;
+                next_winner(setting, others)
+            }
+            At::CommitsJob(_) => Ok(Work {
+                at: At::TellsSuccess,
+            }),
+            _ => Ok(Work::stopped()),
         }
     }
 

@@ -1,0 +1,213 @@
+-- What the answers of the reading and of a committer's calls change and send.
+use Rattle.std.proofs.Common.{◌≡◌, refl, sym, ap, ◌∙◌, Bool, true, false, ◌&&◌, not, append-nil, Result, Ok, Err, cond, List, [], ◌∷◌, ◌++◌, Option, Some, None, if◌then◌else◌, true≢false}
+use Rattle.std.specs.List.{list_any}
+use Rattle.mr_history.specs.declared.record.Record.{Record}
+use Rattle.mr_commit.specs.Tables.{setup_job}
+use Rattle.mr_commit.specs.Line.{Line}
+use Rattle.mr_commit.specs.Recovery.{Recovery, recover_task}
+use Rattle.mr_commit.specs.Recovery.Recovery.{Nowhere, Left}
+use Rattle.mr_commit.specs.declared.fault.CommitFault.{CommitFault}
+use Rattle.mr_commit.specs.declared.fault.StepDone.{StepDone}
+use Rattle.mr_commit.specs.declared.fault.StepDone.TheVariants as done
+use Rattle.mr_recover.specs.declared.winner.TaskWinner.{TaskWinner}
+use Rattle.mr_task.specs.Calls.{Recovers}
+use Rattle.mr_packet.specs.declared.packet.Packet.TheVariants as packet
+use Rattle.mr_packet.specs.declared.packet.Envelope.{Envelope}
+use Rattle.mr_master_model.specs.declared.setting.Setting.{Setting}
+use Rattle.mr_master_model.specs.declared.store.StoreAnswer.{StoreAnswer}
+use Rattle.mr_master_model.specs.declared.store.StoreAnswer.TheVariants as answer
+use Rattle.mr_master_model.specs.Past.{Work, LooksForSuccess, LooksForFail, LooksForStarted, Reads, SetsUp, TakesOver, Runs, CommitsJob, TellsSuccess, TellsFail, AbortsCommit, Fails, Ends, Stops}
+use Rattle.mr_master_model.specs.Readings.{Seen, is_running, tell}
+use Rattle.mr_master_model.specs.Answered.{changed, work_after, with_work, with_earlier, read_by, is_unsuccessful, heard_by, goes_on, is_finished, is_superseded, takes_over, next_winner, winners, with_maps}
+use Rattle.mr_master_model.specs.Sends.{work_sends, outcome_of, to_all}
+use Rattle.mr_master.specs.Kinds.{is_read, records_in, is_step, left_of, finished_by}
+use Rattle.mr_master.specs.declared.store.Heard.{Heard}
+use Rattle.mr_master.specs.declared.store.Heard.TheVariants as heard
+use Rattle.mr_master.specs.Heard.{heard_as, has_finished}
+use Rattle.mr_master.specs.Taking.{winner_of, after_winner, won_of, after_table}
+use Rattle.mr_master.specs.Answering.{answered_sends, answered_seen}
+use Rattle.mr_master.proofs.Replies.{quiet}
+
+-- ---- the reading
+
+pub told-is : (a : StoreAnswer) (rs : List Record) → Some rs ≡ records_in a → answer.Told rs ≡ a
+told-is (answer.Told xs) rs e = cc
+told-is (answer.Names r) rs e = cc
+told-is (answer.Wrote r) rs e = cc
+told-is (answer.Unread f) rs e = cc
+told-is answer.Fault rs e = cc
+
+pub unread : (w : Setting) (s : Seen) (a : StoreAnswer) → None ≡ records_in a → (s ≡ with_earlier s a) × (Stops ≡ read_by w a)
+unread w s (answer.Told xs) e = cc
+unread w s (answer.Names r) e = (refl, refl)
+unread w s (answer.Wrote r) e = (refl, refl)
+unread w s (answer.Unread f) e = (refl, refl)
+unread w s answer.Fault e = (refl, refl)
+
+pub read-is : (work : Work) → is_read work ≡ true → work ≡ Reads
+read-is Reads e = refl
+read-is LooksForSuccess e = absurd (true≢false (sym e))
+read-is LooksForFail e = absurd (true≢false (sym e))
+read-is LooksForStarted e = absurd (true≢false (sym e))
+read-is (SetsUp left) e = absurd (true≢false (sym e))
+read-is (TakesOver x left others) e = absurd (true≢false (sym e))
+read-is Runs e = absurd (true≢false (sym e))
+read-is (CommitsJob left) e = absurd (true≢false (sym e))
+read-is TellsSuccess e = absurd (true≢false (sym e))
+read-is TellsFail e = absurd (true≢false (sym e))
+read-is AbortsCommit e = absurd (true≢false (sym e))
+read-is (Fails b) e = absurd (true≢false (sym e))
+read-is (Ends b) e = absurd (true≢false (sym e))
+read-is Stops e = absurd (true≢false (sym e))
+
+-- what is next neither runs nor ended
+pub read-quiet : (w : Setting) (a : StoreAnswer) → (is_running (read_by w a) ≡ false) × ([] ≡ outcome_of w (read_by w a))
+read-quiet w (answer.Told rs) = by (list_any is_unsuccessful rs)
+  where
+    by : (b : Bool) → (is_running (cond b (Fails true) (SetsUp (setup_job w.layout.dest w.app))) ≡ false) × ([] ≡ outcome_of w (cond b (Fails true) (SetsUp (setup_job w.layout.dest w.app))))
+    by true = (refl, refl)
+    by false = (refl, refl)
+read-quiet w (answer.Names r) = (refl, refl)
+read-quiet w (answer.Wrote r) = (refl, refl)
+read-quiet w (answer.Unread f) = (refl, refl)
+read-quiet w answer.Fault = (refl, refl)
+
+pub read-seen : (w : Setting) (s : Seen) (a : StoreAnswer) → s.work ≡ Reads → record (with_earlier s a) { work = read_by w a } ≡ answered_seen w s a
+unfolding changed work_after
+read-seen w s a e = quiet w (with_earlier s a) (read_by w a) (read-quiet w a).0 ∙ (λ i. with_work w (changed w s a (sym e i)) (work_after w s a (sym e i)))
+
+pub read-sends : (w : Setting) (s : Seen) (a : StoreAnswer) → s.work ≡ Reads → [] ≡ answered_sends w s a
+unfolding work_sends work_after
+read-sends w s a e = (read-quiet w a).1 ∙ (λ i. work_sends w s a (sym e i) ++ outcome_of w (work_after w s a (sym e i)))
+
+-- ---- a committer's calls
+
+-- the answer was not that of the last one
+pub record Unfinished (w : Setting) (s : Seen) (a : StoreAnswer) (work : Work) : Type 0 where
+  pub changes : s ≡ changed w s a work
+  pub sends : [] ≡ work_sends w s a work
+  pub tells : [] ≡ outcome_of w (work_after w s a work)
+  pub rests : is_running (work_after w s a work) ≡ false
+
+-- neither runs nor ended
+abbrev IsQuiet : Setting → Work → Type 0
+IsQuiet w work = ([] ≡ outcome_of w work) × (is_running work ≡ false)
+
+goes-quiet : (w : Setting) (r : Result StepDone CommitFault) (left : List Line) → has_finished (heard_as r) ≡ false → (more : List Line → Work) (finished refused : Work) → IsQuiet w (more left) → IsQuiet w refused
+    → IsQuiet w (goes_on r left more finished refused)
+goes-quiet w (Ok done.More) left e more finished refused p q = p
+goes-quiet w (Ok done.Finished) left e more finished refused p q = absurd (true≢false e)
+goes-quiet w (Err f) left e more finished refused p q = q
+
+not-finished : (r : Result StepDone CommitFault) → has_finished (heard_as r) ≡ false → is_finished r ≡ false
+not-finished (Ok done.More) e = refl
+not-finished (Ok done.Finished) e = e
+not-finished (Err f) e = refl
+
+did-finish : (r : Result StepDone CommitFault) → has_finished (heard_as r) ≡ true → is_finished r ≡ true
+did-finish (Ok done.More) e = e
+did-finish (Ok done.Finished) e = refl
+did-finish (Err f) e = e
+
+refusal-quiet : (w : Setting) (b : Bool) → IsQuiet w (if b then Stops else TellsFail)
+refusal-quiet w true = (refl, refl)
+refusal-quiet w false = (refl, refl)
+
+pub unfinished : (w : Setting) (s : Seen) (a : StoreAnswer) (work : Work) → is_step work ≡ true → has_finished (heard_as (heard_by (left_of work) a).0) ≡ false → Unfinished w s a work
+unfolding changed work_sends work_after
+unfinished w s a (SetsUp left) is e =
+    let p = goes-quiet w (heard_by left a).0 (heard_by left a).1 e SetsUp (next_winner w (winners w s)) Stops (refl, refl) (refl, refl) in
+    record { changes = refl; sends = refl; tells = p.0; rests = p.1 }
+unfinished w s a (TakesOver x left others) is e =
+    let p = goes-quiet w (heard_by left a).0 (heard_by left a).1 e (λ l. TakesOver x l others) (next_winner w others) Stops (refl, refl) (refl, refl) in
+    let f = sym (not-finished (heard_by left a).0 e) in
+    record {
+      changes = λ i. if f i then tell s x.task (Recovers x.attempt) else s;
+      sends = λ i. if f i then to_all w.nodes (packet.Won x.task x.attempt) else [];
+      tells = p.0;
+      rests = p.1;
+    }
+unfinished w s a (CommitsJob left) is e =
+    let p = goes-quiet w (heard_by left a).0 (heard_by left a).1 e CommitsJob TellsSuccess (if is_superseded a then Stops else TellsFail) (refl, refl) (refusal-quiet w (is_superseded a)) in
+    record { changes = refl; sends = refl; tells = p.0; rests = p.1 }
+unfinished w s a LooksForSuccess is e = absurd (true≢false (sym is))
+unfinished w s a LooksForFail is e = absurd (true≢false (sym is))
+unfinished w s a LooksForStarted is e = absurd (true≢false (sym is))
+unfinished w s a Reads is e = absurd (true≢false (sym is))
+unfinished w s a Runs is e = absurd (true≢false (sym is))
+unfinished w s a TellsSuccess is e = absurd (true≢false (sym is))
+unfinished w s a TellsFail is e = absurd (true≢false (sym is))
+unfinished w s a AbortsCommit is e = absurd (true≢false (sym is))
+unfinished w s a (Fails b) is e = absurd (true≢false (sym is))
+unfinished w s a (Ends b) is e = absurd (true≢false (sym is))
+unfinished w s a Stops is e = absurd (true≢false (sym is))
+
+-- it was
+pub record Finishing (w : Setting) (s : Seen) (a : StoreAnswer) (work : Work) : Type 0 where
+  pub changes : after_winner s (winner_of work) ≡ changed w s a work
+  pub sends : won_of w (winner_of work) ≡ work_sends w s a work
+  pub tells : [] ≡ outcome_of w (finished_by w s work)
+  pub rests : is_running work ≡ false
+
+next-tells : (w : Setting) (xs : List TaskWinner) → [] ≡ outcome_of w (next_winner w xs)
+next-tells w [] = refl
+next-tells w (x ∷ others) = by (recover_task w.layout.dest w.app x.task x.bytes)
+  where
+    by : (r : Recovery) → [] ≡ outcome_of w (takes_over x r others)
+    by Nowhere = refl
+    by (Left left) = refl
+
+pub finishing : (w : Setting) (s : Seen) (a : StoreAnswer) (work : Work) → is_step work ≡ true → has_finished (heard_as (heard_by (left_of work) a).0) ≡ true → Finishing w s a work
+unfolding changed work_sends
+finishing w s a (SetsUp left) is e = record { changes = refl; sends = refl; tells = next-tells w (winners w s); rests = refl }
+finishing w s a (TakesOver x left others) is e =
+    let f = sym (did-finish (heard_by left a).0 e) in
+    record {
+      changes = λ i. if f i then tell s x.task (Recovers x.attempt) else s;
+      sends = λ i. if f i then to_all w.nodes (packet.Won x.task x.attempt) else [];
+      tells = next-tells w others;
+      rests = refl;
+    }
+finishing w s a (CommitsJob left) is e = record { changes = refl; sends = refl; tells = refl; rests = refl }
+finishing w s a LooksForSuccess is e = absurd (true≢false (sym is))
+finishing w s a LooksForFail is e = absurd (true≢false (sym is))
+finishing w s a LooksForStarted is e = absurd (true≢false (sym is))
+finishing w s a Reads is e = absurd (true≢false (sym is))
+finishing w s a Runs is e = absurd (true≢false (sym is))
+finishing w s a TellsSuccess is e = absurd (true≢false (sym is))
+finishing w s a TellsFail is e = absurd (true≢false (sym is))
+finishing w s a AbortsCommit is e = absurd (true≢false (sym is))
+finishing w s a (Fails b) is e = absurd (true≢false (sym is))
+finishing w s a (Ends b) is e = absurd (true≢false (sym is))
+finishing w s a Stops is e = absurd (true≢false (sym is))
+
+-- by the work after the answer
+pub step-seen : (w : Setting) (s : Seen) (a : StoreAnswer) (new : Work) → Unfinished w s a s.work → new ≡ work_after w s a s.work → record s { work = new } ≡ answered_seen w s a
+step-seen w s a new u e = quiet w s new (ap (λ (x : Work). is_running x) e ∙ u.rests) ∙ (λ i. with_work w (u.changes i) (e i))
+
+pub step-sends : (w : Setting) (s : Seen) (a : StoreAnswer) → Unfinished w s a s.work → [] ≡ answered_sends w s a
+step-sends w s a u = λ i. u.sends i ++ u.tells i
+
+runs-anew : (w : Setting) (s : Seen) (work : Work) → is_running s.work ≡ false → record (if is_running work then with_maps w s else s) { work = work } ≡ with_work w s work
+runs-anew w s work e = (λ i. record (if and-true (is_running work) i then with_maps w s else s) { work = work }) ∙ (λ i. record (if is_running work && not (sym e i) then with_maps w s else s) { work = work })
+  where
+    and-true : (b : Bool) → b ≡ (b && true)
+    and-true true = refl
+    and-true false = refl
+
+calls-only : (w : Setting) (s : Seen) (o : Option TaskWinner) (b : Bool) (work : Work) → record s { calls = (after_table w s o b).calls; work = work } ≡ record (after_table w s o b) { work = work }
+calls-only w s o true work = refl
+calls-only w s o false work = refl
+
+pub finish-seen : (w : Setting) (s : Seen) (a : StoreAnswer) (new : Work) → Finishing w s a s.work → new ≡ work_after w s a s.work
+    → record s { calls = (after_table w s (winner_of s.work) (is_running new)).calls; work = new } ≡ answered_seen w s a
+finish-seen w s a new f e =
+    calls-only w s (winner_of s.work) (is_running new) new ∙ runs-anew w (after_winner s (winner_of s.work)) new f.rests ∙ (λ i. with_work w (f.changes i) (e i))
+
+pub finish-sends : (w : Setting) (s : Seen) (a : StoreAnswer) (new : Work) (es : List Envelope) → Finishing w s a s.work → new ≡ finished_by w s s.work → new ≡ work_after w s a s.work → es ≡ won_of w (winner_of s.work) → es ≡ answered_sends w s a
+finish-sends w s a new es f n e q = q ∙ f.sends ∙ sym (append-nil (work_sends w s a s.work)) ∙ (λ i. work_sends w s a s.work ++ (f.tells ∙ ap (λ (x : Work). outcome_of w x) (sym n ∙ e)) i)
+
+pub was-last : (h : Heard) → has_finished h ≡ true → heard.Finished ≡ h
+was-last heard.Finished e = refl
+was-last heard.More e = absurd (true≢false (sym e))
+was-last heard.Refused e = absurd (true≢false (sym e))

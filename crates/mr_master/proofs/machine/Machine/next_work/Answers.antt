@@ -1,0 +1,13 @@
+use Rattle.std.proofs.Common.{sym, subst, ◌∙◌, ap, List}
+use Rattle.mr_history.specs.declared.record.Record.{Record}
+use Rattle.mr_master_model.specs.Past.{Work}
+use Rattle.mr_master_model.specs.declared.setting.Setting.{Setting}
+use Rattle.mr_master.specs.Kinds.{is_step, finished_by}
+use Rattle.mr_master.specs.State.{Master, Keeps}
+use Rattle.mr_master.proofs.machine.Machine.next_work.Goals as goal
+
+pub returns : goal.returns
+returns c = λ w s keeps.
+    let k = subst (λ (x : Master). Keeps x w s) (sym c.self.view_is) keeps in
+    c.in_ok-next.ensures s (ap (λ (m : Master). is_step m.work) c.self.view_is ∙ c.requires)
+    ∙ (λ i. finished_by (k.setting i) (record s { earlier = (c.as_slice.ensures ∙ k.earlier) i }) (k.work i))
