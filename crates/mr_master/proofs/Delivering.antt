@@ -1,17 +1,16 @@
 -- A packet is delivered.
-use Rattle.std.proofs.Common.{ℕ, ◌≡◌, refl, sym, ◌∙◌, ap, subst, Bool, true, false, List, [], ◌∷◌, Option, Result, OnOk, OnErr, if◌then◌else◌}
+use Rattle.std.proofs.Common.{ℕ, ◌≡◌, refl, sym, ap, subst, true, false, List, [], if◌then◌else◌}
 use Rattle.mr_packet.specs.declared.packet.Envelope.{Envelope}
 use Rattle.mr_packet.specs.declared.packet.Packet.{Packet}
 use Rattle.mr_packet.specs.declared.packet.Packet.TheVariants as packet
 use Rattle.mr_master_model.specs.declared.setting.Setting.{Setting}
-use Rattle.mr_master_model.specs.Past.{Step, Hears}
+use Rattle.mr_master_model.specs.Past.{Hears}
 use Rattle.mr_master_model.specs.Readings.{Seen, is_running, is_over}
 use Rattle.mr_master_model.specs.Hearing.{heard, delivered, after_node_up}
 use Rattle.mr_master_model.specs.Sends.{replies, killed_by}
 use Rattle.mr_master_model.specs.Next.{seen, next_seen, moved, sent_by, sent, with_kills}
 use Rattle.mr_master.specs.Launches.{Launched, Notes}
-use Rattle.mr_master.specs.State.{Master, Keeps, Moves, StandsFor, Stands, StandsStill, Answers}
-use Rattle.mr_master.proofs.Keeping.{by-seen}
+use Rattle.mr_master.specs.State.{Master, Keeps, Moves, Stands, StandsStill, Answers}
 use Rattle.mr_master.proofs.Parts.{with-launches}
 
 pub delivered-is : (w : Setting) (s : Seen) (p : Packet) → ((n i : ℕ) → p ≡ packet.NodeUp n i → ⊥) → delivered w s p ≡ (if is_running s.work then heard w s p else s)

@@ -1,10 +1,8 @@
 -- The attempts that are given up are distinct, so each bar that is new comes once.
-use Rattle.std.proofs.Common.{ℕ, zero, suc, ◌+◌, ◌<◌, ◌≤◌, ◌≡◌, refl, sym, ◌∙◌, ap, subst, Bool, true, false, ◌&&◌, ◌||◌, not, cond, List, [], ◌∷◌, ◌++◌, filter, flat_map, length, take, get_or, add-one, append-nil, append_assoc, nat_lt, arith, true≢false}
+use Rattle.std.proofs.Common.{ℕ, zero, suc, ◌+◌, ◌<◌, ◌≡◌, refl, sym, ◌∙◌, ap, subst, Bool, true, false, ◌||◌, not, cond, List, [], ◌∷◌, ◌++◌, filter, flat_map, length, take, get_or, add-one, append-nil, append_assoc, arith, true≢false}
 use Rattle.std.proofs.Math.Seq.{take-suc}
-use Rattle.std.proofs.lemmas.List.{take_all}
 use Rattle.std.proofs.lemmas.List.Folds.{list_any-append}
 use Rattle.std.proofs.lemmas.Grind.{flat_map-append}
-use Rattle.std.proofs.lemmas.Bool.Decides.{nat_tests}
 use Rattle.mr_ids.specs.Attempt.{Attempt}
 use Rattle.mr_ids.specs.declared.id.TaskId.{TaskId}
 use Rattle.mr_ids.specs.declared.id.TaskKind.{TaskKind}
@@ -16,7 +14,7 @@ use Rattle.mr_task.specs.Readings.{AreDistinct}
 use Rattle.mr_task.proofs.Arrivals.{arrivals}
 use Rattle.mr_master_model.specs.declared.setting.Setting.{Setting}
 use Rattle.mr_master_model.specs.Job.{task_of, first_tasks, all_reduces}
-use Rattle.mr_master_model.specs.Readings.{Seen, of_task, live_where}
+use Rattle.mr_master_model.specs.Readings.{Seen, of_task}
 use Rattle.mr_master_model.specs.Hearing.{given_up, new_bars}
 use Rattle.mr_master.specs.declared.gone.Gone.TheVariants.{GivenUp}
 use Rattle.mr_master.specs.Gone.{gone_of}

@@ -29,7 +29,7 @@ use Rattle.mr_master_model.proofs.Killing.{kills_go_to_launched}
 use Rattle.mr_master.specs.Places.{place_of}
 use Rattle.mr_master.specs.Tasks.{Tasks, AnswersAt, Takes, told}
 use Rattle.mr_master.specs.Launches.{Launched, KeepsLaunches, SameLaunches}
-use Rattle.mr_master.specs.Records.{Writing, KeepsRecords, SameRecords}
+use Rattle.mr_master.specs.Records.{Writing, SameRecords}
 use Rattle.mr_master.specs.Launching.{IsNew, HasLaunched}
 use Rattle.mr_master.specs.State.{Master, Keeps, StandsFor, Stands}
 use Rattle.mr_master.proofs.Keeping.{read-at}

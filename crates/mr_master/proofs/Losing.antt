@@ -1,6 +1,6 @@
 -- What a node's restart and its being given up change, as attempts that end and outputs that are lost.
-use Rattle.std.proofs.Common.{ℕ, zero, suc, ◌+◌, ◌<◌, ◌≤◌, ◌≡◌, refl, sym, ◌∙◌, ap, subst, Bool, true, false, ◌&&◌, ◌||◌, not, cond, List, [], ◌∷◌, ◌++◌, filter, flat_map, Option, Some, None, append-nil, append_assoc, nat_eq, nat_lt, true≢false, if◌then◌else◌, add-one}
-use Rattle.std.specs.List.{find, list_any}
+use Rattle.std.proofs.Common.{ℕ, zero, suc, ◌+◌, ◌≡◌, refl, sym, ◌∙◌, ap, subst, Bool, true, false, ◌||◌, cond, List, [], ◌∷◌, ◌++◌, filter, flat_map, Option, Some, None, append-nil, append_assoc, true≢false, add-one}
+use Rattle.std.specs.List.{find}
 use Rattle.std.proofs.lemmas.Grind.{flat_map-append}
 use Rattle.mr_ids.specs.Attempt.{Attempt}
 use Rattle.mr_ids.specs.declared.id.TaskId.{TaskId}
@@ -8,12 +8,12 @@ use Rattle.mr_ids.specs.declared.id.TaskKind.{TaskKind}
 use Rattle.mr_ids.specs.declared.id.TaskKind.TheVariants.{Map, Reduce}
 use Rattle.mr_grant.specs.Attempts.{same_attempt, has}
 use Rattle.mr_grant.proofs.Same.{same-is, same-itself}
-use Rattle.mr_task.specs.Calls.{TaskCall, Dies, Loses}
+use Rattle.mr_task.specs.Calls.{Dies, Loses}
 use Rattle.mr_task.specs.Readings as task
 use Rattle.mr_task.proofs.Arrivals.{arrivals}
 use Rattle.mr_master_model.specs.declared.setting.Setting.{Setting}
-use Rattle.mr_master_model.specs.Job.{is_task, task_of, count_of, first_tasks, all_maps, all_reduces, all_tasks}
-use Rattle.mr_master_model.specs.Readings.{Seen, of_task, place_of, launch_of, succeeded, succeeded_where, if_passes, live_where, tell_each, told_each}
+use Rattle.mr_master_model.specs.Job.{task_of, first_tasks, all_maps, all_reduces, all_tasks}
+use Rattle.mr_master_model.specs.Readings.{Seen, of_task, place_of, succeeded, succeeded_where, if_passes, live_where, tell_each}
 use Rattle.mr_master_model.specs.Hearing.{of_maps, dead_below, lost_below, after_restart, with_known, given_up_of_maps, lost_on, new_bars, expired}
 use Rattle.mr_master_model.specs.Sends.{kill_of, killed_by}
 use Rattle.mr_master_model.specs.Next.{with_kills}
@@ -26,7 +26,7 @@ use Rattle.mr_master.specs.Gone.{gone_of, lost_of, is_lost}
 use Rattle.mr_master.specs.Told.{told_all}
 use Rattle.mr_master.specs.Leaving.{without}
 use Rattle.mr_master.specs.State.{Master, Keeps}
-use Rattle.mr_master.proofs.Telling.{Own, told-all-is, task-of-is}
+use Rattle.mr_master.proofs.Telling.{Own, told-all-is}
 
 -- ---- each is of its task
 

@@ -1,5 +1,5 @@
 -- What succeeded under earlier masters is taken over.
-use Rattle.std.proofs.Common.{ℕ, zero, suc, ◌+◌, ◌<◌, ◌≤◌, ◌≡◌, refl, sym, ◌∙◌, ap, subst, Bool, true, false, ◌&&◌, ◌||◌, cond, List, [], ◌∷◌, ◌++◌, flat_map, length, take, get_or, add-one, append-nil, Option, Some, None, nat_lt, if◌then◌else◌, true≢false}
+use Rattle.std.proofs.Common.{ℕ, zero, suc, ◌+◌, ◌<◌, ◌≡◌, refl, sym, ◌∙◌, ap, subst, Bool, true, false, ◌&&◌, ◌||◌, cond, List, [], ◌∷◌, ◌++◌, flat_map, length, take, get_or, add-one, append-nil, Option, Some, None, nat_lt, if◌then◌else◌, true≢false}
 use Rattle.std.proofs.Math.Seq.{take-suc}
 use Rattle.std.proofs.lemmas.Grind.{flat_map-append}
 use Rattle.mr_ids.specs.Attempt.{Attempt}
@@ -10,7 +10,7 @@ use Rattle.mr_ids.specs.declared.id.TaskKind.{TaskKind}
 use Rattle.mr_ids.specs.declared.id.TaskKind.TheVariants.{Map, Reduce}
 use Rattle.mr_attempt.specs.Table.{state_after}
 use Rattle.mr_attempt.specs.declared.state.AttemptEvent.TheVariants as event
-use Rattle.mr_grant.specs.Attempts.{same_attempt, has, first_of}
+use Rattle.mr_grant.specs.Attempts.{same_attempt, has}
 use Rattle.mr_grant.proofs.Same.{same-is}
 use Rattle.mr_history.specs.declared.record.Record.{Record}
 use Rattle.mr_history.specs.declared.record.Record.TheVariants.{AttemptStarted, MapSucceeded, ReduceSucceeded, AttemptFailed, JobUnsuccessful}
@@ -19,14 +19,13 @@ use Rattle.mr_task.specs.Calls.{TaskCall, Recovers}
 use Rattle.mr_task.specs.Readings as task
 use Rattle.mr_task.specs.State as state
 use Rattle.mr_task.specs.Steps.{Task}
-use Rattle.mr_task.specs.declared.attempts.Entry.{Entry}
 use Rattle.mr_master_model.specs.declared.setting.Setting.{Setting}
 use Rattle.mr_master_model.specs.Job.{is_task, task_of, first_tasks, all_maps, all_reduces, all_tasks}
 use Rattle.mr_master_model.specs.Readings.{Seen, Place, or_else, newest_in}
 use Rattle.mr_master_model.specs.Hearing.{of_maps}
 use Rattle.mr_master_model.specs.Answered.{taken, taken_of, with_maps}
 use Rattle.mr_master.specs.Places.{place_of}
-use Rattle.mr_master.specs.Tasks.{Tasks, KeepsTasks, Takes, told}
+use Rattle.mr_master.specs.Tasks.{Tasks, KeepsTasks, Takes}
 use Rattle.mr_master.specs.Told.{told_one, told_all}
 use Rattle.mr_master.specs.Taking.{Enters, calls_with, after_winner, after_table}
 use Rattle.mr_master.proofs.Dying.{one-told, none-told, told-more}

@@ -1,5 +1,5 @@
 -- Attempts that succeeded under earlier masters are taken over.
-use Rattle.std.specs.Prelude.{◌≡◌, Bool, Option, Some, None, List, [], ◌∷◌, if◌then◌else◌}
+use Rattle.std.specs.Prelude.{Bool, Option, Some, None, List, [], if◌then◌else◌}
 use Rattle.mr_ids.specs.Attempt.{Attempt}
 use Rattle.mr_ids.specs.declared.id.TaskId.{TaskId}
 use Rattle.mr_task.specs.Calls.{TaskCall, Recovers}

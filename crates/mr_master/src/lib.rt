@@ -6,7 +6,9 @@
 //!
 //! Whoever runs a master keeps the bag. Of a packet: `hear_packets` first, which changes nothing and gives exactly the packets that will
 //! be sent; then room in the bag; then `hear` with those packets, whose only fault is want of memory, after which the master stands for
-//! what it stood for; then the packets are pushed, which takes no memory. Of a launch: room for one packet first, then `launch`.
+//! what it stood for; then the packets are pushed, which takes no memory. Of a launch: room for one packet first, then `launch`. Of a
+//! store call: `duty` tells which is due, and `answer` hears its answer and gives the packets together with the change, so a caller that
+//! then finds no room in the bag has to stop.
 //!
 //! # What is proved
 //!
@@ -15,11 +17,12 @@
 //!   next. They change nothing, and `phase` and `wanted` take no memory.
 //! - `hear_packets` gives exactly the packets that are sent for a packet. After `hear` with these the machine stands for what it stood
 //!   for and this packet; where memory is refused, for what it stood for.
+//! - `answer` gives exactly the packets that are sent for the answer of the store call that is due, and then the machine stands for what it
+//!   stood for and this answer; where memory is refused, for what it stood for. Where no call is due, nothing is sent.
 //! - `launch` and `expire` give exactly the packets that are sent, and then the machine stands for what it stood for and this step. A fault
 //!   is the first refusal that applies, or `Task(NoMemory)` where none does; then it stands for what it stood for, and after a fault of `expire` it
 //!   is the machine that it was.
-//! - Not yet: no public call takes the answer of a store call, so a machine stays in Opening, where it hears `NodeUp` alone and
-//!   launches nothing. An expiry gives its packets with the change, so room for them can't be made before.
+//! - Not yet: an expiry and an answer give their packets with the change, so room for them can't be made before; no `copy`.
 //! - Only tested: that the calls succeed with ample memory, so far in Opening alone (`crates/tests_masters`).
 #![tactic(auto)]
 

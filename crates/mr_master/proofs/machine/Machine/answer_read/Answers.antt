@@ -1,8 +1,7 @@
-use Rattle.std.proofs.Common.{sym, subst, ◌∙◌, ap, ◌≡◌, true}
-use Rattle.mr_master_model.specs.Past.{Work, Reads, Stops}
+use Rattle.std.proofs.Common.{sym, subst, ◌∙◌}
+use Rattle.mr_master_model.specs.Past.{Stops}
 use Rattle.mr_master_model.specs.declared.store.StoreAnswer.{StoreAnswer}
 use Rattle.mr_master_model.specs.Answered.{read_by, with_earlier}
-use Rattle.mr_master_model.specs.Readings.{Seen}
 use Rattle.mr_master.specs.State.{Master, Keeps}
 use Rattle.mr_master.proofs.Parts.{with-work}
 use Rattle.mr_master.proofs.Keeping.{by-seen}

@@ -1,5 +1,4 @@
-use Rattle.std.proofs.Common.{sym, subst, refl, ◌∙◌, ap, true, false, ◌≡◌, List, [], Bool}
-use Rattle.mr_packet.specs.declared.packet.Envelope.{Envelope}
+use Rattle.std.proofs.Common.{sym, subst, refl, ◌∙◌, ap, true, false, ◌≡◌, Bool}
 use Rattle.mr_master_model.specs.declared.setting.Setting.{Setting}
 use Rattle.mr_master_model.specs.Past.{Work}
 use Rattle.mr_master_model.specs.Readings.{Seen, is_running}
@@ -7,7 +6,7 @@ use Rattle.mr_master_model.specs.Answered.{work_after, heard_by}
 use Rattle.mr_master.specs.declared.store.Heard.{Heard}
 use Rattle.mr_master.specs.Heard.{heard_as, has_finished}
 use Rattle.mr_master.specs.Kinds.{is_step, left_of, finished_by}
-use Rattle.mr_master.specs.Taking.{winner_of, won_of, after_table}
+use Rattle.mr_master.specs.Taking.{winner_of, after_table}
 use Rattle.mr_master.specs.State.{Master, Keeps}
 use Rattle.mr_master.specs.Answering.{answered_sends}
 use Rattle.mr_master.proofs.Parts.{with-work, with-tasks}
@@ -15,7 +14,7 @@ use Rattle.mr_master.proofs.Replies.{replies-keep, quiet-keep}
 use Rattle.mr_master.proofs.Steps.{unfinished, finishing, step-seen, step-sends, finish-seen, finish-sends, was-last}
 use Rattle.mr_master.proofs.Stepping.{when-finished}
 use Rattle.mr_recover.specs.declared.winner.TaskWinner.{TaskWinner}
-use Rattle.mr_master.specs.Tasks.{Tasks, KeepsTasks}
+use Rattle.mr_master.specs.Tasks.{KeepsTasks}
 use Rattle.std.proofs.Common.{Option}
 use Rattle.mr_master.proofs.machine.Machine.answer_step.Goals as goal
 

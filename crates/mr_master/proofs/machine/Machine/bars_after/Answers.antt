@@ -1,6 +1,4 @@
-use Rattle.std.proofs.Common.{sym, subst, ◌∙◌, ap, List}
-use Rattle.mr_ids.specs.Attempt.{Attempt}
-use Rattle.mr_master.specs.Expiring.{all_added}
+use Rattle.std.proofs.Common.{sym, subst, ◌∙◌}
 use Rattle.mr_master.specs.State.{Master, Keeps}
 use Rattle.mr_master.proofs.Distinct.{bars-added}
 use Rattle.mr_master.proofs.machine.Machine.bars_after.Goals as goal

@@ -1,15 +1,11 @@
-use Rattle.std.proofs.Common.{◌≡◌, true, sym, subst, ◌∙◌, ap, if◌then◌else◌}
-use Rattle.mr_names.proofs.Graph.{on_err}
-use Rattle.mr_master_model.specs.Past.{Work, Hears}
-use Rattle.mr_master_model.specs.Readings.{Seen, is_running, is_over}
+use Rattle.std.proofs.Common.{sym, subst, if◌then◌else◌}
+use Rattle.mr_master_model.specs.Readings.{is_running, is_over}
 use Rattle.mr_master_model.specs.Hearing.{heard, delivered, after_node_up}
-use Rattle.mr_master_model.specs.Next.{with_kills}
-use Rattle.mr_master.specs.State.{Master, Keeps, Moves, Unchanged}
-use Rattle.mr_master.proofs.Keeping.{by-test, by-seen}
+use Rattle.mr_master.specs.State.{Master, Keeps, Moves}
+use Rattle.mr_master.proofs.Keeping.{by-seen}
 use Rattle.mr_master.proofs.Containers.{on-ok}
-use Rattle.mr_master.proofs.Standing.{unchanged-keeps}
 use Rattle.std.proofs.lemmas.Result.{on_err_weaker}
-use Rattle.mr_master.proofs.Delivering.{delivered-is, node-up-is, notes-keep}
+use Rattle.mr_master.proofs.Delivering.{delivered-is, node-up-is}
 use Rattle.mr_master.proofs.machine.Machine.deliver.Goals as goal
 
 pub returns-in-NodeUp-clause-moves : goal.returns-in-NodeUp-clause-moves

@@ -1,5 +1,4 @@
 use Rattle.std.proofs.Common.{sym, refl, subst, ◌∙◌, ap}
-use Rattle.mr_master_model.specs.Past.{Work}
 use Rattle.mr_master.specs.State.{Master, Keeps}
 use Rattle.mr_master.specs.Taking.{winner_of}
 use Rattle.mr_master.proofs.Keeping.{placed}

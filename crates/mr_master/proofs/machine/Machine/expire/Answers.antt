@@ -1,5 +1,4 @@
-use Rattle.std.proofs.Common.{sym, subst, ◌∙◌, ◌≡◌, None}
-use Rattle.mr_master_model.specs.Readings.{expire_refusal}
+use Rattle.std.proofs.Common.{sym, ◌∙◌}
 use Rattle.mr_master.proofs.GivenUp.{given-up}
 use Rattle.mr_master.proofs.machine.Machine.expire.Goals as goal
 

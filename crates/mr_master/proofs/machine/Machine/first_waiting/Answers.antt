@@ -1,8 +1,7 @@
-use Rattle.std.proofs.Common.{◌≡◌, ◌<◌, sym, subst, ◌∙◌, ap, ◌&&◌, arith, ℕ, Some, Option, Bool}
-use Rattle.std.specs.List.{find}
+use Rattle.std.proofs.Common.{◌<◌, sym, subst, ◌∙◌, ap, ◌&&◌, arith, Some, Bool}
 use Rattle.mr_ids.specs.declared.id.TaskId.{TaskId}
 use Rattle.mr_master_model.specs.declared.setting.Setting.{Setting}
-use Rattle.mr_master_model.specs.Job.{is_task, count_of, first_tasks}
+use Rattle.mr_master_model.specs.Job.{is_task, count_of}
 use Rattle.mr_master_model.specs.Readings.{of_task, wants_launch}
 use Rattle.mr_master.specs.State.{Master, Keeps}
 use Rattle.mr_master.proofs.Waiting.{none-first, none-more, found-first}

@@ -1,7 +1,4 @@
-use Rattle.std.proofs.Common.{sym, subst, ◌∙◌, ap, List}
-use Rattle.mr_history.specs.declared.record.Record.{Record}
-use Rattle.mr_master_model.specs.Past.{Work}
-use Rattle.mr_master_model.specs.declared.setting.Setting.{Setting}
+use Rattle.std.proofs.Common.{sym, subst, ◌∙◌, ap}
 use Rattle.mr_master.specs.Kinds.{is_step, finished_by}
 use Rattle.mr_master.specs.State.{Master, Keeps}
 use Rattle.mr_master.proofs.machine.Machine.next_work.Goals as goal

@@ -1,4 +1,4 @@
-use Rattle.std.proofs.Common.{sym, subst, ◌∙◌, ap, ◌++◌, List, Option}
+use Rattle.std.proofs.Common.{sym, subst, ◌∙◌, ap, ◌++◌, Option}
 use Rattle.mr_packet.specs.declared.packet.Packet.TheVariants as packet
 use Rattle.mr_recover.specs.declared.winner.TaskWinner.{TaskWinner}
 use Rattle.mr_master_model.specs.Past.{Work}

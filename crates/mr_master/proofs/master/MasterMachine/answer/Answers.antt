@@ -1,7 +1,7 @@
-use Rattle.std.proofs.Common.{sym, subst}
+use Rattle.std.proofs.Common.{subst}
 use Rattle.mr_master_model.specs.Past.{Answered}
 use Rattle.mr_master_model.specs.Sends.{answer_sends}
-use Rattle.mr_master.specs.State.{Master, Keeps, Reads, Stands}
+use Rattle.mr_master.specs.State.{Master, Reads, Stands}
 use Rattle.mr_master.proofs.Standing.{stands-still}
 use Rattle.mr_master.proofs.Called.{answer-stands, answer-sent}
 use Rattle.mr_master.proofs.master.MasterMachine.answer.Goals as goal

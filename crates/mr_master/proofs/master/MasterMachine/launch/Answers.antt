@@ -1,6 +1,6 @@
 use Rattle.std.proofs.Common.{subst}
 use Rattle.mr_master_model.specs.Past.{Launches}
-use Rattle.mr_master.specs.State.{Master, Stands, StandsForSome}
+use Rattle.mr_master.specs.State.{Master, Stands}
 use Rattle.mr_master.specs.Launching.{HasLaunched}
 use Rattle.mr_master.proofs.Standing.{stands-still}
 use Rattle.mr_master.proofs.Entering.{stands-launched, sent-launched}

@@ -1,4 +1,4 @@
-use Rattle.std.proofs.Common.{◌∙◌, ap, List, subst}
+use Rattle.std.proofs.Common.{List, subst}
 use Rattle.std.proofs.lemmas.List.{take_all}
 use Rattle.mr_ids.specs.Attempt.{Attempt}
 use Rattle.mr_master.specs.Taking.{Enters}
