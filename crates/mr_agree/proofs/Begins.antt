@@ -42,7 +42,7 @@ told-is g t (a ∷ xs) c = told-is g t xs (tell a.task (g a) c) ∙ by (task_eq 
     by true = refl
     by false = refl
 
-none-in : (t : TaskId) (xs : List Attempt) → ((a : Attempt) → In a xs → is_reduce a ≡ false) → of_reduces t.kind ≡ true → attempts_in t xs ≡ []
+pub none-in : (t : TaskId) (xs : List Attempt) → ((a : Attempt) → In a xs → is_reduce a ≡ false) → of_reduces t.kind ≡ true → attempts_in t xs ≡ []
 none-in t [] o r = refl
 none-in t (a ∷ xs) o r = by (task_eq a.task t) refl (none-in t xs (λ b i. o b (inr i)) r)
   where

@@ -155,7 +155,7 @@ mute cfg k s (Recovering (x ∷ todo) (Clear_own j)) call y o d = subst Mute (so
 mute cfg k s (Recovering (x ∷ todo) (Move_from j)) call y o d = subst Mute (some-is _ call d) refl
 mute cfg k s _ call y o d = absurd (false≢true y)
 
-same-if : {A : Type 0} (b : Bool) (x : A) → (if b then x else x) ≡ x
+pub same-if : {A : Type 0} (b : Bool) (x : A) → (if b then x else x) ≡ x
 same-if true x = refl
 same-if false x = refl
 
@@ -187,7 +187,7 @@ module _ (cfg : Config) (k : ℕ) (p : Phase) (ws : List Todo_winner) (f : ℕ �
   abbrev M : read.Seen
   M = early_machine (work_at k p) f read' cs
 
-  set-up : SetUp cfg k S M p
+  pub set-up : SetUp cfg k S M p
   set-up = by p taken
     where
       by : (q : Phase) → Taken cfg q ws read' cs → SetUp cfg k S M q
@@ -200,7 +200,7 @@ module _ (cfg : Config) (k : ℕ) (p : Phase) (ws : List Todo_winner) (f : ℕ �
       by (Finished b) t = tt
       by Stopped t = tt
 
-  early-duty : duty W M ≡ named p (duty_of cfg k S p)
+  pub early-duty : duty W M ≡ named p (duty_of cfg k S p)
   early-duty = duty-is cfg k S M p can refl refl (λ e. absurd (false≢true (sym (young-runs p young) ∙ e)))
 
   early-sends : (call : Store) (r : Reply) → duty_of cfg k S p ≡ Some call → answer_sends W M (answer_of call r) ≡ duty_sends cfg S (told cfg k S call r) call r
@@ -289,7 +289,7 @@ module _ (cfg : Config) (k : ℕ) (p : Phase) (ws : List Todo_winner) (f : ℕ �
   recovery-kills (Opening n) r g = refl
   recovery-kills _ r g = refl
 
-  none-killed : (call : Store) (r : Reply) → duty_of cfg k S p ≡ Some call → Kills (answer_sends W M (answer_of call r))
+  pub none-killed : (call : Store) (r : Reply) → duty_of cfg k S p ≡ Some call → Kills (answer_sends W M (answer_of call r))
   none-killed call r d = subst Kills
       (sym (answer-sent cfg k S M p call r can refl set-up refl d (early-duty ∙ ap (named p) d)
       ∙ (λ i. own-sends cfg k M p call r young can i ++ machine-outcome cfg k (phase_told k S p call r) (can-after k S p call r can) i)))
@@ -362,7 +362,7 @@ tell-append : (g : Attempt → TaskCall) (xs ys : List Attempt) (c : Calls) → 
 tell-append g [] ys c = refl
 tell-append g (x ∷ xs) ys c = tell-append g xs ys (tell x.task (g x) c)
 
-one-more : (x : Todo_winner) (done : List Todo_winner) (cs : Calls) → x.attempt.task ≡ x.task → cs ≡ recovered done →
+pub one-more : (x : Todo_winner) (done : List Todo_winner) (cs : Calls) → x.attempt.task ≡ x.task → cs ≡ recovered done →
     (λ (u : TaskId). if same_task u x.task then task_call.Recovers x.attempt ∷ cs u else cs u) ≡ recovered (done ++ x ∷ [])
 one-more x done cs own c =
     (λ i u. if same-both u i then task_call.Recovers x.attempt ∷ c i u else c i u)

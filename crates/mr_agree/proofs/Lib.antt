@@ -12,3 +12,4 @@ pub mod Bars
 pub mod Points
 pub mod Alike
 pub mod Begins
+pub mod Starts

@@ -5,3 +5,4 @@ pub mod Recorded
 pub mod Points
 pub mod Alike
 pub mod Begins
+pub mod Holds

@@ -24,6 +24,7 @@
 
 ghost use Rattle.mr_agree.specs.Alike.{TasksStayAlike};
 ghost use Rattle.mr_agree.specs.Begins.{BeginningsAgree};
+ghost use Rattle.mr_agree.specs.Holds.{RunningBegins};
 ghost use Rattle.mr_agree.specs.Points.{PointsAgree};
 ghost use Rattle.mr_agree.specs.Recorded.{ReducesAreRecorded};
 ghost use Rattle.mr_agree.specs.Agreement.{ActsUntilItRuns, TurnsAgree};
@@ -58,4 +59,9 @@ pub fn tasks_stay_alike()
 /// Until a master runs, its past tells no task anything; and of each map the master and its machine take the same attempt over.
 pub fn beginnings_agree()
     ensures { BeginningsAgree }
+{}
+
+/// Where a master begins to run, its machine stands where it does: it launched, knows and read the same, and its tasks have heard alike.
+pub fn running_begins()
+    ensures { RunningBegins }
 {}

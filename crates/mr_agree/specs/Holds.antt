@@ -1,0 +1,24 @@
+-- What a machine holds beside what its tasks have heard.
+use Rattle.std.specs.Prelude.{◌≡◌, ℕ, true, List, ◌∷◌}
+use Rattle.mr_master_model.specs.Readings as read
+use Rattle.mr_model.specs.Packets.{Config}
+use Rattle.mr_model.specs.Hearing.{is_running, has_container}
+use Rattle.mr_model.specs.Duties.{Master_step, seen}
+use Rattle.mr_model.specs.Claims.{has_not_run}
+use Rattle.mr_model.specs.Made.{AllMade}
+use Rattle.mr_agree.specs.Agreement.{machine_seen}
+use Rattle.mr_agree.specs.Points.{StandsAt, in_order}
+
+-- m stands where the master's past has led, launched what it launched, knows the nodes as it does, read what it read; and while it runs, the same containers
+-- were sent a Kill
+pub record Holds (cfg : Config) (k : ℕ) (past : List Master_step) (m : read.Seen) : Type 0 where
+  pub stands : StandsAt cfg k past m
+  pub launched : m.launched ≡ in_order (seen cfg k past).launched
+  pub known : m.known ≡ (seen cfg k past).known
+  pub earlier : m.earlier ≡ (seen cfg k past).history
+  pub killed : is_running (seen cfg k past).phase ≡ true → (n : ℕ) → m.killed n ≡ has_container (seen cfg k past).killed (record { app = k; number = n })
+
+-- Where a master begins to run, its machine stands where it does, and its tasks have heard alike.
+abbrev pub RunningBegins : Type 0
+RunningBegins = (cfg : Config) (k : ℕ) (past : List Master_step) (x : Master_step) → AllMade cfg k (x ∷ past) → has_not_run (seen cfg k past).phase ≡ true
+    → is_running (seen cfg k (x ∷ past)).phase ≡ true → Holds cfg k (x ∷ past) (machine_seen cfg k (x ∷ past))
