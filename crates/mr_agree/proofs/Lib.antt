@@ -13,3 +13,4 @@ pub mod Points
 pub mod Alike
 pub mod Begins
 pub mod Starts
+pub mod Launches

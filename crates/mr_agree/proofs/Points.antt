@@ -58,16 +58,16 @@ succeeded_in v = find (λ a. grant.has v.recorded a && not (v.lost a)) v.arrived
 -- ---- one task
 
 -- what the agreement of either kind of task says that launches need
-record Tells (k : ℕ) (s : Seen) (t : TaskId) (r : task.Seen) : Type 0 where
-  live : (a : Attempt) → a.task ≡ t → task.is_live r a ≡ is_live s a
-  number : r.numbered ≡ count_of s.launched t
-  count : count_by (task.is_live r) r.arrived ≡ live_count s t s.launched
-  won : is_running s.phase ≡ true → task.is_won r ≡ is_won s (of_reduces t.kind) t
+pub record Tells (k : ℕ) (s : Seen) (t : TaskId) (r : task.Seen) : Type 0 where
+  pub live : (a : Attempt) → a.task ≡ t → task.is_live r a ≡ is_live s a
+  pub number : r.numbered ≡ count_of s.launched t
+  pub count : count_by (task.is_live r) r.arrived ≡ live_count s t s.launched
+  pub won : is_running s.phase ≡ true → task.is_won r ≡ is_won s (of_reduces t.kind) t
 
 number-is : (m n x y : ℕ) → m ≡ 1000 * n + x → m ≡ 1000 * n + y → x ≡ y
 number-is m n x y e f = omega (arith, e, f)
 
-tells : (cfg : Config) (k : ℕ) (h : List Master_step) (t : TaskId) → AllMade cfg k h → t.job ≡ cfg.job → Tells k (seen cfg k h) t (of_task cfg k h t)
+pub tells : (cfg : Config) (k : ℕ) (h : List Master_step) (t : TaskId) → AllMade cfg k h → t.job ≡ cfg.job → Tells k (seen cfg k h) t (of_task cfg k h t)
 tells cfg k h t made here = by (of_reduces t.kind) refl
   where
     by : (b : Bool) → of_reduces t.kind ≡ b → Tells k (seen cfg k h) t (of_task cfg k h t)
@@ -86,14 +86,14 @@ tells cfg k h t made here = by (of_reduces t.kind) refl
 
 -- ---- the job's tasks
 
-task-test : (cfg : Config) (k : ℕ) (t : TaskId) → job.is_task (setting cfg k) t ≡ cluster.is_task cfg t
+pub task-test : (cfg : Config) (k : ℕ) (t : TaskId) → job.is_task (setting cfg k) t ≡ cluster.is_task cfg t
 task-test cfg k t = ap (λ n. same_job t.job cfg.job && nat_lt t.number n) (by t.kind)
   where
     by : (x : TaskKind) → job.count_of (setting cfg k) x ≡ tasks_of cfg x
     by Map = refl
     by Reduce = refl
 
-job-is : (cfg : Config) (t : TaskId) → cluster.is_task cfg t ≡ true → t.job ≡ cfg.job
+pub job-is : (cfg : Config) (t : TaskId) → cluster.is_task cfg t ≡ true → t.job ≡ cfg.job
 job-is cfg t e = same_job-true t.job cfg.job (and_parts (same_job t.job cfg.job) (nat_lt t.number (tasks_of cfg t.kind)) e).0
 
 reduce-is-task : (cfg : Config) (k n : ℕ) → nat_lt n cfg.reduces ≡ true → job.is_task (setting cfg k) (reduce_of cfg.job n) ≡ true

@@ -1,13 +1,18 @@
 -- What a machine holds beside what its tasks have heard.
 use Rattle.std.specs.Prelude.{◌≡◌, ℕ, true, List, ◌∷◌}
+use Rattle.std.specs.Option.{option_map}
+use Rattle.mr_ids.specs.Attempt.{Attempt}
+use Rattle.mr_packet.specs.declared.packet.ContainerId.{ContainerId}
+use Rattle.mr_master_model.specs.declared.launch.Launch.{Launch}
 use Rattle.mr_master_model.specs.Readings as read
 use Rattle.mr_model.specs.Packets.{Config}
-use Rattle.mr_model.specs.Hearing.{is_running, has_container}
+use Rattle.mr_model.specs.Hearing.{Seen, Launched, is_running, has_container, find_launched, find_container}
 use Rattle.mr_model.specs.Duties.{Master_step, seen}
 use Rattle.mr_model.specs.Claims.{has_not_run}
 use Rattle.mr_model.specs.Made.{AllMade}
+use Rattle.mr_agree.specs.Steps.{setting}
 use Rattle.mr_agree.specs.Agreement.{machine_seen}
-use Rattle.mr_agree.specs.Points.{StandsAt, in_order}
+use Rattle.mr_agree.specs.Points.{StandsAt, launch_as, in_order}
 
 -- m stands where the master's past has led, launched what it launched, knows the nodes as it does, read what it read; and while it runs, the same containers
 -- were sent a Kill
@@ -22,3 +27,17 @@ pub record Holds (cfg : Config) (k : ℕ) (past : List Master_step) (m : read.Se
 abbrev pub RunningBegins : Type 0
 RunningBegins = (cfg : Config) (k : ℕ) (past : List Master_step) (x : Master_step) → AllMade cfg k (x ∷ past) → has_not_run (seen cfg k past).phase ≡ true
     → is_running (seen cfg k (x ∷ past)).phase ≡ true → Holds cfg k (x ∷ past) (machine_seen cfg k (x ∷ past))
+
+-- ---- what an attempt was launched as, and for which attempt a container was
+
+abbrev pub pair_of : Launched → Attempt × Launch
+pair_of l = (l.attempt, launch_as l)
+
+pub record LaunchesFound (cfg : Config) (k : ℕ) (s : Seen) (m : read.Seen) : Type 0 where
+  pub launch : (a : Attempt) → read.launch_of (setting cfg k) m a ≡ option_map launch_as (find_launched s.launched a)
+  pub container : (c : ContainerId) → read.launched_in (setting cfg k) m c ≡ option_map pair_of (find_container s.launched c)
+
+-- While a master runs, its machine finds the launch of an attempt, and that of a container, as the master does.
+abbrev pub LaunchesAgree : Type 0
+LaunchesAgree = (cfg : Config) (k : ℕ) (past : List Master_step) (m : read.Seen) → AllMade cfg k past → Holds cfg k past m → is_running (seen cfg k past).phase ≡ true
+    → LaunchesFound cfg k (seen cfg k past) m

@@ -24,7 +24,7 @@
 
 ghost use Rattle.mr_agree.specs.Alike.{TasksStayAlike};
 ghost use Rattle.mr_agree.specs.Begins.{BeginningsAgree};
-ghost use Rattle.mr_agree.specs.Holds.{RunningBegins};
+ghost use Rattle.mr_agree.specs.Holds.{LaunchesAgree, RunningBegins};
 ghost use Rattle.mr_agree.specs.Points.{PointsAgree};
 ghost use Rattle.mr_agree.specs.Recorded.{ReducesAreRecorded};
 ghost use Rattle.mr_agree.specs.Agreement.{ActsUntilItRuns, TurnsAgree};
@@ -64,4 +64,9 @@ pub fn beginnings_agree()
 /// Where a master begins to run, its machine stands where it does: it launched, knows and read the same, and its tasks have heard alike.
 pub fn running_begins()
     ensures { RunningBegins }
+{}
+
+/// While a master runs, its machine finds what an attempt was launched as, and for which attempt a container was, as the master does.
+pub fn launches_agree()
+    ensures { LaunchesAgree }
 {}
