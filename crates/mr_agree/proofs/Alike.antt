@@ -15,32 +15,32 @@ use Rattle.mr_task.proofs.Same.{same-sym}
 use Rattle.mr_agree.specs.Points.{View, view, Alike}
 use Rattle.mr_agree.specs.Alike.{TasksStayAlike}
 
-abbrev live_in : View → Attempt → Bool
+abbrev pub live_in : View → Attempt → Bool
 live_in v a = grant.has v.arrived a && (not (grant.has v.accepted a) && not (v.over a))
 
-abbrev won_in : View → Bool
+abbrev pub won_in : View → Bool
 won_in v = list_any (λ a. grant.has v.accepted a && not (v.lost a)) v.arrived
 
-abbrev accepts_of : TaskKind → View → Attempt → Bool
+abbrev pub accepts_of : TaskKind → View → Attempt → Bool
 accepts_of Reduce v a = is_first (filter (λ b. not (v.over b)) v.asked) a
 accepts_of Map v a = not (v.over a) && not (won_in v)
 
-abbrev accepts_in : View → Attempt → Bool
+abbrev pub accepts_in : View → Attempt → Bool
 accepts_in v a = grant.has v.arrived a && (not (grant.has v.accepted a) && accepts_of a.task.kind v a)
 
-abbrev with_end : View → Attempt → Bool → View
+abbrev pub with_end : View → Attempt → Bool → View
 with_end v a f = record v { over = λ b. same_attempt b a || v.over b; failed = λ b. if same_attempt b a then f else v.failed b }
 
-abbrev ended_in : View → Attempt → Bool → View
+abbrev pub ended_in : View → Attempt → Bool → View
 ended_in v a f = if live_in v a then with_end v a f else v
 
 abbrev with_loss : View → Attempt → View
 with_loss v a = record v { lost = λ b. same_attempt b a || v.lost b }
 
-abbrev can_lose : View → Attempt → Bool
+abbrev pub can_lose : View → Attempt → Bool
 can_lose v a = not (task.is_reduce a.task.kind) && grant.has v.recorded a
 
-abbrev lost_in : View → Attempt → View
+abbrev pub lost_in : View → Attempt → View
 lost_in v a = if can_lose v a then with_loss v a else v
 
 abbrev with_launch : TaskId → ℕ → View → View
@@ -51,7 +51,7 @@ recovered_in t k v a =
     if is_none (first_of v.arrived) && same_task a.task t
     then record v { arrived = a ∷ []; accepted = a ∷ []; recorded = a ∷ []; numbered = task.numbered_up_to k a } else v
 
-next_in : TaskId → ℕ → View → TaskCall → View
+pub next_in : TaskId → ℕ → View → TaskCall → View
 next_in t k v Launches = if is_none (task.refusal_of (won_in v) (count_by (live_in v) v.arrived) v.numbered) then with_launch t k v else v
 next_in t k v (Hears a) = v
 next_in t k v (Asks a) = if grant.has v.arrived a && not (grant.has v.asked a) then record v { asked = v.asked ++ a ∷ [] } else v
@@ -67,11 +67,11 @@ view-if : (c : Bool) (x y : task.Seen) → view (if c then x else y) ≡ (if c t
 view-if true x y = refl
 view-if false x y = refl
 
-accepts-is : (kind : TaskKind) (r : task.Seen) (a : Attempt) → task.may_accept_of kind r a ≡ accepts_of kind (view r) a
+pub accepts-is : (kind : TaskKind) (r : task.Seen) (a : Attempt) → task.may_accept_of kind r a ≡ accepts_of kind (view r) a
 accepts-is Reduce r a = refl
 accepts-is Map r a = refl
 
-next-is : (t : TaskId) (k : ℕ) (r : task.Seen) (call : TaskCall) → view (task.next_seen t k r call) ≡ next_in t k (view r) call
+pub next-is : (t : TaskId) (k : ℕ) (r : task.Seen) (call : TaskCall) → view (task.next_seen t k r call) ≡ next_in t k (view r) call
 unfolding task.next_seen next_in
 next-is t k r Launches = view-if (is_none (task.launch_refusal r)) (task.after_launch t k r) r
 next-is t k r (Hears a) = refl

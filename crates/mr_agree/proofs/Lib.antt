@@ -14,3 +14,4 @@ pub mod Alike
 pub mod Begins
 pub mod Starts
 pub mod Launches
+pub mod Keeps

@@ -21,7 +21,7 @@ use Rattle.mr_master_model.specs.Past as machine
 use Rattle.mr_master_model.specs.Duty.{duty_at}
 use Rattle.mr_model.specs.Ids.{of_reduces, reduce_of, same_job}
 use Rattle.mr_model.specs.Packets.{Config}
-use Rattle.mr_model.specs.Hearing.{Seen, is_running, is_live, is_won, accepts_task, has_winner}
+use Rattle.mr_model.specs.Hearing.{Seen, is_running, is_live, is_won, may_accept, failures, accepts_task, has_winner}
 use Rattle.mr_model.specs.Duties.{Master_step, seen, all_won, first_bar}
 use Rattle.mr_model.specs.World.{launch_of, count_of}
 use Rattle.mr_model.specs.Effect as cluster
@@ -63,6 +63,8 @@ pub record Tells (k : ℕ) (s : Seen) (t : TaskId) (r : task.Seen) : Type 0 wher
   pub number : r.numbered ≡ count_of s.launched t
   pub count : count_by (task.is_live r) r.arrived ≡ live_count s t s.launched
   pub won : is_running s.phase ≡ true → task.is_won r ≡ is_won s (of_reduces t.kind) t
+  pub accepts : (a : Attempt) → a.task ≡ t → task.may_accept r a ≡ may_accept s a
+  pub failures : (a : Attempt) → a.task ≡ t → task.failures r ≡ failures s.ended a
 
 number-is : (m n x y : ℕ) → m ≡ 1000 * n + x → m ≡ 1000 * n + y → x ≡ y
 number-is m n x y e f = omega (arith, e, f)
@@ -73,12 +75,16 @@ tells cfg k h t made here = by (of_reduces t.kind) refl
     by : (b : Bool) → of_reduces t.kind ≡ b → Tells k (seen cfg k h) t (of_task cfg k h t)
     by true e = let o = calls_agree cfg k h t e (all-fit cfg k h made) in record {
       live = o.live;
+      accepts = o.accepts;
+      failures = o.failures;
       number = (let n = ap (λ (a : Attempt). a.number) o.next in omega (arith, n));
       count = o.live_ones;
       won = λ run. o.won run ∙ ap (λ b. is_won (seen cfg k h) b t) (sym e);
     }
     by false e = let o = map_calls_agree cfg k h t e here (all-fit cfg k h made) (all-of-job cfg k h made) in record {
       live = o.live;
+      accepts = o.accepts;
+      failures = o.failures;
       number = (let n = ap (λ (a : Attempt). a.number) o.next in omega (arith, n));
       count = o.live_ones;
       won = λ run. o.won ∙ ap (λ b. is_won (seen cfg k h) b t) (sym e);

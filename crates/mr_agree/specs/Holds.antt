@@ -4,13 +4,16 @@ use Rattle.std.specs.Option.{option_map}
 use Rattle.mr_ids.specs.Attempt.{Attempt}
 use Rattle.mr_packet.specs.declared.packet.ContainerId.{ContainerId}
 use Rattle.mr_master_model.specs.declared.launch.Launch.{Launch}
+use Rattle.mr_packet.specs.declared.packet.Packet.{Packet}
+use Rattle.mr_packet.specs.declared.packet.Packet.TheVariants as packet
 use Rattle.mr_master_model.specs.Readings as read
+use Rattle.mr_master_model.specs.Next.{next_seen}
 use Rattle.mr_model.specs.Packets.{Config}
 use Rattle.mr_model.specs.Hearing.{Seen, Launched, is_running, has_container, find_launched, find_container}
-use Rattle.mr_model.specs.Duties.{Master_step, seen}
+use Rattle.mr_model.specs.Duties.{Master_step, Came, Launches, seen}
 use Rattle.mr_model.specs.Claims.{has_not_run}
 use Rattle.mr_model.specs.Made.{AllMade}
-use Rattle.mr_agree.specs.Steps.{setting}
+use Rattle.mr_agree.specs.Steps.{setting, step_of}
 use Rattle.mr_agree.specs.Agreement.{machine_seen}
 use Rattle.mr_agree.specs.Points.{StandsAt, launch_as, in_order}
 
@@ -41,3 +44,22 @@ pub record LaunchesFound (cfg : Config) (k : ℕ) (s : Seen) (m : read.Seen) : T
 abbrev pub LaunchesAgree : Type 0
 LaunchesAgree = (cfg : Config) (k : ℕ) (past : List Master_step) (m : read.Seen) → AllMade cfg k past → Holds cfg k past m → is_running (seen cfg k past).phase ≡ true
     → LaunchesFound cfg k (seen cfg k past) m
+
+-- ---- steps that keep it
+
+-- from there on after one more step
+abbrev pub Kept : Config → ℕ → List Master_step → read.Seen → Master_step → Type 0
+Kept cfg k past m x = AllMade cfg k (x ∷ past) → Holds cfg k past m → is_running (seen cfg k past).phase ≡ true → Holds cfg k (x ∷ past) (next_seen (setting cfg k) m (step_of x))
+
+-- packets that tell of no restart and no lost output
+abbrev pub IsPlain : Packet → Type 0
+IsPlain (packet.NodeUp n i) = ⊥
+IsPlain (packet.FetchLost c a) = ⊥
+IsPlain (packet.Failed a) = ⊥
+IsPlain (packet.Ended c) = ⊥
+IsPlain _ = Unit {0}
+
+-- While a master runs, its machine stays with it at each launch, and at each such packet.
+pub record StepsKeep : Type 0 where
+  pub launches : (cfg : Config) (k : ℕ) (past : List Master_step) (m : read.Seen) (l : Launched) → Kept cfg k past m (Launches l)
+  pub packets : (cfg : Config) (k : ℕ) (past : List Master_step) (m : read.Seen) (p : Packet) → IsPlain p → Kept cfg k past m (Came p)

@@ -24,7 +24,7 @@
 
 ghost use Rattle.mr_agree.specs.Alike.{TasksStayAlike};
 ghost use Rattle.mr_agree.specs.Begins.{BeginningsAgree};
-ghost use Rattle.mr_agree.specs.Holds.{LaunchesAgree, RunningBegins};
+ghost use Rattle.mr_agree.specs.Holds.{LaunchesAgree, RunningBegins, StepsKeep};
 ghost use Rattle.mr_agree.specs.Points.{PointsAgree};
 ghost use Rattle.mr_agree.specs.Recorded.{ReducesAreRecorded};
 ghost use Rattle.mr_agree.specs.Agreement.{ActsUntilItRuns, TurnsAgree};
@@ -69,4 +69,9 @@ pub fn running_begins()
 /// While a master runs, its machine finds what an attempt was launched as, and for which attempt a container was, as the master does.
 pub fn launches_agree()
     ensures { LaunchesAgree }
+{}
+
+/// While a master runs, its machine stays with it at each launch, and at each packet that tells of no end, no restart and no lost output.
+pub fn steps_keep()
+    ensures { StepsKeep }
 {}

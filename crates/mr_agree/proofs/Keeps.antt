@@ -1,0 +1,374 @@
+-- Steps at which a machine stays with its master: launches, and packets that tell one task the same on both sides.
+use Rattle.std.proofs.Common.{ℕ, ◌≡◌, refl, sym, ◌∙◌, ap, subst, Bool, true, false, ◌&&◌, ◌||◌, not, List, [], ◌∷◌, ◌++◌, Option, Some, None, if◌then◌else◌, is_some, is_none, length}
+use Rattle.std.specs.Option.{option_map}
+use Rattle.mr_ids.specs.Attempt.{Attempt}
+use Rattle.mr_ids.specs.Same.{same_task}
+use Rattle.mr_ids.specs.declared.id.TaskId.{TaskId}
+use Rattle.mr_ids.specs.declared.id.TaskKind.{TaskKind}
+use Rattle.mr_ids.specs.declared.id.TaskKind.TheVariants.{Map, Reduce}
+use Rattle.mr_packet.specs.declared.packet.ContainerId.{ContainerId}
+use Rattle.mr_packet.specs.Sends.{to_node}
+use Rattle.mr_grant.specs.Attempts as grant
+use Rattle.mr_packet.specs.declared.packet.Packet.{Packet}
+use Rattle.mr_packet.specs.declared.packet.Packet.TheVariants as packet
+use Rattle.mr_history.specs.declared.record.Record.TheVariants.{AttemptStarted, MapSucceeded, ReduceSucceeded}
+use Rattle.mr_task.specs.Calls as task_call
+use Rattle.mr_task.specs.Calls.{TaskCall}
+use Rattle.mr_task.specs.Readings as task
+use Rattle.mr_master_model.specs.declared.launch.Launch.{Launch}
+use Rattle.mr_master_model.specs.declared.setting.Setting.{Setting}
+use Rattle.mr_master_model.specs.Job as job
+use Rattle.mr_master_model.specs.Readings as read
+use Rattle.mr_master_model.specs.Hearing as hears
+use Rattle.mr_master_model.specs.Sends as sends
+use Rattle.mr_master_model.specs.Sends.{killed_by}
+use Rattle.mr_master_model.specs.Next as next
+use Rattle.mr_model.specs.Ids.{of_reduces, is_reduce, task_eq}
+use Rattle.mr_model.specs.Packets.{Config}
+use Rattle.mr_model.specs.Hearing.{Seen, Launched, is_running, is_named, is_over, stands, find_launched, find_container, has_container, has, may_accept, heard, only_known, after_ask, success_record, placed}
+use Rattle.mr_model.specs.Duties.{Master_step, Came, Launches, seen, next_seen}
+use Rattle.mr_model.specs.Effect as cluster
+use Rattle.mr_model.specs.Effect.{unless, NotRunning, NoTask, NoNode}
+use Rattle.mr_model.specs.Calls.{Calls, calls, next_calls, calls_heard, tell, tell_launched, of_task}
+use Rattle.mr_model.specs.Made.{IsMade, AllMade, BelongsTo}
+use Rattle.mr_model.proofs.Lists.{found_launched}
+use Rattle.mr_model.proofs.Made.{fitted}
+use Rattle.mr_agree.specs.Steps.{setting, step_of}
+use Rattle.mr_agree.specs.Works.{CanBe, work_at}
+use Rattle.mr_agree.specs.Points.{view, Alike, launch_as, in_order, launch_why, refusal_as}
+use Rattle.mr_agree.specs.Holds.{Holds, LaunchesFound, IsPlain, StepsKeep, pair_of}
+use Rattle.mr_agree.proofs.Works.{runs-is}
+use Rattle.mr_agree.proofs.Turn.{if_cases}
+use Rattle.mr_agree.proofs.Early.{same_sym}
+use Rattle.mr_agree.proofs.Points.{point, tells, task-test, job-is}
+use Rattle.mr_agree.proofs.Alike.{alike-next, accepts_in, accepts-is}
+use Rattle.mr_agree.proofs.Launches.{found, order-length}
+
+-- ---- what is held, of what was seen and told
+
+pub record At (cfg : Config) (k : ℕ) (s : Seen) (c : Calls) (m : read.Seen) : Type 0 where
+  pub work : m.work ≡ work_at k s.phase
+  pub can : CanBe s.phase
+  pub due : m.due ≡ s.due
+  pub tail : m.tail ≡ s.tail
+  pub bars : m.bars ≡ s.bars
+  pub tasks : is_running s.phase ≡ true → (t : TaskId) → job.is_task (setting cfg k) t ≡ true → Alike (task.seen t k (c t)) (task.seen t k (m.calls t))
+  pub launched : m.launched ≡ in_order s.launched
+  pub known : m.known ≡ s.known
+  pub earlier : m.earlier ≡ s.history
+  pub killed : is_running s.phase ≡ true → (n : ℕ) → m.killed n ≡ has_container s.killed (record { app = k; number = n })
+
+pub at-of : (cfg : Config) (k : ℕ) (h : List Master_step) (m : read.Seen) → Holds cfg k h m → At cfg k (seen cfg k h) (calls cfg k h) m
+at-of cfg k h m o = record {
+  work = o.stands.work;
+  can = o.stands.can;
+  due = o.stands.due;
+  tail = o.stands.tail;
+  bars = o.stands.bars;
+  tasks = o.stands.tasks;
+  launched = o.launched;
+  known = o.known;
+  earlier = o.earlier;
+  killed = o.killed;
+}
+
+pub of-at : (cfg : Config) (k : ℕ) (h : List Master_step) (x : Master_step) (m : read.Seen) → At cfg k (next_seen cfg k (seen cfg k h) x) (next_calls cfg k (seen cfg k h) x (calls cfg k h)) m → Holds cfg k (x ∷ h) m
+unfolding seen calls
+of-at cfg k h x m o = record {
+  stands = record {
+    work = o.work;
+    can = o.can;
+    due = o.due;
+    tail = o.tail;
+    bars = o.bars;
+    tasks = o.tasks;
+  };
+  launched = o.launched;
+  known = o.known;
+  earlier = o.earlier;
+  killed = o.killed;
+}
+
+-- ---- both tell one task the same
+
+told-same : (k : ℕ) (t u : TaskId) (call : TaskCall) (c d : List TaskCall) → Alike (task.seen u k c) (task.seen u k d) →
+    Alike (task.seen u k (if task_eq t u then call ∷ c else c)) (task.seen u k (if same_task u t then call ∷ d else d))
+unfolding task.seen
+told-same k t u call c d o = subst (λ b. Alike (task.seen u k (if task_eq t u then call ∷ c else c)) (task.seen u k (if b then call ∷ d else d))) (sym (same_sym u t)) (by (task_eq t u))
+  where
+    by : (b : Bool) → Alike (task.seen u k (if b then call ∷ c else c)) (task.seen u k (if b then call ∷ d else d))
+    by true = alike-next u k (task.seen u k c) (task.seen u k d) call o
+    by false = o
+
+pub tell-at : (cfg : Config) (k : ℕ) (s : Seen) (c : Calls) (m : read.Seen) (t : TaskId) (call : TaskCall) → At cfg k s c m → At cfg k s (tell t call c) (read.tell m t call)
+tell-at cfg k s c m t call o = record {
+  work = o.work;
+  can = o.can;
+  due = o.due;
+  tail = o.tail;
+  bars = o.bars;
+  tasks = λ run u e. told-same k t u call (c u) (m.calls u) (o.tasks run u e);
+  launched = o.launched;
+  known = o.known;
+  earlier = o.earlier;
+  killed = o.killed;
+}
+
+-- ---- a packet, NodeUp aside
+
+pub came-at : (cfg : Config) (k : ℕ) (s : Seen) (c : Calls) (m : read.Seen) (p : Packet) → is_running s.phase ≡ true → m.work ≡ work_at k s.phase → CanBe s.phase →
+    hears.delivered (setting cfg k) m p ≡ (if read.is_running m.work then hears.heard (setting cfg k) m p else m) →
+    (is_running (heard cfg s p).phase ≡ true → (g : ℕ → Bool) → killed_by (sends.replies (setting cfg k) m (hears.heard (setting cfg k) m p) p) g ≡ g) →
+    At cfg k (heard cfg s p) (calls_heard s p c) (hears.heard (setting cfg k) m p) →
+    At cfg k (next_seen cfg k s (Came p)) (next_calls cfg k s (Came p) c) (next.next_seen (setting cfg k) m (step_of (Came p)))
+unfolding next_seen next_calls next.next_seen next.moved next.sent_by
+came-at cfg k s c m p run w can d quiet o =
+    subst (λ z. At cfg k z (if is_running s.phase then calls_heard s p c else c) (next.with_kills (if read.is_running m.work then sends.replies W m H p else []) (hears.delivered W m p)))
+    (λ i. if sym run i then heard cfg s p else only_known s p)
+    (subst (λ z. At cfg k (heard cfg s p) z (next.with_kills (if read.is_running m.work then sends.replies W m H p else []) (hears.delivered W m p)))
+    (λ i. if sym run i then calls_heard s p c else c)
+    (subst (λ z. At cfg k (heard cfg s p) (calls_heard s p c) z)
+    (sym ((λ i. next.with_kills (if runs i then sends.replies W m H p else []) (d i)) ∙ (λ i. next.with_kills (sends.replies W m H p) (if runs i then H else m))))
+    (record {
+      work = o.work;
+      can = o.can;
+      due = o.due;
+      tail = o.tail;
+      bars = o.bars;
+      tasks = o.tasks;
+      launched = o.launched;
+      known = o.known;
+      earlier = o.earlier;
+      killed = λ go n. ap (λ g. g n) (quiet go H.killed) ∙ o.killed go n;
+    })))
+  where
+    W : Setting
+    W = setting cfg k
+
+    H : read.Seen
+    H = hears.heard W m p
+
+    runs : read.is_running m.work ≡ true
+    runs = ap read.is_running w ∙ (runs-is k s.phase can ∙ run)
+
+-- what neither the phase nor a record changes
+asked-at : (cfg : Config) (k : ℕ) (s : Seen) (c : Calls) (m : read.Seen) (b : Bool) (xs : List Attempt) → At cfg k s c m → At cfg k (if b then record s { asked = xs } else s) c m
+asked-at cfg k s c m true xs o = record { work = o.work; can = o.can; due = o.due; tail = o.tail; bars = o.bars; tasks = o.tasks; launched = o.launched; known = o.known; earlier = o.earlier; killed = o.killed }
+asked-at cfg k s c m false xs o = o
+
+module _ (cfg : Config) (k : ℕ) (h : List Master_step) (m : read.Seen) (made : AllMade cfg k h) (o : Holds cfg k h m) (run : is_running (seen cfg k h).phase ≡ true) where
+  abbrev W : Setting
+  W = setting cfg k
+
+  abbrev S : Seen
+  S = seen cfg k h
+
+  abbrev C : Calls
+  C = calls cfg k h
+
+  here : At cfg k S C m
+  here = at-of cfg k h m o
+
+  finds : LaunchesFound cfg k S m
+  finds = found cfg k h m made o run
+
+  of-job : (a : Attempt) (l : Launched) → find_launched S.launched a ≡ Some l → cluster.is_task cfg a.task ≡ true
+  of-job a l e = let f = found_launched S.launched a (ap (λ x. is_some x) e) in (subst (BelongsTo cfg k) f.2 ((fitted cfg k h made).launches f.0 f.1)).1
+
+  alike : (t : TaskId) → cluster.is_task cfg t ≡ true → Alike (of_task cfg k h t) (read.of_task W m t)
+  alike t e = o.stands.tasks run t (task-test cfg k t ∙ e)
+
+  -- ---- Pending, Poll
+
+  asks-at : (a : Attempt) → At cfg k (after_ask S a) (tell_launched S a (task_call.Asks a) C) (hears.after_ask m a (read.launch_of W m a))
+  asks-at a = subst (λ f. At cfg k (after_ask S a) (tell_launched S a (task_call.Asks a) C) (hears.after_ask m a f)) (sym (finds.launch a)) (by (find_launched S.launched a))
+    where
+      base : At cfg k (after_ask S a) C m
+      base = asked-at cfg k S C m (is_some (find_launched S.launched a) && not (has S.asked a)) (S.asked ++ a ∷ []) here
+
+      by : (f : Option Launched) → At cfg k (after_ask S a) (if is_some f then tell a.task (task_call.Asks a) C else C) (hears.after_ask m a (option_map launch_as f))
+      by None = base
+      by (Some l) = tell-at cfg k (after_ask S a) C m a.task (task_call.Asks a) base
+
+  -- ---- Done
+
+  may-is : (t : TaskId) (a : Attempt) → a.task ≡ t → cluster.is_task cfg t ≡ true → task.may_accept (read.of_task W m t) a ≡ may_accept S a
+  may-is t a q e = as-view (read.of_task W m t) ∙ (ap (λ v. accepts_in v a) (alike t e) ∙ (sym (as-view (of_task cfg k h t)) ∙ (tells cfg k h t made (job-is cfg t e)).accepts a q))
+    where
+      as-view : (r : task.Seen) → task.may_accept r a ≡ accepts_in (view r) a
+      as-view r = ap (λ b. grant.has r.arrived a && (not (grant.has r.accepted a) && b)) (accepts-is a.task.kind r a)
+
+  module _ (a : Attempt) (bytes : Option ℕ) where
+    abbrev Accepted : Option Launched → Seen
+    Accepted f = record S { accepted = a ∷ S.accepted; standing = placed a f ++ S.standing; due = S.due ++ success_record a bytes f ∷ [] }
+
+    success-is : (l : Launched) (x : TaskKind) → hears.success_of x a (launch_as l) bytes ≡ (if of_reduces x then ReduceSucceeded a bytes else MapSucceeded a l.node l.incarnation)
+    success-is l Map = refl
+    success-is l Reduce = refl
+
+    reports-at : At cfg k (heard cfg S (packet.Done a bytes)) (calls_heard S (packet.Done a bytes) C) (hears.heard W m (packet.Done a bytes))
+    unfolding heard calls_heard hears.heard
+    reports-at = subst (λ f. At cfg k (if may_accept S a then Accepted (find_launched S.launched a) else S) (tell_launched S a (task_call.Reports a) C) (hears.after_done W m a bytes f)) (sym (finds.launch a))
+        (by (find_launched S.launched a) refl)
+      where
+        T : read.Seen
+        T = read.tell m a.task (task_call.Reports a)
+
+        same : At cfg k S (tell a.task (task_call.Reports a) C) (read.tell m a.task (task_call.Reports a))
+        same = tell-at cfg k S C m a.task (task_call.Reports a) here
+
+        choice : (l : Launched) (b : Bool) → At cfg k (if b then Accepted (Some l) else S) (tell a.task (task_call.Reports a) C)
+            (if b then read.with_due (read.tell m a.task (task_call.Reports a)) (hears.success_of a.task.kind a (launch_as l) bytes ∷ []) else read.tell m a.task (task_call.Reports a))
+        choice l true = record {
+          work = same.work;
+          can = same.can;
+          due = λ i. same.due i ++ success-is l a.task.kind i ∷ [];
+          tail = same.tail;
+          bars = same.bars;
+          tasks = same.tasks;
+          launched = same.launched;
+          known = same.known;
+          earlier = same.earlier;
+          killed = same.killed;
+        }
+        choice l false = same
+
+        by : (f : Option Launched) → find_launched S.launched a ≡ f →
+            At cfg k (if may_accept S a then Accepted f else S) (if is_some f then tell a.task (task_call.Reports a) C else C) (hears.after_done W m a bytes (option_map launch_as f))
+        by None e = subst (λ (b : Bool). At cfg k (if b then Accepted None else S) C m) (sym none) here
+          where
+            none : may_accept S a ≡ false
+            none = ap (λ (f : Option Launched). is_some f && (not (has S.accepted a) && (if is_reduce a then is_named S a else (not (is_over S.ended a) && is_none (stands S.standing a.task.number))))) e
+        by (Some l) e = subst (λ (b : Bool). At cfg k (if may_accept S a then Accepted (Some l) else S) (tell a.task (task_call.Reports a) C)
+            (if b then read.with_due (read.tell m a.task (task_call.Reports a)) (hears.success_of a.task.kind a (launch_as l) bytes ∷ []) else read.tell m a.task (task_call.Reports a)))
+            (sym (may-is a.task a refl (of-job a l e))) (choice l (may_accept S a))
+
+  -- ---- Where
+
+  heard-of : (t u : TaskId) (a : Attempt) (c d : List TaskCall) → Alike (task.seen u k c) (task.seen u k d) → Alike (task.seen u k c) (task.seen u k (if same_task u t then task_call.Hears a ∷ d else d))
+  unfolding task.seen task.next_seen
+  heard-of t u a c d o = by (same_task u t)
+    where
+      by : (b : Bool) → Alike (task.seen u k c) (task.seen u k (if b then task_call.Hears a ∷ d else d))
+      by true = o
+      by false = o
+
+  where-at : (c : ContainerId) → At cfg k S C (hears.after_where m (read.launched_in W m c))
+  where-at c = subst (λ f. At cfg k S C (hears.after_where m f)) (sym (finds.container c)) (by (find_container S.launched c))
+    where
+      by : (f : Option Launched) → At cfg k S C (hears.after_where m (option_map pair_of f))
+      by None = here
+      by (Some l) = record {
+        work = here.work;
+        can = here.can;
+        due = here.due;
+        tail = here.tail;
+        bars = here.bars;
+        tasks = λ run u e. heard-of l.attempt.task u l.attempt (C u) (m.calls u) (here.tasks run u e);
+        launched = here.launched;
+        known = here.known;
+        earlier = here.earlier;
+        killed = here.killed;
+      }
+
+  -- ---- what is sent for them
+
+  answer-quiet : (a : Attempt) (f : Option Launch) (b : Bool) (g : ℕ → Bool) → killed_by (sends.answer_to a f b) g ≡ g
+  unfolding killed_by
+  answer-quiet a None b g = refl
+  answer-quiet a (Some l) b g = refl
+
+  ack-quiet : (a : Attempt) (f : Option Launch) (g : ℕ → Bool) → killed_by (sends.ack_to W m a f) g ≡ g
+  unfolding killed_by
+  ack-quiet a None g = refl
+  ack-quiet a (Some l) g = if_cases (λ es. killed_by es g ≡ g) (grant.has (read.of_task W m a.task).accepted a || task.may_accept (read.of_task W m a.task) a) _ _ (λ t. refl) (λ t. refl)
+
+  ready-quiet : (c : ContainerId) (n : ℕ) (f : Option (Attempt × Launch)) (g : ℕ → Bool) → killed_by (sends.ready_to W m c n f) g ≡ g
+  unfolding killed_by
+  ready-quiet c n None g = refl
+  ready-quiet c n (Some p) g = by (read.succeeded W m (job.task_of W Map n))
+    where
+      at : (a : Attempt) (p : Option read.Place) → killed_by (sends.ready_at c n a p) g ≡ g
+      at a None = refl
+      at a (Some p) = refl
+
+      by : (o : Option Attempt) → killed_by (sends.ready_by W m c n o) g ≡ g
+      by None = refl
+      by (Some a) = at a (read.place_of W m a)
+
+  -- ---- each packet
+
+  kept-by : (p : Packet) → hears.delivered W m p ≡ (if read.is_running m.work then hears.heard W m p else m) →
+      (is_running (heard cfg S p).phase ≡ true → (g : ℕ → Bool) → killed_by (sends.replies W m (hears.heard W m p) p) g ≡ g) →
+      At cfg k (heard cfg S p) (calls_heard S p C) (hears.heard W m p) → Holds cfg k (Came p ∷ h) (next.next_seen W m (step_of (Came p)))
+  kept-by p d quiet x = of-at cfg k h (Came p) _ (came-at cfg k S C m p run o.stands.work o.stands.can d quiet x)
+
+  packets-keep : (p : Packet) → IsPlain p → Holds cfg k (Came p ∷ h) (next.next_seen W m (step_of (Came p)))
+  unfolding heard calls_heard hears.heard hears.delivered sends.replies killed_by
+  packets-keep (packet.Pending a) plain = kept-by (packet.Pending a) refl (λ go g. answer-quiet a (read.launch_of W m a) _ g) (asks-at a)
+  packets-keep (packet.Poll a) plain = kept-by (packet.Poll a) refl (λ go g. answer-quiet a (read.launch_of W m a) _ g) (asks-at a)
+  packets-keep (packet.Done a bytes) plain = kept-by (packet.Done a bytes) refl (λ go g. ack-quiet a (read.launch_of W m a) g) (reports-at a bytes)
+  packets-keep (packet.Where c n) plain = kept-by (packet.Where c n) refl (λ go g. ready-quiet c n (read.launched_in W m c) g) (where-at c)
+  packets-keep (packet.Failed a) plain = absurd plain
+  packets-keep (packet.Ended c) plain = absurd plain
+  packets-keep (packet.NodeUp n i) plain = absurd plain
+  packets-keep (packet.FetchLost c a) plain = absurd plain
+  packets-keep (packet.Launch c a i) plain = kept-by (packet.Launch c a i) refl (λ go g. refl) here
+  packets-keep (packet.Kill c) plain = kept-by (packet.Kill c) refl (λ go g. refl) here
+  packets-keep (packet.Fetch c a x y z) plain = kept-by (packet.Fetch c a x y z) refl (λ go g. refl) here
+  packets-keep (packet.Won t a) plain = kept-by (packet.Won t a) refl (λ go g. refl) here
+  packets-keep (packet.Outcome b) plain = kept-by (packet.Outcome b) refl (λ go g. refl) here
+  packets-keep (packet.Answer a b) plain = kept-by (packet.Answer a b) refl (λ go g. refl) here
+  packets-keep (packet.DoneAck a) plain = kept-by (packet.DoneAck a) refl (λ go g. refl) here
+  packets-keep (packet.MapReady n a x y) plain = kept-by (packet.MapReady n a x y) refl (λ go g. refl) here
+  packets-keep (packet.Piece a x y z bs) plain = kept-by (packet.Piece a x y z bs) refl (λ go g. refl) here
+
+  -- ---- a launch
+
+  module _ (l : Launched) (u : IsMade cfg k S (Launches l)) where
+    why-none : launch_why cfg S l.attempt.task l.node ≡ None
+    why-none = λ i. unless (u.2 i) NotRunning (unless (u.3 i) NoTask (unless (u.4 i) NoNode (u.5 i)))
+
+    refused-none : read.launch_refusal W m l.attempt.task l.node ≡ None
+    refused-none = (point cfg k h m made o.stands).launch l.attempt.task l.node ∙ ap refusal_as why-none
+
+    attempt-is : read.next_attempt W m l.attempt.task ≡ l.attempt
+    attempt-is = (point cfg k h m made o.stands).next l.attempt.task l.node why-none ∙ ap (λ (x : Launched). x.attempt) (sym u.0)
+
+    launched-is : read.launched_as W m l.node ≡ launch_as l
+    launched-is = (let n = ap length o.launched ∙ order-length S.launched in let q = o.known in λ i. record { container = record { app = k; number = n i }; node = l.node; incarnation = q i l.node })
+        ∙ ap launch_as (sym u.0)
+
+    abbrev Launched_now : Attempt → Launch → read.Seen
+    Launched_now a x = next.with_kills (to_node l.node (packet.Launch (read.launched_as W m l.node).container (read.next_attempt W m l.attempt.task) (read.launched_as W m l.node).incarnation) ∷ [])
+        (hears.with_launch (read.tell m l.attempt.task task_call.Launches) a x)
+
+    launch-keeps : Holds cfg k (Launches l ∷ h) (next.next_seen W m (step_of (Launches l)))
+    unfolding next_seen next_calls next.next_seen next.moved next.sent_by killed_by
+    launch-keeps = of-at cfg k h (Launches l) _ (subst (λ z. At cfg k (next_seen cfg k S (Launches l)) (next_calls cfg k S (Launches l) C) z)
+        (sym ((λ i. next.with_kills (if is_none (refused-none i) then to_node l.node (packet.Launch (read.launched_as W m l.node).container (read.next_attempt W m l.attempt.task) (read.launched_as W m l.node).incarnation) ∷ [] else [])
+        (if is_none (refused-none i) then hears.with_launch (read.tell m l.attempt.task task_call.Launches) (read.next_attempt W m l.attempt.task) (read.launched_as W m l.node) else m))
+        ∙ (λ i. Launched_now (attempt-is i) (launched-is i)))) at)
+      where
+        same : At cfg k S (tell l.attempt.task task_call.Launches C) (read.tell m l.attempt.task task_call.Launches)
+        same = tell-at cfg k S C m l.attempt.task task_call.Launches here
+
+        at : At cfg k (next_seen cfg k S (Launches l)) (next_calls cfg k S (Launches l) C) (Launched_now l.attempt (launch_as l))
+        at = record {
+          work = same.work;
+          can = same.can;
+          due = λ i. same.due i ++ AttemptStarted l.attempt l.node ∷ [];
+          tail = same.tail;
+          bars = same.bars;
+          tasks = same.tasks;
+          launched = λ i. same.launched i ++ (l.attempt, launch_as l) ∷ [];
+          known = same.known;
+          earlier = same.earlier;
+          killed = same.killed;
+        }
+
+pub steps_keep : StepsKeep
+steps_keep = record {
+  launches = λ cfg k h m l made o run. launch-keeps cfg k h m made.1 o run l made.0;
+  packets = λ cfg k h m p plain made o run. packets-keep cfg k h m made.1 o run p plain;
+}

@@ -1,0 +1,5 @@
+use Rattle.mr_agree.proofs.Keeps as keeps
+use Rattle.mr_agree.proofs.steps_keep.Goals as goal
+
+pub returns : goal.returns
+returns c = keeps.steps_keep
