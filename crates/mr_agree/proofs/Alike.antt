@@ -51,7 +51,7 @@ recovered_in t k v a =
     if is_none (first_of v.arrived) && same_task a.task t
     then record v { arrived = a ∷ []; accepted = a ∷ []; recorded = a ∷ []; numbered = task.numbered_up_to k a } else v
 
-pub next_in : TaskId → ℕ → View → TaskCall → View
+unfoldable pub next_in : TaskId → ℕ → View → TaskCall → View
 next_in t k v Launches = if is_none (task.refusal_of (won_in v) (count_by (live_in v) v.arrived) v.numbered) then with_launch t k v else v
 next_in t k v (Hears a) = v
 next_in t k v (Asks a) = if grant.has v.arrived a && not (grant.has v.asked a) then record v { asked = v.asked ++ a ∷ [] } else v

@@ -55,8 +55,6 @@ Kept cfg k past m x = AllMade cfg k (x ∷ past) → Holds cfg k past m → is_r
 abbrev pub IsPlain : Packet → Type 0
 IsPlain (packet.NodeUp n i) = ⊥
 IsPlain (packet.FetchLost c a) = ⊥
-IsPlain (packet.Failed a) = ⊥
-IsPlain (packet.Ended c) = ⊥
 IsPlain _ = Unit {0}
 
 -- While a master runs, its machine stays with it at each launch, and at each such packet.

@@ -71,7 +71,7 @@ pub fn launches_agree()
     ensures { LaunchesAgree }
 {}
 
-/// While a master runs, its machine stays with it at each launch, and at each packet that tells of no end, no restart and no lost output.
+/// While a master runs, its machine stays with it at each launch, and at each packet that tells of no restart and no lost output.
 pub fn steps_keep()
     ensures { StepsKeep }
 {}
