@@ -14,4 +14,6 @@ pub mod Alike
 pub mod Begins
 pub mod Starts
 pub mod Launches
+pub mod Held
 pub mod Keeps
+pub mod Late

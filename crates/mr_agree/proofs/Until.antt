@@ -27,7 +27,7 @@ use Rattle.mr_agree.proofs.Early.{Early, early_seen, early_machine, Taken, early
 
 -- ---- where it has not run, it had not run before
 
-early-is : (p : Phase) → has_not_run p ≡ is_early p
+pub early-is : (p : Phase) → has_not_run p ≡ is_early p
 early-is (Opening n) = refl
 early-is Setting_up = refl
 early-is (Recovering ws at) = refl

@@ -1,5 +1,5 @@
 -- What a machine holds beside what its tasks have heard.
-use Rattle.std.specs.Prelude.{◌≡◌, ℕ, true, List, ◌∷◌}
+use Rattle.std.specs.Prelude.{◌≡◌, ℕ, true, false, List, ◌∷◌}
 use Rattle.std.specs.Option.{option_map}
 use Rattle.mr_ids.specs.Attempt.{Attempt}
 use Rattle.mr_packet.specs.declared.packet.ContainerId.{ContainerId}
@@ -61,3 +61,8 @@ IsPlain _ = Unit {0}
 pub record StepsKeep : Type 0 where
   pub launches : (cfg : Config) (k : ℕ) (past : List Master_step) (m : read.Seen) (l : Launched) → Kept cfg k past m (Launches l)
   pub packets : (cfg : Config) (k : ℕ) (past : List Master_step) (m : read.Seen) (p : Packet) → IsPlain p → Kept cfg k past m (Came p)
+
+-- Once a master has run and does no more, its machine stays with it at every step.
+abbrev pub LateStepsKeep : Type 0
+LateStepsKeep = (cfg : Config) (k : ℕ) (past : List Master_step) (m : read.Seen) (x : Master_step) → AllMade cfg k (x ∷ past) → Holds cfg k past m
+    → is_running (seen cfg k past).phase ≡ false → has_not_run (seen cfg k past).phase ≡ false → Holds cfg k (x ∷ past) (next_seen (setting cfg k) m (step_of x))

@@ -24,7 +24,7 @@
 
 ghost use Rattle.mr_agree.specs.Alike.{TasksStayAlike};
 ghost use Rattle.mr_agree.specs.Begins.{BeginningsAgree};
-ghost use Rattle.mr_agree.specs.Holds.{LaunchesAgree, RunningBegins, StepsKeep};
+ghost use Rattle.mr_agree.specs.Holds.{LateStepsKeep, LaunchesAgree, RunningBegins, StepsKeep};
 ghost use Rattle.mr_agree.specs.Points.{PointsAgree};
 ghost use Rattle.mr_agree.specs.Recorded.{ReducesAreRecorded};
 ghost use Rattle.mr_agree.specs.Agreement.{ActsUntilItRuns, TurnsAgree};
@@ -74,4 +74,9 @@ pub fn launches_agree()
 /// While a master runs, its machine stays with it at each launch, and at each packet that tells of no restart and no lost output.
 pub fn steps_keep()
     ensures { StepsKeep }
+{}
+
+/// Once a master has run and does no more, its machine stays with it at every step: while it fails, commits the job, or is over.
+pub fn late_steps_keep()
+    ensures { LateStepsKeep }
 {}
