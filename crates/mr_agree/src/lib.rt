@@ -16,9 +16,12 @@
 //! - at every point of a past: a machine whose tasks have heard alike has the master's phase, next store call, refusals
 //!   of launches and expiries, and next attempt (`points_agree`), for which a reduce is Succeeded exactly where the
 //!   master recorded one of it or read its winner (`reduces_are_recorded`);
-//! - what keeps tasks alike: the same calls, and endings and losses in any order (`tasks_stay_alike`).
+//! - what keeps tasks alike: the same calls, and endings and losses in any order (`tasks_stay_alike`);
+//! - where it begins to run, the machine stands where the master does, and holds what it holds (`running_begins`), so it finds
+//!   each launch and each container as the master does (`launches_agree`); it stays so at each launch and at each packet that
+//!   tells of no restart and no lost output (`steps_keep`), and at every step once the master runs no more (`late_steps_keep`).
 //!
-//! Not proved yet: that a machine's tasks stay alike at each step while it runs, and what it sends then
+//! Not proved yet: that it stays so while it runs at store answers, lost output, restarts and expiries, and what it sends then
 //! (docs/PROOFS.md, "Masters and their machines").
 #![tactic(auto)]
 
