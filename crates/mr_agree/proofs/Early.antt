@@ -328,7 +328,7 @@ module _ (cfg : Config) (k : ℕ) (p : Phase) (ws : List Todo_winner) (f : ℕ �
 
 -- ---- by phases
 
-nat-sym : (a b : ℕ) → nat_eq a b ≡ nat_eq b a
+pub nat-sym : (a b : ℕ) → nat_eq a b ≡ nat_eq b a
 nat-sym a b = grind (arith, nat_tests)
 
 kind-sym : (a b : TaskKind) → same_kind a b ≡ same_kind b a

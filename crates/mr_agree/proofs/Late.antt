@@ -40,18 +40,18 @@ use Rattle.mr_agree.proofs.Points.{point}
 use Rattle.mr_agree.proofs.Held.{At, at-of, of-at}
 
 -- what is held beside the work and what tasks have heard
-record Rest (s : Seen) (m : read.Seen) : Type 0 where
-  due : m.due ≡ s.due
-  tail : m.tail ≡ s.tail
-  bars : m.bars ≡ s.bars
-  launched : m.launched ≡ in_order s.launched
-  known : m.known ≡ s.known
-  earlier : m.earlier ≡ s.history
+pub record Rest (s : Seen) (m : read.Seen) : Type 0 where
+  pub due : m.due ≡ s.due
+  pub tail : m.tail ≡ s.tail
+  pub bars : m.bars ≡ s.bars
+  pub launched : m.launched ≡ in_order s.launched
+  pub known : m.known ≡ s.known
+  pub earlier : m.earlier ≡ s.history
 
-rest-of : (cfg : Config) (k : ℕ) (s : Seen) (c : Calls) (m : read.Seen) → At cfg k s c m → Rest s m
+pub rest-of : (cfg : Config) (k : ℕ) (s : Seen) (c : Calls) (m : read.Seen) → At cfg k s c m → Rest s m
 rest-of cfg k s c m o = record { due = o.due; tail = o.tail; bars = o.bars; launched = o.launched; known = o.known; earlier = o.earlier }
 
-idle-at : (cfg : Config) (k : ℕ) (s : Seen) (c : Calls) (m : read.Seen) → is_running s.phase ≡ false → m.work ≡ work_at k s.phase → CanBe s.phase → Rest s m → At cfg k s c m
+pub idle-at : (cfg : Config) (k : ℕ) (s : Seen) (c : Calls) (m : read.Seen) → is_running s.phase ≡ false → m.work ≡ work_at k s.phase → CanBe s.phase → Rest s m → At cfg k s c m
 idle-at cfg k s c m idle w can o = record {
   work = w;
   can = can;
@@ -156,7 +156,7 @@ module _ (cfg : Config) (k : ℕ) (s : Seen) (c : Calls) (m : read.Seen) (o : At
           by true = record { due = v.due; tail = v.tail; bars = v.bars; launched = v.launched; known = v.known; earlier = v.earlier }
           by false = v
 
-  appended : (x : Record) → s.due ≡ x ∷ rest_of s.due → Rest (worked s (Append_record x)) (moved_first m m.due)
+  pub appended : (x : Record) → s.due ≡ x ∷ rest_of s.due → Rest (worked s (Append_record x)) (moved_first m m.due)
   appended x d = subst (λ z. Rest (worked s (Append_record x)) (moved_first m z)) (sym (o.due ∙ d))
       (record { due = refl; tail = (λ i. o.tail i ++ x ∷ []); bars = o.bars; launched = o.launched; known = o.known; earlier = o.earlier })
 

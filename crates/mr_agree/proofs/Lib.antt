@@ -17,3 +17,4 @@ pub mod Launches
 pub mod Held
 pub mod Keeps
 pub mod Late
+pub mod Replies

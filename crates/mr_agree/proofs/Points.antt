@@ -155,7 +155,7 @@ module _ (cfg : Config) (k : ℕ) (h : List Master_step) (m : read.Seen) (made :
         let here = subst (BelongsTo cfg k) q.2 ((fitted cfg k h made).launches q.0 q.1) in
         ap (λ (v : View). live_in v a) (alike a.task here.1) ∙ (tells cfg k h a.task made (job-is cfg a.task here.1)).live a refl
 
-    bars-at : find (read.is_live W m) m.bars ≡ first_bar S S.bars
+    pub bars-at : find (read.is_live W m) m.bars ≡ first_bar S S.bars
     bars-at = find-is (read.is_live W m) (is_live S) m.bars live-at ∙ (ap (find (is_live S)) o.bars ∙ first-bar-is S S.bars)
 
     won-upto : (n : ℕ) → n ≤ cfg.reduces → list_all (λ t. is_some (read.succeeded W m t)) (first_tasks W Reduce n) ≡ all_won S.recorded S.winners cfg.job n

@@ -19,15 +19,16 @@
 //! - what keeps tasks alike: the same calls, and endings and losses in any order (`tasks_stay_alike`);
 //! - where it begins to run, the machine stands where the master does, and holds what it holds (`running_begins`), so it finds
 //!   each launch and each container as the master does (`launches_agree`); it stays so at each launch and at each packet that
-//!   tells of no restart and no lost output (`steps_keep`), and at every step once the master runs no more (`late_steps_keep`).
+//!   tells of no restart and no lost output (`steps_keep`), at each store call's answer but that of a flush that was done
+//!   (`answers_keep`), and at every step once the master runs no more (`late_steps_keep`).
 //!
-//! Not proved yet: that it stays so while it runs at store answers, lost output, restarts and expiries, and what it sends then
+//! Not proved yet: that it stays so, while it runs, at flushes, lost output, restarts and expiries, and what it sends then
 //! (docs/PROOFS.md, "Masters and their machines").
 #![tactic(auto)]
 
 ghost use Rattle.mr_agree.specs.Alike.{TasksStayAlike};
 ghost use Rattle.mr_agree.specs.Begins.{BeginningsAgree};
-ghost use Rattle.mr_agree.specs.Holds.{LateStepsKeep, LaunchesAgree, RunningBegins, StepsKeep};
+ghost use Rattle.mr_agree.specs.Holds.{AnswersKeep, LateStepsKeep, LaunchesAgree, RunningBegins, StepsKeep};
 ghost use Rattle.mr_agree.specs.Points.{PointsAgree};
 ghost use Rattle.mr_agree.specs.Recorded.{ReducesAreRecorded};
 ghost use Rattle.mr_agree.specs.Agreement.{ActsUntilItRuns, TurnsAgree};
@@ -82,4 +83,9 @@ pub fn steps_keep()
 /// Once a master has run and does no more, its machine stays with it at every step: while it fails, commits the job, or is over.
 pub fn late_steps_keep()
     ensures { LateStepsKeep }
+{}
+
+/// While a master runs, its machine stays with it at each answer of a store call but that of a flush that was done.
+pub fn answers_keep()
+    ensures { AnswersKeep }
 {}
