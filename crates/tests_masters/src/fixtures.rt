@@ -3,7 +3,7 @@
 use mr_ids::{AppAttempt, AttemptId, JobId, TaskId, TaskKind};
 use mr_master::MasterMachine;
 use mr_master_model::Setting;
-use mr_packet::{ContainerId, Packet};
+use mr_packet::{ContainerId, Envelope, Packet};
 use mr_paths::{Layout, Path, PathFault};
 use std::alloc::Global;
 use std::process::Abort;
@@ -51,6 +51,11 @@ pub fn container(rt: &impl Abort) -> ContainerId {
 
 /// The first master of a job of one map and one reduce on two nodes, with its output at `/out`.
 pub fn master(rt: &impl Abort, alloc: Global) -> MasterMachine {
+    master_of(rt, alloc, 1, 2)
+}
+
+/// The first master of a job of so many maps and one reduce on so many nodes, with its output at `/out`.
+pub fn master_of(rt: &impl Abort, alloc: Global, maps: u32, nodes: u32) -> MasterMachine {
     let dest = match Path::parse(alloc, "/out") {
         Ok(dest) => dest,
         Err(PathFault::NoMemory) => panic!(rt; "no memory"),
@@ -59,20 +64,20 @@ pub fn master(rt: &impl Abort, alloc: Global) -> MasterMachine {
     let setting = Setting {
         app: first(rt),
         job: job(),
-        maps: 1,
+        maps,
         reduces: 1,
-        nodes: 2,
+        nodes,
         limit: 4,
         layout: Layout { dest },
     };
     MasterMachine::new(alloc, setting).expect(rt, "no memory")
 }
 
-/// The master hears a packet. Gives how many packets are sent for it.
-pub fn hears(rt: &impl Abort, master: &mut MasterMachine, packet: &Packet) -> usize {
+/// The master hears a packet. Gives the packets that are sent for it.
+pub fn hears(rt: &impl Abort, master: &mut MasterMachine, packet: &Packet) -> Vec<Envelope> {
     let packets = master.hear_packets(packet).expect(rt, "no memory");
     if master.hear(packet, &packets).is_err() {
         panic!(rt; "no memory");
     }
-    packets.len()
+    packets
 }

@@ -5,3 +5,5 @@
 mod fixtures;
 #[cfg(test)]
 mod opening;
+#[cfg(test)]
+mod running;
