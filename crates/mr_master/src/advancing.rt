@@ -40,7 +40,9 @@ impl Machine {
         requires { is_step self.now.work ≡ true }
         ensures { IfOk result (λ next. Reads self.now (λ w s. finished_by w s s.work) next) }
     {
-        let next = self.work.finished(self.alloc, &self.setting, self.earlier.as_slice())?;
+        let next = self
+            .work
+            .finished(self.alloc, &self.setting, self.earlier.as_slice())?;
         Ok(next)
     }
 

@@ -28,7 +28,6 @@
 
 mod aborting;
 mod advancing;
-
 mod answers;
 mod bars;
 mod duties;

@@ -231,10 +231,7 @@ impl Work {
     }
 }
 
-fn copied(
-    alloc: Global,
-    winners: &VecDeque<TaskWinner>,
-) -> Result<VecDeque<TaskWinner>, AllocError>
+fn copied(alloc: Global, winners: &VecDeque<TaskWinner>) -> Result<VecDeque<TaskWinner>, AllocError>
     ensures { IfOk result (λ copy. copy.items ≡ winners.now.items) }
 {
     let mut copy = VecDeque::new(alloc);

@@ -11,11 +11,11 @@ returns-clause-sent c = λ w s keeps.
     let k = subst (λ (x : Master). Keeps x w s) (sym c.self.view_is) keeps in
     absurd (true≢false (sym (c.requires w s keeps) ∙ ap (λ (x : Work). is_some (duty_at w s x)) (sym k.work)
     ∙ over-idle w s c.self.inside.work (sym c.is_look.ensures ∙ c.if-is_look.false) (sym c.is_tell.ensures ∙ c.if-is_tell.false) (sym c.is_read.ensures ∙ c.if-is_read.false)
-        (sym c.is_step.ensures ∙ c.if-is_step.false) (sym c.in_default.is ∙ c.fails.ensures) (sym c.is_running.ensures ∙ c.if-is_running.false)))
+    (sym c.is_step.ensures ∙ c.if-is_step.false) (sym c.in_default.is ∙ c.fails.ensures) (sym c.is_running.ensures ∙ c.if-is_running.false)))
 
 pub returns-clause-moves : goal.returns-clause-moves
 returns-clause-moves c = λ w s keeps.
     let k = subst (λ (x : Master). Keeps x w s) (sym c.self.view_is) keeps in
     absurd (true≢false (sym (c.requires w s keeps) ∙ ap (λ (x : Work). is_some (duty_at w s x)) (sym k.work)
     ∙ over-idle w s c.self.inside.work (sym c.is_look.ensures ∙ c.if-is_look.false) (sym c.is_tell.ensures ∙ c.if-is_tell.false) (sym c.is_read.ensures ∙ c.if-is_read.false)
-        (sym c.is_step.ensures ∙ c.if-is_step.false) (sym c.in_default.is ∙ c.fails.ensures) (sym c.is_running.ensures ∙ c.if-is_running.false)))
+    (sym c.is_step.ensures ∙ c.if-is_step.false) (sym c.in_default.is ∙ c.fails.ensures) (sym c.is_running.ensures ∙ c.if-is_running.false)))
