@@ -9,7 +9,7 @@
 //!
 //! - from every phase, of any two values: the machine's next store call, with what it is for, is the master's, and an
 //!   answer leads both to the same (`turns_agree`);
-//! - until a master runs: its phase, its next store call and what it sends at its next step are its machine's
+//! - while a master opens and recovers: its phase, its next store call and what it sends at its next step are its machine's
 //!   (`acts_until_it_runs`);
 //! - where it begins to run: no task was told anything before, and of each map the same attempt is taken over
 //!   (`beginnings_agree`);
@@ -38,7 +38,7 @@ pub fn turns_agree()
     ensures { TurnsAgree }
 {}
 
-/// Until it runs, a master's phase, its next store call with what it is for, and what it sends at its next step are its machine's.
+/// While it opens and recovers, a master's phase, its next store call with what it is for, and what it sends at its next step are its machine's.
 pub fn acts_until_it_runs()
     ensures { ActsUntilItRuns }
 {}

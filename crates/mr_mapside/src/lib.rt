@@ -24,10 +24,12 @@
 //!   of at most 2^24 bytes; that `User(Refused)` is answered only where the job refuses a line of the split, and
 //!   never another `User`; `Full` only where the output's bytes pass 2^24; `Shuffle` never. Read in the code, not proved:
 //!   it holds at most 4,096 decoded pairs beside those of the present line and the values of the one key that is
-//!   combined; the others are kept as they are written, in sorted runs, which it merges at the end.
+//!   combined; the others are kept as they are written, in sorted runs, which it merges at the end
+//!   (the merge holds a pair of each run: more than 4,096 where a split has more than 16,777,216 pairs).
 //! - **`RunGroups`** merges lists of written pairs, each by rising keys: `next_group` gives the groups of all their pairs, by
-//!   rising keys, each key's values by list and then by place. Want of memory is answered only where a group was to
-//!   come, and nothing comes after it. It holds one pair of each list, beside the group that it gives.
+//!   rising keys, each key's values by list and then by place. Where a list is no written pairs, which its condition
+//!   does not exclude, it answers want of memory too; `map_work` and the reduces hand in none such. After it nothing
+//!   comes. It holds one pair of each list, beside the group that it gives.
 //!   `read_pair` is the pair that bytes begin with.
 //! - **`blocks`** cuts bytes into so many blocks and takes no memory: some exactly where the bytes are so many
 //!   blocks behind their lengths and nothing else, and then it is those. `OutputBlocks::get` is the block at a

@@ -41,8 +41,8 @@
 //!   container begins twice (`begins_once`).
 //!
 //! What each word means: [docs/MODEL.md](../../../docs/MODEL.md). Why it holds:
-//! [docs/INVARIANT.md](../../../docs/INVARIANT.md). Neither proved nor claimed: that any master of this repository
-//! is one of these, or that a cluster of machines is run.
+//! [docs/INVARIANT.md](../../../docs/INVARIANT.md). Neither proved nor claimed here: that a master of this
+//! repository is one of these (`mr_agree` says how far it is), or that a cluster of machines is run.
 #![tactic(auto)]
 
 mod actors;
