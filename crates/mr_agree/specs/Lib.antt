@@ -6,3 +6,5 @@ pub mod Points
 pub mod Alike
 pub mod Begins
 pub mod Holds
+pub mod Arrivals
+pub mod Whole
