@@ -85,4 +85,5 @@ pub mod Owned
 pub mod Ranges
 pub mod Sized
 pub mod Fitting
+pub mod Asked
 pub mod Made

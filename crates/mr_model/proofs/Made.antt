@@ -20,7 +20,8 @@ use Rattle.mr_model.proofs.Names.{task_eq-true, same_job-true}
 use Rattle.mr_model.proofs.Closed.{expired-by, bar-by}
 use Rattle.mr_model.proofs.Numbers.{Numbers, numbers, opening-numbers}
 use Rattle.mr_model.proofs.Allowed.{permits}
-use Rattle.mr_model.proofs.Told.{Stores, StoredOrDue, stores_after, is_allowed, came_act-is}
+use Rattle.mr_model.proofs.Told.{Stores, StoredOrDue, stores_after, is_allowed}
+use Rattle.mr_model.proofs.Asked.{AsksOf, bag-asks, came-asks}
 
 -- ---- what is due, and what was read, along a past
 
@@ -315,6 +316,7 @@ record Lives (cfg : Config) (w : World) : Type 0 where
   numbered : Numbers cfg w
   stored : (j : ℕ) (x : Record) → Stores (w.history j) x → TellsOf cfg j x
   made : (k : ℕ) → AllMade cfg k (w.master_past k)
+  asks : Each (AsksOf cfg) w.bag
 
 belongs-more : (cfg : Config) (j n : ℕ) (a : Attempt) → j ≤ n → BelongsTo cfg j a → BelongsTo cfg n a
 belongs-more cfg j n a l o = let q = o.0 in (omega (arith, q, l), o.1)
@@ -398,7 +400,7 @@ act-made cfg w (LaunchOn k t m) n o a q =
     let x : record { who = k; step = Launches (launch_of k (seen_by cfg w k) t m) } ≡ a = cc in
     let alive = (is_allowed cfg w _ (permits cfg w (LaunchOn k t m) n) (record { who = k; step = Launches (launch_of k (seen_by cfg w k) t m) }) refl).0 in
     subst (ActMade cfg w) x (launch-made cfg w k t m (o.numbered.positive k alive) n)
-act-made cfg w (Deliver i) n o a q = let p = came_act-is (slice_get w.bag i) a q in subst (IsMade cfg a.who (seen_by cfg w a.who)) (sym p.1) tt
+act-made cfg w (Deliver i) n o a q = came-asks cfg w.bag i a (seen_by cfg w a.who) o.asks q
 act-made cfg w (Expire k m) n o a q = let x : record { who = k; step = Expires m } ≡ a = cc in subst (ActMade cfg w) x (expiry-made cfg w k m n)
 act-made cfg w (Start k kept) n o a q = cc
 act-made cfg w (Crash k kept) n o a q = cc
@@ -423,6 +425,7 @@ lives cfg w e o n = record {
   numbered = numbers cfg w e o.numbered n;
   stored = λ j x i. by j x (stores_after cfg w e n j x i);
   made = λ k. made-after cfg w k (master_act cfg w e) (act-made cfg w e n o) (o.made k);
+  asks = bag-asks cfg w e o.asks;
 }
   where
     by : (j : ℕ) (x : Record) → StoredOrDue cfg w j x → TellsOf cfg j x
@@ -433,7 +436,7 @@ lives cfg w e o n = record {
         due e = (subst (Each (TellsOf cfg j)) e (fitted cfg j (w.master_past j) (o.made j)).dues).0
 
 opening-lives : (cfg : Config) → Lives cfg opening_world
-opening-lives cfg = record { numbered = opening-numbers cfg; stored = λ j x i. absurd i; made = λ k. tt }
+opening-lives cfg = record { numbered = opening-numbers cfg; stored = λ j x i. absurd i; made = λ k. tt; asks = tt }
 
 pub pasts_are_made : PastsAreMade
 pasts_are_made = record {

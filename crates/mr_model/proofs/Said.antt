@@ -2,7 +2,7 @@
 use Rattle.std.proofs.Common.{ℕ, zero, suc, ◌≡◌, refl, Bool, true, false, ◌&&◌, ◌||◌, not, List, [], ◌∷◌, Option, Some, None, nat_eq, slice_get, length, nat_le}
 use Rattle.mr_model.specs.Ids.{Attempt, ContainerId, TaskId}
 use Rattle.mr_model.specs.Content.{bar_of}
-use Rattle.mr_model.specs.Packets.{Config, Packet, Store, Reply, Names, Flush, Fine, Envelope, Master, Container, Node, Address, Won, Outcome, NodeUp, Done}
+use Rattle.mr_model.specs.Packets.{Config, Packet, Store, Reply, Names, Flush, Fine, Envelope, Master, Container, Node, Address, Won, Outcome, NodeUp, Done, Pending, Poll, Where}
 use Rattle.mr_model.specs.Pasts.{is_known, incarnation_of, wished_packet, wished_op, Wish, Place, wish, computed, part_length, To_report}
 use Rattle.mr_model.specs.Hearing.{Seen, Phase, Opening, Setting_up, Running, Committing, Failing, Finished, Stopped, Recovering, Move_from, Launched, Placed, find_launched, is_running, may_accept, has, stands, find_container}
 use Rattle.mr_model.specs.Duties.{Master_step, Came, Launches, Expires, Asks, next_seen}
@@ -22,11 +22,31 @@ abbrev pub is_finished : Phase → Bool
 is_finished (Finished b) = true
 is_finished _ = false
 
+-- nor one by which a container asks its master
+abbrev pub is_quiet : Packet → Bool
+is_quiet (Won t a) = false
+is_quiet (Outcome b) = false
+is_quiet (Done a z) = false
+is_quiet (Pending a) = false
+is_quiet (Poll a) = false
+is_quiet (Where c m) = false
+is_quiet _ = true
+
+quiet-plain : (p : Packet) → is_quiet p ≡ true → is_plain p ≡ true
+quiet-plain (Won t a) e = e
+quiet-plain (Outcome b) e = e
+quiet-plain (Done a z) e = e
+quiet-plain p e = refl
+
 pub record Sayings (P : Envelope → Type 0) : Type 0 where
   pub plain : (v : Envelope) → is_plain v.body ≡ true → P v
   pub won : (n : ℕ) (t : TaskId) (a : Attempt) → P (to_node n (Won t a))
 
-module _ (P : Envelope → Type 0) (y : Sayings P) where
+pub record Quiets (P : Envelope → Type 0) : Type 0 where
+  pub plain : (v : Envelope) → is_quiet v.body ≡ true → P v
+  pub won : (n : ℕ) (t : TaskId) (a : Attempt) → P (to_node n (Won t a))
+
+module _ (P : Envelope → Type 0) (y : Quiets P) where
   answer-each : (l : Option Launched) (b : Bool) → Each P (answer_to l b)
   answer-each None b = tt
   answer-each (Some l) b = (y.plain _ refl, tt)
@@ -135,34 +155,47 @@ module _ (P : Envelope → Type 0) (y : Sayings P) where
   DoneSaid cfg w e = (c : ContainerId) (f : Weather) (p : Place) → e ≡ ContainerStep c f → w.place c ≡ Some p →
       wish (length cfg.splits) p.attempt (w.container_past c) ≡ To_report → P (to_app c.app (Done p.attempt (part_length p.attempt (computed (w.container_past c)))))
 
-  wished-each : (cfg : Config) (w : World) (c : ContainerId) (f : Weather) → DoneSaid cfg w (ContainerStep c f) → Each P (some_packet (op_of cfg w c) (packet_of cfg w c))
+  -- when a container asks its master
+  abbrev pub AsksSaid : Config → World → Event → Type 0
+  AsksSaid cfg w e = (c : ContainerId) (f : Weather) (p : Place) → e ≡ ContainerStep c f → w.place c ≡ Some p →
+      (wish (length cfg.splits) p.attempt (w.container_past c) ≡ Wish.To_pend → P (to_app c.app (Pending p.attempt)))
+      × (wish (length cfg.splits) p.attempt (w.container_past c) ≡ Wish.To_poll → P (to_app c.app (Poll p.attempt)))
+      × ((m : ℕ) → wish (length cfg.splits) p.attempt (w.container_past c) ≡ Wish.To_ask_where m → P (to_app c.app (Where c m)))
+
+  wished-each : (cfg : Config) (w : World) (c : ContainerId) (f : Weather) → DoneSaid cfg w (ContainerStep c f) → AsksSaid cfg w (ContainerStep c f) → Each P (some_packet (op_of cfg w c) (packet_of cfg w c))
   unfolding wished_op wished_packet
-  wished-each cfg w c f d = by (w.place c) refl
+  wished-each cfg w c f d a = by (w.place c) refl
     where
       wishes : (p : Place) (v : Wish) → w.place c ≡ Some p → wish (length cfg.splits) p.attempt (w.container_past c) ≡ v → Each P (some_packet (wished_op c.app p.attempt (computed (w.container_past c)) v) (wished_packet c p.attempt (computed (w.container_past c)) v))
       wishes p To_report e q = (d c f p refl e q, tt)
       wishes p Wish.To_fail e q = (y.plain _ refl, tt)
-      wishes p (Wish.To_ask_where m) e q = (y.plain _ refl, tt)
+      wishes p (Wish.To_ask_where m) e q = ((a c f p refl e).2 m q, tt)
       wishes p (Wish.To_fetch m b n i got) e q = (y.plain _ refl, tt)
       wishes p (Wish.To_say_lost m b) e q = (y.plain _ refl, tt)
-      wishes p Wish.To_pend e q = (y.plain _ refl, tt)
-      wishes p Wish.To_poll e q = (y.plain _ refl, tt)
+      wishes p Wish.To_pend e q = ((a c f p refl e).0 q, tt)
+      wishes p Wish.To_poll e q = ((a c f p refl e).1 q, tt)
       wishes p _ e q = tt
 
       by : (o : Option Place) → w.place c ≡ o → Each P (some_packet (op_at cfg c o (w.container_past c)) (packet_at cfg c o (w.container_past c)))
       by None q = tt
       by (Some p) q = wishes p _ q refl
 
-  pub sent-each : (cfg : Config) (w : World) (e : Event) → OutcomeSaid cfg w (master_act cfg w e) → DoneSaid cfg w e → Each P (sent cfg w e)
+  pub sent-every : (cfg : Config) (w : World) (e : Event) → OutcomeSaid cfg w (master_act cfg w e) → DoneSaid cfg w e → AsksSaid cfg w e → Each P (sent cfg w e)
   unfolding sent
-  sent-each cfg w (Start k kept) f d = tt
-  sent-each cfg w (Crash k kept) f d = tt
-  sent-each cfg w (Duty k g) f d = master-each cfg w (master_act cfg w (Duty k g)) f
-  sent-each cfg w (LaunchOn k t m) f d = master-each cfg w (master_act cfg w (LaunchOn k t m)) f
-  sent-each cfg w (Expire k m) f d = master-each cfg w (master_act cfg w (Expire k m)) f
-  sent-each cfg w (Deliver i) f d = Each-append P (master_sends cfg w (master_act cfg w (Deliver i))) _ (master-each cfg w (master_act cfg w (Deliver i)) f)
+  sent-every cfg w (Start k kept) f d a = tt
+  sent-every cfg w (Crash k kept) f d a = tt
+  sent-every cfg w (Duty k g) f d a = master-each cfg w (master_act cfg w (Duty k g)) f
+  sent-every cfg w (LaunchOn k t m) f d a = master-each cfg w (master_act cfg w (LaunchOn k t m)) f
+  sent-every cfg w (Expire k m) f d a = master-each cfg w (master_act cfg w (Expire k m)) f
+  sent-every cfg w (Deliver i) f d a = Each-append P (master_sends cfg w (master_act cfg w (Deliver i))) _ (master-each cfg w (master_act cfg w (Deliver i)) f)
       (Each-append P (node_sends cfg w (slice_get w.bag i)) _ (nodes-each cfg w _) (own-each cfg w (Deliver i) _))
-  sent-each cfg w (ContainerStep c g) f d = Each-append P (some_packet (op_of cfg w c) (packet_of cfg w c)) _ (wished-each cfg w c g d) (own-each cfg w (ContainerStep c g) _)
-  sent-each cfg w (Compute c b) f d = tt
-  sent-each cfg w (Die c) f d = (y.plain _ refl, tt)
-  sent-each cfg w (NodeRestart m) f d = masters-each w.is_master w.fence m _
+  sent-every cfg w (ContainerStep c g) f d a = Each-append P (some_packet (op_of cfg w c) (packet_of cfg w c)) _ (wished-each cfg w c g d a) (own-each cfg w (ContainerStep c g) _)
+  sent-every cfg w (Compute c b) f d a = tt
+  sent-every cfg w (Die c) f d a = (y.plain _ refl, tt)
+  sent-every cfg w (NodeRestart m) f d a = masters-each w.is_master w.fence m _
+
+pub quiets : (P : Envelope → Type 0) → Sayings P → Quiets P
+quiets P y = record { plain = λ v t. y.plain v (quiet-plain v.body t); won = y.won }
+
+pub sent-each : (P : Envelope → Type 0) (y : Sayings P) (cfg : Config) (w : World) (e : Event) → OutcomeSaid P (quiets P y) cfg w (master_act cfg w e) → DoneSaid P (quiets P y) cfg w e → Each P (sent cfg w e)
+sent-each P y cfg w e f d = sent-every P (quiets P y) cfg w e f d (λ c g p q u. (λ z. y.plain _ refl, λ z. y.plain _ refl, λ m z. y.plain _ refl))

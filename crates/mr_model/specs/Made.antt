@@ -1,8 +1,8 @@
 -- What each step of a master's past is, in every run.
-use Rattle.std.specs.Prelude.{◌≡◌, ℕ, ◌-◌, ◌*◌, ◌≤◌, ◌<◌, true, false, nat_lt, List, [], ◌∷◌, Some, None}
+use Rattle.std.specs.Prelude.{◌≡◌, ℕ, ◌-◌, ◌*◌, ◌≤◌, ◌<◌, true, false, nat_lt, List, [], ◌∷◌, Some, None, length}
 use Rattle.mr_model.specs.Ids.{Attempt, is_reduce}
 use Rattle.mr_model.specs.Records.{Record, AttemptStarted, MapSucceeded, ReduceSucceeded, AttemptFailed, JobUnsuccessful}
-use Rattle.mr_model.specs.Packets.{Config}
+use Rattle.mr_model.specs.Packets.{Config, Packet, Pending, Poll, Where}
 use Rattle.mr_model.specs.Hearing.{Seen, is_running}
 use Rattle.mr_model.specs.Duties.{Master_step, Came, Launches, Expires, Asks, seen, duty_of, records_of}
 use Rattle.mr_model.specs.World.{Event, launch_of}
@@ -22,10 +22,17 @@ TellsOf cfg n (ReduceSucceeded a bytes) = BelongsTo cfg n a × (is_reduce a ≡ 
 TellsOf cfg n (AttemptFailed a) = Unit {0}
 TellsOf cfg n JobUnsuccessful = Unit {0}
 
--- A launch is the next one of a task of the job that has no fault, on a node; an expiry is a node's; a store call is the one that was due, and what
--- is read was written by earlier generations.
+-- who asks to commit is a reduce, and the map that is asked for is one of the job's
+abbrev pub IsAsked : Config → Packet → Type 0
+IsAsked cfg (Pending a) = is_reduce a ≡ true
+IsAsked cfg (Poll a) = is_reduce a ≡ true
+IsAsked cfg (Where c m) = nat_lt m (length cfg.splits) ≡ true
+IsAsked cfg _ = Unit {0}
+
+-- What a packet asks is of the job; a launch is the next one of a task of the job that has no fault, on a node; an expiry is a node's; a store call is the one
+-- that was due, and what is read was written by earlier generations.
 abbrev pub IsMade : Config → ℕ → Seen → Master_step → Type 0
-IsMade cfg k s (Came p) = Unit {0}
+IsMade cfg k s (Came p) = IsAsked cfg p
 IsMade cfg k s (Launches l) =
     (l ≡ launch_of k s l.attempt.task l.node) × (1 ≤ k) × (is_running s.phase ≡ true) × (is_task cfg l.attempt.task ≡ true)
     × (nat_lt l.node cfg.nodes ≡ true) × (task_fault s l.attempt.task ≡ None)
