@@ -5,11 +5,13 @@ use Rattle.std.specs.Option.{option_map}
 use Rattle.std.proofs.lemmas.Bool.{eqb-true, eq-eqb}
 use Rattle.std.proofs.lemmas.Bool.Decides.{nat_tests}
 use Rattle.mr_ids.specs.Attempt.{Attempt}
+use Rattle.mr_ids.specs.declared.id.TaskId.{TaskId}
 use Rattle.mr_grant.specs.Attempts as grant
 use Rattle.mr_grant.specs.Attempts.{same_attempt}
 use Rattle.mr_packet.specs.declared.packet.ContainerId.{ContainerId}
 use Rattle.mr_master_model.specs.declared.launch.Launch.{Launch}
 use Rattle.mr_master_model.specs.declared.setting.Setting.{Setting}
+use Rattle.mr_master_model.specs.Job as job
 use Rattle.mr_master_model.specs.Readings as read
 use Rattle.mr_master_model.specs.Readings.{if_known}
 use Rattle.mr_model.specs.Ids.{attempt_eq, container_eq, of_reduces}
@@ -27,7 +29,7 @@ use Rattle.mr_model.proofs.Made.{fitted, all-fit, all-of-job}
 use Rattle.mr_model.proofs.Maps as maps
 use Rattle.mr_model.proofs.Wins as wins
 use Rattle.mr_agree.specs.Steps.{setting}
-use Rattle.mr_agree.specs.Points.{View, launch_as, in_order}
+use Rattle.mr_agree.specs.Points.{View, Alike, launch_as, in_order}
 use Rattle.mr_agree.specs.Holds.{Holds, LaunchesAgree, LaunchesFound, pair_of}
 use Rattle.mr_agree.proofs.Early.{same-if}
 use Rattle.mr_agree.proofs.Points.{task-test, job-is}
@@ -159,7 +161,11 @@ launched-found (x ∷ ls) l (inr i) = at (attempt_eq l.attempt x.attempt) (launc
 
 -- ---- at a point of a past
 
-module _ (cfg : Config) (k : ℕ) (h : List Master_step) (m : read.Seen) (made : AllMade cfg k h) (o : Holds cfg k h m) (run : is_running (seen cfg k h).phase ≡ true) where
+-- the tasks of the job have heard alike
+abbrev pub AllAlike : Config → ℕ → List Master_step → read.Seen → Type 0
+AllAlike cfg k h m = (t : TaskId) → job.is_task (setting cfg k) t ≡ true → Alike (of_task cfg k h t) (read.of_task (setting cfg k) m t)
+
+module _ (cfg : Config) (k : ℕ) (h : List Master_step) (m : read.Seen) (made : AllMade cfg k h) (order : m.launched ≡ in_order (seen cfg k h).launched) (alike : AllAlike cfg k h m) where
   abbrev W : Setting
   W = setting cfg k
 
@@ -178,21 +184,21 @@ module _ (cfg : Config) (k : ℕ) (h : List Master_step) (m : read.Seen) (made :
       let f = found_launched S.launched a e in
       let here = (subst (BelongsTo cfg k) f.2 ((fitted cfg k h made).launches f.0 f.1)).1 in
       let j = task-test cfg k a.task ∙ here in
-      let there = ap (λ (v : View). grant.has v.arrived a) (o.stands.tasks run a.task j) ∙ arrived-at a (job-is cfg a.task here) e in
+      let there = ap (λ (v : View). grant.has v.arrived a) (alike a.task j) ∙ arrived-at a (job-is cfg a.task here) e in
       λ i. and-both j there i
     where
       and-both : {x y : Bool} → x ≡ true → y ≡ true → (x && y) ≡ true
       and-both p q = λ i. p i && q i
 
   launch-is : (a : Attempt) → read.launch_of W m a ≡ option_map launch_as (find_launched S.launched a)
-  launch-is a = ap (λ l. if read.is_known W m a then l else None) (ap (lookup (same_attempt a)) o.launched ∙ lookup-is S.launched a (places cfg k h made).0.attempts) ∙ by (find_launched S.launched a) refl
+  launch-is a = ap (λ l. if read.is_known W m a then l else None) (ap (lookup (same_attempt a)) order ∙ lookup-is S.launched a (places cfg k h made).0.attempts) ∙ by (find_launched S.launched a) refl
     where
       by : (f : Option Launched) → find_launched S.launched a ≡ f → (if read.is_known W m a then option_map launch_as f else None) ≡ option_map launch_as f
       by None e = same-if (read.is_known W m a) None
       by (Some l) e = ap (λ (b : Bool). if b then Some (launch_as l) else None) (is-known a (ap (λ x. is_some x) e))
 
   container-is : (c : ContainerId) → read.launched_in W m c ≡ option_map pair_of (find_container S.launched c)
-  container-is c = ap (λ ls. if nat_eq c.app k then if_known W m (slice_get ls c.number) else None) o.launched ∙ by (nat_eq c.app k) refl
+  container-is c = ap (λ ls. if nat_eq c.app k then if_known W m (slice_get ls c.number) else None) order ∙ by (nat_eq c.app k) refl
     where
       known : (c : ContainerId) (f : Option Launched) → find_container S.launched c ≡ f → if_known W m (option_map pair_of f) ≡ option_map pair_of f
       known c None e = refl
@@ -206,8 +212,11 @@ module _ (cfg : Config) (k : ℕ) (h : List Master_step) (m : read.Seen) (made :
           subst (λ d. if_known W m (slice_get (in_order S.launched) c.number) ≡ option_map pair_of (find_container S.launched d)) same
           (ap (if_known W m) (slice-is k S.launched c.number (places cfg k h made).1) ∙ known (record { app = k; number = c.number }) _ refl)
 
-  pub found : LaunchesFound cfg k S m
-  found = record { launch = launch-is; container = container-is }
+  pub found-by : LaunchesFound cfg k S m
+  found-by = record { launch = launch-is; container = container-is }
+
+pub found : (cfg : Config) (k : ℕ) (h : List Master_step) (m : read.Seen) → AllMade cfg k h → Holds cfg k h m → is_running (seen cfg k h).phase ≡ true → LaunchesFound cfg k (seen cfg k h) m
+found cfg k h m made o run = found-by cfg k h m made o.launched (o.stands.tasks run)
 
 pub launches_agree : LaunchesAgree
 launches_agree cfg k h m made o run = found cfg k h m made o run

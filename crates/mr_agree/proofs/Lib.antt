@@ -18,3 +18,5 @@ pub mod Held
 pub mod Keeps
 pub mod Late
 pub mod Replies
+pub mod Arrivals
+pub mod Kills

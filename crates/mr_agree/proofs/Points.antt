@@ -43,7 +43,7 @@ use Rattle.mr_agree.proofs.Bars.{bars-launched}
 
 -- ---- readings of a view
 
-abbrev live_in : View → Attempt → Bool
+abbrev pub live_in : View → Attempt → Bool
 live_in v a = grant.has v.arrived a && (not (grant.has v.accepted a) && not (v.over a))
 
 abbrev won_in : View → Bool
