@@ -73,7 +73,7 @@ of-at cfg k h x m o = record {
 
 -- ---- both tell one task the same
 
-told-same : (k : ℕ) (t u : TaskId) (call : TaskCall) (c d : List TaskCall) → Alike (task.seen u k c) (task.seen u k d) →
+pub told-same : (k : ℕ) (t u : TaskId) (call : TaskCall) (c d : List TaskCall) → Alike (task.seen u k c) (task.seen u k d) →
     Alike (task.seen u k (if task_eq t u then call ∷ c else c)) (task.seen u k (if same_task u t then call ∷ d else d))
 unfolding task.seen
 told-same k t u call c d o = subst (λ b. Alike (task.seen u k (if task_eq t u then call ∷ c else c)) (task.seen u k (if b then call ∷ d else d))) (sym (same_sym u t)) (by (task_eq t u))

@@ -81,7 +81,7 @@ rivals-are s a (l ∷ ls) dead = by (is_live s l.attempt) refl (attempt_eq a l.a
 abbrev pub Sent_to : ℕ → List Launched → ℕ → Bool
 Sent_to k ls n = has_container (containers_of ls) (record { app = k; number = n })
 
-or-turn : (x y z : Bool) → (x || (y || z)) ≡ ((y || x) || z)
+pub or-turn : (x y z : Bool) → (x || (y || z)) ≡ ((y || x) || z)
 or-turn true true z = refl
 or-turn true false z = refl
 or-turn false true z = refl

@@ -20,3 +20,4 @@ pub mod Late
 pub mod Replies
 pub mod Arrivals
 pub mod Kills
+pub mod Flushing

@@ -1,5 +1,5 @@
 -- While it runs: a machine stays with its master at the answers of its store calls.
-use Rattle.std.proofs.Common.{ℕ, ◌≡◌, refl, sym, ◌∙◌, ap, subst, Bool, true, false, ◌&&◌, ◌||◌, not, List, [], ◌∷◌, ◌++◌, Option, Some, None, if◌then◌else◌, is_some, nat_eq}
+use Rattle.std.proofs.Common.{ℕ, ◌≡◌, refl, sym, ◌∙◌, ap, subst, Bool, true, false, ◌&&◌, ◌||◌, not, List, [], ◌∷◌, ◌++◌, append-nil, Option, Some, None, if◌then◌else◌, is_some, nat_eq}
 use Rattle.std.specs.List.{find}
 use Rattle.std.specs.Option.{option_map}
 use Rattle.std.proofs.lemmas.Bool.{false≢true, true≢false, eq-eqb}
@@ -10,17 +10,18 @@ use Rattle.mr_master_model.specs.declared.setting.Setting.{Setting}
 use Rattle.mr_master_model.specs.Readings as read
 use Rattle.mr_master_model.specs.Duty.{duty}
 use Rattle.mr_master_model.specs.Answered as after
-use Rattle.mr_master_model.specs.Answered.{after_answer, after_duty, moved_first, with_work}
+use Rattle.mr_master_model.specs.Answered.{after_answer, after_duty, moved_first, recorded, with_work}
 use Rattle.mr_master_model.specs.Sends as sends
 use Rattle.mr_master_model.specs.Sends.{answer_sends, killed_by}
 use Rattle.mr_master_model.specs.Next as next
 use Rattle.mr_model.specs.Content.{Create, Bar, bar_of}
 use Rattle.mr_model.specs.Ids.{commit_started}
 use Rattle.mr_model.specs.Packets.{Config, Store, Names, Append_record, Flush, Read_history, Reply}
-use Rattle.mr_model.specs.Hearing.{Seen, Phase, Launched, Running, Committing, Stopped, List_job, is_running, over_with, container_of, find_launched, has_container}
-use Rattle.mr_model.specs.Duties.{Master_step, Asks, seen, next_seen, told, with_phase, with_read, worked, is_fine, is_read, duty_of, phase_told, bar_call, first_bar, record_call, wants_flush, all_won, newest_maps, attempts_of, rest_of}
+use Rattle.mr_model.specs.Hearing.{Seen, Phase, Launched, Running, Committing, Stopped, List_job, is_running, over_with, container_of, find_launched, has_container, containers_of}
+use Rattle.mr_model.specs.Duties.{Master_step, Asks, seen, next_seen, told, with_phase, with_read, worked, is_fine, is_read, duty_of, phase_told, bar_call, first_bar, record_call, wants_flush, all_won, newest_maps, attempts_of, rest_of, successes, all_rivals}
 use Rattle.mr_model.specs.Calls.{Calls, calls, next_calls, calls_phased, calls_worked, tell, tell_each, winning, AppendsDue}
-use Rattle.mr_model.specs.Made.{AllMade}
+use Rattle.mr_model.specs.Made.{AllMade, TellsOf}
+use Rattle.mr_model.proofs.Lists.{Each}
 use Rattle.mr_model.proofs.Made.{appends-due}
 use Rattle.mr_model.proofs.Bars.{first-lives}
 use Rattle.mr_model.proofs.Closed.{bar-by}
@@ -28,14 +29,17 @@ use Rattle.mr_model.proofs.Agree.{no-and}
 use Rattle.mr_agree.specs.Steps.{setting, step_of}
 use Rattle.mr_agree.specs.Works.{work_at, named, name_of_names, name_of_running}
 use Rattle.mr_agree.specs.Points.{launch_as}
-use Rattle.mr_agree.specs.Holds.{Holds, FlushesNot, AnswersKeep}
+use Rattle.mr_agree.specs.Holds.{Holds, AnswersKeep}
 use Rattle.mr_agree.proofs.Works.{runs-is}
 use Rattle.mr_agree.proofs.Turn.{if_cases, at-running}
 use Rattle.mr_agree.proofs.Changes.{change_at, sends_at}
 use Rattle.mr_agree.proofs.Answering.{answered, answer-sent, runs-on}
 use Rattle.mr_agree.proofs.Early.{nat-sym}
 use Rattle.mr_agree.proofs.Points.{point, bars-at}
-use Rattle.mr_agree.proofs.Launches.{places, found, found-in}
+use Rattle.mr_agree.proofs.Still.{tails}
+use Rattle.mr_agree.proofs.Launches.{AllAlike, places, found, found-in}
+use Rattle.mr_agree.proofs.Kills.{Sent_to}
+use Rattle.mr_agree.proofs.Flushing.{SameCalls, recorded-is, recorded-alike, flush-sent, flush-notes, has-both}
 use Rattle.mr_agree.proofs.Held.{At, at-of, of-at, tell-at}
 use Rattle.mr_agree.proofs.Late.{rest-of, idle-at}
 
@@ -115,8 +119,8 @@ module _ (cfg : Config) (k : ℕ) (h : List Master_step) (m : read.Seen) (made :
   begins = let v = rest-of cfg k S C m here in
       idle-at cfg k _ C _ refl refl tt (record { due = v.due; tail = v.tail; bars = v.bars; launched = v.launched; known = v.known; earlier = v.earlier })
 
-  runs-still : (call : Store) (r : Reply) → FlushesNot call r → duty_of cfg k S Running ≡ Some call → is_running (with_read cfg (if is_fine r then worked S call else S) call r).phase ≡ true
-  runs-still call r n d = if_cases (λ (u : Seen). is_running u.phase ≡ true) (is_read call) _ _ (λ t. at (is_fine r)) (λ t. at (is_fine r))
+  runs-still : (call : Store) (r : Reply) → duty_of cfg k S Running ≡ Some call → is_running (with_read cfg (if is_fine r then worked S call else S) call r).phase ≡ true
+  runs-still call r d = if_cases (λ (u : Seen). is_running u.phase ≡ true) (is_read call) _ _ (λ t. at (is_fine r)) (λ t. at (is_fine r))
     where
       works : (c : Store) → is_running (worked S c).phase ≡ true
       works (Append_record x) = run
@@ -167,13 +171,41 @@ module _ (cfg : Config) (k : ℕ) (h : List Master_step) (m : read.Seen) (made :
       same : At cfg k S (tell a.task (task_call.Dies a) C) (read.tell m a.task (task_call.Dies a))
       same = tell-at cfg k S C m a.task (task_call.Dies a) here
 
+  -- ---- a flush
+
+  alike-now : AllAlike cfg k h m
+  alike-now = o.stands.tasks run
+
+  tells-tail : Each (TellsOf cfg k) m.tail
+  tells-tail = subst (Each (TellsOf cfg k)) (sym o.stands.tail) (tails cfg k h made)
+
+  flushes : Led Flush true Running
+  unfolding work_at
+  flushes = record {
+    work = refl;
+    can = tt;
+    due = ap (λ (z : read.Seen). z.due) same ∙ here.due;
+    tail = refl;
+    bars = ap (λ (z : read.Seen). z.bars) same ∙ here.bars;
+    tasks = λ e. subst (λ rs. SameCalls cfg k (tell_each (λ a. task_call.Records a) (successes rs) C) (recorded W m m.tail).calls) o.stands.tail (recorded-alike cfg k m.tail tells-tail C m (here.tasks run));
+    launched = ap (λ (z : read.Seen). z.launched) same ∙ here.launched;
+    known = ap (λ (z : read.Seen). z.known) same ∙ here.known;
+    earlier = ap (λ (z : read.Seen). z.earlier) same ∙ here.earlier;
+    killed = λ e n. (let p = append-nil (sends.flush_sends W m m.tail) ∙ flush-sent cfg k h m made o.launched alike-now o.stands.tail in let q = ap (λ (z : read.Seen). z.killed) same in λ i. killed_by (p i) (q i) n)
+        ∙ (flush-notes cfg k h m made o.launched alike-now m.killed n
+        ∙ (ap (λ b. Sent_to k (all_rivals S (successes S.tail)) n || b) (here.killed run n) ∙ sym (has-both (containers_of (all_rivals S (successes S.tail))) S.killed (record { app = k; number = n }))));
+  }
+    where
+      same : recorded W m m.tail ≡ record m { calls = (recorded W m m.tail).calls }
+      same = recorded-is W m m.tail
+
   -- ---- each answer
 
   choose : (c : Store) (q : Phase) → Led c true q → (b : Bool) → Led c b (if b then q else Stopped)
   choose c q o true = o
   choose c q o false = stops c
 
-  module _ (call : Store) (r : Reply) (n : FlushesNot call r) (due : AppendsDue S.due call) (d : duty_of cfg k S Running ≡ Some call) where
+  module _ (call : Store) (r : Reply) (due : AppendsDue S.due call) (d : duty_of cfg k S Running ≡ Some call) where
     abbrev Q : Phase
     Q = phase_told k S Running call r
 
@@ -195,14 +227,14 @@ module _ (cfg : Config) (k : ℕ) (h : List Master_step) (m : read.Seen) (made :
 
     led : Goal call
     unfolding phase_told
-    led = at-running (λ c. FlushesNot c r → AppendsDue S.due c → duty_of cfg k S Running ≡ Some c → Goal c)
-        (λ x n due d. choose (Append_record x) Running (appends x due) (is_fine r))
-        (λ n due d. subst (λ (b : Bool). Led Flush b (if b then Running else Stopped)) (sym n) (stops Flush))
-        (λ a n due d. choose (Names (Bar a)) Running (bars a (first-due cfg k S a d)) (is_fine r))
-        (λ n due d. choose (Names (Create commit_started true)) (Committing List_job) begins (is_fine r)) cfg k S call d n due d
+    led = at-running (λ c. AppendsDue S.due c → duty_of cfg k S Running ≡ Some c → Goal c)
+        (λ x due d. choose (Append_record x) Running (appends x due) (is_fine r))
+        (λ due d. choose Flush Running flushes (is_fine r))
+        (λ a due d. choose (Names (Bar a)) Running (bars a (first-due cfg k S a d)) (is_fine r))
+        (λ due d. choose (Names (Create commit_started true)) (Committing List_job) begins (is_fine r)) cfg k S call d due d
 
-    works-on : (c : Store) → FlushesNot c r → read.is_running (change_at cfg k m Running c r).work ≡ true
-    works-on c n = at c n (is_fine r) refl
+    works-on : (c : Store) → read.is_running (change_at cfg k m Running c r).work ≡ true
+    works-on c = at c (is_fine r) refl
       where
         runs : read.is_running m.work ≡ true
         runs = ap read.is_running (o.stands.work ∙ ap (work_at k) (running-only S.phase run)) ∙ runs-is k Running tt
@@ -219,15 +251,15 @@ module _ (cfg : Config) (k : ℕ) (h : List Master_step) (m : read.Seen) (made :
         naming true = barring (find (read.is_live W m) m.bars)
         naming false = runs
 
-        at : (c : Store) → FlushesNot c r → (b : Bool) → is_fine r ≡ b → read.is_running (if b then after_duty W m (name_of_running c) else m).work ≡ true
-        at c n false e = runs
-        at (Append_record x) n true e = moving m.due
-        at (Names op) n true e = naming (is_some (bar_of op))
-        at Flush n true e = absurd (true≢false (sym e ∙ n))
-        at Read_history n true e = runs
+        at : (c : Store) → (b : Bool) → is_fine r ≡ b → read.is_running (if b then after_duty W m (name_of_running c) else m).work ≡ true
+        at c false e = runs
+        at (Append_record x) true e = moving m.due
+        at (Names op) true e = naming (is_some (bar_of op))
+        at Flush true e = ap (λ (z : read.Seen). read.is_running z.work) (recorded-is W m m.tail) ∙ runs
+        at Read_history true e = runs
 
     still : is_running U.phase ≡ true
-    still = runs-still call r n d
+    still = runs-still call r d
 
     seen-is : told cfg k S call r ≡ record U { phase = Q }
     unfolding told
@@ -247,7 +279,7 @@ module _ (cfg : Config) (k : ℕ) (h : List Master_step) (m : read.Seen) (made :
     machine-is : next.next_seen W m (step_of (Asks call r)) ≡ record X { work = work_at k Q; killed = killed_by (sends_at cfg k m Running call r ++ sends.outcome_of W (work_at k Q)) X.killed }
     unfolding next.next_seen next.moved next.sent_by
     machine-is =
-        let a = answered cfg k S m Running call r tt at-work tt o.stands.tail d duty-here ∙ runs-on cfg k X (work_at k Q) (works-on call n) in
+        let a = answered cfg k S m Running call r tt at-work tt o.stands.tail d duty-here ∙ runs-on cfg k X (work_at k Q) (works-on call) in
         let e = answer-sent cfg k S m Running call r tt at-work tt o.stands.tail d duty-here in
         λ i. next.with_kills (e i) (a i)
 
@@ -259,5 +291,5 @@ module _ (cfg : Config) (k : ℕ) (h : List Master_step) (m : read.Seen) (made :
         (subst (λ z. At cfg k (record U { phase = Q }) D z) (sym machine-is) led)))
 
 pub answers_keep : AnswersKeep
-answers_keep cfg k h m call r n made o run = asks-at cfg k h m made.1 o run call r n (appends-due cfg k (seen cfg k h) call made.0.0)
+answers_keep cfg k h m call r made o run = asks-at cfg k h m made.1 o run call r (appends-due cfg k (seen cfg k h) call made.0.0)
     (subst (λ p. duty_of cfg k (seen cfg k h) p ≡ Some call) (running-only (seen cfg k h).phase run) made.0.0)

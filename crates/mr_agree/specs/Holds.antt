@@ -8,9 +8,9 @@ use Rattle.mr_packet.specs.declared.packet.Packet.{Packet}
 use Rattle.mr_packet.specs.declared.packet.Packet.TheVariants as packet
 use Rattle.mr_master_model.specs.Readings as read
 use Rattle.mr_master_model.specs.Next.{next_seen}
-use Rattle.mr_model.specs.Packets.{Config, Store, Flush, Reply}
+use Rattle.mr_model.specs.Packets.{Config, Store, Reply}
 use Rattle.mr_model.specs.Hearing.{Seen, Launched, is_running, has_container, find_launched, find_container}
-use Rattle.mr_model.specs.Duties.{Master_step, Came, Launches, Asks, is_fine, seen}
+use Rattle.mr_model.specs.Duties.{Master_step, Came, Launches, Asks, seen}
 use Rattle.mr_model.specs.Claims.{has_not_run}
 use Rattle.mr_model.specs.Made.{AllMade}
 use Rattle.mr_agree.specs.Steps.{setting, step_of}
@@ -67,11 +67,6 @@ abbrev pub LateStepsKeep : Type 0
 LateStepsKeep = (cfg : Config) (k : ℕ) (past : List Master_step) (m : read.Seen) (x : Master_step) → AllMade cfg k (x ∷ past) → Holds cfg k past m
     → is_running (seen cfg k past).phase ≡ false → has_not_run (seen cfg k past).phase ≡ false → Holds cfg k (x ∷ past) (next_seen (setting cfg k) m (step_of x))
 
--- an answer that does not make records stable
-abbrev pub FlushesNot : Store → Reply → Type 0
-FlushesNot Flush r = is_fine r ≡ false
-FlushesNot call r = Unit {0}
-
--- While a master runs, its machine stays with it at each answer but that of a flush that was done.
+-- While a master runs, its machine stays with it at each answer of a store call.
 abbrev pub AnswersKeep : Type 0
-AnswersKeep = (cfg : Config) (k : ℕ) (past : List Master_step) (m : read.Seen) (call : Store) (r : Reply) → FlushesNot call r → Kept cfg k past m (Asks call r)
+AnswersKeep = (cfg : Config) (k : ℕ) (past : List Master_step) (m : read.Seen) (call : Store) (r : Reply) → Kept cfg k past m (Asks call r)

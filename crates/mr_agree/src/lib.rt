@@ -85,7 +85,7 @@ pub fn late_steps_keep()
     ensures { LateStepsKeep }
 {}
 
-/// While a master runs, its machine stays with it at each answer of a store call but that of a flush that was done.
+/// While a master runs, its machine stays with it at each answer of a store call.
 pub fn answers_keep()
     ensures { AnswersKeep }
 {}
