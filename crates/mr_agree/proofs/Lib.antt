@@ -21,3 +21,5 @@ pub mod Replies
 pub mod Arrivals
 pub mod Kills
 pub mod Flushing
+pub mod Succeeds
+pub mod Lost

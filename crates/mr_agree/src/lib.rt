@@ -29,6 +29,7 @@
 ghost use Rattle.mr_agree.specs.Alike.{TasksStayAlike};
 ghost use Rattle.mr_agree.specs.Begins.{BeginningsAgree};
 ghost use Rattle.mr_agree.specs.Holds.{AnswersKeep, LateStepsKeep, LaunchesAgree, RunningBegins, StepsKeep};
+ghost use Rattle.mr_agree.specs.Losses.{FetchesKeep};
 ghost use Rattle.mr_agree.specs.Points.{PointsAgree};
 ghost use Rattle.mr_agree.specs.Recorded.{ReducesAreRecorded};
 ghost use Rattle.mr_agree.specs.Agreement.{ActsUntilItRuns, TurnsAgree};
@@ -88,4 +89,9 @@ pub fn late_steps_keep()
 /// While a master runs, its machine stays with it at each answer of a store call.
 pub fn answers_keep()
     ensures { AnswersKeep }
+{}
+
+/// While a master runs, its machine stays with it where a fetch found an output lost.
+pub fn fetches_keep()
+    ensures { FetchesKeep }
 {}
