@@ -23,3 +23,7 @@ pub mod Kills
 pub mod Flushing
 pub mod Succeeds
 pub mod Lost
+pub mod Deaths
+pub mod Lies
+pub mod Picks
+pub mod Restarts

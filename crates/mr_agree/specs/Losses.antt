@@ -11,3 +11,7 @@ use Rattle.mr_agree.specs.Holds.{Kept}
 -- While a master runs, its machine stays with it where a fetch found an output lost.
 abbrev pub FetchesKeep : Type 0
 FetchesKeep = (cfg : Config) (k : ℕ) (past : List Master_step) (m : read.Seen) (c : ContainerId) (a : Attempt) → Kept cfg k past m (Came (packet.FetchLost c a))
+
+-- While a master runs, its machine stays with it where a node tells its incarnation.
+abbrev pub RestartsKeep : Type 0
+RestartsKeep = (cfg : Config) (k : ℕ) (past : List Master_step) (m : read.Seen) (n i : ℕ) → Kept cfg k past m (Came (packet.NodeUp n i))

@@ -29,7 +29,7 @@
 ghost use Rattle.mr_agree.specs.Alike.{TasksStayAlike};
 ghost use Rattle.mr_agree.specs.Begins.{BeginningsAgree};
 ghost use Rattle.mr_agree.specs.Holds.{AnswersKeep, LateStepsKeep, LaunchesAgree, RunningBegins, StepsKeep};
-ghost use Rattle.mr_agree.specs.Losses.{FetchesKeep};
+ghost use Rattle.mr_agree.specs.Losses.{FetchesKeep, RestartsKeep};
 ghost use Rattle.mr_agree.specs.Points.{PointsAgree};
 ghost use Rattle.mr_agree.specs.Recorded.{ReducesAreRecorded};
 ghost use Rattle.mr_agree.specs.Agreement.{ActsUntilItRuns, TurnsAgree};
@@ -94,4 +94,9 @@ pub fn answers_keep()
 /// While a master runs, its machine stays with it where a fetch found an output lost.
 pub fn fetches_keep()
     ensures { FetchesKeep }
+{}
+
+/// While a master runs, its machine stays with it where a node tells its incarnation: what was launched there before dies, and what lay there is lost.
+pub fn restarts_keep()
+    ensures { RestartsKeep }
 {}
