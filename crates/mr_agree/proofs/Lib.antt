@@ -27,3 +27,4 @@ pub mod Deaths
 pub mod Lies
 pub mod Picks
 pub mod Restarts
+pub mod Ordered
