@@ -28,3 +28,4 @@ pub mod Lies
 pub mod Picks
 pub mod Restarts
 pub mod Ordered
+pub mod Places
