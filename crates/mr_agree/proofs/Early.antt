@@ -227,7 +227,7 @@ module _ (cfg : Config) (k : ℕ) (p : Phase) (ws : List Todo_winner) (f : ℕ �
   next_phase : Store → Reply → Phase
   next_phase call r = phase_told k S p call r
 
-  told-is : (call : Store) (r : Reply) → Mute call → is_running (phase_told k S p call r) ≡ false →
+  pub told-is : (call : Store) (r : Reply) → Mute call → is_running (phase_told k S p call r) ≡ false →
       told cfg k S call r ≡ early_seen (phase_told k S p call r) (if is_read call then winners_of (records_of r) cfg.job cfg.reduces else ws) f (if is_read call then records_of r else read')
   unfolding told
   told-is (Names op) r o idle =
@@ -296,7 +296,7 @@ module _ (cfg : Config) (k : ℕ) (p : Phase) (ws : List Todo_winner) (f : ℕ �
       (kills-append (won_by_recovery cfg.nodes p r) _ (recovery-kills p r) (outcome-kills (phase_told k S p call r)))
 
   -- what its machine has seen
-  machine-after : (call : Store) (r : Reply) → duty_of cfg k S p ≡ Some call → is_running (phase_told k S p call r) ≡ false →
+  pub machine-after : (call : Store) (r : Reply) → duty_of cfg k S p ≡ Some call → is_running (phase_told k S p call r) ≡ false →
       next.next_seen W M (step_of (Asks call r)) ≡ record (change_at cfg k M p call r) { work = work_at k (phase_told k S p call r); killed = (change_at cfg k M p call r).killed }
   unfolding next.next_seen next.moved next.sent_by
   machine-after call r d idle =

@@ -29,3 +29,4 @@ pub mod Picks
 pub mod Restarts
 pub mod Ordered
 pub mod Places
+pub mod Ends

@@ -31,6 +31,11 @@ abbrev pub RunningBegins : Type 0
 RunningBegins = (cfg : Config) (k : ℕ) (past : List Master_step) (x : Master_step) → AllMade cfg k (x ∷ past) → has_not_run (seen cfg k past).phase ≡ true
     → is_running (seen cfg k (x ∷ past)).phase ≡ true → Holds cfg k (x ∷ past) (machine_seen cfg k (x ∷ past))
 
+-- Where a master ends before it runs, as it stops, finds a mark, or goes on failing by what it read, its machine stands where it does.
+abbrev pub EndsEarly : Type 0
+EndsEarly = (cfg : Config) (k : ℕ) (past : List Master_step) (x : Master_step) → AllMade cfg k (x ∷ past) → has_not_run (seen cfg k past).phase ≡ true
+    → has_not_run (seen cfg k (x ∷ past)).phase ≡ false → is_running (seen cfg k (x ∷ past)).phase ≡ false → Holds cfg k (x ∷ past) (machine_seen cfg k (x ∷ past))
+
 -- ---- what an attempt was launched as, and for which attempt a container was
 
 abbrev pub pair_of : Launched → Attempt × Launch

@@ -28,7 +28,7 @@
 
 ghost use Rattle.mr_agree.specs.Alike.{TasksStayAlike};
 ghost use Rattle.mr_agree.specs.Begins.{BeginningsAgree};
-ghost use Rattle.mr_agree.specs.Holds.{AnswersKeep, LateStepsKeep, LaunchesAgree, RunningBegins, StepsKeep};
+ghost use Rattle.mr_agree.specs.Holds.{AnswersKeep, EndsEarly, LateStepsKeep, LaunchesAgree, RunningBegins, StepsKeep};
 ghost use Rattle.mr_agree.specs.Losses.{FetchesKeep, RestartsKeep};
 ghost use Rattle.mr_agree.specs.Points.{PointsAgree};
 ghost use Rattle.mr_agree.specs.Recorded.{ReducesAreRecorded};
@@ -69,6 +69,11 @@ pub fn beginnings_agree()
 /// Where a master begins to run, its machine stands where it does: it launched, knows and read the same, and its tasks have heard alike.
 pub fn running_begins()
     ensures { RunningBegins }
+{}
+
+/// Where a master ends before it runs, its machine stands where it does.
+pub fn ends_early()
+    ensures { EndsEarly }
 {}
 
 /// While a master runs, its machine finds what an attempt was launched as, and for which attempt a container was, as the master does.
