@@ -71,7 +71,7 @@ module _ (cfg : Config) (k : ℕ) (s : Seen) (c : Calls) (m : read.Seen) (o : At
   abbrev W : Setting
   W = setting cfg k
 
-  stands-still : read.is_running m.work ≡ false
+  pub stands-still : read.is_running m.work ≡ false
   stands-still = ap read.is_running o.work ∙ (runs-is k s.phase o.can ∙ idle)
 
   known-at : (n i : ℕ) (b d : Bool) (g : ℕ → Bool) →
@@ -120,11 +120,11 @@ module _ (cfg : Config) (k : ℕ) (s : Seen) (c : Calls) (m : read.Seen) (o : At
   -- ---- an answer
 
   -- a call to the namespace that is no bar
-  abbrev NoBar : Store → Type 0
+  abbrev pub NoBar : Store → Type 0
   NoBar (Names op) = bar_of op ≡ None
   NoBar _ = ⊥
 
-  commit-plain : (at : Commit_step) (call : Store) → CanBe (Committing at) → commit_call k at ≡ Some call → NoBar call
+  pub commit-plain : (at : Commit_step) (call : Store) → CanBe (Committing at) → commit_call k at ≡ Some call → NoBar call
   commit-plain List_job call can d = subst NoBar (some-is _ call d) refl
   commit-plain (Merging []) call can d = absurd can
   commit-plain (Merging (Look_at f t b ∷ todo)) call can d = subst NoBar (some-is _ call d) refl
@@ -192,7 +192,7 @@ module _ (cfg : Config) (k : ℕ) (s : Seen) (c : Calls) (m : read.Seen) (o : At
   rest-after Setting_up call r can i y due d = absurd (true≢false y)
   rest-after (Recovering ws at) call r can i y due d = absurd (true≢false y)
 
-  late-set-up : (p : Phase) → has_not_run p ≡ false → SetUp cfg k s m p
+  pub late-set-up : (p : Phase) → has_not_run p ≡ false → SetUp cfg k s m p
   late-set-up Setting_up y = absurd (true≢false y)
   late-set-up (Opening n) y = tt
   late-set-up (Recovering ws at) y = tt

@@ -30,3 +30,4 @@ pub mod Restarts
 pub mod Ordered
 pub mod Places
 pub mod Ends
+pub mod Falling

@@ -35,7 +35,7 @@ after_ended-phase : (cfg : Config) (s : Seen) (d : ContainerId) (l : Option Laun
 after_ended-phase cfg s d None = inl refl
 after_ended-phase cfg s d (Some l) = after_end-phase cfg s _ _
 
-end_there-phase : (n i : ℕ) (ls : List Launched) (s : Seen) → (end_there n i ls s).phase ≡ s.phase
+pub end_there-phase : (n i : ℕ) (ls : List Launched) (s : Seen) → (end_there n i ls s).phase ≡ s.phase
 end_there-phase n i [] s = refl
 end_there-phase n i (l ∷ ls) s = if_cases (λ (x : Seen). x.phase ≡ s.phase) (nat_eq l.node n && (nat_lt l.incarnation i && is_live s l.attempt)) _ _ (λ t. end_there-phase n i ls _) (λ t. end_there-phase n i ls s)
 
