@@ -164,7 +164,7 @@ module _ (t : TaskId) (k : ℕ) where
 
 -- ---- along a past
 
-launched-same : (cfg : Config) (ls : List Launched) → Closed cfg (λ s l. ⊥) (λ s. s.launched ≡ ls)
+pub launched-same : (cfg : Config) (ls : List Launched) → Closed cfg (λ s l. ⊥) (λ s. s.launched ≡ ls)
 launched-same cfg ls = record { asks = λ s a o. o; ends = λ s a f due p o. o; accepts = λ s a st due o. o; knows = λ s f ps o. o; calls = λ s p ws st rs ks h due tail o. o; launches = λ s l due u o. absurd u; expires = λ s ks bs o. o }
 
 pub agrees-at : (cfg : Config) (k : ℕ) (h : List Master_step) (t : TaskId) → AllMade cfg k h → t.job ≡ cfg.job → AgreesOf t (seen cfg k h) (of_task cfg k h t)

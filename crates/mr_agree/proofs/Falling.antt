@@ -48,7 +48,7 @@ use Rattle.mr_agree.proofs.Still.{tails}
 use Rattle.mr_agree.proofs.Launches.{AllAlike, places, found}
 use Rattle.mr_agree.proofs.Flushing.{SameCalls, recorded-alike}
 
-failing-only : (p : Phase) → is_failing p ≡ true → (f : Bool) × (p ≡ Failing f)
+pub failing-only : (p : Phase) → is_failing p ≡ true → (f : Bool) × (p ≡ Failing f)
 failing-only (Failing f) e = (f, refl)
 failing-only p e = absurd (false≢true e)
 
@@ -56,7 +56,7 @@ failing-idle : (p : Phase) → is_failing p ≡ true → is_running p ≡ false
 failing-idle (Failing f) e = refl
 failing-idle p e = absurd (false≢true e)
 
-running-sound : (p : Phase) → is_running p ≡ true → is_failing p ≡ false
+pub running-sound : (p : Phase) → is_running p ≡ true → is_failing p ≡ false
 running-sound (Failing f) e = absurd (false≢true e)
 running-sound p e = refl
 

@@ -65,7 +65,7 @@ module _ (cfg : Config) (k : ℕ) (h : List Master_step) (m : read.Seen) (made :
   finds : LaunchesFound cfg k S m
   finds = found cfg k h m made o run
 
-  of-job : (a : Attempt) (l : Launched) → find_launched S.launched a ≡ Some l → cluster.is_task cfg a.task ≡ true
+  pub of-job : (a : Attempt) (l : Launched) → find_launched S.launched a ≡ Some l → cluster.is_task cfg a.task ≡ true
   of-job a l e = let f = found_launched S.launched a (ap (λ x. is_some x) e) in (subst (BelongsTo cfg k) f.2 ((fitted cfg k h made).launches f.0 f.1)).1
 
   alike : (t : TaskId) → cluster.is_task cfg t ≡ true → Alike (of_task cfg k h t) (read.of_task W m t)
@@ -85,7 +85,7 @@ module _ (cfg : Config) (k : ℕ) (h : List Master_step) (m : read.Seen) (made :
 
   -- ---- Done
 
-  may-is : (t : TaskId) (a : Attempt) → a.task ≡ t → cluster.is_task cfg t ≡ true → task.may_accept (read.of_task W m t) a ≡ may_accept S a
+  pub may-is : (t : TaskId) (a : Attempt) → a.task ≡ t → cluster.is_task cfg t ≡ true → task.may_accept (read.of_task W m t) a ≡ may_accept S a
   may-is t a q e = as-view (read.of_task W m t) ∙ (ap (λ v. accepts_in v a) (alike t e) ∙ (sym (as-view (of_task cfg k h t)) ∙ (tells cfg k h t made (job-is cfg t e)).accepts a q))
     where
       as-view : (r : task.Seen) → task.may_accept r a ≡ accepts_in (view r) a
@@ -395,13 +395,13 @@ module _ (cfg : Config) (k : ℕ) (h : List Master_step) (m : read.Seen) (made :
     why-none : launch_why cfg S l.attempt.task l.node ≡ None
     why-none = λ i. unless (u.2 i) NotRunning (unless (u.3 i) NoTask (unless (u.4 i) NoNode (u.5 i)))
 
-    refused-none : read.launch_refusal W m l.attempt.task l.node ≡ None
+    pub refused-none : read.launch_refusal W m l.attempt.task l.node ≡ None
     refused-none = (point cfg k h m made o.stands).launch l.attempt.task l.node ∙ ap refusal_as why-none
 
-    attempt-is : read.next_attempt W m l.attempt.task ≡ l.attempt
+    pub attempt-is : read.next_attempt W m l.attempt.task ≡ l.attempt
     attempt-is = (point cfg k h m made o.stands).next l.attempt.task l.node why-none ∙ ap (λ (x : Launched). x.attempt) (sym u.0)
 
-    launched-is : read.launched_as W m l.node ≡ launch_as l
+    pub launched-is : read.launched_as W m l.node ≡ launch_as l
     launched-is = (let n = ap length o.launched ∙ order-length S.launched in let q = o.known in λ i. record { container = record { app = k; number = n i }; node = l.node; incarnation = q i l.node })
         ∙ ap launch_as (sym u.0)
 

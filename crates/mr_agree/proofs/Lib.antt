@@ -31,3 +31,4 @@ pub mod Ordered
 pub mod Places
 pub mod Ends
 pub mod Falling
+pub mod Packets

@@ -39,7 +39,7 @@ find-none p [] e = refl
 find-none p (x ∷ xs) e = (λ i. if e x i then Some x else find-none p xs e i)
 
 -- an entry that has the number
-standing-one : (ps : List Placed) (n : ℕ) (p : Placed) → stands ps n ≡ Some p → In p ps × (nat_eq p.attempt.task.number n ≡ true)
+pub standing-one : (ps : List Placed) (n : ℕ) (p : Placed) → stands ps n ≡ Some p → In p ps × (nat_eq p.attempt.task.number n ≡ true)
 standing-one [] n p e = cc
 standing-one (x ∷ ps) n p e = by (nat_eq x.attempt.task.number n) refl e (standing-one ps n p)
   where

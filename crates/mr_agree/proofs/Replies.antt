@@ -61,11 +61,11 @@ first-is : (b : Option Attempt) (rest : Option Store) (a : Attempt) → NotBar r
 first-is None rest a n e = absurd (true≢false (subst NotBar e n))
 first-is (Some x) rest a n e = ap barred e
 
-first-due : (cfg : Config) (k : ℕ) (s : Seen) (a : Attempt) → duty_of cfg k s Running ≡ Some (Names (Bar a)) → first_bar s s.bars ≡ Some a
+pub first-due : (cfg : Config) (k : ℕ) (s : Seen) (a : Attempt) → duty_of cfg k s Running ≡ Some (Names (Bar a)) → first_bar s s.bars ≡ Some a
 unfolding duty_of
 first-due cfg k s a d = first-is (first_bar s s.bars) _ a (record-not s.due s.tail _ (if_cases NotBar (all_won s.recorded s.winners cfg.job cfg.reduces) _ _ (λ t. refl) (λ t. tt))) d
 
-running-only : (p : Phase) → is_running p ≡ true → p ≡ Running
+pub running-only : (p : Phase) → is_running p ≡ true → p ≡ Running
 running-only Running e = refl
 running-only p e = absurd (false≢true e)
 
