@@ -32,3 +32,5 @@ pub mod Places
 pub mod Ends
 pub mod Falling
 pub mod Packets
+pub mod Given
+pub mod Expiries

@@ -29,7 +29,7 @@
 ghost use Rattle.mr_agree.specs.Alike.{TasksStayAlike};
 ghost use Rattle.mr_agree.specs.Begins.{BeginningsAgree};
 ghost use Rattle.mr_agree.specs.Holds.{AnswersKeep, EndsEarly, LateStepsKeep, LaunchesAgree, RunningBegins, StepsKeep};
-ghost use Rattle.mr_agree.specs.Losses.{FetchesKeep, RestartsKeep};
+ghost use Rattle.mr_agree.specs.Losses.{ExpiriesKeep, ExpiriesSend, FetchesKeep, RestartsKeep};
 ghost use Rattle.mr_agree.specs.Points.{PointsAgree};
 ghost use Rattle.mr_agree.specs.Recorded.{ReducesAreRecorded};
 ghost use Rattle.mr_agree.specs.Agreement.{ActsUntilItRuns, TurnsAgree};
@@ -104,4 +104,14 @@ pub fn fetches_keep()
 /// While a master runs, its machine stays with it where a node tells its incarnation: what was launched there before dies, and what lay there is lost.
 pub fn restarts_keep()
     ensures { RestartsKeep }
+{}
+
+/// While a master runs, its machine stays with it where a node is given up: the same attempts die, the same outputs are lost, the same bars are due, in the same order.
+pub fn expiries_keep()
+    ensures { ExpiriesKeep }
+{}
+
+/// Where a node is given up, the machine sends the Kills that the master does, in the same order.
+pub fn expiries_send()
+    ensures { ExpiriesSend }
 {}
