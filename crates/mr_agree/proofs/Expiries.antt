@@ -36,8 +36,8 @@ use Rattle.mr_agree.specs.Steps.{setting, step_of}
 use Rattle.mr_agree.specs.Points.{view, Alike, launch_as, refusal_as}
 use Rattle.mr_agree.specs.Begins.{attempts_in}
 use Rattle.mr_agree.specs.Arrivals.{at_task, attempts}
-use Rattle.mr_agree.specs.Holds.{Holds}
-use Rattle.mr_agree.specs.Losses.{ExpiriesKeep, ExpiriesSend}
+use Rattle.mr_agree.specs.Holds.{Holds, Kept}
+use Rattle.mr_agree.specs.Expiries.{ExpiriesSend}
 use Rattle.mr_agree.proofs.Turn.{if_cases}
 use Rattle.mr_agree.proofs.Begins.{told-is}
 use Rattle.mr_agree.proofs.Points.{point, task-test, job-is}
@@ -257,7 +257,7 @@ module _ (cfg : Config) (k : ℕ) (h : List Master_step) (m : read.Seen) (made :
   unfolding next.sent_by
   expiry-sends = kills-sent
 
-pub expiries_keep : ExpiriesKeep
+pub expiries_keep : (cfg : Config) (k : ℕ) (h : List Master_step) (m : read.Seen) (n : ℕ) → Kept cfg k h m (Expires n)
 expiries_keep cfg k h m n made o runs = expiry-keeps cfg k h m made.1 o n made.0
 
 pub expiries_send : ExpiriesSend

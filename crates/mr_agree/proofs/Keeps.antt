@@ -41,13 +41,19 @@ use Rattle.mr_model.proofs.Made.{fitted}
 use Rattle.mr_agree.specs.Steps.{setting, step_of}
 use Rattle.mr_agree.specs.Works.{work_at}
 use Rattle.mr_agree.specs.Points.{View, view, Alike, launch_as, launch_why, refusal_as}
-use Rattle.mr_agree.specs.Holds.{Holds, LaunchesFound, IsPlain, StepsKeep, pair_of}
+use Rattle.mr_agree.specs.Holds.{Holds, Kept, LaunchesFound, pair_of}
 use Rattle.mr_agree.proofs.Works.{runs-is}
 use Rattle.mr_agree.proofs.Turn.{if_cases}
 use Rattle.mr_agree.proofs.Points.{point, tells, task-test, job-is}
 use Rattle.mr_agree.proofs.Alike.{tasks_stay_alike, next_in, next-is, live_in, won_in, ended_in, accepts_in, accepts-is}
 use Rattle.mr_agree.proofs.Launches.{places, found, order-length}
 use Rattle.mr_agree.proofs.Held.{At, at-of, of-at, tell-at, came-at, asked-at}
+
+-- packets that tell of no restart and no lost output
+abbrev pub IsPlain : Packet → Type 0
+IsPlain (packet.NodeUp n i) = ⊥
+IsPlain (packet.FetchLost c a) = ⊥
+IsPlain _ = Unit {0}
 
 module _ (cfg : Config) (k : ℕ) (h : List Master_step) (m : read.Seen) (made : AllMade cfg k h) (o : Holds cfg k h m) (run : is_running (seen cfg k h).phase ≡ true) where
   abbrev W : Setting
@@ -433,8 +439,8 @@ module _ (cfg : Config) (k : ℕ) (h : List Master_step) (m : read.Seen) (made :
           killed = same.killed;
         }
 
-pub steps_keep : StepsKeep
-steps_keep = record {
-  launches = λ cfg k h m l made o run. launch-keeps cfg k h m made.1 o run l made.0;
-  packets = λ cfg k h m p plain made o run. packets-keep cfg k h m made.1 o run p plain made;
-}
+pub launches_keep : (cfg : Config) (k : ℕ) (h : List Master_step) (m : read.Seen) (l : Launched) → Kept cfg k h m (Launches l)
+launches_keep cfg k h m l made o run = launch-keeps cfg k h m made.1 o run l made.0
+
+pub plain_keep : (cfg : Config) (k : ℕ) (h : List Master_step) (m : read.Seen) (p : Packet) → IsPlain p → Kept cfg k h m (Came p)
+plain_keep cfg k h m p plain made o run = packets-keep cfg k h m made.1 o run p plain made

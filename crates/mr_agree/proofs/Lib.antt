@@ -34,3 +34,4 @@ pub mod Falling
 pub mod Packets
 pub mod Given
 pub mod Expiries
+pub mod Stepping

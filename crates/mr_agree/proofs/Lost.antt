@@ -30,8 +30,7 @@ use Rattle.mr_model.specs.Made.{AllMade}
 use Rattle.mr_model.proofs.Names.{task_eq-true}
 use Rattle.mr_agree.specs.Steps.{setting, step_of}
 use Rattle.mr_agree.specs.Points.{View, view, Alike}
-use Rattle.mr_agree.specs.Holds.{Holds, pair_of}
-use Rattle.mr_agree.specs.Losses.{FetchesKeep}
+use Rattle.mr_agree.specs.Holds.{Holds, Kept, pair_of}
 use Rattle.mr_agree.proofs.Turn.{if_cases}
 use Rattle.mr_agree.proofs.Points.{task-test, job-is}
 use Rattle.mr_agree.proofs.Alike.{tasks_stay_alike, can_lose}
@@ -120,5 +119,5 @@ module _ (cfg : Config) (k : ℕ) (h : List Master_step) (m : read.Seen) (made :
   fetches-keep c a = of-at cfg k h (Came (packet.FetchLost c a)) _
       (came-at cfg k S C m (packet.FetchLost c a) run o.stands.work o.stands.can refl (λ go g. refl) (fetch-at c a))
 
-pub fetches_keep : FetchesKeep
+pub fetches_keep : (cfg : Config) (k : ℕ) (h : List Master_step) (m : read.Seen) (c : ContainerId) (a : Attempt) → Kept cfg k h m (Came (packet.FetchLost c a))
 fetches_keep cfg k h m c a made o run = fetches-keep cfg k h m made.1 o run c a

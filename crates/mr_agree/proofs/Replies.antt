@@ -29,7 +29,7 @@ use Rattle.mr_model.proofs.Agree.{no-and}
 use Rattle.mr_agree.specs.Steps.{setting, step_of}
 use Rattle.mr_agree.specs.Works.{work_at, named, name_of_names, name_of_running}
 use Rattle.mr_agree.specs.Points.{launch_as}
-use Rattle.mr_agree.specs.Holds.{Holds, AnswersKeep}
+use Rattle.mr_agree.specs.Holds.{Holds, Kept}
 use Rattle.mr_agree.proofs.Works.{runs-is}
 use Rattle.mr_agree.proofs.Turn.{if_cases, at-running}
 use Rattle.mr_agree.proofs.Changes.{change_at, sends_at}
@@ -290,6 +290,6 @@ module _ (cfg : Config) (k : ℕ) (h : List Master_step) (m : read.Seen) (made :
         (subst (λ z. At cfg k (record U { phase = Q }) z (next.next_seen W m (step_of (Asks call r)))) (sym calls-is)
         (subst (λ z. At cfg k (record U { phase = Q }) D z) (sym machine-is) led)))
 
-pub answers_keep : AnswersKeep
+pub answers_keep : (cfg : Config) (k : ℕ) (h : List Master_step) (m : read.Seen) (call : Store) (r : Reply) → Kept cfg k h m (Asks call r)
 answers_keep cfg k h m call r made o run = asks-at cfg k h m made.1 o run call r (appends-due cfg k (seen cfg k h) call made.0.0)
     (subst (λ p. duty_of cfg k (seen cfg k h) p ≡ Some call) (running-only (seen cfg k h).phase run) made.0.0)

@@ -23,8 +23,7 @@ use Rattle.mr_model.proofs.Standing.{below-gone}
 use Rattle.mr_agree.specs.Steps.{setting, step_of}
 use Rattle.mr_agree.specs.Points.{Alike}
 use Rattle.mr_agree.specs.Begins.{attempts_in}
-use Rattle.mr_agree.specs.Holds.{Holds}
-use Rattle.mr_agree.specs.Losses.{RestartsKeep}
+use Rattle.mr_agree.specs.Holds.{Holds, Kept}
 use Rattle.mr_agree.proofs.Works.{runs-is}
 use Rattle.mr_agree.proofs.Turn.{if_cases}
 use Rattle.mr_agree.proofs.Begins.{told-is}
@@ -115,5 +114,5 @@ module _ (cfg : Config) (k : ℕ) (h : List Master_step) (m : read.Seen) (made :
         machine-is = (λ j. next.with_kills (if runs j then [] else [])
             (if goes-on j then m else (if not (nat_lt (o.known j n) i) then m else (if runs j then hears.with_known (hears.after_restart W m n i) n i else hears.with_known m n i))))
 
-pub restarts_keep : RestartsKeep
+pub restarts_keep : (cfg : Config) (k : ℕ) (h : List Master_step) (m : read.Seen) (n i : ℕ) → Kept cfg k h m (Came (packet.NodeUp n i))
 restarts_keep cfg k h m n i made o run = restart-keeps cfg k h m made.1 o run n i

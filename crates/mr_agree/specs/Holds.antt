@@ -4,13 +4,11 @@ use Rattle.std.specs.Option.{option_map}
 use Rattle.mr_ids.specs.Attempt.{Attempt}
 use Rattle.mr_packet.specs.declared.packet.ContainerId.{ContainerId}
 use Rattle.mr_master_model.specs.declared.launch.Launch.{Launch}
-use Rattle.mr_packet.specs.declared.packet.Packet.{Packet}
-use Rattle.mr_packet.specs.declared.packet.Packet.TheVariants as packet
 use Rattle.mr_master_model.specs.Readings as read
 use Rattle.mr_master_model.specs.Next.{next_seen}
-use Rattle.mr_model.specs.Packets.{Config, Store, Reply}
+use Rattle.mr_model.specs.Packets.{Config}
 use Rattle.mr_model.specs.Hearing.{Seen, Launched, is_running, has_container, find_launched, find_container}
-use Rattle.mr_model.specs.Duties.{Master_step, Came, Launches, Asks, seen}
+use Rattle.mr_model.specs.Duties.{Master_step, seen}
 use Rattle.mr_model.specs.Claims.{has_not_run}
 use Rattle.mr_model.specs.Made.{AllMade}
 use Rattle.mr_agree.specs.Steps.{setting, step_of}
@@ -56,22 +54,11 @@ LaunchesAgree = (cfg : Config) (k : ℕ) (past : List Master_step) (m : read.See
 abbrev pub Kept : Config → ℕ → List Master_step → read.Seen → Master_step → Type 0
 Kept cfg k past m x = AllMade cfg k (x ∷ past) → Holds cfg k past m → is_running (seen cfg k past).phase ≡ true → Holds cfg k (x ∷ past) (next_seen (setting cfg k) m (step_of x))
 
--- packets that tell of no restart and no lost output
-abbrev pub IsPlain : Packet → Type 0
-IsPlain (packet.NodeUp n i) = ⊥
-IsPlain (packet.FetchLost c a) = ⊥
-IsPlain _ = Unit {0}
-
--- While a master runs, its machine stays with it at each launch, and at each such packet.
-pub record StepsKeep : Type 0 where
-  pub launches : (cfg : Config) (k : ℕ) (past : List Master_step) (m : read.Seen) (l : Launched) → Kept cfg k past m (Launches l)
-  pub packets : (cfg : Config) (k : ℕ) (past : List Master_step) (m : read.Seen) (p : Packet) → IsPlain p → Kept cfg k past m (Came p)
+-- While a master runs, its machine stays with it at every step.
+abbrev pub StepsKeep : Type 0
+StepsKeep = (cfg : Config) (k : ℕ) (past : List Master_step) (m : read.Seen) (x : Master_step) → Kept cfg k past m x
 
 -- Once a master has run and does no more, its machine stays with it at every step.
 abbrev pub LateStepsKeep : Type 0
 LateStepsKeep = (cfg : Config) (k : ℕ) (past : List Master_step) (m : read.Seen) (x : Master_step) → AllMade cfg k (x ∷ past) → Holds cfg k past m
     → is_running (seen cfg k past).phase ≡ false → has_not_run (seen cfg k past).phase ≡ false → Holds cfg k (x ∷ past) (next_seen (setting cfg k) m (step_of x))
-
--- While a master runs, its machine stays with it at each answer of a store call.
-abbrev pub AnswersKeep : Type 0
-AnswersKeep = (cfg : Config) (k : ℕ) (past : List Master_step) (m : read.Seen) (call : Store) (r : Reply) → Kept cfg k past m (Asks call r)

@@ -8,4 +8,4 @@ pub mod Begins
 pub mod Holds
 pub mod Arrivals
 pub mod Whole
-pub mod Losses
+pub mod Expiries

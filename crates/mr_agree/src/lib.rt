@@ -18,18 +18,17 @@
 //!   master recorded one of it or read its winner (`reduces_are_recorded`);
 //! - what keeps tasks alike: the same calls, and endings and losses in any order (`tasks_stay_alike`);
 //! - where it begins to run, the machine stands where the master does, and holds what it holds (`running_begins`), so it finds
-//!   each launch and each container as the master does (`launches_agree`); it stays so at each launch and at each packet that
-//!   tells of no restart and no lost output (`steps_keep`), at each store call's answer but that of a flush that was done
-//!   (`answers_keep`), and at every step once the master runs no more (`late_steps_keep`).
+//!   each launch and each container as the master does (`launches_agree`); it stays so at every step while the master runs
+//!   (`steps_keep`), and at every step once it runs no more (`late_steps_keep`);
+//! - where a node is given up, the machine sends the Kills that the master does, in the same order (`expiries_send`).
 //!
-//! Not proved yet: that it stays so, while it runs, at flushes, lost output, restarts and expiries, and what it sends then
-//! (docs/PROOFS.md, "Masters and their machines").
+//! Not proved yet: what else it sends while it runs (docs/PROOFS.md, "Masters and their machines").
 #![tactic(auto)]
 
 ghost use Rattle.mr_agree.specs.Alike.{TasksStayAlike};
 ghost use Rattle.mr_agree.specs.Begins.{BeginningsAgree};
-ghost use Rattle.mr_agree.specs.Holds.{AnswersKeep, EndsEarly, LateStepsKeep, LaunchesAgree, RunningBegins, StepsKeep};
-ghost use Rattle.mr_agree.specs.Losses.{ExpiriesKeep, ExpiriesSend, FetchesKeep, RestartsKeep};
+ghost use Rattle.mr_agree.specs.Expiries.{ExpiriesSend};
+ghost use Rattle.mr_agree.specs.Holds.{EndsEarly, LateStepsKeep, LaunchesAgree, RunningBegins, StepsKeep};
 ghost use Rattle.mr_agree.specs.Points.{PointsAgree};
 ghost use Rattle.mr_agree.specs.Recorded.{ReducesAreRecorded};
 ghost use Rattle.mr_agree.specs.Agreement.{ActsUntilItRuns, TurnsAgree};
@@ -81,7 +80,7 @@ pub fn launches_agree()
     ensures { LaunchesAgree }
 {}
 
-/// While a master runs, its machine stays with it at each launch, and at each packet that tells of no restart and no lost output.
+/// While a master runs, its machine stays with it at every step: each launch, each packet, a node that is given up, and each answer of a store call.
 pub fn steps_keep()
     ensures { StepsKeep }
 {}
@@ -89,26 +88,6 @@ pub fn steps_keep()
 /// Once a master has run and does no more, its machine stays with it at every step: while it fails, commits the job, or is over.
 pub fn late_steps_keep()
     ensures { LateStepsKeep }
-{}
-
-/// While a master runs, its machine stays with it at each answer of a store call.
-pub fn answers_keep()
-    ensures { AnswersKeep }
-{}
-
-/// While a master runs, its machine stays with it where a fetch found an output lost.
-pub fn fetches_keep()
-    ensures { FetchesKeep }
-{}
-
-/// While a master runs, its machine stays with it where a node tells its incarnation: what was launched there before dies, and what lay there is lost.
-pub fn restarts_keep()
-    ensures { RestartsKeep }
-{}
-
-/// While a master runs, its machine stays with it where a node is given up: the same attempts die, the same outputs are lost, the same bars are due, in the same order.
-pub fn expiries_keep()
-    ensures { ExpiriesKeep }
 {}
 
 /// Where a node is given up, the machine sends the Kills that the master does, in the same order.

@@ -1,4 +1,4 @@
-use Rattle.mr_agree.proofs.Keeps as keeps
+use Rattle.mr_agree.proofs.Stepping as keeps
 use Rattle.mr_agree.proofs.steps_keep.Goals as goal
 
 pub returns : goal.returns
