@@ -42,7 +42,6 @@ use Rattle.mr_agree.proofs.Changes.{change_at}
 use Rattle.mr_agree.proofs.Answering.{answered, not-started}
 use Rattle.mr_agree.proofs.Works.{runs-is}
 use Rattle.mr_agree.proofs.Held.{At, at-of, told-same}
-use Rattle.mr_agree.proofs.Late.{late-set-up}
 use Rattle.mr_agree.proofs.Points.{point}
 use Rattle.mr_agree.proofs.Still.{tails}
 use Rattle.mr_agree.proofs.Launches.{AllAlike, places, found}

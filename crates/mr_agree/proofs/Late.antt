@@ -65,6 +65,24 @@ idle-at cfg k s c m idle w can o = record {
   killed = λ e. absurd (false≢true (sym idle ∙ e));
 }
 
+-- a call to the namespace that is no bar
+abbrev pub NoBar : Store → Type 0
+NoBar (Names op) = bar_of op ≡ None
+NoBar _ = ⊥
+
+pub commit-plain : (k : ℕ) (at : Commit_step) (call : Store) → CanBe (Committing at) → commit_call k at ≡ Some call → NoBar call
+commit-plain k List_job call can d = subst NoBar (some-is _ call d) refl
+commit-plain k (Merging []) call can d = absurd can
+commit-plain k (Merging (Look_at f t b ∷ todo)) call can d = subst NoBar (some-is _ call d) refl
+commit-plain k (Merging (List_into f t ∷ todo)) call can d = subst NoBar (some-is _ call d) refl
+commit-plain k (Merging (Delete_then f t ∷ todo)) call can d = subst NoBar (some-is _ call d) refl
+commit-plain k (Merging (Move_to f t ∷ todo)) call can d = subst NoBar (some-is _ call d) refl
+commit-plain k Cleaning call can d = subst NoBar (some-is _ call d) refl
+commit-plain k Marking call can d = subst NoBar (some-is _ call d) refl
+commit-plain k Succeeding call can d = subst NoBar (some-is _ call d) refl
+commit-plain k Failing_mark call can d = subst NoBar (some-is _ call d) refl
+commit-plain k Aborting call can d = subst NoBar (some-is _ call d) refl
+
 -- ---- a packet
 
 module _ (cfg : Config) (k : ℕ) (s : Seen) (c : Calls) (m : read.Seen) (o : At cfg k s c m) (idle : is_running s.phase ≡ false) where
@@ -119,24 +137,6 @@ module _ (cfg : Config) (k : ℕ) (s : Seen) (c : Calls) (m : read.Seen) (o : At
 
   -- ---- an answer
 
-  -- a call to the namespace that is no bar
-  abbrev pub NoBar : Store → Type 0
-  NoBar (Names op) = bar_of op ≡ None
-  NoBar _ = ⊥
-
-  pub commit-plain : (at : Commit_step) (call : Store) → CanBe (Committing at) → commit_call k at ≡ Some call → NoBar call
-  commit-plain List_job call can d = subst NoBar (some-is _ call d) refl
-  commit-plain (Merging []) call can d = absurd can
-  commit-plain (Merging (Look_at f t b ∷ todo)) call can d = subst NoBar (some-is _ call d) refl
-  commit-plain (Merging (List_into f t ∷ todo)) call can d = subst NoBar (some-is _ call d) refl
-  commit-plain (Merging (Delete_then f t ∷ todo)) call can d = subst NoBar (some-is _ call d) refl
-  commit-plain (Merging (Move_to f t ∷ todo)) call can d = subst NoBar (some-is _ call d) refl
-  commit-plain Cleaning call can d = subst NoBar (some-is _ call d) refl
-  commit-plain Marking call can d = subst NoBar (some-is _ call d) refl
-  commit-plain Succeeding call can d = subst NoBar (some-is _ call d) refl
-  commit-plain Failing_mark call can d = subst NoBar (some-is _ call d) refl
-  commit-plain Aborting call can d = subst NoBar (some-is _ call d) refl
-
   plain-works : (call : Store) (r : Reply) → NoBar call → with_read cfg (if is_fine r then worked s call else s) call r ≡ s
   plain-works (Names op) r n = (λ i. if is_fine r then after_bar s (n i) else s) ∙ same-if (is_fine r) s
   plain-works (Append_record x) r n = absurd n
@@ -184,7 +184,7 @@ module _ (cfg : Config) (k : ℕ) (s : Seen) (c : Calls) (m : read.Seen) (o : At
       Rest (with_read cfg (if is_fine r then worked s call else s) call r) (change_at cfg k m p call r)
   unfolding duty_of
   rest-after (Failing f) call r can i y due d = failing-rest f call r due d
-  rest-after (Committing at) call r can i y due d = subst (λ z. Rest z m) (sym (plain-works call r (commit-plain at call can d))) (rest-of cfg k s c m o)
+  rest-after (Committing at) call r can i y due d = subst (λ z. Rest z m) (sym (plain-works call r (commit-plain k at call can d))) (rest-of cfg k s c m o)
   rest-after (Finished b) call r can i y due d = cc
   rest-after Stopped call r can i y due d = cc
   rest-after Running call r can i y due d = absurd (true≢false i)
@@ -192,7 +192,7 @@ module _ (cfg : Config) (k : ℕ) (s : Seen) (c : Calls) (m : read.Seen) (o : At
   rest-after Setting_up call r can i y due d = absurd (true≢false y)
   rest-after (Recovering ws at) call r can i y due d = absurd (true≢false y)
 
-  pub late-set-up : (p : Phase) → has_not_run p ≡ false → SetUp cfg k s m p
+  late-set-up : (p : Phase) → has_not_run p ≡ false → SetUp cfg k s m p
   late-set-up Setting_up y = absurd (true≢false y)
   late-set-up (Opening n) y = tt
   late-set-up (Recovering ws at) y = tt

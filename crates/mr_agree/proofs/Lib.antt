@@ -35,3 +35,4 @@ pub mod Packets
 pub mod Given
 pub mod Expiries
 pub mod Stepping
+pub mod Sent
