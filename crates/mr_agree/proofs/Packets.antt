@@ -42,13 +42,13 @@ use Rattle.mr_model.proofs.Masters.{came-phase}
 use Rattle.mr_model.proofs.Wins.{calls_agree}
 use Rattle.mr_agree.specs.Steps.{setting, step_of}
 use Rattle.mr_agree.specs.Points.{View, view, Alike, launch_as, in_order}
-use Rattle.mr_agree.specs.Holds.{Holds, LaunchesFound, IsPlain, pair_of}
+use Rattle.mr_agree.specs.Holds.{Holds, LaunchesFound, pair_of}
 use Rattle.mr_agree.specs.Arrivals.{at_task}
 use Rattle.mr_agree.proofs.Works.{runs-is}
 use Rattle.mr_agree.proofs.Points.{task-test, job-is}
 use Rattle.mr_agree.proofs.Launches.{AllAlike, found, found-in}
 use Rattle.mr_agree.proofs.Held.{told-same}
-use Rattle.mr_agree.proofs.Keeps.{steps_keep, may-is, of-job}
+use Rattle.mr_agree.proofs.Keeps.{IsPlain, plain_keep, may-is, of-job}
 use Rattle.mr_agree.proofs.Arrivals.{agrees-at, launched-same}
 use Rattle.mr_agree.proofs.Kills.{in-live, task-kills}
 use Rattle.mr_agree.proofs.Falling.{running-falls-on, running-sound}
@@ -218,7 +218,7 @@ module _ (cfg : Config) (k : ℕ) (h : List Master_step) (m : read.Seen) (made :
   ends-sent p plain more del = by (came-phase cfg k S p)
     where
       then-holds : Holds cfg k (Came p ∷ h) (next.next_seen W m (step_of (Came p)))
-      then-holds = steps_keep.packets cfg k h m p plain more o run
+      then-holds = plain_keep cfg k h m p plain more o run
 
       heard-is : hears.delivered W m p ≡ hears.heard W m p
       heard-is = del ∙ (λ i. if runs i then hears.heard W m p else m)
