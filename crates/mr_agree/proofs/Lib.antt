@@ -36,3 +36,4 @@ pub mod Given
 pub mod Expiries
 pub mod Stepping
 pub mod Sent
+pub mod Whole

@@ -48,7 +48,8 @@ use Rattle.mr_agree.proofs.Works.{runs-is}
 use Rattle.mr_agree.proofs.Points.{task-test, job-is}
 use Rattle.mr_agree.proofs.Launches.{AllAlike, found, found-in}
 use Rattle.mr_agree.proofs.Held.{told-same}
-use Rattle.mr_agree.proofs.Keeps.{IsPlain, plain_keep, may-is, of-job}
+use Rattle.mr_agree.proofs.Keeps.{may-is, of-job}
+use Rattle.mr_agree.proofs.Stepping.{steps_keep}
 use Rattle.mr_agree.proofs.Arrivals.{agrees-at, launched-same}
 use Rattle.mr_agree.proofs.Kills.{in-live, task-kills}
 use Rattle.mr_agree.proofs.Falling.{running-falls-on, running-sound}
@@ -211,14 +212,14 @@ module _ (cfg : Config) (k : ℕ) (h : List Master_step) (m : read.Seen) (made :
   runs : read.is_running m.work ≡ true
   runs = ap read.is_running o.stands.work ∙ (runs-is k S.phase o.stands.can ∙ run)
 
-  ends-sent : (p : Packet) → IsPlain p → AllMade cfg k (Came p ∷ h) → hears.delivered W m p ≡ (if read.is_running m.work then hears.heard W m p else m) →
+  ends-sent : (p : Packet) → AllMade cfg k (Came p ∷ h) → hears.delivered W m p ≡ (if read.is_running m.work then hears.heard W m p else m) →
       (if read.is_running (hears.heard W m p).work then [] else sends.kill_all W (hears.heard W m p)) ≡
       (if is_failing (next_seen cfg k S (Came p)).phase then kills_of (in_task_order (live_of (next_seen cfg k S (Came p)) S.launched)) else [])
   unfolding next.next_seen next.moved seen
-  ends-sent p plain more del = by (came-phase cfg k S p)
+  ends-sent p more del = by (came-phase cfg k S p)
     where
       then-holds : Holds cfg k (Came p ∷ h) (next.next_seen W m (step_of (Came p)))
-      then-holds = plain_keep cfg k h m p plain more o run
+      then-holds = steps_keep cfg k h m (Came p) more o run
 
       heard-is : hears.delivered W m p ≡ hears.heard W m p
       heard-is = del ∙ (λ i. if runs i then hears.heard W m p else m)
@@ -258,8 +259,8 @@ module _ (cfg : Config) (k : ℕ) (h : List Master_step) (m : read.Seen) (made :
   replies-are (packet.Poll a) more = pending-sent a (Came (packet.Poll a)) more more.0 (told-asks a (packet.Poll a) refl)
   replies-are (packet.Done a z) more = done-sent a
   replies-are (packet.Where c n) more = where-sent c n more.0
-  replies-are (packet.Failed a) more = ends-sent (packet.Failed a) tt more refl
-  replies-are (packet.Ended c) more = ends-sent (packet.Ended c) tt more refl
+  replies-are (packet.Failed a) more = ends-sent (packet.Failed a) more refl
+  replies-are (packet.Ended c) more = ends-sent (packet.Ended c) more refl
   replies-are (packet.NodeUp n i) more = refl
   replies-are (packet.FetchLost c a) more = refl
   replies-are (packet.Launch c a i) more = refl

@@ -31,7 +31,14 @@ ghost use Rattle.mr_agree.specs.Expiries.{ExpiriesSend};
 ghost use Rattle.mr_agree.specs.Holds.{EndsEarly, LateStepsKeep, LaunchesAgree, RunningBegins, StepsKeep};
 ghost use Rattle.mr_agree.specs.Points.{PointsAgree};
 ghost use Rattle.mr_agree.specs.Recorded.{ReducesAreRecorded};
+ghost use Rattle.mr_agree.specs.Whole.{MastersAgree};
 ghost use Rattle.mr_agree.specs.Agreement.{ActsUntilItRuns, TurnsAgree};
+
+/// Wherever a master's past has led, it acts as its machine, which has seen the same: in its phase, its next store call, its refusals, its next attempt, and what
+/// it sends at each step.
+pub fn masters_agree()
+    ensures { MastersAgree }
+{}
 
 /// Of each phase that a master can be in: the machine is at the same phase, its next store call is the master's, and the answer leads both to the same.
 pub fn turns_agree()
