@@ -38,7 +38,7 @@ use Rattle.mr_model.proofs.Stores.{stores_are_the_models}
 use Rattle.mr_model.proofs.Lists.{In-right}
 use Rattle.mr_agree.specs.Steps.{setting, answer_of, step_of}
 use Rattle.mr_agree.specs.Works.{CanBe, work_at, winner_of, named}
-use Rattle.mr_agree.specs.Agreement.{SetUp, Acts}
+use Rattle.mr_agree.specs.Agreement.{SetUp}
 use Rattle.mr_agree.proofs.Works.{phase-is, runs-is, duty-is}
 use Rattle.mr_agree.proofs.Turns.{some-is}
 use Rattle.mr_agree.proofs.Turn.{if_cases, can-after}
@@ -99,6 +99,10 @@ Taken cfg (Opening n) ws read' cs = (read' ≡ []) × (ws ≡ []) × (cs ≡ no_
 Taken cfg Setting_up ws read' cs = (ws ≡ winners_of read' cfg.job cfg.reduces) × (cs ≡ no_calls)
 Taken cfg (Recovering todo at) ws read' cs = (ws ≡ winners_of read' cfg.job cfg.reduces) × (done : List Todo_winner) × (done ++ todo ≡ ws) × (cs ≡ recovered done)
 Taken cfg p ws read' cs = Unit {0}
+
+-- what is sent at each step that can be made
+abbrev pub SendsAlike : Config → ℕ → Seen → read.Seen → Type 0
+SendsAlike cfg k s m = (x : Master_step) → IsMade cfg k s x → next.sent_by (setting cfg k) m (step_of x) ≡ step_sends cfg s (next_seen cfg k s x) x
 
 pub record Early (cfg : Config) (k : ℕ) (s : Seen) (m : read.Seen) : Type 0 where
   pub phase : Phase
@@ -208,9 +212,9 @@ module _ (cfg : Config) (k : ℕ) (p : Phase) (ws : List Todo_winner) (f : ℕ �
       (own-sends cfg k M p call r young can ∙ (sym (append-nil (won_by_recovery cfg.nodes p r)) ∙ ap (λ x. won_by_recovery cfg.nodes p r ++ x) (sym (plain-sends cfg.nodes S call r (mute-plain call (mute cfg k S p call young can d))))))
       (not-finished p young)
 
-  pub early-acts : Acts cfg k S M
+  pub early-sent : SendsAlike cfg k S M
   unfolding next.sent_by next_seen
-  early-acts = record { phase = phase-is k p can; duty = early-duty; sends = sent-at; known = refl }
+  early-sent = sent-at
     where
       idle : is_running p ≡ false
       idle = young-runs p young

@@ -37,7 +37,6 @@ use Rattle.mr_agree.specs.Points.{view, Alike, launch_as, refusal_as}
 use Rattle.mr_agree.specs.Begins.{attempts_in}
 use Rattle.mr_agree.specs.Arrivals.{at_task, attempts}
 use Rattle.mr_agree.specs.Holds.{Holds, Kept}
-use Rattle.mr_agree.specs.Expiries.{ExpiriesSend}
 use Rattle.mr_agree.proofs.Turn.{if_cases}
 use Rattle.mr_agree.proofs.Begins.{told-is}
 use Rattle.mr_agree.proofs.Points.{point, task-test, job-is}
@@ -260,5 +259,6 @@ module _ (cfg : Config) (k : ℕ) (h : List Master_step) (m : read.Seen) (made :
 pub expiries_keep : (cfg : Config) (k : ℕ) (h : List Master_step) (m : read.Seen) (n : ℕ) → Kept cfg k h m (Expires n)
 expiries_keep cfg k h m n made o runs = expiry-keeps cfg k h m made.1 o n made.0
 
-pub expiries_send : ExpiriesSend
+pub expiries_send : (cfg : Config) (k : ℕ) (h : List Master_step) (m : read.Seen) (n : ℕ) → AllMade cfg k (Expires n ∷ h) → Holds cfg k h m →
+    next.sent_by (setting cfg k) m (step_of (Expires n)) ≡ step_sends cfg (seen cfg k h) (next_seen cfg k (seen cfg k h) (Expires n)) (Expires n)
 expiries_send cfg k h m n made o = expiry-sends cfg k h m made.1 o n made.0

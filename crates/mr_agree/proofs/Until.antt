@@ -21,9 +21,9 @@ use Rattle.mr_model.proofs.Made.{fitted, WinsOf}
 use Rattle.mr_model.proofs.Masters.{is_early, came-phase, told-phase, expires-phase, launches-phase, told-early}
 use Rattle.mr_agree.specs.Steps.{setting, step_of}
 use Rattle.mr_agree.specs.Works.{CanBe, work_at}
-use Rattle.mr_agree.specs.Agreement.{Acts, ActsUntilItRuns, machine_seen}
+use Rattle.mr_agree.specs.Agreement.{machine_seen}
 use Rattle.mr_agree.proofs.Works.{runs-is, over-is}
-use Rattle.mr_agree.proofs.Early.{Early, early_seen, early_machine, Taken, early-acts, early-next, young-runs, young-hears}
+use Rattle.mr_agree.proofs.Early.{Early, early_seen, early_machine, SendsAlike, Taken, early-sent, early-next, young-runs, young-hears}
 
 -- ---- where it has not run, it had not run before
 
@@ -165,7 +165,7 @@ until cfg k (x ∷ h) made y =
     step-early cfg k (seen cfg k h) (machine_seen cfg k h) x (until cfg k h made.1 old)
     (λ w i. (Each-In (WinsOf cfg (k - 1)) (seen cfg k h).winners (fitted cfg k h made.1).won w i).0) made.0 y
 
-pub acts_until_it_runs : ActsUntilItRuns
-acts_until_it_runs cfg k h made y = let o = until cfg k h made y in
-    subst (λ z. Acts cfg k z (machine_seen cfg k h)) (sym o.seen-is)
-    (subst (λ z. Acts cfg k (early_seen o.phase o.winners o.known o.read') z) (sym o.machine-is) (early-acts cfg k o.phase o.winners o.known o.read' o.told o.can o.young o.taken))
+pub sends-early : (cfg : Config) (k : ℕ) (h : List Master_step) → AllMade cfg k h → has_not_run (seen cfg k h).phase ≡ true → SendsAlike cfg k (seen cfg k h) (machine_seen cfg k h)
+sends-early cfg k h made y = let o = until cfg k h made y in
+    subst (λ z. SendsAlike cfg k z (machine_seen cfg k h)) (sym o.seen-is)
+    (subst (λ z. SendsAlike cfg k (early_seen o.phase o.winners o.known o.read') z) (sym o.machine-is) (early-sent cfg k o.phase o.winners o.known o.read' o.told o.can o.young o.taken))

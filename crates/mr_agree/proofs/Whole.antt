@@ -4,7 +4,7 @@ use Rattle.std.proofs.lemmas.Bool.{false≢true, true≢false}
 use Rattle.mr_master_model.specs.Readings as read
 use Rattle.mr_master_model.specs.Next as next
 use Rattle.mr_model.specs.Packets.{Config}
-use Rattle.mr_model.specs.Hearing.{Seen, Phase, is_running}
+use Rattle.mr_model.specs.Hearing.{Seen, is_running}
 use Rattle.mr_model.specs.Duties.{Master_step, Came, Launches, Expires, Asks, seen, next_seen}
 use Rattle.mr_model.specs.Sending.{step_sends}
 use Rattle.mr_model.specs.Claims.{has_not_run}
@@ -12,12 +12,12 @@ use Rattle.mr_model.specs.Calls.{calls}
 use Rattle.mr_model.specs.Made.{IsMade, AllMade}
 use Rattle.mr_agree.specs.Steps.{setting, step_of}
 use Rattle.mr_agree.specs.Works.{CanBe, work_at}
-use Rattle.mr_agree.specs.Agreement.{Acts, machine_seen}
+use Rattle.mr_agree.specs.Agreement.{machine_seen}
 use Rattle.mr_agree.specs.Points.{StandsAt}
 use Rattle.mr_agree.specs.Holds.{Holds}
 use Rattle.mr_agree.specs.Whole.{MasterAgrees, MastersAgree}
 use Rattle.mr_agree.proofs.Early.{Early, young-runs}
-use Rattle.mr_agree.proofs.Until.{until, acts_until_it_runs}
+use Rattle.mr_agree.proofs.Until.{until, sends-early}
 use Rattle.mr_agree.proofs.Points.{point}
 use Rattle.mr_agree.proofs.Held.{of-at}
 use Rattle.mr_agree.proofs.Starts.{running_begins}
@@ -91,7 +91,13 @@ pub masters_agree : MastersAgree
 masters_agree cfg k h made = by (has_not_run (seen cfg k h).phase) refl
   where
     by : (b : Bool) → has_not_run (seen cfg k h).phase ≡ b → MasterAgrees cfg k (seen cfg k h) (machine_seen cfg k h)
-    by true y = let a = acts_until_it_runs cfg k h made y in
-        record { point = point cfg k h (machine_seen cfg k h) made (early-stands cfg k h (machine_seen cfg k h) (until cfg k h made y)); sends = a.sends; known = a.known }
-    by false late = let o = stays cfg k h made late in
-        record { point = point cfg k h (machine_seen cfg k h) made o.holds.stands; sends = stays-sends cfg k h (machine_seen cfg k h) made o late; known = o.holds.known }
+    by true y = let o = until cfg k h made y in record {
+      point = point cfg k h (machine_seen cfg k h) made (early-stands cfg k h (machine_seen cfg k h) o);
+      sends = sends-early cfg k h made y;
+      known = ap (λ (x : read.Seen). x.known) o.machine-is ∙ ap (λ (s : Seen). s.known) (sym o.seen-is);
+    }
+    by false late = let o = stays cfg k h made late in record {
+      point = point cfg k h (machine_seen cfg k h) made o.holds.stands;
+      sends = stays-sends cfg k h (machine_seen cfg k h) made o late;
+      known = o.holds.known;
+    }

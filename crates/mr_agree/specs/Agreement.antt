@@ -10,11 +10,8 @@ use Rattle.mr_master_model.specs.Answered.{winners, work_after}
 use Rattle.mr_master_model.specs.Next as next
 use Rattle.mr_model.specs.Packets.{Config, Store, Reply}
 use Rattle.mr_model.specs.Hearing.{Seen, Phase, Setting_up, is_running}
-use Rattle.mr_model.specs.Duties.{Master_step, seen, next_seen, duty_of, first_bar, all_won, phase_told}
-use Rattle.mr_model.specs.Sending.{step_sends}
-use Rattle.mr_model.specs.Claims.{has_not_run}
-use Rattle.mr_model.specs.Made.{IsMade, AllMade}
-use Rattle.mr_agree.specs.Steps.{setting, step_of, steps, answer_of}
+use Rattle.mr_model.specs.Duties.{Master_step, duty_of, first_bar, all_won, phase_told}
+use Rattle.mr_agree.specs.Steps.{setting, steps, answer_of}
 use Rattle.mr_agree.specs.Works.{CanBe, phase_of, winner_of, work_at, named}
 
 -- ---- at any point, reachable or not
@@ -46,15 +43,3 @@ pub record TurnsAgree : Type 0 where
 -- what the machine has seen
 abbrev pub machine_seen : Config → ℕ → List Master_step → read.Seen
 machine_seen cfg k past = next.seen (setting cfg k) (steps past)
-
--- The phase and the next store call, with what it is for, and what is sent at the next step.
-pub record Acts (cfg : Config) (k : ℕ) (s : Seen) (m : read.Seen) : Type 0 where
-  pub phase : machine.phase_of m.work ≡ phase_of s.phase
-  pub duty : duty (setting cfg k) m ≡ named s.phase (duty_of cfg k s s.phase)
-  pub sends : (x : Master_step) → IsMade cfg k s x → next.sent_by (setting cfg k) m (step_of x) ≡ step_sends cfg s (next_seen cfg k s x) x
-  pub known : m.known ≡ s.known
-
--- Until it runs, a master of the cluster acts as its machine.
-abbrev pub ActsUntilItRuns : Type 0
-ActsUntilItRuns = (cfg : Config) (k : ℕ) (past : List Master_step) → AllMade cfg k past → has_not_run (seen cfg k past).phase ≡ true
-    → Acts cfg k (seen cfg k past) (machine_seen cfg k past)

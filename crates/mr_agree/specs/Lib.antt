@@ -8,4 +8,3 @@ pub mod Begins
 pub mod Holds
 pub mod Arrivals
 pub mod Whole
-pub mod Expiries

@@ -4,35 +4,31 @@
 //!
 //! # What is proved
 //!
-//! Every past here is any list of steps that events can make (`AllMade`), as each master's past in each run is
-//! (`pasts_are_made` of `mr_model`). Proved:
+//! Every past here is any list of steps that events can make (`AllMade`), as each master's past in each run is (`pasts_are_made` of `mr_model`).
 //!
-//! - from every phase, of any two values: the machine's next store call, with what it is for, is the master's, and an
-//!   answer leads both to the same (`turns_agree`);
-//! - while a master opens and recovers: its phase, its next store call and what it sends at its next step are its machine's
-//!   (`acts_until_it_runs`);
-//! - where it begins to run: no task was told anything before, and of each map the same attempt is taken over
-//!   (`beginnings_agree`);
-//! - at every point of a past: a machine whose tasks have heard alike has the master's phase, next store call, refusals
-//!   of launches and expiries, and next attempt (`points_agree`), for which a reduce is Succeeded exactly where the
-//!   master recorded one of it or read its winner (`reduces_are_recorded`);
+//! **`masters_agree`**: wherever such a past has led, while the master opens, recovers, runs, fails, commits, and once it is over, the machine that has seen the
+//! same steps has its phase, its next store call with what it is for, its refusals of launches and expiries and its next attempt, knows the same
+//! incarnations, and sends the same packets in the same order at each step that can be made then.
+//!
+//! It rests on these, which are laws of their own:
+//!
+//! - from every phase, of any two values: the machine's next store call is the master's, and an answer leads both to the same (`turns_agree`);
+//! - where it begins to run: no task was told anything before, and of each map the same attempt is taken over (`beginnings_agree`);
 //! - what keeps tasks alike: the same calls, and endings and losses in any order (`tasks_stay_alike`);
-//! - where it begins to run, the machine stands where the master does, and holds what it holds (`running_begins`), so it finds
-//!   each launch and each container as the master does (`launches_agree`); it stays so at every step while the master runs
-//!   (`steps_keep`), and at every step once it runs no more (`late_steps_keep`);
-//! - where a node is given up, the machine sends the Kills that the master does, in the same order (`expiries_send`).
-//!
-//! Not proved yet: what else it sends while it runs (docs/PROOFS.md, "Masters and their machines").
+//! - a machine whose tasks have heard alike has the master's phase, next store call, refusals and next attempt (`points_agree`), for which a reduce
+//!   is Succeeded exactly where the master recorded one of it or read its winner (`reduces_are_recorded`), and finds each launch and each
+//!   container as it does (`launches_agree`);
+//! - the machine stands where the master does where it begins to run (`running_begins`), or where it ends before that (`ends_early`); it stays so at
+//!   every step while the master runs (`steps_keep`), and at every step once it runs no more (`late_steps_keep`).
 #![tactic(auto)]
 
 ghost use Rattle.mr_agree.specs.Alike.{TasksStayAlike};
 ghost use Rattle.mr_agree.specs.Begins.{BeginningsAgree};
-ghost use Rattle.mr_agree.specs.Expiries.{ExpiriesSend};
 ghost use Rattle.mr_agree.specs.Holds.{EndsEarly, LateStepsKeep, LaunchesAgree, RunningBegins, StepsKeep};
 ghost use Rattle.mr_agree.specs.Points.{PointsAgree};
 ghost use Rattle.mr_agree.specs.Recorded.{ReducesAreRecorded};
 ghost use Rattle.mr_agree.specs.Whole.{MastersAgree};
-ghost use Rattle.mr_agree.specs.Agreement.{ActsUntilItRuns, TurnsAgree};
+ghost use Rattle.mr_agree.specs.Agreement.{TurnsAgree};
 
 /// Wherever a master's past has led, it acts as its machine, which has seen the same: in its phase, its next store call, its refusals, its next attempt, and what
 /// it sends at each step.
@@ -43,11 +39,6 @@ pub fn masters_agree()
 /// Of each phase that a master can be in: the machine is at the same phase, its next store call is the master's, and the answer leads both to the same.
 pub fn turns_agree()
     ensures { TurnsAgree }
-{}
-
-/// While it opens and recovers, a master's phase, its next store call with what it is for, and what it sends at its next step are its machine's.
-pub fn acts_until_it_runs()
-    ensures { ActsUntilItRuns }
 {}
 
 /// While a master runs, a reduce has a Succeeded attempt exactly where the master recorded one of it, or read its winner.
@@ -95,9 +86,4 @@ pub fn steps_keep()
 /// Once a master has run and does no more, its machine stays with it at every step: while it fails, commits the job, or is over.
 pub fn late_steps_keep()
     ensures { LateStepsKeep }
-{}
-
-/// Where a node is given up, the machine sends the Kills that the master does, in the same order.
-pub fn expiries_send()
-    ensures { ExpiriesSend }
 {}

@@ -1,5 +1,0 @@
-use Rattle.mr_agree.proofs.Expiries as keeps
-use Rattle.mr_agree.proofs.expiries_send.Goals as goal
-
-pub returns : goal.returns
-returns c = keeps.expiries_send
