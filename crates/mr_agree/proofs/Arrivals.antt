@@ -12,10 +12,9 @@ use Rattle.mr_task.specs.Calls.{TaskCall}
 use Rattle.mr_task.specs.Readings as task
 use Rattle.mr_task.proofs.Arrivals.{nothing-arrived}
 use Rattle.mr_master_model.specs.Readings as read
-use Rattle.mr_master_model.specs.Job as job
 use Rattle.mr_model.specs.Ids.{task_eq, of_reduces}
 use Rattle.mr_model.specs.Content.{bar_of}
-use Rattle.mr_model.specs.Packets.{Config, Packet, Pending, Poll, Done, Failed, Ended, NodeUp, FetchLost, Store, Names, Append_record, Flush, Read_history, Reply}
+use Rattle.mr_model.specs.Packets.{Config, Packet, Pending, Poll, Done, Failed, Ended, NodeUp, FetchLost, Store, Names, Append_record, Flush, Read_history}
 use Rattle.mr_model.specs.Hearing.{Seen, Phase, Launched, is_live, is_running, find_container, has_container}
 use Rattle.mr_model.specs.Duties.{Master_step, Came, Launches, Expires, Asks, seen, next_seen, is_fine, worked, with_read, phase_told, successes, newest_maps, attempts_of}
 use Rattle.mr_model.specs.Sending.{live_of}
@@ -32,7 +31,7 @@ use Rattle.mr_model.proofs.Made.{all-fit, all-of-job}
 use Rattle.mr_model.proofs.Wins as wins
 use Rattle.mr_model.proofs.Maps as maps
 use Rattle.mr_agree.specs.Steps.{setting}
-use Rattle.mr_agree.specs.Points.{View, view, Alike}
+use Rattle.mr_agree.specs.Points.{View, Alike}
 use Rattle.mr_agree.specs.Arrivals.{at_task, attempts}
 use Rattle.mr_agree.proofs.Points.{live_in, tells}
 

@@ -39,7 +39,7 @@ use Rattle.mr_model.proofs.Lists.{In-right}
 use Rattle.mr_agree.specs.Steps.{setting, answer_of, step_of}
 use Rattle.mr_agree.specs.Works.{CanBe, work_at, winner_of, named}
 use Rattle.mr_agree.specs.Agreement.{SetUp}
-use Rattle.mr_agree.proofs.Works.{phase-is, runs-is, duty-is}
+use Rattle.mr_agree.proofs.Works.{runs-is, duty-is}
 use Rattle.mr_agree.proofs.Turns.{some-is}
 use Rattle.mr_agree.proofs.Turn.{if_cases, can-after}
 use Rattle.mr_agree.proofs.Changes.{change_at, sends_at}

@@ -1,35 +1,29 @@
 -- A master that never runs: one that stops, finds a mark, or goes on failing by what it read. Its machine stands where it does.
-use Rattle.std.proofs.Common.{ℕ, zero, suc, ◌-◌, ◌≡◌, refl, sym, ◌∙◌, ap, subst, Bool, true, false, ◌&&◌, not, List, [], ◌∷◌, ◌++◌, Option, Some, None, if◌then◌else◌, nat_lt, nat_le, ◌⊎◌, inl, inr}
-use Rattle.std.proofs.lemmas.Bool.{false≢true, true≢false}
-use Rattle.mr_ids.specs.declared.id.TaskId.{TaskId}
+use Rattle.std.proofs.Common.{ℕ, zero, suc, ◌≡◌, refl, sym, ◌∙◌, ap, subst, Bool, true, false, ◌&&◌, not, List, [], ◌∷◌, Some, None, if◌then◌else◌, nat_le, ◌⊎◌, inl, inr}
+use Rattle.std.proofs.lemmas.Bool.{false≢true}
 use Rattle.mr_ids.specs.Same.{same_task}
 use Rattle.mr_names.specs.declared.fault.NameFault.{NameFault}
 use Rattle.mr_names.specs.declared.fault.NameFault.TheVariants as name
 use Rattle.mr_history.specs.declared.record.Record.{Record}
-use Rattle.mr_packet.specs.declared.packet.Packet.{Packet}
 use Rattle.mr_task.specs.Calls as task_call
 use Rattle.mr_task.specs.Readings as task
 use Rattle.mr_master_model.specs.declared.setting.Setting.{Setting}
 use Rattle.mr_master_model.specs.Readings as read
 use Rattle.mr_master_model.specs.Answered.{with_earlier}
 use Rattle.mr_master_model.specs.Next as next
-use Rattle.mr_model.specs.Content.{bar_of}
-use Rattle.mr_model.specs.Packets.{Config, Store, Names, Append_record, Flush, Read_history, Reply, Fine, Found, Entries, Bytes, Records, Refused, Sealed}
-use Rattle.mr_model.specs.Hearing.{Seen, Phase, Opening, Setting_up, Recovering, Running, Committing, Failing, Finished, Stopped, Todo_winner, Recover_step, Look_below, Measure, Clear_own, Move_from, is_running, has_container}
-use Rattle.mr_model.specs.Duties.{Master_step, Came, Launches, Expires, Asks, seen, next_seen, told, with_read, worked, is_fine, is_read, is_cleared, right_length, duty_of, mark_at, phase_told, recovering, recover_rest, looked, was_read, is_unsuccessful, records_of, winners_of, newest_maps, attempts_of}
+use Rattle.mr_model.specs.Packets.{Config, Store, Names, Append_record, Flush, Read_history, Reply, Fine, Found, Bytes, Records, Refused}
+use Rattle.mr_model.specs.Hearing.{Seen, Phase, Opening, Setting_up, Recovering, Failing, Todo_winner, Look_below, Measure, Clear_own, Move_from, is_running}
+use Rattle.mr_model.specs.Duties.{Master_step, Came, Launches, Expires, Asks, seen, next_seen, told, with_read, worked, is_fine, is_read, is_cleared, right_length, duty_of, mark_at, phase_told, recovering, recover_rest, looked, records_of, winners_of, newest_maps, attempts_of}
 use Rattle.mr_model.specs.Sending.{is_failing}
-use Rattle.mr_model.specs.Claims.{has_not_run, In}
-use Rattle.mr_model.specs.Calls.{Calls, calls, next_calls, calls_worked, calls_phased, tell_barred, tell_each, winning}
+use Rattle.mr_model.specs.Claims.{has_not_run}
+use Rattle.mr_model.specs.Calls.{Calls, calls, next_calls, calls_worked, tell_barred, tell_each, winning}
 use Rattle.mr_model.specs.Made.{IsMade, AllMade}
 use Rattle.mr_model.proofs.Basic.{if_cases}
-use Rattle.mr_model.proofs.Lists.{Each-In}
-use Rattle.mr_model.proofs.Made.{fitted, WinsOf}
 use Rattle.mr_model.proofs.Masters.{came-phase, told-phase}
 use Rattle.mr_agree.specs.Steps.{setting, step_of, not_told}
-use Rattle.mr_agree.specs.Steps as steps
 use Rattle.mr_agree.specs.Works.{CanBe, work_at}
 use Rattle.mr_agree.specs.Agreement.{machine_seen}
-use Rattle.mr_agree.specs.Holds.{Holds, EndsEarly}
+use Rattle.mr_agree.specs.Holds.{EndsEarly}
 use Rattle.mr_agree.specs.Points.{view}
 use Rattle.mr_agree.proofs.Turns.{some-is}
 use Rattle.mr_agree.proofs.Turn.{can-after}

@@ -1,5 +1,5 @@
 -- While a master fails its tasks, and its machine's, hear only what is recorded: they stay alike.
-use Rattle.std.proofs.Common.{ℕ, ◌≡◌, refl, sym, ◌∙◌, ap, subst, Bool, true, false, ◌&&◌, not, List, [], ◌∷◌, ◌++◌, Option, Some, None, if◌then◌else◌, is_some, nat_eq, nat_lt, ◌⊎◌, inl, inr}
+use Rattle.std.proofs.Common.{ℕ, ◌≡◌, refl, sym, ◌∙◌, ap, subst, Bool, true, false, ◌&&◌, not, List, [], ◌∷◌, Option, Some, None, if◌then◌else◌, is_some, nat_eq, nat_lt, ◌⊎◌, inl, inr}
 use Rattle.std.specs.Option.{option_map}
 use Rattle.std.proofs.lemmas.Bool.{false≢true, true≢false, and_parts, eqb-true}
 use Rattle.mr_ids.specs.Attempt.{Attempt}
@@ -10,20 +10,17 @@ use Rattle.mr_packet.specs.declared.packet.Packet.TheVariants as packet
 use Rattle.mr_history.specs.declared.record.Record.{Record}
 use Rattle.mr_task.specs.Calls as task_call
 use Rattle.mr_task.specs.Calls.{TaskCall}
-use Rattle.mr_task.specs.Readings as task
-use Rattle.mr_master_model.specs.declared.launch.Launch.{Launch}
 use Rattle.mr_master_model.specs.declared.setting.Setting.{Setting}
 use Rattle.mr_master_model.specs.Readings as read
 use Rattle.mr_master_model.specs.Hearing as hears
 use Rattle.mr_master_model.specs.Duty.{duty}
-use Rattle.mr_master_model.specs.Answered.{after_answer, after_duty, moved_first, recorded, with_work}
-use Rattle.mr_master_model.specs.Sends.{answer_sends}
+use Rattle.mr_master_model.specs.Answered.{after_duty, moved_first, recorded}
 use Rattle.mr_master_model.specs.Next as next
 use Rattle.mr_model.specs.Ids.{temporary, container_eq}
-use Rattle.mr_model.specs.Content.{Delete, bar_of}
-use Rattle.mr_model.specs.Packets.{Config, Store, Names, Append_record, Flush, Read_history, Reply}
+use Rattle.mr_model.specs.Content.{Delete}
+use Rattle.mr_model.specs.Packets.{Config, Store, Names, Reply}
 use Rattle.mr_model.specs.Hearing.{Seen, Phase, Opening, Failing, Launched, is_live, is_running, has, is_over, may_accept, find_launched, find_container, has_container, heard, only_known, after_end, after_ended, ended_by}
-use Rattle.mr_model.specs.Duties.{Master_step, Came, Launches, Expires, Asks, seen, next_seen, told, with_read, worked, is_fine, duty_of, phase_told, newest_maps, attempts_of, successes}
+use Rattle.mr_model.specs.Duties.{Master_step, Came, Launches, Expires, Asks, seen, next_seen, with_read, worked, is_fine, duty_of, phase_told, newest_maps, attempts_of, successes}
 use Rattle.mr_model.specs.Sending.{is_failing}
 use Rattle.mr_model.specs.Claims.{has_not_run, In}
 use Rattle.mr_model.specs.Calls.{Calls, calls, next_calls, calls_heard, calls_worked, tell, tell_each, tell_ended, winning}
@@ -32,8 +29,8 @@ use Rattle.mr_model.proofs.Basic.{if_cases}
 use Rattle.mr_model.proofs.Lists.{Each}
 use Rattle.mr_model.proofs.Closed.{found_container}
 use Rattle.mr_model.proofs.Follows.{Follows, follows}
-use Rattle.mr_model.proofs.Masters.{came-phase, told-phase, launches-phase, expires-phase, end_there-phase}
-use Rattle.mr_agree.specs.Steps.{setting, step_of, answer_of}
+use Rattle.mr_model.proofs.Masters.{came-phase, told-phase, expires-phase, end_there-phase}
+use Rattle.mr_agree.specs.Steps.{setting, step_of}
 use Rattle.mr_agree.specs.Works.{work_at, named, name_of_failing}
 use Rattle.mr_agree.specs.Points.{launch_as}
 use Rattle.mr_agree.specs.Holds.{Holds, LaunchesFound, pair_of}
@@ -41,7 +38,7 @@ use Rattle.mr_agree.proofs.Turn.{at-failing, can-after}
 use Rattle.mr_agree.proofs.Changes.{change_at}
 use Rattle.mr_agree.proofs.Answering.{answered, not-started}
 use Rattle.mr_agree.proofs.Works.{runs-is}
-use Rattle.mr_agree.proofs.Held.{At, at-of, told-same}
+use Rattle.mr_agree.proofs.Held.{told-same}
 use Rattle.mr_agree.proofs.Points.{point}
 use Rattle.mr_agree.proofs.Still.{tails}
 use Rattle.mr_agree.proofs.Launches.{AllAlike, places, found}

@@ -1,5 +1,5 @@
 -- A flush that was done: what it sends, which containers were then sent a Kill, and what tasks hear.
-use Rattle.std.proofs.Common.{ℕ, ◌≡◌, refl, sym, ◌∙◌, ap, subst, Bool, true, false, ◌&&◌, ◌||◌, not, List, [], ◌∷◌, ◌++◌, flat_map, append_assoc, append-nil, Option, Some, None, if◌then◌else◌, is_some, ◌⊎◌, inl, inr}
+use Rattle.std.proofs.Common.{ℕ, ◌≡◌, refl, sym, ◌∙◌, ap, subst, Bool, true, false, ◌&&◌, ◌||◌, not, List, [], ◌∷◌, ◌++◌, append-nil, Option, Some, None, if◌then◌else◌, is_some, ◌⊎◌, inl, inr}
 use Rattle.std.proofs.lemmas.List.Concat.{flat_map-cons}
 use Rattle.mr_ids.specs.Attempt.{Attempt}
 use Rattle.mr_ids.specs.declared.id.TaskId.{TaskId}
@@ -19,7 +19,7 @@ use Rattle.mr_master_model.specs.Sends as sends
 use Rattle.mr_master_model.specs.Sends.{killed_by}
 use Rattle.mr_model.specs.Ids.{is_reduce, attempt_eq, task_eq, container_eq}
 use Rattle.mr_model.specs.Packets.{Config}
-use Rattle.mr_model.specs.Hearing.{Seen, Launched, is_live, has, is_over, find_launched, has_container, containers_of}
+use Rattle.mr_model.specs.Hearing.{Seen, Launched, is_live, is_over, find_launched, has_container}
 use Rattle.mr_model.specs.Duties.{Master_step, seen, success_of, successes, rivals, all_rivals}
 use Rattle.mr_model.specs.Sending.{to_all, kills_of, wins, flush_each}
 use Rattle.mr_model.specs.Effect as cluster

@@ -1,15 +1,13 @@
 -- Kills: to each of some launches, and which containers were sent one.
-use Rattle.std.proofs.Common.{ℕ, zero, suc, ◌≡◌, refl, sym, ◌∙◌, ap, subst, Bool, true, false, ◌&&◌, ◌||◌, not, List, [], ◌∷◌, ◌++◌, flat_map, append_assoc, Option, Some, None, if◌then◌else◌, is_some, nat_eq, ◌⊎◌, inl, inr}
+use Rattle.std.proofs.Common.{ℕ, zero, suc, ◌≡◌, refl, sym, ◌∙◌, ap, Bool, true, false, ◌&&◌, ◌||◌, not, List, [], ◌∷◌, ◌++◌, flat_map, append_assoc, Option, Some, None, if◌then◌else◌, is_some, nat_eq, ◌⊎◌, inl, inr}
 use Rattle.std.specs.Option.{option_map}
-use Rattle.std.proofs.lemmas.Bool.{false≢true, and_parts, eq-eqb}
+use Rattle.std.proofs.lemmas.Bool.{false≢true, eq-eqb}
 use Rattle.std.proofs.lemmas.List.Concat.{flat_map-cons}
 use Rattle.mr_ids.specs.Attempt.{Attempt}
 use Rattle.mr_ids.specs.declared.id.TaskId.{TaskId}
 use Rattle.mr_packet.specs.declared.packet.Envelope.{Envelope}
-use Rattle.mr_packet.specs.declared.packet.Packet.{Packet}
 use Rattle.mr_packet.specs.declared.packet.Packet.TheVariants as packet
 use Rattle.mr_master_model.specs.declared.setting.Setting.{Setting}
-use Rattle.mr_master_model.specs.Job as job
 use Rattle.mr_master_model.specs.Readings as read
 use Rattle.mr_master_model.specs.Sends as sends
 use Rattle.mr_master_model.specs.Sends.{killed_by}

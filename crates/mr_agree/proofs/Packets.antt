@@ -1,7 +1,7 @@
 -- What a running master answers to a packet: its machine answers the same.
-use Rattle.std.proofs.Common.{ℕ, zero, suc, ◌≤◌, ◌≡◌, refl, sym, ◌∙◌, ap, subst, Bool, true, false, ◌&&◌, ◌||◌, not, List, [], ◌∷◌, ◌++◌, filter, flat_map, append_assoc, Option, Some, None, if◌then◌else◌, is_some, nat_lt, ◌⊎◌, inl, inr, arith}
+use Rattle.std.proofs.Common.{ℕ, zero, suc, ◌≤◌, ◌≡◌, refl, sym, ◌∙◌, ap, Bool, true, false, ◌&&◌, ◌||◌, not, List, [], ◌∷◌, ◌++◌, filter, flat_map, Option, Some, None, if◌then◌else◌, is_some, nat_lt, ◌⊎◌, inl, inr, arith}
 use Rattle.std.specs.Option.{option_map}
-use Rattle.std.proofs.lemmas.Bool.{false≢true, true≢false, eq-eqb}
+use Rattle.std.proofs.lemmas.Bool.{eq-eqb}
 use Rattle.std.proofs.lemmas.Bool.Decides.{nat_tests}
 use Rattle.std.proofs.lemmas.List.Concat.{flat_map-cons}
 use Rattle.mr_ids.specs.Attempt.{Attempt}
@@ -17,7 +17,6 @@ use Rattle.mr_packet.specs.declared.packet.Packet.TheVariants as packet
 use Rattle.mr_task.specs.Calls as task_call
 use Rattle.mr_task.specs.Readings as task
 use Rattle.mr_task.proofs.Same.{same-sym}
-use Rattle.mr_master_model.specs.declared.launch.Launch.{Launch}
 use Rattle.mr_master_model.specs.declared.setting.Setting.{Setting}
 use Rattle.mr_master_model.specs.Job as job
 use Rattle.mr_master_model.specs.Job.{all_tasks, all_maps, all_reduces, first_tasks, count_of}
@@ -25,14 +24,13 @@ use Rattle.mr_master_model.specs.Readings as read
 use Rattle.mr_master_model.specs.Hearing as hears
 use Rattle.mr_master_model.specs.Sends as sends
 use Rattle.mr_master_model.specs.Next as next
-use Rattle.mr_model.specs.Ids.{is_reduce, of_reduces}
+use Rattle.mr_model.specs.Ids.{is_reduce}
 use Rattle.mr_model.specs.Packets.{Config}
-use Rattle.mr_model.specs.Hearing.{Seen, Phase, Failing, Launched, Placed, is_running, is_named, is_attempt, is_live, may_accept, has, named_in, stands, find_launched, find_container, heard, in_task_order}
+use Rattle.mr_model.specs.Hearing.{Seen, Failing, Launched, Placed, is_running, is_named, is_attempt, may_accept, has, named_in, stands, find_launched, find_container, in_task_order}
 use Rattle.mr_model.specs.Duties.{Master_step, Came, seen, next_seen}
 use Rattle.mr_model.specs.Sending.{to_node, to_container, kills_of, live_of, answer_to, ack_to, ready, if_ours, is_failing, replies, step_sends}
 use Rattle.mr_model.specs.Effect as cluster
-use Rattle.mr_model.specs.Claims.{In}
-use Rattle.mr_model.specs.Calls.{Calls, calls, next_calls, calls_heard, tell, tell_launched, of_task}
+use Rattle.mr_model.specs.Calls.{Calls, calls, next_calls, calls_heard, tell, tell_launched}
 use Rattle.mr_model.specs.Made.{AllMade}
 use Rattle.mr_model.proofs.Lists.{Each, Each-append, Each-by}
 use Rattle.mr_model.proofs.Agree.{eq-same}
@@ -41,7 +39,7 @@ use Rattle.mr_model.proofs.Made.{fitted, all-fit}
 use Rattle.mr_model.proofs.Masters.{came-phase}
 use Rattle.mr_model.proofs.Wins.{calls_agree}
 use Rattle.mr_agree.specs.Steps.{setting, step_of}
-use Rattle.mr_agree.specs.Points.{View, view, Alike, launch_as, in_order}
+use Rattle.mr_agree.specs.Points.{View, Alike, launch_as, in_order}
 use Rattle.mr_agree.specs.Holds.{Holds, LaunchesFound, pair_of}
 use Rattle.mr_agree.specs.Arrivals.{at_task}
 use Rattle.mr_agree.proofs.Works.{runs-is}
@@ -55,7 +53,6 @@ use Rattle.mr_agree.proofs.Kills.{in-live, task-kills}
 use Rattle.mr_agree.proofs.Falling.{running-falls-on, running-sound}
 use Rattle.mr_agree.proofs.Ordered.{ordered-all}
 use Rattle.mr_agree.proofs.Places.{recorded_at, standing-one, standing-place, succeeded-as}
-use Rattle.mr_agree.proofs.Lies.{place_as}
 
 -- ---- Kills to all live attempts, task by task
 

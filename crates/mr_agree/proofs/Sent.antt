@@ -2,31 +2,29 @@
 use Rattle.std.proofs.Common.{ℕ, ◌≡◌, refl, sym, ◌∙◌, ap, subst, Bool, true, false, List, [], ◌∷◌, ◌++◌, append-nil, Option, Some, None, if◌then◌else◌, is_none}
 use Rattle.std.specs.List.{find}
 use Rattle.std.specs.Option.{option_map}
-use Rattle.std.proofs.lemmas.Bool.{false≢true, true≢false}
+use Rattle.std.proofs.lemmas.Bool.{true≢false}
 use Rattle.mr_ids.specs.Attempt.{Attempt}
 use Rattle.mr_packet.specs.declared.packet.Envelope.{Envelope}
 use Rattle.mr_packet.specs.declared.packet.Packet.{Packet}
 use Rattle.mr_packet.specs.declared.packet.Packet.TheVariants as packet
 use Rattle.mr_packet.specs.Sends.{to_node}
-use Rattle.mr_master_model.specs.declared.launch.Launch.{Launch}
 use Rattle.mr_master_model.specs.declared.setting.Setting.{Setting}
 use Rattle.mr_master_model.specs.Readings as read
 use Rattle.mr_master_model.specs.Hearing as hears
-use Rattle.mr_master_model.specs.Duty.{duty}
 use Rattle.mr_master_model.specs.Sends as sends
 use Rattle.mr_master_model.specs.Next as next
 use Rattle.mr_model.specs.Ids.{temporary, commit_started}
-use Rattle.mr_model.specs.Content.{Create, Delete, Bar, bar_of}
+use Rattle.mr_model.specs.Content.{Create, Delete, Bar}
 use Rattle.mr_model.specs.Packets.{Config, Store, Names, Append_record, Flush, Read_history, Reply, Fine}
 use Rattle.mr_model.specs.Hearing.{Seen, Phase, Opening, Setting_up, Recovering, Running, Committing, Failing, Finished, Stopped, Commit_step, Launched, is_running, find_launched}
-use Rattle.mr_model.specs.Duties.{Master_step, Came, Launches, Expires, Asks, seen, next_seen, is_fine, duty_of, told, first_bar}
+use Rattle.mr_model.specs.Duties.{Master_step, Came, Launches, Asks, seen, next_seen, is_fine, duty_of, first_bar}
 use Rattle.mr_model.specs.Sending.{step_sends, replies, won_by_recovery, flush_each, flush_sends, bar_sends, bar_kill, kill_to, is_failing}
 use Rattle.mr_model.specs.Claims.{has_not_run}
 use Rattle.mr_model.specs.Made.{IsMade, AllMade}
 use Rattle.mr_agree.specs.Steps.{setting, step_of}
-use Rattle.mr_agree.specs.Works.{CanBe, work_at, named}
+use Rattle.mr_agree.specs.Works.{CanBe, named}
 use Rattle.mr_agree.specs.Agreement.{SetUp}
-use Rattle.mr_agree.specs.Points.{launch_as, in_order}
+use Rattle.mr_agree.specs.Points.{launch_as}
 use Rattle.mr_agree.specs.Holds.{Holds}
 use Rattle.mr_agree.proofs.Works.{runs-is}
 use Rattle.mr_agree.proofs.Turn.{at-running, at-failing}
@@ -34,12 +32,11 @@ use Rattle.mr_agree.proofs.Changes.{sends_at}
 use Rattle.mr_agree.proofs.Answering.{is_finished, sent-is, Plain, plain-sends}
 use Rattle.mr_agree.proofs.Points.{point, bars-at}
 use Rattle.mr_agree.proofs.Launches.{AllAlike, found}
-use Rattle.mr_agree.proofs.Held.{at-of}
 use Rattle.mr_agree.proofs.Keeps.{refused-none, attempt-is, launched-is}
 use Rattle.mr_agree.proofs.Late.{NoBar, commit-plain}
-use Rattle.mr_agree.proofs.Replies.{first-due, running-only}
+use Rattle.mr_agree.proofs.Replies.{first-due}
 use Rattle.mr_agree.proofs.Flushing.{flush-sent}
-use Rattle.mr_agree.proofs.Falling.{Falls, failing-only}
+use Rattle.mr_agree.proofs.Falling.{Falls}
 
 no-bar : (call : Store) → NoBar call → Plain call
 no-bar (Names op) o = o
