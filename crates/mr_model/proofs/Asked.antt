@@ -1,5 +1,5 @@
 -- Who asks a master to commit is a reduce, and the map that is asked for is one of the job's.
-use Rattle.std.proofs.Common.{ℕ, ◌<◌, ◌≡◌, refl, sym, ◌∙◌, ap, subst, Bool, true, false, List, [], ◌∷◌, ◌++◌, Option, Some, None, nat_lt, length, slice_get, arith}
+use Rattle.std.proofs.Common.{ℕ, ◌<◌, ◌≡◌, refl, sym, ◌∙◌, ap, subst, Bool, true, false, List, Option, Some, None, nat_lt, length, slice_get, arith}
 use Rattle.std.proofs.lemmas.Bool.{false≢true}
 use Rattle.std.proofs.lemmas.Bool.Decides.{nat_tests}
 use Rattle.mr_ids.specs.declared.id.TaskKind.{TaskKind}
@@ -18,7 +18,6 @@ use Rattle.mr_model.specs.Duties.{Came}
 use Rattle.mr_model.specs.World.{World, Event, Master_act, came_act}
 use Rattle.mr_model.specs.Effect.{effect}
 use Rattle.mr_model.specs.Sending.{sent}
-use Rattle.mr_model.specs.Claims.{In}
 use Rattle.mr_model.specs.Made.{IsAsked, IsMade}
 use Rattle.mr_model.proofs.Lists.{Each, Each-append, Each-In}
 use Rattle.mr_model.proofs.Cluster.{slice_get-In}
