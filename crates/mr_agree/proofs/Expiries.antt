@@ -1,5 +1,5 @@
 -- A node is given up: while a master runs, its machine stays with it at an expiry, and sends the same Kills.
-use Rattle.std.proofs.Common.{ℕ, zero, suc, ◌≡◌, refl, sym, ◌∙◌, ap, subst, Bool, true, false, ◌&&◌, ◌||◌, not, List, [], ◌∷◌, ◌++◌, cond, filter, flat_map, Option, Some, None, if◌then◌else◌, is_none, is_some, nat_eq, nat_lt, inl, inr, arith}
+use Rattle.std.proofs.Common.{ℕ, zero, suc, ◌≡◌, refl, sym, ◌∙◌, ap, subst, Bool, true, false, ◌&&◌, ◌||◌, not, List, [], ◌∷◌, ◌++◌, cond, filter, flat_map, None, if◌then◌else◌, is_none, nat_eq, nat_lt, inl, inr, arith}
 use Rattle.std.specs.Option.{option_map}
 use Rattle.std.proofs.lemmas.Bool.{false≢true, eq-eqb}
 use Rattle.std.proofs.lemmas.Bool.Decides.{nat_tests}
@@ -21,7 +21,7 @@ use Rattle.mr_master_model.specs.Sends.{killed_by}
 use Rattle.mr_master_model.specs.Next as next
 use Rattle.mr_model.specs.Ids.{of_reduces, is_reduce}
 use Rattle.mr_model.specs.Packets.{Config}
-use Rattle.mr_model.specs.Hearing.{Seen, Launched, is_running, is_live, has_container, find_launched, live_on, in_task_order, more_bars, containers_of, end_maps, over_with, expired}
+use Rattle.mr_model.specs.Hearing.{Seen, Launched, is_running, is_live, has_container, live_on, in_task_order, more_bars, containers_of, end_maps, over_with, expired}
 use Rattle.mr_model.specs.Sending.{kills_of, live_of, step_sends}
 use Rattle.mr_model.specs.Duties.{Master_step, Expires, seen, next_seen}
 use Rattle.mr_model.specs.Effect.{unless, NotRunning, NoNode}
@@ -40,10 +40,10 @@ use Rattle.mr_agree.specs.Holds.{Holds, Kept}
 use Rattle.mr_agree.proofs.Turn.{if_cases}
 use Rattle.mr_agree.proofs.Begins.{told-is}
 use Rattle.mr_agree.proofs.Points.{point, task-test, job-is}
-use Rattle.mr_agree.proofs.Launches.{places, found, found-in, launched-found}
+use Rattle.mr_agree.proofs.Launches.{places, found}
 use Rattle.mr_agree.proofs.Alike.{live_in}
 use Rattle.mr_agree.proofs.Arrivals.{live-as}
-use Rattle.mr_agree.proofs.Kills.{kills-are, kills-note, in-live, in-task}
+use Rattle.mr_agree.proofs.Kills.{launch-found, kills-are, kills-note, in-live, in-task}
 use Rattle.mr_agree.proofs.Deaths.{dies, loses, alike-each}
 use Rattle.mr_agree.proofs.Picks.{picked, is_map_on, maps-picked, has-filter, live-picked, lost-picked}
 use Rattle.mr_agree.proofs.Ordered.{ordered-maps, ordered-reduces}
@@ -106,16 +106,9 @@ module _ (cfg : Config) (k : ℕ) (h : List Master_step) (m : read.Seen) (made :
 
   -- ---- the live attempts that were launched there
 
-  launch-of : (l : Launched) → In l S.launched → find_launched S.launched l.attempt ≡ Some l
-  launch-of l i = at (find_launched S.launched l.attempt) refl
-    where
-      at : (f : Option Launched) → find_launched S.launched l.attempt ≡ f → f ≡ Some l
-      at None e = absurd (false≢true (sym (ap (λ x. is_some x) e) ∙ launched-found S.launched l i))
-      at (Some x) e = let q = found-in S.launched l.attempt x e in ap Some ((places cfg k h made).0.attempts x l q.0 i q.1)
-
   on-there : (ls : List Launched) → ((l : Launched) → In l ls → In l S.launched) → filter (λ a. read.launched_on n (read.launch_of W m a)) (attempts ls) ≡ attempts (on_node n ls)
   on-there [] i = refl
-  on-there (l ∷ ls) i = (let test = ap (read.launched_on n) ((found cfg k h m made o run).launch l.attempt ∙ ap (option_map launch_as) (launch-of l (i l (inl refl)))) in let rest = on-there ls (λ x j. i x (inr j)) in
+  on-there (l ∷ ls) i = (let test = ap (read.launched_on n) ((found cfg k h m made o run).launch l.attempt ∙ ap (option_map launch_as) (launch-found cfg k h m made o.launched (o.stands.tasks run) l (i l (inl refl)))) in let rest = on-there ls (λ x j. i x (inr j)) in
       λ j. cond (test j) (l.attempt ∷ rest j) (rest j)) ∙ by (nat_eq l.node n)
     where
       by : (b : Bool) → cond b (l.attempt ∷ attempts (on_node n ls)) (attempts (on_node n ls)) ≡ attempts (cond b (l ∷ on_node n ls) (on_node n ls))

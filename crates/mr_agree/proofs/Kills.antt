@@ -130,7 +130,7 @@ module _ (cfg : Config) (k : ℕ) (h : List Master_step) (m : read.Seen) (made :
   finds : LaunchesFound cfg k S m
   finds = found-by cfg k h m made order alike
 
-  launch-found : (l : Launched) → In l S.launched → find_launched S.launched l.attempt ≡ Some l
+  pub launch-found : (l : Launched) → In l S.launched → find_launched S.launched l.attempt ≡ Some l
   launch-found l i = at (find_launched S.launched l.attempt) refl
     where
       at : (f : Option Launched) → find_launched S.launched l.attempt ≡ f → f ≡ Some l
