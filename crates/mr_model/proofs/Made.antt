@@ -11,7 +11,7 @@ use Rattle.mr_model.specs.Hearing.{Seen, Phase, Launched, Placed, Todo_winner, C
 use Rattle.mr_model.specs.Duties.{Master_step, Came, Launches, Expires, Asks, worked, rest_of, with_phase, with_read, is_read, is_fine, told, phase_told, next_seen, seen, duty_of, records_of, winners_of, one_winner, newest_maps, without_task, attempts_of, bar_call, first_bar, record_call, recover_call, commit_call, merge_call, mark_at, wants_flush, all_won}
 use Rattle.mr_model.specs.World.{World, Event, Start, Crash, Duty, LaunchOn, Deliver, ContainerStep, Compute, Die, NodeRestart, Expire, Weather, Calm, Unavailable, Unanswered, Master_act, master_act, duty_act, duty, seen_by, launch_of, count_of, reply_of, own_reply, unless_refused, names_answer, reply_under, opening_world}
 use Rattle.mr_model.specs.Effect.{effect, not_now, is_task, tasks_of, task_fault, live_count, Task, AlreadyWon, TooManyLive, TooManyAttempts, with_master_step}
-use Rattle.mr_model.specs.Claims.{In}
+use Rattle.mr_model.specs.Claims.{In, Limits, world_of}
 use Rattle.mr_model.specs.Calls.{AllFit, AllOfJob, Fits, IsOfJob, TakenEarlier, TakenHere, AppendsDue, winning, calls}
 use Rattle.mr_model.specs.Made.{BelongsTo, TellsOf, IsMade, AllMade, PastsAreMade}
 use Rattle.mr_model.proofs.Basic.{if_cases, unless_parts, along}
@@ -438,9 +438,13 @@ lives cfg w e o n = record {
 opening-lives : (cfg : Config) → Lives cfg opening_world
 opening-lives cfg = record { numbered = opening-numbers cfg; stored = λ j x i. absurd i; made = λ k. tt; asks = tt }
 
+always-lives : (cfg : Config) (within : Limits) (es : List Event) → Lives cfg (world_of cfg within es)
+always-lives cfg within es = along (Lives cfg) cfg within (λ w e o n. lives cfg w e o n) opening_world es (opening-lives cfg)
+
 pub pasts_are_made : PastsAreMade
 pasts_are_made = record {
-  made = λ cfg within es k. (along (Lives cfg) cfg within (λ w e o n. lives cfg w e o n) opening_world es (opening-lives cfg)).made k;
+  made = λ cfg within es k. (always-lives cfg within es).made k;
+  next = λ cfg within es e a n q. act-made cfg (world_of cfg within es) e n (always-lives cfg within es) a q;
   fit = all-fit;
   of_job = all-of-job;
 }

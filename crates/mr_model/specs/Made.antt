@@ -5,8 +5,8 @@ use Rattle.mr_model.specs.Records.{Record, AttemptStarted, MapSucceeded, ReduceS
 use Rattle.mr_model.specs.Packets.{Config, Packet, Pending, Poll, Where}
 use Rattle.mr_model.specs.Hearing.{Seen, is_running}
 use Rattle.mr_model.specs.Duties.{Master_step, Came, Launches, Expires, Asks, seen, duty_of, records_of}
-use Rattle.mr_model.specs.World.{Event, launch_of}
-use Rattle.mr_model.specs.Effect.{is_task, task_fault}
+use Rattle.mr_model.specs.World.{Event, Master_act, master_act, seen_by, launch_of}
+use Rattle.mr_model.specs.Effect.{is_task, task_fault, not_now}
 use Rattle.mr_model.specs.Claims.{In, Limits, world_of}
 use Rattle.mr_model.specs.Calls.{AllFit, AllOfJob}
 
@@ -43,8 +43,11 @@ abbrev pub AllMade : Config → ℕ → List Master_step → Type 0
 AllMade cfg k [] = Unit {0}
 AllMade cfg k (x ∷ h) = IsMade cfg k (seen cfg k h) x × AllMade cfg k h
 
--- In every run, each step of each master's past is so. Where it is, all launches and all that is taken over fit, and are the job's.
+-- In every run, each step of each master's past is so, and so is the step that an event that may happen next makes. Where they are, all launches and all that is
+-- taken over fit, and are the job's.
 pub record PastsAreMade : Type 0 where
   pub made : (cfg : Config) (within : Limits) (es : List Event) (k : ℕ) → AllMade cfg k ((world_of cfg within es).master_past k)
+  pub next : (cfg : Config) (within : Limits) (es : List Event) (e : Event) (a : Master_act) → not_now cfg (world_of cfg within es) e ≡ None
+      → master_act cfg (world_of cfg within es) e ≡ Some a → IsMade cfg a.who (seen_by cfg (world_of cfg within es) a.who) a.step
   pub fit : (cfg : Config) (k : ℕ) (h : List Master_step) → AllMade cfg k h → AllFit cfg k h
   pub of_job : (cfg : Config) (k : ℕ) (h : List Master_step) → AllMade cfg k h → AllOfJob cfg k h

@@ -218,7 +218,8 @@ pub fn calls_agree()
 {}
 
 /// Each step of a master's past is what an event makes: a launch is the next one of a task of the job that has no fault, a store call is the one that
-/// was due, and what is read was written by earlier generations. So launches, and what is taken over, meet the conditions of `calls_agree`.
+/// was due, what is read was written by earlier generations, and what asks to commit is a reduce; so is the step that an event that may happen makes. So launches,
+/// and what is taken over, meet the conditions of `calls_agree`.
 pub fn pasts_are_made()
     ensures { PastsAreMade }
 {}
