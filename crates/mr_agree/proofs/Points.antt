@@ -10,8 +10,6 @@ use Rattle.mr_ids.specs.declared.id.TaskKind.TheVariants.{Map, Reduce}
 use Rattle.mr_grant.specs.Attempts as grant
 use Rattle.mr_grant.specs.Attempts.{first_of}
 use Rattle.mr_task.specs.Readings as task
-use Rattle.mr_task.specs.declared.fault.TaskFault as fault
-use Rattle.mr_task.specs.declared.fault.TaskFault.TheVariants as task_fault
 use Rattle.mr_master_model.specs.declared.setting.Setting.{Setting}
 use Rattle.mr_master_model.specs.declared.phase.LaunchFault.TheVariants as refused
 use Rattle.mr_master_model.specs.Job as job
@@ -49,7 +47,7 @@ live_in v a = grant.has v.arrived a && (not (grant.has v.accepted a) && not (v.o
 abbrev won_in : View → Bool
 won_in v = list_any (λ a. grant.has v.accepted a && not (v.lost a)) v.arrived
 
-abbrev refusal_in : View → Option fault.TaskFault
+abbrev refusal_in : View → Option TaskFault
 refusal_in v = task.refusal_of (won_in v) (count_by (live_in v) v.arrived) v.numbered
 
 abbrev succeeded_in : View → Option Attempt
@@ -128,10 +126,10 @@ few n m = grind (arith, nat_tests)
 
 task-refusal : (won : Bool) (live count : ℕ) → read.by_task (task.refusal_of won live count)
     ≡ refusal_as (unless (not won) (Task AlreadyWon) (unless (nat_lt live 2) (Task TooManyLive) (unless (nat_lt count 1000) (Task TooManyAttempts) None)))
-task-refusal won live count = (let a = few live 2 in let b = few count 1000 in λ i. read.by_task (if won then Some task_fault.AlreadyWon else (if a i then Some task_fault.TooManyLive else (if b i then Some task_fault.TooManyAttempts else None))))
+task-refusal won live count = (let a = few live 2 in let b = few count 1000 in λ i. read.by_task (if won then Some AlreadyWon else (if a i then Some TooManyLive else (if b i then Some TooManyAttempts else None))))
     ∙ by won (nat_lt live 2) (nat_lt count 1000)
   where
-    by : (x y z : Bool) → read.by_task (if x then Some task_fault.AlreadyWon else (if not y then Some task_fault.TooManyLive else (if not z then Some task_fault.TooManyAttempts else None)))
+    by : (x y z : Bool) → read.by_task (if x then Some AlreadyWon else (if not y then Some TooManyLive else (if not z then Some TooManyAttempts else None)))
         ≡ refusal_as (unless (not x) (Task AlreadyWon) (unless y (Task TooManyLive) (unless z (Task TooManyAttempts) None)))
     by true y z = refl
     by false false z = refl

@@ -4,8 +4,6 @@ use Rattle.mr_ids.specs.Attempt.{Attempt}
 use Rattle.mr_ids.specs.declared.id.TaskId.{TaskId}
 use Rattle.mr_grant.specs.Attempts as grant
 use Rattle.mr_task.specs.Readings as task
-use Rattle.mr_task.specs.declared.fault.TaskFault as fault
-use Rattle.mr_task.specs.declared.fault.TaskFault.TheVariants as task_fault
 use Rattle.mr_master_model.specs.declared.launch.Launch.{Launch}
 use Rattle.mr_master_model.specs.declared.phase.LaunchFault.{LaunchFault}
 use Rattle.mr_master_model.specs.declared.phase.LaunchFault.TheVariants as refused
@@ -18,7 +16,7 @@ use Rattle.mr_model.specs.Hearing.{Seen, Launched, is_running}
 use Rattle.mr_model.specs.Duties.{Master_step, seen, duty_of}
 use Rattle.mr_model.specs.World.{launch_of}
 use Rattle.mr_model.specs.Effect as cluster
-use Rattle.mr_model.specs.Effect.{Why, TaskFault, AlreadyWon, TooManyLive, TooManyAttempts, NotRunning, NoTask, NoNode, Task, unless}
+use Rattle.mr_model.specs.Effect.{Why, NotRunning, NoTask, NoNode, Task, unless}
 use Rattle.mr_model.specs.Calls.{of_task}
 use Rattle.mr_model.specs.Made.{AllMade}
 use Rattle.mr_agree.specs.Steps.{setting}
@@ -73,16 +71,11 @@ pub record StandsAt (cfg : Config) (k : ℕ) (past : List Master_step) (m : read
 
 -- ---- why nothing is launched
 
-abbrev pub fault_as : TaskFault → fault.TaskFault
-fault_as AlreadyWon = task_fault.AlreadyWon
-fault_as TooManyLive = task_fault.TooManyLive
-fault_as TooManyAttempts = task_fault.TooManyAttempts
-
 abbrev pub refusal_as : Option Why → Option LaunchFault
 refusal_as (Some NotRunning) = Some refused.NotRunning
 refusal_as (Some NoTask) = Some refused.NoTask
 refusal_as (Some NoNode) = Some refused.NoNode
-refusal_as (Some (Task f)) = Some (refused.Task (fault_as f))
+refusal_as (Some (Task f)) = Some (refused.Task f)
 refusal_as _ = None
 
 -- why a living master launches nothing of task t on node n, in the order of the cluster's reasons

@@ -10,6 +10,10 @@ use Rattle.mr_model.specs.Hearing.{Launched, Seen, is_live, is_running, is_won}
 use Rattle.mr_model.specs.Duties.{Master_step}
 use Rattle.mr_model.specs.World.{Calm, Compute, ContainerStep, Container_act, Crash, Deliver, Die, Duty, Event, Expire, LaunchOn, Made, Master_act, NodeRestart, Obeyed, Start, Weather, World, barred_left, call_of, container_act, count_of, duty, ends, is_applied, master_act, names_left, obeyed, op_of, seen_by, segment_left, wish_of}
 use Rattle.mr_model.specs.Sending.{sent}
+pub use Rattle.mr_event.specs.declared.why.Why.{Why}
+pub use Rattle.mr_event.specs.declared.why.Why.TheVariants.{WrongGeneration, NoMaster, NoDuty, NotRunning, NoTask, NoNode, NoPacket, NoAddressee, NoContainer, WrongWish, NoStoreCall, NotBlocks, Task}
+pub use Rattle.mr_task.specs.declared.fault.TaskFault.{TaskFault}
+pub use Rattle.mr_task.specs.declared.fault.TaskFault.TheVariants.{AlreadyWon, TooManyLive, TooManyAttempts}
 
 -- What each part of the world is after an event that is taken
 
@@ -94,13 +98,6 @@ effect cfg w e = record {
 }
 
 -- Permission
-
-pub data TaskFault : Type 0 where
-  AlreadyWon TooManyLive TooManyAttempts : TaskFault
-
-pub data Why : Type 0 where
-  WrongGeneration NoMaster NoDuty NotRunning NoTask NoNode NoPacket NoAddressee NoContainer WrongWish NoStoreCall NotBlocks : Why
-  Task : (fault : TaskFault) → Why
 
 abbrev pub unless : Bool → Why → Option Why → Option Why
 unless true why rest = rest

@@ -12,6 +12,10 @@ use Rattle.mr_model.specs.Pasts.{Called, Computed, Got, Node_step, Over, Place, 
 use Rattle.mr_model.specs.Hearing.{Launched, Seen, has}
 use Rattle.mr_model.specs.Duties.{Asks, Came, Expires, Launches, Master_step, duty_of, seen}
 use Rattle.std.specs.FinMap as finite
+pub use Rattle.mr_event.specs.declared.event.Event.{Event}
+pub use Rattle.mr_event.specs.declared.event.Event.TheVariants.{Start, Crash, Duty, LaunchOn, Deliver, ContainerStep, Computed as Compute, Die, NodeRestart, Expire}
+pub use Rattle.mr_event.specs.declared.event.Weather.{Weather}
+pub use Rattle.mr_event.specs.declared.event.Weather.TheVariants.{Calm, Unavailable, Unanswered}
 
 pub record World : Type 0 where
   pub content : Content
@@ -25,21 +29,6 @@ pub record World : Type 0 where
   pub place : ContainerId → Option Place  -- what a launched container was launched as
   pub is_master : ℕ → Bool  -- the masters that are alive
   pub is_alive : ContainerId → Bool  -- the containers that are alive
-
-pub data Weather : Type 0 where
-  Calm Unavailable Unanswered : Weather
-
-pub data Event : Type 0 where
-  Start : (k kept : ℕ) → Event
-  Crash : (k kept : ℕ) → Event
-  Duty : (k : ℕ) → (fault : Weather) → Event
-  LaunchOn : (k : ℕ) → (t : TaskId) → (n : ℕ) → Event
-  Deliver : (i : ℕ) → Event
-  ContainerStep : (c : ContainerId) → (fault : Weather) → Event
-  Compute : (c : ContainerId) → (bytes : List ℕ) → Event
-  Die : (c : ContainerId) → Event
-  NodeRestart : (n : ℕ) → Event
-  Expire : (k n : ℕ) → Event
 
 abbrev pub opening_world : World
 opening_world = record {
