@@ -87,3 +87,4 @@ pub mod Sized
 pub mod Fitting
 pub mod Asked
 pub mod Made
+pub mod Stored

@@ -19,5 +19,6 @@ pub mod Calls
 pub mod Containers
 pub mod Nodes
 pub mod Actors
+pub mod Stored
 pub mod Acts
 pub mod Made

@@ -1,7 +1,9 @@
-//! What ties containers and nodes to the machines of mr_container and mr_node: these functions do nothing. `specs/Actors` says what a machine stands for.
+//! What ties containers and nodes to the machines of mr_container and mr_node, and what each event leaves of both stores: these functions do nothing.
+//! `specs/Actors` says what a machine stands for, `specs/Stored` what stores do.
 ghost use Rattle.mr_model.specs.Containers.{ContainersAgree};
 ghost use Rattle.mr_model.specs.Nodes.{NodesAgree};
 ghost use Rattle.mr_model.specs.Actors.{AnswersAreHeard, BeginsOnce, ContainersSay, PastsAreWished};
+ghost use Rattle.mr_model.specs.Stored.{StoresGoOn};
 ghost use Rattle.mr_model.specs.Acts.{ContainersAct, MapsAct, MastersAct, NodesAct};
 
 /// What is read off a container's past is what mr_container reads of it: its wish, the blocks that it fetched, what it computed, its call and
@@ -35,6 +37,12 @@ pub fn begins_once()
 /// What a container hears of its call is what the namespace answered, or a fault.
 pub fn answers_are_heard()
     ensures { AnswersAreHeard }
+{}
+
+/// Both stores go on as the world's: what a start, a crash, a master's call and a container's leave, what the container hears, and that no other event
+/// changes them.
+pub fn stores_go_on()
+    ensures { StoresGoOn }
 {}
 
 /// No event of a master, and no packet to one, changes a machine of a container or a node.

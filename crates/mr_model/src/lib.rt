@@ -25,7 +25,8 @@
 //! - what ties the definitions to the crates beneath: paths are the layout's (`paths_are_the_layouts`); each call
 //!   of the namespace, for callers with and without an attempt, and of the history, in both versions, is answered
 //!   as the definitions say and leaves what they say
-//!   (`stores_are_the_models`); whatever a master appends the history takes, in each version (`appended_records_fit`); a
+//!   (`stores_are_the_models`), so that both stores go on as the world's at every event: starts, crashes, and the
+//!   calls of masters and containers in each weather (`stores_go_on`); whatever a master appends the history takes, in each version (`appended_records_fit`); a
 //!   living master was raised to (`masters_are_raised`); what is read off the calls of a task's machine (`mr_task`)
 //!   is what is read off the master's
 //!   past (`calls_agree`: clause `agree` for reduces; clause `maps` for the maps of the job, also which attempts
@@ -59,7 +60,7 @@ ghost use Rattle.mr_model.specs.Sequential.{Job, JobLaws, BoundsOutputs, WholeIs
 
 pub use actors::{
     answers_are_heard, begins_once, containers_act, containers_agree, containers_say, maps_act,
-    masters_act, nodes_act, nodes_agree, pasts_are_wished,
+    masters_act, nodes_act, nodes_agree, pasts_are_wished, stores_go_on,
 };
 
 // The headline
