@@ -37,3 +37,4 @@ pub mod Expiries
 pub mod Stepping
 pub mod Sent
 pub mod Whole
+pub mod Stores

@@ -8,3 +8,4 @@ pub mod Begins
 pub mod Holds
 pub mod Arrivals
 pub mod Whole
+pub mod Stores

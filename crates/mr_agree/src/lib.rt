@@ -19,7 +19,10 @@
 //!   is Succeeded exactly where the master recorded one of it or read its winner (`reduces_are_recorded`), and finds each launch and each
 //!   container as it does (`launches_agree`);
 //! - the machine stands where the master does where it begins to run (`running_begins`), or where it ends before that (`ends_early`); it stays so at
-//!   every step while the master runs (`steps_keep`), and at every step once it runs no more (`late_steps_keep`).
+//!   every step while the master runs (`steps_keep`), and at every step once it runs no more (`late_steps_keep`);
+//! - for whoever runs machines of masters: what one is told of its store call is what the stores answered, in each weather, and
+//!   both then stand for the world's (`store_calls_agree`); which step each event is to which past, and that its packets are that step's
+//!   (`masters_go_on`).
 #![tactic(auto)]
 
 ghost use Rattle.mr_agree.specs.Alike.{TasksStayAlike};
@@ -27,6 +30,7 @@ ghost use Rattle.mr_agree.specs.Begins.{BeginningsAgree};
 ghost use Rattle.mr_agree.specs.Holds.{EndsEarly, LateStepsKeep, LaunchesAgree, RunningBegins, StepsKeep};
 ghost use Rattle.mr_agree.specs.Points.{PointsAgree};
 ghost use Rattle.mr_agree.specs.Recorded.{ReducesAreRecorded};
+ghost use Rattle.mr_agree.specs.Stores.{MastersGoOn, StoreCallsAgree};
 ghost use Rattle.mr_agree.specs.Whole.{MastersAgree};
 ghost use Rattle.mr_agree.specs.Agreement.{TurnsAgree};
 
@@ -86,4 +90,15 @@ pub fn steps_keep()
 /// Once a master has run and does no more, its machine stays with it at every step: while it fails, commits the job, or is over.
 pub fn late_steps_keep()
     ensures { LateStepsKeep }
+{}
+
+/// Of a namespace and a history that stand for the world's: what a master's machine is told of its store call is what the store answered, or a fault in bad weather;
+/// its past grows by that; and both stores then stand for the world's.
+pub fn store_calls_agree()
+    ensures { StoreCallsAgree }
+{}
+
+/// What each other event is to the pasts of masters' machines: the step by which one grows, with the packets of the event, and that all others stay.
+pub fn masters_go_on()
+    ensures { MastersGoOn }
 {}

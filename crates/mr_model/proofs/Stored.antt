@@ -73,7 +73,7 @@ called-stands cfg w e m s h fe hi q n t f i = record {
 
 -- ---- a call of a master's of the namespace
 
-superseded : (s : names.State) (w : World) (k : ℕ) (o : Op) → NamesStand s w → nat_lt k w.fence ≡ true → names.call_of s (master k) o ≡ (Err (fault.Superseded s.fence), s)
+pub superseded : (s : names.State) (w : World) (k : ℕ) (o : Op) → NamesStand s w → nat_lt k w.fence ≡ true → names.call_of s (master k) o ≡ (Err (fault.Superseded s.fence), s)
 unfolding names.unheard
 superseded s w k o n e = let q : nat_lt k s.fence ≡ true = ap (nat_lt k) n.fence ∙ e in rw q refl
 
