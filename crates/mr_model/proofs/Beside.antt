@@ -4,6 +4,7 @@ use Rattle.std.proofs.lemmas.Bool.{false≢true, true≢false}
 use Rattle.mr_model.specs.Ids.{Attempt, ContainerId, is_reduce, generation}
 use Rattle.mr_model.specs.Records.{ReduceSucceeded, History, Record, records_below}
 use Rattle.mr_model.specs.Packets.{Config, Answer, Done}
+use Rattle.mr_model.specs.Pasts.{Place}
 use Rattle.mr_model.specs.Hearing.{Phase, Running, Failing, Launched, has, is_over, named_in}
 use Rattle.mr_model.specs.World.{World, Event, seen_by, opening_world}
 use Rattle.mr_model.specs.Effect.{run}
@@ -100,8 +101,19 @@ recorded-alone cfg w o kn a b c i g t live free j = by f.4
     by (inl v) = absurd (true≢false (sym v ∙ lives))
     by (inr v) = let u : named_in (seen_by cfg w c.app).asked (seen_by cfg w c.app).ended a.task ≡ Some b = subst (λ z. named_in (seen_by cfg w c.app).asked (seen_by cfg w c.app).ended z ≡ Some b) t v in cc (u, mine)
 
+-- a yes is for what the container was launched as
+yes-own : (cfg : Config) (w : World) → Known cfg w → (b : Attempt) (c : ContainerId) (p : Place) → w.place c ≡ Some p → In (to_container c (Answer b true)) w.bag → b ≡ p.attempt
+yes-own cfg w kn b c p q j = by (Each-In (EnvelopeFits cfg w) w.bag kn.cluster.packets _ j)
+  where
+    by : (l : Launched) × IsLaunched cfg w c.app l × (l.container ≡ c) × (l.attempt ≡ b) × NamedOrOver b (seen_by cfg w c.app) × (is_reduce b ≡ true) → b ≡ p.attempt
+    by f = sym f.3 ∙ subst (λ (z : Launched). z.attempt ≡ p.attempt) ((kn.cluster.distinct c.app).containers (launched_as c p.attempt p.node p.incarnation) f.0 (kn.cluster.places c p q).0 f.1 (sym f.2)) refl
+
 pub only_the_recorded : (cfg : Config) (within : Limits) → OnlyTheRecordedMayCommit cfg within
-only_the_recorded cfg within es a b c i g t l f j = recorded-alone cfg (world_of cfg within es) (numbers-always cfg within es) (always cfg within es).known a b c i g t l f j
+only_the_recorded cfg within es a b c p i g q t l f j = recorded-alone cfg (world_of cfg within es) (numbers-always cfg within es) kn a p.attempt c i g t l f
+    (subst (λ z. In (to_container c (Answer z true)) (world_of cfg within es).bag) (yes-own cfg (world_of cfg within es) kn b c p q j) j)
+  where
+    kn : Known cfg (world_of cfg within es)
+    kn = (always cfg within es).known
 
 -- The newest committed directory is the newest master's own
 

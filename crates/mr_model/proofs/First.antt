@@ -1,9 +1,10 @@
 -- What a master has launched and accepted before it ran, and as it begins to run.
-use Rattle.std.proofs.Common.{ℕ, ◌≤◌, ◌≡◌, refl, sym, ◌∙◌, subst, Bool, true, false, ◌||◌, List, [], ◌∷◌, ◌++◌, Option, Some, None, if◌then◌else◌, nat_eq, ◌⊎◌, inl, inr}
+use Rattle.std.proofs.Common.{ℕ, ◌≤◌, ◌≡◌, refl, sym, ◌∙◌, subst, Bool, true, false, ◌||◌, List, [], ◌∷◌, ◌++◌, Option, Some, None, if◌then◌else◌, nat_eq, ◌⊎◌, inl, inr, arith}
 use Rattle.std.proofs.lemmas.Bool.{false≢true, true≢false, eqb-true}
+use Rattle.mr_model.specs.Records.{records_below}
 use Rattle.mr_model.specs.Packets.{Config, Packet, Store, Reply}
 use Rattle.mr_model.specs.Hearing.{Seen, Phase, Running, Failing, is_running}
-use Rattle.mr_model.specs.Duties.{Master_step, Came, Launches, Expires, Asks, seen, next_seen, attempts_of, newest_maps, phase_told}
+use Rattle.mr_model.specs.Duties.{Master_step, Came, Launches, Expires, Asks, seen, next_seen, attempts_of, newest_maps, phase_told, winners_of}
 use Rattle.mr_model.specs.World.{World, Event, Master_act, master_act, seen_by, opening_world}
 use Rattle.mr_model.specs.Effect.{effect, not_now, run, with_master_step}
 use Rattle.mr_model.specs.Claims.{Limits, In, world_of}
@@ -18,6 +19,8 @@ use Rattle.mr_model.proofs.Recorded.{newest-maps, attempts-maps}
 use Rattle.mr_model.proofs.Accounted.{told-accepted, told-fresh, to-running, known-accepted}
 use Rattle.mr_model.proofs.Exactly.{Counted, always-counted}
 use Rattle.mr_model.proofs.Outcomes.{ever}
+use Rattle.mr_model.proofs.Found.{always}
+use Rattle.mr_model.proofs.Takes_over.{begins-newest, all-winners}
 
 -- Before it ran
 
@@ -119,5 +122,12 @@ begins_with_its_winners cfg within = record {
   none_recorded = λ es e k o t a i. attempts-maps _
       (newest-maps (seen_by cfg (world_of cfg within (es ++ e ∷ [])) k).known (seen_by cfg (world_of cfg within (es ++ e ∷ [])) k).history [] ((ever cfg within (es ++ e ∷ [])).records.noted k).reads tt) a
       (subst (λ z. In a z) (begun-after cfg within es e k o t).1 i);
-  winners = λ es k l e. ((always-counted cfg within es).accounted k l).wins (running-takes (seen_by cfg (world_of cfg within es) k).phase e);
+  winners = earlier;
+  newest = begins-newest cfg within;
+  whole = λ es e k o t. let n = begins-newest cfg within es e k o t in
+      all-winners cfg (world_of cfg within (es ++ e ∷ [])) (always cfg within (es ++ e ∷ [])) k n (begun-after cfg within es e k o t).0 (earlier (es ++ e ∷ []) k (omega (arith, n)) t);
 }
+  where
+    earlier : (es : List Event) (k : ℕ) → k ≤ (world_of cfg within es).fence → is_running (seen_by cfg (world_of cfg within es) k).phase ≡ true →
+        (seen_by cfg (world_of cfg within es) k).winners ≡ winners_of (records_below (world_of cfg within es).history k) cfg.job cfg.reduces
+    earlier es k l e = ((always-counted cfg within es).accounted k l).wins (running-takes (seen_by cfg (world_of cfg within es) k).phase e)

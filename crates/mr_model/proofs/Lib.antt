@@ -80,6 +80,7 @@ pub mod Begins
 pub mod Renamed
 pub mod Accounted
 pub mod Exactly
+pub mod Takes_over
 pub mod First
 pub mod Owned
 pub mod Ranges

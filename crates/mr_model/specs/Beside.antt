@@ -32,11 +32,12 @@ pub record RecordedIsSucceeded (cfg : Config) (within : Limits) : Type 0 where
   pub recorded : (es : List Event) (a : Attempt) → (world_of cfg within es).is_master (world_of cfg within es).fence ≡ true → is_at_work (seen_by cfg (world_of cfg within es) (world_of cfg within es).fence).phase ≡ true →
       HasSucceeded (seen_by cfg (world_of cfg within es) (world_of cfg within es).fence) a → IsRecorded cfg (world_of cfg within es) a
 
--- Where an attempt is recorded, no container of its master and of its reduce other than its own lives, is not barred and was sent a yes. (The recorded attempt's own
--- may be dead: DoneAck ends it before the flush.)
+-- Where an attempt is recorded, no container of its master that was launched for another attempt at its reduce lives, is not barred and was sent a yes, for whatever attempt.
+-- (The recorded attempt's own may be dead: DoneAck ends it before the flush.)
 abbrev pub OnlyTheRecordedMayCommit : Config → Limits → Type 0
-OnlyTheRecordedMayCommit cfg within = (es : List Event) (a b : Attempt) (c : ContainerId) → IsRecorded cfg (world_of cfg within es) a → c.app ≡ generation a → b.task ≡ a.task →
-    (world_of cfg within es).is_alive c ≡ true → has (world_of cfg within es).barred b ≡ false → In (record { to = Container c; body = Answer b true }) (world_of cfg within es).bag → b ≡ a
+OnlyTheRecordedMayCommit cfg within = (es : List Event) (a b : Attempt) (c : ContainerId) (p : Place) → IsRecorded cfg (world_of cfg within es) a → c.app ≡ generation a →
+    (world_of cfg within es).place c ≡ Some p → p.attempt.task ≡ a.task → (world_of cfg within es).is_alive c ≡ true → has (world_of cfg within es).barred p.attempt ≡ false →
+    In (record { to = Container c; body = Answer b true }) (world_of cfg within es).bag → p.attempt ≡ a
 
 -- a master that runs, or fails
 abbrev pub runs_or_fails : Phase → Bool
@@ -131,8 +132,8 @@ unfoldable pub has_run : Config → ℕ → List Master_step → Bool
 has_run cfg k [] = false
 has_run cfg k (x ∷ h) = is_running (seen cfg k (x ∷ h)).phase || has_run cfg k h
 
--- Until a master runs it launches and accepts nothing, also where it stops, ends or fails by what it finds; and as it begins to run, no reduce has succeeded but those that have
--- winners among the records of the generations before it
+-- Until a master runs it launches and accepts nothing, also where it stops, ends or fails by what it finds; and as it begins to run, it is the newest, no reduce has succeeded but those that have
+-- winners among the records of the generations before it, and these are the winners among all records there are then
 pub record BeginsWithItsWinners (cfg : Config) (within : Limits) : Type 0 where
   pub launches : (es : List Event) (k : ℕ) → has_run cfg k ((world_of cfg within es).master_past k) ≡ false → (seen_by cfg (world_of cfg within es) k).launched ≡ []
   pub accepts : (es : List Event) (k : ℕ) → has_run cfg k ((world_of cfg within es).master_past k) ≡ false → (seen_by cfg (world_of cfg within es) k).accepted ≡ []
@@ -142,3 +143,7 @@ pub record BeginsWithItsWinners (cfg : Config) (within : Limits) : Type 0 where
       (a : Attempt) → In a (seen_by cfg (world_of cfg within (es ++ e ∷ [])) k).recorded → is_reduce a ≡ false
   pub winners : (es : List Event) (k : ℕ) → k ≤ (world_of cfg within es).fence → is_running (seen_by cfg (world_of cfg within es) k).phase ≡ true →
       (seen_by cfg (world_of cfg within es) k).winners ≡ winners_of (records_below (world_of cfg within es).history k) cfg.job cfg.reduces
+  pub newest : (es : List Event) (e : Event) (k : ℕ) → is_running (seen_by cfg (world_of cfg within es) k).phase ≡ false → is_running (seen_by cfg (world_of cfg within (es ++ e ∷ [])) k).phase ≡ true →
+      k ≡ (world_of cfg within (es ++ e ∷ [])).fence
+  pub whole : (es : List Event) (e : Event) (k : ℕ) → is_running (seen_by cfg (world_of cfg within es) k).phase ≡ false → is_running (seen_by cfg (world_of cfg within (es ++ e ∷ [])) k).phase ≡ true →
+      (seen_by cfg (world_of cfg within (es ++ e ∷ [])) k).winners ≡ winners_of (records (world_of cfg within (es ++ e ∷ []))) cfg.job cfg.reduces

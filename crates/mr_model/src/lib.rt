@@ -98,7 +98,8 @@ pub fn one_outcome()
 {}
 
 /// The newest master, while it runs, has found the winners of the earlier generations, and their whole files in its own generation; until it runs, if ever, it launches
-/// nothing; as it begins to, no other reduce has succeeded; and it never launches a reduce that had a winner, nor one whose success it accepted.
+/// nothing; as it begins to, no other reduce has succeeded, and these are the winners of all records; and it never launches a reduce that had a winner, nor one whose
+/// success it accepted.
 pub fn recovery_finds_the_winners()
     ensures finds { (config : Config) (within : Limits) → RecoveryFindsTheWinners config within }
     ensures first { (config : Config) (within : Limits) → BeginsWithItsWinners config within }
@@ -154,7 +155,7 @@ pub fn what_is_recorded_has_succeeded()
     ensures exactly { (config : Config) (within : Limits) → RecordedIsSucceeded config within }
 {}
 
-/// Where an attempt is recorded, no container of its master and of its reduce other than its own lives, is not barred and was sent a yes.
+/// Where an attempt is recorded, no container of its master that was launched for another attempt at its reduce lives, is not barred and was sent a yes.
 pub fn only_the_recorded_may_commit()
     ensures alone { (config : Config) (within : Limits) → OnlyTheRecordedMayCommit config within }
 {}
