@@ -89,3 +89,4 @@ pub mod Fitting
 pub mod Asked
 pub mod Made
 pub mod Stored
+pub mod Wanted

@@ -9,6 +9,7 @@ pub mod Duties
 pub mod World
 pub mod Sending
 pub mod Effect
+pub mod Wanted
 pub mod Claims
 pub mod Reachable
 pub mod Beside

@@ -21,6 +21,8 @@
 //! - what these need beside them: `what_is_recorded_has_succeeded`, `only_the_recorded_may_commit`,
 //!   `the_newest_committed_is_its_own`, `commits_are_allowed`, `attempts_hold_their_files`, `an_end_is_an_end`,
 //!   `only_started_commits`, `aborts_are_marked`;
+//! - which task is launched next, where it is asked for: one that may be launched, the first that waits, maps before reduces
+//!   (`the_wanted_task_may_be_launched`);
 //! - that it is not said of nothing: `a_marked_world_is_reached` (one job, event by event, to its told success);
 //! - what ties the definitions to the crates beneath: paths are the layout's (`paths_are_the_layouts`); each call
 //!   of the namespace, for callers with and without an attempt, and of the history, in both versions, is answered
@@ -54,6 +56,7 @@ ghost use Rattle.mr_model.specs.Reachable.{AMarkedWorldIsReached};
 ghost use Rattle.mr_model.specs.Beside.{AttemptsHoldTheirFiles, RecordedIsSucceeded, BeginsWithItsWinners, OnlyTheRecordedMayCommit, NewestCommittedIsItsOwn, CommitsAreAllowed, OverIsGoneOrBarred, OnlyStartedCommits, AbortsAreMarked};
 ghost use Rattle.mr_model.specs.Laws.{PathsAreTheLayouts, StoresAreTheModels, AppendedRecordsFit, MastersAreRaised};
 ghost use Rattle.mr_model.specs.Packets.{Config};
+ghost use Rattle.mr_model.specs.Wanted.{WantedMayBeLaunched};
 ghost use Rattle.mr_model.specs.Calls.{CallsAgree, MapCallsAgree};
 ghost use Rattle.mr_model.specs.Made.{PastsAreMade};
 ghost use Rattle.mr_model.specs.Sequential.{Job, JobLaws, BoundsOutputs, WholeIsSequential, MarkedFilesAreSequential};
@@ -224,4 +227,10 @@ pub fn calls_agree()
 /// and what is taken over, meet the conditions of `calls_agree`.
 pub fn pasts_are_made()
     ensures { PastsAreMade }
+{}
+
+/// The task that a Running master launches next may be launched, on any node. It is the first that waits, a map before all reduces, and a reduce only
+/// once every map is Succeeded.
+pub fn the_wanted_task_may_be_launched()
+    ensures { WantedMayBeLaunched }
 {}
