@@ -36,5 +36,6 @@ pub mod Given
 pub mod Expiries
 pub mod Stepping
 pub mod Sent
+pub mod Wanted
 pub mod Whole
 pub mod Stores

@@ -1,5 +1,5 @@
 -- What the machine of a master is told of its store call, and what each event is to the pasts of masters.
-use Rattle.std.proofs.Common.{ℕ, suc, ◌≡◌, refl, ◌∙◌, ap, subst, Bool, true, false, not, List, [], ◌∷◌, Option, Some, None, Err, if◌then◌else◌, nat_lt, append-nil, arith}
+use Rattle.std.proofs.Common.{ℕ, suc, ◌≡◌, refl, sym, ◌∙◌, ap, subst, Bool, true, false, not, List, [], ◌∷◌, Option, Some, None, Err, if◌then◌else◌, nat_lt, append-nil, arith}
 use Rattle.std.proofs.lemmas.Bool.{eq-eqb, ne_eqb}
 use Rattle.mr_ids.specs.declared.id.TaskId.{TaskId}
 use Rattle.mr_names.specs.declared.fault.NameFault.{NameFault}
@@ -11,6 +11,7 @@ use Rattle.mr_history.specs.State.{State}
 use Rattle.mr_history.specs.Segment as segment
 use Rattle.mr_history.specs.Calls as segments
 use Rattle.mr_master_model.specs.declared.store.StoreAnswer.TheVariants as answer
+use Rattle.mr_master_model.specs.Next as next
 use Rattle.mr_model.specs.Content.{Superseded}
 use Rattle.mr_model.specs.Packets.{Config, Store, Names, Append_record, Flush, Read_history, Fault, Refused, Envelope, Master, Container, Node}
 use Rattle.mr_model.specs.Duties.{Master_step, Came, Launches, Expires, Asks}
@@ -26,8 +27,11 @@ use Rattle.mr_model.proofs.Found.{always}
 use Rattle.mr_model.proofs.Stores.{stores_are_the_models}
 use Rattle.mr_model.proofs.Stored.{superseded, stores_go_on}
 use Rattle.mr_model.proofs.Living.{masters_are_raised}
-use Rattle.mr_agree.specs.Steps.{steps, answer_of, answer_of_names}
-use Rattle.mr_agree.specs.Stores.{MasterMoves, MastersRest, MasterStarts, MasterCrashes, MastersGoOn, StoreCallsAgree, told_of, told_in, is_of_none, is_to_a_master}
+use Rattle.mr_model.proofs.Made.{pasts_are_made}
+use Rattle.mr_agree.specs.Steps.{setting, step_of, steps, answer_of, answer_of_names}
+use Rattle.mr_agree.specs.Agreement.{machine_seen}
+use Rattle.mr_agree.specs.Stores.{MasterMoves, MastersRest, MasterStarts, MasterCrashes, MastersGoOn, StoreCallsAgree, told_of, told_in, is_of_none, is_to_a_master, MastersSend}
+use Rattle.mr_agree.proofs.Whole.{masters_agree}
 
 -- ---- the pasts
 
@@ -232,4 +236,21 @@ store_calls_agree = record {
     moves = calls cfg (world_of cfg within es) k f call d;
     left = stores_go_on.history_called cfg within es s h k f call q st m d e room;
   };
+}
+
+-- ---- what a machine sends
+
+sends-so : (cfg : Config) (within : Limits) (es : List Event) (e : Event) (k : ℕ) (x : Master_step) → not_now cfg (world_of cfg within es) e ≡ None →
+    master_act cfg (world_of cfg within es) e ≡ Some (record { who = k; step = x }) → MasterMoves cfg (world_of cfg within es) e k x →
+    next.sent_by (setting cfg k) (machine_seen cfg k ((world_of cfg within es).master_past k)) (step_of x) ≡ sent cfg (world_of cfg within es) e
+sends-so cfg within es e k x n a m =
+    (masters_agree cfg k ((world_of cfg within es).master_past k) (pasts_are_made.made cfg within es k)).sends x (pasts_are_made.next cfg within es e (record { who = k; step = x }) n a) ∙ sym m.sends
+
+pub masters_send : MastersSend
+unfolding master_act
+masters_send = record {
+  launches = λ cfg within es k t n q. sends-so cfg within es (LaunchOn k t n) k _ q refl (launches cfg (world_of cfg within es) k t n);
+  expires = λ cfg within es k n q. sends-so cfg within es (Expire k n) k _ q refl (expires cfg (world_of cfg within es) k n);
+  hears = λ cfg within es i k e c t q. sends-so cfg within es (Deliver i) k _ q (rw (c, t) refl) (hears cfg (world_of cfg within es) i k e c t);
+  calls = λ cfg within es k f call d q. sends-so cfg within es (Duty k f) k _ q (ap (duty_act (world_of cfg within es) k f) d) (calls cfg (world_of cfg within es) k f call d);
 }

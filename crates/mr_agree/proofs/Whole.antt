@@ -27,6 +27,7 @@ use Rattle.mr_agree.proofs.Late.{late_steps_keep}
 use Rattle.mr_agree.proofs.Falling.{Falls, running-sound, running-falls-on, late-falls-on}
 use Rattle.mr_agree.proofs.Packets.{came-sent}
 use Rattle.mr_agree.proofs.Expiries.{expiries_send}
+use Rattle.mr_agree.proofs.Wanted.{wanted-at}
 use Rattle.mr_agree.proofs.Sent.{asks-sent, launch-sent, idle-sent}
 
 -- ---- where it stands
@@ -95,9 +96,11 @@ masters_agree cfg k h made = by (has_not_run (seen cfg k h).phase) refl
       point = point cfg k h (machine_seen cfg k h) made (early-stands cfg k h (machine_seen cfg k h) o);
       sends = sends-early cfg k h made y;
       known = ap (λ (x : read.Seen). x.known) o.machine-is ∙ ap (λ (s : Seen). s.known) (sym o.seen-is);
+      wanted = wanted-at cfg k h (machine_seen cfg k h) made (early-stands cfg k h (machine_seen cfg k h) o);
     }
     by false late = let o = stays cfg k h made late in record {
       point = point cfg k h (machine_seen cfg k h) made o.holds.stands;
       sends = stays-sends cfg k h (machine_seen cfg k h) made o late;
       known = o.holds.known;
+      wanted = wanted-at cfg k h (machine_seen cfg k h) made o.holds.stands;
     }

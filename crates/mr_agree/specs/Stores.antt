@@ -8,6 +8,8 @@ use Rattle.mr_history.specs.State.{State}
 use Rattle.mr_history.specs.Calls as segments
 use Rattle.mr_master_model.specs.declared.store.StoreAnswer.{StoreAnswer}
 use Rattle.mr_master_model.specs.declared.store.StoreAnswer.TheVariants as answer
+use Rattle.mr_master_model.specs.Past as machine
+use Rattle.mr_master_model.specs.Next as next
 use Rattle.mr_packet.specs.declared.packet.Address.{Address}
 use Rattle.mr_model.specs.Packets.{Config, Store, Names, Envelope, Master, Container, Node}
 use Rattle.mr_model.specs.Duties.{Master_step, Came, Launches, Expires, Asks, next_seen}
@@ -18,7 +20,8 @@ use Rattle.mr_model.specs.Claims.{Limits, world_of}
 use Rattle.mr_model.specs.Stores.{call_of_history, HasRoom}
 use Rattle.mr_model.specs.Actors.{Carries}
 use Rattle.mr_model.specs.Stored.{StoresStand, left_in, master}
-use Rattle.mr_agree.specs.Steps.{step_of, steps, answer_of}
+use Rattle.mr_agree.specs.Steps.{setting, step_of, steps, answer_of}
+use Rattle.mr_agree.specs.Agreement.{machine_seen}
 
 -- ---- what each event is to the pasts of masters
 
@@ -103,3 +106,16 @@ pub record StoreCallsAgree : Type 0 where
   pub history : (cfg : Config) (within : Limits) (es : List Event) (s : namespace.State) (h : State) (k : ℕ) (f : Weather) (call : Store) (q : segments.Call) → StoresStand s h (world_of cfg within es) →
       (world_of cfg within es).is_master k ≡ true → duty cfg (world_of cfg within es) k ≡ Some call → call_of_history call ≡ Some q → (is_applied (world_of cfg within es) k f ≡ true → HasRoom h k call) →
       CallAgrees cfg (world_of cfg within es) k f call (told_of q (segments.call_of h k q).0) s (left_in f h (segments.call_of h k q).1)
+
+-- ---- what a machine sends
+
+-- In a run, the packets of each event of a master are those that its machine, which has seen the same, sends by that step.
+pub record MastersSend : Type 0 where
+  pub launches : (cfg : Config) (within : Limits) (es : List Event) (k : ℕ) (t : TaskId) (n : ℕ) → not_now cfg (world_of cfg within es) (LaunchOn k t n) ≡ None →
+      next.sent_by (setting cfg k) (machine_seen cfg k ((world_of cfg within es).master_past k)) (machine.Launches t n) ≡ sent cfg (world_of cfg within es) (LaunchOn k t n)
+  pub expires : (cfg : Config) (within : Limits) (es : List Event) (k n : ℕ) → not_now cfg (world_of cfg within es) (Expire k n) ≡ None →
+      next.sent_by (setting cfg k) (machine_seen cfg k ((world_of cfg within es).master_past k)) (machine.Expires n) ≡ sent cfg (world_of cfg within es) (Expire k n)
+  pub hears : (cfg : Config) (within : Limits) (es : List Event) (i k : ℕ) (e : Envelope) → Carries (world_of cfg within es) i e → e.to ≡ Master k → not_now cfg (world_of cfg within es) (Deliver i) ≡ None →
+      next.sent_by (setting cfg k) (machine_seen cfg k ((world_of cfg within es).master_past k)) (machine.Hears e.body) ≡ sent cfg (world_of cfg within es) (Deliver i)
+  pub calls : (cfg : Config) (within : Limits) (es : List Event) (k : ℕ) (f : Weather) (call : Store) → duty cfg (world_of cfg within es) k ≡ Some call → not_now cfg (world_of cfg within es) (Duty k f) ≡ None →
+      next.sent_by (setting cfg k) (machine_seen cfg k ((world_of cfg within es).master_past k)) (machine.Answered (answer_of call (reply_under f (reply_of (world_of cfg within es) k call)))) ≡ sent cfg (world_of cfg within es) (Duty k f)

@@ -6,17 +6,19 @@ use Rattle.mr_model.specs.Packets.{Config}
 use Rattle.mr_model.specs.Hearing.{Seen}
 use Rattle.mr_model.specs.Duties.{Master_step, seen, next_seen}
 use Rattle.mr_model.specs.Sending.{step_sends}
+use Rattle.mr_model.specs.Wanted.{wanted}
 use Rattle.mr_model.specs.Made.{IsMade, AllMade}
 use Rattle.mr_agree.specs.Steps.{setting, step_of}
 use Rattle.mr_agree.specs.Agreement.{machine_seen}
 use Rattle.mr_agree.specs.Points.{PointAgrees}
 
 -- The phase, the next store call with what it is for, why nothing is launched and no node given up, the next attempt, what is sent at each step that can be
--- made then, and which incarnation of each node is known.
+-- made then, which incarnation of each node is known, and the task that is launched next.
 pub record MasterAgrees (cfg : Config) (k : ℕ) (s : Seen) (m : read.Seen) : Type 0 where
   pub point : PointAgrees cfg k s m
   pub sends : (x : Master_step) → IsMade cfg k s x → next.sent_by (setting cfg k) m (step_of x) ≡ step_sends cfg s (next_seen cfg k s x) x
   pub known : m.known ≡ s.known
+  pub wanted : read.wanted (setting cfg k) m ≡ wanted cfg s
 
 -- Wherever a master's past has led, whatever happened.
 abbrev pub MastersAgree : Type 0

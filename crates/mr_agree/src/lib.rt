@@ -7,8 +7,8 @@
 //! Every past here is any list of steps that events can make (`AllMade`), as each master's past in each run is (`pasts_are_made` of `mr_model`).
 //!
 //! **`masters_agree`**: wherever such a past has led, while the master opens, recovers, runs, fails, commits, and once it is over, the machine that has seen the
-//! same steps has its phase, its next store call with what it is for, its refusals of launches and expiries and its next attempt, knows the same
-//! incarnations, and sends the same packets in the same order at each step that can be made then.
+//! same steps has its phase, its next store call with what it is for, its refusals of launches and expiries and its next attempt, wants the same task
+//! launched next, knows the same incarnations, and sends the same packets in the same order at each step that can be made then.
 //!
 //! It rests on these, which are laws of their own:
 //!
@@ -21,8 +21,8 @@
 //! - the machine stands where the master does where it begins to run (`running_begins`), or where it ends before that (`ends_early`); it stays so at
 //!   every step while the master runs (`steps_keep`), and at every step once it runs no more (`late_steps_keep`);
 //! - for whoever runs machines of masters: what one is told of its store call is what the stores answered, in each weather, and
-//!   both then stand for the world's (`store_calls_agree`); which step each event is to which past, and that its packets are that step's
-//!   (`masters_go_on`).
+//!   both then stand for the world's (`store_calls_agree`); which step each event is to which past (`masters_go_on`), and that the packets
+//!   of the event are those that the machine sends by it (`masters_send`).
 #![tactic(auto)]
 
 ghost use Rattle.mr_agree.specs.Alike.{TasksStayAlike};
@@ -30,12 +30,12 @@ ghost use Rattle.mr_agree.specs.Begins.{BeginningsAgree};
 ghost use Rattle.mr_agree.specs.Holds.{EndsEarly, LateStepsKeep, LaunchesAgree, RunningBegins, StepsKeep};
 ghost use Rattle.mr_agree.specs.Points.{PointsAgree};
 ghost use Rattle.mr_agree.specs.Recorded.{ReducesAreRecorded};
-ghost use Rattle.mr_agree.specs.Stores.{MastersGoOn, StoreCallsAgree};
+ghost use Rattle.mr_agree.specs.Stores.{MastersGoOn, MastersSend, StoreCallsAgree};
 ghost use Rattle.mr_agree.specs.Whole.{MastersAgree};
 ghost use Rattle.mr_agree.specs.Agreement.{TurnsAgree};
 
-/// Wherever a master's past has led, it acts as its machine, which has seen the same: in its phase, its next store call, its refusals, its next attempt, and what
-/// it sends at each step.
+/// Wherever a master's past has led, it acts as its machine, which has seen the same: in its phase, its next store call, its refusals, its next attempt, the
+/// task that it wants launched next, and what it sends at each step.
 pub fn masters_agree()
     ensures { MastersAgree }
 {}
@@ -101,4 +101,9 @@ pub fn store_calls_agree()
 /// What each other event is to the pasts of masters' machines: the step by which one grows, with the packets of the event, and that all others stay.
 pub fn masters_go_on()
     ensures { MastersGoOn }
+{}
+
+/// In every run, the packets of each event of a master are those that its machine sends by that step.
+pub fn masters_send()
+    ensures { MastersSend }
 {}
