@@ -1,21 +1,18 @@
 -- What an answer changes and sends while Failing.
-use Rattle.std.proofs.Common.{◌≡◌, refl, sym, ap, subst, ◌∙◌, Bool, true, false, ◌||◌, List, [], ◌++◌, Option, Some, None, Ok, Err, if◌then◌else◌, true≢false}
+use Rattle.std.proofs.Common.{◌≡◌, refl, sym, ap, ◌∙◌, Bool, true, false, ◌||◌, [], ◌++◌, Option, Some, None, Ok, Err, if◌then◌else◌, true≢false}
 use Rattle.std.specs.List.{list_any}
 use Rattle.std.specs.Option.{is_some}
-use Rattle.mr_packet.specs.declared.packet.Envelope.{Envelope}
 use Rattle.mr_names.specs.declared.fault.NameFault.TheVariants as names
 use Rattle.mr_master_model.specs.declared.phase.DutyName.{DutyName}
 use Rattle.mr_master_model.specs.declared.phase.DutyName.TheVariants as name
 use Rattle.mr_master_model.specs.declared.setting.Setting.{Setting}
 use Rattle.mr_master_model.specs.declared.store.StoreAnswer.{StoreAnswer}
 use Rattle.mr_master_model.specs.declared.store.StoreAnswer.TheVariants as answer
-use Rattle.mr_master_model.specs.Past.{Work, Fails, Ends, Stops}
+use Rattle.mr_master_model.specs.Past.{Fails, Ends, Stops}
 use Rattle.mr_master_model.specs.Readings.{Seen, is_running, or_else}
 use Rattle.mr_master_model.specs.Duty.{Duty, duty, duty_at, record_duty, abort_duty}
 use Rattle.mr_master_model.specs.Answered.{is_fine, changed, work_after, with_work, after_due, failing_after, name_of, is_unsuccessful}
 use Rattle.mr_master_model.specs.Sends.{work_sends, outcome_of, due_sends}
-use Rattle.mr_master_model.specs.Next.{with_kills}
-use Rattle.mr_master.specs.State.{Master, Keeps}
 use Rattle.mr_master.specs.Kinds.{passes_abort, aborted}
 use Rattle.mr_master.specs.Records.{written_by}
 use Rattle.mr_master.specs.Answering.{answered_sends, answered_seen}
@@ -112,10 +109,6 @@ appended-after w s a b f = λ i. if (sym f i) then Fails b else Stops
 
 pub flushed-after : (w : Setting) (s : Seen) (a : StoreAnswer) (b : Bool) → is_fine a ≡ true → Fails (b || list_any is_unsuccessful s.tail) ≡ failing_after w s a b (Some name.Flush)
 flushed-after w s a b f = λ i. if (sym f i) then Fails (b || list_any is_unsuccessful s.tail) else Stops
-
-pub abort-keep : {m : Master} (w : Setting) (s : Seen) (a : StoreAnswer) (work : Work) (es : List Envelope) → es ≡ outcome_of w (aborted a) → work ≡ aborted a
-    → Keeps m w (with_kills es (record s { work = work })) → Keeps m w (with_kills (outcome_of w (aborted a)) (record s { work = aborted a }))
-abort-keep {m} w s a work es e q k = subst (λ (x : Seen). Keeps m w x) (λ i. with_kills (e i) (record s { work = q i })) k
 
 pub passed : (a : StoreAnswer) → passes_abort a ≡ true → Ends false ≡ aborted a
 passed a p = λ i. if (sym p i) then Ends false else Stops

@@ -29,3 +29,4 @@ pub mod Steps
 pub mod Taken
 pub mod Called
 pub mod GivenUp
+pub mod Prepared

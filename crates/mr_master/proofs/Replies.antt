@@ -1,5 +1,5 @@
 -- What an answer changes and sends, in each work.
-use Rattle.std.proofs.Common.{◌≡◌, refl, sym, ap, ◌∙◌, subst, Bool, true, false, ◌&&◌, not, cond, List, [], ◌∷◌, ◌++◌, append-nil, Option, Some, None, if◌then◌else◌, true≢false}
+use Rattle.std.proofs.Common.{◌≡◌, refl, sym, ap, ◌∙◌, Bool, true, false, ◌&&◌, not, cond, List, [], ◌∷◌, ◌++◌, append-nil, Option, Some, None, if◌then◌else◌, true≢false}
 use Rattle.std.specs.List.{find}
 use Rattle.std.specs.Option.{option_map, is_some}
 use Rattle.mr_ids.specs.Attempt.{Attempt}
@@ -17,24 +17,13 @@ use Rattle.mr_master_model.specs.Past.{Work, LooksForSuccess, LooksForFail, Look
 use Rattle.mr_master_model.specs.Readings.{Seen, is_running, is_live, or_else, tell, all_succeeded}
 use Rattle.mr_master_model.specs.Duty.{Duty, duty, duty_at, record_duty, start_duty, creates, started_mark}
 use Rattle.mr_master_model.specs.Answered.{is_fine, changed, work_after, with_work, after_due, after_duty, running_after, failing_after, name_of, recorded, tell_recorded, success_in, moved_first, with_maps}
-use Rattle.mr_master_model.specs.Sends.{work_sends, outcome_of, due_sends, duty_sends, killed_by}
-use Rattle.mr_master_model.specs.Next.{with_kills}
+use Rattle.mr_master_model.specs.Sends.{work_sends, outcome_of, due_sends, duty_sends}
 use Rattle.mr_master.specs.State.{Master, Keeps}
 use Rattle.mr_master.specs.Kinds.{is_look, is_tell}
-use Rattle.mr_master.specs.Launches.{Launched, Notes}
 use Rattle.mr_master.specs.Told.{with_deaths}
 use Rattle.mr_ids.specs.Same.{same_task}
-use Rattle.mr_master.proofs.Parts.{with-launches}
 use Rattle.mr_master.proofs.Due.{dead-outside}
-use Rattle.mr_master.specs.Answering.{answered_sends, answered_seen, answered_all}
-
--- what is sent and what is seen
-pub replies-keep : {m : Master} (w : Setting) (s t : Seen) (a : StoreAnswer) (es : List Envelope) → es ≡ answered_sends w s a → t ≡ answered_seen w s a → Keeps m w (with_kills es t) → Keeps m w (answered_all w s a)
-replies-keep {m} w s t a es e q k = subst (λ (x : Seen). Keeps m w x) (λ i. with_kills (e i) (q i)) k
-
-pub no-kills : (s : Seen) → s ≡ with_kills [] s
-unfolding killed_by
-no-kills s = refl
+use Rattle.mr_master.specs.Answering.{answered_sends, answered_seen}
 
 -- a work that does not run
 pub quiet : (w : Setting) (s : Seen) (work : Work) → is_running work ≡ false → record s { work = work } ≡ with_work w s work
@@ -189,10 +178,6 @@ moved-work s (r ∷ due) = refl
 
 -- ---- Kills that are noted
 
-pub note-keeps : {m : Master} (w : Setting) (s : Seen) (new : Launched) (es fs : List Envelope) → Notes m.launches es new → es ≡ fs → Keeps m w s → Keeps (record m { launches = new }) w (with_kills fs s)
-note-keeps {m} w s new es fs notes e k =
-    subst (λ (l : List Envelope). Keeps (record m { launches = new }) w (with_kills l s)) e (with-launches new s.launched (killed_by es s.killed) (notes s.launched s.killed k.launches) k)
-
 -- ---- the call that was due while Running
 
 -- it runs on
@@ -242,7 +227,3 @@ live-of-job m w s a k e = by (is_task w a.task) refl
 -- the end of a barred attempt
 pub death-is : (w : Setting) (s : Seen) (a : Attempt) → is_task w a.task ≡ true → with_deaths w s (a ∷ []) ≡ tell s a.task (task_call.Dies a)
 death-is w s a e = λ j. record s { calls = λ u. if (e j && same_task u a.task) then task_call.Dies a ∷ s.calls u else s.calls u }
-
--- nothing is sent
-pub quiet-keep : {m : Master} (w : Setting) (s t : Seen) (a : StoreAnswer) → [] ≡ answered_sends w s a → t ≡ answered_seen w s a → Keeps m w t → Keeps m w (answered_all w s a)
-quiet-keep {m} w s t a e q k = replies-keep w s t a [] e q (subst (λ (x : Seen). Keeps m w x) (no-kills t) k)

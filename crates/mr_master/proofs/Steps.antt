@@ -211,3 +211,7 @@ pub was-last : (h : Heard) → has_finished h ≡ true → heard.Finished ≡ h
 was-last heard.Finished e = refl
 was-last heard.More e = absurd (true≢false (sym e))
 was-last heard.Refused e = absurd (true≢false (sym e))
+
+-- whether the call was the last one, as it was heard by a copy
+pub heard-so : (s : Seen) (a : StoreAnswer) (copy : Work) (h : Heard) (b : Bool) → copy ≡ s.work → h ≡ heard_as (heard_by (left_of copy) a).0 → b ≡ has_finished h → has_finished (heard_as (heard_by (left_of s.work) a).0) ≡ b
+heard-so s a copy h b e q r = ap (λ (x : Work). has_finished (heard_as (heard_by (left_of x) a).0)) (sym e) ∙ ap (λ (x : Heard). has_finished x) (sym q) ∙ sym r

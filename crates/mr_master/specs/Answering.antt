@@ -9,17 +9,12 @@ use Rattle.mr_master_model.specs.declared.store.StoreAnswer.{StoreAnswer}
 use Rattle.mr_master_model.specs.Readings.{Seen}
 use Rattle.mr_master_model.specs.Answered.{with_work, changed, work_after}
 use Rattle.mr_master_model.specs.Sends.{work_sends, outcome_of}
-use Rattle.mr_master_model.specs.Next.{with_kills}
 
 abbrev pub answered_sends : Setting → Seen → StoreAnswer → List Envelope
 answered_sends w s a = work_sends w s a s.work ++ outcome_of w (work_after w s a s.work)
 
 abbrev pub answered_seen : Setting → Seen → StoreAnswer → Seen
 answered_seen w s a = with_work w (changed w s a s.work) (work_after w s a s.work)
-
--- with the Kills among what is sent
-abbrev pub answered_all : Setting → Seen → StoreAnswer → Seen
-answered_all w s a = with_kills (answered_sends w s a) (answered_seen w s a)
 
 -- a call is due
 abbrev pub IsDue : Master → Type 0

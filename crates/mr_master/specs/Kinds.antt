@@ -43,8 +43,12 @@ is_look _ = false
 abbrev pub looked_on : Work → Work
 looked_on LooksForSuccess = LooksForFail
 looked_on LooksForFail = LooksForStarted
-looked_on LooksForStarted = Reads
-looked_on work = work
+looked_on _ = Reads
+
+-- what is next where the mark is there
+abbrev pub found_by : Work → Work
+found_by LooksForSuccess = Ends true
+found_by _ = Ends false
 
 -- ---- marks are created, and a failed job commit is aborted
 
@@ -54,15 +58,10 @@ is_tell TellsFail = true
 is_tell AbortsCommit = true
 is_tell _ = false
 
--- which outcome it tells if it ends
-abbrev pub ending : Work → Bool
-ending LooksForSuccess = true
-ending TellsSuccess = true
-ending _ = false
-
-abbrev pub is_ended : Work → Bool
-is_ended (Ends succeeded) = true
-is_ended _ = false
+-- where the job ended: whether it succeeded
+abbrev pub ends_as : Work → Option Bool
+ends_as (Ends succeeded) = Some succeeded
+ends_as _ = None
 
 -- ---- the abort of a job that failed: nothing to delete is well
 

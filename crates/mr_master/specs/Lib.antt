@@ -16,3 +16,4 @@ pub mod Launching
 pub mod Leaving
 pub mod Expiring
 pub mod Taking
+pub mod Ready

@@ -1,67 +1,53 @@
-//! The answers of the calls that are due while Failing.
-ghost use Rattle.std.specs.Prelude.{◌≡◌, ◌||◌, [], IfOk, OnOk, OnErr};
+//! What is ready for the answers of the calls that are due while Failing.
+ghost use Rattle.std.specs.Prelude.{◌≡◌, ◌<◌, ◌||◌, IfOk};
 ghost use Rattle.mr_master_model.specs.Past.{Fails};
-ghost use Rattle.mr_master.specs.State.{Moves, Reads, Unchanged};
 ghost use Rattle.mr_master.specs.Kinds.{passes_abort, aborted};
-ghost use Rattle.mr_master_model.specs.Sends.{outcome_of};
-ghost use Rattle.mr_master_model.specs.Next.{with_kills};
-ghost use Rattle.mr_master.specs.Answering.{IsDue, answered_sends, answered_all};
+ghost use Rattle.mr_master.specs.Answering.{IsDue};
+ghost use Rattle.mr_master.specs.Ready.{IsReadyDue};
 
+use crate::change::Change;
 use crate::machine::Machine;
-use crate::packets::push_outcome;
+use crate::ready::Ready;
 use crate::store::is_fine;
 use crate::work::Work;
 use mr_master_model::StoreAnswer;
 use mr_names::NameFault;
-use mr_packet::Envelope;
 use std::alloc::AllocError;
 
 impl Machine {
-    // The call that was due while Failing was answered: an append, a flush, or the abort.
-    pub fn answer_failing(
-        &mut self,
-        is_stable: bool,
-        answer: &StoreAnswer,
-    ) -> Result<Vec<Envelope>, AllocError>
-        requires fails { self.old.work ≡ Fails is_stable }
-        requires due { IsDue self.old }
-        ensures sent { IfOk result (λ packets. Reads self.old (λ w s. answered_sends w s answer.now) packets.items) }
-        ensures moves { OnOk result (Moves self.old (λ w s. answered_all w s answer.now) self.new) }
-        ensures err { OnErr result (Unchanged self.old self.new) }
+    // The call that is due while Failing is answered: an append, a flush, or the abort.
+    pub fn ready_failing(&self, is_stable: bool, answer: &StoreAnswer) -> Result<Ready, AllocError>
+        requires fails { self.now.work ≡ Fails is_stable }
+        requires due { IsDue self.now }
+        requires room { 0 < self.now.writing.tail_room }
+        ensures { IfOk result (λ ready. IsReadyDue self.now answer.now ready) }
     {
         let Some(appends) = self.writing.next() else {
-            let packets = self.answer_abort(answer)?;
-            return Ok(packets);
+            let ready = self.becoming(aborted(answer))?;
+            return Ok(ready);
         };
         if !is_fine(answer) {
-            self.work = Work::stopped();
-            return Ok(Vec::new(self.alloc));
+            let ready = self.becoming(Work::stopped())?;
+            return Ok(ready);
         }
         if appends {
-            self.append()?;
-            return Ok(Vec::new(self.alloc));
+            return Ok(Ready::silent(self.alloc, Change::Appends));
         }
         let unsuccessful = self.writing.is_unsuccessful();
-        let packets = self.flush_told()?;
-        self.work = Work::fails_so(either(is_stable, unsuccessful));
-        Ok(packets)
+        let work = Work::fails_so(either(is_stable, unsuccessful));
+        let packets = self.flush_packets()?;
+        Ok(Ready::new(packets, Change::Flushes(work)))
     }
+}
 
-    // The abort was answered: it passes, also where there is nothing to delete, and then the job ended.
-    fn answer_abort(&mut self, answer: &StoreAnswer) -> Result<Vec<Envelope>, AllocError>
-        ensures sent { IfOk result (λ packets. Reads self.old (λ w s. outcome_of w (aborted answer.now)) packets.items) }
-        ensures moves { OnOk result (Moves self.old (λ w s. with_kills (outcome_of w (aborted answer.now)) (record s { work = aborted answer.now })) self.new) }
-        ensures err { OnErr result (self.new ≡ self.old) }
-    {
-        if !passes_abort(answer) {
-            self.work = Work::stopped();
-            return Ok(Vec::new(self.alloc));
-        }
-        let mut packets = Vec::new(self.alloc);
-        push_outcome(&mut packets, self.setting.nodes, false)?;
-        self.work = Work::ends(false);
-        self.note(&packets);
-        Ok(packets)
+// What is next after the abort: it passes, also where there is nothing to delete, and then the job ended.
+fn aborted(answer: &StoreAnswer) -> Work
+    ensures { result ≡ aborted answer.now }
+{
+    if passes_abort(answer) {
+        Work::ends(false)
+    } else {
+        Work::stopped()
     }
 }
 

@@ -1,14 +1,16 @@
-//! The answers of a committer's calls: setup, recovery, job commit.
-ghost use Rattle.std.specs.Prelude.{◌≡◌, true, [], IfOk, OnOk, OnErr};
-ghost use Rattle.mr_master_model.specs.Next.{with_kills};
+//! What is ready for the answers of a committer's calls: setup, recovery, job commit.
+ghost use Rattle.std.specs.Prelude.{◌≡◌, true, IfOk};
+ghost use Rattle.mr_master_model.specs.Readings.{is_running};
 ghost use Rattle.mr_master.specs.Heard.{has_finished};
 ghost use Rattle.mr_master.specs.Kinds.{is_step, finished_by};
-ghost use Rattle.mr_master.specs.State.{Moves, Reads};
-ghost use Rattle.mr_master.specs.Taking.{winner_of, won_of};
-ghost use Rattle.mr_master.specs.Answering.{answered_sends, answered_all};
+ghost use Rattle.mr_master.specs.State.{Reads};
+ghost use Rattle.mr_master.specs.Taking.{winner_of, won_of, after_table};
+ghost use Rattle.mr_master.specs.Ready.{Prepares, IsReadyDue};
 
+use crate::change::Change;
 use crate::machine::Machine;
 use crate::packets::push_won;
+use crate::ready::Ready;
 use crate::store::Heard;
 use crate::work::Work;
 use mr_master_model::StoreAnswer;
@@ -16,23 +18,30 @@ use mr_packet::Envelope;
 use std::alloc::AllocError;
 
 impl Machine {
-    // A call of a committer's table was answered. After the last one what is taken over is entered, and told to every node.
-    pub fn answer_step(&mut self, answer: StoreAnswer) -> Result<Vec<Envelope>, AllocError>
-        requires { is_step self.old.work ≡ true }
-        ensures sent { IfOk result (λ packets. Reads self.old (λ w s. answered_sends w s answer) packets.items) }
-        ensures moves { OnOk result (Moves self.old (λ w s. answered_all w s answer) self.new) }
-        ensures err { OnErr result (self.new ≡ self.old) }
+    // A call of a committer's table is answered. It is heard by a copy of what is left of the table.
+    pub fn ready_step(&self, answer: StoreAnswer) -> Result<Ready, AllocError>
+        requires { is_step self.now.work ≡ true }
+        ensures { IfOk result (λ ready. IsReadyDue self.now answer ready) }
+    {
+        let mut work = self.work.copy(self.alloc)?;
+        let heard = work.step(answer)?;
+        if !has_finished(heard) {
+            let ready = self.becoming(work)?;
+            return Ok(ready);
+        }
+        let ready = self.ready_finished()?;
+        Ok(ready)
+    }
+
+    // The call was the last one: what is taken over will be entered, and told to every node.
+    fn ready_finished(&self) -> Result<Ready, AllocError>
+        requires { is_step self.now.work ≡ true }
+        ensures { IfOk result (λ ready. Prepares self.now ready (λ w s. won_of w (winner_of s.work)) (λ w s. record s { calls = (after_table w s (winner_of s.work) (is_running (finished_by w s s.work))).calls; work = finished_by w s s.work })) }
     {
         let next = self.next_work()?;
         let tasks = self.tasks_after(next.is_running())?;
         let packets = self.won_packets()?;
-        let heard = self.work.step(answer, next)?;
-        if !has_finished(heard) {
-            return Ok(Vec::new(self.alloc));
-        }
-        self.tasks = tasks;
-        self.note(&packets);
-        Ok(packets)
+        Ok(Ready::new(packets, Change::Enters(tasks, next)))
     }
 
     // What is next after the last call of the table.

@@ -1,60 +1,54 @@
-//! The answers of a master's store calls.
-ghost use Rattle.std.specs.Prelude.{◌≡◌, ◌<◌, true, [], IfOk, OnOk, OnErr, if◌then◌else◌};
-ghost use Rattle.mr_master_model.specs.Past.{Runs, Fails};
-ghost use Rattle.mr_master_model.specs.Next.{with_kills};
-ghost use Rattle.mr_master.specs.Kinds.{is_look, is_tell, is_ended};
-ghost use Rattle.mr_master.specs.State.{Moves, Reads};
-ghost use Rattle.mr_master.specs.Answering.{answered_sends, answered_all};
+//! What is ready for the answers of looks for marks, of marks that are created, and wherever the work alone changes.
+ghost use Rattle.std.specs.Prelude.{◌≡◌, true, IfOk};
+ghost use Rattle.mr_master_model.specs.Sends.{outcome_of};
+ghost use Rattle.mr_master.specs.Kinds.{is_look, is_tell};
+ghost use Rattle.mr_master.specs.State.{Reads};
+ghost use Rattle.mr_master.specs.Ready.{Prepares, IsReadyDue};
 
+use crate::change::Change;
 use crate::machine::Machine;
 use crate::packets::push_outcome;
+use crate::ready::Ready;
+use crate::work::Work;
 use mr_master_model::StoreAnswer;
 use mr_packet::Envelope;
-use std::alloc::{AllocError, Global};
+use std::alloc::AllocError;
 
 impl Machine {
-    // A look for a mark was answered.
-    pub fn answer_look(&mut self, answer: &StoreAnswer) -> Result<Vec<Envelope>, AllocError>
-        requires { is_look self.old.work ≡ true }
-        ensures sent { IfOk result (λ packets. Reads self.old (λ w s. answered_sends w s answer.now) packets.items) }
-        ensures moves { OnOk result (Moves self.old (λ w s. answered_all w s answer.now) self.new) }
-        ensures err { OnErr result (self.new ≡ self.old) }
+    // A look for a mark is answered.
+    pub fn ready_look(&self, answer: &StoreAnswer) -> Result<Ready, AllocError>
+        requires { is_look self.now.work ≡ true }
+        ensures { IfOk result (λ ready. IsReadyDue self.now answer.now ready) }
+    {
+        let ready = self.becoming(self.work.look(answer))?;
+        Ok(ready)
+    }
+
+    // The creation of a mark, or the abort after COMMIT_FAIL, is answered.
+    pub fn ready_tell(&self, answer: &StoreAnswer) -> Result<Ready, AllocError>
+        requires { is_tell self.now.work ≡ true }
+        ensures { IfOk result (λ ready. IsReadyDue self.now answer.now ready) }
+    {
+        let ready = self.becoming(self.work.told(answer))?;
+        Ok(ready)
+    }
+
+    // The work alone changes. Where the job ended with it, every node is told.
+    pub fn becoming(&self, work: Work) -> Result<Ready, AllocError>
+        ensures { IfOk result (λ ready. Prepares self.now ready (λ w s. outcome_of w work) (λ w s. record s { work = work })) }
+    {
+        let packets = self.outcome_packets(&work)?;
+        Ok(Ready::new(packets, Change::Becomes(work)))
+    }
+
+    // Where the job ended, the outcome, to every node.
+    fn outcome_packets(&self, work: &Work) -> Result<Vec<Envelope>, AllocError>
+        ensures { IfOk result (λ packets. Reads self.now (λ w s. outcome_of w work.now) packets.items) }
     {
         let mut packets = Vec::new(self.alloc);
-        push_outcome(&mut packets, self.setting.nodes, self.work.ending())?;
-        self.work.look(answer);
-        let sent = self.settle(packets);
-        Ok(sent)
+        if let Some(succeeded) = work.outcome() {
+            push_outcome(&mut packets, self.setting.nodes, succeeded)?;
+        }
+        Ok(packets)
     }
-
-    // The creation of a mark, or the abort after COMMIT_FAIL, was answered.
-    pub fn answer_tell(&mut self, answer: &StoreAnswer) -> Result<Vec<Envelope>, AllocError>
-        requires { is_tell self.old.work ≡ true }
-        ensures sent { IfOk result (λ packets. Reads self.old (λ w s. answered_sends w s answer.now) packets.items) }
-        ensures moves { OnOk result (Moves self.old (λ w s. answered_all w s answer.now) self.new) }
-        ensures err { OnErr result (self.new ≡ self.old) }
-    {
-        let mut packets = Vec::new(self.alloc);
-        push_outcome(&mut packets, self.setting.nodes, self.work.ending())?;
-        self.work.told(answer);
-        let sent = self.settle(packets);
-        Ok(sent)
-    }
-
-    // Where the job ended, the outcome is told.
-    fn settle(&mut self, packets: Vec<Envelope>) -> Vec<Envelope>
-        ensures told { result.items ≡ (if is_ended self.old.work then packets.items else []) }
-        ensures moves { Moves self.old (λ w s. with_kills result.items s) self.new }
-    {
-        let ended = self.work.is_ended();
-        let sent = if_ended(self.alloc, ended, packets);
-        self.launches.note(&sent);
-        sent
-    }
-}
-
-fn if_ended(alloc: Global, ended: bool, packets: Vec<Envelope>) -> Vec<Envelope>
-    ensures { result.items ≡ (if ended then packets.items else []) }
-{
-    if ended { packets } else { Vec::new(alloc) }
 }

@@ -4,7 +4,7 @@ ghost use Rattle.mr_ids.specs.declared.id.TaskKind.TheVariants.{Map, Reduce};
 ghost use Rattle.mr_master_model.specs.Job.{first_tasks, count_of};
 ghost use Rattle.mr_master_model.specs.Readings.{expire_refusal};
 ghost use Rattle.mr_master_model.specs.Hearing.{expired, new_bars};
-ghost use Rattle.mr_master_model.specs.Sends.{kill_of};
+ghost use Rattle.mr_master_model.specs.Sends.{kill_of, expiry_sends};
 ghost use Rattle.mr_master_model.specs.Next.{with_kills};
 ghost use Rattle.mr_master.specs.declared.gone.Gone.TheVariants.{GivenUp};
 ghost use Rattle.mr_master.specs.Expiring.{kills_on, HasExpired};
@@ -33,6 +33,18 @@ impl Machine {
             return Some(LaunchFault::NoNode);
         }
         None
+    }
+
+    // What is sent where the node is given up.
+    pub fn expire_packets(&self, node: u32) -> Result<Vec<Envelope>, AllocError>
+        ensures { IfOk result (λ packets. Reads self.now (λ w s. expiry_sends w s node) packets.items) }
+    {
+        if let Some(_fault) = self.expire_refusal(node) {
+            return Ok(Vec::new(self.alloc));
+        }
+        let given_up = self.gone_of_kind(TaskKind::Map, &Gone::GivenUp(node))?;
+        let packets = self.kills(&given_up)?;
+        Ok(packets)
     }
 
     // Gives the node up, and gives the packets that are sent.

@@ -1,5 +1,5 @@
 //! What attempts were launched as, by the numbers of their containers. This is the only place that knows the map.
-ghost use Rattle.std.specs.Prelude.{◌≡◌, ◌<◌, ◌++◌, [], ◌∷◌, None, OnOk, OnErr, slice_get, length, get_or, false};
+ghost use Rattle.std.specs.Prelude.{◌≡◌, ◌<◌, ◌++◌, [], ◌∷◌, None, OnOk, OnErr, IfOk, slice_get, length, get_or, false};
 ghost use Rattle.std.specs.Map.{lookup};
 ghost use Rattle.mr_grant.specs.Attempts.{same_attempt};
 ghost use Rattle.mr_master.specs.Launches.{SameLaunches, Marks, NotesKills, Notes};
@@ -38,6 +38,16 @@ impl Launches {
             entries: Entries::new(alloc),
             killed: Vec::new(alloc),
         }
+    }
+
+    // The same launches, with what was sent to their containers. Spare room is not copied.
+    pub fn copy(&self) -> Result<Launches, AllocError>
+        ensures { IfOk result (λ launches. SameLaunches self.now launches) }
+    {
+        Ok(Launches {
+            entries: self.entries.copy()?,
+            killed: self.killed.clone()?,
+        })
     }
 
     pub fn len(&self) -> usize
@@ -148,6 +158,14 @@ impl Entries {
         Entries {
             map: IndexMap::new(alloc),
         }
+    }
+
+    fn copy(&self) -> Result<Entries, AllocError>
+        ensures { IfOk result (λ copy. copy.entries ≡ self.now.entries) }
+    {
+        Ok(Entries {
+            map: self.map.clone()?,
+        })
     }
 
     fn len(&self) -> usize

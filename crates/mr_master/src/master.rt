@@ -4,9 +4,12 @@ ghost use Rattle.mr_master_model.specs.Duty.{duty};
 ghost use Rattle.mr_master_model.specs.Past.{Launches, Hears, Expires, Answered, phase_of};
 ghost use Rattle.mr_master_model.specs.Readings.{launch_refusal, expire_refusal, wanted};
 ghost use Rattle.mr_master_model.specs.Next.{seen, sent};
+ghost use Rattle.mr_master_model.specs.declared.store.StoreAnswer.{StoreAnswer};
+ghost use Rattle.mr_master.specs.Ready.{IsReady, IsReadyForSome};
 
 use crate::duty::Duty;
 use crate::machine::Machine;
+use crate::ready::Ready;
 use mr_ids::TaskId;
 use mr_master_model::{LaunchFault, Phase, Setting, StoreAnswer};
 use mr_packet::{Envelope, Packet};
@@ -36,6 +39,14 @@ impl MasterMachine {
         ensures { IfOk result (λ machine. StandsFor machine setting []) }
     {
         let machine = Machine::new(alloc, setting)?;
+        Ok(MasterMachine { machine })
+    }
+
+    /// Another machine, which stands for whatever this one stands for. Spare room is not copied. Where memory is refused: an error.
+    pub fn copy(&self) -> Result<MasterMachine, AllocError>
+        ensures { IfOk result (λ machine. StandsStill self.now machine) }
+    {
+        let machine = self.machine.copy()?;
         Ok(MasterMachine { machine })
     }
 
@@ -114,6 +125,17 @@ impl MasterMachine {
         Ok(())
     }
 
+    /// What is sent where this node is given up (`expire`), in order; nothing where that is refused. It changes nothing. Where memory is
+    /// refused: an error.
+    ///
+    /// Whoever keeps the bag makes room for these packets, then gives the node up, then pushes them.
+    pub fn expire_packets(&self, node: u32) -> Result<Vec<Envelope>, AllocError>
+        ensures { IfOk result (λ packets. Answers self.now (λ w past. sent w past (Expires node)) packets.items) }
+    {
+        let packets = self.machine.expire_packets(node)?;
+        Ok(packets)
+    }
+
     /// Gives a node up whose containers may still run, and gives the packets that are sent: a Kill to the container of each live attempt of
     /// a map there, by map number, then arrival. These attempts end, the outputs of the Succeeded maps there count as lost, and of each
     /// live attempt of a reduce there a bar is due, if none was. Launches on the node go on.
@@ -130,19 +152,31 @@ impl MasterMachine {
         Ok(packets)
     }
 
-    /// Hears the answer of the store call that is due (`duty`), and gives the packets that are sent: of a bar a Kill, of a flush the winners
-    /// and Kills, of a reduce that is taken over its winner, and where the job ended the outcome, to every node. Where no call is due,
-    /// nothing changes, and nothing is sent.
+    /// Makes ready for the answer of the store call that is due (`duty`), which is known beforehand, or was made already if it changes
+    /// nothing. Nothing changes but spare room, also where memory is refused: the master stands for what it stood for.
+    ///
+    /// Then whoever runs the master makes room in the bag for the packets (`Ready::packets`), has the call made, and if that is not refused
+    /// for want of memory has its answer heard (`answer`), and pushes the packets; these two take no memory. Else what was made ready is let go.
+    pub fn ready(&mut self, answer: StoreAnswer) -> Result<Ready, AllocError>
+        ensures sent { IfOk result (λ ready. Answers self.old (λ w past. sent w past (Answered answer)) ready.packets) }
+        ensures ready { IfOk result (λ ready. IsReady self.new answer ready) }
+        ensures still { StandsStill self.old self.new }
+    {
+        let ready = self.machine.ready_for(answer)?;
+        Ok(ready)
+    }
+
+    /// Hears the answer that it was made ready for, and gives the packets that are sent: of a bar a Kill, of a flush the winners and Kills,
+    /// of a reduce that is taken over its winner, and where the job ended the outcome, to every node. Where no call was due, nothing
+    /// changes, and nothing is sent. It takes no memory.
     ///
     /// The steps of setup, recovery and job commit go on with the lines that follow; a reduce that is taken over is entered as Succeeded,
-    /// and where the master begins to run, each map's newest success is, unless its node is known in a higher incarnation. Where memory is
-    /// refused: an error, and the master stands for what it stood for.
-    pub fn answer(&mut self, answer: StoreAnswer) -> Result<Vec<Envelope>, AllocError>
-        ensures sent { IfOk result (λ packets. Answers self.old (λ w past. sent w past (Answered answer)) packets.items) }
-        ensures stands { OnOk result (Stands self.old (Answered answer) self.new) }
-        ensures unchanged { OnErr result (StandsStill self.old self.new) }
+    /// and where the master begins to run, each map's newest success is, unless its node is known in a higher incarnation.
+    pub fn answer(&mut self, ready: Ready) -> Vec<Envelope>
+        requires { IsReadyForSome self.old ready }
+        ensures packets { result.items ≡ ready.packets }
+        ensures stands { (answer : StoreAnswer) → IsReady self.old answer ready → Stands self.old (Answered answer) self.new }
     {
-        let packets = self.machine.answer(answer)?;
-        Ok(packets)
+        self.machine.answer(ready)
     }
 }

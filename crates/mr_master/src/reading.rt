@@ -1,46 +1,32 @@
-//! The answer of the reading of the earlier segments.
-ghost use Rattle.std.specs.Prelude.{◌≡◌, true, IfOk, OnOk, OnErr, if◌then◌else◌};
+//! What is ready for the answer of the reading of the earlier segments.
+ghost use Rattle.std.specs.Prelude.{◌≡◌, true, IfOk, if◌then◌else◌};
 ghost use Rattle.std.specs.List.{list_any};
 ghost use Rattle.mr_commit.specs.Tables.{setup_job};
 ghost use Rattle.mr_master_model.specs.Past.{SetsUp, Fails};
-ghost use Rattle.mr_master_model.specs.Answered.{is_unsuccessful, read_by};
+ghost use Rattle.mr_master_model.specs.Answered.{is_unsuccessful};
 ghost use Rattle.mr_master.specs.Kinds.{is_read, records_in};
-ghost use Rattle.mr_master.specs.State.{Moves, Reads};
-ghost use Rattle.mr_master.specs.Answering.{answered_sends, answered_all};
+ghost use Rattle.mr_master.specs.Ready.{IsReadyDue};
 
+use crate::change::Change;
 use crate::earlier::tells_failure;
 use crate::machine::Machine;
+use crate::ready::Ready;
 use crate::work::Work;
 use mr_history::{Record, Records};
 use mr_master_model::{Setting, StoreAnswer};
-use mr_packet::Envelope;
 use std::alloc::AllocError;
 
 impl Machine {
-    // The earlier segments were read, or that was refused. Nothing is sent.
-    pub fn answer_read(&mut self, answer: StoreAnswer) -> Result<Vec<Envelope>, AllocError>
-        requires { is_read self.old.work ≡ true }
-        ensures sent { IfOk result (λ packets. Reads self.old (λ w s. answered_sends w s answer) packets.items) }
-        ensures moves { OnOk result (Moves self.old (λ w s. answered_all w s answer) self.new) }
-        ensures err { OnErr result (self.new ≡ self.old) }
+    // The earlier segments are read, or that is refused. Nothing is sent.
+    pub fn ready_read(&self, answer: StoreAnswer) -> Result<Ready, AllocError>
+        requires { is_read self.now.work ≡ true }
+        ensures { IfOk result (λ ready. IsReadyDue self.now answer ready) }
     {
         let Some(records) = records_in(answer) else {
-            self.work = Work::stopped();
-            return Ok(Vec::new(self.alloc));
+            return Ok(Ready::silent(self.alloc, Change::Becomes(Work::stopped())));
         };
-        self.read(records)?;
-        Ok(Vec::new(self.alloc))
-    }
-
-    // These are the records of the earlier segments.
-    fn read(&mut self, records: Records) -> Result<(), AllocError>
-        ensures moves { OnOk result (Moves self.old (λ w s. record s { earlier = records; work = read_by w (StoreAnswer.Told records) }) self.new) }
-        ensures err { OnErr result (self.new ≡ self.old) }
-    {
         let next = read_work(&self.setting, records.as_slice())?;
-        self.earlier = records;
-        self.work = next;
-        Ok(())
+        Ok(Ready::silent(self.alloc, Change::HasRead(records, next)))
     }
 }
 

@@ -43,6 +43,17 @@ impl Writing {
         }
     }
 
+    // The same records. Spare room is not copied.
+    pub fn copy(&self) -> Result<Writing, AllocError>
+        ensures { IfOk result (λ writing. SameRecords self.now writing) }
+    {
+        Ok(Writing {
+            due: self.due.clone()?,
+            tail: self.tail.clone()?,
+            is_flush_wanted: self.is_flush_wanted,
+        })
+    }
+
     // Makes room: after it so many more records can be due without taking memory.
     pub fn reserve(&mut self, additional: usize) -> Result<(), AllocError>
         ensures same { SameRecords self.old self.new }

@@ -1,30 +1,38 @@
-//! The answer of the store call that is due, in each phase.
-ghost use Rattle.std.specs.Prelude.{◌≡◌, IfOk, OnOk, OnErr};
+//! What is ready for the answer of the store call that is due, in each phase.
+ghost use Rattle.std.specs.Prelude.{◌≡◌, ◌<◌, IfOk};
 ghost use Rattle.std.specs.Option.{is_some};
 ghost use Rattle.mr_master_model.specs.Duty.{duty};
-ghost use Rattle.mr_master_model.specs.Answered.{after_answer};
-ghost use Rattle.mr_master_model.specs.Sends.{answer_sends};
-ghost use Rattle.mr_master_model.specs.Next.{with_kills};
-ghost use Rattle.mr_master.specs.State.{Moves, Reads, Unchanged};
-ghost use Rattle.mr_master.specs.Answering.{IsDue, answered_sends, answered_all};
+ghost use Rattle.mr_master.specs.State.{Reads, Unchanged};
+ghost use Rattle.mr_master.specs.Answering.{IsDue};
+ghost use Rattle.mr_master.specs.Ready.{IsReady, IsReadyDue};
 
+use crate::change::Change;
 use crate::machine::Machine;
+use crate::ready::Ready;
 use mr_master_model::StoreAnswer;
-use mr_packet::Envelope;
 use std::alloc::AllocError;
 
 impl Machine {
-    // The call that is due was answered. Where none is due, nothing changes, and nothing is sent.
-    pub fn answer(&mut self, answer: StoreAnswer) -> Result<Vec<Envelope>, AllocError>
-        ensures sent { IfOk result (λ packets. Reads self.old (λ w s. answer_sends w s answer) packets.items) }
-        ensures moves { OnOk result (Moves self.old (λ w s. with_kills (answer_sends w s answer) (after_answer w s answer)) self.new) }
-        ensures err { OnErr result (Unchanged self.old self.new) }
+    // Makes ready for the answer of the call that is due. Nothing changes but spare room.
+    pub fn ready_for(&mut self, answer: StoreAnswer) -> Result<Ready, AllocError>
+        ensures ready { IfOk result (λ ready. IsReady self.new answer ready) }
+        ensures same { Unchanged self.old self.new }
+    {
+        self.writing.reserve_tail()?;
+        let ready = self.ready_with_room(answer)?;
+        Ok(ready)
+    }
+
+    // The same where there is room for a record. Where no call is due, nothing will change, and nothing will be sent.
+    fn ready_with_room(&self, answer: StoreAnswer) -> Result<Ready, AllocError>
+        requires { 0 < self.now.writing.tail_room }
+        ensures { IfOk result (λ ready. IsReady self.now answer ready) }
     {
         if !self.is_due()? {
-            return Ok(Vec::new(self.alloc));
+            return Ok(Ready::silent(self.alloc, Change::Nothing));
         }
-        let packets = self.answer_due(answer)?;
-        Ok(packets)
+        let ready = self.ready_due(answer)?;
+        Ok(ready)
     }
 
     // Whether a call is due.
@@ -35,36 +43,29 @@ impl Machine {
         Ok(due.is_some())
     }
 
-    fn answer_due(&mut self, answer: StoreAnswer) -> Result<Vec<Envelope>, AllocError>
-        requires { IsDue self.old }
-        ensures sent { IfOk result (λ packets. Reads self.old (λ w s. answered_sends w s answer) packets.items) }
-        ensures moves { OnOk result (Moves self.old (λ w s. answered_all w s answer) self.new) }
-        ensures err { OnErr result (Unchanged self.old self.new) }
+    fn ready_due(&self, answer: StoreAnswer) -> Result<Ready, AllocError>
+        requires due { IsDue self.now }
+        requires room { 0 < self.now.writing.tail_room }
+        ensures { IfOk result (λ ready. IsReadyDue self.now answer ready) }
     {
         if self.work.is_look() {
-            let packets = self.answer_look(&answer)?;
-            return Ok(packets);
+            return self.ready_look(&answer);
         }
         if self.work.is_tell() {
-            let packets = self.answer_tell(&answer)?;
-            return Ok(packets);
+            return self.ready_tell(&answer);
         }
         if self.work.is_read() {
-            let packets = self.answer_read(answer)?;
-            return Ok(packets);
+            return self.ready_read(answer);
         }
         if self.work.is_step() {
-            let packets = self.answer_step(answer)?;
-            return Ok(packets);
+            return self.ready_step(answer);
         }
         if let Some(is_stable) = self.work.fails() {
-            let packets = self.answer_failing(is_stable, &answer)?;
-            return Ok(packets);
+            return self.ready_failing(is_stable, &answer);
         }
         if self.work.is_running() {
-            let packets = self.answer_running(&answer)?;
-            return Ok(packets);
+            return self.ready_running(&answer);
         }
-        Ok(Vec::new(self.alloc))
+        Ok(Ready::silent(self.alloc, Change::Nothing))
     }
 }

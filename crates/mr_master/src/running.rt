@@ -1,16 +1,16 @@
-//! The answers of the calls that are due while Running.
-ghost use Rattle.std.specs.Prelude.{◌≡◌, [], Some, IfOk, OnOk, OnErr};
-ghost use Rattle.std.specs.List.{find};
-ghost use Rattle.mr_task.specs.Calls.{Dies};
+//! What is ready for the answers of the calls that are due while Running.
+ghost use Rattle.std.specs.Prelude.{◌≡◌, ◌<◌, ◌∷◌, [], Some, IfOk};
 ghost use Rattle.mr_master_model.specs.Past.{Runs};
-ghost use Rattle.mr_master_model.specs.Readings.{tell, is_live};
-ghost use Rattle.mr_master_model.specs.Answered.{flushed, moved_first};
-ghost use Rattle.mr_master_model.specs.Sends.{kill_of, flush_sends};
+ghost use Rattle.mr_master_model.specs.Sends.{kill_of};
 ghost use Rattle.mr_master_model.specs.Next.{with_kills};
-ghost use Rattle.mr_master.specs.State.{Moves, Reads, Unchanged};
-ghost use Rattle.mr_master.specs.Answering.{IsDue, answered_sends, answered_all};
+ghost use Rattle.mr_master.specs.State.{Moves};
+ghost use Rattle.mr_master.specs.Answering.{IsDue};
+ghost use Rattle.mr_master.specs.Told.{with_deaths};
+ghost use Rattle.mr_master.specs.Ready.{Prepares, IsReadyDue};
 
+use crate::change::Change;
 use crate::machine::Machine;
+use crate::ready::Ready;
 use crate::store::is_fine;
 use crate::work::Work;
 use mr_ids::AttemptId;
@@ -19,46 +19,40 @@ use mr_packet::Envelope;
 use std::alloc::AllocError;
 
 impl Machine {
-    // The call that was due while Running was answered: a bar, an append, a flush, or the creation of COMMIT_STARTED.
-    pub fn answer_running(&mut self, answer: &StoreAnswer) -> Result<Vec<Envelope>, AllocError>
-        requires runs { self.old.work ≡ Runs }
-        requires due { IsDue self.old }
-        ensures sent { IfOk result (λ packets. Reads self.old (λ w s. answered_sends w s answer.now) packets.items) }
-        ensures moves { OnOk result (Moves self.old (λ w s. answered_all w s answer.now) self.new) }
-        ensures err { OnErr result (Unchanged self.old self.new) }
+    // The call that is due while Running is answered: a bar, an append, a flush, or the creation of COMMIT_STARTED.
+    pub fn ready_running(&self, answer: &StoreAnswer) -> Result<Ready, AllocError>
+        requires runs { self.now.work ≡ Runs }
+        requires due { IsDue self.now }
+        requires room { 0 < self.now.writing.tail_room }
+        ensures { IfOk result (λ ready. IsReadyDue self.now answer.now ready) }
     {
         if !is_fine(answer) {
-            self.work = Work::stopped();
-            return Ok(Vec::new(self.alloc));
+            let ready = self.becoming(Work::stopped())?;
+            return Ok(ready);
         }
         if let Some(attempt) = self.first_bar() {
-            let packets = self.end_barred(attempt)?;
-            return Ok(packets);
+            let ready = self.ready_bar(attempt)?;
+            return Ok(ready);
         }
         if let Some(appends) = self.writing.next() {
             if appends {
-                self.append()?;
-                return Ok(Vec::new(self.alloc));
+                return Ok(Ready::silent(self.alloc, Change::Appends));
             }
-            let packets = self.flush_told()?;
-            return Ok(packets);
+            let packets = self.flush_packets()?;
+            return Ok(Ready::new(packets, Change::Flushes(Work::running())));
         }
-        self.work = Work::commits(&self.setting)?;
-        Ok(Vec::new(self.alloc))
+        let work = Work::commits(&self.setting)?;
+        let ready = self.becoming(work)?;
+        Ok(ready)
     }
 
-    // The attempt is barred: it ends, and its container is asked to stop.
-    fn end_barred(&mut self, attempt: AttemptId) -> Result<Vec<Envelope>, AllocError>
-        requires { Reads self.old (λ w s. find (is_live w s) s.bars) (Some attempt) }
-        ensures sent { IfOk result (λ packets. Reads self.old (λ w s. kill_of w s attempt) packets.items) }
-        ensures moves { OnOk result (Moves self.old (λ w s. with_kills (kill_of w s attempt) (tell s attempt.task (Dies attempt))) self.new) }
-        ensures err { OnErr result (self.new ≡ self.old) }
+    // The attempt is barred: it will end, and its container is asked to stop.
+    fn ready_bar(&self, attempt: AttemptId) -> Result<Ready, AllocError>
+        ensures { IfOk result (λ ready. Prepares self.now ready (λ w s. kill_of w s attempt) (λ w s. with_deaths w s (attempt ∷ []))) }
     {
         let mut packets = Vec::new(self.alloc);
         self.push_kill(&mut packets, attempt)?;
-        self.tell_death(attempt);
-        self.note(&packets);
-        Ok(packets)
+        Ok(Ready::new(packets, Change::Ends(attempt)))
     }
 
     // Notes which containers are sent a Kill.
@@ -66,27 +60,5 @@ impl Machine {
         ensures { Moves self.old (λ w s. with_kills packets.now s) self.new }
     {
         self.launches.note(packets);
-    }
-
-    // The first record due was appended. Where memory is refused, nothing has changed.
-    pub fn append(&mut self) -> Result<(), AllocError>
-        ensures moves { OnOk result (Moves self.old (λ w s. moved_first s s.due) self.new) }
-        ensures err { OnErr result (Unchanged self.old self.new) }
-    {
-        self.writing.reserve_tail()?;
-        self.append_first();
-        Ok(())
-    }
-
-    // All that was appended is stable: that is told, and noted. Where memory is refused, nothing has changed.
-    pub fn flush_told(&mut self) -> Result<Vec<Envelope>, AllocError>
-        ensures sent { IfOk result (λ packets. Reads self.old (λ w s. flush_sends w s s.tail) packets.items) }
-        ensures moves { OnOk result (Moves self.old (λ w s. with_kills (flush_sends w s s.tail) (flushed w s)) self.new) }
-        ensures err { OnErr result (self.new ≡ self.old) }
-    {
-        let packets = self.flush_packets()?;
-        self.flush();
-        self.launches.note(&packets);
-        Ok(packets)
     }
 }

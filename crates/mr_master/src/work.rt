@@ -3,17 +3,15 @@ ghost use Rattle.std.specs.Prelude.{◌≡◌, true, false, Some, None, Err, IfO
 ghost use Rattle.mr_master_model.specs.Past.{Work, LooksForSuccess, SetsUp, Runs, CommitsJob, Fails, Ends, Stops, phase_of};
 ghost use Rattle.mr_master_model.specs.Readings.{Seen, is_running, is_over};
 ghost use Rattle.mr_master_model.specs.Duty.{duty_at, does, commit_name, abort_duty};
-ghost use Rattle.mr_master.specs.Kinds.{is_own, fails_as, is_read, is_look, is_ended, ending, looked_on, is_tell, left_of, with_left, refused_by, refused_when, is_step, finished_by, wants_more, lines_of};
+ghost use Rattle.mr_master.specs.Kinds.{is_own, fails_as, is_read, is_look, looked_on, found_by, ends_as, is_tell, left_of, with_left, refused_by, refused_when, is_step, finished_by, wants_more, lines_of};
 ghost use Rattle.mr_master.specs.Work.{is_left};
 ghost use Rattle.mr_master.specs.Taking.{winner_of};
-ghost use Rattle.mr_master.specs.Heard.{heard_as};
+ghost use Rattle.mr_master.specs.Heard.{heard_as, has_finished};
 ghost use Rattle.mr_commit.specs.Steps.{heard};
 ghost use Rattle.mr_commit.specs.Recovery.{Left, recover_task};
 ghost use Rattle.mr_master_model.specs.Answered.{work_after, heard_by, takes_over};
 ghost use Rattle.mr_master_model.specs.declared.setting.Setting.{Setting};
 ghost use Rattle.mr_commit.specs.Tables.{setup_job, commit_job};
-ghost use Rattle.mr_master_model.specs.Sends.{outcome_of, to_all};
-ghost use Rattle.mr_packet.specs.declared.packet.Packet.TheVariants as packet;
 
 use crate::duty::{Duty, of_line, of_look, of_mark};
 use crate::earlier::{next_winner, winners};
@@ -83,6 +81,12 @@ impl Work {
         ensures { self.new ≡ Fails false }
     {
         *self = Work::failing();
+    }
+
+    pub fn set(&mut self, next: Work)
+        ensures { self.new ≡ next }
+    {
+        *self = next;
     }
 
     // The job failed, and nothing tells so yet.
@@ -231,6 +235,38 @@ impl Work {
     }
 }
 
+impl Work {
+    pub fn copy(&self, alloc: Global) -> Result<Work, AllocError>
+        ensures { IfOk result (λ work. work ≡ self.now) }
+    {
+        let at = match &self.at {
+            At::LooksForSuccess => At::LooksForSuccess,
+            At::LooksForFail => At::LooksForFail,
+            At::LooksForStarted => At::LooksForStarted,
+            At::Reads => At::Reads,
+            At::SetsUp(step) => At::SetsUp(step.copy()?),
+            At::TakesOver {
+                winner,
+                step,
+                others,
+            } => At::TakesOver {
+                winner: *winner,
+                step: step.copy()?,
+                others: copied(alloc, others)?,
+            },
+            At::Runs => At::Runs,
+            At::CommitsJob(step) => At::CommitsJob(step.copy()?),
+            At::TellsSuccess => At::TellsSuccess,
+            At::TellsFail => At::TellsFail,
+            At::AbortsCommit => At::AbortsCommit,
+            At::Fails(is_stable) => At::Fails(*is_stable),
+            At::Ends(succeeded) => At::Ends(*succeeded),
+            At::Stops => At::Stops,
+        };
+        Ok(Work { at })
+    }
+}
+
 fn copied(alloc: Global, winners: &VecDeque<TaskWinner>) -> Result<VecDeque<TaskWinner>, AllocError>
     ensures { IfOk result (λ copy. copy.items ≡ winners.now.items) }
 {
@@ -269,27 +305,26 @@ pub fn abort_duty(setting: &Setting) -> Result<Option<Duty>, AllocError>
 }
 
 impl Work {
-    // A look for a mark was answered.
+    // What is next after the answer of a look for a mark.
     #[tactic(auto, unfolding(mr_master_model::specs::Answered::work_after))]
-    pub fn look(&mut self, answer: &StoreAnswer)
-        ensures outcome { (w : Setting) → is_look self.old ≡ true → outcome_of w self.new ≡ (if is_ended self.new then to_all w.nodes (packet.Outcome (ending self.old)) else []) }
-        ensures quiet { is_look self.old ≡ true → is_running self.new ≡ false }
-        ensures moved { (w : Setting) (s : Seen) → is_look self.old ≡ true → self.new ≡ work_after w s answer.now self.old }
+    pub fn look(&self, answer: &StoreAnswer) -> Work
+        ensures quiet { is_look self.now ≡ true → is_running result ≡ false }
+        ensures moved { (w : Setting) (s : Seen) → is_look self.now ≡ true → result ≡ work_after w s answer.now self.now }
     {
         match looked(answer) {
-            Look::There => self.at = At::Ends(self.ending()),
+            Look::There => self.found(),
             Look::Absent => self.look_on(),
-            Look::Unclear => self.at = At::Stops,
+            Look::Unclear => Work::stopped(),
         }
     }
 
-    // Which outcome it tells if it ends.
-    pub fn ending(&self) -> bool
-        ensures { result ≡ ending self.now }
+    // What is next where the mark is there.
+    fn found(&self) -> Work
+        ensures { result ≡ found_by self.now }
     {
         match self.at {
-            At::LooksForSuccess | At::TellsSuccess => true,
-            _ => false,
+            At::LooksForSuccess => Work::ends(true),
+            _ => Work::ends(false),
         }
     }
 
@@ -328,12 +363,13 @@ impl Work {
         }
     }
 
-    pub fn is_ended(&self) -> bool
-        ensures { result ≡ is_ended self.now }
+    // Where the job ended: whether it succeeded.
+    pub fn outcome(&self) -> Option<bool>
+        ensures { result ≡ ends_as self.now }
     {
         match self.at {
-            At::Ends(_) => true,
-            _ => false,
+            At::Ends(succeeded) => Some(succeeded),
+            _ => None,
         }
     }
 
@@ -376,38 +412,42 @@ impl Work {
     }
 
     // The next look, and after the last the reading.
-    fn look_on(&mut self)
-        ensures { self.new ≡ looked_on self.old }
+    fn look_on(&self) -> Work
+        ensures { result ≡ looked_on self.now }
     {
         match self.at {
-            At::LooksForSuccess => self.at = At::LooksForFail,
-            At::LooksForFail => self.at = At::LooksForStarted,
-            At::LooksForStarted => self.at = At::Reads,
-            _ => {}
+            At::LooksForSuccess => Work {
+                at: At::LooksForFail,
+            },
+            At::LooksForFail => Work {
+                at: At::LooksForStarted,
+            },
+            _ => Work { at: At::Reads },
         }
     }
 
-    // The creation of a mark, or the abort after COMMIT_FAIL, was answered.
+    // What is next after the answer of the creation of a mark, or of the abort after COMMIT_FAIL.
     #[tactic(auto, unfolding(mr_master_model::specs::Answered::work_after))]
-    pub fn told(&mut self, answer: &StoreAnswer)
-        ensures outcome { (w : Setting) → is_tell self.old ≡ true → outcome_of w self.new ≡ (if is_ended self.new then to_all w.nodes (packet.Outcome (ending self.old)) else []) }
-        ensures quiet { is_tell self.old ≡ true → is_running self.new ≡ false }
-        ensures moved { (w : Setting) (s : Seen) → is_tell self.old ≡ true → self.new ≡ work_after w s answer.now self.old }
+    pub fn told(&self, answer: &StoreAnswer) -> Work
+        ensures quiet { is_tell self.now ≡ true → is_running result ≡ false }
+        ensures moved { (w : Setting) (s : Seen) → is_tell self.now ≡ true → result ≡ work_after w s answer.now self.now }
     {
         let fine = is_fine(answer);
         let superseded = is_superseded(answer);
         match self.at {
-            At::TellsSuccess if fine => self.at = At::Ends(true),
-            At::TellsFail if fine => self.at = At::AbortsCommit,
-            At::AbortsCommit if !superseded => self.at = At::Ends(false),
-            _ => self.at = At::Stops,
+            At::TellsSuccess if fine => Work::ends(true),
+            At::TellsFail if fine => Work {
+                at: At::AbortsCommit,
+            },
+            At::AbortsCommit if !superseded => Work::ends(false),
+            _ => Work::stopped(),
         }
     }
 
-    // A committer's call was answered. After the last one, `next` is what is next. Where memory is refused, nothing has changed.
-    pub fn step(&mut self, answer: StoreAnswer, next: Work) -> Result<Heard, AllocError>
+    // A committer's call was answered. After the last one, what is left is not asked for any more. Where memory is refused, nothing has changed.
+    pub fn step(&mut self, answer: StoreAnswer) -> Result<Heard, AllocError>
         ensures heard { IfOk result (λ h. h ≡ heard_as (heard_by (left_of self.old) answer).0) }
-        ensures moved { OnOk result ((w : Setting) (s : Seen) → is_step self.old ≡ true → next ≡ finished_by w s self.old → self.new ≡ work_after w s answer self.old) }
+        ensures moved { IfOk result (λ h. (w : Setting) (s : Seen) → is_step self.old ≡ true → has_finished h ≡ false → self.new ≡ work_after w s answer self.old) }
         ensures err { OnErr result (self.new ≡ self.old) }
         ensures memory { OnErr result (wants_more (left_of self.old) ≡ true) }
     {
@@ -415,7 +455,7 @@ impl Work {
         let heard = self.hear(answer)?;
         match heard {
             Heard::More => {}
-            Heard::Finished => *self = next,
+            Heard::Finished => {}
             Heard::Refused => self.refuse(superseded),
         }
         Ok(heard)

@@ -2,7 +2,7 @@
 
 use mr_ids::{AppAttempt, AttemptId, JobId, TaskId, TaskKind};
 use mr_master::MasterMachine;
-use mr_master_model::Setting;
+use mr_master_model::{Setting, StoreAnswer};
 use mr_packet::{ContainerId, Envelope, Packet};
 use mr_paths::{Layout, Path, PathFault};
 use std::alloc::Global;
@@ -80,4 +80,10 @@ pub fn hears(rt: &impl Abort, master: &mut MasterMachine, packet: &Packet) -> Ve
         panic!(rt; "no memory");
     }
     packets
+}
+
+/// The store call that is due is answered. Gives the packets that are sent.
+pub fn answered(rt: &impl Abort, master: &mut MasterMachine, answer: StoreAnswer) -> Vec<Envelope> {
+    let ready = master.ready(answer).expect(rt, "no memory");
+    master.answer(ready)
 }

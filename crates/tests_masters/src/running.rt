@@ -1,6 +1,6 @@
 //! A master that comes to Running: it launches its one reduce, names its attempt, and tells the node of its win.
 
-use crate::fixtures::{attempt, container, hears, master_of, task};
+use crate::fixtures::{answered, attempt, container, hears, master_of, task};
 use mr_history::{Record, Records};
 use mr_ids::{AttemptId, TaskId, TaskKind};
 use mr_master::{Duty, MasterMachine};
@@ -19,11 +19,6 @@ fn reduce() -> TaskId {
 // Its first attempt.
 fn first_attempt(rt: &impl Abort) -> AttemptId {
     attempt(rt, reduce())
-}
-
-// The answer of the store call that is due. Gives the packets that are sent.
-fn answered(rt: &impl Abort, master: &mut MasterMachine, answer: StoreAnswer) -> Vec<Envelope> {
-    master.answer(answer).expect(rt, "no memory")
 }
 
 // A master of a job of no map and one reduce on one node, that found no mark and no record, and made its job attempt path.

@@ -1,6 +1,12 @@
-use Rattle.std.proofs.Common.{sym, ◌∙◌}
-use Rattle.mr_master.proofs.Called.{idle-keeps}
+use Rattle.std.proofs.Common.{subst, List}
+use Rattle.mr_packet.specs.declared.packet.Envelope.{Envelope}
+use Rattle.mr_master_model.specs.Next.{with_kills}
+use Rattle.mr_master.specs.Ready.{Ready, changed_by}
+use Rattle.mr_master.specs.State.{Keeps}
 use Rattle.mr_master.proofs.machine.Machine.answer.Goals as goal
 
-pub returns-then-not-branch-clause-moves : goal.returns-then-not-branch-clause-moves
-returns-then-not-branch-clause-moves c = λ w s keeps. idle-keeps w s c.args.answer (sym (c.in_ok-is_due.ensures w s keeps) ∙ c.if-not-branch.true) keeps
+pub returns-clause-moves : goal.returns-clause-moves
+returns-clause-moves c = λ w s keeps.
+    subst (λ (x : Ready). Keeps c.note.new.self w (with_kills x.packets (changed_by w s x.change))) c.ready.view_is
+    (subst (λ (l : List Envelope). Keeps c.note.new.self w (with_kills l (changed_by w s c.ready.inside.change))) c.deref.ensures.value
+    (c.note.ensures w (changed_by w s c.ready.inside.change) (c.make.ensures w s keeps)))

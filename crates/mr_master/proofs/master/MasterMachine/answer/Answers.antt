@@ -1,22 +1,19 @@
-use Rattle.std.proofs.Common.{subst}
+use Rattle.std.proofs.Common.{sym, subst}
 use Rattle.mr_master_model.specs.Past.{Answered}
-use Rattle.mr_master_model.specs.Sends.{answer_sends}
-use Rattle.mr_master.specs.State.{Master, Reads, Stands}
+use Rattle.mr_master.specs.Ready.{IsReady}
+use Rattle.mr_master.specs.State.{Master, StandsFor}
+use Rattle.mr_master.proofs.Prepared.{ready-stands}
 use Rattle.mr_master.proofs.Standing.{stands-still}
-use Rattle.mr_master.proofs.Called.{answer-stands, answer-sent}
 use Rattle.mr_master.proofs.master.MasterMachine.answer.Goals as goal
 
-pub invariant_of-self-2 : goal.invariant_of-self-2
-invariant_of-self-2 c =
-    stands-still c.self.inside.machine c.answer.new.self (Answered c.args.answer)
-    (answer-stands c.self.inside.machine c.answer.new.self c.args.answer c.in_ok-packets.ensures.moves) c.self.invariant
-
-pub returns-clause-sent : goal.returns-clause-sent
-returns-clause-sent c =
-    answer-sent c.args.self.now c.args.answer c.in_ok-packets.packets.items
-    (subst (λ (x : Master). Reads x (λ w s. answer_sends w s c.args.answer) c.in_ok-packets.packets.items) c.self.view_is c.in_ok-packets.ensures.sent)
+pub invariant_of-self : goal.invariant_of-self
+invariant_of-self c =
+    let a = c.requires.0 in
+    let r = subst (λ (x : Master). IsReady x a c.args.ready) (sym c.self.view_is) c.requires.1 in
+    stands-still c.self.inside.machine c.answer.new.self (Answered a) (ready-stands c.self.inside.machine c.answer.new.self a c.args.ready r c.answer.ensures.moves) c.self.invariant
 
 pub returns-clause-stands : goal.returns-clause-stands
-returns-clause-stands c =
-    subst (λ (x : Master). Stands x (Answered c.args.answer) c.answer.new.self) c.self.view_is
-    (answer-stands c.self.inside.machine c.answer.new.self c.args.answer c.in_ok-packets.ensures.moves)
+returns-clause-stands c = λ a ready w past k.
+    let old = c.self.inside.machine in
+    let r = subst (λ (x : Master). IsReady x a c.args.ready) (sym c.self.view_is) ready in
+    ready-stands old c.answer.new.self a c.args.ready r c.answer.ensures.moves w past (subst (λ (x : Master). StandsFor x w past) (sym c.self.view_is) k)

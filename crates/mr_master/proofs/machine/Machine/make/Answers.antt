@@ -1,0 +1,23 @@
+use Rattle.std.proofs.Common.{sym, subst}
+use Rattle.mr_master.specs.declared.change.Change.{Change}
+use Rattle.mr_master.specs.Ready.{changed_by}
+use Rattle.mr_master.specs.State.{Keeps}
+use Rattle.mr_master.proofs.machine.Machine.make.Goals as goal
+
+pub returns-in-Becomes : goal.returns-in-Becomes
+returns-in-Becomes c = λ w s keeps. subst (λ (x : Change). Keeps c.set_work.new.self w (changed_by w s x)) (sym c.in-Becomes.is) (c.set_work.ensures w s keeps)
+
+pub returns-in-HasRead : goal.returns-in-HasRead
+returns-in-HasRead c = λ w s keeps. subst (λ (x : Change). Keeps c.has_read.new.self w (changed_by w s x)) (sym c.in-HasRead.is) (c.has_read.ensures w s keeps)
+
+pub returns-in-Enters : goal.returns-in-Enters
+returns-in-Enters c = λ w s keeps. subst (λ (x : Change). Keeps c.enters.new.self w (changed_by w s x)) (sym c.in-Enters.is) (c.enters.ensures w s keeps)
+
+pub returns-in-Ends : goal.returns-in-Ends
+returns-in-Ends c = λ w s keeps. subst (λ (x : Change). Keeps c.tell_death.new.self w (changed_by w s x)) (sym c.in-Ends.is) (c.tell_death.ensures w s keeps)
+
+pub returns-in-Appends : goal.returns-in-Appends
+returns-in-Appends c = λ w s keeps. subst (λ (x : Change). Keeps c.append_first.new.self w (changed_by w s x)) (sym c.in-Appends.is) (c.append_first.ensures w s keeps)
+
+pub returns-in-Flushes : goal.returns-in-Flushes
+returns-in-Flushes c = λ w s keeps. subst (λ (x : Change). Keeps c.flushes.new.self w (changed_by w s x)) (sym c.in-Flushes.is) (c.flushes.ensures w s keeps)
