@@ -23,9 +23,9 @@ use Rattle.mr_user.specs.Sequential.{both, lines_of, pairs_of_lines, part_of}
 use Rattle.mr_user.proofs.Grouping.{IsRising, rising_sorted, same_values}
 use Rattle.mr_user.proofs.Rising.{rising_same}
 use Rattle.mr_mapside.specs.Block.{framed, combined_group, spelled_pair, spelled, block_of, output_of}
-use Rattle.mr_mapside.specs.Runs.{pairs_in, pairs_in_all, IsRun, AreRuns, merged}
+use Rattle.mr_mapside.specs.Runs.{pairs_in, pairs_in_all, ArePairs, IsRun, AreRuns, merged}
 use Rattle.mr_mapside.specs.Kept.{SameValues, KeptAt, Kept}
-use Rattle.mr_mapside.proofs.RunReading.{read_back}
+use Rattle.mr_mapside.proofs.RunReading.{read_back, pairs_written}
 use Rattle.mr_mapside.proofs.RunFronts.{get-set_same, get-set_other}
 use Rattle.mr_mapside.proofs.RunMerging.{each_place}
 use Rattle.mr_mapside.proofs.Spelling.{all_groups}
@@ -107,9 +107,9 @@ module _ {K V : Type 0} (job : Computation K V) (key_laws : CodecLaws job.key) (
         fewer [] h = tt
         fewer (q ∷ qs) h = elim (t q) as (λ b. AllByRecursion (λ q. is_lt (job.cmp q.0 p.0) ≡ false) (cond b (q ∷ filter t qs) (filter t qs))) [ true ↦ (h.0, fewer qs h.1) | false ↦ fewer qs h.1 ]
 
-  one_run_more : (runs : List (List ℕ)) (bytes : List ℕ) → AreRuns job runs → IsRun job (pairs_in job bytes) → AreRuns job (runs ++ bytes ∷ [])
-  one_run_more [] bytes h r = (r, tt)
-  one_run_more (run ∷ runs) bytes h r = (h.0, one_run_more runs bytes h.1 r)
+  one_run_more : (runs : List (List ℕ)) (bytes : List ℕ) → AreRuns job runs → ArePairs job bytes → IsRun job (pairs_in job bytes) → AreRuns job (runs ++ bytes ∷ [])
+  one_run_more [] bytes h a r = ((a, r), tt)
+  one_run_more (run ∷ runs) bytes h a r = (h.0, one_run_more runs bytes h.1 a r)
 
   -- what of a run goes to a reduce is kept
   pub run_kept : (reduces r : ℕ) (runs : List (List ℕ)) (run sorted done : List (K × V)) (bytes : List ℕ) → KeptAt job reduces r runs run done →
@@ -122,7 +122,7 @@ module _ {K V : Type 0} (job : Computation K V) (key_laws : CodecLaws job.key) (
       let all : pairs_in_all job (runs ++ bytes ∷ []) ++ [] ≡ pairs_in_all job runs ++ part =
       append-nil (pairs_in_all job (runs ++ bytes ∷ [])) ∙ flat_map-append (pairs_in job) runs (bytes ∷ []) ∙ ap (λ ps. pairs_in_all job runs ++ ps) (append-nil (pairs_in job bytes) ∙ pairs) in
       record {
-        rising = one_run_more runs bytes kept.rising (subst (IsRun job) (sym pairs) (run_filtered t sorted (run_sorted sorted in_order)));
+        rising = one_run_more runs bytes kept.rising (subst (ArePairs job) (sym is) (pairs_written job key_laws value_laws part fit)) (subst (IsRun job) (sym pairs) (run_filtered t sorted (run_sorted sorted in_order)));
         same = λ k.
             ap (filter (λ (p : K × V). eq_by_cmp job.cmp k p.0)) all
             ∙ same_append job.cmp (pairs_in_all job runs) (pairs_in_all job runs) part (part_of job reduces r run) (λ k. refl) (same_filtered job.cmp t sorted run (sorted_same job.cmp order same run sorted moved stable)) k

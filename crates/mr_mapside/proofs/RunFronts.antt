@@ -22,12 +22,12 @@ use Rattle.std.specs.declared.cmp.Reverse.{Reverse}
 use Rattle.mr_user.specs.Computation.{Computation}
 use Rattle.mr_user.specs.Laws.{CodecLaws}
 use Rattle.mr_mapside.specs.declared.front.Front.{Front}
-use Rattle.mr_mapside.specs.Runs.{pair_at, pairs_in, IsRun, pairs_in_all, merged}
+use Rattle.mr_mapside.specs.Runs.{pair_at, pairs_in, ArePairs, IsRun, AreRuns, pairs_in_all, merged}
 use Rattle.mr_user.specs.Groups.{values_of, groups_of}
 use Rattle.mr_user.specs.Meaning.{others_of}
 use Rattle.mr_user.proofs.LeastGroup.{least_first}
 use Rattle.mr_mapside.specs.Fronts.{at, left_at, front_cmp, IsFirst, AreFronts, Holds, Adds, rest_at, with_rest, NotBelow, Without, AreNotBelow, Passes}
-use Rattle.mr_mapside.proofs.RunReading.{first_pair}
+use Rattle.mr_mapside.proofs.RunReading.{first_pair, pairs_behind}
 use Rattle.mr_mapside.proofs.RunMerging.{all_joined, each_place, each_before, at_place, set_each, fails_off, passes_off, no_values, all_others, turned, not_below_first, itself_not_below, without_above}
 
 some_is : {A : Type 0} (x y : A) → Some x ≡ Some y → x ≡ y
@@ -199,7 +199,7 @@ module _ {K V : Type 0} (job : Computation K V) (key_laws : CodecLaws job.key) (
         let same : first.bytes ≡ b ∷ bytes = some_is first.bytes (b ∷ bytes) (sym first.there ∙ ap (slice_get lists) place ∙ at_j) in
         let rest = pairs_in job (drop g.0.len (b ∷ bytes)) in
         let pairs : pairs_in job (b ∷ bytes) ≡ (g.0.key, g.0.value) ∷ rest = first_pair job key_laws value_laws (b ∷ bytes) ((g.0.key, g.0.value), g.0.len) (ap (pair_at job) (sym same) ∙ first.pair) in
-        let run : IsRun job ((g.0.key, g.0.value) ∷ rest) = subst (IsRun job) pairs (at_place (λ (bytes : List ℕ). IsRun job (pairs_in job bytes)) lists j (b ∷ bytes) at_j holds.runs) in
+        let run : IsRun job ((g.0.key, g.0.value) ∷ rest) = subst (IsRun job) pairs (at_place (λ (bytes : List ℕ). ArePairs job bytes × IsRun job (pairs_in job bytes)) lists j (b ∷ bytes) at_j holds.runs).1 in
         let part = not_less (job.cmp g.0.key f.0.key) (nat_cmp g.0.list f.0.list) low in
         let up : is_gt (job.cmp f.0.key g.0.key) ≡ false = turned job.cmp order f.0.key g.0.key part.0 in (
           subst (NotBelow job.cmp f.0.key) (sym pairs) (not_below_first job.cmp order f.0.key g.0.key g.0.value rest up run.0),
@@ -228,6 +228,12 @@ module _ {K V : Type 0} (job : Computation K V) (key_laws : CodecLaws job.key) (
         others = fails_off (pairs_in job) (λ (p : K × V). not (eq_by_cmp job.cmp f.0.key p.0)) lists f.0.list first.bytes rest (f.0.key, f.0.value) first.there pairs (ap not itself);
       }
 
+  -- behind its first pair a list is pairs to its end
+  pub pairs_left : (lists : List (List ℕ)) (f : Front K V) → AreRuns job lists → IsFirst job lists f → ArePairs job (rest_at lists f.list f.len)
+  pairs_left lists f runs first =
+      let here = at_place (λ (bytes : List ℕ). ArePairs job bytes × IsRun job (pairs_in job bytes)) lists f.list first.bytes first.there runs in
+      subst (ArePairs job) (sym (rest_is lists f first)) (pairs_behind job key_laws value_laws first.bytes ((f.key, f.value), f.len) first.pair here.0)
+
   -- the lists without a pair that was given, and the fronts with the next one
   pub settled : (lists : List (List ℕ)) (fronts rest after : List F) (f : F) → Holds job lists fronts → IsPermutation fronts (f ∷ rest) → IsHeap (front_cmp job) rest → Adds job f.0.list (rest_at lists f.0.list f.0.len) rest after →
       Holds job (with_rest lists f.0.list f.0.len) after
@@ -237,7 +243,8 @@ module _ {K V : Type 0} (job : Computation K V) (key_laws : CodecLaws job.key) (
       let now = with_rest lists f.0.list f.0.len in
       let first = popped.1 in
       let pairs : pairs_in job first.bytes ≡ (f.0.key, f.0.value) ∷ pairs_in job bytes = first_pair job key_laws value_laws first.bytes ((f.0.key, f.0.value), f.0.len) first.pair ∙ ap (λ (bytes : List ℕ). (f.0.key, f.0.value) ∷ pairs_in job bytes) (sym (rest_is lists f.0 first)) in
-      let run : IsRun job ((f.0.key, f.0.value) ∷ pairs_in job bytes) = subst (IsRun job) pairs (at_place (λ (bytes : List ℕ). IsRun job (pairs_in job bytes)) lists f.0.list first.bytes first.there holds.runs) in
+      let here = at_place (λ (bytes : List ℕ). ArePairs job bytes × IsRun job (pairs_in job bytes)) lists f.0.list first.bytes first.there holds.runs in
+      let run : IsRun job ((f.0.key, f.0.value) ∷ pairs_in job bytes) = subst (IsRun job) pairs here.1 in
       record {
         all = fronts_added (λ j. cond (eqb f.0.list j) 0 (left_at now j)) (left_at now) now f.0.list bytes rest after
             (fronts_moved lists f.0.list bytes rest popped.0) (get-set_same lists f.0.list first.bytes bytes first.there) adds
@@ -245,7 +252,7 @@ module _ {K V : Type 0} (job : Computation K V) (key_laws : CodecLaws job.key) (
               | true ↦ λ t. let same : left_at now j ≡ left_at now f.0.list = ap (left_at now) (sym (eqb-true f.0.list j t)) in omega arith
               | false ↦ λ _. omega arith
             ] refl);
-        runs = set_each (λ (bytes : List ℕ). IsRun job (pairs_in job bytes)) lists f.0.list bytes run.1 holds.runs;
+        runs = set_each (λ (bytes : List ℕ). ArePairs job bytes × IsRun job (pairs_in job bytes)) lists f.0.list bytes (pairs_left lists f.0 holds.runs first, run.1) holds.runs;
       }
 
   -- nothing below a key stays so

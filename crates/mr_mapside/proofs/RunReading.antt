@@ -5,7 +5,7 @@ use Rattle.std.specs.Option.{option_map, option_map_or, option_and_then}
 use Rattle.mr_user.specs.Computation.{Computation}
 use Rattle.mr_user.specs.Laws.{CodecLaws, PairFits, PairsFit}
 use Rattle.mr_mapside.specs.Block.{spelled_pair, spelled}
-use Rattle.mr_mapside.specs.Runs.{pair_at, pairs_upto, pairs_in}
+use Rattle.mr_mapside.specs.Runs.{pair_at, pairs_upto, pairs_in, unread_upto, ArePairs}
 
 module _ {K V : Type 0} (job : Computation K V) (key_laws : CodecLaws job.key) (value_laws : CodecLaws job.value) where
   some_is : {A : Type 0} (x y : A) → Some x ≡ Some y → x ≡ y
@@ -72,6 +72,45 @@ module _ {K V : Type 0} (job : Computation K V) (key_laws : CodecLaws job.key) (
       ap (λ o. option_map_or (λ (found : (K × V) × ℕ). found.0 ∷ pairs_upto job (length bytes) (drop found.1 (b ∷ bytes))) o []) e
       ∙ ap (λ ps. found.0 ∷ ps) (fuel (length bytes) (length (drop found.1 (b ∷ bytes))) (drop found.1 (b ∷ bytes)) (omega arith) (omega arith))
 
+  pub unread_nothing : (most : ℕ) → unread_upto job most [] ≡ []
+  unread_nothing zero = refl
+  unread_nothing (suc most) = ap (λ o. option_map_or (λ (found : (K × V) × ℕ). unread_upto job most (drop found.1 [])) o []) no_pair_left
+
+  -- a greater number of pairs leaves no more
+  unread_fuel : (m n : ℕ) (bytes : List ℕ) → length bytes ≤ m → length bytes ≤ n → unread_upto job m bytes ≡ unread_upto job n bytes
+  unread_fuel m n [] h k = unread_nothing m ∙ sym (unread_nothing n)
+  unread_fuel zero n (b ∷ bytes) h k = absurd (omega arith)
+  unread_fuel (suc m) zero (b ∷ bytes) h k = absurd (omega arith)
+  unread_fuel (suc m) (suc n) (b ∷ bytes) h k = step (pair_at job (b ∷ bytes)) (λ found e. pair_some (b ∷ bytes) found e) (λ rest l r. unread_fuel m n rest l r) where
+    step : (o : Option ((K × V) × ℕ)) → ((found : (K × V) × ℕ) → o ≡ Some found → 0 < found.1) → ((rest : List ℕ) → length rest ≤ m → length rest ≤ n → unread_upto job m rest ≡ unread_upto job n rest) →
+        option_map_or (λ (found : (K × V) × ℕ). unread_upto job m (drop found.1 (b ∷ bytes))) o (b ∷ bytes)
+        ≡ option_map_or (λ (found : (K × V) × ℕ). unread_upto job n (drop found.1 (b ∷ bytes))) o (b ∷ bytes)
+    step None some same = refl
+    step (Some found) some same =
+        let left = length-drop found.1 (b ∷ bytes) in
+        let byte = some found refl in
+        same (drop found.1 (b ∷ bytes)) (omega arith) (omega arith)
+
+  -- behind the first pair as much is left as behind all
+  unread_first : (bytes : List ℕ) (found : (K × V) × ℕ) → pair_at job bytes ≡ Some found → unread_upto job (length bytes) bytes ≡ unread_upto job (length (drop found.1 bytes)) (drop found.1 bytes)
+  unread_first [] found e = absurd (let none = no_pair_left in cc)
+  unread_first (b ∷ bytes) found e =
+      let byte = pair_some (b ∷ bytes) found e in
+      let left = length-drop found.1 (b ∷ bytes) in
+      ap (λ o. option_map_or (λ (found : (K × V) × ℕ). unread_upto job (length bytes) (drop found.1 (b ∷ bytes))) o (b ∷ bytes)) e
+      ∙ unread_fuel (length bytes) (length (drop found.1 (b ∷ bytes))) (drop found.1 (b ∷ bytes)) (omega arith) (omega arith)
+
+  -- bytes that are pairs are pairs behind the first
+  pub pairs_behind : (bytes : List ℕ) (found : (K × V) × ℕ) → pair_at job bytes ≡ Some found → ArePairs job bytes → ArePairs job (drop found.1 bytes)
+  pairs_behind bytes found e h = sym (unread_first bytes found e) ∙ h
+
+  -- bytes that are pairs are none, or begin with one
+  pub begins_pair : (bytes : List ℕ) → ArePairs job bytes → 0 < length bytes → pair_at job bytes ≡ None → ⊥
+  begins_pair [] h some none = omega arith
+  begins_pair (b ∷ bytes) h some none =
+      let left : unread_upto job (length (b ∷ bytes)) (b ∷ bytes) ≡ b ∷ bytes = ap (λ o. option_map_or (λ (found : (K × V) × ℕ). unread_upto job (length bytes) (drop found.1 (b ∷ bytes))) o (b ∷ bytes)) none in
+      cc
+
   -- a pair that was written is read again, whatever follows it
   pub pair_again : (p : K × V) (rest : List ℕ) → PairFits job p → pair_at job (spelled_pair job p ++ rest) ≡ Some (p, length (spelled_pair job p))
   pair_again p rest h =
@@ -92,3 +131,11 @@ module _ {K V : Type 0} (job : Computation K V) (key_laws : CodecLaws job.key) (
       first_pair (spelled job (p ∷ ps)) (p, length (spelled_pair job p)) (pair_again p (spelled job ps) fit.0)
       ∙ ap (λ bytes. p ∷ pairs_in job bytes) (drop_at (spelled_pair job p) (spelled job ps) (length (spelled_pair job p)) refl)
       ∙ ap (λ qs. p ∷ qs) (read_back ps fit.1)
+
+  -- and then no byte is left
+  pub pairs_written : (ps : List (K × V)) → PairsFit job ps → ArePairs job (spelled job ps)
+  pairs_written [] fit = refl
+  pairs_written (p ∷ ps) fit =
+      unread_first (spelled job (p ∷ ps)) (p, length (spelled_pair job p)) (pair_again p (spelled job ps) fit.0)
+      ∙ ap (λ bytes. unread_upto job (length bytes) bytes) (drop_at (spelled_pair job p) (spelled job ps) (length (spelled_pair job p)) refl)
+      ∙ pairs_written ps fit.1

@@ -16,10 +16,10 @@ use Rattle.mr_user.specs.Laws.{CodecLaws}
 use Rattle.mr_user.specs.Meaning.{others_of}
 use Rattle.mr_user.proofs.Grouping.{gathered}
 use Rattle.mr_mapside.specs.declared.front.Front.{Front}
-use Rattle.mr_mapside.specs.Runs.{pairs_in_all, merged}
+use Rattle.mr_mapside.specs.Runs.{ArePairs, pairs_in_all, merged}
 use Rattle.mr_mapside.specs.Fronts.{front_cmp, IsFirst, Holds, Adds, rest_at, with_rest, Without, AreNotBelow, Passes, Takes}
 use Rattle.mr_mapside.proofs.RunReading.{pair_within}
-use Rattle.mr_mapside.proofs.RunFronts.{fronts_popped, settled, passed, least_is, not_below_kept, front_not_below, without_least, nothing_left, first_group, group_given}
+use Rattle.mr_mapside.proofs.RunFronts.{fronts_popped, pairs_left, settled, passed, least_is, not_below_kept, front_not_below, without_least, nothing_left, first_group, group_given}
 
 first_same : {A : Type 0} (xs : List A) (x y : A) → 0 < length xs → x ≡ get_or xs 0 x → y ≡ get_or xs 0 y → x ≡ y
 first_same [] x y l a b = absurd (omega arith)
@@ -52,6 +52,9 @@ module _ {K V : Type 0} (job : Computation K V) (key_laws : CodecLaws job.key) (
   pair_fits lists fronts rest f p =
       let first = first_of lists fronts rest f p in
       subst (λ (bytes : List ℕ). f.0.len ≤ length bytes) (sym (get_or_from_slice_get lists f.0.list first.bytes [] first.there)) (pair_within job key_laws value_laws first.bytes ((f.0.key, f.0.value), f.0.len) first.pair)
+
+  pub pairs_then : (lists : List (List ℕ)) (fronts rest : List F) (f : F) → Popped lists fronts rest f → ArePairs job (rest_at lists f.0.list f.0.len)
+  pairs_then lists fronts rest f p = pairs_left job key_laws value_laws order lists f.0 p.0.runs (first_of lists fronts rest f p)
 
   pub holds_then : (lists now : List (List ℕ)) (fronts rest after : List F) (f : F) → Popped lists fronts rest f → now ≡ with_rest lists f.0.list f.0.len → Adds job f.0.list (rest_at lists f.0.list f.0.len) rest after → Holds job now after
   holds_then lists now fronts rest after f p is adds =

@@ -21,14 +21,23 @@ module _ {K V : Type 0} (job : Computation K V) where
   abbrev pub pairs_in : List ℕ → List (K × V)
   pairs_in bytes = pairs_upto (length bytes) bytes
 
+  -- what is left of bytes behind the pairs that they begin with, up to a number of them
+  abbrev pub unread_upto : ℕ → List ℕ → List ℕ
+  unread_upto zero bytes = bytes
+  unread_upto (suc most) bytes = option_map_or (λ found. unread_upto most (drop found.1 bytes)) (pair_at bytes) bytes
+
+  -- bytes are pairs to their end
+  abbrev pub ArePairs : List ℕ → Type 0
+  ArePairs bytes = unread_upto (length bytes) bytes ≡ []
+
   -- no key is less than one before it
   abbrev pub IsRun : List (K × V) → Type 0
   IsRun [] = Unit {0}
   IsRun (p ∷ ps) = AllByRecursion (λ q. is_lt (job.cmp q.0 p.0) ≡ false) ps × IsRun ps
 
-  -- the pairs in each list are by rising keys
+  -- each list is pairs to its end, by rising keys
   abbrev pub AreRuns : List (List ℕ) → Type 0
-  AreRuns lists = AllByRecursion (λ bytes. IsRun (pairs_in bytes)) lists
+  AreRuns lists = AllByRecursion (λ bytes. ArePairs bytes × IsRun (pairs_in bytes)) lists
 
   -- the pairs in lists, by list and then by place
   abbrev pub pairs_in_all : List (List ℕ) → List (K × V)

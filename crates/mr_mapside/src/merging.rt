@@ -3,7 +3,7 @@ ghost use Rattle.std.specs.Prelude.{◌≡◌, ◌≢◌, ◌≤◌, ◌<◌, []
 ghost use Rattle.std.specs.BinaryHeap.{heap_items};
 ghost use Rattle.mr_user.specs.Computation.{computation};
 ghost use Rattle.mr_user.specs.Faults.{BadWireIf};
-ghost use Rattle.mr_mapside.specs.Runs.{pair_at, AreRuns, merged, GivesGroup};
+ghost use Rattle.mr_mapside.specs.Runs.{pair_at, ArePairs, AreRuns, merged, GivesGroup};
 ghost use Rattle.mr_mapside.specs.Fronts.{Adds, Holds, AreNotBelow, Takes, rest_at, with_rest};
 
 use crate::front::Front;
@@ -28,29 +28,33 @@ pub fn read_pair<J: Job>(
     Ok(((key, value), key_len + value_len))
 }
 
-// Adds the first pair of a list, if it has one.
+// Adds the first pair of a list of pairs, if it has one.
 fn add_front<J: Job>(
     alloc: Global,
     fronts: &mut BinaryHeap<Reverse<Front<J::Key, J::Value>>>,
     list: usize,
     bytes: &[u8],
 ) -> Result<(), AllocError>
+    requires { ArePairs (computation J.Key.cmp J.Key.codec J.Value.codec J.functions) bytes.now }
     ensures { OnOk result (Adds (computation J.Key.cmp J.Key.codec J.Value.codec J.functions) list bytes.now (heap_items fronts.old) (heap_items fronts.new)) }
 {
     if bytes.is_empty() {
         return Ok(());
     }
-    let Ok((pair, len)) = read_pair::<J>(alloc, bytes) else {
-        return Err(AllocError);
-    };
-    let (key, value) = pair;
-    fronts.push(Reverse(Front {
-        key,
-        list,
-        value,
-        len,
-    }))?;
-    Ok(())
+    match read_pair::<J>(alloc, bytes) {
+        Ok((pair, len)) => {
+            let (key, value) = pair;
+            fronts.push(Reverse(Front {
+                key,
+                list,
+                value,
+                len,
+            }))?;
+            Ok(())
+        }
+        Err(UserFault::NoMemory) => Err(AllocError),
+        Err(UserFault::Refused | UserFault::BadWire) => unreachable!(),
+    }
 }
 
 // Takes the first bytes of a list off it, and adds the pair that is then its first.
@@ -63,6 +67,7 @@ fn refill<'a, J: Job>(
 ) -> Result<(), AllocError>
     requires there { list < vec_len lists.old }
     requires within { len ≤ length (get_or (map (λ bytes. bytes.now) lists.old.items) list []) }
+    requires pairs { ArePairs (computation J.Key.cmp J.Key.codec J.Value.codec J.functions) (rest_at (map (λ bytes. bytes.now) lists.old.items) list len) }
     ensures lists { OnOk result (map (λ bytes. bytes.now) lists.new.items ≡ with_rest (map (λ bytes. bytes.now) lists.old.items) list len) }
     ensures fronts { OnOk result (Adds (computation J.Key.cmp J.Key.codec J.Value.codec J.functions) list (rest_at (map (λ bytes. bytes.now) lists.old.items) list len) (heap_items fronts.old) (heap_items fronts.new)) }
 {
@@ -157,7 +162,7 @@ impl<'a, J: Job> Model for RunGroups<'a, J> {
 }
 
 impl<'a, J: Job> RunGroups<'a, J> {
-    /// The groups of the pairs in lists, where those of each list are by rising keys.
+    /// The groups of the pairs in lists, where each list is written pairs to its end, by rising keys.
     pub fn new(alloc: Global, lists: Vec<&'a [u8]>) -> Result<RunGroups<'a, J>, AllocError>
         requires { AreRuns (computation J.Key.cmp J.Key.codec J.Value.codec J.functions) (map (λ bytes. bytes.now) lists.items) }
         ensures { IfOk result (λ groups. groups ≡ merged (computation J.Key.cmp J.Key.codec J.Value.codec J.functions) (map (λ bytes. bytes.now) lists.entry.items)) }

@@ -1,5 +1,5 @@
 -- The bytes of a block are read again, and the parts of the blocks make the text.
-use Rattle.std.proofs.Common.{◌≡◌, ℕ, zero, suc, ◌+◌, ◌<◌, ◌≤◌, ◌^◌, true, false, cond, List, [], ◌∷◌, ◌++◌, map, length, drop, Option, Some, None, Ok, Err, refl, sym, ap, subst, ◌∙◌, T, arith, append_assoc, length-append, eqb}
+use Rattle.std.proofs.Common.{◌≡◌, ℕ, zero, suc, ◌+◌, ◌<◌, ◌≤◌, ◌^◌, true, false, cond, List, [], ◌∷◌, ◌++◌, map, length, drop, Option, Some, None, Ok, Err, refl, sym, ap, subst, ◌∙◌, T, arith, length-append, eqb}
 use Rattle.std.proofs.lemmas.List.{drop_at}
 use Rattle.std.proofs.lemmas.List.Elements.{filter-append}
 use Rattle.std.proofs.lemmas.Cmp.{tied_itself}
@@ -7,7 +7,7 @@ use Rattle.std.specs.declared.cmp.Ordering.{Ordering}
 use Rattle.std.specs.declared.cmp.Ordering.TheVariants.{Less, Equal, Greater}
 use Rattle.std.specs.Cmp.{IsTotalOrder}
 use Rattle.std.specs.List.{flat_map, AllByRecursion}
-use Rattle.std.specs.Option.{option_map, option_map_or, option_and_then}
+use Rattle.std.specs.Option.{option_map, option_map_or}
 use Rattle.std.specs.Ordering.{is_lt, ordering_reverse}
 use Rattle.std.specs.FinMap as finmap
 use Rattle.std.specs.FinMap.Entries.{is_sorted, below_all}
@@ -19,6 +19,7 @@ use Rattle.mr_user.proofs.Rising.{and_left, and_right}
 use Rattle.mr_mapside.specs.Block.{combined_pairs, spelled_pair, spelled, block, blocks_from}
 use Rattle.mr_mapside.specs.declared.fault.ShuffleFault.TheVariants.{Truncated, Disorder}
 use Rattle.mr_mapside.specs.Runs.{pair_at}
+use Rattle.mr_mapside.proofs.RunReading.{pair_again}
 use Rattle.mr_shuffle.specs.Part.{result_map, in_front, first_then, goes_down, pairs_at, pairs_of_piece, pairs_of_pieces, part}
 use Rattle.mr_shuffle.specs.PieceMeaning.{IsLevel}
 use Rattle.mr_shuffle.specs.SequentialText.{AreSplits}
@@ -31,19 +32,6 @@ pub record Lawful {K V : Type 0} (job : Computation K V) : Type 0 where
   pub order : IsTotalOrder job.cmp
 
 module _ {K V : Type 0} (job : Computation K V) (laws : Lawful job) where
-  -- a pair that was written is read again, whatever follows it
-  pub pair_again : (p : K × V) (rest : List ℕ) → PairFits job p → pair_at job (spelled_pair job p ++ rest) ≡ Some (p, length (spelled_pair job p))
-  pair_again p rest h =
-      let k = job.key.written p.0 in
-      let v = job.value.written p.1 in
-      let at_key : job.key.read_at (spelled_pair job p ++ rest) ≡ Some (p.0, length k) =
-      ap job.key.read_at (append_assoc k v rest) ∙ laws.key_laws.read_written p.0 (v ++ rest) h.0 in
-      let at_value : job.value.read_at (drop (length k) (spelled_pair job p ++ rest)) ≡ Some (p.1, length v) =
-      ap job.value.read_at (ap (drop (length k)) (append_assoc k v rest) ∙ drop_at k (v ++ rest) (length k) refl) ∙ laws.value_laws.read_written p.1 rest h.1 in
-      ap (option_and_then (λ (key : K × ℕ). option_map (λ (value : V × ℕ). ((key.0, value.0), key.1 + value.1)) (job.value.read_at (drop key.1 (spelled_pair job p ++ rest))))) at_key
-      ∙ ap (option_map (λ (value : V × ℕ). ((p.0, value.0), length k + value.1))) at_value
-      ∙ ap (λ n. Some (p, n)) (sym (length-append k v))
-
   -- one step of reading a piece
   pub one_pair : (most : ℕ) (before : Option K) (bytes : List ℕ) (p : K × V) (n : ℕ) → 0 < length bytes → pair_at job bytes ≡ Some (p, n) → goes_down job before p.0 ≡ false →
       pairs_at job (suc most) before bytes ≡ in_front p (pairs_at job most (Some p.0) (drop n bytes))
@@ -66,7 +54,7 @@ module _ {K V : Type 0} (job : Computation K V) (laws : Lawful job) where
       let k = length-append (job.key.written p.0) (job.value.written p.1) in
       let some = laws.key_laws.not_empty p.0 in
       let less : length (spelled job ps) ≤ most = omega arith in
-      one_pair most before (spelled job (p ∷ ps)) p (length (spelled_pair job p)) (omega arith) (pair_again p (spelled job ps) f.0) l.0
+      one_pair most before (spelled job (p ∷ ps)) p (length (spelled_pair job p)) (omega arith) (pair_again job laws.key_laws laws.value_laws p (spelled job ps) f.0) l.0
       ∙ ap (λ bytes. in_front p (pairs_at job most (Some p.0) bytes)) (drop_at (spelled_pair job p) (spelled job ps) (length (spelled_pair job p)) refl)
       ∙ ap (in_front p) (pairs_again ps (Some p.0) most less f.1 l.1)
 

@@ -14,8 +14,8 @@ use Rattle.mr_user.specs.Sequential.{text_of, key_lines}
 use Rattle.mr_user.specs.Groups.{groups_of}
 use Rattle.mr_mapside.specs.declared.fault.ShuffleFault.{ShuffleFault}
 use Rattle.mr_mapside.specs.declared.fault.ShuffleFault.TheVariants.{Truncated, Disorder}
-use Rattle.mr_mapside.specs.Runs.{pair_at, pairs_upto, pairs_in, pairs_in_all, IsRun, AreRuns}
-use Rattle.mr_mapside.proofs.RunReading.{nothing_upto}
+use Rattle.mr_mapside.specs.Runs.{pair_at, pairs_upto, pairs_in, pairs_in_all, unread_upto, IsRun, AreRuns}
+use Rattle.mr_mapside.proofs.RunReading.{nothing_upto, unread_nothing}
 use Rattle.mr_mapside.proofs.RunMerging.{turned}
 use Rattle.mr_shuffle.specs.Part.{result_map, in_front, first_then, goes_down, pairs_at, pairs_of_piece, pairs_of_pieces, pairs_of_all}
 use Rattle.mr_shuffle.specs.PieceMeaning.{IsLevel}
@@ -24,24 +24,24 @@ same_ok : {A E : Type 0} (x y : A) → ◌≡◌ {A = Result A E} (Ok x) (Ok y) 
 same_ok x y e = cc
 
 module _ {K V : Type 0} (job : Computation K V) (key_laws : CodecLaws job.key) (value_laws : CodecLaws job.value) (order : IsTotalOrder job.cmp) where
-  -- what is read in order is read
-  reads : (most : ℕ) (before : Option K) (bytes : List ℕ) (ps : List (K × V)) → pairs_at job most before bytes ≡ Ok ps → (pairs_upto job most bytes ≡ ps) × IsLevel job before ps
-  reads most before [] ps e = let none : [] ≡ ps = same_ok {E = ShuffleFault} [] ps e in (nothing_upto job key_laws value_laws most ∙ none, subst (IsLevel job before) none tt)
+  -- what is read in order is read, to its end
+  reads : (most : ℕ) (before : Option K) (bytes : List ℕ) (ps : List (K × V)) → pairs_at job most before bytes ≡ Ok ps → (pairs_upto job most bytes ≡ ps) × (unread_upto job most bytes ≡ []) × IsLevel job before ps
+  reads most before [] ps e = let none : [] ≡ ps = same_ok {E = ShuffleFault} [] ps e in (nothing_upto job key_laws value_laws most ∙ none, unread_nothing job key_laws value_laws most, subst (IsLevel job before) none tt)
   reads zero before (b ∷ bytes) ps e = cc
   reads (suc most) before (b ∷ bytes) ps e = by (λ before bytes qs e. reads most before bytes qs e) (pair_at job (b ∷ bytes)) e where
-    more : ((before : Option K) (bytes : List ℕ) (qs : List (K × V)) → pairs_at job most before bytes ≡ Ok qs → (pairs_upto job most bytes ≡ qs) × IsLevel job before qs) → (found : (K × V) × ℕ) (r : Result (List (K × V)) ShuffleFault) → r ≡ pairs_at job most (Some found.0.0) (drop found.1 (b ∷ bytes)) → goes_down job before found.0.0 ≡ false → in_front found.0 r ≡ Ok ps →
-        (found.0 ∷ pairs_upto job most (drop found.1 (b ∷ bytes)) ≡ ps) × IsLevel job before ps
+    more : ((before : Option K) (bytes : List ℕ) (qs : List (K × V)) → pairs_at job most before bytes ≡ Ok qs → (pairs_upto job most bytes ≡ qs) × (unread_upto job most bytes ≡ []) × IsLevel job before qs) → (found : (K × V) × ℕ) (r : Result (List (K × V)) ShuffleFault) → r ≡ pairs_at job most (Some found.0.0) (drop found.1 (b ∷ bytes)) → goes_down job before found.0.0 ≡ false → in_front found.0 r ≡ Ok ps →
+        (found.0 ∷ pairs_upto job most (drop found.1 (b ∷ bytes)) ≡ ps) × (unread_upto job most (drop found.1 (b ∷ bytes)) ≡ []) × IsLevel job before ps
     more again found (Err fault) is level e = cc
     more again found (Ok qs) is level e =
         let rest = again (Some found.0.0) (drop found.1 (b ∷ bytes)) qs (sym is) in
         let whole : found.0 ∷ qs ≡ ps = same_ok {E = ShuffleFault} (found.0 ∷ qs) ps e in
-        (ap (λ qs. found.0 ∷ qs) rest.0 ∙ whole, subst (IsLevel job before) whole (level, rest.1))
+        (ap (λ qs. found.0 ∷ qs) rest.0 ∙ whole, rest.1, subst (IsLevel job before) whole (level, rest.2))
 
-    by : ((before : Option K) (bytes : List ℕ) (qs : List (K × V)) → pairs_at job most before bytes ≡ Ok qs → (pairs_upto job most bytes ≡ qs) × IsLevel job before qs) → (o : Option ((K × V) × ℕ)) → option_map_or (λ (found : (K × V) × ℕ). cond (goes_down job before found.0.0) (Err Disorder) (in_front found.0 (pairs_at job most (Some found.0.0) (drop found.1 (b ∷ bytes))))) o (Err Truncated) ≡ Ok ps →
-        (option_map_or (λ (found : (K × V) × ℕ). found.0 ∷ pairs_upto job most (drop found.1 (b ∷ bytes))) o [] ≡ ps) × IsLevel job before ps
+    by : ((before : Option K) (bytes : List ℕ) (qs : List (K × V)) → pairs_at job most before bytes ≡ Ok qs → (pairs_upto job most bytes ≡ qs) × (unread_upto job most bytes ≡ []) × IsLevel job before qs) → (o : Option ((K × V) × ℕ)) → option_map_or (λ (found : (K × V) × ℕ). cond (goes_down job before found.0.0) (Err Disorder) (in_front found.0 (pairs_at job most (Some found.0.0) (drop found.1 (b ∷ bytes))))) o (Err Truncated) ≡ Ok ps →
+        (option_map_or (λ (found : (K × V) × ℕ). found.0 ∷ pairs_upto job most (drop found.1 (b ∷ bytes))) o [] ≡ ps) × (option_map_or (λ (found : (K × V) × ℕ). unread_upto job most (drop found.1 (b ∷ bytes))) o (b ∷ bytes) ≡ []) × IsLevel job before ps
     by again None e = cc
     by again (Some found) e =
-        elim (goes_down job before found.0.0) as (λ t. goes_down job before found.0.0 ≡ t → cond t (Err Disorder) (in_front found.0 (pairs_at job most (Some found.0.0) (drop found.1 (b ∷ bytes)))) ≡ Ok ps → (found.0 ∷ pairs_upto job most (drop found.1 (b ∷ bytes)) ≡ ps) × IsLevel job before ps) [
+        elim (goes_down job before found.0.0) as (λ t. goes_down job before found.0.0 ≡ t → cond t (Err Disorder) (in_front found.0 (pairs_at job most (Some found.0.0) (drop found.1 (b ∷ bytes)))) ≡ Ok ps → (found.0 ∷ pairs_upto job most (drop found.1 (b ∷ bytes)) ≡ ps) × (unread_upto job most (drop found.1 (b ∷ bytes)) ≡ []) × IsLevel job before ps) [
           | true ↦ λ down e. cc
           | false ↦ λ level e. more again found (pairs_at job most (Some found.0.0) (drop found.1 (b ∷ bytes))) refl level e
         ] refl e
@@ -77,7 +77,7 @@ module _ {K V : Type 0} (job : Computation K V) (key_laws : CodecLaws job.key) (
         let here = reads (length piece) None piece ps is in
         let rest = again (ap result_err all) in
         let flat : flat_map (λ ps. ps) pss ≡ pairs_in_all job pieces = same_ok {E = ShuffleFault} (flat_map (λ ps. ps) pss) (pairs_in_all job pieces) (ap (result_map (flat_map (λ ps. ps))) (sym all) ∙ rest.1) in (
-          (subst (IsRun job) (sym here.0) (rises None ps here.1), rest.0),
+          ((here.1, subst (IsRun job) (sym here.0) (rises None ps here.2)), rest.0),
           (λ i. result_map (flat_map (λ ps. ps)) (first_then (is i) (all i))) ∙ (λ i. Ok (sym here.0 i ++ flat i)),
         )
 

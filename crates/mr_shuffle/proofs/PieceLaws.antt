@@ -10,8 +10,8 @@ use Rattle.mr_mapside.specs.declared.fault.ShuffleFault.TheVariants as shuffle
 use Rattle.mr_mapside.specs.Runs.{pair_at}
 use Rattle.mr_shuffle.specs.Part.{last_key, in_front, goes_down, pairs_at, pairs_of_piece}
 use Rattle.mr_shuffle.specs.PieceMeaning.{IsLevel, ArePairsThen, BeginsNoPair, Says, PieceIsWhatItSays}
-use Rattle.mr_shuffle.proofs.Composing.{Lawful, pair_again, one_pair}
-use Rattle.mr_mapside.proofs.RunReading.{pair_some}
+use Rattle.mr_shuffle.proofs.Composing.{Lawful, one_pair}
+use Rattle.mr_mapside.proofs.RunReading.{pair_again, pair_some}
 use Rattle.mr_shuffle.proofs.Decoding.{in_front_all, enough, read_down}
 
 bytes-drop : (n : ℕ) (bytes : List ℕ) → AreBytes bytes → AreBytes (drop n bytes)
@@ -64,7 +64,7 @@ module _ {K V : Type 0} (job : Computation K V) (laws : Lawful job) where
       let some = pair_long p in
       let less : length (spelled job ps ++ rest) ≤ most = omega arith in
       ap (pairs_at job (suc most) before) same
-      ∙ one_pair job laws most before bytes p (length (spelled_pair job p)) (omega arith) (pair_again job laws p (spelled job ps ++ rest) f.0) l.0
+      ∙ one_pair job laws most before bytes p (length (spelled_pair job p)) (omega arith) (pair_again job laws.key_laws laws.value_laws p (spelled job ps ++ rest) f.0) l.0
       ∙ ap (λ bytes. in_front p (pairs_at job most (Some p.0) bytes)) (drop_at (spelled_pair job p) (spelled job ps ++ rest) (length (spelled_pair job p)) refl)
       ∙ ap (in_front p) (again_then ps (Some p.0) most rest less f.1 l.1)
       ∙ front-all p ps (pairs_at job (length rest) (key_after (Some p.0) ps) rest)
@@ -92,7 +92,7 @@ module _ {K V : Type 0} (job : Computation K V) (laws : Lawful job) where
     at_key (Some k) is e = at_value k (job.value.read_at (drop k.1 bytes)) is refl e
 
   no_pair : (bytes : List ℕ) → pair_at job bytes ≡ None → BeginsNoPair job bytes
-  no_pair bytes none p rest fit same = let some = pair_again job laws p rest fit in let is : pair_at job bytes ≡ Some (p, length (spelled_pair job p)) = ap (pair_at job) same ∙ some in cc
+  no_pair bytes none p rest fit same = let some = pair_again job laws.key_laws laws.value_laws p rest fit in let is : pair_at job bytes ≡ Some (p, length (spelled_pair job p)) = ap (pair_at job) same ∙ some in cc
 
   is_none : (bytes : List ℕ) → AreBytes bytes → BeginsNoPair job bytes → pair_at job bytes ≡ None
   is_none bytes h none = by (pair_at job bytes) refl where
@@ -169,7 +169,7 @@ module _ {K V : Type 0} (job : Computation K V) (laws : Lawful job) where
       let e = length-append (spelled_pair job p) rest in
       let some = pair_long p in
       read_then piece ps bytes are
-      ∙ ap (in_front_all ps) (read_down job laws.key_laws laws.value_laws (last_key ps) bytes (p, length (spelled_pair job p)) (omega arith) (pair_again job laws p rest fit) down)
+      ∙ ap (in_front_all ps) (read_down job laws.key_laws laws.value_laws (last_key ps) bytes (p, length (spelled_pair job p)) (omega arith) (pair_again job laws.key_laws laws.value_laws p rest fit) down)
   said_so piece (Err shuffle.WrongPiece) a s = absurd s
   said_so piece (Err shuffle.NoMemory) a s = absurd s
 

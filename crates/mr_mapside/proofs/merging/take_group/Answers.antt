@@ -6,7 +6,7 @@ use Rattle.mr_user.specs.Groups.{values_of}
 use Rattle.mr_user.specs.Meaning.{others_of}
 use Rattle.mr_mapside.specs.Runs.{pairs_in_all}
 use Rattle.mr_mapside.specs.Fronts.{Without}
-use Rattle.mr_mapside.proofs.RunSteps.{place_there, pair_fits, holds_then, least_first_front, least_then, passes_then, given_then, merged_none, merged_some, on_err_always, one_given, takes_none}
+use Rattle.mr_mapside.proofs.RunSteps.{place_there, pair_fits, pairs_then, holds_then, least_first_front, least_then, passes_then, given_then, merged_none, merged_some, on_err_always, one_given, takes_none}
 use Rattle.mr_mapside.proofs.merging.take_group.Goals as goal
 
 pub returns-in_default-clause-gives : goal.returns-in_default-clause-gives
@@ -30,6 +30,12 @@ refill-requires-clause-within g c =
     let all = computation g.J.Key.Ord.cmp g.J.Key.Wire.codec g.J.Value.Wire.codec g.J.Job.functions in
     let lists = map (λ (bytes : Bor (List ℕ)). bytes.now) c.args.lists.now.items in
     pair_fits all g.met.J.Key.Wire.laws g.met.J.Value.Wire.laws g.met.J.Key.Ord.total g.met.J.Job.laws.same_key lists (heap_items c.args.fronts.now) (heap_items c.pop.new.self) c.in-Some.front (c.requires, c.in-Some.ensures.permutation, c.in-Some.ensures.heap_order)
+
+pub refill-requires-clause-pairs : goal.refill-requires-clause-pairs
+refill-requires-clause-pairs g c =
+    let all = computation g.J.Key.Ord.cmp g.J.Key.Wire.codec g.J.Value.Wire.codec g.J.Job.functions in
+    let lists = map (λ (bytes : Bor (List ℕ)). bytes.now) c.args.lists.now.items in
+    pairs_then all g.met.J.Key.Wire.laws g.met.J.Value.Wire.laws g.met.J.Key.Ord.total g.met.J.Job.laws.same_key lists (heap_items c.args.fronts.now) (heap_items c.pop.new.self) c.in-Some.front (c.requires, c.in-Some.ensures.permutation, c.in-Some.ensures.heap_order)
 
 pub returns-in_err-refill-clause-err : goal.returns-in_err-refill-clause-err
 returns-in_err-refill-clause-err g c =

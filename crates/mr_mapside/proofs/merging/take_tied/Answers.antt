@@ -3,7 +3,7 @@ use Rattle.std.proofs.lemmas.List.{length-map}
 use Rattle.std.specs.BinaryHeap.{heap_items, heap_len}
 use Rattle.std.proofs.lemmas.Bool.{false≢true}
 use Rattle.mr_user.specs.Computation.{computation}
-use Rattle.mr_mapside.proofs.RunSteps.{at_less, not_at_less, place_there, pair_fits, holds_then, least_then, tied_passes, none_left, no_length, without_top}
+use Rattle.mr_mapside.proofs.RunSteps.{at_less, not_at_less, place_there, pair_fits, pairs_then, holds_then, least_then, tied_passes, none_left, no_length, without_top}
 use Rattle.mr_mapside.proofs.merging.take_tied.Goals as goal
 
 pub returns-then-eq-clause-takes : goal.returns-then-eq-clause-takes
@@ -35,6 +35,12 @@ refill-requires-clause-within g c =
     let all = computation g.J.Key.Ord.cmp g.J.Key.Wire.codec g.J.Value.Wire.codec g.J.Job.functions in
     let lists = map (λ (bytes : Bor (List ℕ)). bytes.now) c.args.lists.now.items in
     pair_fits all g.met.J.Key.Wire.laws g.met.J.Value.Wire.laws g.met.J.Key.Ord.total g.met.J.Job.laws.same_key lists (heap_items c.args.fronts.now) (heap_items c.pop.new.self) c.in-Some-pop.front (c.requires.holds, c.in-Some-pop.ensures.permutation, c.in-Some-pop.ensures.heap_order)
+
+pub refill-requires-clause-pairs : goal.refill-requires-clause-pairs
+refill-requires-clause-pairs g c =
+    let all = computation g.J.Key.Ord.cmp g.J.Key.Wire.codec g.J.Value.Wire.codec g.J.Job.functions in
+    let lists = map (λ (bytes : Bor (List ℕ)). bytes.now) c.args.lists.now.items in
+    pairs_then all g.met.J.Key.Wire.laws g.met.J.Value.Wire.laws g.met.J.Key.Ord.total g.met.J.Job.laws.same_key lists (heap_items c.args.fronts.now) (heap_items c.pop.new.self) c.in-Some-pop.front (c.requires.holds, c.in-Some-pop.ensures.permutation, c.in-Some-pop.ensures.heap_order)
 
 pub returns-in_ok-refill-in-Some-pop-clause-holds : goal.returns-in_ok-refill-in-Some-pop-clause-holds
 returns-in_ok-refill-in-Some-pop-clause-holds g c =
