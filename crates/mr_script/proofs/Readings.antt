@@ -1,5 +1,5 @@
 -- A line is at most one command, and a script at most one list of them.
-use Rattle.std.proofs.Common.{◌≡◌, ◌<◌, ◌^◌, ◌+◌, ℕ, List, [], ◌∷◌, ◌++◌, Option, Some, None, decimal, codes, slice_index, sym, refl, ap, ap₂, ◌∙◌, arith, inl, inr}
+use Rattle.std.proofs.Common.{◌≡◌, ◌<◌, ◌^◌, ℕ, List, ◌∷◌, ◌++◌, Option, Some, None, decimal, codes, slice_index, sym, refl, ap, ap₂, ◌∙◌, arith}
 use Rattle.std.proofs.lemmas.Fmt.{decimal_injective}
 use Rattle.mr_ids.specs.declared.id.JobId.{JobId}
 use Rattle.mr_ids.specs.declared.id.TaskId.{TaskId}
@@ -14,9 +14,10 @@ use Rattle.mr_script.specs.declared.command.Command.TheVariants as command
 use Rattle.mr_script.specs.declared.event_name.EventName.{EventName}
 use Rattle.mr_script.specs.Lines.{before, after, lines_of}
 use Rattle.mr_script.specs.Names.{name_text}
-use Rattle.mr_script.specs.Script.{with_word, kind_word, task_words, container_word, and_words, fault_word, stop_words, line_of, rest_of, IsGeneration, IsContainer, IsTaskOf, IsCommand, IsLine, AreCommands, IsFirstBad}
+use Rattle.mr_script.specs.Script.{with_word, kind_word, task_words, container_word, and_words, fault_word, stop_words, line_of, rest_of, IsGeneration, IsContainer, IsTaskOf, IsCommand, IsLine}
 use Rattle.mr_script.specs.Verb.{verb_of}
 use Rattle.mr_script.specs.Laws.{OneReading, ReadOrBad, OneFirstBad}
+use Rattle.mr_script.proofs.Lines.{same-lines, not-both, same-first}
 use Rattle.mr_script.proofs.Words.{Lacks, before-by, after-by, none-after}
 use Rattle.mr_script.proofs.Numbers.{no-space, no-stop, low, container-no-space, kind-no-space}
 use Rattle.mr_script.proofs.Spellings.{text_of-injective, name_text-injective}
@@ -165,36 +166,11 @@ same-command job line c d x y =
     same-parts job c d x.0 y.0 (s.is ∙ ap Some verbs ∙ sym t.is)
     (some-inj (rest_of c) (rest_of d) (sym (after-line job c x.0) ∙ ap (after 32) e ∙ after-line job d y.0))
 
-same-commands : (job : JobId) (n : ℕ) (lines : List (List ℕ)) (cs ds : List (ℕ × Command)) → AreCommands job n lines cs → AreCommands job n lines ds → cs ≡ ds
-same-commands job n [] [] [] x y = refl
-same-commands job n [] [] (d ∷ ds) x y = absurd y
-same-commands job n [] (c ∷ cs) ds x y = absurd x
-same-commands job n ([] ∷ lines) cs ds x y = same-commands job (n + 1) lines cs ds x y
-same-commands job n ((b ∷ line) ∷ lines) [] ds x y = absurd x
-same-commands job n ((b ∷ line) ∷ lines) (c ∷ cs) [] x y = absurd y
-same-commands job n ((b ∷ line) ∷ lines) (c ∷ cs) (d ∷ ds) x y =
-    ap₂ (λ (q : ℕ × Command) (qs : List (ℕ × Command)). q ∷ qs) (ap₂ (λ (m : ℕ) (q : Command). (m, q)) (x.0 ∙ sym y.0) (same-command job (b ∷ line) c.1 d.1 x.1 y.1)) (same-commands job (n + 1) lines cs ds x.2 y.2)
-
-not-both : (job : JobId) (n : ℕ) (lines : List (List ℕ)) (cs : List (ℕ × Command)) (k : ℕ) → AreCommands job n lines cs → IsFirstBad job n lines k → ⊥
-not-both job n [] cs k x y = y
-not-both job n ([] ∷ lines) cs k x y = not-both job (n + 1) lines cs k x y
-not-both job n ((b ∷ line) ∷ lines) [] k x y = x
-not-both job n ((b ∷ line) ∷ lines) (c ∷ cs) k x (inl h) = h.1 c.1 x.1
-not-both job n ((b ∷ line) ∷ lines) (c ∷ cs) k x (inr h) = not-both job (n + 1) lines cs k x.2 h.1
-
-same-first-bad : (job : JobId) (n : ℕ) (lines : List (List ℕ)) (j k : ℕ) → IsFirstBad job n lines j → IsFirstBad job n lines k → j ≡ k
-same-first-bad job n [] j k x y = absurd x
-same-first-bad job n ([] ∷ lines) j k x y = same-first-bad job (n + 1) lines j k x y
-same-first-bad job n ((b ∷ line) ∷ lines) j k (inl g) (inl h) = g.0 ∙ sym h.0
-same-first-bad job n ((b ∷ line) ∷ lines) j k (inl g) (inr h) = absurd (g.1 h.0.0 h.0.1)
-same-first-bad job n ((b ∷ line) ∷ lines) j k (inr g) (inl h) = absurd (h.1 g.0.0 g.0.1)
-same-first-bad job n ((b ∷ line) ∷ lines) j k (inr g) (inr h) = same-first-bad job (n + 1) lines j k g.1 h.1
-
 pub one_reading_law : OneReading
-one_reading_law = λ job first bytes cs ds. same-commands job first (lines_of bytes) cs ds
+one_reading_law = λ job first bytes cs ds. same-lines (IsLine job) (same-command job) first (lines_of bytes) cs ds
 
 pub read_or_bad_law : ReadOrBad
-read_or_bad_law = λ job first bytes cs k. not-both job first (lines_of bytes) cs k
+read_or_bad_law = λ job first bytes cs k. not-both (IsLine job) first (lines_of bytes) cs k
 
 pub one_first_bad_law : OneFirstBad
-one_first_bad_law = λ job first bytes j k. same-first-bad job first (lines_of bytes) j k
+one_first_bad_law = λ job first bytes j k. same-first (IsLine job) first (lines_of bytes) j k

@@ -1,5 +1,5 @@
--- A text cut into lines, and a line cut at its first space.
-use Rattle.std.specs.Prelude.{ℕ, List, [], ◌∷◌, ◌==◌, cond, Option, Some, None}
+-- A text cut into lines, a line cut at its first byte of a kind, and lines that are read as commands, whatever the commands are.
+use Rattle.std.specs.Prelude.{◌≡◌, ◌⊎◌, ◌+◌, ℕ, List, [], ◌∷◌, ◌==◌, cond, Option, Some, None}
 
 -- the bytes before the first b
 abbrev pub before : ℕ → List ℕ → List ℕ
@@ -19,3 +19,24 @@ onto_line b (line ∷ lines) = (b ∷ line) ∷ lines
 abbrev pub lines_of : List ℕ → List (List ℕ)
 lines_of [] = []
 lines_of (b ∷ bytes) = cond (b == 10) ([] ∷ lines_of bytes) (onto_line b (lines_of bytes))
+
+-- ---- scripts in any language
+
+module _ {C : Type 0} (IsLine : List ℕ → C → Type 0) where
+  -- the line is no command
+  abbrev pub IsNoLine : List ℕ → Type 0
+  IsNoLine line = (c : C) → IsLine line c → ⊥
+
+  -- The lines, numbered from n on, are these commands: an empty line is counted and skipped.
+  abbrev pub AreLines : ℕ → List (List ℕ) → List (ℕ × C) → Type 0
+  AreLines n [] [] = Unit {0}
+  AreLines n [] (c ∷ cs) = ⊥
+  AreLines n ([] ∷ lines) cs = AreLines (n + 1) lines cs
+  AreLines n ((b ∷ line) ∷ lines) [] = ⊥
+  AreLines n ((b ∷ line) ∷ lines) (c ∷ cs) = (c.0 ≡ n) × IsLine (b ∷ line) c.1 × AreLines (n + 1) lines cs
+
+  -- Line k is the first that is neither empty nor a command, where the lines are numbered from n on.
+  abbrev pub IsFirstNoLine : ℕ → List (List ℕ) → ℕ → Type 0
+  IsFirstNoLine n [] k = ⊥
+  IsFirstNoLine n ([] ∷ lines) k = IsFirstNoLine (n + 1) lines k
+  IsFirstNoLine n ((b ∷ line) ∷ lines) k = ((k ≡ n) × IsNoLine (b ∷ line)) ⊎ (((c : C) × IsLine (b ∷ line) c) × IsFirstNoLine (n + 1) lines k)

@@ -1,5 +1,5 @@
 -- Scripts of a run: one command per line, of words with one space between. The commands are our own.
-use Rattle.std.specs.Prelude.{◌≡◌, ◌⊎◌, ◌≤◌, ◌<◌, ◌^◌, ◌+◌, ℕ, List, [], ◌∷◌, ◌++◌, Option, Some, None, codes, decimal}
+use Rattle.std.specs.Prelude.{◌≡◌, ◌≤◌, ◌<◌, ◌^◌, ℕ, List, [], ◌∷◌, ◌++◌, Option, Some, None, codes, decimal}
 use Rattle.mr_ids.specs.declared.id.JobId.{JobId}
 use Rattle.mr_ids.specs.declared.id.TaskId.{TaskId}
 use Rattle.mr_ids.specs.declared.id.TaskKind.{TaskKind}
@@ -12,6 +12,7 @@ use Rattle.mr_script.specs.declared.command.Command.{Command}
 use Rattle.mr_script.specs.declared.command.Command.TheVariants as command
 use Rattle.mr_script.specs.declared.event_name.EventName.{EventName}
 use Rattle.mr_script.specs.declared.line.Verb.{Verb}
+use Rattle.mr_script.specs.Lines.{IsNoLine, AreLines, IsFirstNoLine}
 use Rattle.mr_script.specs.Names.{name_text}
 use Rattle.mr_script.specs.Verb.{text_of, verb_of}
 
@@ -106,18 +107,12 @@ IsLine job line c = IsCommand job c × (line ≡ line_of c)
 
 -- the line is no command
 abbrev pub IsBad : JobId → List ℕ → Type 0
-IsBad job line = (c : Command) → IsLine job line c → ⊥
+IsBad job line = IsNoLine (IsLine job) line
 
 -- The lines, numbered from n on, are these commands: an empty line is counted and skipped.
 abbrev pub AreCommands : JobId → ℕ → List (List ℕ) → List (ℕ × Command) → Type 0
-AreCommands job n [] [] = Unit {0}
-AreCommands job n [] (c ∷ cs) = ⊥
-AreCommands job n ([] ∷ lines) cs = AreCommands job (n + 1) lines cs
-AreCommands job n ((b ∷ line) ∷ lines) [] = ⊥
-AreCommands job n ((b ∷ line) ∷ lines) (c ∷ cs) = (c.0 ≡ n) × IsLine job (b ∷ line) c.1 × AreCommands job (n + 1) lines cs
+AreCommands job n lines cs = AreLines (IsLine job) n lines cs
 
 -- Line k is the first that is neither empty nor a command, where the lines are numbered from n on.
 abbrev pub IsFirstBad : JobId → ℕ → List (List ℕ) → ℕ → Type 0
-IsFirstBad job n [] k = ⊥
-IsFirstBad job n ([] ∷ lines) k = IsFirstBad job (n + 1) lines k
-IsFirstBad job n ((b ∷ line) ∷ lines) k = ((k ≡ n) × IsBad job (b ∷ line)) ⊎ (((c : Command) × IsLine job (b ∷ line) c) × IsFirstBad job (n + 1) lines k)
+IsFirstBad job n lines k = IsFirstNoLine (IsLine job) n lines k

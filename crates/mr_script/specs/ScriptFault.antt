@@ -1,12 +1,10 @@
 -- Why a script is not read.
 use Rattle.std.specs.Prelude.{ℕ, List}
-use Rattle.mr_ids.specs.declared.id.JobId.{JobId}
 use Rattle.mr_script.specs.declared.script.ScriptFault.{ScriptFault}
 use Rattle.mr_script.specs.declared.script.ScriptFault.TheVariants.{NoMemory, BadCommand}
-use Rattle.mr_script.specs.Lines.{lines_of}
-use Rattle.mr_script.specs.Script.{IsFirstBad}
+use Rattle.mr_script.specs.Lines.{lines_of, IsFirstNoLine}
 
 -- there may be want of memory at any script
-abbrev pub IsScriptFault : JobId → ℕ → List ℕ → ScriptFault → Type 0
-IsScriptFault job first bytes NoMemory = Unit {0}
-IsScriptFault job first bytes (BadCommand n) = IsFirstBad job first (lines_of bytes) n
+abbrev pub IsScriptFault : {C : Type 0} → (List ℕ → C → Type 0) → ℕ → List ℕ → ScriptFault → Type 0
+IsScriptFault IsLine first bytes NoMemory = Unit {0}
+IsScriptFault IsLine first bytes (BadCommand n) = IsFirstNoLine IsLine first (lines_of bytes) n

@@ -8,7 +8,7 @@ ghost use Rattle.mr_script.specs.declared.event_name.EventName as name;
 ghost use Rattle.mr_script.specs.Script.{with_word, kind_word, task_words, container_word, and_words, fault_word, stop_words, IsGeneration, IsContainer, IsTaskOf};
 
 use crate::event_name::{EventName, event_named};
-use crate::word::{container, generation, long_number, number, split_at};
+use crate::word::{container, generation, long_number, number, split_once};
 use mr_event::Weather;
 use mr_ids::{AppAttempt, JobId, TaskId, TaskKind};
 use mr_packet::ContainerId;
@@ -18,7 +18,7 @@ pub fn with_long(rest: &[u8]) -> Option<(AppAttempt, u64)>
     ensures some { IfSome result (λ p. IsGeneration p.0 × (rest.now ≡ with_word (decimal p.0) (decimal p.1))) }
     ensures none { IfNone result ((k n : ℕ) → IsGeneration k → n < 2 ^ 64 → rest.now ≡ with_word (decimal k) (decimal n) → ⊥) }
 {
-    let Some((word, more)) = split_at(rest, b' ') else {
+    let Some((word, more)) = split_once(rest, b' ') else {
         return None;
     };
     let Some(k) = generation(word) else {
@@ -35,7 +35,7 @@ pub fn with_number(rest: &[u8]) -> Option<(AppAttempt, u32)>
     ensures some { IfSome result (λ p. IsGeneration p.0 × (rest.now ≡ with_word (decimal p.0) (decimal p.1))) }
     ensures none { IfNone result ((k n : ℕ) → IsGeneration k → n < 2 ^ 32 → rest.now ≡ with_word (decimal k) (decimal n) → ⊥) }
 {
-    let Some((word, more)) = split_at(rest, b' ') else {
+    let Some((word, more)) = split_once(rest, b' ') else {
         return None;
     };
     let Some(k) = generation(word) else {
@@ -66,7 +66,7 @@ pub fn with_fault(rest: &[u8]) -> Option<(AppAttempt, Weather)>
     ensures some { IfSome result (λ p. IsGeneration p.0 × (rest.now ≡ and_words (decimal p.0) (fault_word p.1))) }
     ensures none { IfNone result ((k : ℕ) (w : weather.Weather) → IsGeneration k → rest.now ≡ and_words (decimal k) (fault_word w) → ⊥) }
 {
-    let Some((word, more)) = split_at(rest, b' ') else {
+    let Some((word, more)) = split_once(rest, b' ') else {
         let Some(k) = generation(rest) else {
             return None;
         };
@@ -100,13 +100,13 @@ fn task_and_node(job: JobId, rest: &[u8]) -> Option<(TaskId, u32)>
     ensures some { IfSome result (λ p. IsTaskOf job p.0 × (rest.now ≡ task_words p.0 (decimal p.1))) }
     ensures none { IfNone result ((t : task.TaskId) (n : ℕ) → IsTaskOf job t → n < 2 ^ 32 → rest.now ≡ task_words t (decimal n) → ⊥) }
 {
-    let Some((word, more)) = split_at(rest, b' ') else {
+    let Some((word, more)) = split_once(rest, b' ') else {
         return None;
     };
     let Some(kind) = kind(word) else {
         return None;
     };
-    let Some((front, last)) = split_at(more, b' ') else {
+    let Some((front, last)) = split_once(more, b' ') else {
         return None;
     };
     let Some(t) = number(front) else {
@@ -128,7 +128,7 @@ pub fn launching(job: JobId, rest: &[u8]) -> Option<(AppAttempt, TaskId, u32)>
     ensures some { IfSome result (λ p. IsGeneration p.0 × (IsTaskOf job p.1 × (rest.now ≡ with_word (decimal p.0) (task_words p.1 (decimal p.2))))) }
     ensures none { IfNone result ((k : ℕ) (t : task.TaskId) (n : ℕ) → IsGeneration k → IsTaskOf job t → n < 2 ^ 32 → rest.now ≡ with_word (decimal k) (task_words t (decimal n)) → ⊥) }
 {
-    let Some((word, more)) = split_at(rest, b' ') else {
+    let Some((word, more)) = split_once(rest, b' ') else {
         return None;
     };
     let Some(k) = generation(word) else {
@@ -145,7 +145,7 @@ pub fn stepping(rest: &[u8]) -> Option<(ContainerId, Weather)>
     ensures some { IfSome result (λ p. IsContainer p.0 × (rest.now ≡ and_words (container_word p.0) (fault_word p.1))) }
     ensures none { IfNone result ((d : container.ContainerId) (w : weather.Weather) → IsContainer d → rest.now ≡ and_words (container_word d) (fault_word w) → ⊥) }
 {
-    let Some((word, more)) = split_at(rest, b' ') else {
+    let Some((word, more)) = split_once(rest, b' ') else {
         let Some(c) = container(rest) else {
             return None;
         };
@@ -165,7 +165,7 @@ fn stop(words: &[u8]) -> Option<EventName>
     ensures some { IfSome result (λ n. stop_words (Some n) ≡ Some words.now) }
     ensures none { IfNone result ((n : name.EventName) → stop_words (Some n) ≡ Some words.now → ⊥) }
 {
-    let Some((word, more)) = split_at(words, b' ') else {
+    let Some((word, more)) = split_once(words, b' ') else {
         return None;
     };
     if word != b"before".as_slice() {
@@ -179,7 +179,7 @@ pub fn calming(rest: &[u8]) -> Option<(AppAttempt, Option<EventName>)>
     ensures some { IfSome result (λ p. IsGeneration p.0 × (rest.now ≡ and_words (decimal p.0) (stop_words p.1))) }
     ensures none { IfNone result ((k : ℕ) (s : Option name.EventName) → IsGeneration k → rest.now ≡ and_words (decimal k) (stop_words s) → ⊥) }
 {
-    let Some((word, more)) = split_at(rest, b' ') else {
+    let Some((word, more)) = split_once(rest, b' ') else {
         let Some(k) = generation(rest) else {
             return None;
         };

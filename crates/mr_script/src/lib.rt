@@ -18,11 +18,17 @@
 //! decimal with no zero in front. FAULT is `unavailable` (the call is not made) or `unanswered` (its answer is lost). Words have one
 //! space between and none at the ends. An empty line is counted and skipped.
 //!
+//! Scripts of other commands are read in the same way: a `Language` says which line is which command, and `script_in` reads a script in
+//! it. `mrsim committer` has one of its own.
+//!
 //! # What is proved
 //!
-//! - `commands_of` answers exactly the commands of the text, each with the number of its line (`AreCommands`: a line is a command exactly
-//!   where it is the line that the command is written as), or `BadCommand(n)` where line n is the first that is neither empty nor a
-//!   command (`IsFirstBad`), or `NoMemory`.
+//! - `script_in` answers exactly the commands of the text in a language, each with the number of its line (`AreLines`), or
+//!   `BadCommand(n)` where line n is the first that is neither empty nor a command (`IsFirstNoLine`), or `NoMemory`.
+//! - `commands_of` is that for the commands of the table: a line is a command exactly where it is the line that the command is written
+//!   as (`IsLine`).
+//! - `split_once` cuts at the first byte of a kind; `number`, `long_number` and `generation` read a word exactly where it is the decimal of
+//!   a number below 2^32, below 2^64, from 1 to 1,000. None of these takes memory.
 //! - Laws, on functions that do nothing: a script has at most one reading (`one_reading`), is not both read and bad (`read_or_bad`), and
 //!   has at most one first bad line (`one_first_bad`).
 //! - Only tested: that it succeeds with ample memory.
@@ -33,10 +39,13 @@ mod command;
 mod event_name;
 mod laws;
 mod line;
+mod run;
 mod script;
 mod word;
 
 pub use command::Command;
 pub use event_name::EventName;
 pub use laws::{one_first_bad, one_reading, read_or_bad};
-pub use script::{ScriptFault, commands_of};
+pub use run::commands_of;
+pub use script::{Language, ScriptFault, script_in};
+pub use word::{generation, long_number, number, split_once};

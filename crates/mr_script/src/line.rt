@@ -6,7 +6,7 @@ ghost use Rattle.mr_script.specs.Verb.{text_of, verb_of, is_of_master};
 
 use crate::arguments::{calming, launching, stepping, with_fault, with_long, with_number};
 use crate::command::Command;
-use crate::word::{container, long_number, number, split_at};
+use crate::word::{container, long_number, number, split_once};
 use mr_event::Event;
 use mr_ids::JobId;
 
@@ -142,7 +142,7 @@ pub fn command_in(job: JobId, line: &[u8]) -> Option<Command>
     ensures some { IfSome result (IsLine job line.now) }
     ensures none { IfNone result (IsBad job line.now) }
 {
-    let Some((word, rest)) = split_at(line, b' ') else {
+    let Some((word, rest)) = split_once(line, b' ') else {
         return None;
     };
     let Some(verb) = verb_named(word) else {

@@ -1,14 +1,10 @@
-//! A whole script.
-ghost use Rattle.std.specs.Prelude.{◌≡◌, ◌<◌, ◌≤◌, ◌+◌, ◌^◌, [], ◌∷◌, length, IfSome, IfNone, IfOk, IfErr};
-ghost use Rattle.mr_script.specs.Lines.{lines_of};
+//! A whole script, in any language.
+ghost use Rattle.std.specs.Prelude.{◌≡◌, ◌<◌, ◌≤◌, ◌+◌, ◌^◌, [], ◌∷◌, ℕ, List, length, IfSome, IfNone, IfOk, IfErr};
+ghost use Rattle.mr_script.specs.Lines.{lines_of, AreLines, IsNoLine};
 ghost use Rattle.mr_script.specs.ScriptFault.{IsScriptFault};
-ghost use Rattle.mr_script.specs.Script.{AreCommands};
 ghost use Rattle.mr_script.specs.declared.script.ScriptFault.TheVariants.{NoMemory};
 
-use crate::command::Command;
-use crate::line::command_in;
 use crate::word::cut;
-use mr_ids::JobId;
 use std::alloc::{AllocError, AllocFailed, Global};
 
 /// Why a script was not read.
@@ -36,6 +32,20 @@ impl<T: Drop> From<AllocFailed<T>> for ScriptFault {
     }
 }
 
+/// A language of scripts: which lines are commands, and of which.
+pub trait Language {
+    /// What a line says.
+    type Command: Drop;
+
+    /// Whether a line is a command.
+    ghost is_line: { Self → List ℕ → Self.Command → Type 0 };
+
+    /// The command that the line is, or none where it is no command.
+    fn command_in(&self, alloc: Global, line: &[u8]) -> Result<Option<Self::Command>, AllocError>
+        ensures some { IfOk result (λ r. IfSome r (is_line self.now line.now)) }
+        ensures none { IfOk result (λ r. IfNone r (IsNoLine (is_line self.now) line.now)) };
+}
+
 /// The first line, without its line feed, and the bytes after it.
 fn next_line(bytes: &[u8]) -> Option<(&[u8], &[u8])>
     ensures some { IfSome result (λ p. (lines_of bytes.now ≡ p.0.now ∷ lines_of p.1.now) × (length p.1.now < length bytes.now)) }
@@ -50,23 +60,23 @@ fn next_line(bytes: &[u8]) -> Option<(&[u8], &[u8])>
     }
 }
 
-/// The commands of a script for a run of the job, each with the number of its line; its lines are numbered from `first` on.
-pub fn commands_of(
+/// The commands of a script in a language, each with the number of its line; its lines are numbered from `first` on.
+pub fn script_in<L: Language>(
     alloc: Global,
-    job: JobId,
+    language: &L,
     bytes: &[u8],
     first: usize,
-) -> Result<Vec<(usize, Command)>, ScriptFault>
+) -> Result<Vec<(usize, L::Command)>, ScriptFault>
     requires few { first + length bytes.now < 2 ^ 64 }
-    ensures ok { IfOk result (λ v. AreCommands job first (lines_of bytes.now) (v.items)) }
-    ensures bad { IfErr result (λ e. IsScriptFault job first bytes.now e) }
+    ensures ok { IfOk result (λ v. AreLines (L.is_line language.now) first (lines_of bytes.now) v.items) }
+    ensures bad { IfErr result (IsScriptFault (L.is_line language.now) first bytes.now) }
 {
     let mut commands = Vec::new(alloc);
     let mut rest = bytes;
     let mut number = first;
     while let Some((line, after)) = next_line(rest) {
         if !line.is_empty() {
-            match command_in(job, line) {
+            match language.command_in(alloc, line)? {
                 Some(command) => commands.push((number, command))?,
                 None => return Err(ScriptFault::BadCommand(number)),
             }

@@ -19,7 +19,7 @@ pub fn cut(bytes: &[u8], at: u8) -> Option<(&[u8], &[u8])>
 }
 
 /// The bytes before the first of these bytes, and those after it, as the definition has them.
-pub fn split_at(bytes: &[u8], at: u8) -> Option<(&[u8], &[u8])>
+pub fn split_once(bytes: &[u8], at: u8) -> Option<(&[u8], &[u8])>
     ensures some { IfSome result (λ p. (before at bytes.now ≡ p.0.now) × (after at bytes.now ≡ Some p.1.now)) }
     ensures whole { IfSome result (λ p. bytes.now ≡ p.0.now ++ at ∷ p.1.now) }
     ensures none { IfNone result ((before at bytes.now ≡ bytes.now) × (after at bytes.now ≡ None)) }
@@ -74,7 +74,7 @@ pub fn container(word: &[u8]) -> Option<ContainerId>
     ensures some { IfSome result (λ c. IsContainer c × (word.now ≡ container_word c)) }
     ensures none { IfNone result ((c : container.ContainerId) → IsContainer c → word.now ≡ container_word c → ⊥) }
 {
-    let Some((front, rest)) = split_at(word, b'.') else {
+    let Some((front, rest)) = split_once(word, b'.') else {
         return None;
     };
     let Some(app) = generation(front) else {

@@ -1,10 +1,8 @@
 pub mod Attempts
 pub mod JobTexts
-pub mod Lines
 pub mod Obeying
 pub mod PartFiles
 pub mod Readings
 pub mod Recoveries
 pub mod Refusals
 pub mod Verbs
-pub mod Words

@@ -2,41 +2,41 @@
 use Rattle.std.proofs.Common.{◌≡◌, ℕ, List, length, cond, eqb, slice_index, IfNone, Some, None, Option, refl, sym, ap, ◌∙◌}
 use Rattle.mr_sim.specs.declared.order.Verb.{Verb}
 use Rattle.mr_sim.specs.declared.order.Verb.TheVariants as verb
-use Rattle.mr_sim.specs.Lines.{word_of, after_word}
+use Rattle.mr_script.specs.Lines.{before, after}
 use Rattle.mr_sim.specs.declared.order.Order.{Order}
 use Rattle.mr_sim.specs.declared.order.Order.TheVariants.{As, Raise, Check, Setup, Write, Needs, Commit, Abort, Recover, CommitJob, AbortJob, Bar, By}
 use Rattle.mr_sim.specs.Script.{line_of, IsCommand, IsBad}
 use Rattle.mr_sim.specs.Verb.{verb_text, verb_of, rest_of}
 
-pub word_of-line_of : (o : Order) → word_of (line_of o) ≡ verb_text (verb_of o)
-word_of-line_of (As k) = refl
-word_of-line_of (Raise k) = refl
-word_of-line_of Check = refl
-word_of-line_of Setup = refl
-word_of-line_of (Write a text) = refl
-word_of-line_of (Needs a) = refl
-word_of-line_of (Commit a) = refl
-word_of-line_of (Abort a) = refl
-word_of-line_of (Recover t bytes) = refl
-word_of-line_of CommitJob = refl
-word_of-line_of AbortJob = refl
-word_of-line_of (Bar a) = refl
-word_of-line_of (By who) = refl
+pub first-line_of : (o : Order) → before 32 (line_of o) ≡ verb_text (verb_of o)
+first-line_of (As k) = refl
+first-line_of (Raise k) = refl
+first-line_of Check = refl
+first-line_of Setup = refl
+first-line_of (Write a text) = refl
+first-line_of (Needs a) = refl
+first-line_of (Commit a) = refl
+first-line_of (Abort a) = refl
+first-line_of (Recover t bytes) = refl
+first-line_of CommitJob = refl
+first-line_of AbortJob = refl
+first-line_of (Bar a) = refl
+first-line_of (By who) = refl
 
-pub after_word-line_of : (o : Order) → after_word (line_of o) ≡ rest_of o
-after_word-line_of (As k) = refl
-after_word-line_of (Raise k) = refl
-after_word-line_of Check = refl
-after_word-line_of Setup = refl
-after_word-line_of (Write a text) = refl
-after_word-line_of (Needs a) = refl
-after_word-line_of (Commit a) = refl
-after_word-line_of (Abort a) = refl
-after_word-line_of (Recover t bytes) = refl
-after_word-line_of CommitJob = refl
-after_word-line_of AbortJob = refl
-after_word-line_of (Bar a) = refl
-after_word-line_of (By who) = refl
+pub rest-line_of : (o : Order) → after 32 (line_of o) ≡ rest_of o
+rest-line_of (As k) = refl
+rest-line_of (Raise k) = refl
+rest-line_of Check = refl
+rest-line_of Setup = refl
+rest-line_of (Write a text) = refl
+rest-line_of (Needs a) = refl
+rest-line_of (Commit a) = refl
+rest-line_of (Abort a) = refl
+rest-line_of (Recover t bytes) = refl
+rest-line_of CommitJob = refl
+rest-line_of AbortJob = refl
+rest-line_of (Bar a) = refl
+rest-line_of (By who) = refl
 
 -- no two verbs have one text
 verb_back : List ℕ → Verb
@@ -73,12 +73,12 @@ pub verb_text-injective : (v w : Verb) → verb_text v ≡ verb_text w → v ≡
 verb_text-injective v w e = sym (back v) ∙ ap verb_back e ∙ back w
 
 -- what is not the command of a line's verb and rest is no command of the line
-pub bad_from_rest : {A : Type 0} (r : Option A) (line : List ℕ) (v : Verb) (rest : Option (List ℕ)) → word_of line ≡ verb_text v → after_word line ≡ rest
+pub bad_from_rest : {A : Type 0} (r : Option A) (line : List ℕ) (v : Verb) (rest : Option (List ℕ)) → before 32 line ≡ verb_text v → after 32 line ≡ rest
     → IfNone r ((o : Order) → IsCommand o → verb_of o ≡ v → rest_of o ≡ rest → ⊥) → IfNone r (IsBad line)
 bad_from_rest None line v rest w r none = λ o h.
-    none o h.0 (verb_text-injective (verb_of o) v (sym (word_of-line_of o) ∙ ap word_of (sym h.1) ∙ w)) (sym (after_word-line_of o) ∙ ap after_word (sym h.1) ∙ r)
+    none o h.0 (verb_text-injective (verb_of o) v (sym (first-line_of o) ∙ ap (before 32) (sym h.1) ∙ w)) (sym (rest-line_of o) ∙ ap (after 32) (sym h.1) ∙ r)
 bad_from_rest (Some x) line v rest w r none = tt
 
 -- a line whose first word is no verb
-pub bad_from_word : (line word : List ℕ) → word_of line ≡ word → ((v : Verb) → word ≡ verb_text v → ⊥) → IsBad line
-bad_from_word line word w none = λ o h. none (verb_of o) (sym w ∙ ap word_of h.1 ∙ word_of-line_of o)
+pub bad_from_word : (line word : List ℕ) → before 32 line ≡ word → ((v : Verb) → word ≡ verb_text v → ⊥) → IsBad line
+bad_from_word line word w none = λ o h. none (verb_of o) (sym w ∙ ap (before 32) h.1 ∙ first-line_of o)

@@ -4,7 +4,7 @@ use Rattle.mr_sim.specs.declared.fault.SimFault.{SimFault}
 use Rattle.mr_sim.specs.declared.fault.SimFault.TheVariants.{NoMemory, Read, Write, TooLong, BadCommand, BadRecord, Job, Refused}
 use Rattle.mr_sim.specs.declared.order.Order.{Order}
 use Rattle.mr_sim.specs.declared.subcommand.Command.{Command}
-use Rattle.mr_sim.specs.Lines.{lines_of}
+use Rattle.mr_script.specs.Lines.{lines_of}
 use Rattle.mr_sim.specs.Printed.{IsWithin, Prints, Refuses}
 use Rattle.mr_sim.specs.Script.{AreCommands, IsFirstBad}
 use Rattle.mr_sim.specs.Seq.{PrintsSeq}

@@ -3,12 +3,10 @@ pub mod Fault
 pub mod History
 pub mod JobText
 pub mod Laws
-pub mod Lines
 pub mod Listing
 pub mod PartFiles
 pub mod Printed
 pub mod Script
-pub mod ScriptFault
 pub mod Seq
 pub mod Submission
 pub mod Verb

@@ -18,7 +18,7 @@ use Rattle.mr_history.specs.Reading.{bad_line}
 use Rattle.mr_sim.specs.Effect.{out, start, outcome}
 use Rattle.mr_sim.specs.History.{PrintsHistory}
 use Rattle.mr_sim.specs.JobText.{submission_of}
-use Rattle.mr_sim.specs.Lines.{lines_of}
+use Rattle.mr_script.specs.Lines.{lines_of}
 use Rattle.mr_sim.specs.Listing.{listing}
 use Rattle.mr_sim.specs.Script.{AreCommands, IsFirstBad}
 use Rattle.mr_sim.specs.Seq.{PrintsSeq, RefusesSeq}

@@ -1,10 +1,12 @@
 -- Scripts of committer calls: one command per line. The commands are our own; the calls behind them are those of the
 -- Hadoop OutputCommitter API.
-use Rattle.std.specs.Prelude.{◌≡◌, ◌⊎◌, ◌≤◌, ◌<◌, ◌^◌, ◌+◌, ℕ, List, [], ◌∷◌, ◌++◌, Option, Some, None, codes, decimal}
+use Rattle.std.specs.Prelude.{◌≡◌, ◌<◌, ◌^◌, ℕ, List, ◌∷◌, ◌++◌, Option, Some, None, codes, decimal}
 use Rattle.mr_ids.specs.Attempt.{Attempt}
 use Rattle.mr_ids.specs.declared.id.TaskId.{TaskId}
 use Rattle.mr_ids.specs.Text.{task_text, attempt_text, IsTask, IsAttempt}
 use Rattle.mr_ids.specs.declared.id.TaskKind.TheVariants.{Reduce}
+use Rattle.mr_script.specs.Lines.{IsNoLine, AreLines, IsFirstNoLine}
+use Rattle.mr_script.specs.Script.{IsGeneration}
 use Rattle.mr_sim.specs.declared.order.Order.{Order}
 use Rattle.mr_sim.specs.declared.order.Order.TheVariants.{As, Raise, Check, Setup, Write, Needs, Commit, Abort, Recover, CommitJob, AbortJob, Bar, By}
 
@@ -42,10 +44,6 @@ line_of AbortJob = codes "abortjob"
 line_of (Bar a) = codes "bar " ++ attempt_word a
 line_of (By who) = codes "by " ++ caller_word who
 
--- a generation of the master
-abbrev pub IsGeneration : ℕ → Type 0
-IsGeneration k = (1 ≤ k) × (k ≤ 1000)
-
 -- a recorded length, if there is one
 abbrev pub IsLength : Option ℕ → Type 0
 IsLength None = Unit {0}
@@ -82,18 +80,12 @@ IsLine line o = IsCommand o × (line ≡ line_of o)
 
 -- the line is no command
 abbrev pub IsBad : List ℕ → Type 0
-IsBad line = (o : Order) → IsLine line o → ⊥
+IsBad line = IsNoLine IsLine line
 
 -- The lines, numbered from n on, are these commands: an empty line is counted and skipped.
 abbrev pub AreCommands : ℕ → List (List ℕ) → List (ℕ × Order) → Type 0
-AreCommands n [] [] = Unit {0}
-AreCommands n [] (o ∷ os) = ⊥
-AreCommands n ([] ∷ lines) os = AreCommands (n + 1) lines os
-AreCommands n ((b ∷ line) ∷ lines) [] = ⊥
-AreCommands n ((b ∷ line) ∷ lines) (o ∷ os) = (o.0 ≡ n) × IsLine (b ∷ line) o.1 × AreCommands (n + 1) lines os
+AreCommands n lines os = AreLines IsLine n lines os
 
 -- Line k is the first that is neither empty nor a command, where the lines are numbered from n on.
 abbrev pub IsFirstBad : ℕ → List (List ℕ) → ℕ → Type 0
-IsFirstBad n [] k = ⊥
-IsFirstBad n ([] ∷ lines) k = IsFirstBad (n + 1) lines k
-IsFirstBad n ((b ∷ line) ∷ lines) k = ((k ≡ n) × IsBad (b ∷ line)) ⊎ (((o : Order) × IsLine (b ∷ line) o) × IsFirstBad (n + 1) lines k)
+IsFirstBad n lines k = IsFirstNoLine IsLine n lines k

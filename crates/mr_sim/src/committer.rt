@@ -9,12 +9,13 @@ use crate::listing::print_listing;
 use crate::order::Order;
 use crate::reply::print_reply;
 use crate::scene::{Scene, obey};
-use crate::script::{ScriptFault, script_of};
+use crate::script::script_of;
 use crate::subcommand::Command;
 use mr_commit::CommitFault;
 use mr_ids::AppAttempt;
 use mr_names::{Caller, Namespace};
 use mr_paths::{Layout, Name, Path};
+use mr_script::ScriptFault;
 use std::alloc::{AllocError, Global};
 
 /// The layout of a script's job, whose destination is `/out`.

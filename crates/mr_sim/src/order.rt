@@ -1,15 +1,14 @@
 //! One line of a script.
-ghost use Rattle.std.specs.Prelude.{◌≡◌, ◌≢◌, ◌<◌, ◌≤◌, ◌^◌, ℕ, List, ◌∷◌, ◌++◌, All, IfSome, IfNone, IfOk, Option, Some, None, decimal};
+ghost use Rattle.std.specs.Prelude.{◌≡◌, ℕ, List, ◌∷◌, ◌++◌, IfSome, IfNone, IfOk, Option, Some, None};
 ghost use Rattle.mr_ids.specs.Attempt.{Attempt};
 ghost use Rattle.mr_ids.specs.Text.{IsTask, IsAttempt};
-ghost use Rattle.mr_sim.specs.Lines.{word_of, after_word};
-ghost use Rattle.mr_sim.specs.Script.{attempt_word, task_word, caller_word, recovery_words, IsCaller, IsLength, IsGeneration, IsCommand, IsLine, IsBad};
+ghost use Rattle.mr_sim.specs.Script.{attempt_word, task_word, caller_word, IsCaller, IsCommand, IsLine, IsBad};
 ghost use Rattle.mr_sim.specs.Script.{NamesNone};
 ghost use Rattle.mr_sim.specs.Verb.{verb_of, verb_text, rest_of};
 
-use itoa::Buffer;
 use mr_ids::{AppAttempt, AttemptId, TaskId, TaskKind};
 use mr_names::Bytes;
+use mr_script::{generation, number, split_once};
 use std::alloc::{AllocError, Global};
 use std::str;
 
@@ -62,27 +61,6 @@ pub enum Verb {
     By,
 }
 
-/// The bytes before the first of these bytes, and those after it.
-pub fn cut(bytes: &[u8], at: u8) -> Option<(&[u8], &[u8])>
-    ensures some { IfSome result (λ p. All (λ b. b ≢ at) p.0.now × (bytes.now ≡ p.0.now ++ at ∷ p.1.now)) }
-    ensures none { IfNone result (All (λ b. b ≢ at) bytes.now) }
-{
-    let at = bytes.iter().position(|b| *b == at)?;
-    Some((&bytes[..at], &bytes[at + 1..]))
-}
-
-/// The bytes before the first space, and those after it.
-fn split_word(line: &[u8]) -> Option<(&[u8], &[u8])>
-    ensures whole { IfSome result (λ p. line.now ≡ p.0.now ++ 32 ∷ p.1.now) }
-    ensures some { IfSome result (λ p. (word_of line.now ≡ p.0.now) × (after_word line.now ≡ Some p.1.now)) }
-    ensures none { IfNone result ((word_of line.now ≡ line.now) × (after_word line.now ≡ None)) }
-{
-    match cut(line, b' ') {
-        Some((word, rest)) => Some((word, rest)),
-        None => None,
-    }
-}
-
 /// The verb that the word is.
 fn verb_named(word: &[u8]) -> Option<Verb>
     ensures some { IfSome result (λ v. word.now ≡ verb_text v) }
@@ -119,33 +97,6 @@ fn verb_named(word: &[u8]) -> Option<Verb>
     }
 }
 
-/// The number that the word is in decimal, with no zero in front.
-fn number(word: &[u8]) -> Option<u32>
-    ensures found { IfSome result (λ n. word.now ≡ decimal n) }
-    ensures only { (n : ℕ) → n < 2 ^ 32 → word.now ≡ decimal n → result ≡ Some n }
-{
-    let Ok(text) = str::from_utf8(word) else {
-        return None;
-    };
-    let Ok(n) = text.parse::<u32>() else {
-        return None;
-    };
-    let mut buffer = Buffer::new();
-    if buffer.format(n) != text {
-        return None;
-    }
-    Some(n)
-}
-
-/// The generation that the word numbers.
-fn generation(word: &[u8]) -> Option<AppAttempt>
-    ensures found { IfSome result (λ k. IsGeneration k × (word.now ≡ decimal k)) }
-    ensures only { (k : ℕ) → IsGeneration k → word.now ≡ decimal k → result ≡ Some k }
-{
-    let n = number(word)?;
-    AppAttempt::new(n)
-}
-
 /// The attempt that the word names.
 fn attempt(word: &[u8]) -> Option<AttemptId>
     ensures found { IfSome result (λ a. IsAttempt a × (word.now ≡ attempt_word a)) }
@@ -179,7 +130,7 @@ fn recovering(rest: &[u8]) -> Option<Order>
     ensures some { IfSome result (λ c. IsCommand c × (verb_of c ≡ Verb.Recover) × (rest_of c ≡ Some rest.now)) }
     ensures none { IfNone result (NamesNone rest.now) }
 {
-    match split_word(rest) {
+    match split_once(rest, b' ') {
         None => match task(rest) {
             Some(task) => Some(Order::Recover(task, None)),
             None => None,
@@ -227,7 +178,7 @@ fn writing(alloc: Global, rest: &[u8]) -> Result<Option<Order>, AllocError>
     ensures some { IfOk result (λ r. IfSome r (λ c. IsCommand c × (verb_of c ≡ Verb.Write) × (rest_of c ≡ Some rest.now))) }
     ensures none { IfOk result (λ r. IfNone r ((a : Attempt) (text : List ℕ) → IsAttempt a → a.task.kind ≡ TaskKind.Reduce → rest.now ≡ attempt_word a ++ 32 ∷ text → ⊥)) }
 {
-    let Some((word, text)) = split_word(rest) else {
+    let Some((word, text)) = split_once(rest, b' ') else {
         return Ok(None);
     };
     let Some(attempt) = reduce_attempt(word) else {
@@ -293,7 +244,7 @@ pub fn order_in(alloc: Global, line: &[u8]) -> Result<Option<Order>, AllocError>
     ensures some { IfOk result (λ r. IfSome r (IsLine line.now)) }
     ensures none { IfOk result (λ r. IfNone r (IsBad line.now)) }
 {
-    match split_word(line) {
+    match split_once(line, b' ') {
         Some((word, rest)) => match verb_named(word) {
             Some(verb) => with_rest(alloc, verb, rest),
             None => Ok(None),

@@ -11,15 +11,15 @@ returns-in_default-clause-none c = λ t n g l e. no-cut 32 c.args.rest.now (kind
 pub returns-in_default-kind-clause-none : goal.returns-in_default-kind-clause-none
 returns-in_default-kind-clause-none c = λ t n g l e. c.in_default-kind.ensures.none t.kind (front-is 32 c.args.rest.now c.in-Some.word.now (kind_word t.kind) (decimal t.number ++ 32 ∷ decimal n) (kind-no-space t.kind) c.in-Some.ensures.some.0 e)
 
-pub returns-in_default-split_at-clause-none : goal.returns-in_default-split_at-clause-none
-returns-in_default-split_at-clause-none c = λ t n g l e. no-cut 32 c.in-Some.more.now (decimal t.number) (decimal n) (no-space t.number (omega (arith, g.1))) c.in_default-split_at.ensures.none.1 (rest-is 32 c.args.rest.now c.in-Some.more.now (kind_word t.kind) (decimal t.number ++ 32 ∷ decimal n) (kind-no-space t.kind) c.in-Some.ensures.some.1 e)
+pub returns-in_default-split_once-clause-none : goal.returns-in_default-split_once-clause-none
+returns-in_default-split_once-clause-none c = λ t n g l e. no-cut 32 c.in-Some.more.now (decimal t.number) (decimal n) (no-space t.number (omega (arith, g.1))) c.in_default-split_once.ensures.none.1 (rest-is 32 c.args.rest.now c.in-Some.more.now (kind_word t.kind) (decimal t.number ++ 32 ∷ decimal n) (kind-no-space t.kind) c.in-Some.ensures.some.1 e)
 
 pub returns-in_default-number-clause-none : goal.returns-in_default-number-clause-none
 returns-in_default-number-clause-none c = λ t n g l e.
-    let read = c.number.ensures.only t.number g.1 (front-is 32 c.in-Some.more.now c.in-Some-split_at.front.now (decimal t.number) (decimal n) (no-space t.number (omega (arith, g.1))) c.in-Some-split_at.ensures.some.0 (rest-is 32 c.args.rest.now c.in-Some.more.now (kind_word t.kind) (decimal t.number ++ 32 ∷ decimal n) (kind-no-space t.kind) c.in-Some.ensures.some.1 e)) in
+    let read = c.number.ensures.only t.number g.1 (front-is 32 c.in-Some.more.now c.in-Some-split_once.front.now (decimal t.number) (decimal n) (no-space t.number (omega (arith, g.1))) c.in-Some-split_once.ensures.some.0 (rest-is 32 c.args.rest.now c.in-Some.more.now (kind_word t.kind) (decimal t.number ++ 32 ∷ decimal n) (kind-no-space t.kind) c.in-Some.ensures.some.1 e)) in
     absurd (cc)
 
 pub returns-in_default-number-2-clause-none : goal.returns-in_default-number-2-clause-none
 returns-in_default-number-2-clause-none c = λ t n g l e.
-    let read = c.number-2.ensures.only n l (rest-is 32 c.in-Some.more.now c.in-Some-split_at.last.now (decimal t.number) (decimal n) (no-space t.number (omega (arith, g.1))) c.in-Some-split_at.ensures.some.1 (rest-is 32 c.args.rest.now c.in-Some.more.now (kind_word t.kind) (decimal t.number ++ 32 ∷ decimal n) (kind-no-space t.kind) c.in-Some.ensures.some.1 e)) in
+    let read = c.number-2.ensures.only n l (rest-is 32 c.in-Some.more.now c.in-Some-split_once.last.now (decimal t.number) (decimal n) (no-space t.number (omega (arith, g.1))) c.in-Some-split_once.ensures.some.1 (rest-is 32 c.args.rest.now c.in-Some.more.now (kind_word t.kind) (decimal t.number ++ 32 ∷ decimal n) (kind-no-space t.kind) c.in-Some.ensures.some.1 e)) in
     absurd (cc)

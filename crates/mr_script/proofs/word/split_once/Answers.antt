@@ -1,7 +1,7 @@
 use Rattle.std.proofs.Common.{ap, ◌∙◌}
 use Rattle.mr_script.specs.Lines.{before, after}
 use Rattle.mr_script.proofs.Words.{before-cut, after-cut, after-none, before-none}
-use Rattle.mr_script.proofs.word.split_at.Goals as goal
+use Rattle.mr_script.proofs.word.split_once.Goals as goal
 
 pub returns-in-Some-clause-some : goal.returns-in-Some-clause-some
 returns-in-Some-clause-some c =
