@@ -61,7 +61,8 @@ reduce_in d =
     after (required bad.Nodes (optional 1 (number_in 1 64) (get (codes "nodes") d))) _ (λ nodes e6.
     after (required bad.Limit (optional 4 (number_in 1 100) (get (codes "limit") d))) _ (λ limit e7.
     after (required bad.Faults (optional [] (faults_of nodes) (get (codes "faults") d))) _ (λ faults e8.
-    required_above 1 1000 bad.Reduces (get (codes "reduces") d) reduces e4))))))))
+    after (required bad.V2From (optional 1 (number_in 1 1000) (get (codes "v2from") d))) _ (λ v2_from e9.
+    required_above 1 1000 bad.Reduces (get (codes "reduces") d) reduces e4)))))))))
 
 has_reduce : (r : Result Submission JobTextFault) (job : Submission) → HasReduce r → r ≡ Ok job → 1 ≤ job.reduces
 has_reduce (Ok made) job h e = let is : made ≡ job = cc in rw (sym is) h

@@ -15,7 +15,8 @@ use Rattle.mr_sim.specs.declared.fault.SimFault.{SimFault}
 use Rattle.mr_sim.specs.declared.fault.SimFault.TheVariants as faults
 use Rattle.mr_sim.specs.declared.submission.JobKind.{JobKind}
 use Rattle.mr_sim.specs.declared.submission.JobKind.TheVariants.{WordCount, MaxByKey, LineIndex}
-use Rattle.mr_sim.specs.declared.submission.PlanAct.TheVariants.{Node, Master}
+use Rattle.mr_sim.specs.declared.submission.PlanAct.{PlanAct}
+use Rattle.mr_sim.specs.declared.submission.PlanAct.TheVariants.{Node, Master, Expire}
 use Rattle.mr_sim.specs.declared.submission.PlanFault.{PlanFault}
 use Rattle.mr_sim.specs.declared.submission.Submission.{Submission}
 
@@ -60,15 +61,18 @@ kind_named name =
 abbrev pub split_of : Data → Option (List ℕ)
 split_of d = option_and_then (at_most (2 ^ 24)) (as_str d)
 
--- exactly one of a node, which there is, and of a master
-abbrev pub act_by : ℕ → ℕ → Option Data → Option Data → Option PlanFault
-act_by nodes after None None = None
-act_by nodes after (Some node) None = option_map (λ n. record { after = after; act = Node n }) (number_in 0 (nodes - 1) node)
-act_by nodes after None (Some master) = option_map (λ kept. record { after = after; act = Master kept }) (number_in 0 (2 ^ 64 - 1) master)
-act_by nodes after (Some node) (Some master) = None
+-- exactly one of a node that restarts, of a master that crashes, and of a node that is given up: the nodes are there
+abbrev pub act_by : ℕ → Option Data → Option Data → Option Data → Option PlanAct
+act_by nodes (Some node) None None = option_map Node (number_in 0 (nodes - 1) node)
+act_by nodes None (Some master) None = option_map Master (number_in 0 (2 ^ 64 - 1) master)
+act_by nodes None None (Some node) = option_map Expire (number_in 0 (nodes - 1) node)
+act_by _ _ _ _ = None
+
+unfoldable pub act_of : ℕ → Data → Option PlanAct
+act_of nodes d = act_by nodes (get (codes "node") d) (get (codes "master") d) (get (codes "expire") d)
 
 unfoldable pub fault_of : ℕ → Data → Option PlanFault
-fault_of nodes d = option_and_then (λ after. act_by nodes after (get (codes "node") d) (get (codes "master") d)) (option_and_then (number_in 0 1000000) (get (codes "after") d))
+fault_of nodes d = option_and_then (λ after. option_map (λ act. record { after = after; act = act }) (act_of nodes d)) (option_and_then (number_in 0 1000000) (get (codes "after") d))
 
 abbrev pub splits_of : Data → Option (List (List ℕ))
 splits_of d = option_and_then (at_most 1000) (option_and_then (each split_of) (as_array d))
@@ -107,7 +111,8 @@ submission_in d = do
   nodes ← required bad.Nodes (optional 1 (number_in 1 64) (get (codes "nodes") d))
   limit ← required bad.Limit (optional 4 (number_in 1 100) (get (codes "limit") d))
   faults ← required bad.Faults (optional [] (faults_of nodes) (get (codes "faults") d))
-  Ok (record { id = id; job = job; reduces = reduces; splits = splits; nodes = nodes; limit = limit; faults = faults })
+  v2_from ← required bad.V2From (optional 1 (number_in 1 1000) (get (codes "v2from") d))
+  Ok (record { id = id; job = job; reduces = reduces; splits = splits; nodes = nodes; limit = limit; faults = faults; v2_from = v2_from })
 
 -- bytes that are no JSON text say no job
 unfoldable pub submission_of : List ℕ → Result Submission JobTextFault

@@ -12,3 +12,5 @@ pub record IsWithinLimits (s : Submission) : Type 0 where
   pub some_limit : 1 ≤ s.limit
   pub most_limit : s.limit ≤ 100
   pub few_faults : length s.faults ≤ 100
+  pub some_v2_from : 1 ≤ s.v2_from
+  pub most_v2_from : s.v2_from ≤ 1000

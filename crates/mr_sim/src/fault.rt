@@ -32,6 +32,9 @@ pub enum JobTextFault {
     /// It is there, and no list of at most 100 faults.
     #[error("faults")]
     Faults,
+    /// It is there, and no whole number from 1 to 1,000.
+    #[error("v2from")]
+    V2From,
 }
 
 /// Why a subcommand gave no output. Its text is what the program prints to standard error.

@@ -2,7 +2,7 @@
 ghost use Rattle.std.specs.Prelude.{◌≡◌, ◌≤◌, ◌^◌, [], codes, IfOk, IfSome, All, length, map, option_map, option_and_then};
 ghost use Rattle.serde_json.specs.Find.{get};
 ghost use Rattle.serde_json.specs.View.{view, items_view};
-ghost use Rattle.mr_sim.specs.JobText.{Gives, each, fault_of, faults_of, job_named, kind_named, number_in, optional, required, split_of, splits_of, submission_in, submission_of, text_at};
+ghost use Rattle.mr_sim.specs.JobText.{Gives, each, act_of, fault_of, faults_of, job_named, kind_named, number_in, optional, required, split_of, splits_of, submission_in, submission_of, text_at};
 ghost use Rattle.mr_sim.specs.Submission.{IsWithinLimits};
 
 use crate::fault::{JobTextFault, SimFault};
@@ -23,6 +23,9 @@ const MAX_FAULTS: usize = 100;
 
 /// Most events before a fault.
 const MAX_AFTER: u32 = 1_000_000;
+
+/// The greatest generation of the master.
+const MAX_GENERATION: u32 = 1000;
 
 /// The whole number that a value is, from `low` to `high`.
 fn number_in(value: &Value, low: u64, high: u64) -> Option<u64>
@@ -171,6 +174,20 @@ fn limit_in(value: &Value) -> Result<u32, SimFault>
     }
 }
 
+/// What the fault that a value is does, for so many nodes.
+#[tactic(auto, unfolding(crate::specs::JobText::act_of))]
+fn act_of(value: &Value, nodes: u32) -> Option<PlanAct>
+    requires { 1 ≤ nodes }
+    ensures { result ≡ act_of nodes (view value.now) }
+{
+    match (value.get("node"), value.get("master"), value.get("expire")) {
+        (Some(node), None, None) => Some(PlanAct::Node(small_in(node, 0, nodes - 1)?)),
+        (None, Some(kept), None) => Some(PlanAct::Master(number_in(kept, 0, u64::MAX)?)),
+        (None, None, Some(node)) => Some(PlanAct::Expire(small_in(node, 0, nodes - 1)?)),
+        _ => None,
+    }
+}
+
 /// The fault that a value is, for so many nodes.
 #[tactic(auto, unfolding(crate::specs::JobText::fault_of))]
 fn fault_of(value: &Value, nodes: u32) -> Option<PlanFault>
@@ -178,23 +195,8 @@ fn fault_of(value: &Value, nodes: u32) -> Option<PlanFault>
     ensures { result ≡ fault_of nodes (view value.now) }
 {
     let after = small_in(value.get("after")?, 0, MAX_AFTER)?;
-    match (value.get("node"), value.get("master")) {
-        (Some(node), None) => {
-            let node = small_in(node, 0, nodes - 1)?;
-            Some(PlanFault {
-                after,
-                act: PlanAct::Node(node),
-            })
-        }
-        (None, Some(kept)) => {
-            let kept = number_in(kept, 0, u64::MAX)?;
-            Some(PlanFault {
-                after,
-                act: PlanAct::Master(kept),
-            })
-        }
-        _ => None,
-    }
+    let act = act_of(value, nodes)?;
+    Some(PlanFault { after, act })
 }
 
 /// The faults that these values are.
@@ -239,6 +241,18 @@ fn faults_in(alloc: Global, value: &Value, nodes: u32) -> Result<PlanFaults, Sim
     }
 }
 
+fn v2_from_in(value: &Value) -> Result<u32, SimFault>
+    ensures said { Gives result (required JobTextFault.V2From (optional 1 (number_in 1 1000) (get (codes "v2from") (view value.now)))) }
+    ensures range { IfOk result (λ n. (1 ≤ n) × (n ≤ 1000)) }
+{
+    match value.get("v2from") {
+        Some(number) => {
+            small_in(number, 1, MAX_GENERATION).ok_or(SimFault::Job(JobTextFault::V2From))
+        }
+        None => Ok(1),
+    }
+}
+
 /// The keys of a job text, in their order.
 #[tactic(auto, unfolding(crate::specs::JobText::submission_in))]
 fn submission_in(alloc: Global, value: &Value) -> Result<Submission, SimFault>
@@ -255,6 +269,7 @@ fn submission_in(alloc: Global, value: &Value) -> Result<Submission, SimFault>
     let nodes = nodes_in(value)?;
     let limit = limit_in(value)?;
     let faults = faults_in(alloc, value, nodes)?;
+    let v2_from = v2_from_in(value)?;
     Ok(Submission {
         id,
         job,
@@ -263,11 +278,12 @@ fn submission_in(alloc: Global, value: &Value) -> Result<Submission, SimFault>
         nodes,
         limit,
         faults,
+        v2_from,
     })
 }
 
 /// Reads a job text: one JSON object with the keys `id`, `job`, `reduces`, `splits`, and, where they are there, `nodes`,
-/// `limit` and `faults`. Other keys are not looked at.
+/// `limit`, `faults` and `v2from`. Other keys are not looked at.
 ///
 /// `Job` names the first of these keys, in this order, that is missing or bad, or tells that there is no JSON object.
 /// Nothing else is answered but `NoMemory`, which may come at any text that is not empty.

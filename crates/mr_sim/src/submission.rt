@@ -22,6 +22,8 @@ pub enum PlanAct {
     Node(u32),
     /// The newest master crashes, so many bytes of its unflushed history are kept, and the next master starts.
     Master(u64),
+    /// The newest master gives this node up.
+    Expire(u32),
 }
 
 /// A fault that is made as soon as the journal has `after` events.
@@ -124,4 +126,6 @@ pub struct Submission {
     pub limit: u32,
     /// At most 100 faults. Each node that they name is below `nodes`.
     pub faults: PlanFaults,
+    /// From which generation on a master writes history of version 2, from 1 to 1,000.
+    pub v2_from: u32,
 }

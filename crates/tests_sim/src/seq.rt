@@ -195,9 +195,12 @@ fn bad_numbers(rt: HostRuntime) -> Result<(), Fail> {
         refuses_rest(&rt, &[rest.as_str()], JobTextFault::Nodes)?;
         let rest = format!(in rt.alloc(); ",\"limit\":{number},\"faults\":0")?;
         refuses_rest(&rt, &[rest.as_str()], JobTextFault::Limit)?;
+        let rest = format!(in rt.alloc(); ",\"v2from\":{number}")?;
+        refuses_rest(&rt, &[rest.as_str()], JobTextFault::V2From)?;
     }
     refuses_rest(&rt, &[",\"nodes\":65"], JobTextFault::Nodes)?;
-    refuses_rest(&rt, &[",\"limit\":101"], JobTextFault::Limit)
+    refuses_rest(&rt, &[",\"limit\":101"], JobTextFault::Limit)?;
+    refuses_rest(&rt, &[",\"v2from\":0,\"faults\":0"], JobTextFault::Faults)
 }
 
 #[test]
@@ -231,6 +234,10 @@ fn bad_lists(rt: HostRuntime) -> Result<(), Fail> {
         "[{\"after\":1000001,\"node\":0}]",
         "[{\"after\":1.0,\"node\":0}]",
         "[{\"after\":1,\"node\":0},{\"after\":1,\"node\":-0}]",
+        "[{\"after\":1,\"expire\":1}]",
+        "[{\"after\":1,\"expire\":null}]",
+        "[{\"after\":1,\"node\":0,\"expire\":0}]",
+        "[{\"after\":1,\"master\":0,\"expire\":0}]",
     ] {
         let rest = format!(in rt.alloc(); ",\"faults\":{faults}")?;
         refuses_rest(&rt, &[rest.as_str()], JobTextFault::Faults)?;
@@ -293,6 +300,7 @@ fn seq_statuses(rt: HostRuntime) -> Result<(), Fail> {
         (SimFault::Job(JobTextFault::Nodes), "mrsim: job: nodes"),
         (SimFault::Job(JobTextFault::Limit), "mrsim: job: limit"),
         (SimFault::Job(JobTextFault::Faults), "mrsim: job: faults"),
+        (SimFault::Job(JobTextFault::V2From), "mrsim: job: v2from"),
         (SimFault::Refused, "mrsim: refused"),
     ] {
         assert_eq!(rt; fault.status(), 3);
@@ -314,14 +322,14 @@ fn read_submission(rt: HostRuntime) -> Result<(), Fail> {
             }
     );
     assert!(rt; job.job == JobKind::WordCount && job.reduces == 1);
-    assert!(rt; job.nodes == 1 && job.limit == 4);
+    assert!(rt; job.nodes == 1 && job.limit == 4 && job.v2_from == 1);
     assert!(rt; job.faults.as_slice().is_empty());
     assert!(rt; job.splits.as_slice().len() == 1);
     assert!(rt; job.splits.into_vec()[0].as_slice() == b"a".as_slice());
     let rest =
-        ",\"nodes\":2,\"limit\":3,\"faults\":[{\"after\":7,\"node\":1},{\"after\":8,\"master\":9}]";
+        ",\"v2from\":1000,\"nodes\":2,\"limit\":3,\"faults\":[{\"after\":7,\"node\":1},{\"after\":8,\"master\":9},{\"after\":0,\"expire\":1}]";
     let job = read_job_text(alloc, of_splits(&rt, rest)?.as_bytes())?;
-    assert!(rt; job.nodes == 2 && job.limit == 3);
+    assert!(rt; job.nodes == 2 && job.limit == 3 && job.v2_from == 1000);
     let faults = [
         PlanFault {
             after: 7,
@@ -330,6 +338,10 @@ fn read_submission(rt: HostRuntime) -> Result<(), Fail> {
         PlanFault {
             after: 8,
             act: PlanAct::Master(9),
+        },
+        PlanFault {
+            after: 0,
+            act: PlanAct::Expire(1),
         },
     ];
     assert!(rt; job.faults.into_vec().as_slice() == faults.as_slice());
