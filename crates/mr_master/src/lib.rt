@@ -4,11 +4,14 @@
 //! stores is what is read off that past by the words of `mr_master_model`, part by part (`specs/State.antt`), and each public call
 //! promises the past that it stands for then, and that what it answers or sends is what is read off the past before.
 //!
-//! Whoever runs a master keeps the bag. Of a packet: `hear_packets` first, which changes nothing and gives exactly the packets that will
-//! be sent; then room in the bag; then `hear` with those packets, whose only fault is want of memory, after which the master stands for
-//! what it stood for; then the packets are pushed, which takes no memory. Of a launch: room for one packet first, then `launch`. Of a
-//! store call: `duty` tells which is due, and `answer` hears its answer and gives the packets together with the change, so a caller that
-//! then finds no room in the bag has to stop.
+//! Whoever runs a master keeps the bag, and makes room in it before anything changes that can't be taken back:
+//!
+//! - Of a packet: `hear_packets`, which gives exactly the packets that will be sent; room for them; `hear` with those packets, whose only
+//!   fault is want of memory; then the packets are pushed, which takes no memory.
+//! - Of a store call: `duty` tells which is due. Its answer is known beforehand (`Namespace::foresee`), or the call changes nothing and is
+//!   made first. `ready` with that answer; room for the packets that it lends; the call; `answer`, which takes no memory and refuses nothing;
+//!   then the packets are pushed. Where the call is refused for want of memory, what was made ready is let go.
+//! - Of a launch: room for one packet; `launch`. Of an expiry: `expire_packets`; room; `expire`.
 //!
 //! # What is proved
 //!
@@ -17,12 +20,14 @@
 //!   next. They change nothing, and `phase` and `wanted` take no memory.
 //! - `hear_packets` gives exactly the packets that are sent for a packet. After `hear` with these the machine stands for what it stood
 //!   for and this packet; where memory is refused, for what it stood for.
-//! - `answer` gives exactly the packets that are sent for the answer of the store call that is due, and then the machine stands for what it
-//!   stood for and this answer; where memory is refused, for what it stood for. Where no call is due, nothing is sent.
+//! - `ready` makes ready for an answer: what it lends is exactly the packets that are sent for it, and the master stands for what it stood
+//!   for, also where memory is refused. `answer` then gives these packets, and the master stands for what it stood for and that answer. Where
+//!   no call is due, nothing is sent.
 //! - `launch` and `expire` give exactly the packets that are sent, and then the machine stands for what it stood for and this step. A fault
 //!   is the first refusal that applies, or `Task(NoMemory)` where none does; then it stands for what it stood for, and after a fault of `expire` it
 //!   is the machine that it was.
-//! - Not yet: an expiry and an answer give their packets with the change, so room for them can't be made before; no `copy`.
+//! - `expire_packets` gives exactly the packets that `expire` then sends; nothing where that is refused. `copy` gives a machine that stands for
+//!   whatever this one stands for.
 //! - Only tested: that the calls succeed with ample memory, so far in Opening alone (`crates/tests_masters`).
 #![tactic(auto)]
 
