@@ -1,10 +1,14 @@
 pub mod Effect
+pub mod EventNames
 pub mod Fault
 pub mod History
 pub mod JobText
 pub mod Laws
 pub mod Listing
 pub mod PartFiles
+pub mod Play
+pub mod PlayLaws
+pub mod Played
 pub mod Printed
 pub mod Script
 pub mod Seq

@@ -1,5 +1,6 @@
 //! Laws of the definitions: these functions do nothing.
 ghost use Rattle.mr_sim.specs.Laws.{OneReading, ReadOrBad, OneFirstBad, OneSeqText, PrintedOrRefused};
+ghost use Rattle.mr_sim.specs.PlayLaws.{NamesAreOfDutiesAndWishes, OnePlayText, ScriptsGoOn};
 
 /// A script has at most one reading.
 pub fn one_reading()
@@ -24,4 +25,19 @@ pub fn one_seq_text()
 /// No input is both printed and refused, by any subcommand.
 pub fn printed_or_refused()
     ensures { PrintedOrRefused }
+{}
+
+/// Each name that a calm stops before, but `launch` and `step`, is that of a master's duty or of a container's wish.
+pub fn names_are_of_duties_and_wishes()
+    ensures { NamesAreOfDutiesAndWishes }
+{}
+
+/// A job text with a script has at most one text, and none where it is refused.
+pub fn one_play_text()
+    ensures { OnePlayText }
+{}
+
+/// What a script led to stays, whatever commands follow it: its events, each winner, and, once the marker is there, all that a reader sees.
+pub fn scripts_go_on()
+    ensures { ScriptsGoOn }
 {}

@@ -1,0 +1,136 @@
+-- What `play` prints for a job text and a script, and why it prints nothing (our own profile; the part files' names are Hadoop's).
+use Rattle.std.specs.Prelude.{◌≡◌, ℕ, Bool, true, false, List, [], ◌∷◌, ◌++◌, Option, Some, None, Ok, Err, if◌then◌else◌, codes, decimal}
+use Rattle.std.specs.List.{flat_map, range_with_len}
+use Rattle.std.specs.Cmp.Lexicographic.{slice_cmp}
+use Rattle.std.specs.Ordering.{nat_cmp}
+use Rattle.mr_ids.specs.Attempt.{Attempt}
+use Rattle.mr_ids.specs.Text.{attempt_text}
+use Rattle.mr_paths.specs.Layout.{is_hidden}
+use Rattle.mr_user.specs.Computation.{computation}
+use Rattle.mr_user.specs.Codecs.{text_codec, number_codec, position_codec}
+use Rattle.mr_user.specs.WordCount.{word_count}
+use Rattle.mr_user.specs.MaxByKey.{max_by_key}
+use Rattle.mr_user.specs.LineIndex.{line_index}
+use Rattle.mr_packet.specs.declared.packet.Packet.{Packet}
+use Rattle.mr_packet.specs.declared.packet.Packet.TheVariants.{Outcome}
+use Rattle.mr_packet.specs.declared.packet.Envelope.{Envelope}
+use Rattle.mr_model.specs.Ids.{dest, marker, reduce_of}
+use Rattle.mr_model.specs.Content.{Content, Entry, File, Dir, children, entry_at, is_file}
+use Rattle.mr_model.specs.Packets.{Config}
+use Rattle.mr_model.specs.World.{World}
+use Rattle.mr_model.specs.Claims.{Limits, winner}
+use Rattle.mr_model.specs.Sequential.{Job}
+use Rattle.mr_sequential.specs.Jobs.{job_of}
+use Rattle.mr_script.specs.declared.command.Command.{Command}
+use Rattle.mr_script.specs.Lines.{before, after, lines_of}
+use Rattle.mr_script.specs.Script.{AreCommands, IsFirstBad}
+use Rattle.mr_sim.specs.declared.fault.JobTextFault.{JobTextFault}
+use Rattle.mr_sim.specs.declared.submission.JobKind.{JobKind}
+use Rattle.mr_sim.specs.declared.submission.JobKind.TheVariants.{WordCount, MaxByKey, LineIndex}
+use Rattle.mr_sim.specs.declared.submission.Submission.{Submission}
+use Rattle.mr_sim.specs.JobText.{submission_of}
+use Rattle.mr_sim.specs.PartFiles.{file_text}
+use Rattle.mr_sim.specs.Played.{Played, begun, played}
+
+-- ---- of a world
+
+abbrev pub winner_word : Option Attempt → List ℕ
+winner_word None = codes "none"
+winner_word (Some a) = attempt_text a
+
+-- a line for each reduce: its winner, if it has one
+abbrev pub winner_line : Config → World → ℕ → List ℕ
+winner_line cfg w r = codes "r " ++ decimal r ++ 32 ∷ winner_word (winner w (reduce_of cfg.job r)) ++ 10 ∷ []
+
+abbrev pub marker_line : World → List ℕ
+marker_line w = codes "marker " ++ (if is_file (entry_at w.content marker) then codes "yes" else codes "no") ++ 10 ∷ []
+
+-- the first outcome that was told
+abbrev pub told_by : Packet → Option Bool → Option Bool
+told_by (Outcome succeeded) later = Some succeeded
+told_by _ later = later
+
+abbrev pub outcome : List Envelope → Option Bool
+outcome [] = None
+outcome (e ∷ es) = told_by e.body (outcome es)
+
+abbrev pub outcome_word : Option Bool → List ℕ
+outcome_word None = codes "none"
+outcome_word (Some true) = codes "succeeded"
+outcome_word (Some false) = codes "failed"
+
+abbrev pub outcome_line : World → List ℕ
+outcome_line w = codes "outcome " ++ outcome_word (outcome w.bag) ++ 10 ∷ []
+
+-- a file directly beneath the destination, whose name is not hidden
+abbrev pub visible_by : List ℕ → Option Entry → List ℕ
+visible_by name None = []
+visible_by name (Some Dir) = []
+visible_by name (Some (File bytes is_closed)) = file_text name bytes
+
+abbrev pub visible_text : Content → List ℕ → List ℕ
+visible_text c name = if is_hidden name then [] else visible_by name (entry_at c (dest ++ name ∷ []))
+
+-- winners by reduce, the marker, the outcome, and the visible files by rising name
+unfoldable pub world_text : Config → World → List ℕ
+world_text cfg w =
+    flat_map (winner_line cfg w) (range_with_len 0 cfg.reduces)
+    ++ marker_line w ++ outcome_line w ++ flat_map (λ line. visible_text w.content line.name) (children w.content dest)
+
+-- ---- of an input
+
+-- the job of a job text, as the cluster's definitions ask for it
+unfoldable pub job_as : JobKind → Job
+job_as WordCount = job_of (computation (slice_cmp nat_cmp) text_codec number_codec word_count)
+job_as MaxByKey = job_of (computation (slice_cmp nat_cmp) text_codec number_codec max_by_key)
+job_as LineIndex = job_of (computation (slice_cmp nat_cmp) text_codec position_codec line_index)
+
+abbrev pub config_of : Submission → Config
+config_of job = record { job = job.id; splits = job.splits; reduces = job.reduces; nodes = job.nodes; limit = job.limit; v2_from = job.v2_from }
+
+-- the first line is the job text, the others are the script
+abbrev pub job_line : List ℕ → List ℕ
+job_line input = before 10 input
+
+abbrev pub script_by : Option (List ℕ) → List ℕ
+script_by None = []
+script_by (Some rest) = rest
+
+abbrev pub script_lines : List ℕ → List (List ℕ)
+script_lines input = lines_of (script_by (after 10 input))
+
+-- limits, for each config
+module _ (within : Config → Limits) where
+  -- what commands make of a job's cluster; none where a limit is passed
+  unfoldable pub played_of : Submission → List (ℕ × Command) → Option Played
+  played_of job cs = played (job_as job.job) (config_of job) (within (config_of job)) cs begun
+
+  -- the refused lines, and then what came of it all
+  abbrev pub played_text : Submission → Played → List ℕ
+  played_text job s = s.refused ++ world_text (config_of job) (Rattle.mr_sim.specs.Played.world (job_as job.job) (config_of job) (within (config_of job)) s)
+
+  pub record PrintsPlay (input text : List ℕ) : Type 0 where
+    pub job : Submission
+    pub said : submission_of (job_line input) ≡ Ok job
+    pub commands : List (ℕ × Command)
+    pub read : AreCommands job.id 2 (script_lines input) commands
+    pub left : Played
+    pub comes : played_of job commands ≡ Some left
+    pub is : text ≡ played_text job left
+
+  -- a bad job text is told before a bad script
+  abbrev pub IsBadPlayJob : List ℕ → JobTextFault → Type 0
+  IsBadPlayJob input e = submission_of (job_line input) ≡ Err e
+
+  pub record IsBadPlayLine (input : List ℕ) (n : ℕ) : Type 0 where
+    pub job : Submission
+    pub said : submission_of (job_line input) ≡ Ok job
+    pub bad : IsFirstBad job.id 2 (script_lines input) n
+
+  -- the script is read, and an event or a work passes a limit
+  pub record IsFullPlay (input : List ℕ) : Type 0 where
+    pub job : Submission
+    pub said : submission_of (job_line input) ≡ Ok job
+    pub commands : List (ℕ × Command)
+    pub read : AreCommands job.id 2 (script_lines input) commands
+    pub full : played_of job commands ≡ None
