@@ -90,3 +90,5 @@ pub mod Asked
 pub mod Made
 pub mod Stored
 pub mod Wanted
+pub mod Lying
+pub mod Addressed

@@ -58,7 +58,7 @@ end_there-named : (n i : ℕ) (ls : List Launched) (s : Seen) → AllNamed s →
 end_there-named n i [] s o = o
 end_there-named n i (l ∷ ls) s o = if_cases AllNamed (nat_eq l.node n && (nat_lt l.incarnation i && is_live s l.attempt)) _ _ (λ t. end_there-named n i ls _ o) (λ t. end_there-named n i ls s o)
 
-found : (ls : List Launched) (a : Attempt) (l : Launched) → find_launched ls a ≡ Some l → In l ls × (l.attempt ≡ a)
+pub found : (ls : List Launched) (a : Attempt) (l : Launched) → find_launched ls a ≡ Some l → In l ls × (l.attempt ≡ a)
 found [] a l e = cc
 found (m ∷ ls) a l e = by (attempt_eq a m.attempt) refl e (found ls a l)
   where
@@ -224,7 +224,7 @@ pub record Placed (cfg : Config) (w : World) : Type 0 where
 later-in : (cfg : Config) (w : World) (e : Event) (l : Launched) → LaunchIn cfg w l → LaunchIn cfg (effect cfg w e) l
 later-in cfg w e l o = record { job = o.job; number = o.number; node = o.node; incarnation = let g = incarnation_after w e l.node in let h = o.incarnation in omega (arith, g, h) }
 
-placed : (cfg : Config) (w : World) (e : Event) → Placed cfg w → not_now cfg w e ≡ None → Placed cfg (effect cfg w e)
+pub placed : (cfg : Config) (w : World) (e : Event) → Placed cfg w → not_now cfg w e ≡ None → Placed cfg (effect cfg w e)
 unfolding master_act
 placed cfg w e o n = record {
   sures = sure cfg w e o.sures n;
@@ -267,7 +267,7 @@ placed cfg w e o n = record {
     launched k = seen_after (AllIn cfg w) cfg w (master_act cfg w e) k (o.launched k)
         (λ a q m. Rattle.mr_model.proofs.Closed.next-closed cfg (λ s l. LaunchIn cfg w l) (AllIn cfg w) (all-closed cfg w) k (seen_by cfg w k) a.step (fits k a q m) (o.launched k))
 
-opening-placed : (cfg : Config) → Placed cfg opening_world
+pub opening-placed : (cfg : Config) → Placed cfg opening_world
 unfolding seen incarnation_of
 opening-placed cfg = record { sures = opening-sure cfg; named = λ k. tt; knows = λ k n. omega arith; launched = λ k l i. absurd i }
 

@@ -22,4 +22,5 @@ pub mod Nodes
 pub mod Actors
 pub mod Stored
 pub mod Acts
+pub mod Addressed
 pub mod Made

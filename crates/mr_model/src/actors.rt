@@ -4,6 +4,7 @@ ghost use Rattle.mr_model.specs.Containers.{ContainersAgree};
 ghost use Rattle.mr_model.specs.Nodes.{NodesAgree};
 ghost use Rattle.mr_model.specs.Actors.{AnswersAreHeard, BeginsOnce, ContainersSay, PastsAreWished};
 ghost use Rattle.mr_model.specs.Stored.{StoresGoOn};
+ghost use Rattle.mr_model.specs.Addressed.{PacketsFindTheirNodes};
 ghost use Rattle.mr_model.specs.Acts.{ContainersAct, MapsAct, MastersAct, NodesAct};
 
 /// What is read off a container's past is what mr_container reads of it: its wish, the blocks that it fetched, what it computed, its call and
@@ -63,4 +64,9 @@ pub fn maps_act()
 /// What a packet to a node, a restart and a death change, and the packets that they add.
 pub fn nodes_act()
     ensures { NodesAct }
+{}
+
+/// In every run a packet to a node goes to one of the cluster's nodes.
+pub fn packets_find_their_nodes()
+    ensures { PacketsFindTheirNodes }
 {}
