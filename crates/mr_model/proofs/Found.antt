@@ -27,7 +27,8 @@ use Rattle.mr_model.proofs.Lists.{In-left, Each-In}
 use Rattle.mr_model.proofs.Regions.{commits, AwayFrom, attempt_from_committed, committed_other}
 use Rattle.mr_model.specs.Ids.{committed}
 use Rattle.mr_model.proofs.Dirs.{calls-new, calls-free, none-some, calls-away, Known, known_step, Dirs, PhaseDirs, AllHold, R, HoldsAt}
-use Rattle.mr_model.proofs.Fates.{dirs_after, accepted-holds, winner-split, named-not-over}
+use Rattle.mr_model.proofs.Fates.{accepted-holds, winner-split, named-not-over}
+use Rattle.mr_model.proofs.Dirs_kept.{dirs_after}
 use Rattle.mr_model.proofs.Marks.{Marks, marks_after, quiet-before, quiet-not-loud, running-quiet}
 
 pub record Sure (cfg : Config) (w : World) : Type 0 where

@@ -42,6 +42,7 @@ pub mod Own
 pub mod Dirs
 pub mod Winners
 pub mod Fates
+pub mod Dirs_kept
 pub mod Reaching
 pub mod Marks
 pub mod Found
