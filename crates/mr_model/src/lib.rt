@@ -3,7 +3,7 @@
 //!
 //! # What is proved
 //!
-//! The cluster as definitions (`crates/mr_model/specs/`, 2,800 lines, in a reader's order), and what holds over
+//! The cluster as definitions (`crates/mr_model/specs/`, 3,000 lines, in a reader's order), and what holds over
 //! **every list of events**: deliveries, losses, repeats and reorderings of packets, containers that die,
 //! nodes that restart or are given up, masters that crash and start, store calls that are lost or whose answers are
 //! lost. There is no code in these crates: each law is the contract of a function that does nothing. **It is a
