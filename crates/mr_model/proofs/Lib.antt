@@ -85,6 +85,7 @@ pub mod Takes_over
 pub mod First
 pub mod Owned
 pub mod Ranges
+pub mod Places
 pub mod Sized
 pub mod Fitting
 pub mod Asked

@@ -19,6 +19,7 @@ pub mod Laws
 pub mod Calls
 pub mod Containers
 pub mod Nodes
+pub mod Places
 pub mod Actors
 pub mod Stored
 pub mod Acts

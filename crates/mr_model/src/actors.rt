@@ -2,6 +2,7 @@
 //! `specs/Actors` says what a machine stands for, `specs/Stored` what stores do.
 ghost use Rattle.mr_model.specs.Containers.{ContainersAgree};
 ghost use Rattle.mr_model.specs.Nodes.{NodesAgree};
+ghost use Rattle.mr_model.specs.Places.{PlacesAreNodes};
 ghost use Rattle.mr_model.specs.Actors.{AnswersAreHeard, BeginsOnce, ContainersSay, PastsAreWished};
 ghost use Rattle.mr_model.specs.Stored.{StoresGoOn};
 ghost use Rattle.mr_model.specs.Addressed.{PacketsFindTheirNodes};
@@ -33,6 +34,11 @@ pub fn pasts_are_wished()
 /// A container that lives was launched, in its node's present incarnation; one that a delivery starts does not live and has done nothing.
 pub fn begins_once()
     ensures { BeginsOnce }
+{}
+
+/// In every run a container was launched on one of the cluster's nodes.
+pub fn places_are_nodes()
+    ensures { PlacesAreNodes }
 {}
 
 /// What a container hears of its call is what the namespace answered, or a fault.

@@ -41,7 +41,7 @@
 //!   in) and hears what the namespace answered (`answers_are_heard`); what each kind of event changes of all
 //!   machines of containers and nodes, who lives after it, and what it adds to the bag (`masters_act`,
 //!   `containers_act`, `maps_act`, `nodes_act`); a packet to a node goes to one of the cluster's (`packets_find_their_nodes`); bytes are handed in only as wished (`pasts_are_wished`), and no
-//!   container begins twice (`begins_once`).
+//!   container begins twice (`begins_once`), or is placed elsewhere than on one of the cluster's nodes (`places_are_nodes`).
 //!
 //! What each word means: [docs/MODEL.md](../../../docs/MODEL.md). Why it holds:
 //! [docs/INVARIANT.md](../../../docs/INVARIANT.md). Neither proved nor claimed here: that a master of this
@@ -63,7 +63,8 @@ ghost use Rattle.mr_model.specs.Sequential.{Job, JobLaws, BoundsOutputs, WholeIs
 
 pub use actors::{
     answers_are_heard, begins_once, containers_act, containers_agree, containers_say, maps_act,
-    masters_act, nodes_act, nodes_agree, packets_find_their_nodes, pasts_are_wished, stores_go_on,
+    masters_act, nodes_act, nodes_agree, packets_find_their_nodes, pasts_are_wished,
+    places_are_nodes, stores_go_on,
 };
 
 // The headline
