@@ -2,6 +2,7 @@ pub mod Attempts
 pub mod JobTexts
 pub mod Obeying
 pub mod PartFiles
+pub mod PlayRows
 pub mod Playing
 pub mod Readings
 pub mod Recoveries

@@ -8,6 +8,7 @@ pub mod Listing
 pub mod PartFiles
 pub mod Play
 pub mod PlayLaws
+pub mod PlayRows
 pub mod Played
 pub mod Printed
 pub mod Script

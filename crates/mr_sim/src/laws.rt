@@ -1,6 +1,7 @@
 //! Laws of the definitions: these functions do nothing.
 ghost use Rattle.mr_sim.specs.Laws.{OneReading, ReadOrBad, OneFirstBad, OneSeqText, PrintedOrRefused};
 ghost use Rattle.mr_sim.specs.PlayLaws.{NamesAreOfDutiesAndWishes, OnePlayText, ScriptsGoOn};
+ghost use Rattle.mr_sim.specs.PlayRows.{PlayedRows};
 
 /// A script has at most one reading.
 pub fn one_reading()
@@ -40,4 +41,9 @@ pub fn one_play_text()
 /// What a script led to stays, whatever commands follow it: its events, each winner, and, once the marker is there, all that a reader sees.
 pub fn scripts_go_on()
     ensures { ScriptsGoOn }
+{}
+
+/// What a few scripts print, worked out.
+pub fn played_rows()
+    ensures { PlayedRows }
 {}
