@@ -1,4 +1,5 @@
 pub mod Attempts
+pub mod Calming
 pub mod JobTexts
 pub mod Obeying
 pub mod PartFiles

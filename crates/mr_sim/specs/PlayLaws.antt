@@ -1,5 +1,5 @@
 -- Laws of what `play` prints.
-use Rattle.std.specs.Prelude.{◌≡◌, ◌⊎◌, ℕ, List, ◌++◌, Some}
+use Rattle.std.specs.Prelude.{◌≡◌, ◌⊎◌, ℕ, List, ◌++◌, Some, ◌<◌, false, None}
 use Rattle.mr_ids.specs.Attempt.{Attempt}
 use Rattle.mr_master_model.specs.declared.phase.DutyName.{DutyName}
 use Rattle.mr_container.specs.declared.wish.Wish.{Wish}
@@ -10,10 +10,11 @@ use Rattle.mr_model.specs.Ids.{TaskId}
 use Rattle.mr_model.specs.Packets.{Config}
 use Rattle.mr_model.specs.World.{Event}
 use Rattle.mr_model.specs.Claims.{Limits, IsMarked, LooksTheSame, winner}
-use Rattle.mr_model.specs.Sequential.{Job}
+use Rattle.mr_model.specs.Effect.{not_now}
+use Rattle.mr_model.specs.Sequential.{Job, JobLaws}
 use Rattle.mr_sim.specs.declared.fault.JobTextFault.{JobTextFault}
 use Rattle.mr_sim.specs.EventNames.{duty_event, wish_event}
-use Rattle.mr_sim.specs.Played.{Played, played, world}
+use Rattle.mr_sim.specs.Played.{Played, Next, cursor_at, is_through, next_of, played, world}
 use Rattle.mr_sim.specs.Play.{PrintsPlay, IsBadPlayJob, IsBadPlayLine, IsFullPlay}
 
 -- each name of a script but `launch` and `step` is that of a duty or of a wish, and no two duties have one name
@@ -39,3 +40,10 @@ abbrev pub ScriptsGoOn : Type 0
 ScriptsGoOn =
     (job : Job) (cfg : Config) (within : Limits) (cs ds : List (ℕ × Command)) (begin s t : Played) →
     played job cfg within cs begin ≡ Some s → played job cfg within (cs ++ ds) begin ≡ Some t → GoesOn job cfg within s t
+
+-- What a calm makes next is permitted, where the job keeps its laws and there is a node. So a calm ends by its own rules, or at a limit.
+abbrev pub CalmsArePermitted : Type 0
+CalmsArePermitted =
+    (job : Job) (cfg : Config) (within : Limits) → JobLaws job cfg → 0 < cfg.nodes → (s : Played) (k : ℕ) (next : Next) (e : Event) →
+    is_through cfg (world job cfg within s) k ≡ false → next_of job cfg within (world job cfg within s) k s.stepped (cursor_at (world job cfg within s) s.cursor) ≡ Some next → next.event ≡ Some e →
+    not_now cfg (world job cfg within s) e ≡ None

@@ -168,7 +168,7 @@ module _ (job : Job) (cfg : Config) (within : Limits) where
   abbrev pub made : ℕ → Event → Option ContainerId → Played → Option Played
   made line e last s = unless_refused line e last s (not_now cfg (world s) e)
 
-  -- one event of a calm: it is always permitted, so what becomes of it otherwise says nothing
+  -- one event of a calm, and the rest of it; an event that is not permitted would end it
   abbrev pub calmed : (Played → Option Played) → Event → Option ContainerId → Played → Option Why → Option Played
   calmed more e last s None = option_and_then more (taken e last s)
   calmed more e last s (Some reason) = Some s

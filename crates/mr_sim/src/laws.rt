@@ -1,6 +1,6 @@
 //! Laws of the definitions: these functions do nothing.
 ghost use Rattle.mr_sim.specs.Laws.{OneReading, ReadOrBad, OneFirstBad, OneSeqText, PrintedOrRefused};
-ghost use Rattle.mr_sim.specs.PlayLaws.{NamesAreOfDutiesAndWishes, OnePlayText, ScriptsGoOn};
+ghost use Rattle.mr_sim.specs.PlayLaws.{CalmsArePermitted, NamesAreOfDutiesAndWishes, OnePlayText, ScriptsGoOn};
 ghost use Rattle.mr_sim.specs.PlayRows.{PlayedRows};
 
 /// A script has at most one reading.
@@ -46,4 +46,9 @@ pub fn scripts_go_on()
 /// What a few scripts print, worked out.
 pub fn played_rows()
     ensures { PlayedRows }
+{}
+
+/// What a calm makes next is permitted, where the job keeps its laws and there is a node.
+pub fn calms_are_permitted()
+    ensures { CalmsArePermitted }
 {}

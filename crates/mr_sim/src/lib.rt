@@ -33,7 +33,8 @@
 //! **What `play` is to print** is defined, and nothing runs it yet: a job text with a script of a run (`specs/Play`). The cluster is the run
 //! of the events that the script and its calms make (`specs/Played`); an input has at most one text, and none where its job text or a line
 //! is bad or a limit is passed (`one_play_text`). Whatever commands follow others, each winner stays, and once the marker is there all
-//! that a reader sees stays (`scripts_go_on`, from the headline). The names that a calm can stop before are those of duties and wishes,
+//! that a reader sees stays (`scripts_go_on`, from the headline). What a calm makes next is always permitted (`calms_are_permitted`, for
+//! jobs that keep their laws). The names that a calm can stop before are those of duties and wishes,
 //! `launch` and `step` (`names_are_of_duties_and_wishes`). Four small scripts are worked out (`played_rows`).
 //!
 //! Only tested: the texts of `SimFault` (derived by thiserror), streams that fail at each place, 2^24 and 2^24 + 1
@@ -60,8 +61,8 @@ mod submission;
 pub use fault::{JobTextFault, SimFault};
 pub use job_text::read_job_text;
 pub use laws::{
-    names_are_of_duties_and_wishes, one_first_bad, one_play_text, one_reading, one_seq_text,
-    played_rows, printed_or_refused, read_or_bad, scripts_go_on,
+    calms_are_permitted, names_are_of_duties_and_wishes, one_first_bad, one_play_text, one_reading,
+    one_seq_text, played_rows, printed_or_refused, read_or_bad, scripts_go_on,
 };
 pub use subcommand::{Command, run};
 pub use submission::{JobKind, PlanAct, PlanFault, PlanFaults, Splits, Submission};
