@@ -127,7 +127,7 @@ entries-changed : (c : Content) (p : Path) (f : Node → Node) (o : Option Node)
 entries-changed c p f None = refl
 entries-changed c p f (Some node) = entries-put c p (f node)
 
-entries-without : (c : Content) (t : Path → Bool) → finite.entries (finite.retain_keys c t) ≡ where_key path_cmp t (finite.entries c)
+pub entries-without : (c : Content) (t : Path → Bool) → finite.entries (finite.retain_keys c t) ≡ where_key path_cmp t (finite.entries c)
 entries-without c t = ap finite.entries (finite.same_map path_total path_exact (finite.retain_keys c t) (finite.from_sorted (where_key path_cmp t (finite.entries c))) (λ q.
     finite.get-retain_keys c t q (alike q)
     ∙ (ap (λ o. if t q then o else None) (finite.get-entries c q) ∙ (sym (find-where_key path_cmp t q (alike q) (finite.entries c)) ∙ sym (finite.get-from_sorted path_cmp _ q sorted)))))

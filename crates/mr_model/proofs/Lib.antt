@@ -94,3 +94,4 @@ pub mod Stored
 pub mod Wanted
 pub mod Lying
 pub mod Addressed
+pub mod Results

@@ -11,6 +11,7 @@ pub mod Sending
 pub mod Effect
 pub mod Wanted
 pub mod Claims
+pub mod Results
 pub mod Reachable
 pub mod Beside
 pub mod Sequential

@@ -21,6 +21,7 @@
 //! - what these need beside them: `what_is_recorded_has_succeeded`, `only_the_recorded_may_commit`,
 //!   `the_newest_committed_is_its_own`, `commits_are_allowed`, `attempts_hold_their_files`, `an_end_is_an_end`,
 //!   `only_started_commits`, `aborts_are_marked`;
+//! - what comes of a run for those outside, as an outcome and a list of files, stays (`results_stay`);
 //! - which task is launched next, where it is asked for: one that may be launched, the first that waits, maps before reduces
 //!   (`the_wanted_task_may_be_launched`);
 //! - that it is not said of nothing: `a_marked_world_is_reached` (one job, event by event, to its told success);
@@ -57,6 +58,7 @@ ghost use Rattle.mr_model.specs.Beside.{AttemptsHoldTheirFiles, RecordedIsSuccee
 ghost use Rattle.mr_model.specs.Laws.{PathsAreTheLayouts, StoresAreTheModels, AppendedRecordsFit, MastersAreRaised};
 ghost use Rattle.mr_model.specs.Packets.{Config};
 ghost use Rattle.mr_model.specs.Wanted.{WantedMayBeLaunched};
+ghost use Rattle.mr_model.specs.Results.{ResultsStay};
 ghost use Rattle.mr_model.specs.Calls.{CallsAgree, MapCallsAgree};
 ghost use Rattle.mr_model.specs.Made.{PastsAreMade};
 ghost use Rattle.mr_model.specs.Sequential.{Job, JobLaws, BoundsOutputs, WholeIsSequential, MarkedFilesAreSequential};
@@ -99,6 +101,12 @@ pub fn sequential_files()
 /// No two outcomes that are told differ, success is told only where the marker is, and what is seen stays once an outcome, a failed one too, was told.
 pub fn one_outcome()
     ensures one { (config : Config) (within : Limits) → OneOutcome config within }
+{}
+
+/// The outcome that was told first is the only one, and no further event changes it; the files that a reader of the destination sees stay once the marker is there, or an
+/// outcome was told.
+pub fn results_stay()
+    ensures stay { (config : Config) (within : Limits) → ResultsStay config within }
 {}
 
 /// The newest master, while it runs, has found the winners of the earlier generations, and their whole files in its own generation; until it runs, if ever, it launches
