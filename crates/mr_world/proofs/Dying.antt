@@ -1,0 +1,61 @@
+-- A container dies: when it can, and what the parts stand for then.
+use Rattle.std.proofs.Common.{◌≡◌, refl, sym, ◌∙◌, ap, true, false, [], ◌∷◌, ◌++◌, Some, None, is_some, length}
+use Rattle.mr_packet.specs.Bag.{Held}
+use Rattle.mr_packet.specs.Sends.{ended}
+use Rattle.mr_model.specs.Ids.{ContainerId}
+use Rattle.mr_model.specs.Packets.{Config}
+use Rattle.mr_model.specs.World.{World, Die, call_of, master_act}
+use Rattle.mr_model.specs.Effect.{effect, not_now, NoContainer}
+use Rattle.mr_model.specs.Sending.{sent}
+use Rattle.mr_model.proofs.Acts.{nodes_act}
+use Rattle.mr_world.specs.declared.fault.WorldFault.TheVariants as fault
+use Rattle.mr_world.specs.declared.living.Living.{Living}
+use Rattle.mr_world.specs.declared.parts.Parts.{Parts}
+use Rattle.mr_world.specs.Living.{kept, Changes}
+use Rattle.mr_world.specs.Limits.{within, fits_bag}
+use Rattle.mr_world.specs.Standing.{Standing, IsTaken, Refuses}
+use Rattle.mr_world.proofs.Refusals.{NeedsRoom, refuses-now}
+use Rattle.mr_world.proofs.Frames.{Quiet, reached-on, names-stay, history-stays, masters-stay, nodes-stay, living-without}
+
+quiet : (cfg : Config) (w : World) (c : ContainerId) → Quiet w (effect cfg w (Die c))
+unfolding call_of master_act
+quiet cfg w c = record { content = refl; fence = refl; barred = refl; history = refl; master_past = refl; is_master = refl }
+
+pub stands : (p : Parts) (w : World) (c : ContainerId) (living : Living) (bag : Held) → Standing p w → IsTaken p.config w (Die c)
+    → Changes p.living c None living → bag.packets ≡ p.bag.packets ++ ended c ∷ [] → Standing (record p { living = living; bag = bag }) (effect p.config w (Die c))
+unfolding sent master_act
+stands p w c living bag s t l b = let d = nodes_act.dies p.config w c in record {
+  reached = reached-on s.reached t;
+  dest = s.dest;
+  names = names-stay (quiet p.config w c) s.names;
+  history = history-stays (quiet p.config w c) s.history;
+  bag = b ∙ ap (λ es. es ++ ended c ∷ []) s.bag;
+  living = living-without c d.machines d.living l s.living;
+  nodes = nodes-stay d.nodes s.nodes;
+  masters = masters-stay (quiet p.config w c) s.masters;
+  launched = s.launched;
+}
+
+-- ---- when it can
+
+not-alive : (cfg : Config) (w : World) (c : ContainerId) → w.is_alive c ≡ false → not_now cfg w (Die c) ≡ Some NoContainer
+unfolding not_now
+not-alive cfg w c e = rw e refl
+
+allowed : (cfg : Config) (w : World) (c : ContainerId) → w.is_alive c ≡ true → not_now cfg w (Die c) ≡ None
+unfolding not_now
+allowed cfg w c e = rw e refl
+
+limit-is : (cfg : Config) (w : World) (c : ContainerId) → within cfg w (Die c) ≡ fits_bag cfg w (Die c)
+unfolding within call_of
+limit-is cfg w c = refl
+
+sends-one : (cfg : Config) (w : World) (c : ContainerId) → length (sent cfg w (Die c)) ≡ 1
+unfolding sent
+sends-one cfg w c = refl
+
+pub refused : (p : Parts) (c : ContainerId) → is_some (kept p.living c) ≡ false → (w : World) → Standing p w → Refuses (not_now p.config w (Die c)) (within p.config w (Die c)) (fault.NotNow NoContainer)
+refused p c e w s = refuses-now _ (not-alive p.config w c (sym (s.living.alive c) ∙ e))
+
+pub needs : (p : Parts) (c : ContainerId) → is_some (kept p.living c) ≡ true → (w : World) → Standing p w → NeedsRoom p w (Die c) 1
+needs p c e w s = record { now = allowed p.config w c (sym (s.living.alive c) ∙ e); limit = limit-is p.config w c; count = sends-one p.config w c }

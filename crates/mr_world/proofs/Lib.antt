@@ -1,0 +1,4 @@
+pub mod Keys
+pub mod Frames
+pub mod Refusals
+pub mod Dying

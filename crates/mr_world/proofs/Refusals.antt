@@ -1,0 +1,46 @@
+-- Which fault is answered, and what the room in the bag says of the limits.
+use Rattle.std.proofs.Common.{◌≡◌, ℕ, ◌<◌, ◌≤◌, ◌+◌, refl, sym, ◌∙◌, subst, Bool, true, false, Option, Some, None, Result, Ok, Err, OnOk, IfErr, inl, inr, length}
+use Rattle.std.proofs.lemmas.Bool.{le-leb, lt-leb}
+use Rattle.mr_packet.specs.declared.bag.TheConstants.{MAX_PACKETS}
+use Rattle.mr_event.specs.declared.why.Why.{Why}
+use Rattle.mr_model.specs.World.{World, Event}
+use Rattle.mr_model.specs.Effect.{not_now}
+use Rattle.mr_model.specs.Sending.{sent}
+use Rattle.mr_world.specs.declared.fault.WorldFault.{WorldFault}
+use Rattle.mr_world.specs.declared.fault.WorldFault.TheVariants as fault
+use Rattle.mr_world.specs.declared.parts.Parts.{Parts}
+use Rattle.mr_world.specs.Limits.{within, fits_bag}
+use Rattle.mr_world.specs.Standing.{Standing, Refuses, Foresees}
+
+pub refuses-now : {o : Option Why} {why : Why} (fits : Bool) → o ≡ Some why → Refuses o fits (fault.NotNow why)
+refuses-now {o} {why} fits e = subst (λ z. Refuses z fits (fault.NotNow why)) (sym e) refl
+
+pub refuses-full : {o : Option Why} {fits : Bool} → o ≡ None → fits ≡ false → Refuses o fits fault.Full
+refuses-full {o} {fits} e f = subst (λ z. Refuses z fits fault.Full) (sym e) (subst (λ b. Refuses None b fault.Full) (sym f) (inl refl))
+
+no-memory : (fits : Bool) → Refuses None fits fault.NoMemory
+no-memory true = refl
+no-memory false = inr refl
+
+pub refuses-memory : {o : Option Why} (fits : Bool) → o ≡ None → Refuses o fits fault.NoMemory
+refuses-memory {o} fits e = subst (λ z. Refuses z fits fault.NoMemory) (sym e) (no-memory fits)
+
+-- so many packets find room in the bag, or do not
+pub bag-fits : (p : Parts) (w : World) (e : Event) (n : ℕ) → Standing p w → length (sent p.config w e) ≡ n → length p.bag.packets + n ≤ MAX_PACKETS → fits_bag p.config w e ≡ true
+bag-fits p w e n s is l = le-leb _ _ (subst (λ m. length w.bag + m ≤ MAX_PACKETS) (sym is) (subst (λ es. length es + n ≤ MAX_PACKETS) s.bag l))
+
+pub bag-full : (p : Parts) (w : World) (e : Event) (n : ℕ) → Standing p w → length (sent p.config w e) ≡ n → MAX_PACKETS < length p.bag.packets + n → fits_bag p.config w e ≡ false
+bag-full p w e n s is l = lt-leb _ _ (subst (λ m. MAX_PACKETS < length w.bag + m) (sym is) (subst (λ es. MAX_PACKETS < length es + n) s.bag l))
+
+-- an event that is permitted, and has no other limit than the room for its n packets
+pub record NeedsRoom (p : Parts) (w : World) (e : Event) (n : ℕ) : Type 0 where
+  pub now : not_now p.config w e ≡ None
+  pub limit : within p.config w e ≡ fits_bag p.config w e
+  pub count : length (sent p.config w e) ≡ n
+
+-- so it is foreseen by the room
+pub foresees-room : (p : Parts) (e : Event) (n : ℕ) → ((w : World) → Standing p w → NeedsRoom p w e n) → (r : Result (Unit {0}) WorldFault)
+    → OnOk r (length p.bag.packets + n ≤ MAX_PACKETS) → IfErr r (λ f. (f ≡ fault.Full) × (MAX_PACKETS < length p.bag.packets + n)) → Foresees p e r
+foresees-room p e n needs (Ok u) room full = λ w s. let i = needs w s in record { now = i.now; fits = i.limit ∙ bag-fits p w e n s i.count room }
+foresees-room p e n needs (Err f) room full = λ w s. let i = needs w s in
+    subst (Refuses (not_now p.config w e) (within p.config w e)) (sym full.0) (refuses-full i.now (i.limit ∙ bag-full p w e n s i.count full.1))

@@ -1,0 +1,4 @@
+pub mod Ranges
+pub mod Living
+pub mod Limits
+pub mod Standing

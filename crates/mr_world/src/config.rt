@@ -1,0 +1,42 @@
+ghost use Rattle.mr_world.specs.Ranges.{IsInRange};
+
+use crate::splits::Splits;
+use mr_ids::JobId;
+use std::marker::Model;
+
+/// The job that a world runs, its nodes and its limits. Contracts see it as the cluster's config in `mr_model`.
+#[derive(Drop)]
+pub struct Config {
+    /// The job's identifier.
+    pub job: JobId,
+    /// At most 1,000 splits, each of at most 2^24 bytes.
+    pub splits: Splits,
+    /// How many reduces there are, from 1 to 1,000.
+    pub reduces: u32,
+    /// How many nodes there are, from 1 to 64.
+    pub nodes: u32,
+    /// How many failed attempts of a task fail the job, from 1 to 100.
+    pub limit: u32,
+    /// The first generation of the master that writes its history in version 2, from 1 to 1,000.
+    pub v2_from: u32,
+}
+
+impl Model for Config {
+    ghost use Rattle.mr_model.specs.Packets.{Config as Described};
+    ghost use Rattle.mr_world.specs.Ranges.{IsInRange};
+
+    ghost Value = { Described };
+
+    ghost view = { λ c. record { job = c.job; splits = c.splits; reduces = c.reduces; nodes = c.nodes; limit = c.limit; v2_from = c.v2_from } };
+
+    ghost invariant = { λ c. IsInRange (record { job = c.job; splits = c.splits; reduces = c.reduces; nodes = c.nodes; limit = c.limit; v2_from = c.v2_from }) };
+}
+
+impl Config {
+    /// The numbers of a config are in their ranges. This call does nothing: it tells the caller so.
+    pub fn ranges(&self)
+        ensures { IsInRange self.now }
+    {
+        let _job = &self.job;
+    }
+}

@@ -1,0 +1,43 @@
+ghost use Rattle.std.specs.Prelude.{◌≡◌, ◌<◌, length, OnOk};
+ghost use Rattle.mr_packet.specs.Sends.{ended};
+ghost use Rattle.mr_model.specs.World.{Die};
+ghost use Rattle.mr_world.specs.Standing.{Foresees, Tries};
+
+use crate::fault::WorldFault;
+use crate::parts::Parts;
+use crate::room::reserve;
+use mr_event::Why;
+use mr_packet::{Address, ContainerId, Envelope, MAX_PACKETS, Packet};
+
+impl Parts {
+    /// Whether a container can die now.
+    pub fn check_die(&self, c: &ContainerId) -> Result<(), WorldFault>
+        ensures foresees { Foresees self.now (Die c.now) result }
+        ensures room { OnOk result (length self.now.bag.packets < MAX_PACKETS) }
+    {
+        if !self.living.contains(c) {
+            return Err(WorldFault::NotNow(Why::NoContainer));
+        }
+        self.check_room(1)
+    }
+
+    /// A container dies, and its master is told that it ended.
+    pub fn die(&mut self, c: &ContainerId) -> Result<(), WorldFault>
+        ensures { Tries self.old (Die c.now) result self.new }
+    {
+        self.check_die(c)?;
+        reserve(&mut self.bag, 1)?;
+        self.living.remove(c);
+        self.bag.push_reserved(ended(c));
+        Ok(())
+    }
+}
+
+fn ended(c: &ContainerId) -> Envelope
+    ensures { result ≡ ended c.now }
+{
+    Envelope {
+        to: Address::Master(c.app),
+        body: Packet::Ended { c: *c },
+    }
+}

@@ -1,0 +1,16 @@
+//! The world: a cluster that is run, event by event.
+#![tactic(auto)]
+
+mod config;
+mod die;
+mod fault;
+mod limits;
+mod living;
+mod parts;
+mod room;
+mod splits;
+
+pub use config::Config;
+pub use fault::WorldFault;
+pub use limits::{MAX_CONTAINERS, MAX_EVENTS, MAX_MAP_OUTPUT};
+pub use splits::Splits;

@@ -1,0 +1,42 @@
+ghost use Rattle.std.specs.Prelude.{◌≡◌, ◌<◌, ◌≤◌, ◌+◌, length, OnOk, IfErr};
+ghost use Rattle.mr_world.specs.declared.fault.WorldFault.TheVariants.{Full};
+
+use crate::config::Config;
+use crate::fault::WorldFault;
+use crate::living::Living;
+use mr_history::History;
+use mr_master::MasterMachine;
+use mr_names::Namespace;
+use mr_node::NodeMachine;
+use mr_packet::{Bag, MAX_PACKETS};
+use mr_paths::Layout;
+
+/// What a world stores. Of old masters and of containers that are over nothing is kept but an empty place for each master.
+#[derive(Drop)]
+pub struct Parts {
+    pub config: Config,
+    /// The paths of the job's committer, at the destination.
+    pub layout: Layout,
+    pub names: Namespace,
+    pub history: History,
+    pub bag: Bag,
+    /// The masters by generation, from 1: each that is alive.
+    pub masters: Vec<Option<MasterMachine>>,
+    pub living: Living,
+    pub nodes: Vec<NodeMachine>,
+    /// How many containers were launched.
+    pub launched: u32,
+}
+
+impl Parts {
+    /// Refuses `Full` where so many more packets find no room in the bag.
+    pub fn check_room(&self, more: usize) -> Result<(), WorldFault>
+        ensures room { OnOk result (length self.now.bag.packets + more ≤ MAX_PACKETS) }
+        ensures full { IfErr result (λ fault. (fault ≡ WorldFault.Full) × (MAX_PACKETS < length self.now.bag.packets + more)) }
+    {
+        if MAX_PACKETS - self.bag.len() < more {
+            return Err(WorldFault::Full);
+        }
+        Ok(())
+    }
+}
