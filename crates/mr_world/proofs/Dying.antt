@@ -4,10 +4,12 @@ use Rattle.mr_packet.specs.Bag.{Held}
 use Rattle.mr_packet.specs.Sends.{ended}
 use Rattle.mr_model.specs.Ids.{ContainerId}
 use Rattle.mr_model.specs.Packets.{Config}
-use Rattle.mr_model.specs.World.{World, Die, call_of, master_act}
+use Rattle.mr_model.specs.World.{World, Die, call_of}
 use Rattle.mr_model.specs.Effect.{effect, not_now, NoContainer}
 use Rattle.mr_model.specs.Sending.{sent}
 use Rattle.mr_model.proofs.Acts.{nodes_act}
+use Rattle.mr_model.proofs.Stored.{stores_go_on}
+use Rattle.mr_agree.proofs.Stores.{masters_go_on}
 use Rattle.mr_world.specs.declared.fault.WorldFault.TheVariants as fault
 use Rattle.mr_world.specs.declared.living.Living.{Living}
 use Rattle.mr_world.specs.declared.parts.Parts.{Parts}
@@ -15,26 +17,13 @@ use Rattle.mr_world.specs.Living.{kept, Changes}
 use Rattle.mr_world.specs.Limits.{within, fits_bag}
 use Rattle.mr_world.specs.Standing.{Standing, IsTaken, Refuses}
 use Rattle.mr_world.proofs.Refusals.{NeedsRoom, refuses-now}
-use Rattle.mr_world.proofs.Frames.{Quiet, reached-on, names-stay, history-stays, masters-stay, nodes-stay, living-without}
-
-quiet : (cfg : Config) (w : World) (c : ContainerId) → Quiet w (effect cfg w (Die c))
-unfolding call_of master_act
-quiet cfg w c = record { content = refl; fence = refl; barred = refl; history = refl; master_past = refl; is_master = refl }
+use Rattle.mr_world.proofs.Frames.{rests, living-without, nodes-stay}
 
 pub stands : (p : Parts) (w : World) (c : ContainerId) (living : Living) (bag : Held) → Standing p w → IsTaken p.config w (Die c)
     → Changes p.living c None living → bag.packets ≡ p.bag.packets ++ ended c ∷ [] → Standing (record p { living = living; bag = bag }) (effect p.config w (Die c))
-unfolding sent master_act
-stands p w c living bag s t l b = let d = nodes_act.dies p.config w c in record {
-  reached = reached-on s.reached t;
-  dest = s.dest;
-  names = names-stay (quiet p.config w c) s.names;
-  history = history-stays (quiet p.config w c) s.history;
-  bag = b ∙ ap (λ es. es ++ ended c ∷ []) s.bag;
-  living = living-without c d.machines d.living l s.living;
-  nodes = nodes-stay d.nodes s.nodes;
-  masters = masters-stay (quiet p.config w c) s.masters;
-  launched = s.launched;
-}
+stands p w c living bag s t l b = let d = nodes_act.dies p.config w c in
+    rests p w (Die c) p.names living bag p.nodes s t refl (masters_go_on.rests p.config w (Die c) refl) (stores_go_on.rests p.config w p.names p.history (Die c) s.stores refl)
+    (living-without c d.machines d.living l s.living) (nodes-stay d.nodes (λ n. refl) s.nodes) (b ∙ ap (λ es. p.bag.packets ++ es) (sym d.sends))
 
 -- ---- when it can
 

@@ -1,22 +1,28 @@
--- What the parts stand for where an event leaves them as they were, and how the living and the nodes change with their machines.
-use Rattle.std.proofs.Common.{◌≡◌, ℕ, refl, sym, ◌∙◌, ap, subst, Bool, true, false, ◌&&◌, not, List, [], ◌∷◌, ◌++◌, Option, Some, None, if◌then◌else◌, is_some}
+-- What the parts stand for after an event of no master: stores, masters and launches as they go on by themselves, the living and the nodes as their machines do.
+use Rattle.std.proofs.Common.{◌≡◌, ℕ, zero, suc, refl, sym, ◌∙◌, ap, subst, Bool, true, false, ◌&&◌, not, List, [], ◌∷◌, ◌++◌, Option, Some, None, if◌then◌else◌, is_some}
 use Rattle.mr_names.specs.Calls as names
-use Rattle.mr_history.specs.State.{State}
+use Rattle.mr_packet.specs.Bag.{Held}
 use Rattle.mr_container.specs.State as container
-use Rattle.mr_node.specs.State as node
 use Rattle.mr_master.specs.State as master
 use Rattle.mr_model.specs.Ids.{ContainerId, container_eq}
 use Rattle.mr_model.specs.Packets.{Config}
+use Rattle.mr_model.specs.Duties.{Master_step}
 use Rattle.mr_model.specs.World.{World, Event, opening_world}
 use Rattle.mr_model.specs.Effect.{effect, run, happens}
-use Rattle.mr_model.specs.Stores.{NamesStand}
-use Rattle.mr_model.specs.Actors.{ContainerIn, SameContainers, SameNodes}
+use Rattle.mr_model.specs.Sending.{sent}
+use Rattle.mr_model.specs.Stored.{StoresStand}
+use Rattle.mr_model.specs.Actors as actors
 use Rattle.mr_model.proofs.Basic.{run-append}
 use Rattle.mr_agree.specs.Steps.{setting, steps}
+use Rattle.mr_agree.specs.Stores.{MastersRest}
 use Rattle.mr_world.specs.declared.living.Living.{Living}
+use Rattle.mr_world.specs.declared.masters.Masters.{Masters}
+use Rattle.mr_world.specs.declared.nodes.Nodes.{Nodes}
+use Rattle.mr_world.specs.declared.parts.Parts.{Parts}
 use Rattle.mr_world.specs.Living.{kept, Changes}
-use Rattle.mr_world.specs.Limits.{within}
-use Rattle.mr_world.specs.Standing.{Reached, IsTaken, HistoryStands, LivingStand, NodesStand, MastersStand}
+use Rattle.mr_world.specs.Limits.{within, launches_of}
+use Rattle.mr_world.specs.Machines.{node_of}
+use Rattle.mr_world.specs.Standing.{Standing, Reached, IsTaken, LivingStand, NodesStand, MastersStand}
 
 -- ---- the world after one event more is reached
 
@@ -31,41 +37,50 @@ reached-on {cfg} {w} {e} r t = record {
   is = run-append cfg (within cfg) opening_world r.events (e ∷ []) ∙ (ap (λ u. happens cfg (within cfg) u e) r.is ∙ happens-taken cfg w e t);
 }
 
--- ---- stores and masters
+-- ---- masters, and how many containers were launched
 
--- an event left the stores and the masters as they were
-pub record Quiet (w u : World) : Type 0 where
-  pub content : u.content ≡ w.content
-  pub fence : u.fence ≡ w.fence
-  pub barred : u.barred ≡ w.barred
-  pub history : u.history ≡ w.history
-  pub master_past : u.master_past ≡ w.master_past
-  pub is_master : u.is_master ≡ w.is_master
+pub launches-same : (f g : ℕ → List Master_step) → ((k : ℕ) → g k ≡ f k) → (n : ℕ) → launches_of g n ≡ launches_of f n
+unfolding launches_of
+launches-same f g same zero = refl
+launches-same f g same (suc n) = rw (launches-same f g same n, same (suc n)) refl
 
-pub names-stay : {s : names.State} {w u : World} → Quiet w u → NamesStand s w → NamesStand s u
-names-stay {s} {w} {u} q n = record { content = n.content ∙ sym q.content; fence = n.fence ∙ sym q.fence; barred = λ a. rw q.barred (n.barred a) }
+pub masters-rest : {cfg : Config} {ms : Masters} {w : World} {e : Event} → (effect cfg w e).fence ≡ w.fence → MastersRest cfg w e → MastersStand cfg ms w → MastersStand cfg ms (effect cfg w e)
+masters-rest {cfg} {ms} {w} {e} fence r s = record {
+  count = s.count ∙ sym fence;
+  alive = λ k. s.alive k ∙ sym (r.living k);
+  machines = λ k m o. subst (λ past. master.StandsFor m (setting cfg k) (steps past)) (sym (r.pasts k)) (s.machines k m o);
+}
 
-pub history-stays : {h : State} {w u : World} → Quiet w u → HistoryStands h w → HistoryStands h u
-history-stays {h} {w} {u} q s = record { tells = rw q.history s.tells; fence = s.fence ∙ sym q.fence; count = s.count; unraised = s.unraised }
-
-pub masters-stay : {cfg : Config} {ms : List (Option master.Master)} {w u : World} → Quiet w u → MastersStand cfg ms w → MastersStand cfg ms u
-masters-stay {cfg} {ms} {w} {u} q s = record {
-  count = s.count ∙ sym q.fence;
-  alive = λ k. rw q.is_master (s.alive k);
-  machines = λ k m e. subst (λ (p : ℕ → _). master.StandsFor m (setting cfg k) (steps (p k))) (sym q.master_past) (s.machines k m e);
+-- An event that is no step of a master, nor a start or a crash
+pub rests : (p : Parts) (w : World) (e : Event) (names : names.State) (living : Living) (bag : Held) (nodes : Nodes) → Standing p w → IsTaken p.config w e
+    → (effect p.config w e).fence ≡ w.fence → MastersRest p.config w e → StoresStand names p.history (effect p.config w e) → LivingStand p.config living (effect p.config w e)
+    → NodesStand p.config nodes (effect p.config w e) → bag.packets ≡ p.bag.packets ++ sent p.config w e
+    → Standing (record p { names = names; living = living; bag = bag; nodes = nodes }) (effect p.config w e)
+rests p w e names living bag nodes s t fence r stores l n b = record {
+  reached = reached-on s.reached t;
+  dest = s.dest;
+  stores = stores;
+  bag = b ∙ ap (λ es. es ++ sent p.config w e) s.bag;
+  living = l;
+  nodes = n;
+  masters = masters-rest fence r s.masters;
+  launched = s.launched ∙ sym (launches-same w.master_past (effect p.config w e).master_past r.pasts 1000);
 }
 
 -- ---- nodes
 
-pub nodes-stay : {cfg : Config} {ns : List node.Node} {w u : World} → SameNodes cfg w u → NodesStand cfg ns w → NodesStand cfg ns u
-nodes-stay same s = record { count = s.count; machines = λ n m e. same n m (s.machines n m e) }
+pub nodes-stay : {cfg : Config} {l k : Nodes} {w u : World} → actors.SameNodes cfg w u → ((n : ℕ) → node_of k n ≡ node_of l n) → NodesStand cfg l w → NodesStand cfg k u
+nodes-stay same is s = record {
+  there = λ n. ap is_some (is n) ∙ s.there n;
+  machines = λ n m o. same n m (s.machines n m (sym (is n) ∙ o));
+}
 
 -- ---- the living
 
-pub living-stay : {cfg : Config} {l k : Living} {w u : World} → SameContainers cfg w u → ((c : ContainerId) → kept k c ≡ kept l c) → LivingStand cfg l w → LivingStand cfg k u
+pub living-stay : {cfg : Config} {l k : Living} {w u : World} → actors.SameContainers cfg w u → ((c : ContainerId) → kept k c ≡ kept l c) → LivingStand cfg l w → LivingStand cfg k u
 living-stay same is s = record {
   alive = λ c. ap is_some (is c) ∙ (s.alive c ∙ sym (same.living c));
-  machines = λ c m e. same.machines c m (s.machines c m (sym (is c) ∙ e));
+  machines = λ c m o. same.machines c m (s.machines c m (sym (is c) ∙ o));
 }
 
 gone : (b : Bool) (o : Option container.Container) (a : Bool) → is_some o ≡ a → is_some (if b then None else o) ≡ (a && not b)
@@ -79,9 +94,9 @@ not-gone true o m e = cc
 not-gone false o m e = e
 
 -- one lives no longer, and no machine went on
-pub living-without : {cfg : Config} {l k : Living} {w u : World} (c : ContainerId) → ((d : ContainerId) (m : container.Container) → ContainerIn cfg w d m → ContainerIn cfg u d m)
+pub living-without : {cfg : Config} {l k : Living} {w u : World} (c : ContainerId) → ((d : ContainerId) (m : container.Container) → actors.ContainerIn cfg w d m → actors.ContainerIn cfg u d m)
     → ((d : ContainerId) → u.is_alive d ≡ (w.is_alive d && not (container_eq d c))) → Changes l c None k → LivingStand cfg l w → LivingStand cfg k u
 living-without {cfg} {l} {k} {w} {u} c stay lives is s = record {
   alive = λ d. ap is_some (is d) ∙ (gone (container_eq d c) (kept l d) (w.is_alive d) (s.alive d) ∙ sym (lives d));
-  machines = λ d m e. stay d m (s.machines d m (not-gone (container_eq d c) (kept l d) m (sym (is d) ∙ e)));
+  machines = λ d m o. stay d m (s.machines d m (not-gone (container_eq d c) (kept l d) m (sym (is d) ∙ o)));
 }

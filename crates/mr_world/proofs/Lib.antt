@@ -1,4 +1,5 @@
 pub mod Keys
+pub mod Slots
 pub mod Frames
 pub mod Refusals
 pub mod Dying

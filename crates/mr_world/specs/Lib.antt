@@ -1,4 +1,5 @@
 pub mod Ranges
 pub mod Living
 pub mod Limits
+pub mod Machines
 pub mod Standing

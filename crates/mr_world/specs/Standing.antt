@@ -1,9 +1,5 @@
 -- Which world the parts of a simulator stand for, and what an event's call promises. Here code and definitions meet.
-use Rattle.std.specs.Prelude.{◌≡◌, ℕ, zero, suc, Bool, true, false, List, Option, Some, None, Result, Ok, Err, ◌⊎◌, is_some, length, slice_get}
-use Rattle.std.specs.Option.{option_and_then}
-use Rattle.mr_history.specs.Calls.{AreUnraised}
-use Rattle.mr_history.specs.State.{State}
-use Rattle.mr_history.specs.declared.history.TheConstants.{MAX_APP_ATTEMPTS}
+use Rattle.std.specs.Prelude.{◌≡◌, ℕ, Bool, true, false, nat_lt, List, Option, Some, None, Result, Ok, Err, ◌⊎◌, is_some}
 use Rattle.mr_event.specs.declared.why.Why.{Why}
 use Rattle.mr_container.specs.State as container
 use Rattle.mr_node.specs.State as node
@@ -12,52 +8,42 @@ use Rattle.mr_model.specs.Ids.{ContainerId, dest}
 use Rattle.mr_model.specs.Packets.{Config}
 use Rattle.mr_model.specs.World.{World, Event}
 use Rattle.mr_model.specs.Effect.{not_now, effect}
-use Rattle.mr_model.specs.Bytes.{TellsAll}
 use Rattle.mr_model.specs.Claims.{world_of}
-use Rattle.mr_model.specs.Stores.{NamesStand}
+use Rattle.mr_model.specs.Stored.{StoresStand}
 use Rattle.mr_model.specs.Actors.{ContainerIn, NodeIn}
 use Rattle.mr_agree.specs.Steps.{setting, steps}
 use Rattle.mr_world.specs.declared.fault.WorldFault.{WorldFault}
 use Rattle.mr_world.specs.declared.fault.WorldFault.TheVariants as fault
 use Rattle.mr_world.specs.declared.living.Living.{Living}
+use Rattle.mr_world.specs.declared.masters.Masters.{Masters}
+use Rattle.mr_world.specs.declared.nodes.Nodes.{Nodes}
 use Rattle.mr_world.specs.declared.parts.Parts.{Parts}
 use Rattle.mr_world.specs.Living.{kept}
 use Rattle.mr_world.specs.Limits.{within, launch_count}
+use Rattle.mr_world.specs.Machines.{node_of, master_of, master_count}
 
 -- w is the world after some events
 pub record Reached (cfg : Config) (w : World) : Type 0 where
   pub events : List Event
   pub is : world_of cfg (within cfg) events ≡ w
 
--- the machine of the master of generation k, if it is alive: they stand by generation, from 1
-abbrev pub master_of : List (Option master.Master) → ℕ → Option master.Master
-master_of masters zero = None
-master_of masters (suc n) = option_and_then (λ m. m) (slice_get masters n)
-
 -- the machine m of the master of generation k stands for its past in the world
 abbrev pub MasterIn : Config → World → ℕ → master.Master → Type 0
 MasterIn cfg w k m = master.StandsFor m (setting cfg k) (steps (w.master_past k))
-
--- the namespace, by mr_model's `NamesStand`; and the bytes of the history
-pub record HistoryStands (h : State) (w : World) : Type 0 where
-  pub tells : TellsAll h w.history
-  pub fence : h.fence ≡ w.fence
-  pub count : length h.segments ≡ MAX_APP_ATTEMPTS
-  pub unraised : AreUnraised h
 
 -- whose machine is kept is who lives, and each machine stands for its past
 pub record LivingStand (cfg : Config) (living : Living) (w : World) : Type 0 where
   pub alive : (c : ContainerId) → is_some (kept living c) ≡ w.is_alive c
   pub machines : (c : ContainerId) (m : container.Container) → kept living c ≡ Some m → ContainerIn cfg w c m
 
--- all nodes, by number
-pub record NodesStand (cfg : Config) (nodes : List node.Node) (w : World) : Type 0 where
-  pub count : length nodes ≡ cfg.nodes
-  pub machines : (n : ℕ) (m : node.Node) → slice_get nodes n ≡ Some m → NodeIn cfg w n m
+-- the nodes are those below their number
+pub record NodesStand (cfg : Config) (nodes : Nodes) (w : World) : Type 0 where
+  pub there : (n : ℕ) → is_some (node_of nodes n) ≡ nat_lt n cfg.nodes
+  pub machines : (n : ℕ) (m : node.Node) → node_of nodes n ≡ Some m → NodeIn cfg w n m
 
--- the masters by generation, from 1: those that are alive
-pub record MastersStand (cfg : Config) (masters : List (Option master.Master)) (w : World) : Type 0 where
-  pub count : length masters ≡ w.fence
+-- as many masters were started as the newest generation says, and those that are kept are alive
+pub record MastersStand (cfg : Config) (masters : Masters) (w : World) : Type 0 where
+  pub count : master_count masters ≡ w.fence
   pub alive : (k : ℕ) → is_some (master_of masters k) ≡ w.is_master k
   pub machines : (k : ℕ) (m : master.Master) → master_of masters k ≡ Some m → MasterIn cfg w k m
 
@@ -65,12 +51,11 @@ pub record MastersStand (cfg : Config) (masters : List (Option master.Master)) (
 pub record Standing (p : Parts) (w : World) : Type 0 where
   pub reached : Reached p.config w
   pub dest : p.layout.dest ≡ dest
-  pub names : NamesStand p.names w
-  pub history : HistoryStands p.history w
+  pub stores : StoresStand p.names p.history w
   pub bag : p.bag.packets ≡ w.bag
   pub living : LivingStand p.config p.living w
-  pub nodes : NodesStand p.config p.nodes.items w
-  pub masters : MastersStand p.config p.masters.items w
+  pub nodes : NodesStand p.config p.nodes w
+  pub masters : MastersStand p.config p.masters w
   pub launched : p.launched ≡ launch_count w
 
 -- ---- what the calls of events promise, of every world that the parts stand for

@@ -6,6 +6,8 @@ mod die;
 mod fault;
 mod limits;
 mod living;
+mod masters;
+mod nodes;
 mod parts;
 mod room;
 mod splits;

@@ -4,10 +4,10 @@ ghost use Rattle.mr_world.specs.declared.fault.WorldFault.TheVariants.{Full};
 use crate::config::Config;
 use crate::fault::WorldFault;
 use crate::living::Living;
+use crate::masters::Masters;
+use crate::nodes::Nodes;
 use mr_history::History;
-use mr_master::MasterMachine;
 use mr_names::Namespace;
-use mr_node::NodeMachine;
 use mr_packet::{Bag, MAX_PACKETS};
 use mr_paths::Layout;
 
@@ -20,10 +20,9 @@ pub struct Parts {
     pub names: Namespace,
     pub history: History,
     pub bag: Bag,
-    /// The masters by generation, from 1: each that is alive.
-    pub masters: Vec<Option<MasterMachine>>,
+    pub masters: Masters,
     pub living: Living,
-    pub nodes: Vec<NodeMachine>,
+    pub nodes: Nodes,
     /// How many containers were launched.
     pub launched: u32,
 }
