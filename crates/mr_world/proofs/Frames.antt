@@ -1,5 +1,5 @@
 -- What the parts stand for after an event of no master: stores, masters and launches as they go on by themselves, the living and the nodes as their machines do.
-use Rattle.std.proofs.Common.{◌≡◌, ℕ, zero, suc, refl, sym, ◌∙◌, ap, subst, Bool, true, false, ◌&&◌, not, List, [], ◌∷◌, ◌++◌, Option, Some, None, if◌then◌else◌, is_some}
+use Rattle.std.proofs.Common.{◌≡◌, ℕ, zero, suc, refl, sym, ◌∙◌, ap, subst, Bool, true, false, ◌&&◌, not, List, [], ◌∷◌, ◌++◌, Option, Some, None, if◌then◌else◌, is_some, ◌⊎◌, inl, inr}
 use Rattle.mr_names.specs.Calls as names
 use Rattle.mr_packet.specs.Bag.{Held}
 use Rattle.mr_container.specs.State as container
@@ -13,6 +13,7 @@ use Rattle.mr_model.specs.Sending.{sent}
 use Rattle.mr_model.specs.Stored.{StoresStand}
 use Rattle.mr_model.specs.Actors as actors
 use Rattle.mr_model.proofs.Basic.{run-append}
+use Rattle.mr_model.proofs.Closed.{container_eq-true}
 use Rattle.mr_agree.specs.Steps.{setting, steps}
 use Rattle.mr_agree.specs.Stores.{MastersRest}
 use Rattle.mr_world.specs.declared.living.Living.{Living}
@@ -100,3 +101,53 @@ living-without {cfg} {l} {k} {w} {u} c stay lives is s = record {
   alive = λ d. ap is_some (is d) ∙ (gone (container_eq d c) (kept l d) (w.is_alive d) (s.alive d) ∙ sym (lives d));
   machines = λ d m o. stay d m (s.machines d m (not-gone (container_eq d c) (kept l d) m (sym (is d) ∙ o)));
 }
+
+-- ---- one container went on
+
+abbrev moved_to : Bool → Bool → container.Container → Option container.Container → Option container.Container
+moved_to b over m o = if b then (if over then None else Some m) else o
+
+still-alive : (b over : Bool) (m : container.Container) (o : Option container.Container) (a : Bool) → is_some o ≡ a → (b ≡ true → a ≡ true) → is_some (moved_to b over m o) ≡ (a && not (b && over))
+still-alive true true m o true e f = refl
+still-alive true true m o false e f = refl
+still-alive true false m o true e f = refl
+still-alive true false m o false e f = sym (f refl)
+still-alive false over m o true e f = e
+still-alive false over m o false e f = e
+
+kept-machine : (b over : Bool) (m n : container.Container) (o : Option container.Container) → moved_to b over m o ≡ Some n → ((b ≡ true) × (m ≡ n)) ⊎ ((b ≡ false) × (o ≡ Some n))
+kept-machine true true m n o e = cc
+kept-machine true false m n o e = inl (refl, cc)
+kept-machine false over m n o e = inr (refl, e)
+
+pub living-moved : {cfg : Config} {l k : Living} {w u : World} (c : ContainerId) (old m : container.Container) → kept l c ≡ Some old → actors.ContainerMoved cfg w u c m
+    → Changes l c (if actors.is_finished m.seen.wish then None else Some m) k → LivingStand cfg l w → LivingStand cfg k u
+living-moved {cfg} {l} {k} {w} {u} c old m there moved is s = record {
+  alive = λ d. ap is_some (is d) ∙ (still-alive (container_eq d c) (actors.is_finished m.seen.wish) m (kept l d) (w.is_alive d) (s.alive d) (λ e. sym (s.alive d) ∙ ap (λ x. is_some (kept l x)) (container_eq-true d c e) ∙ ap is_some there) ∙ sym (moved.living d));
+  machines = λ d n o. by d n (kept-machine (container_eq d c) (actors.is_finished m.seen.wish) m n (kept l d) (sym (is d) ∙ o));
+}
+  where
+    by : (d : ContainerId) (n : container.Container) → ((container_eq d c ≡ true) × (m ≡ n)) ⊎ ((container_eq d c ≡ false) × (kept l d ≡ Some n)) → actors.ContainerIn cfg u d n
+    by d n (inl p) = subst (λ x. actors.ContainerIn cfg u x n) (sym (container_eq-true d c p.0)) (subst (λ x. actors.ContainerIn cfg u c x) p.1 moved.now)
+    by d n (inr p) = moved.others d n p.0 (s.machines d n p.1)
+
+-- ---- where nothing happened
+
+pub same-parts : (p : Parts) (w : World) (living : Living) (bag : Held) → ((c : ContainerId) → kept living c ≡ kept p.living c) → bag.packets ≡ p.bag.packets → Standing p w → Standing (record p { living = living; bag = bag }) w
+same-parts p w living bag is b s = record {
+  reached = s.reached;
+  dest = s.dest;
+  stores = s.stores;
+  bag = b ∙ s.bag;
+  living = record { alive = λ c. ap is_some (is c) ∙ s.living.alive c; machines = λ c m o. s.living.machines c m (sym (is c) ∙ o) };
+  nodes = s.nodes;
+  masters = s.masters;
+  launched = s.launched;
+}
+
+pub changes-twice : (a b k : Living) (c : ContainerId) (m n : Option container.Container) → Changes a c m b → Changes b c n k → Changes a c n k
+changes-twice a b k c m n f g d = g d ∙ by (container_eq d c) (f d)
+  where
+    by : (t : Bool) → kept b d ≡ (if t then m else kept a d) → (if t then n else kept b d) ≡ (if t then n else kept a d)
+    by true e = refl
+    by false e = e

@@ -3,3 +3,4 @@ pub mod Slots
 pub mod Frames
 pub mod Refusals
 pub mod Dying
+pub mod Hearing_containers

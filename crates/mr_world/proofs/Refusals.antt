@@ -1,6 +1,7 @@
 -- Which fault is answered, and what the room in the bag says of the limits.
-use Rattle.std.proofs.Common.{◌≡◌, ℕ, ◌<◌, ◌≤◌, ◌+◌, refl, sym, ◌∙◌, subst, Bool, true, false, Option, Some, None, Result, Ok, Err, OnOk, IfErr, inl, inr, length}
+use Rattle.std.proofs.Common.{◌≡◌, ℕ, ◌<◌, ◌≤◌, ◌+◌, refl, sym, ◌∙◌, subst, Bool, true, false, Option, Some, None, Result, Ok, Err, OnOk, IfErr, IsErrAnd, inl, inr, length}
 use Rattle.std.proofs.lemmas.Bool.{le-leb, lt-leb}
+use Rattle.std.proofs.lemmas.Result.{err_from_is_err_and}
 use Rattle.mr_packet.specs.declared.bag.TheConstants.{MAX_PACKETS}
 use Rattle.mr_event.specs.declared.why.Why.{Why}
 use Rattle.mr_model.specs.World.{World, Event}
@@ -10,7 +11,7 @@ use Rattle.mr_world.specs.declared.fault.WorldFault.{WorldFault}
 use Rattle.mr_world.specs.declared.fault.WorldFault.TheVariants as fault
 use Rattle.mr_world.specs.declared.parts.Parts.{Parts}
 use Rattle.mr_world.specs.Limits.{within, fits_bag}
-use Rattle.mr_world.specs.Standing.{Standing, Refuses, Foresees}
+use Rattle.mr_world.specs.Standing.{Standing, IsTaken, Refuses, Foresees, Tries}
 
 pub refuses-now : {o : Option Why} {why : Why} (fits : Bool) → o ≡ Some why → Refuses o fits (fault.NotNow why)
 refuses-now {o} {why} fits e = subst (λ z. Refuses z fits (fault.NotNow why)) (sym e) refl
@@ -44,3 +45,18 @@ pub foresees-room : (p : Parts) (e : Event) (n : ℕ) → ((w : World) → Stand
 foresees-room p e n needs (Ok u) room full = λ w s. let i = needs w s in record { now = i.now; fits = i.limit ∙ bag-fits p w e n s i.count room }
 foresees-room p e n needs (Err f) room full = λ w s. let i = needs w s in
     subst (Refuses (not_now p.config w e) (within p.config w e)) (sym full.0) (refuses-full i.now (i.limit ∙ bag-full p w e n s i.count full.1))
+
+pub taken-by : {p : Parts} {w : World} {e : Event} {n : ℕ} → Standing p w → NeedsRoom p w e n → length p.bag.packets + n ≤ MAX_PACKETS → IsTaken p.config w e
+taken-by {p} {w} {e} {n} s i room = record { now = i.now; fits = i.limit ∙ bag-fits p w e n s i.count room }
+
+pub full-by : {p : Parts} {w : World} {e : Event} {n : ℕ} → Standing p w → NeedsRoom p w e n → MAX_PACKETS < length p.bag.packets + n → Refuses (not_now p.config w e) (within p.config w e) fault.Full
+full-by {p} {w} {e} {n} s i room = refuses-full i.now (i.limit ∙ bag-full p w e n s i.count room)
+
+-- what the exit of a `?` answers where memory was refused
+pub memory-foreseen : {A : Type 0} (p : Parts) (e : Event) (r : Result A WorldFault) → ((w : World) → Standing p w → not_now p.config w e ≡ None) → IsErrAnd r (λ f. f ≡ fault.NoMemory) → Foresees p e r
+memory-foreseen {A} p e r now g = let q = err_from_is_err_and r g in
+    subst (λ (z : Result A WorldFault). Foresees {A = A} p e z) (sym q.1) (subst (λ f. Foresees {A = A} p e (Err f)) (sym q.2) (λ w s. refuses-memory _ (now w s)))
+
+pub memory-tried : {A : Type 0} (p q : Parts) (e : Event) (r : Result A WorldFault) → ((w : World) → Standing p w → IsTaken p.config w e) → ((w : World) → Standing p w → Standing q w) → IsErrAnd r (λ f. f ≡ fault.NoMemory) → Tries p e r q
+memory-tried {A} p q e r taken same g = let z = err_from_is_err_and r g in
+    subst (λ (y : Result A WorldFault). Tries {A = A} p e y q) (sym z.1) (subst (λ f. Tries {A = A} p e (Err f) q) (sym z.2) (λ w s. (refuses-memory _ (taken w s).now, same w s)))

@@ -1,12 +1,14 @@
 -- The machines of the containers that live.
-use Rattle.std.specs.Prelude.{◌≡◌, Option, if◌then◌else◌}
+use Rattle.std.specs.Prelude.{◌≡◌, ℕ, Bool, false, Option, Some, None, if◌then◌else◌}
 use Rattle.std.specs.Option.{option_map}
 use Rattle.std.specs.Ordering.{nat_cmp, ordering_then}
 use Rattle.std.specs.declared.cmp.Ordering.{Ordering}
 use Rattle.std.specs.BTreeMap.{get}
-use Rattle.mr_container.specs.Past.{Step}
+use Rattle.mr_container.specs.Past.{Step, Hears}
+use Rattle.mr_packet.specs.declared.packet.Envelope.{Envelope}
 use Rattle.mr_container.specs.State.{Container, after}
 use Rattle.mr_model.specs.Ids.{ContainerId, container_eq}
+use Rattle.mr_model.specs.Actors.{is_finished}
 use Rattle.mr_world.specs.declared.living.Living.{Living}
 
 -- containers are in order by generation, then by number
@@ -28,3 +30,21 @@ Same old new = (d : ContainerId) → kept new d ≡ kept old d
 -- the machine of c, after this step of its
 abbrev pub stepped : Living → ContainerId → Step → Option Container
 stepped living c step = option_map (λ m. after m step) (kept living c)
+
+-- whether a machine came to its end
+abbrev pub is_over : Option Container → Bool
+is_over None = false
+is_over (Some m) = is_finished m.seen.wish
+
+-- what is kept of a container from then on: its machine, unless that came to its end
+abbrev pub unless_over : Option Container → Option Container
+unless_over None = None
+unless_over (Some m) = if is_finished m.seen.wish then None else Some m
+
+-- whether the container comes to its end by what is delivered to it
+abbrev pub ends_by : Living → ContainerId → Option Envelope → Bool
+ends_by living c None = false
+ends_by living c (Some e) = is_over (stepped living c (Hears e.body))
+
+abbrev pub one_if : Bool → ℕ
+one_if b = if b then 1 else 0

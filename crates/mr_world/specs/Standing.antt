@@ -1,5 +1,7 @@
 -- Which world the parts of a simulator stand for, and what an event's call promises. Here code and definitions meet.
-use Rattle.std.specs.Prelude.{◌≡◌, ℕ, Bool, true, false, nat_lt, List, Option, Some, None, Result, Ok, Err, ◌⊎◌, is_some}
+use Rattle.std.specs.Prelude.{◌≡◌, ℕ, Bool, true, false, nat_lt, List, Option, Some, None, Result, Ok, Err, ◌⊎◌, is_some, slice_get}
+use Rattle.mr_packet.specs.declared.packet.Address.{Address}
+use Rattle.mr_packet.specs.declared.packet.Packet.{Packet}
 use Rattle.mr_event.specs.declared.why.Why.{Why}
 use Rattle.mr_container.specs.State as container
 use Rattle.mr_node.specs.State as node
@@ -57,6 +59,10 @@ pub record Standing (p : Parts) (w : World) : Type 0 where
   pub nodes : NodesStand p.config p.nodes w
   pub masters : MastersStand p.config p.masters w
   pub launched : p.launched ≡ launch_count w
+
+-- the packet at a place of the bag goes to this address
+abbrev pub IsTo : Parts → ℕ → Address → Type 0
+IsTo p i a = (body : Packet) × (slice_get p.bag.packets i ≡ Some (record { to = a; body = body }))
 
 -- ---- what the calls of events promise, of every world that the parts stand for
 

@@ -33,7 +33,8 @@ impl Parts {
     }
 }
 
-fn ended(c: &ContainerId) -> Envelope
+// The packet by which its master is told that the container came to its end.
+pub fn ended(c: &ContainerId) -> Envelope
     ensures { result ≡ ended c.now }
 {
     Envelope {

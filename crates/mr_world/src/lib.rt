@@ -4,6 +4,7 @@
 mod config;
 mod die;
 mod fault;
+mod hear_container;
 mod limits;
 mod living;
 mod masters;

@@ -1,10 +1,12 @@
-ghost use Rattle.std.specs.Prelude.{◌≡◌, None, Some, is_some, OnOk, OnErr};
+ghost use Rattle.std.specs.Prelude.{◌≡◌, None, Some, is_some, IfOk, OnOk, OnErr};
 ghost use Rattle.std.specs.Option.{option_copied};
 ghost use Rattle.mr_container.specs.Past.{Hears};
+ghost use Rattle.mr_container.specs.State.{after};
+ghost use Rattle.mr_model.specs.Actors.{is_finished};
 ghost use Rattle.mr_model.specs.Ids.{ContainerId};
-ghost use Rattle.mr_world.specs.Living.{kept, Changes, Same, stepped};
+ghost use Rattle.mr_world.specs.Living.{kept, Changes, Same, stepped, is_over};
 
-use mr_container::ContainerMachine;
+use mr_container::{ContainerMachine, Wish};
 use mr_packet::{ContainerId, Packet};
 use std::alloc::{AllocError, Global};
 use std::collections::BTreeMap;
@@ -60,15 +62,46 @@ impl Living {
         self.machines.remove(c);
     }
 
-    /// The container, if it lives, hears a packet. Where memory is refused nothing changes.
+    /// The container, if it lives, hears a packet: whether it came to its end. Where memory is refused nothing changes.
     #[tactic(auto, using(crate::proofs::Keys::changed), unfolding(crate::specs::Living::kept))]
-    pub fn hear(&mut self, c: &ContainerId, packet: &Packet) -> Result<(), AllocError>
+    pub fn hear(&mut self, c: &ContainerId, packet: &Packet) -> Result<bool, AllocError>
         ensures ok { OnOk result (Changes self.old c.now (stepped self.old c.now (Hears packet.now)) self.new) }
+        ensures over { IfOk result (λ over. over ≡ is_over (stepped self.old c.now (Hears packet.now))) }
         ensures err { OnErr result (Same self.old self.new) }
     {
         match self.machines.get_mut(c) {
-            Some(machine) => machine.hear(packet),
-            None => Ok(()),
+            Some(machine) => hear(machine, packet),
+            None => Ok(false),
         }
     }
+
+    /// Whether the container, if it lives, would come to its end by a packet.
+    #[tactic(auto, unfolding(crate::specs::Living::kept))]
+    pub fn would_end(&self, c: &ContainerId, packet: &Packet) -> Result<bool, AllocError>
+        ensures { IfOk result (λ over. over ≡ is_over (stepped self.now c.now (Hears packet.now))) }
+    {
+        match self.machines.get(c) {
+            Some(machine) => {
+                let mut copy = machine.copy()?;
+                hear(&mut copy, packet)
+            }
+            None => Ok(false),
+        }
+    }
+}
+
+// Hears a packet: whether the container came to its end.
+fn hear(machine: &mut ContainerMachine, packet: &Packet) -> Result<bool, AllocError>
+    ensures ok { OnOk result (machine.new ≡ after machine.old (Hears packet.now)) }
+    ensures over { IfOk result (λ over. over ≡ is_finished (after machine.old (Hears packet.now)).seen.wish) }
+    ensures err { OnErr result (machine.new ≡ machine.old) }
+{
+    machine.hear(packet)?;
+    Ok(is_finished(&machine.wish()))
+}
+
+fn is_finished(wish: &Wish) -> bool
+    ensures { result ≡ is_finished wish.now }
+{
+    matches!(wish, Wish::Over)
 }
