@@ -9,6 +9,7 @@ mod limits;
 mod living;
 mod masters;
 mod nodes;
+mod opening;
 mod parts;
 mod room;
 mod splits;
