@@ -41,7 +41,7 @@ went : (p : Parts) (w : World) (i : ℕ) (c : ContainerId) (packet : Packet) (m 
 went p w i c packet m s at there = containers_act.hears p.config w i c packet m (heard m packet) (carried p w i _ s at) (s.living.machines c m there) (stands_after m (heard m packet) (Hears packet) refl)
 
 -- what is added
-ends-with : (c : ContainerId) (v : Wish) → end_of c v ≡ (if is_finished v then ended c ∷ [] else [])
+pub ends-with : (c : ContainerId) (v : Wish) → end_of c v ≡ (if is_finished v then ended c ∷ [] else [])
 ends-with c Over = refl
 ends-with c v = refl
 

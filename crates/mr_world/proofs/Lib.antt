@@ -5,3 +5,5 @@ pub mod Refusals
 pub mod Opening_parts
 pub mod Dying
 pub mod Hearing_containers
+pub mod Saying
+pub mod Sending_packets

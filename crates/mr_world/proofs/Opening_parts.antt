@@ -1,5 +1,5 @@
 -- The parts of a new world stand for the opening world.
-use Rattle.std.proofs.Common.{◌≡◌, ℕ, zero, suc, ◌+◌, refl, sym, ◌∙◌, ap, subst, Bool, true, false, nat_lt, replicate, List, [], Option, Some, None, if◌then◌else◌, is_some}
+use Rattle.std.proofs.Common.{◌≡◌, ℕ, zero, suc, refl, sym, ◌∙◌, ap, subst, Bool, true, false, nat_lt, replicate, [], Some, None, if◌then◌else◌, is_some}
 use Rattle.mr_names.specs.Calls as names
 use Rattle.mr_history.specs.State.{State}
 use Rattle.mr_history.specs.Segment.{fresh}
@@ -11,15 +11,13 @@ use Rattle.mr_model.specs.Content.{MkDirs}
 use Rattle.mr_model.specs.Stored.{StoresStand, master}
 use Rattle.mr_model.proofs.Stored.{stores_go_on}
 use Rattle.mr_model.specs.Packets.{Config}
-use Rattle.mr_model.specs.Duties.{Master_step}
 use Rattle.mr_model.specs.World.{opening_world}
 use Rattle.mr_model.specs.Effect.{run}
-use Rattle.mr_model.specs.Actors.{NodeIn}
 use Rattle.mr_world.specs.declared.living.Living.{Living}
 use Rattle.mr_world.specs.declared.masters.Masters.{Masters}
 use Rattle.mr_world.specs.declared.nodes.Nodes.{Nodes}
 use Rattle.mr_world.specs.Living.{kept}
-use Rattle.mr_world.specs.Limits.{within, launches_of}
+use Rattle.mr_world.specs.Limits.{launches_of}
 use Rattle.mr_world.specs.Machines.{node_of, master_of, master_count}
 use Rattle.mr_world.specs.Standing.{Reached, LivingStand, NodesStand, MastersStand}
 

@@ -60,3 +60,8 @@ memory-foreseen {A} p e r now g = let q = err_from_is_err_and r g in
 pub memory-tried : {A : Type 0} (p q : Parts) (e : Event) (r : Result A WorldFault) → ((w : World) → Standing p w → IsTaken p.config w e) → ((w : World) → Standing p w → Standing q w) → IsErrAnd r (λ f. f ≡ fault.NoMemory) → Tries p e r q
 memory-tried {A} p q e r taken same g = let z = err_from_is_err_and r g in
     subst (λ (y : Result A WorldFault). Tries {A = A} p e y q) (sym z.1) (subst (λ f. Tries {A = A} p e (Err f) q) (sym z.2) (λ w s. (refuses-memory _ (taken w s).now, same w s)))
+
+-- what the exit of a `?` answers where the bag has no room for so many
+pub full-foreseen : {A : Type 0} (p : Parts) (e : Event) (n : ℕ) (r : Result A WorldFault) → ((w : World) → Standing p w → NeedsRoom p w e n) → MAX_PACKETS < length p.bag.packets + n → IsErrAnd r (λ f. f ≡ fault.Full) → Foresees p e r
+full-foreseen {A} p e n r needs room g = let q = err_from_is_err_and r g in
+    subst (λ (z : Result A WorldFault). Foresees {A = A} p e z) (sym q.1) (subst (λ f. Foresees {A = A} p e (Err f)) (sym q.2) (λ w s. full-by s (needs w s) room))

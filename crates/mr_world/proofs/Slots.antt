@@ -1,5 +1,6 @@
 -- A list that grows by one at its end, seen by place.
-use Rattle.std.proofs.Common.{ℕ, zero, suc, ◌+◌, ◌≡◌, refl, sym, ◌∙◌, ap, Bool, true, false, List, [], ◌∷◌, ◌++◌, Some, None, if◌then◌else◌, nat_eq, nat_lt, length, slice_get, length-append, arith}
+use Rattle.std.proofs.Common.{ℕ, zero, suc, ◌+◌, ◌≡◌, refl, sym, ◌∙◌, ap, Bool, true, false, List, [], ◌∷◌, ◌++◌, Option, Some, None, if◌then◌else◌, nat_eq, nat_lt, length, slice_get, length-append, arith}
+use Rattle.std.specs.Option.{option_map}
 use Rattle.std.proofs.lemmas.Bool.{eqb-true, lt-ltb}
 use Rattle.std.proofs.lemmas.Bool.Decides.{nat_tests}
 use Rattle.mr_node.specs.Readings.{opening}
@@ -37,3 +38,11 @@ one_more reduces nodes n b = (omega (arith, b.0, length-append nodes (record { n
     by k true e = let is : k ≡ n = eqb-true k n (sym e) in ap (λ (b : Bool). if b then Some (record { number = n; seen = opening reduces }) else None) (sym (lt-ltb k (n + 1) (omega arith)))
         ∙ ap (λ (m : ℕ). if nat_lt k (n + 1) then Some (record { number = m; seen = opening reduces }) else None) (sym is)
     by k false e = b.1 k ∙ ap (λ (b : Bool). if b then Some (record { number = k; seen = opening reduces }) else None) (same k (sym e))
+
+-- where nothing stands at a place, a step there changes nothing
+pub none_there : {A : Type 0} (f : A → A) (o : ℕ → Option A) (n : ℕ) → o n ≡ None → (k : ℕ) → o k ≡ (if nat_eq k n then option_map f (o n) else o k)
+none_there {A} f o n e k = by (nat_eq k n) refl
+  where
+    by : (t : Bool) → t ≡ nat_eq k n → o k ≡ (if t then option_map f (o n) else o k)
+    by true is = ap o (eqb-true k n (sym is)) ∙ (e ∙ sym (ap (option_map f) e))
+    by false is = refl

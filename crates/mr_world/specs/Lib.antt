@@ -3,3 +3,4 @@ pub mod Living
 pub mod Limits
 pub mod Machines
 pub mod Standing
+pub mod Letters

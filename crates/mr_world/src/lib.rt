@@ -5,6 +5,7 @@ mod config;
 mod die;
 mod fault;
 mod hear_container;
+mod letters;
 mod limits;
 mod living;
 mod masters;
@@ -12,6 +13,7 @@ mod nodes;
 mod opening;
 mod parts;
 mod room;
+mod send;
 mod splits;
 
 pub use config::Config;

@@ -1,11 +1,15 @@
 ghost use Rattle.std.specs.Prelude.{◌≡◌, None, Some, is_some, IfOk, OnOk, OnErr};
 ghost use Rattle.std.specs.Option.{option_copied};
-ghost use Rattle.mr_container.specs.Past.{Hears};
+ghost use Rattle.mr_packet.specs.declared.packet.Packet.{Packet};
+ghost use Rattle.mr_container.specs.Past.{Hears, Sends};
+ghost use Rattle.mr_container.specs.Wished.{wished_packet};
 ghost use Rattle.mr_container.specs.State.{after};
 ghost use Rattle.mr_model.specs.Actors.{is_finished};
 ghost use Rattle.mr_model.specs.Ids.{ContainerId};
+ghost use Rattle.mr_world.specs.Letters.{letters_by, letters_of, is_last};
 ghost use Rattle.mr_world.specs.Living.{kept, Changes, Same, stepped, is_over};
 
+use crate::letters::Letters;
 use mr_container::{ContainerMachine, Wish};
 use mr_packet::{ContainerId, Packet};
 use std::alloc::{AllocError, Global};
@@ -75,6 +79,28 @@ impl Living {
         }
     }
 
+    /// What the container's next step puts into the bag, if it lives, where that is no store call. It takes no memory.
+    #[tactic(auto, unfolding(crate::specs::Living::kept))]
+    pub fn letters(&self, c: &ContainerId) -> Letters
+        ensures { result ≡ letters_of (kept self.now c.now) }
+    {
+        match self.machines.get(c) {
+            Some(machine) => letters(machine),
+            None => Letters::Nothing,
+        }
+    }
+
+    /// The packet that the container wished to send was sent. It takes no memory.
+    #[tactic(auto, using(crate::proofs::Keys::changed), unfolding(crate::specs::Living::kept))]
+    pub fn sent(&mut self, c: &ContainerId)
+        ensures { (packet : Packet) → Changes self.old c.now (stepped self.old c.now (Sends packet)) self.new }
+    {
+        match self.machines.get_mut(c) {
+            Some(machine) => machine.sent(),
+            None => {}
+        }
+    }
+
     /// Whether the container, if it lives, would come to its end by a packet.
     #[tactic(auto, unfolding(crate::specs::Living::kept))]
     pub fn would_end(&self, c: &ContainerId, packet: &Packet) -> Result<bool, AllocError>
@@ -104,4 +130,22 @@ fn is_finished(wish: &Wish) -> bool
     ensures { result ≡ is_finished wish.now }
 {
     matches!(wish, Wish::Over)
+}
+
+// What a container's next step puts into the bag, where it is no store call.
+fn letters(machine: &ContainerMachine) -> Letters
+    ensures { result ≡ letters_by (is_last machine.now.seen.wish) (wished_packet machine.now.id machine.now.place.attempt machine.now.seen machine.now.seen.wish) }
+{
+    match machine.packet() {
+        Some(packet) if is_last(&machine.wish()) => Letters::Last(packet),
+        Some(packet) => Letters::One(packet),
+        None => Letters::Nothing,
+    }
+}
+
+// Who tells that it failed does nothing more.
+fn is_last(wish: &Wish) -> bool
+    ensures { result ≡ is_last wish.now }
+{
+    matches!(wish, Wish::Failed)
 }

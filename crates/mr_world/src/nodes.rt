@@ -1,9 +1,11 @@
-ghost use Rattle.std.specs.Prelude.{◌≡◌, ℕ, None, Some, IfOk, OnOk, OnErr, nat_lt, if◌then◌else◌};
+ghost use Rattle.std.specs.Prelude.{◌≡◌, ℕ, None, Some, IfOk, IfSome, OnOk, OnErr, ◌<◌, nat_lt, if◌then◌else◌};
 ghost use Rattle.std.specs.Option.{option_copied};
 ghost use Rattle.mr_node.specs.Readings.{opening};
-ghost use Rattle.mr_world.specs.Machines.{node_of};
+ghost use Rattle.mr_node.specs.Past.{Hears, Restarts};
+ghost use Rattle.mr_world.specs.Machines.{node_of, ChangesNode, SameNodes, node_stepped, reaction_of};
 
-use mr_node::NodeMachine;
+use mr_node::{NodeMachine, Reaction};
+use mr_packet::Packet;
 use std::alloc::{AllocError, Global};
 
 /// The machines of all nodes, by number from 0.
@@ -31,5 +33,29 @@ impl Nodes {
         ensures { option_copied result ≡ node_of self.now n }
     {
         self.machines.get(n as usize)
+    }
+
+    /// A node hears a packet: what it makes the node do. Where memory is refused nothing changes.
+    #[tactic(auto, unfolding(crate::specs::Machines::node_of))]
+    pub fn hear(&mut self, n: u32, packet: &Packet) -> Result<Reaction, AllocError>
+        ensures ok { OnOk result (ChangesNode self.old n (node_stepped self.old n (Hears packet.now)) self.new) }
+        ensures reaction { IfOk result (λ r. r ≡ reaction_of (node_of self.old n) packet.now) }
+        ensures err { OnErr result (SameNodes self.old self.new) }
+    {
+        match self.machines.get_mut(n as usize) {
+            Some(machine) => machine.hear(packet),
+            None => Ok(Reaction::Nothing),
+        }
+    }
+
+    /// A node, if there is one of this number, begins anew. It takes no memory.
+    #[tactic(auto, unfolding(crate::specs::Machines::node_of))]
+    pub fn restart(&mut self, n: u32)
+        requires { IfSome (node_of self.old n) (λ m. m.seen.incarnation < 4294967295) }
+        ensures { ChangesNode self.old n (node_stepped self.old n Restarts) self.new }
+    {
+        if let Some(machine) = self.machines.get_mut(n as usize) {
+            machine.restart();
+        }
     }
 }

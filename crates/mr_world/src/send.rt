@@ -1,0 +1,50 @@
+ghost use Rattle.std.specs.Prelude.{◌≡◌, ◌≤◌, ◌+◌, length, IfOk, OnOk};
+ghost use Rattle.mr_model.specs.World.{ContainerStep};
+ghost use Rattle.mr_world.specs.Letters.{IsAlone, letters_of, count_of};
+ghost use Rattle.mr_world.specs.Living.{kept};
+ghost use Rattle.mr_world.specs.Standing.{Foresees, Tries};
+
+use crate::die::ended;
+use crate::fault::WorldFault;
+use crate::letters::Letters;
+use crate::parts::Parts;
+use crate::room::reserve;
+use mr_event::Weather;
+use mr_packet::ContainerId;
+
+impl Parts {
+    /// Whether the container can take its next step, which is permitted and no store call; and what it puts into the bag.
+    pub fn check_send(&self, c: &ContainerId, fault: Weather) -> Result<Letters, WorldFault>
+        requires { IsAlone self.now c.now fault }
+        ensures foresees { Foresees self.now (ContainerStep c.now fault) result }
+        ensures letters { IfOk result (λ letters. letters ≡ letters_of (kept self.now.living c.now)) }
+        ensures room { IfOk result (λ letters. length self.now.bag.packets + count_of letters ≤ 1000000) }
+    {
+        let letters = self.living.letters(c);
+        self.check_room(letters.count())?;
+        Ok(letters)
+    }
+
+    /// The container takes its next step, which is permitted and no store call: it sends the packet that it wishes to send, if it wishes to.
+    pub fn send_packet(&mut self, c: &ContainerId, fault: Weather) -> Result<(), WorldFault>
+        requires { IsAlone self.old c.now fault }
+        ensures { Tries self.old (ContainerStep c.now fault) result self.new }
+    {
+        match self.check_send(c, fault)? {
+            Letters::Nothing => Ok(()),
+            Letters::One(packet) => {
+                reserve(&mut self.bag, 1)?;
+                self.bag.push_reserved(packet);
+                self.living.sent(c);
+                Ok(())
+            }
+            Letters::Last(packet) => {
+                reserve(&mut self.bag, 2)?;
+                self.bag.push_reserved(packet);
+                self.bag.push_reserved(ended(c));
+                self.living.remove(c);
+                Ok(())
+            }
+        }
+    }
+}
