@@ -7,3 +7,4 @@ pub mod Dying
 pub mod Hearing_containers
 pub mod Saying
 pub mod Sending_packets
+pub mod Launched_here

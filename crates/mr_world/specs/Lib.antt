@@ -4,3 +4,4 @@ pub mod Limits
 pub mod Machines
 pub mod Standing
 pub mod Letters
+pub mod Serving

@@ -1,10 +1,26 @@
-//! The world: a cluster that is run, event by event.
+//! The world: a cluster that is run, event by event, and is at each point what `mr_model` defines. **It is being written**: what
+//! stands is within the crate, and nothing of it can be called from outside yet but its config, its limits and its faults.
+//!
+//! # What is proved
+//!
+//! The parts of a world (`Parts`: the namespace, the history, the bag, the machines of masters, nodes and living containers) *stand for* a world of
+//! `mr_model` (`specs/Standing`): one clause a part, each machine for its past there, and that world is the run of some events under the
+//! limits of `specs/Limits`. Of every world that the parts stand for:
+//!
+//! - the parts of a new world stand for the opening world (`Parts::new`);
+//! - each event's call refuses it as defined (`Tries`): with the first reason why it is not permitted, else because it would pass a limit,
+//!   else for want of memory; and then the parts stand for what they stood for. Else the event is permitted and passes no limit, and the
+//!   parts stand for the world after it. So it is of a death (`die`), a packet to a container (`hear_container`), and a step of a
+//!   container that is no store call (`send_packet`). Want of memory may also be answered where memory was refused while it was found out whether a limit
+//!   would be passed. The other events do not stand here yet, nor the world that keeps a journal.
+//! - What each event's call does not do by chance: everything that can fail comes before the first change.
 #![tactic(auto)]
 
 mod config;
 mod die;
 mod fault;
 mod hear_container;
+mod hear_node;
 mod letters;
 mod limits;
 mod living;
