@@ -8,3 +8,4 @@ pub mod Hearing_containers
 pub mod Saying
 pub mod Sending_packets
 pub mod Launched_here
+pub mod Calling

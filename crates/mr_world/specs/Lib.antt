@@ -5,3 +5,4 @@ pub mod Machines
 pub mod Standing
 pub mod Letters
 pub mod Serving
+pub mod Calling

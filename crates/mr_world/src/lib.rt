@@ -16,6 +16,7 @@
 //! - What each event's call does not do by chance: everything that can fail comes before the first change.
 #![tactic(auto)]
 
+mod call;
 mod config;
 mod die;
 mod fault;
@@ -31,6 +32,7 @@ mod parts;
 mod room;
 mod send;
 mod splits;
+mod step;
 
 pub use config::Config;
 pub use fault::WorldFault;

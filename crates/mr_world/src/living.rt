@@ -1,7 +1,8 @@
 ghost use Rattle.std.specs.Prelude.{◌≡◌, None, Some, is_some, IfOk, OnOk, OnErr};
 ghost use Rattle.std.specs.Option.{option_copied};
 ghost use Rattle.mr_packet.specs.declared.packet.Packet.{Packet};
-ghost use Rattle.mr_container.specs.Past.{Hears, Sends};
+ghost use Rattle.mr_container.specs.Past.{Hears, Sends, Calls};
+ghost use Rattle.mr_names.specs.declared.op.Op.{Op};
 ghost use Rattle.mr_container.specs.Wished.{wished_packet};
 ghost use Rattle.mr_container.specs.State.{after};
 ghost use Rattle.mr_model.specs.Actors.{is_finished};
@@ -10,7 +11,7 @@ ghost use Rattle.mr_world.specs.Letters.{letters_by, letters_of, is_last};
 ghost use Rattle.mr_world.specs.Living.{kept, Changes, Same, stepped, is_over};
 
 use crate::letters::Letters;
-use mr_container::{ContainerMachine, Wish};
+use mr_container::{ContainerMachine, Reply, Wish};
 use mr_packet::{ContainerId, Packet};
 use std::alloc::{AllocError, Global};
 use std::collections::BTreeMap;
@@ -56,6 +57,17 @@ impl Living {
     {
         self.machines.insert(c, machine)?;
         Ok(())
+    }
+
+    /// The container, if it lives, hears the answer of its store call. It takes no memory.
+    #[tactic(auto, using(crate::proofs::Keys::changed), unfolding(crate::specs::Living::kept))]
+    pub fn on(&mut self, c: &ContainerId, reply: Reply)
+        ensures { (op : Op) → Changes self.old c.now (stepped self.old c.now (Calls op reply)) self.new }
+    {
+        match self.machines.get_mut(c) {
+            Some(machine) => machine.on(reply),
+            None => {}
+        }
     }
 
     /// The container lives no longer. It takes no memory.

@@ -1,6 +1,6 @@
-ghost use Rattle.std.specs.Prelude.{◌≡◌, ◌≤◌, OnOk};
+ghost use Rattle.std.specs.Prelude.{◌≡◌, ◌≤◌, OnOk, length};
 
-use mr_packet::Bag;
+use mr_packet::{Bag, MAX_PACKETS};
 use std::alloc::AllocError;
 
 /// Makes room for so many packets, and changes nothing else.
@@ -12,4 +12,11 @@ pub fn reserve(bag: &mut Bag, more: usize) -> Result<(), AllocError>
         return Err(AllocError);
     }
     Ok(())
+}
+
+/// How many packets a bag has at most. This call does nothing: it tells the caller so.
+pub fn tell_most(bag: &Bag)
+    ensures { length bag.now.packets ≤ MAX_PACKETS }
+{
+    let _len = bag.len();
 }

@@ -1,0 +1,35 @@
+ghost use Rattle.mr_model.specs.World.{ContainerStep};
+ghost use Rattle.mr_world.specs.Standing.{Foresees, Tries};
+
+use crate::fault::WorldFault;
+use crate::parts::Parts;
+use mr_event::Weather;
+use mr_packet::ContainerId;
+
+impl Parts {
+    /// Whether the container can take its next step now, in this weather.
+    pub fn check_step(&self, c: &ContainerId, fault: Weather) -> Result<(), WorldFault>
+        ensures { Foresees self.now (ContainerStep c.now fault) result }
+    {
+        match self.foresee_call(c, fault)? {
+            Some(_call) => Ok(()),
+            None => {
+                self.check_send(c, fault)?;
+                Ok(())
+            }
+        }
+    }
+
+    /// The container takes its next step: it makes a store call and hears the answer, or sends a packet, or nothing happens.
+    pub fn step(&mut self, c: &ContainerId, fault: Weather) -> Result<(), WorldFault>
+        ensures { Tries self.old (ContainerStep c.now fault) result self.new }
+    {
+        match self.foresee_call(c, fault)? {
+            Some(call) => {
+                self.call_store(c, fault, &call)?;
+                Ok(())
+            }
+            None => self.send_packet(c, fault),
+        }
+    }
+}
