@@ -1,5 +1,6 @@
 pub mod Keys
 pub mod Slots
+pub mod Generations
 pub mod Frames
 pub mod Refusals
 pub mod Opening_parts
@@ -9,3 +10,7 @@ pub mod Saying
 pub mod Sending_packets
 pub mod Launched_here
 pub mod Calling
+pub mod Bounds
+pub mod Mastering
+pub mod Starting
+pub mod Crashing

@@ -2,6 +2,7 @@ pub mod Ranges
 pub mod Living
 pub mod Limits
 pub mod Machines
+pub mod Masters
 pub mod Standing
 pub mod Letters
 pub mod Serving

@@ -17,7 +17,9 @@
 #![tactic(auto)]
 
 mod call;
+mod alive;
 mod config;
+mod crash;
 mod die;
 mod fault;
 mod hear_container;
@@ -33,6 +35,7 @@ mod room;
 mod send;
 mod splits;
 mod step;
+mod start;
 
 pub use config::Config;
 pub use fault::WorldFault;

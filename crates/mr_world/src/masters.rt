@@ -1,9 +1,10 @@
-ghost use Rattle.std.specs.Prelude.{◌≡◌, ℕ, None};
+ghost use Rattle.std.specs.Prelude.{◌≡◌, ℕ, None, is_some, OnOk, OnErr};
 ghost use Rattle.std.specs.Option.{option_copied};
 ghost use Rattle.mr_world.specs.Machines.{master_of, master_count};
+ghost use Rattle.mr_world.specs.Masters.{SameMasters, Begins, Ceases};
 
 use mr_master::MasterMachine;
-use std::alloc::Global;
+use std::alloc::{AllocError, Global};
 
 /// The machines of the masters by generation, from 1: those that are alive. Of each other one that was started an empty place is kept.
 #[derive(Drop)]
@@ -20,6 +21,45 @@ impl Masters {
     {
         Masters {
             machines: Vec::new(alloc),
+        }
+    }
+
+    /// The machine of the master of this generation, if it is alive. It takes no memory.
+    #[tactic(auto, unfolding(crate::specs::Machines::master_of))]
+    pub fn get(&self, k: u32) -> Option<&MasterMachine>
+        ensures { option_copied result ≡ master_of self.now k }
+    {
+        let place = k.checked_sub(1)?;
+        self.machines.get(place as usize)?.as_ref()
+    }
+
+    /// Whether the master of this generation is alive. It takes no memory.
+    pub fn contains(&self, k: u32) -> bool
+        ensures { result ≡ is_some (master_of self.now k) }
+    {
+        self.get(k).is_some()
+    }
+
+    /// A master of the next generation begins, with this machine. Where memory is refused nothing changes.
+    #[tactic(auto, unfolding(crate::specs::Machines::master_of, crate::specs::Machines::master_count))]
+    pub fn begin(&mut self, machine: MasterMachine) -> Result<(), AllocError>
+        ensures ok { OnOk result (Begins self.old machine self.new) }
+        ensures err { OnErr result (SameMasters self.old self.new) }
+    {
+        self.machines.push(Some(machine))?;
+        Ok(())
+    }
+
+    /// The master of this generation is alive no longer. It takes no memory.
+    #[tactic(auto, unfolding(crate::specs::Machines::master_of, crate::specs::Machines::master_count))]
+    pub fn cease(&mut self, k: u32)
+        ensures { Ceases self.old k self.new }
+    {
+        let Some(place) = k.checked_sub(1) else {
+            return;
+        };
+        if let Some(machine) = self.machines.get_mut(place as usize) {
+            *machine = None;
         }
     }
 }

@@ -1,0 +1,32 @@
+ghost use Rattle.mr_model.specs.World.{Crash};
+ghost use Rattle.mr_world.specs.Machines.{master_of};
+ghost use Rattle.mr_world.specs.Standing.{Foresees, Tries};
+ghost use Rattle.std.specs.Prelude.{◌≡◌, ◌≤◌, true, is_some, IfOk, OnOk};
+
+use crate::fault::WorldFault;
+use crate::parts::Parts;
+use mr_event::Why;
+use mr_ids::AppAttempt;
+
+impl Parts {
+    /// Whether the master of this generation can crash now.
+    pub fn check_crash(&self, k: u32, kept: u64) -> Result<AppAttempt, WorldFault>
+        ensures foresees { Foresees self.now (Crash k kept) result }
+        ensures is { IfOk result (λ app. app ≡ k) }
+        ensures raised { OnOk result (k ≤ self.now.history.fence) }
+        ensures alive { OnOk result (is_some (master_of self.now.masters k) ≡ true) }
+    {
+        let app = self.check_master(k)?;
+        Ok(app)
+    }
+
+    /// The master of this generation crashes: of what it has not flushed so many bytes stay, and its segment is sealed.
+    pub fn crash(&mut self, k: u32, kept: u64) -> Result<(), WorldFault>
+        ensures { Tries self.old (Crash k kept) result self.new }
+    {
+        let app = self.check_crash(k, kept)?;
+        self.masters.cease(k);
+        self.history.seal(app, kept as usize);
+        Ok(())
+    }
+}
