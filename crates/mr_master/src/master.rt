@@ -68,6 +68,13 @@ impl MasterMachine {
         Ok(due)
     }
 
+    /// Why `launch` would launch nothing of a task on a node, memory aside: the first that applies. It takes no memory.
+    pub fn launch_refusal(&self, task: TaskId, node: u32) -> Option<LaunchFault>
+        ensures { Answers self.now (λ w past. launch_refusal w (seen w past) task node) result }
+    {
+        self.machine.launch_refusal(task, node)
+    }
+
     /// Launches the next attempt of a task on a node, in the incarnation that is known of it, and gives the packet that tells the node
     /// so, which is to be sent.
     ///
@@ -123,6 +130,13 @@ impl MasterMachine {
     {
         self.machine.hear(packet, packets)?;
         Ok(())
+    }
+
+    /// Why `expire` would not give a node up, memory aside: the first that applies. It takes no memory.
+    pub fn expire_refusal(&self, node: u32) -> Option<LaunchFault>
+        ensures { Answers self.now (λ w past. expire_refusal w (seen w past) node) result }
+    {
+        self.machine.expire_refusal(node)
     }
 
     /// What is sent where this node is given up (`expire`), in order; nothing where that is refused. It changes nothing. Where memory is

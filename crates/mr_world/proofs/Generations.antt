@@ -1,5 +1,7 @@
 -- The places of masters, by generation.
-use Rattle.std.proofs.Common.{◌≡◌, ℕ, zero, suc, ◌+◌, refl, sym, ◌∙◌, ap, subst, Bool, true, false, List, [], ◌∷◌, ◌++◌, Option, Some, None, if◌then◌else◌, nat_eq, length, slice_get, length-append, arith}
+use Rattle.std.proofs.Common.{◌≡◌, ℕ, zero, suc, ◌+◌, refl, sym, ◌∙◌, ap, subst, Bool, true, false, List, [], ◌∷◌, ◌++◌, Option, Some, None, if◌then◌else◌, nat_eq, length, slice_get, slice_set, ◌<◌, length-append, arith}
+use Rattle.std.proofs.lemmas.Bool.{eq-eqb}
+use Rattle.std.proofs.lemmas.List.{length-set}
 use Rattle.std.proofs.lemmas.Bool.Decides.{nat_tests}
 use Rattle.std.specs.Option.{option_and_then}
 use Rattle.mr_master.specs.State.{Master}
@@ -26,3 +28,38 @@ begun old m new e = record { count = omega (arith, ap length e, length-append ol
     kept zero = ap (λ (b : Bool). if b then Some m else None) (sym (not-first (length old.machines.items)))
     kept (suc n) = ap (λ xs. option_and_then (λ m. m) (slice_get xs n)) e ∙ (ap (option_and_then (λ m. m)) (slice_last old.machines.items (Some m) n)
         ∙ (push-in (nat_eq n (length old.machines.items)) m (slice_get old.machines.items n) ∙ ap (λ (b : Bool). if b then Some m else option_and_then (λ m. m) (slice_get old.machines.items n)) (sym (next-eq n (length old.machines.items)))))
+
+-- ---- one place is written
+
+first-eq : nat_eq 0 0 ≡ true
+first-eq = eq-eqb 0 0 refl
+
+not-zero : (n : ℕ) → nat_eq (suc n) 0 ≡ false
+not-zero n = grind (arith, nat_tests)
+
+set-at : (xs : List (Option Master)) (i : ℕ) (v : Option Master) (n : ℕ) → i < length xs → slice_get (slice_set xs i v) n ≡ (if nat_eq n i then Some v else slice_get xs n)
+set-at [] i v n l = absurd (omega arith)
+set-at (x ∷ xs) zero v zero l = ap (λ (b : Bool). if b then Some v else Some x) (sym first-eq)
+set-at (x ∷ xs) zero v (suc n) l = ap (λ (b : Bool). if b then Some v else slice_get xs n) (sym (not-zero n))
+set-at (x ∷ xs) (suc i) v zero l = ap (λ (b : Bool). if b then Some v else Some x) (sym (not-first i))
+set-at (x ∷ xs) (suc i) v (suc n) l = set-at xs i v n (omega arith) ∙ ap (λ (b : Bool). if b then Some v else slice_get xs n) (sym (next-eq n i))
+
+write-in : (b : Bool) (v : Option Master) (o : Option (Option Master)) → option_and_then (λ m. m) (if b then Some v else o) ≡ (if b then v else option_and_then (λ m. m) o)
+write-in true v o = refl
+write-in false v o = refl
+
+pub written : (old new : Masters) (i k : ℕ) (v : Option Master) → k ≡ suc i → i < length old.machines.items → new.machines.items ≡ slice_set old.machines.items i v → ChangesMaster old k v new
+unfolding master_of
+written old new i k v at l e = kept
+  where
+    kept-by : (j : ℕ) → master_of new j ≡ (if nat_eq j (suc i) then v else master_of old j)
+    kept-by zero = ap (λ (b : Bool). if b then v else None) (sym (not-first i))
+    kept-by (suc n) = ap (λ xs. option_and_then (λ m. m) (slice_get xs n)) e ∙ (ap (option_and_then (λ m. m)) (set-at old.machines.items i v n l)
+        ∙ (write-in (nat_eq n i) v (slice_get old.machines.items n) ∙ ap (λ (b : Bool). if b then v else option_and_then (λ m. m) (slice_get old.machines.items n)) (sym (next-eq n i))))
+
+    kept : (j : ℕ) → master_of new j ≡ (if nat_eq j k then v else master_of old j)
+    kept j = kept-by j ∙ ap (λ z. if nat_eq j z then v else master_of old j) (sym at)
+
+pub written-count : (old new : Masters) (i : ℕ) (v : Option Master) → new.machines.items ≡ slice_set old.machines.items i v → master_count new ≡ master_count old
+unfolding master_count
+written-count old new i v e = ap length e ∙ length-set old.machines.items i v

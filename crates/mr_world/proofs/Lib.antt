@@ -12,5 +12,7 @@ pub mod Launched_here
 pub mod Calling
 pub mod Bounds
 pub mod Mastering
+pub mod Stepping
 pub mod Starting
 pub mod Crashing
+pub mod Launching

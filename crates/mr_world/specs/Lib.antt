@@ -1,6 +1,7 @@
 pub mod Ranges
 pub mod Living
 pub mod Limits
+pub mod Reasons
 pub mod Machines
 pub mod Masters
 pub mod Standing

@@ -22,3 +22,8 @@ pub record Begins (old : Masters) (m : master.Master) (new : Masters) : Type 0 w
 pub record Ceases (old : Masters) (k : ℕ) (new : Masters) : Type 0 where
   pub count : master_count new ≡ master_count old
   pub kept : ChangesMaster old k None new
+
+-- this machine is at the place of generation k
+pub record Returns (old : Masters) (k : ℕ) (m : master.Master) (new : Masters) : Type 0 where
+  pub count : master_count new ≡ master_count old
+  pub kept : ChangesMaster old k (Some m) new

@@ -25,6 +25,7 @@ mod fault;
 mod hear_container;
 mod hear_node;
 mod letters;
+mod launch;
 mod limits;
 mod living;
 mod masters;

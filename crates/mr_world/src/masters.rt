@@ -1,7 +1,7 @@
-ghost use Rattle.std.specs.Prelude.{◌≡◌, ℕ, None, is_some, OnOk, OnErr};
+ghost use Rattle.std.specs.Prelude.{◌≡◌, ◌≤◌, ℕ, None, is_some, OnOk, OnErr};
 ghost use Rattle.std.specs.Option.{option_copied};
 ghost use Rattle.mr_world.specs.Machines.{master_of, master_count};
-ghost use Rattle.mr_world.specs.Masters.{SameMasters, Begins, Ceases};
+ghost use Rattle.mr_world.specs.Masters.{SameMasters, Begins, Ceases, Returns};
 
 use mr_master::MasterMachine;
 use std::alloc::{AllocError, Global};
@@ -60,6 +60,27 @@ impl Masters {
         };
         if let Some(machine) = self.machines.get_mut(place as usize) {
             *machine = None;
+        }
+    }
+
+    /// Takes the machine of a living master out, until it is put back. It takes no memory.
+    #[tactic(auto, unfolding(crate::specs::Machines::master_of, crate::specs::Machines::master_count))]
+    pub fn take(&mut self, k: u32) -> Option<MasterMachine>
+        ensures taken { result ≡ master_of self.old k }
+        ensures left { Ceases self.old k self.new }
+    {
+        let place = k.checked_sub(1)?;
+        self.machines.get_mut(place as usize)?.take()
+    }
+
+    /// Puts the machine of a master that was started back to its place. It takes no memory.
+    #[tactic(auto, unfolding(crate::specs::Machines::master_of, crate::specs::Machines::master_count))]
+    pub fn put(&mut self, k: u32, machine: MasterMachine)
+        requires started { (1 ≤ k) × (k ≤ master_count self.old) }
+        ensures { Returns self.old k machine self.new }
+    {
+        if let Some(slot) = self.machines.get_mut(k as usize - 1) {
+            *slot = Some(machine);
         }
     }
 }

@@ -1,0 +1,67 @@
+ghost use Rattle.std.specs.Prelude.{◌≡◌, ◌<◌, length, is_some, true, OnOk};
+ghost use Rattle.mr_model.specs.World.{LaunchOn};
+ghost use Rattle.mr_world.specs.Machines.{master_of};
+ghost use Rattle.mr_world.specs.Reasons.{why_of};
+ghost use Rattle.mr_world.specs.Standing.{Foresees, Tries};
+
+use crate::fault::WorldFault;
+use crate::limits::MAX_CONTAINERS;
+use crate::parts::Parts;
+use crate::room::reserve;
+use mr_event::Why;
+use mr_ids::TaskId;
+use mr_master_model::LaunchFault;
+use mr_packet::MAX_PACKETS;
+
+impl Parts {
+    /// Whether an attempt at the task can be launched on the node now.
+    pub fn check_launch(&self, k: u32, task: TaskId, node: u32) -> Result<(), WorldFault>
+        ensures foresees { Foresees self.now (LaunchOn k task node) result }
+        ensures alive { OnOk result (is_some (master_of self.now.masters k) ≡ true) }
+        ensures few { OnOk result (self.now.launched < MAX_CONTAINERS) }
+        ensures room { OnOk result (length self.now.bag.packets < MAX_PACKETS) }
+    {
+        let Some(machine) = self.masters.get(k) else {
+            return Err(WorldFault::NotNow(Why::NoMaster));
+        };
+        if let Some(fault) = machine.launch_refusal(task, node) {
+            return Err(WorldFault::NotNow(why(fault)));
+        }
+        if self.launched >= MAX_CONTAINERS {
+            return Err(WorldFault::Full);
+        }
+        self.check_room(1)
+    }
+
+    /// The master of this generation launches the next attempt at the task on the node, which is told so.
+    pub fn launch(&mut self, k: u32, task: TaskId, node: u32) -> Result<(), WorldFault>
+        ensures { Tries self.old (LaunchOn k task node) result self.new }
+    {
+        self.check_launch(k, task, node)?;
+        reserve(&mut self.bag, 1)?;
+        let Some(mut machine) = self.masters.take(k) else {
+            return Err(WorldFault::NotNow(Why::NoMaster));
+        };
+        let launched = machine.launch(task, node);
+        self.masters.put(k, machine);
+        let packet = match launched {
+            Ok(packet) => packet,
+            Err(_) => return Err(WorldFault::NoMemory),
+        };
+        self.bag.push_reserved(packet);
+        self.launched += 1;
+        Ok(())
+    }
+}
+
+/// The reason that a master gives for launching nothing, or for not giving a node up.
+pub fn why(fault: LaunchFault) -> Why
+    ensures { result ≡ why_of fault }
+{
+    match fault {
+        LaunchFault::NotRunning => Why::NotRunning,
+        LaunchFault::NoTask => Why::NoTask,
+        LaunchFault::NoNode => Why::NoNode,
+        LaunchFault::Task(fault) => Why::Task(fault),
+    }
+}
