@@ -28,7 +28,7 @@
 //!   is the machine that it was.
 //! - `expire_packets` gives exactly the packets that `expire` then sends; nothing where that is refused. `copy` gives a machine that stands for
 //!   whatever this one stands for.
-//! - Only tested: that the calls succeed with ample memory, so far in Opening alone (`crates/tests_masters`).
+//! - Only tested: that the calls succeed with ample memory, along a few ways through the phases (`crates/tests_masters`).
 #![tactic(auto)]
 
 mod aborting;

@@ -1,8 +1,10 @@
 //! What the tests begin with.
 
+use mr_history::Records;
 use mr_ids::{AppAttempt, AttemptId, JobId, TaskId, TaskKind};
 use mr_master::MasterMachine;
-use mr_master_model::{Setting, StoreAnswer};
+use mr_master_model::{DutyName, Setting, StoreAnswer};
+use mr_names::Answer;
 use mr_packet::{ContainerId, Envelope, Packet};
 use mr_paths::{Layout, Path, PathFault};
 use std::alloc::Global;
@@ -56,13 +58,24 @@ pub fn master(rt: &impl Abort, alloc: Global) -> MasterMachine {
 
 /// The first master of a job of so many maps and one reduce on so many nodes, with its output at `/out`.
 pub fn master_of(rt: &impl Abort, alloc: Global, maps: u32, nodes: u32) -> MasterMachine {
+    generation_of(rt, alloc, first(rt), maps, nodes)
+}
+
+/// The same of this generation.
+pub fn generation_of(
+    rt: &impl Abort,
+    alloc: Global,
+    app: AppAttempt,
+    maps: u32,
+    nodes: u32,
+) -> MasterMachine {
     let dest = match Path::parse(alloc, "/out") {
         Ok(dest) => dest,
         Err(PathFault::NoMemory) => panic!(rt; "no memory"),
         Err(PathFault::BadName) => panic!(rt; "/out is no path"),
     };
     let setting = Setting {
-        app: first(rt),
+        app,
         job: job(),
         maps,
         reduces: 1,
@@ -86,4 +99,25 @@ pub fn hears(rt: &impl Abort, master: &mut MasterMachine, packet: &Packet) -> Ve
 pub fn answered(rt: &impl Abort, master: &mut MasterMachine, answer: StoreAnswer) -> Vec<Envelope> {
     let ready = master.ready(answer).expect(rt, "no memory");
     master.answer(ready)
+}
+
+/// The master finds no mark, reads these records, and makes its job attempt path.
+pub fn opens(rt: &impl Abort, master: &mut MasterMachine, records: Records) {
+    for _ in 0..3 {
+        let absent = StoreAnswer::Names(Ok(Answer::Found(None)));
+        assert!(rt; answered(rt, master, absent).len() == 0);
+    }
+    assert!(rt; answered(rt, master, StoreAnswer::Told(records)).len() == 0);
+    assert!(rt; does(rt, master).len() == 0);
+}
+
+/// The call of the namespace that is due is made. Gives the packets that are sent.
+pub fn does(rt: &impl Abort, master: &mut MasterMachine) -> Vec<Envelope> {
+    answered(rt, master, StoreAnswer::Names(Ok(Answer::Done)))
+}
+
+/// The name of what is due, if anything is.
+pub fn due(rt: &impl Abort, master: &MasterMachine) -> Option<DutyName> {
+    let duty = master.duty().expect(rt, "no memory");
+    duty.as_ref().map(|duty| duty.name())
 }

@@ -1,44 +1,31 @@
 //! A master that comes to Running: it launches its one reduce, names its attempt, and tells the node of its win.
 
-use crate::fixtures::{answered, attempt, container, hears, master_of, task};
+use crate::fixtures::{answered, attempt, container, due, hears, master_of, opens, task};
 use mr_history::{Record, Records};
 use mr_ids::{AttemptId, TaskId, TaskKind};
 use mr_master::{Duty, MasterMachine};
 use mr_master_model::{DutyName, Phase, StoreAnswer, StoreCall};
-use mr_names::{Answer, Op};
+use mr_names::Op;
 use mr_packet::{Address, Envelope, Packet};
 use mr_paths::Path;
 use std::alloc::Global;
 use std::process::Abort;
 
 // The reduce of the job.
-fn reduce() -> TaskId {
+pub fn reduce() -> TaskId {
     task(TaskKind::Reduce, 0)
 }
 
 // Its first attempt.
-fn first_attempt(rt: &impl Abort) -> AttemptId {
+pub fn first_attempt(rt: &impl Abort) -> AttemptId {
     attempt(rt, reduce())
 }
 
 // A master of a job of no map and one reduce on one node, that found no mark and no record, and made its job attempt path.
-fn running(rt: &impl Abort, alloc: Global) -> MasterMachine {
+pub fn running(rt: &impl Abort, alloc: Global) -> MasterMachine {
     let mut master = master_of(rt, alloc, 0, 1);
-    for _ in 0..3 {
-        let absent = StoreAnswer::Names(Ok(Answer::Found(None)));
-        assert!(rt; answered(rt, &mut master, absent).len() == 0);
-    }
-    let nothing = StoreAnswer::Told(Records::new(alloc));
-    assert!(rt; answered(rt, &mut master, nothing).len() == 0);
-    let made = StoreAnswer::Names(Ok(Answer::Done));
-    assert!(rt; answered(rt, &mut master, made).len() == 0);
+    opens(rt, &mut master, Records::new(alloc));
     master
-}
-
-// The name of what is due, if anything is.
-fn due(rt: &impl Abort, master: &MasterMachine) -> Option<DutyName> {
-    let duty = master.duty().expect(rt, "no memory");
-    duty.as_ref().map(|duty| duty.name())
 }
 
 // The record that it appends next, if that is next.
@@ -88,7 +75,7 @@ fn is_ack(rt: &impl Abort, envelope: &Envelope) -> bool {
 }
 
 // Whether node 0 is told that the attempt is the winner.
-fn is_win(rt: &impl Abort, envelope: &Envelope) -> bool {
+pub fn is_win(rt: &impl Abort, envelope: &Envelope) -> bool {
     let told = match &envelope.body {
         Packet::Won { t, a } => *t == reduce() && *a == first_attempt(rt),
         _ => false,
@@ -106,7 +93,7 @@ fn starts(duty: &Duty) -> Option<&Path> {
 }
 
 // Whether COMMIT_STARTED is created next.
-fn is_started(rt: &impl Abort, alloc: Global, master: &MasterMachine) -> bool {
+pub fn is_started(rt: &impl Abort, alloc: Global, master: &MasterMachine) -> bool {
     let duty = master.duty().expect(rt, "no memory");
     match duty.as_ref().and_then(|duty| starts(duty)) {
         Some(path) => {
@@ -117,7 +104,7 @@ fn is_started(rt: &impl Abort, alloc: Global, master: &MasterMachine) -> bool {
 }
 
 // The reduce is launched on node 0.
-fn launches(rt: &impl Abort, master: &mut MasterMachine) {
+pub fn launches(rt: &impl Abort, master: &mut MasterMachine) {
     match master.launch(reduce(), 0) {
         Ok(packet) => assert!(rt; is_launch(rt, &packet)),
         Err(_) => panic!(rt; "not launched"),
@@ -139,7 +126,7 @@ fn reduce_is_launched(rt: HostRuntime) {
 }
 
 // The attempt asks and is named; it is done, which is acknowledged.
-fn finishes(rt: &impl Abort, master: &mut MasterMachine) {
+pub fn finishes(rt: &impl Abort, master: &mut MasterMachine) {
     let pending = Packet::Pending {
         a: first_attempt(rt),
     };
