@@ -109,9 +109,3 @@ appended-after w s a b f = λ i. if (sym f i) then Fails b else Stops
 
 pub flushed-after : (w : Setting) (s : Seen) (a : StoreAnswer) (b : Bool) → is_fine a ≡ true → Fails (b || list_any is_unsuccessful s.tail) ≡ failing_after w s a b (Some name.Flush)
 flushed-after w s a b f = λ i. if (sym f i) then Fails (b || list_any is_unsuccessful s.tail) else Stops
-
-pub passed : (a : StoreAnswer) → passes_abort a ≡ true → Ends false ≡ aborted a
-passed a p = λ i. if (sym p i) then Ends false else Stops
-
-pub not-passed : (a : StoreAnswer) → passes_abort a ≡ false → Stops ≡ aborted a
-not-passed a p = λ i. if (sym p i) then Ends false else Stops

@@ -176,8 +176,6 @@ pub moved-work : (s : Seen) (due : List Record) → (moved_first s due).work ≡
 moved-work s [] = refl
 moved-work s (r ∷ due) = refl
 
--- ---- Kills that are noted
-
 -- ---- the call that was due while Running
 
 -- it runs on
