@@ -1,5 +1,5 @@
 -- A container makes a store call: when it can, and what the parts stand for then.
-use Rattle.std.proofs.Common.{◌≡◌, ℕ, ◌≤◌, refl, sym, ◌∙◌, ap, subst, Bool, true, false, ◌&&◌, ◌||◌, not, nat_lt, List, [], ◌++◌, Option, Some, None, Result, Ok, Err, IsErrAnd, if◌then◌else◌, is_some, length, append-nil, arith}
+use Rattle.std.proofs.Common.{◌≡◌, ℕ, ◌≤◌, refl, sym, ◌∙◌, ap, subst, Bool, true, false, ◌&&◌, not, nat_lt, List, [], ◌++◌, Option, Some, None, Result, Ok, Err, IsErrAnd, if◌then◌else◌, is_some, length, append-nil, arith}
 use Rattle.std.proofs.Math.Bool.{and-true}
 use Rattle.std.proofs.lemmas.Result.{err_from_is_err_and}
 use Rattle.std.specs.Option.{option_or, option_map}
@@ -21,11 +21,9 @@ use Rattle.mr_container.specs.Wished.{wished_op, caller_of as called_by}
 use Rattle.mr_container.proofs.Standing.{stands_after}
 use Rattle.mr_model.specs.Ids.{ContainerId}
 use Rattle.mr_model.specs.Content.{refusal}
-use Rattle.mr_model.specs.Packets.{Config, Caller, Names}
-use Rattle.mr_model.specs.Hearing.{has}
+use Rattle.mr_model.specs.Packets.{Caller, Names}
 use Rattle.mr_model.specs.World.{World, Weather, Calm, Unavailable, Unanswered, ContainerStep, Made, op_of, caller_of, call_of, op_made, unless_stopped, is_stopped, has_option, is_applied}
 use Rattle.mr_model.specs.Effect.{effect, not_now, NoContainer}
-use Rattle.mr_model.specs.Sending.{sent}
 use Rattle.mr_model.specs.Stores.{NamesStand}
 use Rattle.mr_model.specs.Stored.{StoresStand, left_in, heard_in}
 use Rattle.mr_model.specs.Actors.{is_finished}

@@ -16,3 +16,4 @@ pub mod Stepping
 pub mod Starting
 pub mod Crashing
 pub mod Launching
+pub mod Computing

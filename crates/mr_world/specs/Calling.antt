@@ -1,5 +1,5 @@
 -- The store call of a container's next step: when it is permitted, and what is done.
-use Rattle.std.specs.Prelude.{◌≡◌, Bool, true, false, ◌&&◌, ◌||◌, not, Option, Some, None, Result, Ok, Err, is_some}
+use Rattle.std.specs.Prelude.{◌≡◌, Bool, true, false, ◌||◌, not, Option, Some, None, Result, Ok, Err}
 use Rattle.mr_container.specs.declared.wish.Wish.{Wish}
 use Rattle.mr_container.specs.declared.wish.Wish.TheVariants as wish
 use Rattle.mr_container.specs.Readings.{is_computing}
@@ -17,7 +17,7 @@ use Rattle.mr_world.specs.declared.fault.WorldFault.{WorldFault}
 use Rattle.mr_world.specs.declared.fault.WorldFault.TheVariants as fault
 use Rattle.mr_world.specs.declared.parts.Parts.{Parts}
 use Rattle.mr_world.specs.Limits.{within}
-use Rattle.mr_world.specs.Living.{kept, Changes, stepped}
+use Rattle.mr_world.specs.Living.{Changes, stepped}
 use Rattle.mr_world.specs.Standing.{Standing, IsTaken, Refuses}
 
 -- the wishes that are store calls

@@ -8,3 +8,4 @@ pub mod Standing
 pub mod Letters
 pub mod Serving
 pub mod Calling
+pub mod Computing

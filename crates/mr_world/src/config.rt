@@ -1,3 +1,4 @@
+ghost use Rattle.std.specs.Prelude.{◌≡◌};
 ghost use Rattle.mr_world.specs.Ranges.{IsInRange};
 
 use crate::splits::Splits;
@@ -38,5 +39,12 @@ impl Config {
         ensures { IsInRange self.now }
     {
         let _job = &self.job;
+    }
+
+    /// How many reduces there are. It takes no memory.
+    pub fn reduce_count(&self) -> u32
+        ensures { result ≡ self.now.reduces }
+    {
+        self.reduces
     }
 }

@@ -18,6 +18,7 @@
 
 mod call;
 mod alive;
+mod compute;
 mod config;
 mod crash;
 mod die;

@@ -1,7 +1,8 @@
-ghost use Rattle.std.specs.Prelude.{◌≡◌, None, Some, is_some, IfOk, OnOk, OnErr};
+ghost use Rattle.std.specs.Prelude.{◌≡◌, None, Some, is_some, IfOk, IfSome, OnOk, OnErr, List, ℕ};
 ghost use Rattle.std.specs.Option.{option_copied};
 ghost use Rattle.mr_packet.specs.declared.packet.Packet.{Packet};
-ghost use Rattle.mr_container.specs.Past.{Hears, Sends, Calls};
+ghost use Rattle.mr_container.specs.Past.{Hears, Sends, Computes, Calls};
+ghost use Rattle.mr_ids.specs.declared.id.TaskKind.TheVariants.{Map};
 ghost use Rattle.mr_names.specs.declared.op.Op.{Op};
 ghost use Rattle.mr_container.specs.Wished.{wished_packet};
 ghost use Rattle.mr_container.specs.State.{after};
@@ -12,7 +13,7 @@ ghost use Rattle.mr_world.specs.Living.{kept, Changes, Same, stepped, is_over};
 
 use crate::letters::Letters;
 use mr_container::{ContainerMachine, Reply, Wish};
-use mr_packet::{ContainerId, Packet};
+use mr_packet::{Bytes, ContainerId, Packet};
 use std::alloc::{AllocError, Global};
 use std::collections::BTreeMap;
 
@@ -66,6 +67,19 @@ impl Living {
     {
         match self.machines.get_mut(c) {
             Some(machine) => machine.on(reply),
+            None => {}
+        }
+    }
+
+    /// The container, if it lives, was handed in its bytes. It takes no memory.
+    #[tactic(auto, using(crate::proofs::Keys::changed), unfolding(crate::specs::Living::kept))]
+    pub fn computed(&mut self, c: &ContainerId, bytes: Bytes)
+        ensures changed { Changes self.old c.now (stepped self.old c.now (Computes bytes)) self.new }
+        // Which bytes they are is not kept of a map.
+        ensures of_map { IfSome (kept self.old c.now) (λ m. m.place.attempt.task.kind ≡ Map) → (others : List ℕ) → Changes self.old c.now (stepped self.old c.now (Computes others)) self.new }
+    {
+        match self.machines.get_mut(c) {
+            Some(machine) => machine.computed(bytes),
             None => {}
         }
     }

@@ -1,9 +1,11 @@
 ghost use Rattle.std.specs.Prelude.{◌≡◌, ℕ, None, Some, IfOk, IfSome, OnOk, OnErr, ◌<◌, nat_lt, if◌then◌else◌};
 ghost use Rattle.std.specs.Option.{option_copied};
 ghost use Rattle.mr_node.specs.Readings.{opening};
-ghost use Rattle.mr_node.specs.Past.{Hears, Restarts};
+ghost use Rattle.mr_node.specs.Past.{Hears, Restarts, Shelves};
 ghost use Rattle.mr_world.specs.Machines.{node_of, ChangesNode, SameNodes, node_stepped, reaction_of};
 
+use mr_ids::AttemptId;
+use mr_mapside::MapOutput;
 use mr_node::{NodeMachine, Reaction};
 use mr_packet::Packet;
 use std::alloc::{AllocError, Global};
@@ -33,6 +35,18 @@ impl Nodes {
         ensures { option_copied result ≡ node_of self.now n }
     {
         self.machines.get(n as usize)
+    }
+
+    /// The output of a map attempt is put on a node's shelf. Where memory is refused nothing changes.
+    #[tactic(auto, unfolding(crate::specs::Machines::node_of))]
+    pub fn put(&mut self, n: u32, a: AttemptId, output: MapOutput) -> Result<(), AllocError>
+        ensures ok { OnOk result (ChangesNode self.old n (node_stepped self.old n (Shelves a output)) self.new) }
+        ensures err { OnErr result (SameNodes self.old self.new) }
+    {
+        match self.machines.get_mut(n as usize) {
+            Some(machine) => machine.put(a, output),
+            None => Ok(()),
+        }
     }
 
     /// A node hears a packet: what it makes the node do. Where memory is refused nothing changes.
