@@ -17,3 +17,4 @@ pub mod Starting
 pub mod Crashing
 pub mod Launching
 pub mod Computing
+pub mod Expiring

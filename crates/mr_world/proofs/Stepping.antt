@@ -95,6 +95,22 @@ launches-now {cfg} {w} {e} {k} {x} moves = told-is ((effect cfg w e).master_past
 pub one-launch : {cfg : Config} {w : World} {e : Event} {k : ℕ} {l : Launched} → MasterMoves cfg w e k (Launches l) → launches_in ((effect cfg w e).master_past k) ≡ 1 + launches_in (w.master_past k)
 one-launch {cfg} {w} {e} {k} {l} moves = let one = launches-now moves in let so : launches_in ((effect cfg w e).master_past k) ≡ suc (launches_in (w.master_past k)) = one ∙ ap suc (sym (told-is (w.master_past k))) in omega (arith, so)
 
+-- by a step that is no launch
+abbrev pub launches-none : machine.Step → Bool
+launches-none (machine.Launches t n) = false
+launches-none (machine.Hears p) = true
+launches-none (machine.Expires n) = true
+launches-none (machine.Answered a) = true
+
+none-told : (x : machine.Step) (h : List machine.Step) → launches-none x ≡ true → launches-told (x ∷ h) ≡ launches-told h
+none-told (machine.Launches t n) h e = cc
+none-told (machine.Hears p) h e = refl
+none-told (machine.Expires n) h e = refl
+none-told (machine.Answered a) h e = refl
+
+pub other-steps : {cfg : Config} {w : World} {e : Event} {k : ℕ} {x : Master_step} → MasterMoves cfg w e k x → launches-none (step_of x) ≡ true → launches_in ((effect cfg w e).master_past k) ≡ 0 + launches_in (w.master_past k)
+other-steps {cfg} {w} {e} {k} {x} moves none = let so : launches_in ((effect cfg w e).master_past k) ≡ launches_in (w.master_past k) = launches-now moves ∙ (none-told (step_of x) (steps (w.master_past k)) none ∙ sym (told-is (w.master_past k))) in omega (arith, so)
+
 -- of the generations below k, and from k on
 below : (f g : ℕ → List Master_step) (k : ℕ) → ((j : ℕ) → (j ≡ k → ⊥) → g j ≡ f j) → (n : ℕ) → n < k → launches_of g n ≡ launches_of f n
 unfolding launches_of

@@ -1,0 +1,112 @@
+-- A master gives a node up: when it can, and what the parts stand for then.
+use Rattle.std.proofs.Common.{◌≡◌, ◌≤◌, ◌<◌, ℕ, suc, ◌+◌, refl, sym, ◌∙◌, ap, subst, Bool, true, false, ◌&&◌, not, List, [], ◌∷◌, ◌++◌, Option, Some, None, if◌then◌else◌, is_some, nat_lt, length, arith, Result, Ok, Err, OnOk, OnErr, IfOk}
+use Rattle.std.proofs.lemmas.Bool.{lt-ltb, le-ltb}
+use Rattle.mr_ids.specs.declared.id.TaskId.{TaskId}
+use Rattle.mr_packet.specs.Bag.{Held}
+use Rattle.mr_packet.specs.declared.packet.Envelope.{Envelope}
+use Rattle.mr_master_model.specs.declared.phase.LaunchFault.{LaunchFault}
+use Rattle.mr_master_model.specs.Past as machine
+use Rattle.mr_master_model.specs.Readings as read
+use Rattle.mr_master_model.specs.Next as next
+use Rattle.mr_master.specs.State as master
+use Rattle.mr_model.specs.Packets.{Config}
+use Rattle.mr_model.specs.Duties.{Expires}
+use Rattle.mr_model.specs.World.{World, Expire, call_of, seen_by}
+use Rattle.std.specs.Option.{option_map}
+use Rattle.mr_model.specs.Hearing.{Seen, is_running}
+use Rattle.mr_model.specs.Effect.{effect, not_now, is_task, task_fault, NoMaster, NotRunning, NoTask, NoNode, Task, AlreadyWon, TooManyLive, TooManyAttempts, Why, WrongGeneration, NoDuty, NoPacket, NoAddressee, NoContainer, WrongWish, NoStoreCall, NotBlocks, unless}
+use Rattle.mr_model.specs.Sending.{sent}
+use Rattle.mr_model.proofs.Stored.{stores_go_on}
+use Rattle.mr_agree.specs.Steps.{setting, steps}
+use Rattle.mr_agree.specs.Points.{refusal_as, expire_why}
+use Rattle.mr_agree.specs.Agreement.{machine_seen}
+use Rattle.mr_agree.proofs.Stores.{masters_go_on, masters_send}
+use Rattle.mr_world.specs.declared.fault.WorldFault.TheVariants as fault
+use Rattle.mr_world.proofs.Launching.{reason, still}
+use Rattle.mr_world.specs.declared.masters.Masters.{Masters}
+use Rattle.mr_world.specs.declared.parts.Parts.{Parts}
+use Rattle.mr_world.specs.Machines.{master_of}
+use Rattle.mr_world.specs.Masters.{Ceases, Returns}
+use Rattle.mr_world.specs.Reasons.{why_of}
+use Rattle.mr_world.specs.Limits.{within, fits_bag, launch_count}
+use Rattle.mr_world.specs.Standing.{Standing, Reached, IsTaken, Refuses}
+use Rattle.mr_world.proofs.Refusals.{NeedsRoom, refuses-now, refuses-full, refuses-memory}
+use Rattle.mr_world.proofs.Mastering.{goes-on, not-kept, is-generation}
+use Rattle.mr_world.proofs.Stepping.{agrees, masters-step, swapped, other-steps, launches-add}
+
+-- ---- when it can
+
+no-reason : (a d : Bool) → refusal_as (unless a NotRunning (unless d NoNode None)) ≡ None → unless a NotRunning (unless d NoNode None) ≡ None
+no-reason false d e = cc
+no-reason true false e = cc
+no-reason true true e = refl
+
+not-alive : (cfg : Config) (w : World) (k n : ℕ) → w.is_master k ≡ false → not_now cfg w (Expire k n) ≡ Some NoMaster
+unfolding not_now
+not-alive cfg w k n e = rw e refl
+
+alive : (cfg : Config) (w : World) (k n : ℕ) → w.is_master k ≡ true → not_now cfg w (Expire k n) ≡ expire_why cfg (seen_by cfg w k) n
+unfolding not_now
+alive cfg w k n e = rw e refl
+
+pub dead : (p : Parts) (k n : ℕ) → is_some (master_of p.masters k) ≡ false → (w : World) → Standing p w → Refuses (not_now p.config w (Expire k n)) (within p.config w (Expire k n)) (fault.NotNow NoMaster)
+dead p k n e w s = refuses-now _ (not-alive p.config w k n (not-kept p k e w s))
+
+-- what the machine answers
+abbrev pub Asked : Parts → ℕ → ℕ → master.Master → Option LaunchFault → Type 0
+Asked p k n m o = (master_of p.masters k ≡ Some m) × master.Answers m (λ w past. read.expire_refusal w (next.seen w past) n) o
+
+asked : (p : Parts) (k n : ℕ) (m : master.Master) (o : Option LaunchFault) → Asked p k n m o → (w : World) → Standing p w → o ≡ refusal_as (expire_why p.config (seen_by p.config w k) n)
+asked p k n m o a w s = a.1 (setting p.config k) (steps (w.master_past k)) (s.masters.machines k m a.0) ∙ (agrees k s.reached).point.expiry n
+
+lives : (p : Parts) (k : ℕ) (m : master.Master) (w : World) → Standing p w → master_of p.masters k ≡ Some m → w.is_master k ≡ true
+lives p k m w s at = sym (s.masters.alive k) ∙ ap is_some at
+
+pub refused : (p : Parts) (k n : ℕ) (m : master.Master) (o : Option LaunchFault) (f : LaunchFault) (y : Why) → Asked p k n m o → o ≡ Some f → y ≡ why_of f → (w : World) → Standing p w
+    → Refuses (not_now p.config w (Expire k n)) (within p.config w (Expire k n)) (fault.NotNow y)
+refused p k n m o f y a e is w s = refuses-now _ (alive p.config w k n (lives p k m w s a.0) ∙ (reason _ f (sym (asked p k n m o a w s) ∙ e) ∙ ap Some (sym is)))
+
+pub allowed : (p : Parts) (k n : ℕ) (m : master.Master) (o : Option LaunchFault) → Asked p k n m o → o ≡ None → (w : World) → Standing p w → not_now p.config w (Expire k n) ≡ None
+allowed p k n m o a e w s = alive p.config w k n (lives p k m w s a.0) ∙ no-reason _ _ (sym (asked p k n m o a w s) ∙ e)
+
+limit-is : (cfg : Config) (w : World) (k n : ℕ) → within cfg w (Expire k n) ≡ fits_bag cfg w (Expire k n)
+unfolding within call_of
+limit-is cfg w k n = refl
+
+says : (cfg : Config) (w : World) (k n : ℕ) → Reached cfg w → not_now cfg w (Expire k n) ≡ None → next.sent (setting cfg k) (steps (w.master_past k)) (machine.Expires n) ≡ sent cfg w (Expire k n)
+says cfg w k n r = subst (λ u. not_now cfg u (Expire k n) ≡ None → next.sent (setting cfg k) (steps (u.master_past k)) (machine.Expires n) ≡ sent cfg u (Expire k n)) r.is
+    (masters_send.expires cfg (within cfg) r.events k n)
+
+sends-these : (p : Parts) (k n : ℕ) (m : master.Master) (packets : List Envelope) → master_of p.masters k ≡ Some m → master.Answers m (λ w past. next.sent w past (machine.Expires n)) packets
+    → (w : World) → Standing p w → not_now p.config w (Expire k n) ≡ None → packets ≡ sent p.config w (Expire k n)
+sends-these p k n m packets at told w s now = told (setting p.config k) (steps (w.master_past k)) (s.masters.machines k m at) ∙ says p.config w k n s.reached now
+
+pub needs : (p : Parts) (k n : ℕ) (m : master.Master) (o : Option LaunchFault) (packets : List Envelope) → Asked p k n m o → o ≡ None → master.Answers m (λ w past. next.sent w past (machine.Expires n)) packets
+    → (w : World) → Standing p w → NeedsRoom p w (Expire k n) (length packets)
+needs p k n m o packets a e told w s = let now = allowed p k n m o a e w s in record { now = now; limit = limit-is p.config w k n; count = ap length (sym (sends-these p k n m packets a.0 told w s now)) }
+
+-- ---- what stands then
+
+pub expired : (p : Parts) (w : World) (k n : ℕ) (mid masters : Masters) (bag : Held) (before m : master.Master) (packets : List Envelope) → Standing p w → IsTaken p.config w (Expire k n) → Some before ≡ master_of p.masters k
+    → Ceases p.masters k mid → Returns mid k m masters → master.Stands before (machine.Expires n) m → master.Answers before (λ w past. next.sent w past (machine.Expires n)) packets → bag.packets ≡ p.bag.packets ++ packets
+    → Standing (record p { masters = masters; bag = bag }) (effect p.config w (Expire k n))
+expired p w k n mid masters bag before m packets s taken at out back step told b =
+    let moves = masters_go_on.expires p.config w k n in let of = is-generation p w k s (sym (ap is_some at)) in
+    goes-on p w (Expire k n) p.names p.history bag masters p.launched s taken refl (stores_go_on.rests p.config w p.names p.history (Expire k n) s.stores refl)
+    (masters-step p.config w (Expire k n) k (Expires n) p.masters masters before m s.masters (sym at) (swapped p.masters mid masters k m out back) refl moves step)
+    (let same : launch_count (effect p.config w (Expire k n)) ≡ 0 + launch_count w = launches-add w.master_past (effect p.config w (Expire k n)).master_past k 0 of.0 moves.others (other-steps moves refl) 1000 of.1 in omega (arith, same, s.launched))
+    (b ∙ ap (λ es. p.bag.packets ++ es) (sends-these p k n before packets (sym at) told w s taken.now))
+
+pub not-expired : (p : Parts) (k n : ℕ) (mid masters : Masters) (bag : Held) (before m : master.Master) → ((w : World) → Standing p w → IsTaken p.config w (Expire k n))
+    → Some before ≡ master_of p.masters k → Ceases p.masters k mid → Returns mid k m masters → m ≡ before → bag.packets ≡ p.bag.packets
+    → (w : World) → Standing p w → Refuses (not_now p.config w (Expire k n)) (within p.config w (Expire k n)) fault.NoMemory × Standing (record p { masters = masters; bag = bag }) w
+not-expired p k n mid masters bag before m taken at out back same b w s = (
+  refuses-memory _ (taken w s).now,
+  still p w k masters bag before m s (sym at) (swapped p.masters mid masters k m out back) (subst (master.StandsStill before) (sym same) (λ w past st. st)) b,
+)
+
+pub ok-part : {A E P : Type 0} (r : Result A E) (a : A) → r ≡ Ok a → OnOk r P → P
+ok-part {A} {E} {P} r a is p = subst (λ (z : Result A E). OnOk z P) is p
+
+pub err-part : {A E P : Type 0} (r : Result A E) (f : E) → r ≡ Err f → OnErr r P → P
+err-part {A} {E} {P} r f is p = subst (λ (z : Result A E). OnErr z P) is p
