@@ -18,3 +18,4 @@ pub mod Crashing
 pub mod Launching
 pub mod Computing
 pub mod Expiring
+pub mod Hearing_masters

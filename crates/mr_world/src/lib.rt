@@ -27,6 +27,7 @@ mod fault;
 mod hear_container;
 mod hear_node;
 mod letters;
+mod hear_master;
 mod launch;
 mod limits;
 mod living;
