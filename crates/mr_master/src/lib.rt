@@ -23,6 +23,7 @@
 //! - `ready` makes ready for an answer: what it lends is exactly the packets that are sent for it, and the master stands for what it stood
 //!   for, also where memory is refused. `answer` then gives these packets, and the master stands for what it stood for and that answer. Where
 //!   no call is due, nothing is sent.
+//! - `launch_refusal` and `expire_refusal` tell which refusal applies first, if one does, and take no memory.
 //! - `launch` and `expire` give exactly the packets that are sent, and then the machine stands for what it stood for and this step. A fault
 //!   is the first refusal that applies, or `Task(NoMemory)` where none does; then it stands for what it stood for, and after a fault of `expire` it
 //!   is the machine that it was.
