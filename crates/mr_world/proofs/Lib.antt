@@ -19,3 +19,4 @@ pub mod Launching
 pub mod Computing
 pub mod Expiring
 pub mod Hearing_masters
+pub mod Hearing_nodes

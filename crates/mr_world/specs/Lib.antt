@@ -9,3 +9,4 @@ pub mod Letters
 pub mod Serving
 pub mod Calling
 pub mod Computing
+pub mod Replying

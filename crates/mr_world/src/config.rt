@@ -1,4 +1,4 @@
-ghost use Rattle.std.specs.Prelude.{◌≡◌};
+ghost use Rattle.std.specs.Prelude.{◌≡◌, length};
 ghost use Rattle.mr_world.specs.Ranges.{IsInRange};
 
 use crate::splits::Splits;
@@ -46,5 +46,13 @@ impl Config {
         ensures { result ≡ self.now.reduces }
     {
         self.reduces
+    }
+
+    /// How many maps there are: one for each split. It takes no memory.
+    pub fn maps(&self) -> u32
+        ensures { result ≡ length self.now.splits }
+    {
+        self.ranges();
+        self.splits.len() as u32
     }
 }

@@ -1,18 +1,100 @@
-ghost use Rattle.std.specs.Prelude.{◌≡◌, IfOk, OnOk, OnErr};
+ghost use Rattle.std.specs.Prelude.{◌≡◌, ◌≤◌, ◌+◌, length, slice_get, Some, IfOk, OnOk, OnErr};
 ghost use Rattle.std.specs.Option.{option_map};
+ghost use Rattle.mr_packet.specs.declared.packet.Address.TheVariants.{Node};
+ghost use Rattle.mr_packet.specs.declared.packet.Envelope.{Envelope};
 ghost use Rattle.mr_packet.specs.declared.packet.Packet.TheVariants.{Launch};
 ghost use Rattle.mr_node.specs.Past.{Hears};
-ghost use Rattle.mr_world.specs.Living.{Same};
+ghost use Rattle.mr_model.specs.World.{Deliver};
+ghost use Rattle.mr_world.specs.Living.{Same, one_if};
 ghost use Rattle.mr_world.specs.Machines.{node_of, ChangesNode, SameNodes, node_stepped, reaction_of};
+ghost use Rattle.mr_world.specs.Replying.{answers_at};
 ghost use Rattle.mr_world.specs.Serving.{added_by, Serves};
+ghost use Rattle.mr_world.specs.Standing.{IsTo, Foresees, Tries};
 
+use crate::fault::WorldFault;
 use crate::living::Living;
 use crate::nodes::Nodes;
+use crate::parts::Parts;
+use crate::room::reserve;
 use mr_container::{ContainerMachine, Place};
 use mr_ids::AttemptId;
 use mr_node::Reaction;
-use mr_packet::{ContainerId, Envelope, Packet};
+use mr_packet::{Bag, ContainerId, Envelope, MAX_PACKETS, Packet};
 use std::alloc::{AllocError, Global};
+
+impl Parts {
+    /// Whether the packet at this place can be delivered to its node now.
+    pub fn check_hear_node(&self, i: usize, n: u32) -> Result<(), WorldFault>
+        requires { IsTo self.now i (Node n) }
+        ensures foresees { Foresees self.now (Deliver i) result }
+        ensures room { OnOk result (length self.now.bag.packets + one_if (answers_at self.now.nodes n (slice_get self.now.bag.packets i)) ≤ MAX_PACKETS) }
+    {
+        if self.bag.len() < MAX_PACKETS {
+            return Ok(());
+        }
+        let answers = would_answer(&self.bag, i, &self.nodes, n)?;
+        if answers {
+            return Err(WorldFault::Full);
+        }
+        Ok(())
+    }
+
+    /// The packet at this place is delivered to its node: a launch that the node obeys begins a container, a `Kill` ends one, and a
+    /// packet may be answered.
+    pub fn hear_node(&mut self, alloc: Global, i: usize, n: u32) -> Result<(), WorldFault>
+        requires { IsTo self.old i (Node n) }
+        ensures { Tries self.old (Deliver i) result self.new }
+    {
+        self.check_hear_node(i, n)?;
+        reserve(&mut self.bag, 1)?;
+        let maps = self.config.maps();
+        let answer = hear(
+            alloc,
+            &self.bag,
+            i,
+            &mut self.nodes,
+            &mut self.living,
+            n,
+            maps,
+        )?;
+        if let Some(envelope) = answer {
+            self.bag.push_reserved(envelope);
+        }
+        Ok(())
+    }
+}
+
+// Whether the node would answer the packet at this place.
+fn would_answer(bag: &Bag, i: usize, nodes: &Nodes, n: u32) -> Result<bool, AllocError>
+    ensures { IfOk result (λ answers. answers ≡ answers_at nodes.now n (slice_get bag.now.packets i)) }
+{
+    match bag.get(i) {
+        Some(envelope) => nodes.would_answer(n, &envelope.body),
+        None => Ok(false),
+    }
+}
+
+// The node hears the packet at this place, and who lives changes with it: the packet that is added. Where memory is refused nothing changes.
+fn hear(
+    alloc: Global,
+    bag: &Bag,
+    i: usize,
+    nodes: &mut Nodes,
+    living: &mut Living,
+    n: u32,
+    maps: u32,
+) -> Result<Option<Envelope>, AllocError>
+    ensures nodes { OnOk result ((e : Envelope) → slice_get bag.now.packets i ≡ Some e → ChangesNode nodes.old n (node_stepped nodes.old n (Hears e.body)) nodes.new) }
+    ensures added { IfOk result (λ added. (e : Envelope) → slice_get bag.now.packets i ≡ Some e → added ≡ added_by (reaction_of (node_of nodes.old n) e.body)) }
+    ensures living { OnOk result ((e : Envelope) → slice_get bag.now.packets i ≡ Some e → Serves living.old nodes.old n maps e.body living.new) }
+    ensures no_node { OnErr result (SameNodes nodes.old nodes.new) }
+    ensures none_lives { OnErr result (Same living.old living.new) }
+{
+    match bag.get(i) {
+        Some(envelope) => hear_packet(alloc, nodes, living, n, maps, &envelope.body),
+        None => Ok(None),
+    }
+}
 
 // The packet that a reaction adds.
 fn added(reaction: Reaction) -> Option<Envelope>

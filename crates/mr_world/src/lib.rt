@@ -10,7 +10,7 @@
 //! - the parts of a new world stand for the opening world (`Parts::new`);
 //! - each event's call refuses it as defined (`Tries`): with the first reason why it is not permitted, else because it would pass a limit,
 //!   else for want of memory; and then the parts stand for what they stood for. Else the event is permitted and passes no limit, and the
-//!   parts stand for the world after it. So it is of a death (`die`), a packet to a container (`hear_container`), and a step of a
+//!   parts stand for the world after it. So it is of a death (`die`), a packet to a container (`hear_container`) or to a node (`hear_node`), and a step of a
 //!   container that is no store call (`send_packet`). Want of memory may also be answered where memory was refused while it was found out whether a limit
 //!   would be passed. The other events do not stand here yet, nor the world that keeps a journal.
 //! - What each event's call does not do by chance: everything that can fail comes before the first change.

@@ -1,8 +1,9 @@
-ghost use Rattle.std.specs.Prelude.{◌≡◌, ℕ, None, Some, IfOk, IfSome, OnOk, OnErr, ◌<◌, nat_lt, if◌then◌else◌};
+ghost use Rattle.std.specs.Prelude.{◌≡◌, ℕ, None, Some, is_some, IfOk, IfSome, OnOk, OnErr, ◌<◌, nat_lt, if◌then◌else◌};
 ghost use Rattle.std.specs.Option.{option_copied};
-ghost use Rattle.mr_node.specs.Readings.{opening};
+ghost use Rattle.mr_node.specs.Readings.{opening, reaction};
 ghost use Rattle.mr_node.specs.Past.{Hears, Restarts, Shelves};
 ghost use Rattle.mr_world.specs.Machines.{node_of, ChangesNode, SameNodes, node_stepped, reaction_of};
+ghost use Rattle.mr_world.specs.Serving.{added_by};
 
 use mr_ids::AttemptId;
 use mr_mapside::MapOutput;
@@ -62,6 +63,17 @@ impl Nodes {
         }
     }
 
+    /// Whether a node would answer a packet with one. Only for a launch it may want memory.
+    #[tactic(auto, unfolding(crate::specs::Machines::node_of))]
+    pub fn would_answer(&self, n: u32, packet: &Packet) -> Result<bool, AllocError>
+        ensures { IfOk result (λ answers. answers ≡ is_some (added_by (reaction_of (node_of self.now n) packet.now))) }
+    {
+        match self.machines.get(n as usize) {
+            Some(machine) => would_answer(machine, packet),
+            None => Ok(false),
+        }
+    }
+
     /// A node, if there is one of this number, begins anew. It takes no memory.
     #[tactic(auto, unfolding(crate::specs::Machines::node_of))]
     pub fn restart(&mut self, n: u32)
@@ -71,5 +83,20 @@ impl Nodes {
         if let Some(machine) = self.machines.get_mut(n as usize) {
             machine.restart();
         }
+    }
+}
+
+// Whether a node would answer a packet with one. It always answers who asks it to kill or to send.
+#[tactic(auto, unfolding(mr_node::specs::Readings::reaction))]
+fn would_answer(machine: &NodeMachine, packet: &Packet) -> Result<bool, AllocError>
+    ensures { IfOk result (λ answers. answers ≡ is_some (added_by (reaction machine.now.number machine.now.seen packet.now))) }
+{
+    match packet {
+        Packet::Kill { .. } | Packet::Fetch { .. } => Ok(true),
+        Packet::Launch { .. } => {
+            let mut copy = machine.copy()?;
+            Ok(matches!(copy.hear(packet)?, Reaction::Adds(_)))
+        }
+        _ => Ok(false),
     }
 }
