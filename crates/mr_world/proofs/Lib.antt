@@ -20,3 +20,4 @@ pub mod Computing
 pub mod Expiring
 pub mod Hearing_masters
 pub mod Hearing_nodes
+pub mod Ending

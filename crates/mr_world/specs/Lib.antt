@@ -10,3 +10,4 @@ pub mod Serving
 pub mod Calling
 pub mod Computing
 pub mod Replying
+pub mod Restarting

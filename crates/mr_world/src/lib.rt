@@ -12,12 +12,14 @@
 //!   else for want of memory; and then the parts stand for what they stood for. Else the event is permitted and passes no limit, and the
 //!   parts stand for the world after it. So it is of a death (`die`), a packet to a container (`hear_container`) or to a node (`hear_node`), and a step of a
 //!   container that is no store call (`send_packet`). Want of memory may also be answered where memory was refused while it was found out whether a limit
+//!   parts stand for the world after it. So it is of a death (`die`), a packet to a container (`hear_container`), a step of a
+//!   container (`step`), bytes that are handed in to one (`compute`), a start and a crash of a master (`start`, `crash`) and a launch (`launch`). Want of memory may also be answered where memory was refused while it was found out whether a limit
 //!   would be passed. The other events do not stand here yet, nor the world that keeps a journal.
 //! - What each event's call does not do by chance: everything that can fail comes before the first change.
 #![tactic(auto)]
 
-mod call;
 mod alive;
+mod call;
 mod compute;
 mod config;
 mod crash;
@@ -29,6 +31,7 @@ mod hear_node;
 mod letters;
 mod hear_master;
 mod launch;
+mod letters;
 mod limits;
 mod living;
 mod masters;
@@ -39,8 +42,8 @@ mod push;
 mod room;
 mod send;
 mod splits;
-mod step;
 mod start;
+mod step;
 
 pub use config::Config;
 pub use fault::WorldFault;

@@ -10,6 +10,7 @@ ghost use Rattle.mr_model.specs.Actors.{is_finished};
 ghost use Rattle.mr_model.specs.Ids.{ContainerId};
 ghost use Rattle.mr_world.specs.Letters.{letters_by, letters_of, is_last};
 ghost use Rattle.mr_world.specs.Living.{kept, Changes, Same, stepped, is_over};
+ghost use Rattle.mr_world.specs.Restarting.{stays, unless_on};
 
 use crate::letters::Letters;
 use mr_container::{ContainerMachine, Reply, Wish};
@@ -90,6 +91,15 @@ impl Living {
         ensures { Changes self.old c.now None self.new }
     {
         self.machines.remove(c);
+    }
+
+    /// The containers that were launched on this node live no longer. It takes no memory.
+    #[tactic(auto, unfolding(crate::specs::Living::kept))]
+    pub fn end_on(&mut self, n: u32)
+        ensures { (d : ContainerId) → kept self.new d ≡ unless_on n (kept self.old d) }
+    {
+        self.machines
+            .retain(|_container, machine| stays(machine, n));
     }
 
     /// The container, if it lives, hears a packet: whether it came to its end. Where memory is refused nothing changes.
@@ -174,4 +184,11 @@ fn is_last(wish: &Wish) -> bool
     ensures { result ≡ is_last wish.now }
 {
     matches!(wish, Wish::Failed)
+}
+
+// Whether the container was launched on another node.
+fn stays(machine: &ContainerMachine, n: u32) -> bool
+    ensures { result ≡ stays n machine.now }
+{
+    machine.place().node != n
 }
