@@ -41,13 +41,14 @@ impl Parts {
 
     /// The packet at this place is delivered to its node: a launch that the node obeys begins a container, a `Kill` ends one, and a
     /// packet may be answered.
-    pub fn hear_node(&mut self, alloc: Global, i: usize, n: u32) -> Result<(), WorldFault>
+    pub fn hear_node(&mut self, i: usize, n: u32) -> Result<(), WorldFault>
         requires { IsTo self.old i (Node n) }
         ensures { Tries self.old (Deliver i) result self.new }
     {
         self.check_hear_node(i, n)?;
         reserve(&mut self.bag, 1)?;
         let maps = self.config.maps();
+        let alloc = self.layout.dest.allocator();
         let answer = hear(
             alloc,
             &self.bag,
