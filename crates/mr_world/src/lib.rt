@@ -10,12 +10,15 @@
 //! - the parts of a new world stand for the opening world (`Parts::new`);
 //! - each event's call refuses it as defined (`Tries`): with the first reason why it is not permitted, else because it would pass a limit,
 //!   else for want of memory; and then the parts stand for what they stood for. Else the event is permitted and passes no limit, and the
-//!   parts stand for the world after it. So it is of a death (`die`), a packet to a container (`hear_container`) or to a node (`hear_node`), and a step of a
-//!   container that is no store call (`send_packet`). Want of memory may also be answered where memory was refused while it was found out whether a limit
-//!   parts stand for the world after it. So it is of a death (`die`), a packet to a container (`hear_container`), a step of a
-//!   container (`step`), bytes that are handed in to one (`compute`), a start and a crash of a master (`start`, `crash`) and a launch (`launch`). Want of memory may also be answered where memory was refused while it was found out whether a limit
-//!   would be passed. The other events do not stand here yet, nor the world that keeps a journal.
-//! - What each event's call does not do by chance: everything that can fail comes before the first change.
+//!   parts stand for the world after it. So it is of a container's death (`die`), its step (`step`, a store call in each weather) and
+//!   bytes that are handed in (`compute`), of a packet to a container, a node or a master (`hear_container`, `hear_node`, `hear_master`),
+//!   and of a master's start, crash, launch and expiry (`start`, `crash`, `launch`, `expire`). A look tells the same beforehand and changes nothing (`Foresees`).
+//!
+//! Want of memory may also be answered where memory was refused while it was found out whether a limit would be passed; never in place of
+//! a reason. Everything that can fail comes before the first change that can't be taken back.
+//!
+//! Not here yet: a master's store call, a node's restart, what is read of a world, and the world that keeps a journal. Nothing of this was
+//! tested: nothing can be called yet.
 #![tactic(auto)]
 
 mod alive;
