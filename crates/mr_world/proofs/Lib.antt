@@ -13,6 +13,7 @@ pub mod Calling
 pub mod Bounds
 pub mod Mastering
 pub mod Stepping
+pub mod Attending
 pub mod Starting
 pub mod Crashing
 pub mod Launching

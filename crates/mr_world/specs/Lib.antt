@@ -11,3 +11,4 @@ pub mod Calling
 pub mod Computing
 pub mod Replying
 pub mod Restarting
+pub mod Duties
