@@ -17,7 +17,9 @@
 //! Want of memory may also be answered where memory was refused while it was found out whether a limit would be passed; never in place of
 //! a reason. Everything that can fail comes before the first change that can't be taken back.
 //!
-//! Not here yet: a master's store call, a node's restart, what is read of a world, and the world that keeps a journal. Nothing of this was
+//! Of a master's store call stands that of a store that is not there (`miss_duty`), and how a master is made ready for an answer and told it.
+//!
+//! Not here yet: a master's store call that is made, a node's restart, what is read of a world, and the world that keeps a journal. Nothing of this was
 //! tested: nothing can be called yet.
 #![tactic(auto)]
 
