@@ -22,3 +22,4 @@ pub mod Expiring
 pub mod Hearing_masters
 pub mod Hearing_nodes
 pub mod Ending
+pub mod Delivering

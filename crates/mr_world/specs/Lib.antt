@@ -12,3 +12,4 @@ pub mod Computing
 pub mod Replying
 pub mod Restarting
 pub mod Duties
+pub mod Addressees

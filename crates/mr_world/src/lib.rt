@@ -28,6 +28,7 @@ mod call;
 mod compute;
 mod config;
 mod crash;
+mod deliver;
 mod die;
 mod expire;
 mod fault;

@@ -1,0 +1,64 @@
+ghost use Rattle.std.specs.Prelude.{◌≡◌, slice_get};
+ghost use Rattle.mr_model.specs.World.{Deliver};
+ghost use Rattle.mr_world.specs.Addressees.{whom};
+ghost use Rattle.mr_world.specs.Standing.{Foresees, Tries};
+
+use crate::fault::WorldFault;
+use crate::parts::Parts;
+use mr_event::Why;
+use mr_packet::{Address, Bag, ContainerId};
+
+/// To whom a packet goes.
+pub enum Addressee {
+    /// There is no packet.
+    Nobody,
+    /// The master of this generation.
+    Master(u32),
+    /// This container.
+    Container(ContainerId),
+    /// The node of this number.
+    Node(u32),
+}
+
+impl Parts {
+    /// Whether the packet at this place of the bag can be delivered now, to whom it goes.
+    pub fn check_deliver(&self, i: usize) -> Result<(), WorldFault>
+        ensures { Foresees self.now (Deliver i) result }
+    {
+        match whom(&self.bag, i) {
+            Addressee::Nobody => Err(WorldFault::NotNow(Why::NoPacket)),
+            Addressee::Container(c) => self.check_hear_container(i, &c),
+            Addressee::Node(n) => self.check_hear_node(i, n),
+            Addressee::Master(k) => {
+                self.check_hear_master(i, k)?;
+                Ok(())
+            }
+        }
+    }
+
+    /// The packet at this place of the bag is delivered, to whom it goes.
+    pub fn deliver(&mut self, i: usize) -> Result<(), WorldFault>
+        ensures { Tries self.old (Deliver i) result self.new }
+    {
+        match whom(&self.bag, i) {
+            Addressee::Nobody => Err(WorldFault::NotNow(Why::NoPacket)),
+            Addressee::Container(c) => self.hear_container(i, &c),
+            Addressee::Node(n) => self.hear_node(i, n),
+            Addressee::Master(k) => self.hear_master(i, k),
+        }
+    }
+}
+
+// To whom the packet at this place goes, if there is one.
+fn whom(bag: &Bag, i: usize) -> Addressee
+    ensures { result ≡ whom (slice_get bag.now.packets i) }
+{
+    let Some(envelope) = bag.get(i) else {
+        return Addressee::Nobody;
+    };
+    match &envelope.to {
+        Address::Master(k) => Addressee::Master(k.number()),
+        Address::Container(c) => Addressee::Container(*c),
+        Address::Node(n) => Addressee::Node(*n),
+    }
+}
