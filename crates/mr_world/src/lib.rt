@@ -11,7 +11,7 @@
 //! - each event's call refuses it as defined (`Tries`): with the first reason why it is not permitted, else because it would pass a limit,
 //!   else for want of memory; and then the parts stand for what they stood for. Else the event is permitted and passes no limit, and the
 //!   parts stand for the world after it. So it is of a container's death (`die`), its step (`step`, a store call in each weather) and
-//!   bytes that are handed in (`compute`), of a packet to a container, a node or a master (`hear_container`, `hear_node`, `hear_master`),
+//!   bytes that are handed in (`compute`), of a packet to whomever it is sent (`deliver`; `hear_container`, `hear_node`, `hear_master`),
 //!   and of a master's start, crash, launch and expiry (`start`, `crash`, `launch`, `expire`). A look tells the same beforehand and changes nothing (`Foresees`).
 //!
 //! Want of memory may also be answered where memory was refused while it was found out whether a limit would be passed; never in place of
