@@ -8,4 +8,5 @@ pub mod Replays
 pub mod Segments
 pub mod Histories
 pub mod Staying
+pub mod Refusals
 pub mod Winners

@@ -20,9 +20,9 @@ with_segment h k s = record h { segments = set h.segments (k - 1) s }
 abbrev pub records_in : List SegmentState → List Record
 records_in segments = flat_map (λ s. records_of s.stable) segments
 
--- the records of a history, over its segments by rising number
+-- the records of a history: those of the segments up to the fence, by rising number. None above it was written to
 abbrev pub records : State → List Record
-records h = records_in h.segments
+records h = records_in (take h.fence h.segments)
 
 -- those of the segments before k
 abbrev pub records_before : State → ℕ → List Record

@@ -1,16 +1,18 @@
 -- Laws of lines, segments and histories, by which the layers above can speak of records alone.
-use Rattle.std.specs.Prelude.{◌≡◌, ◌≢◌, ◌≤◌, ◌<◌, ◌-◌, ℕ, true, false, nat_lt, nat_le, nat_eq, List, [], ◌∷◌, ◌++◌, length, take, replicate, sum_by, Some, None, is_some, if◌then◌else◌}
+use Rattle.std.specs.Prelude.{◌≡◌, ◌≢◌, ◌≤◌, ◌<◌, ◌-◌, ℕ, true, false, nat_lt, nat_le, nat_eq, List, [], ◌∷◌, ◌++◌, length, take, replicate, sum_by, Some, None, is_some, Result, Ok, Err, is_ok, if◌then◌else◌}
 use Rattle.std.specs.List.{AllByRecursion}
 use Rattle.serde_json.specs.Read.{read}
 use Rattle.mr_ids.specs.Attempt.{Attempt}
 use Rattle.mr_ids.specs.declared.id.TaskId.{TaskId}
 use Rattle.mr_history.specs.declared.record.Record.{Record}
+use Rattle.mr_history.specs.declared.fault.HistoryFault.{HistoryFault}
+use Rattle.mr_history.specs.declared.fault.HistoryFault.TheVariants.{NoMemory}
 use Rattle.mr_history.specs.State.{SegmentState, State}
 use Rattle.mr_history.specs.Line.{line_of, version_line, head, text, lines, width, whole_in, suits, IsVersion, IsRecord, IsRecordOf}
 use Rattle.mr_history.specs.Json.{value_of}
 use Rattle.mr_history.specs.Reading.{record_of, records_as, records_of, version_of, torn_of, bad_line, HasNoFeed}
 use Rattle.mr_history.specs.Segment.{fresh, appended, flushed, sealed, IsSound}
-use Rattle.mr_history.specs.Calls.{Call, Append, Flush, Read, segment, with_segment, with_version, sealed_at, raised, call_of, records_in, records_before, AreUnraised}
+use Rattle.mr_history.specs.Calls.{Call, Append, Flush, Read, Done, Makes, MakesAlways, refused, effect, segment, with_segment, with_version, sealed_at, raised, call_of, records_in, records_before, AreUnraised}
 use Rattle.mr_history.specs.Recorded.{recorded, unwritten, added, settled, cut, tail_width}
 use Rattle.mr_history.specs.Winner.{winner_in, length_in}
 
@@ -90,6 +92,17 @@ pub record MadeIn (segments : List SegmentState) (t : TaskId) (a : Attempt) : Ty
 -- The record that made a winner tells a length exactly where its segment is of version 2.
 abbrev pub WinnersHaveLengths : Type 0
 WinnersHaveLengths = (segments : List SegmentState) (t : TaskId) (a : Attempt) → AllByRecursion IsSound segments → winner_in (records_in segments) t ≡ Some a → MadeIn segments t a
+
+-- ---- refusals that are told before
+
+-- A call that has a refusal answers it, and changes nothing; one that has none is made, or memory is wanting and nothing
+-- changes. One that takes no memory is made.
+pub record RefusalsAreHeard : Type 0 where
+  pub refused_call : (old new : State) (k : ℕ) (call : Call) (result : Result (Unit {0}) HistoryFault) (f : HistoryFault) → Makes (λ _. Done) old k call result new → refused old k call ≡ Some f → (result ≡ Err f) × (new ≡ old)
+  pub made : (old new : State) (k : ℕ) (call : Call) (u : Unit {0}) → Makes (λ _. Done) old k call (Ok u) new → new ≡ effect old k call
+  pub wanting : (old new : State) (k : ℕ) (call : Call) (f : HistoryFault) → Makes {A = Unit {0}} (λ _. Done) old k call (Err f) new → refused old k call ≡ None → (f ≡ NoMemory) × (new ≡ old)
+  pub always_refused : (old new : State) (k : ℕ) (call : Call) (result : Result (Unit {0}) HistoryFault) (f : HistoryFault) → MakesAlways (λ _. Done) old k call result new → refused old k call ≡ Some f → (result ≡ Err f) × (new ≡ old)
+  pub always_made : (old new : State) (k : ℕ) (call : Call) (result : Result (Unit {0}) HistoryFault) → MakesAlways (λ _. Done) old k call result new → refused old k call ≡ None → (is_ok result ≡ true) × (new ≡ effect old k call)
 
 -- ---- whole histories
 

@@ -1,8 +1,8 @@
-ghost use Rattle.std.specs.Prelude.{◌≡◌, ◌≤◌, ◌<◌, ◌-◌, ℕ, [], length, replicate, IfOk, IsOkUnless, true, Option, if◌then◌else◌, nat_le, Some, None};
+ghost use Rattle.std.specs.Prelude.{◌≡◌, ◌≤◌, ◌<◌, ◌-◌, ℕ, [], length, replicate, IfOk, IsOkUnless, true, Option, if◌then◌else◌, nat_le, Some, None, take};
 ghost use Rattle.mr_history.specs.Line.{fits, suits, IsVersion};
 ghost use Rattle.mr_history.specs.State.{State};
 ghost use Rattle.mr_history.specs.Segment.{fresh};
-ghost use Rattle.mr_history.specs.Calls.{Append, Flush, Read, Done, Told, Makes, MakesAlways, segment, sealed_at, raised, superseded};
+ghost use Rattle.mr_history.specs.Calls.{Append, Flush, Read, Done, Told, Makes, MakesAlways, segment, sealed_at, raised, superseded, refused, records, records_in};
 
 use crate::fault::HistoryFault;
 use crate::record::{Record, Records};
@@ -119,12 +119,43 @@ impl History {
         self.segments[place(k)].flush()
     }
 
+    /// Why `append` would refuse this record of `k`, memory aside: the first that applies of `Superseded`, `Sealed` and
+    /// `Full`. It takes no memory.
+    pub fn append_refusal(&self, k: AppAttempt, record: &Record) -> Option<HistoryFault>
+        requires { k ≤ self.now.fence }
+        ensures { result ≡ refused self.now k (Append «record».now) }
+    {
+        match self.superseded(k) {
+            None => self.segments[place(k)].append_refusal(record),
+            fault => fault,
+        }
+    }
+
+    /// Why `flush` would be refused for `k`: the first that applies of `Superseded` and `Sealed`. It takes no memory.
+    pub fn flush_refusal(&self, k: AppAttempt) -> Option<HistoryFault>
+        requires { k ≤ self.now.fence }
+        ensures { result ≡ refused self.now k Flush }
+    {
+        match self.superseded(k) {
+            None => self.segments[place(k)].flush_refusal(),
+            fault => fault,
+        }
+    }
+
     /// Seals the segment of `k` alone, with the first `kept` bytes of its tail. A sealed one stays as it is.
     pub fn seal(&mut self, k: AppAttempt, kept: usize)
         requires { k ≤ self.old.fence }
         ensures { self.new ≡ sealed_at k kept self.old }
     {
         self.segments[place(k)].seal(kept);
+    }
+
+    /// The stable bytes of the segment of `k`.
+    pub fn stable(&self, k: AppAttempt) -> &[u8]
+        requires { k ≤ self.now.fence }
+        ensures { result.now ≡ (segment self.now k).stable }
+    {
+        self.segments[place(k)].stable()
     }
 
     /// The length of the tail of the segment of `k`.
@@ -145,8 +176,26 @@ impl History {
         if let Some(fault) = self.superseded(k) {
             return Err(fault);
         }
+        self.first_records(place(k))
+    }
+
+    /// The records of the segments of all application attempts up to the fence, from stable bytes alone. It answers no
+    /// fault but `NoMemory`.
+    pub fn records(&self) -> Result<Records, HistoryFault>
+        ensures told { IfOk result (λ told. told ≡ records self.now) }
+        ensures memory { IsOkUnless result HistoryFault.NoMemory }
+    {
+        self.first_records(self.fence as usize)
+    }
+
+    // The records of so many first segments, from stable bytes alone.
+    fn first_records(&self, count: usize) -> Result<Records, HistoryFault>
+        requires { count ≤ 1000 }
+        ensures told { IfOk result (λ told. told ≡ records_in (take count self.now.segments)) }
+        ensures memory { IsOkUnless result HistoryFault.NoMemory }
+    {
         let mut records = Records::new(self.alloc);
-        for i in 0..place(k) {
+        for i in 0..count {
             let more = self.segments[i].records()?;
             records.extend(more.as_slice())?;
         }

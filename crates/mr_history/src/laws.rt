@@ -1,5 +1,5 @@
 //! Laws of lines, segments and histories, for the layers above: these functions do nothing.
-ghost use Rattle.mr_history.specs.Laws.{LinesReadBack, LinesReplay, FrontsReplay, SegmentsRecord, SegmentsStaySound, OthersStay, WinnersStay, WinnersHaveLengths, HistoriesStay, StableStays};
+ghost use Rattle.mr_history.specs.Laws.{LinesReadBack, LinesReplay, FrontsReplay, SegmentsRecord, SegmentsStaySound, OthersStay, WinnersStay, WinnersHaveLengths, RefusalsAreHeard, HistoriesStay, StableStays};
 
 /// A line is read back as its record, and nothing else is read as a record.
 pub fn lines_read_back()
@@ -39,6 +39,11 @@ pub fn winners_stay()
 /// The record that made a winner tells a length exactly where its segment is of version 2.
 pub fn winners_have_lengths()
     ensures { WinnersHaveLengths }
+{}
+
+/// A call that has a refusal answers it and changes nothing; one that has none is made, want of memory aside.
+pub fn refusals_are_heard()
+    ensures { RefusalsAreHeard }
 {}
 
 /// Each change leaves a history of a thousand sound segments, sealed below the fence and unwritten above it.

@@ -39,6 +39,10 @@
 //!   `Superseded` below the fence, then the segment's refusals. `raise` seals every older segment and no other and
 //!   gives its own segment its version, `seal` one alone, `tail` is the length of a tail. `raise`, `seal`, `flush`
 //!   and `tail` take no memory: a flush or a seal moves a mark over bytes that `append` stored.
+//! - `History::append_refusal` and `flush_refusal` tell without memory why the call would be refused: exactly the word
+//!   by which `append` and `flush` are refused (`refused`). The law is `refusals_are_heard`: a call that has a refusal
+//!   answers it and changes nothing, and one that has none is made, or answers `NoMemory` and changes nothing.
+//! - `History::records` gives the records of all segments up to the fence, `stable` the stable bytes of one.
 //! - `History::read` gives the records of all segments before the caller's, from stable bytes alone, and never
 //!   answers `BadLine`: each segment keeps as an invariant that its bytes are those of records that its version can
 //!   tell, the version line before them in version 2, and that only a seal leaves a torn end (also one within the
@@ -66,7 +70,7 @@
 //! of the kind that the record speaks of, the incarnation is not 0, a length is at most 2^24; all other ranges are
 //! those of the types), that a reduce's length is there where the segment is of version 2 (`Record::suits`, with
 //! `Segment::version`, `History::version`), `Segment::new` and `History::raise` that a version is 1 or 2, and
-//! `append`, `flush`, `seal`, `tail`, `read` that the application attempt is not above the fence
+//! `append`, `flush`, `append_refusal`, `flush_refusal`, `seal`, `stable`, `tail`, `read` that the application attempt is not above the fence
 //! (`History::is_raised`).
 #![tactic(auto)]
 
@@ -81,8 +85,8 @@ mod segment;
 pub use fault::HistoryFault;
 pub use history::{History, MAX_APP_ATTEMPTS};
 pub use laws::{
-    fronts_replay, histories_stay, lines_read_back, lines_replay, others_stay, segments_record,
-    segments_stay_sound, stable_stays, winners_have_lengths, winners_stay,
+    fronts_replay, histories_stay, lines_read_back, lines_replay, others_stay, refusals_are_heard,
+    segments_record, segments_stay_sound, stable_stays, winners_have_lengths, winners_stay,
 };
 pub use reading::{Replayed, replay};
 pub use record::{MAX_PART_LEN, Record, Records};

@@ -79,6 +79,25 @@ impl Segment {
         Ok(())
     }
 
+    /// Why `append` would refuse this record, memory aside: the first that applies of `Sealed` and `Full`. It takes no
+    /// memory.
+    pub fn append_refusal(&self, record: &Record) -> Option<HistoryFault>
+        ensures { result ≡ append_refusal «record».now self.now }
+    {
+        self.append_refused(&record.as_written(self.version))
+    }
+
+    /// Why `flush` would be refused: `Sealed`, or not at all. It takes no memory.
+    pub fn flush_refusal(&self) -> Option<HistoryFault>
+        ensures { result ≡ flush_refusal self.now }
+    {
+        if self.sealed {
+            Some(HistoryFault::Sealed)
+        } else {
+            None
+        }
+    }
+
     // Why the bytes of a record, as this segment tells it, are refused.
     fn append_refused(&self, record: &Record) -> Option<HistoryFault>
         ensures refusal { result ≡ growth_refusal (width «record».now) self.now }

@@ -95,6 +95,14 @@ fn records_before(rt: &impl Abort, history: &History, k: AppAttempt) -> Records 
     }
 }
 
+// Why an append and a flush would be refused, which are at one here.
+fn foreseen(rt: &impl Abort, history: &History, k: AppAttempt) -> Option<HistoryFault> {
+    assert!(rt; history.is_raised(k));
+    let refusal = history.append_refusal(k, &Record::JobUnsuccessful);
+    assert!(rt; history.flush_refusal(k) == refusal);
+    refusal
+}
+
 fn tail(rt: &impl Abort, history: &History, k: AppAttempt) -> usize {
     assert!(rt; history.is_raised(k));
     history.tail(k)
@@ -158,6 +166,7 @@ fn segment_seal(rt: HostRuntime) {
         );
         assert!(rt; add(&rt, &mut segment, started(&rt)) == Some(HistoryFault::Sealed));
         assert!(rt; done(&rt, segment.flush()) == Some(HistoryFault::Sealed));
+        assert!(rt; segment.flush_refusal() == Some(HistoryFault::Sealed));
         segment.seal(0);
         let again = replayed(&rt, alloc, segment.stable());
         assert!(rt;
@@ -212,6 +221,28 @@ fn history_segments(rt: HostRuntime) {
     assert!(rt; history.is_raised(one));
     let below = history.flush(one);
     assert!(rt; done(&rt, below) == Some(HistoryFault::Superseded(4)));
+}
+
+// The refusals are told before the calls are made, and the records of all segments are read.
+#[test]
+fn history_refusals(rt: HostRuntime) {
+    let alloc = rt.alloc();
+    let (one, two) = (generation(&rt, 1), generation(&rt, 2));
+    let mut history = answered(&rt, History::new(alloc)).expect(&rt, "a fault");
+    history.raise(one, 0, 1);
+    assert!(rt; foreseen(&rt, &history, one).is_none());
+    assert!(rt; write(&rt, &mut history, one, started(&rt)).is_none());
+    history.raise(two, 200, 1);
+    assert!(rt; foreseen(&rt, &history, one) == Some(HistoryFault::Superseded(2)));
+    assert!(rt; write(&rt, &mut history, two, reduced(&rt)).is_none());
+    assert!(rt; foreseen(&rt, &history, two).is_none());
+    assert!(rt; history.is_raised(two));
+    history.seal(two, 200);
+    assert!(rt; foreseen(&rt, &history, two) == Some(HistoryFault::Sealed));
+    assert!(rt; history.is_raised(two));
+    assert!(rt; history.stable(two) == REDUCED.as_bytes());
+    let all = answered(&rt, history.records()).expect(&rt, "a fault");
+    assert!(rt; all.as_slice() == [started(&rt), reduced(&rt)].as_slice());
 }
 
 #[test]
@@ -273,6 +304,7 @@ fn full_segment(rt: HostRuntime) {
     for _ in 0..246723 {
         assert!(rt; add(&rt, &mut segment, record).is_none());
     }
+    assert!(rt; segment.append_refusal(&record) == Some(HistoryFault::Full));
     assert!(rt; add(&rt, &mut segment, record) == Some(HistoryFault::Full));
     assert!(rt; add(&rt, &mut segment, Record::JobUnsuccessful).is_none());
     assert!(rt; add(&rt, &mut segment, Record::JobUnsuccessful).is_none());
