@@ -1,7 +1,8 @@
 -- Which call is due, by what comes first.
-use Rattle.std.proofs.Common.{ℕ, ◌+◌, ◌<◌, ◌≡◌, refl, sym, ap, ◌∙◌, Bool, true, false, List, [], ◌∷◌, ◌++◌, Option, Some, None, take, get_or, length, cond, if◌then◌else◌, true≢false}
+use Rattle.std.proofs.Common.{ℕ, ◌+◌, ◌<◌, ◌≡◌, refl, sym, ap, ◌∙◌, Result, Ok, Err, Bool, true, false, List, [], ◌∷◌, ◌++◌, Option, Some, None, take, get_or, length, cond, if◌then◌else◌, true≢false}
 use Rattle.std.specs.List.{find}
-use Rattle.std.specs.Option.{option_map, option_or}
+use Rattle.std.specs.Result.{OnErr}
+use Rattle.std.specs.Option.{is_some, option_map, option_or}
 use Rattle.std.proofs.lemmas.List.{take_more}
 use Rattle.std.proofs.lemmas.List.Folds.{find-append}
 use Rattle.mr_ids.specs.Attempt.{Attempt}
@@ -47,6 +48,18 @@ unfolding duty_at
 runs-start w s b o e q r t =
     t ∙ ap (λ c. if c then creates name.Started started_mark else None) r
     ∙ ap (λ x. or_else x (start_duty w s)) q ∙ ap (λ x. or_else (barred x) (or_else (record_duty s.due s.tail) (start_duty w s))) e
+
+-- ---- where memory is wanted for it, a call is due
+
+pub on-err : {T E P : Type 0} (r : Result T E) → P → OnErr r P
+on-err (Ok x) p = tt
+on-err (Err e) p = p
+
+pub runs-due : (w : Setting) (s : Seen) → None ≡ find (is_live w s) s.bars → None ≡ record_duty s.due s.tail → true ≡ all_succeeded w s (all_reduces w) → true ≡ is_some (duty_at w s Runs)
+runs-due w s e q r = ap (λ (o : Option Duty). is_some o) (runs-start w s true (creates name.Started started_mark) e q r refl)
+
+pub fails-due : (w : Setting) (s : Seen) (b : Bool) → None ≡ record_duty s.due s.tail → b ≡ true → true ≡ is_some (duty_at w s (Fails b))
+fails-due w s b e q = ap (λ (o : Option Duty). is_some o) (fails-next w s b (abort_duty w) e (sym (ap (λ c. if c then abort_duty w else None) q)))
 
 -- ---- by the work
 

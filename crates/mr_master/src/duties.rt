@@ -1,5 +1,6 @@
 //! The next store call of a master.
-ghost use Rattle.std.specs.Prelude.{◌≡◌, true, Some, None, IfOk, if◌then◌else◌};
+ghost use Rattle.std.specs.Prelude.{◌≡◌, true, Some, None, IfOk, OnErr, if◌then◌else◌};
+ghost use Rattle.std.specs.Option.{is_some};
 ghost use Rattle.std.specs.List.{find};
 ghost use Rattle.mr_master_model.specs.Past.{Runs, Fails};
 ghost use Rattle.mr_master_model.specs.Readings.{is_live, or_else};
@@ -20,7 +21,8 @@ use std::alloc::AllocError;
 impl Machine {
     // The next store call, if there is one to make.
     pub fn duty(&self) -> Result<Option<Duty>, AllocError>
-        ensures { IfOk result (λ due. Reads self.now (λ w s. duty w s) due) }
+        ensures due { IfOk result (λ due. Reads self.now (λ w s. duty w s) due) }
+        ensures due_on_memory { OnErr result (Reads self.now (λ w s. is_some (duty w s)) true) }
     {
         if self.work.is_running() {
             let due = self.running_duty()?;
@@ -35,7 +37,8 @@ impl Machine {
     }
 
     fn running_duty(&self) -> Result<Option<Duty>, AllocError>
-        ensures { IfOk result (λ due. Reads self.now (λ w s. duty_at w s Runs) due) }
+        ensures due { IfOk result (λ due. Reads self.now (λ w s. duty_at w s Runs) due) }
+        ensures due_on_memory { OnErr result (Reads self.now (λ w s. is_some (duty_at w s Runs)) true) }
     {
         if let Some(attempt) = self.first_bar() {
             return Ok(Some(Duty::new(DutyName::Bar, StoreCall::Names(Op::Bar(attempt)))));
@@ -51,7 +54,8 @@ impl Machine {
     }
 
     fn failing_duty(&self, is_stable: bool) -> Result<Option<Duty>, AllocError>
-        ensures { IfOk result (λ due. Reads self.now (λ w s. duty_at w s (Fails is_stable)) due) }
+        ensures due { IfOk result (λ due. Reads self.now (λ w s. duty_at w s (Fails is_stable)) due) }
+        ensures due_on_memory { OnErr result (Reads self.now (λ w s. is_some (duty_at w s (Fails is_stable))) true) }
     {
         if let Some(due) = self.writing.duty() {
             return Ok(Some(due));

@@ -1,6 +1,6 @@
 //! What a master's next store call is for, and the call.
-ghost use Rattle.std.specs.Prelude.{◌≡◌, Some, None, IfOk};
-ghost use Rattle.std.specs.Option.{option_map, option_copied};
+ghost use Rattle.std.specs.Prelude.{◌≡◌, true, Some, None, IfOk, OnErr};
+ghost use Rattle.std.specs.Option.{is_some, option_map, option_copied};
 ghost use Rattle.mr_names.specs.declared.op.Op.TheVariants as op;
 ghost use Rattle.mr_master_model.specs.Duty.{looks, creates};
 
@@ -50,7 +50,8 @@ impl Duty {
 
 // The call of the line that is next, if there is one.
 pub fn of_line(name: DutyName, op: Option<&Op>) -> Result<Option<Duty>, AllocError>
-    ensures { IfOk result (λ due. due ≡ option_map (λ o. record { name = name; call = StoreCall.Names o }) (option_copied op.entry)) }
+    ensures due { IfOk result (λ due. due ≡ option_map (λ o. record { name = name; call = StoreCall.Names o }) (option_copied op.entry)) }
+    ensures due_on_memory { OnErr result (is_some (option_copied op.entry) ≡ true) }
 {
     match op {
         None => Ok(None),

@@ -17,7 +17,7 @@
 //!
 //! - Each machine stands for some past (`stands`), a new one for the empty past (`new`).
 //! - `duty` is exactly the store call that is due, with what it is for; `phase` is the phase; `wanted` is the task that is launched
-//!   next. They change nothing, and `phase` and `wanted` take no memory.
+//!   next. They change nothing, and `phase` and `wanted` take no memory. Where `duty` is refused memory, a call is due.
 //! - `hear_packets` gives exactly the packets that are sent for a packet. After `hear` with these the machine stands for what it stood
 //!   for and this packet; where memory is refused, for what it stood for.
 //! - `ready` makes ready for an answer: what it lends is exactly the packets that are sent for it, and the master stands for what it stood

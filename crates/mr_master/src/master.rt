@@ -1,4 +1,5 @@
-ghost use Rattle.std.specs.Prelude.{◌≡◌, [], ◌∷◌, None, IfOk, IfErr, OnOk, OnErr, unwrap_or};
+ghost use Rattle.std.specs.Prelude.{◌≡◌, true, [], ◌∷◌, None, IfOk, IfErr, OnOk, OnErr, unwrap_or};
+ghost use Rattle.std.specs.Option.{is_some};
 ghost use Rattle.mr_master.specs.State.{StandsFor, StandsForSome, Stands, StandsStill, Answers};
 ghost use Rattle.mr_master_model.specs.Duty.{duty};
 ghost use Rattle.mr_master_model.specs.Past.{Launches, Hears, Expires, Answered, phase_of};
@@ -60,9 +61,10 @@ impl MasterMachine {
 
 impl MasterMachine {
     /// The next store call, and what it is for: the first that applies by the table of phases. Without one: there is nothing to do
-    /// until something is heard or launched, or the master is Ended or Stopped. Where memory is refused: an error.
+    /// until something is heard or launched, or the master is Ended or Stopped. Where memory is refused: an error, and then a call is due.
     pub fn duty(&self) -> Result<Option<Duty>, AllocError>
-        ensures { IfOk result (λ due. Answers self.now (λ w past. duty w (seen w past)) due) }
+        ensures due { IfOk result (λ due. Answers self.now (λ w past. duty w (seen w past)) due) }
+        ensures due_on_memory { OnErr result (Answers self.now (λ w past. is_some (duty w (seen w past))) true) }
     {
         let due = self.machine.duty()?;
         Ok(due)

@@ -1,5 +1,6 @@
 //! What the master is at in its phase, with what is left of a committer's table.
 ghost use Rattle.std.specs.Prelude.{◌≡◌, true, false, Some, None, Err, IfOk, OnOk, OnErr, [], if◌then◌else◌};
+ghost use Rattle.std.specs.Option.{is_some};
 ghost use Rattle.mr_master_model.specs.Past.{Work, LooksForSuccess, SetsUp, Runs, CommitsJob, Fails, Ends, Stops, phase_of};
 ghost use Rattle.mr_master_model.specs.Readings.{Seen, is_running, is_over};
 ghost use Rattle.mr_master_model.specs.Duty.{duty_at, does, commit_name, abort_duty};
@@ -7,7 +8,7 @@ ghost use Rattle.mr_master.specs.Kinds.{is_own, fails_as, is_read, is_look, look
 ghost use Rattle.mr_master.specs.Work.{is_left};
 ghost use Rattle.mr_master.specs.Taking.{winner_of};
 ghost use Rattle.mr_master.specs.Heard.{heard_as, has_finished};
-ghost use Rattle.mr_commit.specs.Steps.{heard};
+ghost use Rattle.mr_commit.specs.Steps.{next_call, heard};
 ghost use Rattle.mr_commit.specs.Recovery.{Left, recover_task};
 ghost use Rattle.mr_master_model.specs.Answered.{work_after, heard_by, takes_over};
 ghost use Rattle.mr_master_model.specs.declared.setting.Setting.{Setting};
@@ -216,7 +217,8 @@ impl Work {
     // The next call, for all that is told by the work alone.
     #[tactic(auto, unfolding(mr_master_model::specs::Duty::duty_at))]
     pub fn duty(&self, setting: &Setting) -> Result<Option<Duty>, AllocError>
-        ensures { IfOk result (λ due. (s : Seen) → is_own self.now ≡ true → due ≡ duty_at setting.now s self.now) }
+        ensures due { IfOk result (λ due. (s : Seen) → is_own self.now ≡ true → due ≡ duty_at setting.now s self.now) }
+        ensures due_on_memory { OnErr result ((s : Seen) → is_own self.now ≡ true → is_some (duty_at setting.now s self.now) ≡ true) }
     {
         let alloc = setting.layout.dest.allocator();
         match &self.at {
@@ -279,7 +281,8 @@ fn copied(alloc: Global, winners: &VecDeque<TaskWinner>) -> Result<VecDeque<Task
 
 // The call of the line of the job commit that is next.
 fn commit_duty(step: &CommitJob) -> Result<Option<Duty>, AllocError>
-    ensures { IfOk result (λ due. due ≡ does (commit_name step.now) step.now) }
+    ensures due { IfOk result (λ due. due ≡ does (commit_name step.now) step.now) }
+    ensures due_on_memory { OnErr result (is_some (next_call step.now) ≡ true) }
 {
     of_line(commit_name(step), step.call())
 }
