@@ -1,7 +1,8 @@
 use mr_task::TaskFault;
 use thiserror::Error;
 
-/// Why an event is not taken now: the first reason that applies. Each prints as its variant, `Task` as what it holds.
+/// Why an event is not taken now: the first reason that applies. Each prints as its variant, `Task` with what it
+/// holds behind it, as `Task AlreadyWon`.
 #[derive(Clone, Copy, Debug, PartialEq, Eq, Error)]
 pub enum Why {
     /// A master starts as the next generation only.
@@ -41,6 +42,6 @@ pub enum Why {
     #[error("NotBlocks")]
     NotBlocks,
     /// The task has no attempt to launch: AlreadyWon, TooManyLive or TooManyAttempts.
-    #[error("{0}")]
+    #[error("Task {0}")]
     Task(TaskFault),
 }
