@@ -37,7 +37,8 @@ impl Parts {
 
     /// Bytes are handed in to the container. Those of a map lie on its node's shelf from then on.
     pub fn compute(&mut self, c: &ContainerId, bytes: Bytes) -> Result<(), WorldFault>
-        ensures { Tries self.old (Compute c.now bytes) result self.new }
+        ensures tries { Tries self.old (Compute c.now bytes) result self.new }
+        ensures config { self.new.config ≡ self.old.config }
     {
         let place = self.check_compute(c, &bytes)?;
         match place.attempt.task().kind {

@@ -22,7 +22,8 @@ impl Parts {
 
     /// The master of this generation crashes: of what it has not flushed so many bytes stay, and its segment is sealed.
     pub fn crash(&mut self, k: u32, kept: u64) -> Result<(), WorldFault>
-        ensures { Tries self.old (Crash k kept) result self.new }
+        ensures tries { Tries self.old (Crash k kept) result self.new }
+        ensures config { self.new.config ≡ self.old.config }
     {
         let app = self.check_crash(k, kept)?;
         self.masters.cease(k);

@@ -38,7 +38,8 @@ impl Parts {
 
     /// The packet at this place of the bag is delivered, to whom it goes.
     pub fn deliver(&mut self, i: usize) -> Result<(), WorldFault>
-        ensures { Tries self.old (Deliver i) result self.new }
+        ensures tries { Tries self.old (Deliver i) result self.new }
+        ensures config { self.new.config ≡ self.old.config }
     {
         match whom(&self.bag, i) {
             Addressee::Nobody => Err(WorldFault::NotNow(Why::NoPacket)),

@@ -23,7 +23,8 @@ impl Parts {
 
     /// A container dies, and its master is told that it ended.
     pub fn die(&mut self, c: &ContainerId) -> Result<(), WorldFault>
-        ensures { Tries self.old (Die c.now) result self.new }
+        ensures tries { Tries self.old (Die c.now) result self.new }
+        ensures config { self.new.config ≡ self.old.config }
     {
         self.check_die(c)?;
         reserve(&mut self.bag, 1)?;

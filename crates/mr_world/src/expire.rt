@@ -37,7 +37,8 @@ impl Parts {
 
     /// The master of this generation gives the node up, and kills what it launched of maps there.
     pub fn expire(&mut self, k: u32, node: u32) -> Result<(), WorldFault>
-        ensures { Tries self.old (Expire k node) result self.new }
+        ensures tries { Tries self.old (Expire k node) result self.new }
+        ensures config { self.new.config ≡ self.old.config }
     {
         let packets = self.check_expire(k, node)?;
         reserve(&mut self.bag, packets.len())?;

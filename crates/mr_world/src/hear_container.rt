@@ -39,7 +39,8 @@ impl Parts {
     /// The packet at this place is delivered to its container, which may come to its end by it; then its master is told so.
     pub fn hear_container(&mut self, i: usize, c: &ContainerId) -> Result<(), WorldFault>
         requires { IsTo self.old i (Container c.now) }
-        ensures { Tries self.old (Deliver i) result self.new }
+        ensures tries { Tries self.old (Deliver i) result self.new }
+        ensures config { self.new.config ≡ self.old.config }
     {
         self.check_hear_container(i, c)?;
         reserve(&mut self.bag, 1)?;

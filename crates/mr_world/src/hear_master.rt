@@ -40,7 +40,8 @@ impl Parts {
     /// The packet at this place is delivered to its master, which answers.
     pub fn hear_master(&mut self, i: usize, k: u32) -> Result<(), WorldFault>
         requires { IsTo self.old i (Master k) }
-        ensures { Tries self.old (Deliver i) result self.new }
+        ensures tries { Tries self.old (Deliver i) result self.new }
+        ensures config { self.new.config ≡ self.old.config }
     {
         let packets = self.check_hear_master(i, k)?;
         reserve(&mut self.bag, packets.len())?;

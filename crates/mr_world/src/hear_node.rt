@@ -43,7 +43,8 @@ impl Parts {
     /// packet may be answered.
     pub fn hear_node(&mut self, i: usize, n: u32) -> Result<(), WorldFault>
         requires { IsTo self.old i (Node n) }
-        ensures { Tries self.old (Deliver i) result self.new }
+        ensures tries { Tries self.old (Deliver i) result self.new }
+        ensures config { self.new.config ≡ self.old.config }
     {
         self.check_hear_node(i, n)?;
         reserve(&mut self.bag, 1)?;

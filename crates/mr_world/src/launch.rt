@@ -35,7 +35,8 @@ impl Parts {
 
     /// The master of this generation launches the next attempt at the task on the node, which is told so.
     pub fn launch(&mut self, k: u32, task: TaskId, node: u32) -> Result<(), WorldFault>
-        ensures { Tries self.old (LaunchOn k task node) result self.new }
+        ensures tries { Tries self.old (LaunchOn k task node) result self.new }
+        ensures config { self.new.config ≡ self.old.config }
     {
         self.check_launch(k, task, node)?;
         reserve(&mut self.bag, 1)?;

@@ -28,7 +28,8 @@ impl Parts {
     /// The container takes its next step, which is permitted and no store call: it sends the packet that it wishes to send, if it wishes to.
     pub fn send_packet(&mut self, c: &ContainerId, fault: Weather) -> Result<(), WorldFault>
         requires { IsAlone self.old c.now fault }
-        ensures { Tries self.old (ContainerStep c.now fault) result self.new }
+        ensures tries { Tries self.old (ContainerStep c.now fault) result self.new }
+        ensures config { self.new.config ≡ self.old.config }
     {
         match self.check_send(c, fault)? {
             Letters::Nothing => Ok(()),

@@ -31,7 +31,8 @@ impl Parts {
 
     /// The master of the next generation starts: both stores hear no older one from then on.
     pub fn start(&mut self, k: u32, kept: u64) -> Result<(), WorldFault>
-        ensures { Tries self.old (Start k kept) result self.new }
+        ensures tries { Tries self.old (Start k kept) result self.new }
+        ensures config { self.new.config ≡ self.old.config }
     {
         let app = self.check_start(k, kept)?;
         let setting = setting(&self.config, &self.layout, app)?;

@@ -1,3 +1,4 @@
+ghost use Rattle.std.specs.Prelude.{◌≡◌};
 ghost use Rattle.mr_model.specs.World.{ContainerStep};
 ghost use Rattle.mr_world.specs.Standing.{Foresees, Tries};
 
@@ -22,7 +23,8 @@ impl Parts {
 
     /// The container takes its next step: it makes a store call and hears the answer, or sends a packet, or nothing happens.
     pub fn step(&mut self, c: &ContainerId, fault: Weather) -> Result<(), WorldFault>
-        ensures { Tries self.old (ContainerStep c.now fault) result self.new }
+        ensures tries { Tries self.old (ContainerStep c.now fault) result self.new }
+        ensures config { self.new.config ≡ self.old.config }
     {
         match self.foresee_call(c, fault)? {
             Some(call) => {

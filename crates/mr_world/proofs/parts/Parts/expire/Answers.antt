@@ -7,15 +7,15 @@ use Rattle.mr_world.proofs.parts.Parts.expire.Goals as goal
 pub put-requires : goal.put-requires
 put-requires c = let n = counted c.args.self.now.masters c.args.k c.in_ok-packets.ensures.alive in record { started = (n.0, omega (arith, n.1, c.take.ensures.left.count)) }
 
-pub returns-in_default : goal.returns-in_default
-returns-in_default c = missing _ c.in_ok-packets.ensures.alive c.in_default.ensures.taken
+pub returns-in_default-clause-tries : goal.returns-in_default-clause-tries
+returns-in_default-clause-tries c = missing _ c.in_ok-packets.ensures.alive c.in_default.ensures.taken
 
-pub returns-in-Err : goal.returns-in-Err
-returns-in-Err c = not-expired c.args.self.now c.args.k c.args.node c.take.new.self c.put.new.self c.reserve.new.bag c.in-Some.machine c.expire-expired.new.self
+pub returns-in-Err-clause-tries : goal.returns-in-Err-clause-tries
+returns-in-Err-clause-tries c = not-expired c.args.self.now c.args.k c.args.node c.take.new.self c.put.new.self c.reserve.new.bag c.in-Some.machine c.expire-expired.new.self
     c.in_ok-packets.ensures.foresees c.in-Some.ensures.taken c.take.ensures.left c.put.ensures (err-part _ _ c.in-Err.is c.expire-expired.ensures.unchanged) c.reserve.ensures.kept
 
-pub returns : goal.returns
-returns c = λ w s. let t = c.in_ok-packets.ensures.foresees w s in (
+pub returns-clause-tries : goal.returns-clause-tries
+returns-clause-tries c = λ w s. let t = c.in_ok-packets.ensures.foresees w s in (
   t,
   expired c.args.self.now w c.args.k c.args.node c.take.new.self c.put.new.self c.push_all.new.bag c.in-Some.machine c.expire-expired.new.self c.in_ok-packets.packets.items s t
       c.in-Some.ensures.taken c.take.ensures.left c.put.ensures (ok-part _ _ c.in-Ok.is c.expire-expired.ensures.stands) (c.in_ok-packets.ensures.sent c.in-Some.machine (sym c.in-Some.ensures.taken))

@@ -9,12 +9,12 @@ use Rattle.mr_world.proofs.Starting.{stands}
 use Rattle.mr_world.proofs.Mastering.{stood, masters-stay}
 use Rattle.mr_world.proofs.parts.Parts.start.Goals as goal
 
-pub returns-in_err-begin : goal.returns-in_err-begin
-returns-in_err-begin c = memory-tried c.args.self.now _ (Start c.args.k c.args.kept) c.from_residual-in_err-begin.result c.in_ok-app.ensures.foresees
+pub returns-in_err-begin-clause-tries : goal.returns-in_err-begin-clause-tries
+returns-in_err-begin-clause-tries c = memory-tried c.args.self.now _ (Start c.args.k c.args.kept) c.from_residual-in_err-begin.result c.in_ok-app.ensures.foresees
     (λ w s. stood c.args.self.now w c.begin.new.self s (masters-stay c.in_err-begin.ensures.err s.masters)) c.from_residual-in_err-begin.ensures.1
 
-pub returns : goal.returns
-returns c = λ w s. let t = c.in_ok-app.ensures.foresees w s in let is = c.in_ok-app.ensures.is in (
+pub returns-clause-tries : goal.returns-clause-tries
+returns-clause-tries c = λ w s. let t = c.in_ok-app.ensures.foresees w s in let is = c.in_ok-app.ensures.is in (
   t,
   stands c.args.self.now w c.args.k c.args.kept c.raise.new.self c.raise-2.new.self c.begin.new.self c.in_ok-setting.setting c.in_ok-machine.machine s t
       (c.in_ok-setting.ensures ∙ ap (λ k. record (setting c.args.self.now.config k) { layout = c.args.self.now.layout }) is) c.in_ok-machine.ensures c.in_ok-begin.ensures.ok

@@ -4,8 +4,8 @@ use Rattle.mr_world.specs.declared.call.StoreCall.{StoreCall}
 use Rattle.mr_world.proofs.Calling.{alone, call-stands}
 use Rattle.mr_world.proofs.parts.Parts.step.Goals as goal
 
-pub returns-in_ok-call_store-in-Some : goal.returns-in_ok-call_store-in-Some
-returns-in_ok-call_store-in-Some c = call-stands c.args.self.now c.call_store.new.self c.args.c.now c.args.fault c.in-Some.call c.in_ok-call.ensures.lives
+pub returns-in_ok-call_store-in-Some-clause-tries : goal.returns-in_ok-call_store-in-Some-clause-tries
+returns-in_ok-call_store-in-Some-clause-tries c = call-stands c.args.self.now c.call_store.new.self c.args.c.now c.args.fault c.in-Some.call c.in_ok-call.ensures.lives
     (subst (λ (o : Option StoreCall). ForeseesCall c.args.self.now c.args.c.now c.args.fault (Ok o)) c.in-Some.is c.in_ok-call.ensures.foresees) c.in_ok-call_store-in-Some.ensures.ok
 
 pub send_packet-requires : goal.send_packet-requires
