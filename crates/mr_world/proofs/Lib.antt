@@ -23,3 +23,4 @@ pub mod Hearing_masters
 pub mod Hearing_nodes
 pub mod Ending
 pub mod Delivering
+pub mod Restarting

@@ -12,14 +12,15 @@
 //!   else for want of memory; and then the parts stand for what they stood for. Else the event is permitted and passes no limit, and the
 //!   parts stand for the world after it. So it is of a container's death (`die`), its step (`step`, a store call in each weather) and
 //!   bytes that are handed in (`compute`), of a packet to whomever it is sent (`deliver`; `hear_container`, `hear_node`, `hear_master`),
-//!   and of a master's start, crash, launch and expiry (`start`, `crash`, `launch`, `expire`). A look tells the same beforehand and changes nothing (`Foresees`).
+//!   of a node's restart (`restart`), and of a master's start, crash, launch and expiry (`start`, `crash`, `launch`, `expire`). A look tells the same
+//!   beforehand and changes nothing (`Foresees`).
 //!
 //! Want of memory may also be answered where memory was refused while it was found out whether a limit would be passed; never in place of
 //! a reason. Everything that can fail comes before the first change that can't be taken back.
 //!
 //! Of a master's store call stands that of a store that is not there (`miss_duty`), and how a master is made ready for an answer and told it.
 //!
-//! Not here yet: a master's store call that is made, a node's restart, what is read of a world, and the world that keeps a journal. Nothing of this was
+//! Not here yet: a master's store call that is made, what is read of a world, and the world that keeps a journal. Nothing of this was
 //! tested: nothing can be called yet.
 #![tactic(auto)]
 
@@ -46,6 +47,7 @@ mod opening;
 mod parts;
 mod push;
 mod ready;
+mod restart;
 mod room;
 mod send;
 mod splits;

@@ -1,7 +1,5 @@
 use Rattle.std.proofs.Common.{rules, refl, ◌≡◌}
 use Rattle.std.proofs.lemmas.Map.Entries.{filter_from_retain_pairs}
-use Rattle.mr_container.specs.State.{Container}
-use Rattle.mr_model.specs.Ids.{ContainerId}
 use Rattle.mr_world.specs.Living.{kept}
 use Rattle.mr_world.specs.Restarting.{stays}
 use Rattle.mr_world.proofs.Ending.{ended_on}

@@ -1,0 +1,32 @@
+use Rattle.std.proofs.Common.{◌≡◌, sym, ap, subst, length, is_some, IsErrAnd, arith, rules}
+use Rattle.mr_model.specs.World.{NodeRestart}
+use Rattle.mr_world.proofs.Refusals.{memory-foreseen, full-foreseen, taken-by}
+use Rattle.mr_world.proofs.Restarting.{absent, last, present, needs, told, told-by}
+use Rattle.mr_world.proofs.parts.Parts.restart_packets.Goals as goal
+
+pub returns-in_default-clause-foresees : goal.returns-in_default-clause-foresees
+returns-in_default-clause-foresees c = absent c.args.self.now c.args.n (ap is_some (sym c.in_default.ensures))
+
+pub returns-then-incarnation-clause-foresees : goal.returns-then-incarnation-clause-foresees
+returns-then-incarnation-clause-foresees c = last c.args.self.now c.args.n c.in-Some.machine.now (sym c.in-Some.ensures) (omega (arith, c.if-incarnation.true, c.incarnation-incarnation.ensures))
+
+pub returns-in_err-packets-clause-foresees : goal.returns-in_err-packets-clause-foresees
+returns-in_err-packets-clause-foresees c = memory-foreseen c.args.self.now (NodeRestart c.args.n) c.from_residual.result (present c.args.self.now c.args.n c.in-Some.machine.now (sym c.in-Some.ensures)) c.from_residual.ensures.1
+
+pub returns-in_err-check_room-clause-foresees : goal.returns-in_err-check_room-clause-foresees
+returns-in_err-check_room-clause-foresees c = let full = c.in_err-check_room.ensures.full in
+    full-foreseen c.args.self.now (NodeRestart c.args.n) (length c.in_ok-packets.packets.items) c.from_residual-in_err-check_room.result
+    (needs c.args.self.now c.args.n c.in-Some.machine.now c.in_ok-packets.packets.items (sym c.in-Some.ensures) (search rules)
+    (told-by c.args.self.now c.args.n c.in-Some.machine.now c.in_ok-packets.packets.items c.fence.result c.incarnation-incarnation.result c.fence.ensures.value c.incarnation-incarnation.ensures c.in_ok-packets.ensures))
+    (omega (arith, c.len.ensures, c.in_ok-packets.packets.ok.0, full.1))
+    (subst (λ f. IsErrAnd c.from_residual-in_err-check_room.result (λ g. g ≡ f)) full.0 c.from_residual-in_err-check_room.ensures.1)
+
+pub returns-clause-foresees : goal.returns-clause-foresees
+returns-clause-foresees c = λ w s. taken-by s
+    (needs c.args.self.now c.args.n c.in-Some.machine.now c.in_ok-packets.packets.items (sym c.in-Some.ensures) (search rules)
+    (told-by c.args.self.now c.args.n c.in-Some.machine.now c.in_ok-packets.packets.items c.fence.result c.incarnation-incarnation.result c.fence.ensures.value c.incarnation-incarnation.ensures c.in_ok-packets.ensures) w s)
+    (omega (arith, c.len.ensures, c.in_ok-packets.packets.ok.0, c.in_ok-check_room.ensures.room))
+
+pub returns-clause-sent : goal.returns-clause-sent
+returns-clause-sent c = told c.args.self.now c.args.n c.in-Some.machine.now c.in_ok-packets.packets.items (sym c.in-Some.ensures)
+    (told-by c.args.self.now c.args.n c.in-Some.machine.now c.in_ok-packets.packets.items c.fence.result c.incarnation-incarnation.result c.fence.ensures.value c.incarnation-incarnation.ensures c.in_ok-packets.ensures)
