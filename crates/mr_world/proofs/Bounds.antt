@@ -1,5 +1,5 @@
 -- What the limits keep of every world that is reached.
-use Rattle.std.proofs.Common.{◌≡◌, ℕ, zero, suc, ◌+◌, ◌≤◌, refl, sym, ◌∙◌, ap, subst, Bool, true, false, ◌&&◌, List, [], ◌∷◌, ◌++◌, None, if◌then◌else◌, is_none, length, length-append, nat_le, arith}
+use Rattle.std.proofs.Common.{◌≡◌, ◌+◌, ◌≤◌, refl, subst, Bool, true, false, ◌&&◌, List, [], ◌∷◌, None, is_none, length, length-append, arith}
 use Rattle.std.proofs.lemmas.Bool.{and_parts, leb-true}
 use Rattle.mr_packet.specs.declared.bag.TheConstants.{MAX_PACKETS}
 use Rattle.mr_model.specs.Packets.{Config}

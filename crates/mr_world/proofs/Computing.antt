@@ -1,8 +1,6 @@
 -- Bytes are handed in to a container: when they can be, and what the parts stand for then.
-use Rattle.std.proofs.Common.{◌≡◌, ℕ, ◌≤◌, refl, sym, ◌∙◌, ap, subst, Bool, true, false, ◌&&◌, ◌||◌, nat_eq, nat_lt, List, ◌++◌, Option, Some, None, Result, Ok, Err, IsErrAnd, inl, if◌then◌else◌, is_some, length, append-nil, arith, IfSome}
+use Rattle.std.proofs.Common.{◌≡◌, ℕ, ◌≤◌, refl, sym, ◌∙◌, ap, subst, Bool, true, false, ◌&&◌, ◌||◌, nat_lt, List, ◌++◌, Option, Some, None, Result, Ok, Err, IsErrAnd, inl, if◌then◌else◌, is_some, length, append-nil, arith, IfSome}
 use Rattle.std.proofs.Math.Bool.{and-true}
-use Rattle.std.proofs.lemmas.Bool.{eqb-true}
-use Rattle.std.proofs.lemmas.Bool.Decides.{nat_tests}
 use Rattle.std.proofs.lemmas.Result.{err_from_is_err_and}
 use Rattle.std.specs.Option.{option_map}
 use Rattle.mr_ids.specs.declared.id.TaskKind.{TaskKind}
@@ -22,7 +20,7 @@ use Rattle.mr_model.specs.Packets.{Config}
 use Rattle.mr_model.specs.World.{World, Compute, call_of, wish_of}
 use Rattle.mr_model.specs.Effect.{effect, not_now, unless, NoContainer, WrongWish, NotBlocks, wants_compute}
 use Rattle.mr_model.specs.Sending.{sent}
-use Rattle.mr_model.specs.Actors.{NodeIn, NodeMoved, is_finished}
+use Rattle.mr_model.specs.Actors.{is_finished}
 use Rattle.mr_model.proofs.Acts.{containers_act, maps_act}
 use Rattle.mr_model.proofs.Stored.{stores_go_on}
 use Rattle.mr_model.proofs.Places.{places_are_nodes}
@@ -36,34 +34,13 @@ use Rattle.mr_world.specs.Computing.{fault_by, bytes_fault, unless_fault, Comput
 use Rattle.mr_world.specs.Living.{kept, Changes, stepped}
 use Rattle.mr_world.specs.Limits.{within, fits_bytes, fits_bag}
 use Rattle.mr_world.specs.Machines.{node_of, node_stepped, ChangesNode, SameNodes}
-use Rattle.mr_world.specs.Standing.{Standing, IsTaken, Refuses, Foresees, NodesStand}
+use Rattle.mr_world.specs.Standing.{Standing, IsTaken, Refuses, Foresees}
 use Rattle.mr_world.proofs.Refusals.{bag-fits, refuses-now}
 use Rattle.mr_world.proofs.Saying.{says}
-use Rattle.mr_world.proofs.Frames.{rests, living-moved, nodes-stay}
+use Rattle.mr_world.proofs.Frames.{rests, living-moved, nodes-moved, nodes-stay}
 
--- ---- one node went on
+-- ---- where no node went on
 
-apart : (j n : ℕ) → nat_eq j n ≡ false → j ≡ n → ⊥
-apart j n e q = grind (arith, nat_tests)
-
-same-node : (m o : node.Node) → Some m ≡ Some o → m ≡ o
-same-node m o e = cc
-
-pub nodes-moved : {cfg : Config} {l k : Nodes} {w u : World} (n : ℕ) (old m : node.Node) → node_of l n ≡ Some old → NodeMoved cfg w u n m → ChangesNode l n (Some m) k → NodesStand cfg l w → NodesStand cfg k u
-nodes-moved {cfg} {l} {k} {w} {u} n old m there moved is s = record { there = λ j. there-by j (nat_eq j n) refl; machines = λ j o h. machine-by j o (nat_eq j n) refl h }
-  where
-    at : (j : ℕ) (b : Bool) → nat_eq j n ≡ b → node_of k j ≡ (if b then Some m else node_of l j)
-    at j b e = is j ∙ ap (λ (t : Bool). if t then Some m else node_of l j) e
-
-    there-by : (j : ℕ) (b : Bool) → nat_eq j n ≡ b → is_some (node_of k j) ≡ nat_lt j cfg.nodes
-    there-by j true e = ap is_some (at j true e) ∙ (sym (ap is_some there) ∙ (s.there n ∙ ap (λ x. nat_lt x cfg.nodes) (sym (eqb-true j n e))))
-    there-by j false e = ap is_some (at j false e) ∙ s.there j
-
-    machine-by : (j : ℕ) (o : node.Node) (b : Bool) → nat_eq j n ≡ b → node_of k j ≡ Some o → NodeIn cfg u j o
-    machine-by j o true e h = subst (λ x. NodeIn cfg u x o) (sym (eqb-true j n e)) (subst (λ x. NodeIn cfg u n x) (same-node m o (sym (at j true e) ∙ h)) moved.now)
-    machine-by j o false e h = moved.others j o (apart j n e) (s.machines j o (sym (at j false e) ∙ h))
-
--- where none did
 pub nodes-same : (p : Parts) (w : World) (nodes : Nodes) → SameNodes p.nodes nodes → Standing p w → Standing (record p { nodes = nodes }) w
 nodes-same p w nodes is s = record {
   reached = s.reached;

@@ -1,5 +1,5 @@
 -- A master crashes: when it can, and what the parts stand for then.
-use Rattle.std.proofs.Common.{◌≡◌, ◌≤◌, ℕ, refl, sym, ◌∙◌, ap, subst, Bool, true, false, ◌&&◌, not, List, [], ◌∷◌, ◌++◌, Option, Some, None, if◌then◌else◌, is_some, nat_eq, length, arith}
+use Rattle.std.proofs.Common.{◌≡◌, ℕ, refl, sym, ◌∙◌, ap, subst, Bool, true, false, ◌&&◌, not, Option, Some, None, if◌then◌else◌, is_some, nat_eq, arith}
 use Rattle.std.proofs.lemmas.Bool.{le-leb}
 use Rattle.mr_history.specs.State as history
 use Rattle.mr_history.specs.Calls as segments
@@ -11,15 +11,13 @@ use Rattle.mr_model.specs.Sending.{sent}
 use Rattle.mr_model.specs.Stored.{StoresStand}
 use Rattle.mr_model.proofs.Stored.{stores_go_on}
 use Rattle.mr_agree.proofs.Stores.{masters_go_on}
-use Rattle.mr_world.specs.declared.fault.WorldFault.TheVariants as fault
 use Rattle.mr_world.specs.declared.masters.Masters.{Masters}
 use Rattle.mr_world.specs.declared.parts.Parts.{Parts}
 use Rattle.mr_world.specs.Machines.{master_of}
 use Rattle.mr_world.specs.Masters.{Ceases}
-use Rattle.mr_world.specs.Limits.{within, fits_bag}
-use Rattle.mr_world.specs.Standing.{Standing, Reached, IsTaken, Refuses, MastersStand}
+use Rattle.mr_world.specs.Limits.{within}
+use Rattle.mr_world.specs.Standing.{Standing, Reached, IsTaken, MastersStand}
 use Rattle.mr_world.proofs.Bounds.{small, within-is}
-use Rattle.mr_world.proofs.Refusals.{refuses-now}
 use Rattle.mr_world.proofs.Frames.{launches-same}
 use Rattle.mr_world.proofs.Mastering.{goes-on, silent, stays-in}
 

@@ -1,7 +1,5 @@
 -- A master gives a node up: when it can, and what the parts stand for then.
-use Rattle.std.proofs.Common.{◌≡◌, ◌≤◌, ◌<◌, ℕ, suc, ◌+◌, refl, sym, ◌∙◌, ap, subst, Bool, true, false, ◌&&◌, not, List, [], ◌∷◌, ◌++◌, Option, Some, None, if◌then◌else◌, is_some, nat_lt, length, arith, Result, Ok, Err, OnOk, OnErr, IfOk}
-use Rattle.std.proofs.lemmas.Bool.{lt-ltb, le-ltb}
-use Rattle.mr_ids.specs.declared.id.TaskId.{TaskId}
+use Rattle.std.proofs.Common.{◌≡◌, ℕ, ◌+◌, refl, sym, ◌∙◌, ap, subst, Bool, true, false, List, ◌++◌, Option, Some, None, is_some, length, arith, Result, Ok, Err, OnOk, OnErr}
 use Rattle.mr_packet.specs.Bag.{Held}
 use Rattle.mr_packet.specs.declared.packet.Envelope.{Envelope}
 use Rattle.mr_master_model.specs.declared.phase.LaunchFault.{LaunchFault}
@@ -12,14 +10,11 @@ use Rattle.mr_master.specs.State as master
 use Rattle.mr_model.specs.Packets.{Config}
 use Rattle.mr_model.specs.Duties.{Expires}
 use Rattle.mr_model.specs.World.{World, Expire, call_of, seen_by}
-use Rattle.std.specs.Option.{option_map}
-use Rattle.mr_model.specs.Hearing.{Seen, is_running}
-use Rattle.mr_model.specs.Effect.{effect, not_now, is_task, task_fault, NoMaster, NotRunning, NoTask, NoNode, Task, AlreadyWon, TooManyLive, TooManyAttempts, Why, WrongGeneration, NoDuty, NoPacket, NoAddressee, NoContainer, WrongWish, NoStoreCall, NotBlocks, unless}
+use Rattle.mr_model.specs.Effect.{effect, not_now, NoMaster, NotRunning, NoNode, Why, unless}
 use Rattle.mr_model.specs.Sending.{sent}
 use Rattle.mr_model.proofs.Stored.{stores_go_on}
 use Rattle.mr_agree.specs.Steps.{setting, steps}
 use Rattle.mr_agree.specs.Points.{refusal_as, expire_why}
-use Rattle.mr_agree.specs.Agreement.{machine_seen}
 use Rattle.mr_agree.proofs.Stores.{masters_go_on, masters_send}
 use Rattle.mr_world.specs.declared.fault.WorldFault.TheVariants as fault
 use Rattle.mr_world.proofs.Launching.{reason, still}
@@ -30,7 +25,7 @@ use Rattle.mr_world.specs.Masters.{Ceases, Returns}
 use Rattle.mr_world.specs.Reasons.{why_of}
 use Rattle.mr_world.specs.Limits.{within, fits_bag, launch_count}
 use Rattle.mr_world.specs.Standing.{Standing, Reached, IsTaken, Refuses}
-use Rattle.mr_world.proofs.Refusals.{NeedsRoom, refuses-now, refuses-full, refuses-memory}
+use Rattle.mr_world.proofs.Refusals.{NeedsRoom, refuses-now, refuses-memory}
 use Rattle.mr_world.proofs.Mastering.{goes-on, not-kept, is-generation}
 use Rattle.mr_world.proofs.Stepping.{agrees, masters-step, swapped, other-steps, launches-add}
 

@@ -1,9 +1,11 @@
 -- What the parts stand for after an event of no master: stores, masters and launches as they go on by themselves, the living and the nodes as their machines do.
-use Rattle.std.proofs.Common.{◌≡◌, ℕ, zero, suc, refl, sym, ◌∙◌, ap, subst, Bool, true, false, ◌&&◌, not, List, [], ◌∷◌, ◌++◌, Option, Some, None, if◌then◌else◌, is_some, ◌⊎◌, inl, inr}
+use Rattle.std.proofs.Common.{◌≡◌, ℕ, zero, suc, refl, sym, ◌∙◌, ap, subst, Bool, true, false, ◌&&◌, not, List, [], ◌∷◌, ◌++◌, Option, Some, None, if◌then◌else◌, is_some, nat_eq, nat_lt, ◌⊎◌, inl, inr}
+use Rattle.std.proofs.lemmas.Bool.{eqb-true, eqb-false}
 use Rattle.mr_names.specs.Calls as names
 use Rattle.mr_packet.specs.Bag.{Held}
 use Rattle.mr_container.specs.State as container
 use Rattle.mr_master.specs.State as master
+use Rattle.mr_node.specs.State as node
 use Rattle.mr_model.specs.Ids.{ContainerId, container_eq}
 use Rattle.mr_model.specs.Packets.{Config}
 use Rattle.mr_model.specs.Duties.{Master_step}
@@ -22,7 +24,7 @@ use Rattle.mr_world.specs.declared.nodes.Nodes.{Nodes}
 use Rattle.mr_world.specs.declared.parts.Parts.{Parts}
 use Rattle.mr_world.specs.Living.{kept, Changes}
 use Rattle.mr_world.specs.Limits.{within, launches_of}
-use Rattle.mr_world.specs.Machines.{node_of}
+use Rattle.mr_world.specs.Machines.{node_of, ChangesNode}
 use Rattle.mr_world.specs.Standing.{Standing, Reached, IsTaken, LivingStand, NodesStand, MastersStand}
 
 -- ---- the world after one event more is reached
@@ -74,6 +76,23 @@ pub nodes-stay : {cfg : Config} {l k : Nodes} {w u : World} → actors.SameNodes
 nodes-stay same is s = record {
   there = λ n. ap is_some (is n) ∙ s.there n;
   machines = λ n m o. same n m (s.machines n m (sym (is n) ∙ o));
+}
+
+-- one node went on
+
+moved-there : {cfg : Config} {w : World} (n : ℕ) (l : Nodes) (old m : node.Node) (j : ℕ) (b : Bool) → NodesStand cfg l w → node_of l n ≡ Some old → b ≡ nat_eq j n → is_some (if b then Some m else node_of l j) ≡ nat_lt j cfg.nodes
+moved-there n l old m j true s at e = ap is_some (sym at) ∙ (ap (λ k. is_some (node_of l k)) (sym (eqb-true j n (sym e))) ∙ s.there j)
+moved-there n l old m j false s at e = s.there j
+
+moved-machine : {cfg : Config} {w u : World} (n : ℕ) (l : Nodes) (m : node.Node) (j : ℕ) (o : node.Node) (b : Bool) → actors.NodeMoved cfg w u n m → NodesStand cfg l w → b ≡ nat_eq j n → (if b then Some m else node_of l j) ≡ Some o → actors.NodeIn cfg u j o
+moved-machine {cfg} {w} {u} n l m j o true moved s e is = let same : m ≡ o = cc is in
+    subst (λ k. actors.NodeIn cfg u k o) (sym (eqb-true j n (sym e))) (subst (actors.NodeIn cfg u n) same moved.now)
+moved-machine {cfg} {w} {u} n l m j o false moved s e is = moved.others j o (eqb-false j n (sym e)) (s.machines j o is)
+
+pub nodes-moved : {cfg : Config} {l k : Nodes} {w u : World} (n : ℕ) (old m : node.Node) → node_of l n ≡ Some old → actors.NodeMoved cfg w u n m → ChangesNode l n (Some m) k → NodesStand cfg l w → NodesStand cfg k u
+nodes-moved {cfg} {l} {k} {w} {u} n old m at moved is s = record {
+  there = λ j. ap is_some (is j) ∙ moved-there n l old m j (nat_eq j n) s at refl;
+  machines = λ j o e. moved-machine n l m j o (nat_eq j n) moved s refl (sym (is j) ∙ e);
 }
 
 -- ---- the living

@@ -1,28 +1,20 @@
 -- A packet is delivered to a master: when it can, and what the parts stand for then.
-use Rattle.std.proofs.Common.{◌≡◌, ◌≤◌, ◌<◌, ℕ, suc, ◌+◌, refl, sym, ◌∙◌, ap, subst, Bool, true, false, ◌&&◌, not, List, [], ◌∷◌, ◌++◌, Option, Some, None, if◌then◌else◌, is_some, nat_lt, length, slice_get, arith, Result, Ok, Err, OnOk, OnErr, IfOk}
-use Rattle.std.proofs.lemmas.Bool.{lt-ltb, le-ltb}
-use Rattle.mr_ids.specs.declared.id.TaskId.{TaskId}
+use Rattle.std.proofs.Common.{◌≡◌, ℕ, ◌+◌, refl, sym, ◌∙◌, ap, subst, true, false, List, ◌++◌, Some, None, is_some, length, slice_get, arith}
 use Rattle.mr_packet.specs.Bag.{Held}
 use Rattle.mr_packet.specs.declared.packet.Envelope.{Envelope}
-use Rattle.mr_master_model.specs.declared.phase.LaunchFault.{LaunchFault}
 use Rattle.mr_master_model.specs.Past as machine
-use Rattle.mr_master_model.specs.Readings as read
 use Rattle.mr_master_model.specs.Next as next
 use Rattle.mr_master.specs.State as master
 use Rattle.mr_packet.specs.declared.packet.Packet.{Packet}
 use Rattle.mr_packet.specs.declared.packet.Address.TheVariants.{Master}
 use Rattle.mr_model.specs.Packets.{Config}
-use Rattle.mr_model.specs.Stored.{StoresStand}
 use Rattle.mr_model.proofs.Acts.{masters_act}
 use Rattle.mr_model.specs.Duties.{Came}
-use Rattle.mr_model.specs.World.{World, Deliver, call_of, master_act}
-use Rattle.std.specs.Option.{option_map}
-use Rattle.mr_model.specs.Hearing.{Seen, is_running}
+use Rattle.mr_model.specs.World.{World, Deliver, call_of}
 use Rattle.mr_model.specs.Effect.{effect, not_now, NoAddressee}
 use Rattle.mr_model.specs.Sending.{sent}
 use Rattle.mr_model.proofs.Stored.{stores_go_on}
 use Rattle.mr_agree.specs.Steps.{setting, steps}
-use Rattle.mr_agree.specs.Agreement.{machine_seen}
 use Rattle.mr_agree.proofs.Stores.{masters_go_on, masters_send}
 use Rattle.mr_world.specs.declared.fault.WorldFault.TheVariants as fault
 use Rattle.mr_world.proofs.Launching.{still}
@@ -30,13 +22,12 @@ use Rattle.mr_world.specs.declared.masters.Masters.{Masters}
 use Rattle.mr_world.specs.declared.parts.Parts.{Parts}
 use Rattle.mr_world.specs.Machines.{master_of}
 use Rattle.mr_world.specs.Masters.{Ceases, Returns}
-use Rattle.mr_world.specs.Reasons.{why_of}
 use Rattle.mr_world.specs.Limits.{within, fits_bag, launch_count}
 use Rattle.mr_world.specs.Standing.{Standing, Reached, IsTaken, IsTo, Refuses}
-use Rattle.mr_world.proofs.Refusals.{NeedsRoom, refuses-now, refuses-full, refuses-memory}
+use Rattle.mr_world.proofs.Refusals.{NeedsRoom, refuses-now, refuses-memory}
 use Rattle.mr_world.proofs.Mastering.{not-kept, is-generation}
 use Rattle.mr_world.proofs.Frames.{reached-on, living-stay, nodes-stay}
-use Rattle.mr_world.proofs.Stepping.{agrees, masters-step, swapped, other-steps, launches-add}
+use Rattle.mr_world.proofs.Stepping.{masters-step, swapped, other-steps, launches-add}
 
 -- ---- when it can be
 

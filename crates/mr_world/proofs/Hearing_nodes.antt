@@ -1,6 +1,5 @@
 -- A packet is delivered to a node: when it can be, and what the parts stand for then.
 use Rattle.std.proofs.Common.{◌≡◌, ℕ, refl, sym, ◌∙◌, ap, subst, Bool, true, false, ◌||◌, ◌&&◌, not, nat_eq, nat_lt, List, [], ◌∷◌, ◌++◌, Option, Some, None, if◌then◌else◌, is_some, length, slice_get}
-use Rattle.std.proofs.lemmas.Bool.{eqb-true, eqb-false}
 use Rattle.std.specs.Option.{option_map}
 use Rattle.mr_packet.specs.Bag.{Held}
 use Rattle.mr_packet.specs.declared.packet.Packet.{Packet}
@@ -24,7 +23,7 @@ use Rattle.mr_model.specs.World.{World, Deliver, Obeyed, obeyed, obeys, call_of}
 use Rattle.mr_model.specs.Effect.{effect, not_now}
 use Rattle.mr_model.specs.Sending.{sent}
 use Rattle.mr_model.specs.Nodes as agreed
-use Rattle.mr_model.specs.Actors.{ContainerIn, NodeIn, NodeMoved}
+use Rattle.mr_model.specs.Actors.{ContainerIn}
 use Rattle.mr_model.specs.Acts.{NodeHeard, begins, is_killed}
 use Rattle.mr_model.proofs.Acts.{nodes_act}
 use Rattle.mr_model.proofs.Addressed.{packets_find_their_nodes}
@@ -41,8 +40,8 @@ use Rattle.mr_world.specs.Limits.{within, fits_bag}
 use Rattle.mr_world.specs.Machines.{node_of, node_stepped, reaction_of, ChangesNode, SameNodes}
 use Rattle.mr_world.specs.Serving.{added_by, begun_by, served, BeginsAnew, Serves}
 use Rattle.mr_world.specs.Replying.{answers_at}
-use Rattle.mr_world.specs.Standing.{Standing, IsTaken, IsTo, LivingStand, NodesStand}
-use Rattle.mr_world.proofs.Frames.{rests}
+use Rattle.mr_world.specs.Standing.{Standing, IsTaken, IsTo, LivingStand}
+use Rattle.mr_world.proofs.Frames.{rests, nodes-moved}
 use Rattle.mr_world.proofs.Refusals.{NeedsRoom}
 
 abbrev heard : node.Node → Packet → node.Node
@@ -63,23 +62,6 @@ some-of None e = cc
 pub there : (p : Parts) (w : World) (i n : ℕ) → Standing p w → IsTo p i (Node n) → (m : node.Node) × (node_of p.nodes n ≡ Some m)
 there p w i n s to = some-of (node_of p.nodes n) (s.nodes.there n
     ∙ subst (λ u. slice_get u.bag i ≡ Some (record { to = Node n; body = to.0 }) → nat_lt n p.config.nodes ≡ true) s.reached.is (packets_find_their_nodes p.config (within p.config) s.reached.events i n to.0) (carried p w i _ s to.1))
-
--- ---- nodes
-
-moved-there : {cfg : Config} {w : World} (n : ℕ) (l : Nodes) (old m : node.Node) (j : ℕ) (b : Bool) → NodesStand cfg l w → node_of l n ≡ Some old → b ≡ nat_eq j n → is_some (if b then Some m else node_of l j) ≡ nat_lt j cfg.nodes
-moved-there n l old m j true s at e = ap is_some (sym at) ∙ (ap (λ k. is_some (node_of l k)) (sym (eqb-true j n (sym e))) ∙ s.there j)
-moved-there n l old m j false s at e = s.there j
-
-moved-machine : {cfg : Config} {w u : World} (n : ℕ) (l : Nodes) (m : node.Node) (j : ℕ) (o : node.Node) (b : Bool) → NodeMoved cfg w u n m → NodesStand cfg l w → b ≡ nat_eq j n → (if b then Some m else node_of l j) ≡ Some o → NodeIn cfg u j o
-moved-machine {cfg} {w} {u} n l m j o true moved s e is = let same : m ≡ o = cc is in
-    subst (λ k. NodeIn cfg u k o) (sym (eqb-true j n (sym e))) (subst (NodeIn cfg u n) same moved.now)
-moved-machine {cfg} {w} {u} n l m j o false moved s e is = moved.others j o (eqb-false j n (sym e)) (s.machines j o is)
-
-pub nodes-moved : {cfg : Config} {l k : Nodes} {w u : World} (n : ℕ) (old m : node.Node) → node_of l n ≡ Some old → NodeMoved cfg w u n m → ChangesNode l n (Some m) k → NodesStand cfg l w → NodesStand cfg k u
-nodes-moved {cfg} {l} {k} {w} {u} n old m at moved is s = record {
-  there = λ j. ap is_some (is j) ∙ moved-there n l old m j (nat_eq j n) s at refl;
-  machines = λ j o e. moved-machine n l m j o (nat_eq j n) moved s refl (sym (is j) ∙ e);
-}
 
 -- ---- who begins
 

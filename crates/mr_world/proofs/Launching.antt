@@ -1,5 +1,5 @@
 -- A master launches: when it can, and what the parts stand for then.
-use Rattle.std.proofs.Common.{◌≡◌, ◌≤◌, ◌<◌, ℕ, suc, ◌+◌, refl, sym, ◌∙◌, ap, subst, Bool, true, false, ◌&&◌, not, List, [], ◌∷◌, ◌++◌, Option, Some, None, if◌then◌else◌, is_some, nat_lt, length, arith, Result, Ok, Err, OnOk, OnErr, IfOk}
+use Rattle.std.proofs.Common.{◌≡◌, ◌≤◌, ◌<◌, ℕ, ◌+◌, refl, sym, ◌∙◌, ap, subst, Bool, true, false, ◌&&◌, [], ◌∷◌, ◌++◌, Option, Some, None, is_some, nat_lt, length, arith, Result, Ok, Err, OnOk, OnErr, IfOk}
 use Rattle.std.proofs.lemmas.Bool.{lt-ltb, le-ltb}
 use Rattle.mr_ids.specs.declared.id.TaskId.{TaskId}
 use Rattle.mr_packet.specs.Bag.{Held}
@@ -19,7 +19,6 @@ use Rattle.mr_model.specs.Sending.{sent}
 use Rattle.mr_model.proofs.Stored.{stores_go_on}
 use Rattle.mr_agree.specs.Steps.{setting, steps}
 use Rattle.mr_agree.specs.Points.{refusal_as, launch_why}
-use Rattle.mr_agree.specs.Agreement.{machine_seen}
 use Rattle.mr_agree.proofs.Stores.{masters_go_on, masters_send}
 use Rattle.mr_world.specs.declared.fault.WorldFault.TheVariants as fault
 use Rattle.mr_world.specs.declared.limits.TheConstants.{MAX_CONTAINERS}

@@ -1,5 +1,5 @@
 -- What the parts stand for after an event of masters: containers and nodes as they are, masters and stores as they go on.
-use Rattle.std.proofs.Common.{◌≡◌, ℕ, zero, suc, ◌+◌, refl, sym, ◌∙◌, ap, subst, Bool, true, false, ◌&&◌, ◌||◌, not, List, [], ◌∷◌, ◌++◌, append-nil, Option, Some, None, if◌then◌else◌, is_some, nat_eq, ◌<◌, ◌≤◌, length, slice_get, arith, nat_le, Result, Ok, Err, IsErrAnd}
+use Rattle.std.proofs.Common.{◌≡◌, ℕ, zero, suc, refl, sym, ◌∙◌, ap, subst, Bool, true, false, List, [], ◌∷◌, ◌++◌, append-nil, Option, Some, is_some, ◌<◌, ◌≤◌, length, slice_get, arith, nat_le, Result, Err, IsErrAnd}
 use Rattle.mr_names.specs.Calls as names
 use Rattle.mr_history.specs.State as history
 use Rattle.mr_packet.specs.Bag.{Held}

@@ -33,8 +33,7 @@ use Rattle.mr_world.specs.Limits.{within, fits_bag}
 use Rattle.mr_world.specs.Machines.{node_of, node_stepped, master_of, ChangesNode}
 use Rattle.mr_world.specs.Restarting.{unless_on}
 use Rattle.mr_world.specs.Standing.{Standing, IsTaken, Refuses, LivingStand}
-use Rattle.mr_world.proofs.Computing.{nodes-moved}
-use Rattle.mr_world.proofs.Frames.{rests}
+use Rattle.mr_world.proofs.Frames.{rests, nodes-moved}
 use Rattle.mr_world.proofs.Refusals.{NeedsRoom, refuses-now, refuses-full}
 use Rattle.mr_world.proofs.Saying.{says}
 

@@ -1,5 +1,5 @@
 -- A master starts: when it can, and what the parts stand for then.
-use Rattle.std.proofs.Common.{◌≡◌, ◌≤◌, ◌<◌, ℕ, zero, suc, ◌+◌, refl, sym, ◌∙◌, ap, subst, Bool, true, false, ◌&&◌, ◌||◌, List, [], ◌∷◌, ◌++◌, Option, Some, None, if◌then◌else◌, is_some, nat_eq, length, arith, inl, inr}
+use Rattle.std.proofs.Common.{◌≡◌, ◌≤◌, ◌<◌, ℕ, suc, ◌+◌, refl, sym, ◌∙◌, ap, subst, Bool, true, false, ◌||◌, [], Option, Some, None, if◌then◌else◌, is_some, nat_eq, arith}
 use Rattle.std.proofs.lemmas.Bool.{eqb-true, eq-eqb, le-leb, lt-leb, leb-true}
 use Rattle.mr_names.specs.Calls as names
 use Rattle.mr_history.specs.State as history
@@ -12,7 +12,6 @@ use Rattle.mr_model.specs.Packets.{Config}
 use Rattle.mr_model.specs.World.{World, Start, call_of}
 use Rattle.mr_model.specs.Effect.{effect, not_now, WrongGeneration, version_of}
 use Rattle.mr_model.specs.Sending.{sent}
-use Rattle.mr_model.specs.Claims.{world_of}
 use Rattle.mr_model.specs.Stored.{StoresStand}
 use Rattle.mr_model.proofs.Basic.{unless_parts}
 use Rattle.mr_model.proofs.Stored.{stores_go_on}
@@ -24,7 +23,7 @@ use Rattle.mr_world.specs.declared.masters.Masters.{Masters}
 use Rattle.mr_world.specs.declared.parts.Parts.{Parts}
 use Rattle.mr_world.specs.Machines.{master_of, master_count}
 use Rattle.mr_world.specs.Masters.{Begins}
-use Rattle.mr_world.specs.Limits.{within, fits_bag, fits_own}
+use Rattle.mr_world.specs.Limits.{within, fits_bag}
 use Rattle.mr_world.specs.Standing.{Standing, Reached, IsTaken, Refuses, MastersStand, MasterIn}
 use Rattle.mr_world.proofs.Bounds.{small, fits-parts, within-is}
 use Rattle.mr_world.proofs.Refusals.{refuses-now, refuses-full}

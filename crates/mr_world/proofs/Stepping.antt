@@ -1,6 +1,6 @@
 -- A master takes a step: its machine stands for one step more, all others as before.
 use Rattle.std.proofs.Common.{◌≡◌, ◌≤◌, ◌<◌, ℕ, zero, suc, ◌+◌, refl, sym, ◌∙◌, ap, subst, Bool, true, false, List, [], ◌∷◌, Option, Some, None, if◌then◌else◌, is_some, nat_eq, arith}
-use Rattle.std.proofs.lemmas.Bool.{eqb-true, eq-eqb}
+use Rattle.std.proofs.lemmas.Bool.{eqb-true}
 use Rattle.std.proofs.lemmas.Bool.Decides.{nat_tests}
 use Rattle.mr_master_model.specs.Past as machine
 use Rattle.mr_master.specs.State as master
@@ -17,10 +17,10 @@ use Rattle.mr_agree.specs.Whole.{MasterAgrees}
 use Rattle.mr_agree.specs.Stores.{MasterMoves}
 use Rattle.mr_agree.proofs.Whole.{masters_agree}
 use Rattle.mr_world.specs.declared.masters.Masters.{Masters}
-use Rattle.mr_world.specs.Machines.{master_of, master_count}
+use Rattle.mr_world.specs.Machines.{master_of}
 use Rattle.mr_world.specs.Masters.{Ceases, Returns}
-use Rattle.mr_world.specs.Limits.{within, launches_in, launches_of, launch_count}
-use Rattle.mr_world.specs.Standing.{Standing, Reached, MastersStand, MasterIn}
+use Rattle.mr_world.specs.Limits.{within, launches_in, launches_of}
+use Rattle.mr_world.specs.Standing.{Reached, MastersStand, MasterIn}
 use Rattle.mr_world.proofs.Mastering.{stays-in}
 
 -- ---- in every world that is reached a master acts as its machine

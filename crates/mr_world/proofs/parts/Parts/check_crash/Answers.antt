@@ -1,4 +1,3 @@
-use Rattle.std.proofs.Common.{◌≡◌, sym, ◌∙◌}
 use Rattle.mr_model.specs.World.{Crash}
 use Rattle.mr_world.proofs.Mastering.{no-master}
 use Rattle.mr_world.proofs.Crashing.{not-allowed, taken}

@@ -1,4 +1,4 @@
-use Rattle.std.proofs.Common.{◌≡◌, sym, ap, subst, is_some, ◌∙◌, arith}
+use Rattle.std.proofs.Common.{◌≡◌, sym, ap, subst, is_some, arith}
 use Rattle.mr_master.specs.State.{Master, Answers}
 use Rattle.mr_master_model.specs.Next.{sent}
 use Rattle.mr_master_model.specs.Past.{Expires}

@@ -1,5 +1,4 @@
-use Rattle.std.proofs.Common.{◌≡◌, ◌≤◌, refl, sym, ◌∙◌, arith, false}
-use Rattle.std.proofs.lemmas.Bool.Decides.{nat_tests}
+use Rattle.std.proofs.Common.{refl, sym, ◌∙◌}
 use Rattle.mr_world.proofs.Mastering.{not-raised, not-kept, unraised}
 use Rattle.mr_world.proofs.parts.Parts.check_master.Goals as goal
 use Rattle.mr_world.proofs.parts.Parts.check_master.Goals.{in_default-via-in-Some+then-is_raised+else-contains, in_default-via-in-Some+else-is_raised, in_default-via-in_default}

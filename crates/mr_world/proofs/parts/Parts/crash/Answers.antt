@@ -1,4 +1,4 @@
-use Rattle.std.proofs.Common.{◌≡◌, ◌∙◌, sym, ap, arith}
+use Rattle.std.proofs.Common.{◌∙◌, sym, ap, arith}
 use Rattle.mr_history.specs.Calls as segments
 use Rattle.mr_world.proofs.Crashing.{stands}
 use Rattle.mr_world.proofs.parts.Parts.crash.Goals as goal

@@ -1,4 +1,4 @@
-use Rattle.std.proofs.Common.{sym, ap, ◌∙◌, ◌++◌, subst, arith}
+use Rattle.std.proofs.Common.{sym, ap, ◌∙◌, ◌++◌, arith}
 use Rattle.mr_world.proofs.Mastering.{counted}
 use Rattle.mr_world.proofs.Launching.{missing}
 use Rattle.mr_world.proofs.Expiring.{expired, not-expired, ok-part, err-part}

@@ -1,4 +1,4 @@
-use Rattle.std.proofs.Common.{sym, ap, ◌∙◌, ◌++◌, subst, slice_get, arith}
+use Rattle.std.proofs.Common.{sym, ap, ◌∙◌, ◌++◌, slice_get, arith}
 use Rattle.mr_world.proofs.Mastering.{counted}
 use Rattle.mr_world.proofs.Launching.{missing}
 use Rattle.mr_world.proofs.Expiring.{ok-part, err-part}

@@ -1,4 +1,4 @@
-use Rattle.std.proofs.Common.{sym, ap, ◌∙◌, ◌++◌, ◌∷◌, [], arith}
+use Rattle.std.proofs.Common.{ap, ◌∙◌, ◌++◌, ◌∷◌, [], arith}
 use Rattle.mr_world.proofs.Mastering.{counted}
 use Rattle.mr_world.proofs.Launching.{launched, not-launched, missing}
 use Rattle.mr_world.proofs.parts.Parts.launch.Goals as goal

@@ -1,4 +1,4 @@
-use Rattle.std.proofs.Common.{◌≡◌, ◌∙◌, sym, ap, subst}
+use Rattle.std.proofs.Common.{◌∙◌, ap}
 use Rattle.mr_names.specs.Calls as names
 use Rattle.mr_history.specs.Calls as segments
 use Rattle.mr_model.specs.World.{Start}
