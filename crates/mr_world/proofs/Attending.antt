@@ -3,7 +3,6 @@ use Rattle.std.proofs.Common.{◌≡◌, ◌≤◌, ◌<◌, ℕ, ◌+◌, refl,
 use Rattle.std.proofs.lemmas.Bool.{le-leb, lt-leb}
 use Rattle.std.proofs.lemmas.Bool.Decides.{nat_tests}
 use Rattle.std.proofs.lemmas.Result.{err_from_is_err_and}
-use Rattle.std.specs.Option.{option_map}
 use Rattle.std.specs.declared.alloc.AllocError.{AllocError}
 use Rattle.mr_names.specs.Calls as names
 use Rattle.mr_history.specs.State as history
@@ -11,32 +10,30 @@ use Rattle.mr_history.specs.Calls as segments
 use Rattle.mr_packet.specs.Bag.{Held}
 use Rattle.mr_packet.specs.declared.packet.Envelope.{Envelope}
 use Rattle.mr_packet.specs.declared.bag.TheConstants.{MAX_PACKETS}
-use Rattle.mr_master_model.specs.declared.store.StoreCall.{StoreCall}
 use Rattle.mr_master_model.specs.declared.store.StoreAnswer.{StoreAnswer}
-use Rattle.mr_master_model.specs.declared.store.StoreAnswer.TheVariants as answer
 use Rattle.mr_master_model.specs.Next as next
 use Rattle.mr_master_model.specs.Past as machine
 use Rattle.mr_master.specs.State as master
 use Rattle.mr_master.specs.Ready.{Ready, IsReady, IsReadyForSome}
-use Rattle.mr_model.specs.Packets.{Config, Store, Names, Append_record, Flush, Read_history}
+use Rattle.mr_model.specs.Packets.{Config, Store}
 use Rattle.mr_model.specs.Duties.{Asks}
-use Rattle.mr_model.specs.World.{World, Weather, Unavailable, Duty, call_of, duty, duty_made, is_applied, reply_of, reply_under}
+use Rattle.mr_model.specs.World.{World, Weather, Duty, call_of, duty, duty_made, is_applied, reply_of, reply_under}
 use Rattle.mr_model.specs.Effect.{effect, not_now}
 use Rattle.mr_model.specs.Sending.{sent}
 use Rattle.mr_model.specs.Stores.{call_of_history, HasRoom}
 use Rattle.mr_model.specs.Stored.{StoresStand, left_in}
-use Rattle.mr_agree.specs.Steps.{setting, steps, store_call, answer_of}
+use Rattle.mr_agree.specs.Steps.{setting, steps, answer_of}
 use Rattle.mr_agree.specs.Stores.{CallAgrees, told_of, told_in}
 use Rattle.mr_agree.proofs.Stores.{store_calls_agree, masters_send}
 use Rattle.mr_world.specs.declared.fault.WorldFault.{WorldFault}
 use Rattle.mr_world.specs.declared.fault.WorldFault.TheVariants as fault
 use Rattle.mr_world.specs.declared.masters.Masters.{Masters}
 use Rattle.mr_world.specs.declared.parts.Parts.{Parts}
-use Rattle.mr_world.specs.Duties.{IsDue, HasDuty, IsKept, IsMadeReady, IsReadyAt, HasHeard, IsSet, HasTold, MakesReady, says_then, fits_then}
+use Rattle.mr_world.specs.Duties.{IsKept, IsMadeReady, IsReadyAt, HasHeard, HasTold, MakesReady, says_then, fits_then}
 use Rattle.mr_world.specs.Machines.{master_of}
 use Rattle.mr_world.specs.Masters.{Ceases, Returns}
 use Rattle.mr_world.specs.Limits.{within, fits_bag, fits_call, fits_store, launch_count}
-use Rattle.mr_world.specs.Standing.{Standing, Reached, IsTaken, Refuses, Tries}
+use Rattle.mr_world.specs.Standing.{Standing, Reached, IsTaken, Refuses}
 use Rattle.mr_world.proofs.Refusals.{refuses-full, refuses-memory}
 use Rattle.mr_world.proofs.Mastering.{goes-on, is-generation}
 use Rattle.mr_world.proofs.Stepping.{masters-step, masters-still, swapped, launches-add, other-steps}
@@ -161,7 +158,7 @@ pub allowed : (cfg : Config) (w : World) (k : ℕ) (f : Weather) (call : Store) 
 unfolding not_now
 allowed cfg w k f call alive d = let due : is_some (duty cfg w k) ≡ true = ap is_some d in rw (alive, due) refl
 
-limit-is : (cfg : Config) (w : World) (k : ℕ) (f : Weather) (call : Store) → duty cfg w k ≡ Some call
+pub limit-is : (cfg : Config) (w : World) (k : ℕ) (f : Weather) (call : Store) → duty cfg w k ≡ Some call
     → within cfg w (Duty k f) ≡ ((if is_applied w k f then fits_store w k call else true) && fits_bag cfg w (Duty k f))
 unfolding within call_of
 limit-is cfg w k f call d = ap (λ o. fits_call w (duty_made k f o) && fits_bag cfg w (Duty k f)) d
@@ -172,56 +169,10 @@ pub bag-alone : (cfg : Config) (w : World) (k : ℕ) (f : Weather) (call : Store
 bag-alone cfg w k f call a n h r alive d fits c = limit-is cfg w k f call d ∙ (ap (λ b. b && fits_bag cfg w (Duty k f)) fits
     ∙ ap (λ es. nat_le (length w.bag + length es) MAX_PACKETS) (sym (says-then k f call a n h r d (allowed cfg w k f call alive d) c)))
 
-pub store-call : (o : Option Store) (call : StoreCall) → option_map store_call o ≡ Some call → (x : Store) × (o ≡ Some x)
-store-call (Some x) call e = (x, refl)
-store-call None call e = cc
+-- ---- a call of the history in a world that is reached
 
--- ---- where no call is made
-
-history-agrees : {cfg : Config} {w : World} (s : names.State) (h : history.State) (k : ℕ) (f : Weather) (call : Store) (q : segments.Call) → Reached cfg w → StoresStand s h w → w.is_master k ≡ true → duty cfg w k ≡ Some call
+pub history-agrees : {cfg : Config} {w : World} (s : names.State) (h : history.State) (k : ℕ) (f : Weather) (call : Store) (q : segments.Call) → Reached cfg w → StoresStand s h w → w.is_master k ≡ true → duty cfg w k ≡ Some call
     → call_of_history call ≡ Some q → (is_applied w k f ≡ true → HasRoom h k call) → CallAgrees cfg w k f call (told_of q (segments.call_of h k q).0) s (left_in f h (segments.call_of h k q).1)
 history-agrees {cfg} {w} s h k f call q r = subst (λ (u : World). StoresStand s h u → u.is_master k ≡ true → duty cfg u k ≡ Some call
     → call_of_history call ≡ Some q → (is_applied u k f ≡ true → HasRoom h k call) → CallAgrees cfg u k f call (told_of q (segments.call_of h k q).0) s (left_in f h (segments.call_of h k q).1)) r.is
     (store_calls_agree.history cfg (within cfg) r.events s h k f call q)
-
-not-made : {A : Type 0} → false ≡ true → A
-not-made e = cc
-
-unheard : {cfg : Config} {w : World} {k : ℕ} {call : Store} {a : StoreAnswer} {n : names.State} {h : history.State} → CallAgrees cfg w k Unavailable call a n h → CallAgrees cfg w k Unavailable call answer.Fault n h
-unheard c = record { told = c.told; moves = c.moves; left = c.left }
-
-pub missed : (p : Parts) (w : World) (k : ℕ) (call : Store) → Standing p w → w.is_master k ≡ true → duty p.config w k ≡ Some call → CallAgrees p.config w k Unavailable call answer.Fault p.names p.history
-missed p w k (Names o) s alive d = unheard (store_calls_agree.names p.config w p.names p.history k Unavailable o s.stores d not-made)
-missed p w k (Append_record x) s alive d = unheard (history-agrees p.names p.history k Unavailable (Append_record x) (segments.Append x) s.reached s.stores alive d refl not-made)
-missed p w k Flush s alive d = unheard (history-agrees p.names p.history k Unavailable Flush segments.Flush s.reached s.stores alive d refl not-made)
-missed p w k Read_history s alive d = unheard (history-agrees p.names p.history k Unavailable Read_history segments.Read s.reached s.stores alive d refl not-made)
-
-missed-limit : (p : Parts) (w : World) (k : ℕ) (call : StoreCall) → Standing p w → IsDue p.config w k call → within p.config w (Duty k Unavailable) ≡ fits_then p.config w k answer.Fault
-missed-limit p w k call s due = let x = store-call _ call due.due in
-    bag-alone p.config w k Unavailable x.0 answer.Fault p.names p.history s.reached due.alive x.1 refl (missed p w k x.0 s due.alive x.1)
-
-missed-now : (p : Parts) (w : World) (k : ℕ) (call : StoreCall) → IsDue p.config w k call → not_now p.config w (Duty k Unavailable) ≡ None
-missed-now p w k call due = let x = store-call _ call due.due in allowed p.config w k Unavailable x.0 due.alive x.1
-
-missed-fault : (p q : Parts) (k : ℕ) (call : StoreCall) (f : WorldFault) → HasDuty p k call → ((w : World) → Standing p w → Refuses None (fits_then p.config w k answer.Fault) f × Standing q w)
-    → (w : World) → Standing p w → Refuses (not_now p.config w (Duty k Unavailable)) (within p.config w (Duty k Unavailable)) f × Standing q w
-missed-fault p q k call f has why w s = let due = has.due w s in let y = why w s in (
-  subst (λ o. Refuses o (within p.config w (Duty k Unavailable)) f) (sym (missed-now p w k call due)) (subst (λ b. Refuses None b f) (sym (missed-limit p w k call s due)) y.0),
-  y.1,
-)
-
-pub missed-err : (p q : Parts) (k : ℕ) (call : StoreCall) (r : Result (Unit {0}) WorldFault) (f : WorldFault) → HasDuty p k call → MakesReady p k answer.Fault (Err f) q → IsErrAnd r (λ g. g ≡ f)
-    → Tries p (Duty k Unavailable) r q
-missed-err p q k call r f has makes g = let z = err_from_is_err_and r g in
-    subst (λ (y : Result (Unit {0}) WorldFault). Tries p (Duty k Unavailable) y q) (sym z.1) (subst (λ e. Tries {A = Unit {0}} p (Duty k Unavailable) (Err e) q) (sym z.2)
-    (missed-fault p q k call f has makes))
-
--- p were made ready and were then q, which heard
-pub missed-ok : (p q t : Parts) (k : ℕ) (call : StoreCall) (r : Ready) → HasDuty p k call → MakesReady p k answer.Fault (Ok r) q → q.config ≡ p.config
-    → ((a : StoreAnswer) → IsSet q k a r → HasTold q k a r t) → (w : World) → Standing p w → IsTaken p.config w (Duty k Unavailable) × Standing t (effect p.config w (Duty k Unavailable))
-missed-ok p q t k call r has makes same told w s = let due = has.due w s in let y = makes.1 w s in let x = store-call _ call due.due in
-    let taken : IsTaken p.config w (Duty k Unavailable) = record { now = missed-now p w k call due; fits = missed-limit p w k call s due ∙ y.2 } in (
-      taken,
-      subst (λ (cfg : Config). IsTaken cfg w (Duty k Unavailable) → w.is_master k ≡ true → duty cfg w k ≡ Some x.0 → r.packets ≡ says_then cfg w k answer.Fault → Standing t (effect cfg w (Duty k Unavailable))) same
-          (λ tk alive d is. told-stands q t w k Unavailable x.0 answer.Fault r q.names q.history y.0 tk d (missed q w k x.0 y.0 alive d) is (told answer.Fault makes.0)) taken due.alive x.1 y.1,
-    )

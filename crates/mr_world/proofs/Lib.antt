@@ -24,3 +24,5 @@ pub mod Hearing_nodes
 pub mod Ending
 pub mod Delivering
 pub mod Restarting
+pub mod Filling
+pub mod Asking

@@ -13,3 +13,4 @@ pub mod Replying
 pub mod Restarting
 pub mod Duties
 pub mod Addressees
+pub mod Asking

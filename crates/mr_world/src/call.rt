@@ -103,7 +103,8 @@ fn is_calm(fault: Weather) -> bool
     matches!(fault, Weather::Calm)
 }
 
-fn is_made(fault: Weather) -> bool
+/// Whether a call is made in this weather.
+pub fn is_made(fault: Weather) -> bool
     ensures { result ≡ is_made fault }
 {
     match fault {
@@ -119,7 +120,8 @@ fn would_be_full(names: &Namespace, call: &StoreCall, fault: Weather) -> bool
     is_made(fault) && is_full(names.foresee(call.caller, &call.op))
 }
 
-fn is_full(refusal: Option<NameFault>) -> bool
+/// Whether a call of the namespace is refused for want of room.
+pub fn is_full(refusal: Option<NameFault>) -> bool
     ensures { result ≡ is_full refusal }
 {
     matches!(refusal, Some(NameFault::Full))

@@ -12,27 +12,30 @@
 //!   else for want of memory; and then the parts stand for what they stood for. Else the event is permitted and passes no limit, and the
 //!   parts stand for the world after it. So it is of a container's death (`die`), its step (`step`, a store call in each weather) and
 //!   bytes that are handed in (`compute`), of a packet to whomever it is sent (`deliver`; `hear_container`, `hear_node`, `hear_master`),
-//!   of a node's restart (`restart`), and of a master's start, crash, launch and expiry (`start`, `crash`, `launch`, `expire`). A look tells the same
-//!   beforehand and changes nothing (`Foresees`).
+//!   of a node's restart (`restart`), and of a master's start, crash, launch, expiry and store call (`start`, `crash`, `launch`, `expire`,
+//!   `duty`). A look tells the same beforehand and changes nothing (`Foresees`).
 //!
 //! Want of memory may also be answered where memory was refused while it was found out whether a limit would be passed; never in place of
 //! a reason. Everything that can fail comes before the first change that can't be taken back.
 //!
-//! Of a master's store call stands that of a store that is not there (`miss_duty`), and how a master is made ready for an answer and told it.
+//! A master is told what a store answers, a refusal too; only where a store is full the whole event is refused.
 //!
-//! Not here yet: a master's store call that is made, what is read of a world, and the world that keeps a journal. Nothing of this was
+//! Not here yet: what is read of a world, and the world that keeps a journal. Nothing of this was
 //! tested: nothing can be called yet.
 #![tactic(auto)]
 
 mod alive;
+mod ask;
 mod call;
 mod compute;
 mod config;
 mod crash;
 mod deliver;
 mod die;
+mod duty;
 mod expire;
 mod fault;
+mod foretell;
 mod hear_container;
 mod hear_master;
 mod hear_node;
@@ -41,7 +44,7 @@ mod letters;
 mod limits;
 mod living;
 mod masters;
-mod miss;
+mod next_call;
 mod nodes;
 mod opening;
 mod parts;

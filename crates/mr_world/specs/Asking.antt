@@ -1,0 +1,110 @@
+-- A master's store call: what both stores answer, what they leave, and whether one of them is full.
+use Rattle.std.specs.Prelude.{◌≡◌, ℕ, Bool, true, false, ◌&&◌, Option, Some, None, Result, Ok, Err, length}
+use Rattle.mr_names.specs.declared.op.Op.{Op}
+use Rattle.mr_names.specs.declared.op.Op.TheVariants as op
+use Rattle.mr_names.specs.Calls as names
+use Rattle.mr_history.specs.declared.fault.HistoryFault.{HistoryFault}
+use Rattle.mr_history.specs.declared.fault.HistoryFault.TheVariants as history_fault
+use Rattle.mr_history.specs.Line.{InRange}
+use Rattle.mr_history.specs.State as history
+use Rattle.mr_history.specs.Calls as segments
+use Rattle.mr_master_model.specs.declared.store.StoreCall.{StoreCall}
+use Rattle.mr_master_model.specs.declared.store.StoreCall.TheVariants as call
+use Rattle.mr_master_model.specs.declared.store.StoreAnswer.{StoreAnswer}
+use Rattle.mr_master_model.specs.declared.store.StoreAnswer.TheVariants as answer
+use Rattle.mr_master_model.specs.Past.{Answered}
+use Rattle.mr_master_model.specs.Next as next
+use Rattle.mr_master.specs.State.{Master, Answers}
+use Rattle.mr_model.specs.World.{World, Weather, Duty}
+use Rattle.mr_model.specs.Effect.{not_now}
+use Rattle.mr_model.specs.Stored.{master, left_in}
+use Rattle.mr_agree.specs.Stores.{told_of, told_in}
+use Rattle.mr_world.specs.declared.duty.Due.{Due}
+use Rattle.mr_world.specs.declared.fault.WorldFault.{WorldFault}
+use Rattle.mr_world.specs.declared.masters.Masters.{Masters}
+use Rattle.mr_world.specs.declared.parts.Parts.{Parts}
+use Rattle.mr_world.specs.Calling.{is_made}
+use Rattle.mr_world.specs.Duties.{HasDuty}
+use Rattle.mr_world.specs.Limits.{within, is_full}
+use Rattle.mr_world.specs.Machines.{master_of}
+use Rattle.mr_world.specs.Standing.{Standing, Refuses}
+
+-- the answer to the master of generation k
+abbrev pub answer_to : names.State → history.State → ℕ → StoreCall → StoreAnswer
+answer_to s h k (call.Names o) = answer.Names (names.call_of s (master k) o).0
+answer_to s h k (call.Append r) = told_of (segments.Append r) (segments.call_of h k (segments.Append r)).0
+answer_to s h k call.Flush = told_of segments.Flush (segments.call_of h k segments.Flush).0
+answer_to s h k call.Read = told_of segments.Read (segments.call_of h k segments.Read).0
+
+-- that of an append or a flush with this refusal
+abbrev pub written_as : Option HistoryFault → StoreAnswer
+written_as None = answer.Wrote (Ok tt)
+written_as (Some f) = answer.Wrote (Err f)
+
+-- the calls of the namespace that change nothing
+abbrev pub is_look : Op → Bool
+is_look (op.List p) = true
+is_look (op.Exists p) = true
+is_look (op.Read p) = true
+is_look _ = false
+
+-- the namespace after the call
+abbrev pub names_after : names.State → ℕ → StoreCall → names.State
+names_after s k (call.Names o) = (names.call_of s (master k) o).1
+names_after s k _ = s
+
+-- the history after it
+abbrev pub history_after : history.State → ℕ → StoreCall → history.State
+history_after h k (call.Append r) = (segments.call_of h k (segments.Append r)).1
+history_after h k call.Flush = (segments.call_of h k segments.Flush).1
+history_after h k _ = h
+
+-- ---- whether a store is full
+
+abbrev pub is_segment_full : Option HistoryFault → Bool
+is_segment_full (Some history_fault.Full) = true
+is_segment_full _ = false
+
+-- the call would be refused for want of room
+abbrev pub finds_full : names.State → history.State → ℕ → StoreCall → Bool
+finds_full s h k (call.Names o) = is_full (names.refused s (master k) o)
+finds_full s h k (call.Append r) = is_segment_full (segments.refused h k (segments.Append r))
+finds_full s h k _ = false
+
+-- it is made in this weather, and would be
+abbrev pub passes : Parts → ℕ → Weather → StoreCall → Bool
+passes p k f c = is_made f && finds_full p.names p.history k c
+
+-- the numbers of a record that is appended are in their ranges
+abbrev pub IsRanged : StoreCall → Type 0
+IsRanged (call.Append r) = InRange r
+IsRanged _ = Unit
+
+-- ---- what is left once the call was made, or was not
+
+pub record HasAsked (old : Parts) (k : ℕ) (f : Weather) (c : StoreCall) (new : Parts) : Type 0 where
+  pub names : new.names ≡ left_in f old.names (names_after old.names k c)
+  pub history : new.history ≡ left_in f old.history (history_after old.history k c)
+  pub rest : new ≡ record old { names = new.names; history = new.history }
+
+-- ---- what is known before
+
+-- A duty that is due and finds no store full: its call, and what the master is told of it.
+pub record IsForeseen (p : Parts) (k : ℕ) (f : Weather) (c : StoreCall) (a : StoreAnswer) : Type 0 where
+  pub due : HasDuty p k c
+  pub ranged : IsRanged c
+  pub room : passes p k f c ≡ false
+  pub told : a ≡ told_in f (answer_to p.names p.history k c)
+
+-- a duty is refused so, in each weather
+abbrev pub RefusesDuty : Parts → ℕ → Weather → WorldFault → Type 0
+RefusesDuty p k f fault = (w : World) → Standing p w → Refuses (not_now p.config w (Duty k f)) (within p.config w (Duty k f)) fault
+
+-- a look at a duty: it is due, or refused so
+abbrev pub ForeseesDuty : Parts → ℕ → Weather → Result Due WorldFault → Type 0
+ForeseesDuty p k f (Ok due) = (due.app ≡ k) × IsForeseen p k f due.duty.call due.answer
+ForeseesDuty p k f (Err fault) = RefusesDuty p k f fault
+
+-- its machine sends so many packets once it hears this answer
+abbrev pub SendsThen : Masters → ℕ → StoreAnswer → ℕ → Type 0
+SendsThen masters k a n = (m : Master) → master_of masters k ≡ Some m → Answers m (λ w past. length (next.sent w past (Answered a))) n

@@ -1,0 +1,77 @@
+ghost use Rattle.std.specs.Prelude.{◌≡◌, ◌≤◌, IfOk, OnOk, true, is_some};
+ghost use Rattle.mr_model.specs.World.{Duty};
+ghost use Rattle.mr_world.specs.Asking.{ForeseesDuty, SendsThen};
+ghost use Rattle.mr_world.specs.Machines.{master_of};
+ghost use Rattle.mr_world.specs.Standing.{Foresees, Tries};
+
+use crate::fault::WorldFault;
+use crate::masters::Masters;
+use crate::parts::Parts;
+use mr_event::Weather;
+use mr_ids::AppAttempt;
+use mr_master::Duty as StoreDuty;
+use mr_master_model::StoreAnswer;
+use std::alloc::AllocError;
+
+/// A master's duty that is due, and what the master will be told of its store call.
+#[derive(Drop)]
+pub struct Due {
+    pub app: AppAttempt,
+    pub duty: StoreDuty,
+    pub answer: StoreAnswer,
+}
+
+impl Masters {
+    /// How many packets a living master sends once it hears this answer: asked of a copy of its machine.
+    pub fn count_then(&self, k: u32, answer: StoreAnswer) -> Result<usize, AllocError>
+        requires { is_some (master_of self.now k) ≡ true }
+        ensures { IfOk result (λ count. SendsThen self.now k answer count) }
+    {
+        let Some(machine) = self.get(k) else {
+            return Err(AllocError);
+        };
+        let mut machine = machine.copy()?;
+        let ready = machine.ready(answer)?;
+        Ok(ready.packets().len())
+    }
+}
+
+impl Parts {
+    /// The duty of the master of this generation, if it is alive and has one, and no store is full.
+    pub fn foresee_duty(&self, k: u32, weather: Weather) -> Result<Due, WorldFault>
+        ensures foresees { ForeseesDuty self.now k weather result }
+        ensures raised { IfOk result (λ due. due.app ≤ self.now.history.fence) }
+        ensures alive { OnOk result (is_some (master_of self.now.masters k) ≡ true) }
+    {
+        let app = self.check_master(k)?;
+        let duty = self.next_call(k)?;
+        let answer = self.foretell(app, duty.call(), weather)?;
+        Ok(Due { app, duty, answer })
+    }
+
+    /// Whether the master of this generation has a store call to make now, which passes no limit in this weather.
+    pub fn check_duty(&self, k: u32, weather: Weather) -> Result<(), WorldFault>
+        ensures { Foresees self.now (Duty k weather) result }
+    {
+        let Due {
+            app: _,
+            duty: _,
+            answer,
+        } = self.foresee_duty(k, weather)?;
+        let more = self.masters.count_then(k, answer)?;
+        self.check_room(more)
+    }
+
+    /// The master of this generation makes its store call, and hears of the answer: that of the store, a refusal too, or in bad weather
+    /// that nobody can tell. It sends the packets that follow.
+    pub fn duty(&mut self, k: u32, weather: Weather) -> Result<(), WorldFault>
+        ensures tries { Tries self.old (Duty k weather) result self.new }
+        ensures config { self.new.config ≡ self.old.config }
+    {
+        let Due { app, duty, answer } = self.foresee_duty(k, weather)?;
+        let ready = self.make_ready(k, answer)?;
+        self.ask(app, duty.call(), weather)?;
+        self.tell(k, ready);
+        Ok(())
+    }
+}
