@@ -26,3 +26,9 @@ pub mod Delivering
 pub mod Restarting
 pub mod Filling
 pub mod Asking
+pub mod Living_order
+pub mod Living_next
+pub mod Read_masters
+pub mod Read_containers
+pub mod Read_results
+pub mod Read_winners

@@ -14,3 +14,7 @@ pub mod Restarting
 pub mod Duties
 pub mod Addressees
 pub mod Asking
+pub mod Order
+pub mod Readings
+pub mod Seen
+pub mod Winning

@@ -1,4 +1,4 @@
-ghost use Rattle.std.specs.Prelude.{◌≡◌, length};
+ghost use Rattle.std.specs.Prelude.{◌≡◌, length, option_map, slice_get};
 ghost use Rattle.mr_world.specs.Ranges.{IsInRange};
 
 use crate::splits::Splits;
@@ -41,6 +41,13 @@ impl Config {
         let _job = &self.job;
     }
 
+    /// The job's identifier. It takes no memory.
+    pub fn job_id(&self) -> JobId
+        ensures { result ≡ self.now.job }
+    {
+        self.job
+    }
+
     /// How many reduces there are. It takes no memory.
     pub fn reduce_count(&self) -> u32
         ensures { result ≡ self.now.reduces }
@@ -54,5 +61,12 @@ impl Config {
     {
         self.ranges();
         self.splits.len() as u32
+    }
+
+    /// The bytes of the split of this number, from 0; none where there is no such split. It takes no memory.
+    pub fn split(&self, number: u32) -> Option<&[u8]>
+        ensures { option_map (λ bytes. bytes.now) result ≡ slice_get self.now.splits number }
+    {
+        self.splits.get(number as usize)
     }
 }

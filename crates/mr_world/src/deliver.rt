@@ -50,8 +50,8 @@ impl Parts {
     }
 }
 
-// To whom the packet at this place goes, if there is one.
-fn whom(bag: &Bag, i: usize) -> Addressee
+/// To whom the packet at this place goes, if there is one.
+pub fn whom(bag: &Bag, i: usize) -> Addressee
     ensures { result ≡ whom (slice_get bag.now.packets i) }
 {
     let Some(envelope) = bag.get(i) else {

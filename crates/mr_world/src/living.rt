@@ -1,4 +1,5 @@
-ghost use Rattle.std.specs.Prelude.{◌≡◌, None, Some, is_some, IfOk, IfSome, OnOk, OnErr, List, ℕ};
+ghost use Rattle.std.specs.Prelude.{◌≡◌, None, Some, is_some, IfOk, IfSome, OnOk, OnErr, List, ℕ, filter, slice_get};
+ghost use Rattle.std.specs.List.Sorted.{IsStrictlySortedBy};
 ghost use Rattle.std.specs.Option.{option_copied};
 ghost use Rattle.mr_packet.specs.declared.packet.Packet.{Packet};
 ghost use Rattle.mr_container.specs.Past.{Hears, Sends, Computes, Calls};
@@ -9,7 +10,9 @@ ghost use Rattle.mr_container.specs.State.{after};
 ghost use Rattle.mr_model.specs.Actors.{is_finished};
 ghost use Rattle.mr_model.specs.Ids.{ContainerId};
 ghost use Rattle.mr_world.specs.Letters.{letters_by, letters_of, is_last};
-ghost use Rattle.mr_world.specs.Living.{kept, Changes, Same, stepped, is_over};
+ghost use Rattle.mr_world.specs.Living.{container_cmp, kept, Changes, Same, stepped, is_over};
+ghost use Rattle.mr_world.specs.Order.{in_order};
+ghost use Rattle.mr_world.specs.Readings.{is_behind, next_living};
 ghost use Rattle.mr_world.specs.Restarting.{stays, unless_on};
 
 use crate::letters::Letters;
@@ -17,6 +20,7 @@ use mr_container::{ContainerMachine, Reply, Wish};
 use mr_packet::{Bytes, ContainerId, Packet};
 use std::alloc::{AllocError, Global};
 use std::collections::BTreeMap;
+use std::ops::Bound;
 
 /// The machines of the containers that live, in the order of the containers.
 #[derive(Drop)]
@@ -149,6 +153,61 @@ impl Living {
             }
             None => Ok(false),
         }
+    }
+}
+
+// Who lives, in order.
+impl Living {
+    /// The containers stand in order. This call does nothing: it tells the caller so.
+    #[tactic(auto, unfolding(crate::specs::Order::in_order))]
+    pub fn tell_order(&self)
+        ensures { IsStrictlySortedBy container_cmp (in_order self.now) }
+    {
+        let _len = self.machines.len();
+    }
+
+    /// All containers that live, in order.
+    #[tactic(auto, unfolding(crate::specs::Order::in_order))]
+    pub fn all(&self, alloc: Global) -> Result<Vec<ContainerId>, AllocError>
+        ensures { IfOk result (λ all. all.items ≡ in_order self.now) }
+    {
+        let mut all = Vec::new(alloc);
+        for c in self.machines.keys() {
+            all.push(*c)?;
+        }
+        Ok(all)
+    }
+
+    /// The next one that lives after a container, in cyclic order; the first, where none is given. It takes no memory, and walks over none.
+    #[tactic(auto, unfolding(crate::specs::Order::in_order))]
+    pub fn next(&self, after: Option<ContainerId>) -> Option<ContainerId>
+        ensures { result ≡ next_living (in_order self.now) after }
+    {
+        if let Some(c) = after {
+            if let Some(next) = self.next_behind(c) {
+                return Some(next);
+            }
+        }
+        self.first()
+    }
+
+    // The first of all.
+    #[tactic(auto, unfolding(crate::specs::Order::in_order))]
+    fn first(&self) -> Option<ContainerId>
+        ensures { result ≡ slice_get (in_order self.now) 0 }
+    {
+        let (first, _machine) = self.machines.first_key_value()?;
+        Some(*first)
+    }
+
+    // The first behind a container.
+    #[tactic(auto, unfolding(crate::specs::Order::in_order))]
+    fn next_behind(&self, c: ContainerId) -> Option<ContainerId>
+        ensures { result ≡ slice_get (filter (is_behind (Some c)) (in_order self.now)) 0 }
+    {
+        let behind = (Bound::Excluded(c), Bound::Unbounded);
+        let (next, _machine) = self.machines.range(behind).next()?;
+        Some(*next)
     }
 }
 

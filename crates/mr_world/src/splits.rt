@@ -1,4 +1,4 @@
-ghost use Rattle.std.specs.Prelude.{◌≡◌, length, map};
+ghost use Rattle.std.specs.Prelude.{◌≡◌, length, map, option_map, slice_get};
 
 use std::marker::Model;
 
@@ -43,5 +43,13 @@ impl Splits {
         ensures { result ≡ length self.now }
     {
         self.items.len()
+    }
+
+    /// The bytes of the split at this place; none past the last. It takes no memory.
+    pub fn get(&self, place: usize) -> Option<&[u8]>
+        ensures { option_map (λ bytes. bytes.now) result ≡ slice_get self.now place }
+    {
+        let split = self.items.get(place)?;
+        Some(split.as_slice())
     }
 }

@@ -1,0 +1,104 @@
+//! Which attempts won, as the history tells.
+ghost use Rattle.std.specs.Prelude.{◌≡◌, IfOk, IfErr, map};
+ghost use Rattle.std.specs.List.{range_with_len};
+ghost use Rattle.mr_model.specs.Ids.{reduce_of};
+ghost use Rattle.mr_model.specs.Records.{winner_in};
+ghost use Rattle.mr_model.specs.Claims.{records, winner};
+ghost use Rattle.mr_model.specs.World.{World};
+ghost use Rattle.mr_world.specs.declared.fault.WorldFault.TheVariants.{NoMemory};
+ghost use Rattle.mr_world.specs.Standing.{Standing};
+ghost use Rattle.mr_world.specs.Winning.{if_at, success_of};
+
+use crate::fault::WorldFault;
+use crate::parts::Parts;
+use mr_history::{Record, Records};
+use mr_ids::{AttemptId, JobId, TaskId, TaskKind};
+use std::alloc::{AllocError, Global};
+
+impl Parts {
+    /// The recorded winner of a reduce, if it has one: the attempt of its first success that is stable. It refuses want of memory alone.
+    pub fn winner(&self, task: TaskId) -> Result<Option<AttemptId>, WorldFault>
+        ensures is { IfOk result (λ won. (w : World) → Standing self.now w → won ≡ winner w task) }
+        ensures memory { IfErr result (λ fault. fault ≡ WorldFault.NoMemory) }
+    {
+        let told = self.records()?;
+        Ok(winner_of(told.as_slice(), task))
+    }
+
+    /// The recorded winner of each reduce of the job, by number. It refuses want of memory alone, and reads the history once.
+    pub fn winners(&self) -> Result<Vec<Option<AttemptId>>, WorldFault>
+        ensures is { IfOk result (λ all. (w : World) → Standing self.now w → all.items ≡ map (λ r. winner w (reduce_of self.now.config.job r)) (range_with_len 0 self.now.config.reduces)) }
+        ensures memory { IfErr result (λ fault. fault ≡ WorldFault.NoMemory) }
+    {
+        let told = self.records()?;
+        let alloc = self.layout.dest.allocator();
+        let reduces = self.config.reduce_count();
+        let all = winners_of(alloc, self.config.job_id(), reduces, told.as_slice())?;
+        Ok(all)
+    }
+
+    // The records of all stable lines, by rising generation.
+    fn records(&self) -> Result<Records, WorldFault>
+        ensures is { IfOk result (λ told. (w : World) → Standing self.now w → told ≡ records w) }
+        ensures memory { IfErr result (λ fault. fault ≡ WorldFault.NoMemory) }
+    {
+        match self.history.records() {
+            Ok(told) => Ok(told),
+            Err(_) => Err(WorldFault::NoMemory),
+        }
+    }
+}
+
+// The attempt of the first success of a reduce.
+fn winner_of(told: &[Record], task: TaskId) -> Option<AttemptId>
+    ensures { result ≡ winner_in told.now task }
+{
+    for entry in told {
+        if let Some(attempt) = success_of(entry, task) {
+            return Some(attempt);
+        }
+    }
+    None
+}
+
+// The attempt, where the entry tells a success of the reduce.
+fn success_of(entry: &Record, task: TaskId) -> Option<AttemptId>
+    ensures { result ≡ success_of entry.now task }
+{
+    match *entry {
+        Record::ReduceSucceeded { attempt, .. } => if_at(attempt, task),
+        _ => None,
+    }
+}
+
+// The attempt, if it is one at the task.
+fn if_at(attempt: AttemptId, task: TaskId) -> Option<AttemptId>
+    ensures { result ≡ if_at attempt task }
+{
+    if attempt.task() == task {
+        Some(attempt)
+    } else {
+        None
+    }
+}
+
+// The winners of the first reduces of a job.
+fn winners_of(
+    alloc: Global,
+    job: JobId,
+    reduces: u32,
+    told: &[Record],
+) -> Result<Vec<Option<AttemptId>>, AllocError>
+    ensures { IfOk result (λ all. all.items ≡ map (λ r. winner_in told.now (reduce_of job r)) (range_with_len 0 reduces)) }
+{
+    let mut all = Vec::new(alloc);
+    for number in 0..reduces {
+        let task = TaskId {
+            job,
+            kind: TaskKind::Reduce,
+            number,
+        };
+        all.push(winner_of(told, task))?;
+    }
+    Ok(all)
+}
