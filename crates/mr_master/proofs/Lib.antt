@@ -30,3 +30,5 @@ pub mod Taken
 pub mod Called
 pub mod GivenUp
 pub mod Prepared
+pub mod Marking
+pub mod Following

@@ -46,19 +46,15 @@ find-stays p (x ∷ xs) ys t e = by (p x) e (find-stays p xs ys t)
     by true q go = q
     by false q go = go q
 
-pub none-first : (w : Setting) (kind : TaskKind) (p : TaskId → Bool) → find p (first_tasks w kind 0) ≡ None
-unfolding first_tasks
-none-first w kind p = refl
-
 tests-it : (w : Setting) (kind : TaskKind) (p : TaskId → Bool) (n : ℕ) (b : Bool) → n < count_of w kind → b ≡ (is_task w (task_of w kind n) && p (task_of w kind n)) → p (task_of w kind n) ≡ b
 tests-it w kind p n b within e = sym (e ∙ ap (λ c. c && p (task_of w kind n)) (task-of-is w kind n within))
 
-pub none-more : (w : Setting) (kind : TaskKind) (p : TaskId → Bool) (n : ℕ) (b : Bool) → n < count_of w kind → b ≡ (is_task w (task_of w kind n) && p (task_of w kind n)) → b ≡ false
-    → find p (first_tasks w kind n) ≡ None → find p (first_tasks w kind (n + 1)) ≡ None
+pub none-to : (w : Setting) (kind : TaskKind) (p : TaskId → Bool) (n : ℕ) → n ≤ count_of w kind → ((i : ℕ) → i < n → p (task_of w kind i) ≡ false) → find p (first_tasks w kind n) ≡ None
 unfolding first_tasks
-none-more w kind p n b within e idle before =
-    ap (λ (m : ℕ). find p (first_tasks w kind m)) (add-one n) ∙ find-more p (first_tasks w kind n) (task_of w kind n) before
-    ∙ ap (λ c. cond c (Some (task_of w kind n)) None) (tests-it w kind p n b within e ∙ idle)
+none-to w kind p zero within idle = refl
+none-to w kind p (suc n) within idle =
+    find-more p (first_tasks w kind n) (task_of w kind n) (none-to w kind p n (omega arith) (λ i below. idle i (omega arith)))
+    ∙ ap (λ c. cond c (Some (task_of w kind n)) None) (idle n (omega arith))
 
 later : (w : Setting) (kind : TaskKind) (p : TaskId → Bool) (n more : ℕ) (t : TaskId) → find p (first_tasks w kind n) ≡ Some t → find p (first_tasks w kind (n + more)) ≡ Some t
 unfolding first_tasks

@@ -17,3 +17,5 @@ pub mod Leaving
 pub mod Expiring
 pub mod Taking
 pub mod Ready
+pub mod Marks
+pub mod Progress

@@ -54,6 +54,7 @@ mod launching;
 mod leaving;
 mod locating;
 mod machine;
+mod marks;
 mod master;
 mod nodes;
 mod ops;

@@ -1,45 +1,127 @@
-//! How far the tasks of a kind have come.
-ghost use Rattle.std.specs.Prelude.{◌≡◌, ◌&&◌, ◌==◌, nat_lt, Some, None};
-ghost use Rattle.std.specs.Option.{is_some};
-ghost use Rattle.mr_master_model.specs.Job.{is_task, first_tasks, count_of};
-ghost use Rattle.mr_master_model.specs.Readings.{succeeded, all_succeeded};
-ghost use Rattle.mr_master.specs.State.{Reads};
+//! How far the tasks have come, kept where a task's machine changes, so that nobody has to look through all tasks.
+ghost use Rattle.std.specs.Prelude.{◌≡◌, ◌+◌, ◌&&◌, ℕ, false, is_none, not, nat_lt, IfOk, IfSome, IfNone};
+ghost use Rattle.mr_ids.specs.declared.id.TaskKind.TheVariants.{Map};
+ghost use Rattle.mr_grant.specs.Attempts.{first_of};
+ghost use Rattle.mr_task.specs.Readings.{seen, live};
+ghost use Rattle.mr_task.specs.State.{Answers};
+ghost use Rattle.mr_master_model.specs.Readings.{wants_launch};
+ghost use Rattle.mr_master.specs.Marks.{is_marked, IsFirst};
+ghost use Rattle.mr_master.specs.Progress.{is_open, open_of, same_kind, HasRoom, NotesAll, IsProgress};
 
-use crate::leaving::count_of;
-use crate::machine::Machine;
-use crate::places::place_of;
-use mr_ids::{TaskId, TaskKind};
+use crate::marks::Marks;
+use crate::tasks::is_live;
+use mr_ids::TaskKind;
+use mr_task::{MAX_LAUNCHES, TaskMachine};
+use std::alloc::{AllocError, Global};
+use std::marker::Model;
 
-impl Machine {
-    // Whether each task of a kind has a Succeeded attempt.
-    pub fn all_succeeded(&self, kind: TaskKind) -> bool
-        ensures { Reads self.now (λ w s. all_succeeded w s (first_tasks w kind (count_of w kind))) result }
+/// Which places are those of tasks that wait for a launch, of maps that are not Succeeded, of reduces that are not.
+#[derive(Drop)]
+pub struct Progress {
+    waiting: Marks,
+    open_maps: Marks,
+    open_reduces: Marks,
+}
+
+impl Model for Progress {
+    ghost use Rattle.mr_master.specs.Progress.{Progress};
+
+    ghost Value = { Progress };
+
+    ghost view = { λ p. record { waiting = p.waiting; open_maps = p.open_maps; open_reduces = p.open_reduces } };
+}
+
+impl Progress {
+    // Of these machines.
+    pub fn of(alloc: Global, machines: &Vec<TaskMachine>) -> Result<Progress, AllocError>
+        ensures { IfOk result (λ progress. IsProgress progress machines.now.items) }
     {
-        let mut all = true;
-        let count = count_of(&self.setting, kind);
-        for number in 0..count {
-            let task = TaskId {
-                job: self.setting.job,
-                kind,
-                number,
-            };
-            let succeeded = self.has_succeeded(task);
-            all = both(all, succeeded);
+        let mut progress = Progress::new(alloc, machines.len())?;
+        for i in 0..machines.len() {
+            progress.note(i, &machines[i]);
         }
-        all
+        Ok(progress)
     }
 
-    // Whether the task has a Succeeded attempt. Of one that is not the job's: no.
-    fn has_succeeded(&self, task: TaskId) -> bool
-        ensures { Reads self.now (λ w s. is_task w task && is_some (succeeded w s task)) result }
+    // So many places at least, none of which is marked.
+    fn new(alloc: Global, count: usize) -> Result<Progress, AllocError>
+        ensures room { IfOk result (λ progress. HasRoom progress count) }
+        ensures waiting { IfOk result (λ progress. (i : ℕ) → is_marked progress.waiting i ≡ false) }
+        ensures open_maps { IfOk result (λ progress. (i : ℕ) → is_marked progress.open_maps i ≡ false) }
+        ensures open_reduces { IfOk result (λ progress. (i : ℕ) → is_marked progress.open_reduces i ≡ false) }
     {
-        let Some(place) = place_of(&self.setting, task) else {
-            return false;
-        };
-        match self.tasks.at(place) {
-            Some(machine) => machine.winner().is_some(),
-            None => false,
+        Ok(Progress {
+            waiting: Marks::new(alloc, count)?,
+            open_maps: Marks::new(alloc, count)?,
+            open_reduces: Marks::new(alloc, count)?,
+        })
+    }
+
+    pub fn copy(&self) -> Result<Progress, AllocError>
+        ensures { IfOk result (λ progress. progress ≡ self.now) }
+    {
+        Ok(Progress {
+            waiting: self.waiting.copy()?,
+            open_maps: self.open_maps.copy()?,
+            open_reduces: self.open_reduces.copy()?,
+        })
+    }
+
+    // This machine is at the place from then on.
+    pub fn note(&mut self, place: usize, task: &TaskMachine)
+        requires { HasRoom self.old (place + 1) }
+        ensures { NotesAll self.old place task.now self.new }
+    {
+        self.waiting.set(place, wants_launch(task));
+        self.open_maps.set(place, is_open(task, TaskKind::Map));
+        self.open_reduces
+            .set(place, is_open(task, TaskKind::Reduce));
+    }
+
+    // The first place of a task that waits.
+    pub fn first_waiting(&self) -> Option<usize>
+        ensures first { IfSome result (λ i. IsFirst self.now.waiting i) }
+        ensures none { IfNone result ((i : ℕ) → is_marked self.now.waiting i ≡ false) }
+    {
+        self.waiting.first()
+    }
+
+    // The first place of a task of a kind that is not Succeeded.
+    pub fn first_open(&self, kind: TaskKind) -> Option<usize>
+        ensures first { IfSome result (λ i. IsFirst (open_of kind self.now) i) }
+        ensures none { IfNone result ((i : ℕ) → is_marked (open_of kind self.now) i ≡ false) }
+    {
+        match kind {
+            TaskKind::Map => self.open_maps.first(),
+            TaskKind::Reduce => self.open_reduces.first(),
         }
+    }
+}
+
+// Whether the task is of this kind, and not Succeeded.
+fn is_open(task: &TaskMachine, kind: TaskKind) -> bool
+    ensures { Answers task.now (is_open kind) result }
+{
+    let is_kind = same_kind(task.task().kind, kind);
+    let none = task.winner().is_none();
+    both(is_kind, none)
+}
+
+fn same_kind(a: TaskKind, b: TaskKind) -> bool
+    ensures { result ≡ same_kind a b }
+{
+    match a {
+        TaskKind::Map => is_map(b),
+        TaskKind::Reduce => !is_map(b),
+    }
+}
+
+fn is_map(kind: TaskKind) -> bool
+    ensures { result ≡ same_kind Map kind }
+{
+    match kind {
+        TaskKind::Map => true,
+        TaskKind::Reduce => false,
     }
 }
 
@@ -47,4 +129,33 @@ fn both(a: bool, b: bool) -> bool
     ensures { result ≡ (a && b) }
 {
     a && b
+}
+
+// Whether no attempt is live, Recording or Succeeded, and numbers are left.
+fn wants_launch(task: &TaskMachine) -> bool
+    ensures { Answers task.now (λ t k calls. wants_launch (seen t k calls)) result }
+{
+    let idle = is_idle(task);
+    let won = task.is_won();
+    let numbered = task.numbered();
+    all_hold(idle, won, numbered)
+}
+
+fn all_hold(idle: bool, won: bool, numbered: u32) -> bool
+    ensures { result ≡ (idle && (not won && nat_lt numbered 1000)) }
+{
+    idle && !won && numbered < MAX_LAUNCHES
+}
+
+// Whether no attempt is live.
+fn is_idle(task: &TaskMachine) -> bool
+    ensures { Answers task.now (λ t k calls. is_none (first_of (live (seen t k calls)))) result }
+{
+    let arrived = task.arrived();
+    for i in 0..arrived.len() {
+        if is_live(task, arrived[i]) {
+            return false;
+        }
+    }
+    true
 }

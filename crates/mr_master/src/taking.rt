@@ -1,6 +1,6 @@
 //! What succeeded under earlier masters is taken over: into machines of the tasks that are built beside the ones that are there, so that
 //! nothing has changed where memory is refused.
-ghost use Rattle.std.specs.Prelude.{◌≡◌, ◌<◌, true, length, List, [], ◌∷◌, ◌++◌, flat_map, OnOk, IfOk, vec_len};
+ghost use Rattle.std.specs.Prelude.{◌≡◌, ◌<◌, true, length, List, [], ◌∷◌, ◌++◌, flat_map, OnOk, OnErr, IfOk, vec_len};
 ghost use Rattle.mr_ids.specs.declared.id.TaskId.{TaskId};
 ghost use Rattle.mr_task.specs.Calls.{TaskCall, Recovers};
 ghost use Rattle.mr_task.specs.Readings.{seen, may_recover};
@@ -16,7 +16,7 @@ ghost use Rattle.mr_master.specs.State.{Keeps, Reads, Adds};
 use crate::earlier::newest;
 use crate::machine::Machine;
 use crate::places::place_of;
-use crate::tasks::Tasks;
+use crate::tasks::{Tasks, follow};
 use mr_ids::{AttemptId, TaskId, TaskKind};
 use mr_master_model::Setting;
 use mr_task::TaskMachine;
@@ -31,7 +31,8 @@ impl Tasks {
         for i in 0..self.machines.len() {
             push_copy(&mut machines, &self.machines[i])?;
         }
-        Ok(Tasks { machines })
+        let progress = self.progress.copy()?;
+        Ok(Tasks { machines, progress })
     }
 
     // The attempt succeeded under an earlier master: it is entered, if its task has none.
@@ -40,6 +41,7 @@ impl Tasks {
         ensures { OnOk result (Takes self.old place (Recovers attempt) self.new) }
     {
         recover_at(&mut self.machines, place, attempt)?;
+        follow(&self.machines, &mut self.progress, place);
         Ok(())
     }
 
@@ -88,7 +90,8 @@ fn recover_at(
     attempt: AttemptId,
 ) -> Result<(), AllocError>
     requires { place < vec_len tasks.old }
-    ensures { OnOk result (TakesAt tasks.old.items place (Recovers attempt) tasks.new.items) }
+    ensures takes { OnOk result (TakesAt tasks.old.items place (Recovers attempt) tasks.new.items) }
+    ensures err { OnErr result (tasks.new.items ≡ tasks.old.items) }
 {
     let task = &mut tasks[place];
     recover(task, attempt)
@@ -96,7 +99,8 @@ fn recover_at(
 
 // A task that has an attempt, or that is not the attempt's, stays as it is.
 fn recover(task: &mut TaskMachine, attempt: AttemptId) -> Result<(), AllocError>
-    ensures { OnOk result (Stands task.old (Recovers attempt) task.new) }
+    ensures stands { OnOk result (Stands task.old (Recovers attempt) task.new) }
+    ensures err { OnErr result (task.new ≡ task.old) }
 {
     if !may_recover(task, attempt) {
         return Ok(());

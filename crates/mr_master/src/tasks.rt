@@ -1,24 +1,32 @@
 //! The machines of a master's tasks, by place.
-ghost use Rattle.std.specs.Prelude.{◌≡◌, ◌<◌, ◌+◌, ◌&&◌, not, nat_le, length, true, [], ◌∷◌, Some, ℕ, slice_get, OnOk, OnErr, IfOk, IfErr, Ok, unwrap_or, vec_len};
-ghost use Rattle.std.specs.Option.{option_copied};
+ghost use Rattle.std.specs.Prelude.{◌≡◌, ◌<◌, ◌+◌, ◌&&◌, not, nat_le, length, true, [], ◌∷◌, Some, ℕ, slice_get, List, None, OnOk, OnErr, IfOk, IfErr, IfSome, IfNone, Ok, unwrap_or, vec_len};
+ghost use Rattle.std.specs.List.{find, list_all};
+ghost use Rattle.std.specs.Option.{is_some, option_copied};
 ghost use Rattle.mr_grant.specs.Attempts.{has};
-ghost use Rattle.mr_task.specs.Calls.{Launches, Asks, Reports, Hears, Fails, Ends, Dies, Loses, Records};
-ghost use Rattle.mr_task.specs.Readings.{seen, is_named, is_live, is_won, failures, launch_refusal};
+ghost use Rattle.mr_ids.specs.declared.id.TaskId.{TaskId};
+ghost use Rattle.mr_ids.specs.declared.id.TaskKind.{TaskKind};
+ghost use Rattle.mr_task.specs.Calls.{TaskCall, Launches, Asks, Reports, Hears, Fails, Ends, Dies, Loses, Records};
+ghost use Rattle.mr_task.specs.Readings.{seen, is_named, is_live, is_won, failures, launch_refusal, succeeded};
 ghost use Rattle.mr_task.specs.State.{done_answer, launch_answer, Answers};
+ghost use Rattle.mr_master_model.specs.declared.setting.Setting.{Setting};
+ghost use Rattle.mr_master_model.specs.Job.{first_tasks, count_of};
 ghost use Rattle.mr_master.specs.Ends.{call_of};
+ghost use Rattle.mr_master.specs.Progress.{waits, IsNextOf, IsProgress, HasTaken};
 ghost use Rattle.mr_master.specs.Tasks.{KeepsTasks, TakesAt, AnswersAt, Takes, ReadsAt, reply_or, NewTasks};
 
 use crate::ending::Ending;
+use crate::progress::Progress;
 use mr_ids::{AttemptId, TaskId, TaskKind};
 use mr_master_model::Setting;
 use mr_task::{DoneReply, TaskFault, TaskMachine};
 use std::alloc::{AllocError, Global};
 use std::marker::Model;
 
-/// The machines of all tasks: maps, then reduces.
+/// The machines of all tasks: maps, then reduces; and how far the tasks have come.
 #[derive(Drop)]
 pub struct Tasks {
     pub machines: Vec<TaskMachine>,
+    pub progress: Progress,
 }
 
 impl Model for Tasks {
@@ -27,6 +35,10 @@ impl Model for Tasks {
     ghost Value = { Tasks };
 
     ghost view = { λ m. record { machines = m.machines.items } };
+
+    ghost use Rattle.mr_master.specs.Progress.{IsProgress};
+
+    ghost invariant = { λ m. IsProgress m.progress m.machines.items };
 }
 
 impl Tasks {
@@ -43,7 +55,8 @@ impl Tasks {
             TaskKind::Reduce,
             setting.reduces,
         )?;
-        Ok(Tasks { machines })
+        let progress = Progress::of(alloc, &machines)?;
+        Ok(Tasks { machines, progress })
     }
 
     // How many tasks there are.
@@ -104,6 +117,7 @@ impl Tasks {
         ensures err { OnErr result (self.new ≡ self.old) }
     {
         let attempt = launch_at(&mut self.machines, place)?;
+        follow(&self.machines, &mut self.progress, place);
         Ok(attempt)
     }
 
@@ -114,6 +128,7 @@ impl Tasks {
         ensures err { OnErr result (self.new ≡ self.old) }
     {
         ask_at(&mut self.machines, place, attempt)?;
+        follow(&self.machines, &mut self.progress, place);
         Ok(())
     }
 
@@ -123,7 +138,9 @@ impl Tasks {
         ensures takes { Takes self.old place (Reports attempt) self.new }
         ensures answer { AnswersAt self.old.machines place (λ t k calls. reply_or (done_answer attempt t k calls) DoneReply.Ignored) result }
     {
-        report_at(&mut self.machines, place, attempt)
+        let reply = report_at(&mut self.machines, place, attempt);
+        follow(&self.machines, &mut self.progress, place);
+        reply
     }
 
     // The attempt is heard of.
@@ -132,6 +149,7 @@ impl Tasks {
         ensures { Takes self.old place (Hears attempt) self.new }
     {
         note_at(&mut self.machines, place, attempt);
+        follow(&self.machines, &mut self.progress, place);
     }
 
     // The attempt failed.
@@ -140,6 +158,7 @@ impl Tasks {
         ensures { Takes self.old place (Fails attempt) self.new }
     {
         fail_at(&mut self.machines, place, attempt);
+        follow(&self.machines, &mut self.progress, place);
     }
 
     // The attempt's container ended.
@@ -148,6 +167,7 @@ impl Tasks {
         ensures { Takes self.old place (Ends attempt was_killed) self.new }
     {
         end_at(&mut self.machines, place, attempt, was_killed);
+        follow(&self.machines, &mut self.progress, place);
     }
 
     // The attempt ended so.
@@ -187,6 +207,7 @@ impl Tasks {
         ensures { Takes self.old place (Dies attempt) self.new }
     {
         die_at(&mut self.machines, place, attempt);
+        follow(&self.machines, &mut self.progress, place);
     }
 
     // The output of the map's Succeeded attempt is lost.
@@ -195,6 +216,7 @@ impl Tasks {
         ensures { Takes self.old place (Loses attempt) self.new }
     {
         lose_at(&mut self.machines, place, attempt);
+        follow(&self.machines, &mut self.progress, place);
     }
 
     // The success of the attempt is recorded.
@@ -203,7 +225,43 @@ impl Tasks {
         ensures { Takes self.old place (Records attempt) self.new }
     {
         record_at(&mut self.machines, place, attempt);
+        follow(&self.machines, &mut self.progress, place);
     }
+}
+
+impl Tasks {
+    // The first task that waits for a launch, maps first.
+    pub fn first_waiting(&self) -> Option<TaskId>
+        ensures some { IfSome result (λ t. (w : Setting) (calls : TaskId → List TaskCall) → KeepsTasks self.now w calls → IsNextOf t.kind w (λ u. waits u w.app (calls u)) t) }
+        ensures none { IfNone result ((w : Setting) (calls : TaskId → List TaskCall) (kind : TaskKind) → KeepsTasks self.now w calls → find (λ u. waits u w.app (calls u)) (first_tasks w kind (count_of w kind)) ≡ None) }
+    {
+        let Some(place) = self.progress.first_waiting() else {
+            return None;
+        };
+        match self.at(place) {
+            Some(machine) => Some(machine.task()),
+            None => None,
+        }
+    }
+
+    // Whether each task of a kind has a Succeeded attempt.
+    pub fn all_succeeded(&self, kind: TaskKind) -> bool
+        ensures { (w : Setting) (calls : TaskId → List TaskCall) → KeepsTasks self.now w calls → result ≡ list_all (λ t. is_some (succeeded (seen t w.app (calls t)))) (first_tasks w kind (count_of w kind)) }
+    {
+        match self.progress.first_open(kind) {
+            Some(_place) => false,
+            None => true,
+        }
+    }
+}
+
+// The machine at the place took a call: what is kept of how far the tasks have come follows.
+pub fn follow(machines: &Vec<TaskMachine>, progress: &mut Progress, place: usize)
+    requires { HasTaken progress.old place machines.now.items }
+    ensures { IsProgress progress.new machines.now.items }
+{
+    let task = &machines[place];
+    progress.note(place, task);
 }
 
 fn is_arrived(tasks: &Vec<TaskMachine>, place: usize, attempt: AttemptId) -> bool

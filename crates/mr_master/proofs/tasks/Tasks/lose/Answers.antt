@@ -1,4 +1,4 @@
-use Rattle.std.proofs.Common.{subst}
+use Rattle.std.proofs.Common.{subst, rules}
 use Rattle.mr_task.specs.Calls.{Loses}
 use Rattle.mr_master.specs.Tasks.{Tasks, Takes}
 use Rattle.mr_master.proofs.Keeping.{takes_keeps}
@@ -9,3 +9,12 @@ returns c =
     let old : Tasks = record { machines = c.self.inside.machines.items } in
     let new : Tasks = record { machines = c.lose_at.new.tasks.items } in
     subst (λ (x : Tasks). Takes x c.args.place (Loses c.args.attempt) new) c.self.view_is (takes_keeps old new c.args.place (Loses c.args.attempt) c.lose_at.ensures)
+
+pub follow-requires : goal.follow-requires
+follow-requires c = record {
+  before = c.self.inside.machines.items;
+  was = c.self.invariant;
+  within = search rules;
+  call = Loses c.args.attempt;
+  takes = c.lose_at.ensures;
+}

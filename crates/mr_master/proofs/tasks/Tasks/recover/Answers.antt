@@ -1,4 +1,4 @@
-use Rattle.std.proofs.Common.{subst}
+use Rattle.std.proofs.Common.{subst, rules}
 use Rattle.mr_task.specs.Calls.{Recovers}
 use Rattle.mr_master.specs.Tasks.{Tasks, Takes}
 use Rattle.mr_master.proofs.Keeping.{takes_keeps}
@@ -8,4 +8,13 @@ pub returns : goal.returns
 returns c =
     let old : Tasks = record { machines = c.self.inside.machines.items } in
     let new : Tasks = record { machines = c.recover_at.new.tasks.items } in
-    subst (λ (x : Tasks). Takes x c.args.place (Recovers c.args.attempt) new) c.self.view_is (takes_keeps old new c.args.place (Recovers c.args.attempt) c.in_ok-recover_at.ensures)
+    subst (λ (x : Tasks). Takes x c.args.place (Recovers c.args.attempt) new) c.self.view_is (takes_keeps old new c.args.place (Recovers c.args.attempt) c.in_ok-recover_at.ensures.takes)
+
+pub follow-requires : goal.follow-requires
+follow-requires c = record {
+  before = c.self.inside.machines.items;
+  was = c.self.invariant;
+  within = search rules;
+  call = Recovers c.args.attempt;
+  takes = c.in_ok-recover_at.ensures.takes;
+}
