@@ -18,3 +18,6 @@ pub mod Order
 pub mod Readings
 pub mod Seen
 pub mod Winning
+pub mod Journal
+pub mod Applying
+pub mod Headline

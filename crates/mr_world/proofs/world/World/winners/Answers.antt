@@ -1,0 +1,11 @@
+use Rattle.std.proofs.Common.{◌≡◌, subst, map, IfOk}
+use Rattle.std.proofs.lemmas.Result.{IfOk-weaker}
+use Rattle.std.specs.List.{range_with_len}
+use Rattle.mr_model.specs.Claims.{winner}
+use Rattle.mr_model.specs.Ids.{reduce_of}
+use Rattle.mr_world.specs.Journal.{Journal, run_of, world_in}
+use Rattle.mr_world.proofs.world.World.winners.Goals as goal
+
+pub returns-clause-is : goal.returns-clause-is
+returns-clause-is c = subst (λ (j : Journal). IfOk c.winners.result (λ all. all.items ≡ map (λ r. winner (world_in j) (reduce_of j.config.job r)) (range_with_len 0 j.config.reduces))) c.self.view_is
+    (IfOk-weaker c.winners.result _ _ (λ all is. is (run_of c.self.inside.parts.config c.self.inside.journal.items) c.self.invariant.stands) c.winners.ensures.is)

@@ -1,0 +1,77 @@
+-- What the calls of a world promise.
+use Rattle.std.specs.Prelude.{◌≡◌, ℕ, Bool, true, ◌&&◌, nat_lt, List, [], ◌∷◌, ◌++◌, Option, None, Result, Ok, Err, length}
+use Rattle.mr_model.specs.World.{World, Event}
+use Rattle.mr_model.specs.Effect.{not_now, effect}
+use Rattle.mr_model.specs.Sending.{sent}
+use Rattle.mr_world.specs.declared.fault.WorldFault.{WorldFault}
+use Rattle.mr_world.specs.declared.limits.TheConstants.{MAX_EVENTS}
+use Rattle.mr_world.specs.declared.parts.Parts.{Parts}
+use Rattle.mr_world.specs.declared.took.Took.{Took}
+use Rattle.mr_world.specs.Limits.{within}
+use Rattle.mr_world.specs.Standing.{Standing, IsTaken, Refuses}
+use Rattle.mr_world.specs.Journal.{Journal, world_in, run_of, taken, fits}
+
+-- an event is permitted and passes no limit
+pub record CanHappen (j : Journal) (e : Event) : Type 0 where
+  pub now : not_now j.config (world_in j) e ≡ None
+  pub fits : fits j e ≡ true
+
+-- the first reason why an event is not permitted, or else that it would pass a limit, or else want of memory, which may also come while it is found out whether it would
+abbrev pub IsRefused : Journal → Event → WorldFault → Type 0
+IsRefused j e f = Refuses (not_now j.config (world_in j) e) (fits j e) f
+
+-- a look at an event: it would be taken, or is refused so
+abbrev pub Foretells : {A : Type 0} → Journal → Event → Result A WorldFault → Type 0
+Foretells j e (Ok a) = CanHappen j e
+Foretells j e (Err f) = IsRefused j e f
+
+-- An event was taken: it could happen, it is the last of the journal, the world after it is that of the definitions, and the packets that it added are the last of the bag.
+pub record Takes (old : Journal) (e : Event) (took : Took) (new : Journal) : Type 0 where
+  pub could : CanHappen old e
+  pub journal : new ≡ record { config = old.config; events = old.events ++ e ∷ [] }
+  pub effect : world_in new ≡ effect old.config (world_in old) e
+  pub first : took.first ≡ length (world_in old).bag
+  pub count : took.count ≡ length (sent old.config (world_in old) e)
+
+-- an event was taken, or it was refused and nothing has changed
+abbrev pub Applies : Journal → Event → Result Took WorldFault → Journal → Type 0
+Applies old e (Ok took) new = Takes old e took new
+Applies old e (Err f) new = IsRefused old e f × (new ≡ old)
+
+-- These events were run: those that were taken are in the journal from then on, and the world is that of the journal and these events.
+pub record Ran (old : Journal) (es : List Event) (new : Journal) : Type 0 where
+  pub journal : new ≡ record { config = old.config; events = old.events ++ taken old.config (world_in old) es }
+  pub world : world_in new ≡ run_of old.config (old.events ++ es)
+
+-- this event was run; or it was permitted and refused, and nothing has changed
+abbrev pub Passes : {A : Type 0} → Journal → Event → Result A WorldFault → Journal → Type 0
+Passes old e (Ok a) new = Ran old (e ∷ []) new
+Passes old e (Err f) new = (not_now old.config (world_in old) e ≡ None) × IsRefused old e f × (new ≡ old)
+
+-- Those before this event were run. It was permitted, and refused.
+pub record StopsAt (old : Journal) (es : List Event) (f : WorldFault) (new : Journal) : Type 0 where
+  pub before : List Event
+  pub event : Event
+  pub after : List Event
+  pub are : es ≡ before ++ event ∷ after
+  pub ran : Ran old before new
+  pub now : not_now new.config (world_in new) event ≡ None
+  pub refused : IsRefused new event f
+
+abbrev pub Runs : {A : Type 0} → Journal → List Event → Result A WorldFault → Journal → Type 0
+Runs old es (Ok a) new = Ran old es new
+Runs old es (Err f) new = StopsAt old es f new
+
+-- ---- what is said of the parts, where a journal of so many events goes with them
+
+abbrev pub RefusesAt : Parts → ℕ → Event → WorldFault → Type 0
+RefusesAt p n e f = (w : World) → Standing p w → Refuses (not_now p.config w e) (nat_lt n MAX_EVENTS && within p.config w e) f
+
+abbrev pub ForetellsAt : {A : Type 0} → Parts → ℕ → Event → Result A WorldFault → Type 0
+ForetellsAt p n e (Ok a) = (nat_lt n MAX_EVENTS ≡ true) × ((w : World) → Standing p w → IsTaken p.config w e)
+ForetellsAt p n e (Err f) = RefusesAt p n e f
+
+-- the packets that an event added are the last of the bag
+pub record Counts (p : Parts) (w : World) (e : Event) (took : Took) : Type 0 where
+  pub first : took.first ≡ length w.bag
+  pub count : took.count ≡ length (sent p.config w e)

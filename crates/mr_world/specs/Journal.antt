@@ -1,0 +1,43 @@
+-- What contracts see of a world, its config and its journal, and the world of the definitions that these lead to.
+use Rattle.std.specs.Prelude.{◌≡◌, ◌≤◌, Bool, ◌&&◌, nat_lt, List, [], ◌∷◌, ◌++◌, if◌then◌else◌, length}
+use Rattle.mr_model.specs.Packets.{Config}
+use Rattle.mr_model.specs.World.{World, Event, opening_world}
+use Rattle.mr_model.specs.Effect.{happens}
+use Rattle.mr_model.specs.Claims.{world_of}
+use Rattle.mr_model.specs.Sequential.{is_taken}
+use Rattle.mr_world.specs.declared.limits.TheConstants.{MAX_EVENTS}
+use Rattle.mr_world.specs.declared.parts.Parts.{Parts}
+use Rattle.mr_world.specs.Limits.{within}
+use Rattle.mr_world.specs.Standing.{Standing}
+
+-- the events are those that were taken, in order
+pub record Journal : Type 0 where
+  pub config : Config
+  pub events : List Event
+
+-- the world after these events, under the limits
+abbrev pub run_of : Config → List Event → World
+run_of cfg es = world_of cfg (within cfg) es
+
+-- the world that a journal leads to
+abbrev pub world_in : Journal → World
+world_in j = run_of j.config j.events
+
+-- the event, if it is taken
+abbrev pub if_taken : Config → World → Event → List Event
+if_taken cfg w e = if is_taken cfg (within cfg) w e then e ∷ [] else []
+
+-- of a list of events those that are taken, as it is run
+abbrev pub taken : Config → World → List Event → List Event
+taken cfg w [] = []
+taken cfg w (e ∷ es) = if_taken cfg w e ++ taken cfg (happens cfg (within cfg) w e) es
+
+-- The parts stand for the world that the journal leads to, each event of it was taken, and it has room. This is where the code of a world and the definitions meet.
+pub record Keeps (p : Parts) (es : List Event) : Type 0 where
+  pub stands : Standing p (run_of p.config es)
+  pub taken : taken p.config opening_world es ≡ es
+  pub few : length es ≤ MAX_EVENTS
+
+-- whether an event passes no limit, that of the journal among them
+abbrev pub fits : Journal → Event → Bool
+fits j e = nat_lt (length j.events) MAX_EVENTS && within j.config (world_in j) e

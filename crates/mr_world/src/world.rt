@@ -1,0 +1,260 @@
+ghost use Rattle.std.specs.Prelude.{◌≡◌, ◌≤◌, ◌<◌, [], IfOk, IfErr, map, slice_get};
+ghost use Rattle.std.specs.List.{range_with_len};
+ghost use Rattle.std.specs.Option.{option_map};
+ghost use Rattle.mr_history.specs.Reading.{records_of};
+ghost use Rattle.mr_model.specs.Ids.{marker, reduce_of};
+ghost use Rattle.mr_model.specs.Content.{entry_at, is_file};
+ghost use Rattle.mr_model.specs.Effect.{addressee};
+ghost use Rattle.mr_model.specs.Claims.{winner};
+ghost use Rattle.mr_model.specs.Results.{outcome, visible};
+ghost use Rattle.mr_world.specs.declared.fault.WorldFault.TheVariants.{NoMemory};
+ghost use Rattle.mr_world.specs.Applying.{Applies, Foretells, Passes, Runs};
+ghost use Rattle.mr_world.specs.Headline.{HeadlineHolds};
+ghost use Rattle.mr_world.specs.Journal.{world_in};
+ghost use Rattle.mr_world.specs.Readings.{as_input, due_in, input_in, living, next_living, phase_in, unflushed_in, wanted_in, wish_in};
+ghost use Rattle.mr_world.specs.Seen.{as_pair};
+
+use crate::config::Config;
+use crate::fault::WorldFault;
+use crate::happen::{foresee, make_room, take};
+use crate::inputs::Input;
+use crate::parts::Parts;
+use crate::results::VisibleFile;
+use crate::took::Took;
+use mr_container::Wish;
+use mr_event::{Event, Why};
+use mr_ids::{AttemptId, TaskId};
+use mr_master_model::{DutyName, Phase};
+use mr_packet::{ContainerId, Envelope};
+use std::alloc::Global;
+use std::marker::Model;
+
+/// A cluster that is run, event by event. Contracts see its config and its journal, the events that were taken, in order: the world is at each
+/// point the run of its journal.
+#[derive(Drop)]
+pub struct World {
+    parts: Parts,
+    journal: Vec<Event>,
+}
+
+impl Model for World {
+    ghost use Rattle.mr_world.specs.Journal.{Journal, Keeps};
+
+    ghost Value = { Journal };
+
+    ghost view = { λ w. record { config = w.parts.config; events = w.journal.items } };
+
+    ghost invariant = { λ w. Keeps w.parts w.journal.items };
+}
+
+impl World {
+    /// The opening world of a config, with an empty journal. It may want memory; nothing else is refused.
+    pub fn new(alloc: Global, config: Config) -> Result<World, WorldFault>
+        ensures opens { IfOk result (λ world. world ≡ record { config = config; events = [] }) }
+        ensures memory { IfErr result (λ fault. fault ≡ WorldFault.NoMemory) }
+    {
+        let parts = Parts::new(alloc, config)?;
+        Ok(World {
+            parts,
+            journal: Vec::new(alloc),
+        })
+    }
+
+    /// The event happens: it is the last of the journal from then on.
+    ///
+    /// Refusals in order: `NotNow` with the first reason why the event is not permitted, `Full` where it would pass a limit or the journal has
+    /// `MAX_EVENTS` events, `NoMemory`. Nothing has changed then.
+    pub fn apply(&mut self, event: Event) -> Result<Took, WorldFault>
+        ensures applies { Applies self.old event result self.new }
+        ensures headline { HeadlineHolds self.old self.new }
+    {
+        make_room(&self.parts, &mut self.journal, &event)?;
+        let took = take(&mut self.parts, &event)?;
+        self.journal.push_reserved(event);
+        Ok(took)
+    }
+
+    /// Whether the event would be taken now; else what `apply` would refuse it for. It changes nothing, and may want memory.
+    pub fn foresee(&self, event: &Event) -> Result<(), WorldFault>
+        ensures { Foretells self.now event.now result }
+    {
+        foresee(&self.parts, self.journal.len(), event)
+    }
+
+    /// The events happen, in order. One that is not permitted when it comes is passed over.
+    ///
+    /// Refusals: `Full` or `NoMemory`, at the first event that `apply` refuses so. Those before it have happened then.
+    pub fn run(&mut self, events: Vec<Event>) -> Result<(), WorldFault>
+        ensures runs { Runs self.old events.items result self.new }
+        ensures headline { HeadlineHolds self.old self.new }
+    {
+        for event in events {
+            self.apply_or_pass(event)?;
+        }
+        Ok(())
+    }
+
+    // The event happens, or is passed over where it is not permitted now.
+    fn apply_or_pass(&mut self, event: Event) -> Result<(), WorldFault>
+        ensures { Passes self.old event result self.new }
+    {
+        match self.apply(event) {
+            Ok(_took) => Ok(()),
+            Err(WorldFault::NotNow(_why)) => Ok(()),
+            Err(WorldFault::Full) => Err(WorldFault::Full),
+            Err(WorldFault::NoMemory) => Err(WorldFault::NoMemory),
+        }
+    }
+
+    /// The events that were taken, in order. It takes no memory.
+    pub fn journal(&self) -> &[Event]
+        ensures { result.now ≡ self.now.events }
+    {
+        self.journal.as_slice()
+    }
+
+    /// The config that the world was made with. It takes no memory.
+    pub fn config(&self) -> &Config
+        ensures { result.now ≡ self.now.config }
+    {
+        &self.parts.config
+    }
+
+    /// All packets that were ever sent, in the order of their sending. It takes no memory.
+    pub fn bag(&self) -> &[Envelope]
+        ensures { result.now ≡ (world_in self.now).bag }
+    {
+        self.parts.packets()
+    }
+}
+
+// What comes of the world for those outside
+impl World {
+    /// The recorded winner of a reduce, if it has one: the attempt of its first success that is stable. It refuses want of memory alone.
+    pub fn winner(&self, task: TaskId) -> Result<Option<AttemptId>, WorldFault>
+        ensures is { IfOk result (λ won. won ≡ winner (world_in self.now) task) }
+        ensures memory { IfErr result (λ fault. fault ≡ WorldFault.NoMemory) }
+    {
+        self.parts.winner(task)
+    }
+
+    /// The recorded winner of each reduce of the job, by number. It refuses want of memory alone, and reads the history once.
+    pub fn winners(&self) -> Result<Vec<Option<AttemptId>>, WorldFault>
+        ensures is { IfOk result (λ all. all.items ≡ map (λ r. winner (world_in self.now) (reduce_of self.now.config.job r)) (range_with_len 0 self.now.config.reduces)) }
+        ensures memory { IfErr result (λ fault. fault ≡ WorldFault.NoMemory) }
+    {
+        self.parts.winners()
+    }
+
+    /// Whether the success marker is there. It refuses want of memory alone.
+    pub fn marker(&self) -> Result<bool, WorldFault>
+        ensures is { IfOk result (λ marked. marked ≡ is_file (entry_at (world_in self.now).content marker)) }
+        ensures memory { IfErr result (λ fault. fault ≡ WorldFault.NoMemory) }
+    {
+        self.parts.marker()
+    }
+
+    /// The outcome of the job that was told first, if one was told: whether the job succeeded. It takes no memory.
+    pub fn outcome(&self) -> Option<bool>
+        ensures { result ≡ outcome (world_in self.now) }
+    {
+        self.parts.outcome()
+    }
+
+    /// The files directly beneath the destination whose names are not hidden, by rising name. It refuses want of memory alone.
+    pub fn visible(&self) -> Result<Vec<VisibleFile>, WorldFault>
+        ensures is { IfOk result (λ files. map as_pair files.items ≡ visible (world_in self.now)) }
+        ensures memory { IfErr result (λ fault. fault ≡ WorldFault.NoMemory) }
+    {
+        self.parts.visible()
+    }
+}
+
+// What programs read of masters, and of packets
+impl World {
+    /// How many masters were started: the newest is of this generation. It takes no memory.
+    pub fn newest(&self) -> u32
+        ensures { result ≡ (world_in self.now).fence }
+    {
+        self.parts.newest()
+    }
+
+    /// The phase of the master of this generation; none where it is not alive. It takes no memory.
+    pub fn phase(&self, k: u32) -> Option<Phase>
+        ensures { result ≡ phase_in self.now.config (world_in self.now) k }
+    {
+        self.parts.phase(k)
+    }
+
+    /// What the next store call of the master of this generation is for, if there is one; none where the master is not alive. It refuses
+    /// want of memory alone.
+    pub fn duty(&self, k: u32) -> Result<Option<DutyName>, WorldFault>
+        ensures is { IfOk result (λ due. due ≡ due_in self.now.config (world_in self.now) k) }
+        ensures memory { IfErr result (λ fault. fault ≡ WorldFault.NoMemory) }
+    {
+        self.parts.due(k)
+    }
+
+    /// The task that the master of this generation launches next, if there is one; none where it is not alive. It takes no memory.
+    pub fn wanted(&self, k: u32) -> Option<TaskId>
+        ensures { result ≡ wanted_in self.now.config (world_in self.now) k }
+    {
+        self.parts.wanted(k)
+    }
+
+    /// How many bytes of its segment the master of this generation has not flushed; none where it is not alive. It takes no memory.
+    pub fn unflushed(&self, k: u32) -> Option<usize>
+        ensures { result ≡ unflushed_in (world_in self.now) k }
+    {
+        self.parts.unflushed(k)
+    }
+
+    /// The stable bytes of the history segment of this generation; none where its master was not started. It takes no memory.
+    pub fn stable(&self, k: u32) -> &[u8]
+        ensures stable { k ≤ (world_in self.now).fence → records_of result.now ≡ ((world_in self.now).history k).stable }
+        ensures none { (world_in self.now).fence < k → result.now ≡ [] }
+    {
+        self.parts.stable(k)
+    }
+
+    /// Why the packet at this place of the bag can't be delivered now: `NoPacket`, or `NoAddressee` where it goes to nobody who is alive;
+    /// none where it can. It takes no memory.
+    pub fn addressee(&self, i: usize) -> Option<Why>
+        ensures { result ≡ addressee (world_in self.now) (slice_get (world_in self.now).bag i) }
+    {
+        self.parts.addressee(i)
+    }
+}
+
+// What programs read of containers that live
+impl World {
+    /// The containers that are alive, by generation, then number. It refuses want of memory alone.
+    pub fn living(&self) -> Result<Vec<ContainerId>, WorldFault>
+        ensures is { IfOk result (λ all. all.items ≡ living self.now.config (world_in self.now)) }
+        ensures memory { IfErr result (λ fault. fault ≡ WorldFault.NoMemory) }
+    {
+        self.parts.living()
+    }
+
+    /// The next container that is alive after another, in cyclic order by generation, then number; the first, where none is given. It takes
+    /// no memory, and walks over none.
+    pub fn next_living(&self, after: Option<ContainerId>) -> Option<ContainerId>
+        ensures { result ≡ next_living (living self.now.config (world_in self.now)) after }
+    {
+        self.parts.next_living(after)
+    }
+
+    /// What a container wishes to do next; none where it is not alive. It takes no memory.
+    pub fn wish(&self, c: &ContainerId) -> Option<Wish>
+        ensures { result ≡ wish_in self.now.config (world_in self.now) c.now }
+    {
+        self.parts.wish(c)
+    }
+
+    /// What a container is to compute from; none where it is not alive, or does not wish to compute. It takes no memory.
+    pub fn input(&self, c: &ContainerId) -> Option<Input<'_>>
+        ensures { option_map as_input result ≡ input_in self.now.config (world_in self.now) c.now }
+    {
+        self.parts.input(c)
+    }
+}
