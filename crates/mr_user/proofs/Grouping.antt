@@ -14,11 +14,11 @@ use Rattle.std.specs.FinMap.Entries.{is_sorted, put, by_order}
 use Rattle.mr_user.specs.Groups.{rising, groups_of, with_pair}
 use Rattle.mr_user.proofs.Rising.{map-append, tied, units, any-rising, apart_sorted, all_members, member_passes, rising_same, each-rising}
 
-map_agree : {A B : Type 0} (f g : A → B) (xs : List A) → AllByRecursion (λ x. f x ≡ g x) xs → map f xs ≡ map g xs
+pub map_agree : {A B : Type 0} (f g : A → B) (xs : List A) → AllByRecursion (λ x. f x ≡ g x) xs → map f xs ≡ map g xs
 map_agree f g [] h = refl
 map_agree f g (x ∷ xs) h = (λ i. h.0 i ∷ map_agree f g xs h.1 i)
 
-each_weaker : {A : Type 0} (P Q : A → Type 0) → ((x : A) → P x → Q x) → (xs : List A) → AllByRecursion P xs → AllByRecursion Q xs
+pub each_weaker : {A : Type 0} (P Q : A → Type 0) → ((x : A) → P x → Q x) → (xs : List A) → AllByRecursion P xs → AllByRecursion Q xs
 each_weaker P Q f [] h = tt
 each_weaker P Q f (x ∷ xs) h = (f x h.0, each_weaker P Q f xs h.1)
 
@@ -34,7 +34,7 @@ no_length [] h = refl
 no_length (x ∷ xs) h = absurd (omega arith)
 
 module _ {K : Type 0} (cmp : K → K → Ordering) (order : IsTotalOrder cmp) (same : finmap.IsAntisymmetric cmp) where
-  others : (k : K) (ks : List K) → ((q : K) → eq_by_cmp cmp q k ≡ true → list_any (eq_by_cmp cmp q) ks ≡ false) → AllByRecursion (λ x. eq_by_cmp cmp x k ≡ false) ks
+  pub others : (k : K) (ks : List K) → ((q : K) → eq_by_cmp cmp q k ≡ true → list_any (eq_by_cmp cmp q) ks ≡ false) → AllByRecursion (λ x. eq_by_cmp cmp x k ≡ false) ks
   others k ks h =
       all_members cmp order same (λ x. eq_by_cmp cmp x k ≡ false) ks (λ q m.
       elim (eq_by_cmp cmp q k) as (λ b. eq_by_cmp cmp q k ≡ b → b ≡ false) [ true ↦ λ t. absurd (false_not_true _ m (h q t)) | false ↦ λ _. refl ] refl)
@@ -106,7 +106,7 @@ module _ {K V : Type 0} (cmp : K → K → Ordering) (order : IsTotalOrder cmp) 
   IsRising [] = Unit {0}
   IsRising (p ∷ ps) = AllByRecursion (λ q. is_lt (cmp q.0 p.0) ≡ false) ps × IsRising ps
 
-  no_values : (k : K) (ps : List (K × V)) → list_any (eq_by_cmp cmp k) (keys ps) ≡ false → values k ps ≡ []
+  pub no_values : (k : K) (ps : List (K × V)) → list_any (eq_by_cmp cmp k) (keys ps) ≡ false → values k ps ≡ []
   no_values k [] h = refl
   no_values k (p ∷ ps) h =
       elim (eq_by_cmp cmp k p.0) as (λ b. (b || list_any (eq_by_cmp cmp k) (keys ps)) ≡ false → map (λ (p : K × V). p.1) (cond b (p ∷ filter (λ (p : K × V). eq_by_cmp cmp k p.0) ps) (filter (λ (p : K × V). eq_by_cmp cmp k p.0) ps)) ≡ []) [

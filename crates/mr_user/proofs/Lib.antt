@@ -5,5 +5,6 @@ pub mod LeastGroup
 pub mod Lines
 pub mod Meanings
 pub mod Numbers
+pub mod Putting
 pub mod Rising
 pub mod Sharing

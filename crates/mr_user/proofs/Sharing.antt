@@ -1,11 +1,11 @@
 -- Each pair goes to the share of its reduce, and each share becomes a file.
-use Rattle.std.proofs.Common.{◌≡◌, ℕ, zero, suc, ◌<◌, cond, eqb, true, false, List, [], ◌∷◌, ◌++◌, map, filter, length, get_or, set, Option, Some, None, refl, sym, ap, subst, ◌∙◌, arith}
+use Rattle.std.proofs.Common.{◌≡◌, ℕ, zero, suc, ◌<◌, cond, eqb, true, false, List, [], ◌∷◌, ◌++◌, filter, length, get_or, set, Some, refl, sym, ap, subst, ◌∙◌, arith}
 use Rattle.std.specs.Prelude.{slice_get}
 use Rattle.std.specs.Option.{option_map}
 use Rattle.std.proofs.lemmas.Bool.{eqb-true, eqb-false}
 use Rattle.std.proofs.lemmas.List.{append-nil, length-set, get_or-set_same, get_or-set_other, nil_from_length}
 use Rattle.std.proofs.lemmas.List.Elements.{filter-append}
-use Rattle.std.proofs.lemmas.Option.{slice_get-map, slice_get-get_or, same_Some}
+use Rattle.std.proofs.lemmas.Option.{slice_get-get_or, same_Some}
 
 module _ {A W : Type 0} (items : W → List A) where
   pub empty_share : (ws : List W) (r : ℕ) → r < length ws → ((k : ℕ) (d : W) → k < length ws → length (items (get_or ws k d)) ≡ 0) → option_map items (slice_get ws r) ≡ Some []
@@ -46,16 +46,3 @@ module _ {A W : Type 0} (items : W → List A) where
         let one : get_or ws q u ≡ get_or ws q w = same_Some _ _ (sym (slice_get-get_or ws q u (omega arith)) ∙ slice_get-get_or ws q w (omega arith)) in
         subst (λ (q : ℕ). q < reduces → items w ≡ items (get_or ws q w) ++ p ∷ [] → (r : ℕ) → r < reduces → option_map items (slice_get (set ws q w) r) ≡ Some (of r (ps ++ p ∷ []))) e
         (λ below more. share_more ws w p ps reduces count below more was) below (more ∙ ap (λ v. items v ++ p ∷ []) (read ∙ one))
-
--- the file of a share
-module _ {A W F : Type 0} (items : W → List A) (bytes : F → List ℕ) (text : List A → List ℕ) where
-  pub file_at : (files : List F) (shares yielded : List W) (r : ℕ) (ps : List A) → map bytes files ≡ map (λ share. text (items share)) yielded → yielded ≡ shares → option_map items (slice_get shares r) ≡ Some ps → option_map bytes (slice_get files r) ≡ Some (text ps)
-  file_at files shares yielded r ps is all part =
-      sym (slice_get-map bytes files r)
-      ∙ ap (λ (texts : List (List ℕ)). slice_get texts r) (is ∙ ap (map (λ share. text (items share))) all)
-      ∙ slice_get-map (λ share. text (items share)) shares r
-      ∙ twice (slice_get shares r)
-      ∙ ap (option_map text) part where
-        twice : (o : Option W) → option_map (λ share. text (items share)) o ≡ option_map text (option_map items o)
-        twice None = refl
-        twice (Some share) = refl

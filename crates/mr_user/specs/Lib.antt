@@ -3,6 +3,7 @@ pub mod Codecs
 pub mod Computation
 pub mod Faults
 pub mod Groups
+pub mod Gathered
 pub mod Laws
 pub mod LineIndex
 pub mod LineIndexProofs

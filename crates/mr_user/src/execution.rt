@@ -1,13 +1,13 @@
-ghost use Rattle.std.specs.Prelude.{◌≡◌, ◌≤◌, ◌<◌, ◌++◌, ◌^◌, ℕ, length, map, Some, None, IfOk, IfErr, OnOk, All, slice_get};
+ghost use Rattle.std.specs.Prelude.{◌≡◌, ◌≤◌, ◌<◌, ◌++◌, ℕ, List, length, map, Some, None, IfOk, IfErr, OnOk, All, slice_get};
 ghost use Rattle.std.specs.Option.{option_map};
 ghost use Rattle.mr_user.specs.Computation.{computation};
-ghost use Rattle.mr_user.specs.Sequential.{both, pairs_of_split, pairs_of_splits, part_of, key_lines, text_of, output};
+ghost use Rattle.mr_user.specs.Sequential.{pairs_of_splits, part_of, key_lines, output};
 ghost use Rattle.mr_user.specs.Faults.{RefusedIf};
+ghost use Rattle.mr_user.specs.Gathered.{IsGathered};
 
 use crate::fault::UserFault;
-use crate::group::groups;
+use crate::gathering::{Gathered, gather_split, no_groups};
 use crate::job::Job;
-use crate::line::next_line;
 use std::alloc::{AllocError, Global};
 
 /// A sequential execution takes at most so many splits.
@@ -20,7 +20,7 @@ pub const MAX_REDUCES: u32 = 1000;
 /// What a sequential execution of a job writes: for each reduce, in order, the bytes of its file.
 /// There are at most `MAX_SPLITS` splits of at most `MAX_SPLIT_LEN` bytes, and 1 to `MAX_REDUCES` reduces.
 /// Answers `Refused` where the job refuses a line of a split, and `NoMemory` only where a growth was refused.
-/// For n pairs it compares keys n log n times.
+/// For n pairs of k keys it compares keys n log k times, and it holds each key once beside all values.
 pub fn sequential<J: Job>(
     alloc: Global,
     job: &J,
@@ -40,62 +40,37 @@ pub fn sequential<J: Job>(
         IfErr result (λ fault. RefusedIf fault
         (pairs_of_splits all 0 (map (λ split. split.items) splits.now) ≡ None)) }
 {
-    let pairs = all_pairs(alloc, job, splits)?;
     let mut files = Vec::new(alloc);
-    for share in shares(alloc, job, pairs, reduces)? {
-        files.push(text_of(alloc, job, share)?)?;
+    for part in &gathered(alloc, job, splits, reduces)? {
+        files.push(part.text(alloc, job)?)?;
     }
     Ok(files)
 }
 
-// The pairs of all splits, by split, by line, and as `map` gives them.
-fn all_pairs<J: Job>(
+// The groups of each reduce, of the pairs of all splits: by split, by line, and as `map` gives them.
+fn gathered<J: Job>(
     alloc: Global,
     job: &J,
     splits: &[Vec<u8>],
-) -> Result<Vec<(J::Key, J::Value)>, UserFault>
+    reduces: u32,
+) -> Result<Vec<Gathered<J>>, UserFault>
     requires few { length splits.now ≤ MAX_SPLITS }
     requires short { All (λ split. length split.items ≤ MAX_SPLIT_LEN) splits.now }
-    ensures pairs { let all = computation J.Key.cmp J.Key.codec J.Value.codec J.functions in
-        IfOk result (λ pairs.
-        pairs_of_splits all 0 (map (λ split. split.items) splits.now) ≡ Some pairs.items) }
+    requires some { 0 < reduces }
+    ensures groups { let all = computation J.Key.cmp J.Key.codec J.Value.codec J.functions in
+        IfOk result (λ parts. (ps : List (J.Key × J.Value)) ×
+        (pairs_of_splits all 0 (map (λ split. split.items) splits.now) ≡ Some ps) × IsGathered all reduces parts.items ps) }
     ensures refused { let all = computation J.Key.cmp J.Key.codec J.Value.codec J.functions in
         IfErr result (λ fault. RefusedIf fault
         (pairs_of_splits all 0 (map (λ split. split.items) splits.now) ≡ None)) }
 {
-    let mut pairs = Vec::new(alloc);
+    let mut parts = no_groups(alloc, reduces)?;
     let mut number = 0u32;
     for split in splits {
-        pairs.append(&mut split_pairs(alloc, job, number, split)?)?;
+        gather_split(alloc, job, &mut parts, number, split, reduces)?;
         number += 1;
     }
-    Ok(pairs)
-}
-
-/// The pairs of a split, which has at most `MAX_SPLIT_LEN` bytes: by line, and as `map` gives them.
-/// Answers `Refused` where the job refuses a line, and `NoMemory` only where a growth was refused.
-pub fn split_pairs<J: Job>(
-    alloc: Global,
-    job: &J,
-    number: u32,
-    bytes: &[u8],
-) -> Result<Vec<(J::Key, J::Value)>, UserFault>
-    requires { length bytes.now ≤ MAX_SPLIT_LEN }
-    ensures pairs { let all = computation J.Key.cmp J.Key.codec J.Value.codec J.functions in
-        IfOk result (λ pairs. pairs_of_split all number bytes.now ≡ Some pairs.items) }
-    ensures refused { let all = computation J.Key.cmp J.Key.codec J.Value.codec J.functions in
-        IfErr result (λ fault. RefusedIf fault (pairs_of_split all number bytes.now ≡ None)) }
-{
-    let mut pairs = Vec::new(alloc);
-    let mut line_no = 0u64;
-    let mut rest = bytes;
-    while !rest.is_empty() {
-        let (line, after) = next_line(rest);
-        pairs.append(&mut job.map(alloc, number, line_no, line)?)?;
-        line_no += 1;
-        rest = after;
-    }
-    Ok(pairs)
+    Ok(parts)
 }
 
 /// The pairs of each reduce, in order of the reduces, each pair where it stood among those of its reduce.
@@ -131,23 +106,6 @@ fn empty_shares<T: Drop>(alloc: Global, count: u32) -> Result<Vec<Vec<T>>, Alloc
         shares.push(Vec::new(alloc))?;
     }
     Ok(shares)
-}
-
-/// The text of a reduce: the lines of each key of the pairs, rising, reduced with all its values in order.
-/// Answers no fault but want of memory.
-pub fn text_of<J: Job>(
-    alloc: Global,
-    job: &J,
-    pairs: Vec<(J::Key, J::Value)>,
-) -> Result<Vec<u8>, AllocError>
-    ensures { let all = computation J.Key.cmp J.Key.codec J.Value.codec J.functions in
-        IfOk result (λ text. text.items ≡ text_of all pairs.items) }
-{
-    let mut text = Vec::new(alloc);
-    for (key, values) in &groups(alloc, pairs)? {
-        write_lines(alloc, job, key, values, &mut text)?;
-    }
-    Ok(text)
 }
 
 /// Appends the lines of a key, reduced with the values: its text, a tab, a value text and a line feed, for each value text.

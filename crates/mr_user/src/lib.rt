@@ -24,12 +24,13 @@
 //! - **Forms**: `Text`, `u64` and `Position` are written as the tables of docs/MODEL.md say; what was written is
 //!   read again whatever follows; what is read fits and was written so; `read` answers `BadWire` exactly where the
 //!   bytes begin with no value.
-//! - `next_line`, `split_pairs`, `sort_pairs`, `shares`, `write_lines` and `text_of`, of which the sequential execution
-//!   and the works of a cluster are made, give exactly the first line, a split's pairs, a stable sort of pairs by key,
-//!   the pairs of each reduce, the lines of a key, and the text of a reduce's pairs.
+//! - `next_line`, `sort_pairs`, `shares` and `write_lines`, of which the sequential execution and the works of a cluster
+//!   are made, give exactly the first line, a stable sort of pairs by key, the pairs of each reduce, and the lines of a
+//!   key.
 //! - **`sequential(alloc, job, splits, reduces)`** answers exactly the sequential execution: `reduces` files, file
 //!   r being `output reduces r splits`. `Refused` only where a line is refused (then no output exists), `NoMemory`
-//!   only from a refused growth. It sorts each reduce's pairs once: n log n comparisons for n pairs. Measured, not
+//!   only from a refused growth. It gathers the values of each key in a map as they come: n log k comparisons for n
+//!   pairs of k keys, each key held once. Measured, not
 //!   proved: `mrsim seq` is no slower than tools/plain_seq.rs, a program with no proof (`tools/bench seq`; figures
 //!   in docs/PROOFS.md).
 //! - **`groups`**: the keys of pairs, rising, each once and with its values in order.
@@ -46,6 +47,7 @@
 mod execution;
 mod fault;
 mod gate;
+mod gathering;
 mod group;
 mod job;
 mod laws;
@@ -58,9 +60,7 @@ mod wire;
 mod word;
 mod word_count;
 
-pub use execution::{
-    MAX_REDUCES, MAX_SPLIT_LEN, MAX_SPLITS, sequential, shares, split_pairs, text_of, write_lines,
-};
+pub use execution::{MAX_REDUCES, MAX_SPLIT_LEN, MAX_SPLITS, sequential, shares, write_lines};
 pub use fault::{GateFault, UserFault};
 pub use gate::{Gate, OpenGate};
 pub use group::{groups, sort_pairs};
