@@ -1,6 +1,7 @@
 -- What the answers of the reading and of a committer's calls change and send.
-use Rattle.std.proofs.Common.{◌≡◌, refl, sym, ap, ◌∙◌, Bool, true, false, ◌&&◌, not, append-nil, Result, Ok, Err, cond, List, [], ◌∷◌, ◌++◌, Option, Some, None, if◌then◌else◌, true≢false}
+use Rattle.std.proofs.Common.{◌≡◌, refl, sym, ap, ◌∙◌, Bool, true, false, ◌&&◌, not, append-nil, Result, Ok, Err, cond, List, [], ◌∷◌, ◌++◌, Option, Some, None, is_none, if◌then◌else◌, true≢false}
 use Rattle.std.specs.List.{list_any}
+use Rattle.std.proofs.lemmas.Bool.{and_parts, not-true}
 use Rattle.mr_history.specs.declared.record.Record.{Record}
 use Rattle.mr_commit.specs.Tables.{setup_job}
 use Rattle.mr_commit.specs.Line.{Line}
@@ -206,6 +207,38 @@ finish-seen w s a new f e =
 
 pub finish-sends : (w : Setting) (s : Seen) (a : StoreAnswer) (new : Work) (es : List Envelope) → Finishing w s a s.work → new ≡ finished_by w s s.work → new ≡ work_after w s a s.work → es ≡ won_of w (winner_of s.work) → es ≡ answered_sends w s a
 finish-sends w s a new es f n e q = q ∙ f.sends ∙ sym (append-nil (work_sends w s a s.work)) ∙ (λ i. work_sends w s a s.work ++ (f.tells ∙ ap (λ (x : Work). outcome_of w x) (sym n ∙ e)) i)
+
+-- no attempt is taken over by it
+pub finished-tells : (w : Setting) (s : Seen) (work : Work) → is_step work ≡ true → [] ≡ outcome_of w (finished_by w s work)
+finished-tells w s (SetsUp left) is = next-tells w (winners w s)
+finished-tells w s (TakesOver x left others) is = next-tells w others
+finished-tells w s (CommitsJob left) is = refl
+finished-tells w s LooksForSuccess is = absurd (true≢false (sym is))
+finished-tells w s LooksForFail is = absurd (true≢false (sym is))
+finished-tells w s LooksForStarted is = absurd (true≢false (sym is))
+finished-tells w s Reads is = absurd (true≢false (sym is))
+finished-tells w s Runs is = absurd (true≢false (sym is))
+finished-tells w s TellsSuccess is = absurd (true≢false (sym is))
+finished-tells w s TellsFail is = absurd (true≢false (sym is))
+finished-tells w s AbortsCommit is = absurd (true≢false (sym is))
+finished-tells w s (Fails b) is = absurd (true≢false (sym is))
+finished-tells w s (Ends b) is = absurd (true≢false (sym is))
+finished-tells w s Stops is = absurd (true≢false (sym is))
+
+none-is : {A : Type 0} (o : Option A) → is_none o ≡ true → o ≡ None
+none-is None e = refl
+none-is (Some x) e = absurd (true≢false (sym e))
+
+pub nobody-told : (w : Setting) (s : Seen) (new : Work) → is_step s.work ≡ true → (is_none (winner_of s.work) && not (is_running new)) ≡ true → new ≡ finished_by w s s.work → outcome_of w new ≡ won_of w (winner_of s.work)
+nobody-told w s new is e n =
+    ap (λ (x : Work). outcome_of w x) n ∙ sym (finished-tells w s s.work is) ∙ ap (λ (o : Option TaskWinner). won_of w o) (sym (none-is _ (and_parts _ _ e).0))
+
+pub nobody-enters : (w : Setting) (s : Seen) (new : Work) → (is_none (winner_of s.work) && not (is_running new)) ≡ true → new ≡ finished_by w s s.work
+    → record s { work = new } ≡ record s { calls = (after_table w s (winner_of s.work) (is_running (finished_by w s s.work))).calls; work = finished_by w s s.work }
+nobody-enters w s new e n =
+    let none = none-is (winner_of s.work) (and_parts _ _ e).0 in
+    let quiet' : false ≡ is_running (finished_by w s s.work) = sym (not-true _ (and_parts _ _ e).1) ∙ ap (λ (x : Work). is_running x) n in
+    λ i. record s { calls = (after_table w s (sym none i) (quiet' i)).calls; work = n i }
 
 pub was-last : (h : Heard) → has_finished h ≡ true → heard.Finished ≡ h
 was-last heard.Finished e = refl

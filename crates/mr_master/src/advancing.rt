@@ -1,5 +1,5 @@
 //! What is ready for the answers of a committer's calls: setup, recovery, job commit.
-ghost use Rattle.std.specs.Prelude.{◌≡◌, true, IfOk};
+ghost use Rattle.std.specs.Prelude.{◌≡◌, ◌&&◌, true, not, is_none, IfOk};
 ghost use Rattle.mr_master_model.specs.Readings.{is_running};
 ghost use Rattle.mr_master.specs.Heard.{has_finished};
 ghost use Rattle.mr_master.specs.Kinds.{is_step, finished_by};
@@ -33,15 +33,29 @@ impl Machine {
         Ok(ready)
     }
 
-    // The call was the last one: what is taken over will be entered, and told to every node.
+    // The call was the last one: what is taken over will be entered, and told to every node. Where nothing is, the work alone changes.
     fn ready_finished(&self) -> Result<Ready, AllocError>
         requires { is_step self.now.work ≡ true }
         ensures { IfOk result (λ ready. Prepares self.now ready (λ w s. won_of w (winner_of s.work)) (λ w s. record s { calls = (after_table w s (winner_of s.work) (is_running (finished_by w s s.work))).calls; work = finished_by w s s.work })) }
     {
         let next = self.next_work()?;
+        if self.enters_nobody(&next) {
+            let ready = self.becoming(next)?;
+            return Ok(ready);
+        }
         let tasks = self.tasks_after(next.is_running())?;
         let packets = self.won_packets()?;
         Ok(Ready::new(packets, Change::Enters(tasks, next)))
+    }
+
+    // Whether no attempt is taken over where this is next.
+    fn enters_nobody(&self, next: &Work) -> bool
+        ensures { result ≡ (is_none (winner_of self.now.work) && not (is_running next.now)) }
+    {
+        match self.work.winner() {
+            None => !next.is_running(),
+            Some(_winner) => false,
+        }
     }
 
     // What is next after the last call of the table.
