@@ -24,7 +24,8 @@ use Rattle.mr_model.proofs.Cluster.{open_place}
 use Rattle.mr_model.proofs.Ranges.{always-placed}
 use Rattle.mr_model.proofs.Wanted.{wanted_may_be_launched}
 use Rattle.mr_agree.specs.Works.{named}
-use Rattle.mr_sim.specs.Played.{Next, living, launched_by, is_behind, next_living, passed, cursor_at, has_ended, is_through, result_of, computed_of, computing, stepping, next_packet, next_duty, next_launch, next_step, next_of}
+use Rattle.mr_world.specs.Readings.{living, launched_by, is_behind, next_living}
+use Rattle.mr_sim.specs.Played.{Next, passed, cursor_at, has_ended, is_through, result_of, computed_of, computing, stepping, next_packet, next_duty, next_launch, next_step, next_of}
 use Rattle.mr_sim.specs.PlayLaws.{CalmsArePermitted}
 
 some_is : {A : Type 0} (x y : A) → Some x ≡ Some y → x ≡ y
@@ -40,7 +41,7 @@ at_drop zero xs i = ap (slice_get xs) (omega arith)
 at_drop (suc n) [] i = refl
 at_drop (suc n) (x ∷ xs) i = at_drop n xs i ∙ ap (slice_get (x ∷ xs)) (let e : suc (n + i) ≡ suc n + i = omega arith in e)
 
-all_pass : {A : Type 0} (t : A → Bool) (xs : List A) → AllByRecursion (λ x. t x ≡ true) (filter t xs)
+pub all_pass : {A : Type 0} (t : A → Bool) (xs : List A) → AllByRecursion (λ x. t x ≡ true) (filter t xs)
 all_pass t [] = tt
 all_pass t (x ∷ xs) = elim (t x) as (λ b. t x ≡ b → AllByRecursion (λ x. t x ≡ true) (cond b (x ∷ filter t xs) (filter t xs))) [ true ↦ λ e. (e, all_pass t xs) | false ↦ λ e. all_pass t xs ] refl
 
@@ -52,7 +53,7 @@ first_has : {A : Type 0} (P : A → Type 0) (xs : List A) (x : A) → slice_get 
 first_has P [] x e h = absurd (none_is x e)
 first_has P (y ∷ xs) x e h = subst P (some_is y x e) h.0
 
-next_has : (P : ContainerId → Type 0) (cs : List ContainerId) (last : Option ContainerId) (c : ContainerId) → next_living cs last ≡ Some c → AllByRecursion P cs → P c
+pub next_has : (P : ContainerId → Type 0) (cs : List ContainerId) (last : Option ContainerId) (c : ContainerId) → next_living cs last ≡ Some c → AllByRecursion P cs → P c
 next_has P cs last c e h = by (slice_get (filter (is_behind last) cs) 0) refl e where
   by : (o : Option ContainerId) → slice_get (filter (is_behind last) cs) 0 ≡ o → option_or o (slice_get cs 0) ≡ Some c → P c
   by None is e = first_has P cs c e h
@@ -95,7 +96,7 @@ module _ (job : Job) (cfg : Config) (within : Limits) (laws : JobLaws job cfg) (
   packet_fine : (last : Option ContainerId) (n : ℕ) → Fine (next_packet job cfg within w last (cursor_at w n))
   unfolding not_now
   packet_fine last n next e = by (nat_lt (cursor_at w n) (length w.bag)) refl e where
-    by : (b : Bool) → nat_lt (cursor_at w n) (length w.bag) ≡ b → cond b (Some (record { names = []; event = Some (Deliver (cursor_at w n)); stepped = last; cursor = suc (cursor_at w n) })) None ≡ Some next → Good next.event
+    by : (b : Bool) → nat_lt (cursor_at w n) (length w.bag) ≡ b → cond b (Some (record { names = []; event = Some (Deliver (cursor_at w n)); stepped = last; cursor = cursor_at w n + 1 })) None ≡ Some next → Good next.event
     by false is e = absurd (none_is next e)
     by true is e =
         let less = ltb-true (cursor_at w n) (length w.bag) is in

@@ -1,11 +1,17 @@
 pub mod Attempts
 pub mod Calming
+pub mod Calmly
+pub mod Coming
 pub mod JobTexts
 pub mod Obeying
 pub mod PartFiles
 pub mod PlayRows
+pub mod PlayText
+pub mod Players
 pub mod Playing
+pub mod Plays
 pub mod Readings
 pub mod Recoveries
 pub mod Refusals
 pub mod Verbs
+pub mod Working

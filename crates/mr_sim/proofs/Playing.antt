@@ -1,5 +1,5 @@
 -- What a script of a run leads to.
-use Rattle.std.proofs.Common.{◌≡◌, ◌⊎◌, ℕ, zero, suc, Bool, true, false, cond, List, [], ◌∷◌, ◌++◌, Option, Some, None, Result, Ok, Err, inl, inr, refl, sym, ap, subst, ◌∙◌, append-nil, append_assoc}
+use Rattle.std.proofs.Common.{◌≡◌, ◌⊎◌, ℕ, zero, suc, Bool, true, false, cond, ◌&&◌, nat_lt, List, [], ◌∷◌, ◌++◌, length, Option, Some, None, Result, Ok, Err, inl, inr, refl, sym, ap, subst, ◌∙◌, append-nil, append_assoc}
 use Rattle.std.specs.Option.{option_and_then}
 use Rattle.mr_ids.specs.declared.id.TaskKind.TheVariants.{Map}
 use Rattle.mr_event.specs.declared.why.Why.{Why}
@@ -20,6 +20,7 @@ use Rattle.mr_model.specs.Claims.{Limits, IsMarked, LooksTheSame, winner, world_
 use Rattle.mr_model.specs.Sequential.{Job}
 use Rattle.mr_model.proofs.Grows.{winner_stays}
 use Rattle.mr_model.proofs.Outcomes.{no_later_event}
+use Rattle.mr_world.specs.declared.limits.TheConstants.{MAX_EVENTS}
 use Rattle.mr_sim.specs.declared.submission.Submission.{Submission}
 use Rattle.mr_sim.specs.EventNames.{duty_event, wish_event, stops_at}
 use Rattle.mr_sim.specs.Played.{Played, Next, world, computing, taken, unless_refused, made, calmed, calmed_by, calms, is_through, cursor_at, next_of, stepped_by, most_calm, obeyed, played}
@@ -128,7 +129,7 @@ longer_trans s t u (m, e) (n, f) = (m ++ n, f ∙ ap (λ es. es ++ n) e ∙ appe
 module _ (job : Job) (cfg : Config) (within : Limits) where
   taken_longer : (e : Event) (last : Option ContainerId) (s t : Played) → taken job cfg within e last s ≡ Some t → Longer s t
   unfolding Longer
-  taken_longer e last s t h = by (within (world job cfg within s) e) h where
+  taken_longer e last s t h = by (nat_lt (length s.events) MAX_EVENTS && within (world job cfg within s) e) h where
     by : (b : Bool) → cond b (Some (record s { events = s.events ++ e ∷ []; stepped = last })) None ≡ Some t → (more : List Event) × (t.events ≡ s.events ++ more)
     by true h = (e ∷ [], ap (λ (p : Played). p.events) (sym (some_is (record s { events = s.events ++ e ∷ []; stepped = last }) t h)))
     by false h = absurd (none_is t h)
@@ -191,7 +192,7 @@ module _ (job : Job) (cfg : Config) (within : Limits) where
   played_longer (c ∷ cs) s t h = then_longer (played job cfg within cs) (played_longer cs) (obeyed job cfg within c.0 c.1 s) s t (λ u h. obeyed_longer c.0 c.1 s u h) h
 
   -- commands behind others begin where those ended
-  played_then : (cs ds : List (ℕ × Command)) (begin s : Played) → played job cfg within cs begin ≡ Some s → played job cfg within (cs ++ ds) begin ≡ played job cfg within ds s
+  pub played_then : (cs ds : List (ℕ × Command)) (begin s : Played) → played job cfg within cs begin ≡ Some s → played job cfg within (cs ++ ds) begin ≡ played job cfg within ds s
   played_then [] ds begin s h = ap (played job cfg within ds) (some_is begin s h)
   played_then (c ∷ cs) ds begin s h = by (obeyed job cfg within c.0 c.1 begin) (λ u h. played_then cs ds u s h) h where
     by : (o : Option Played) → ((u : Played) → played job cfg within cs u ≡ Some s → played job cfg within (cs ++ ds) u ≡ played job cfg within ds s) → option_and_then (played job cfg within cs) o ≡ Some s → option_and_then (played job cfg within (cs ++ ds)) o ≡ played job cfg within ds s

@@ -1,7 +1,7 @@
 -- The faults of a run: their statuses, and which of them reading answers.
 use Rattle.std.specs.Prelude.{ℕ}
 use Rattle.mr_sim.specs.declared.fault.SimFault.{SimFault}
-use Rattle.mr_sim.specs.declared.fault.SimFault.TheVariants.{NoMemory, Read, Write, TooLong, BadCommand, BadRecord, Job, Refused}
+use Rattle.mr_sim.specs.declared.fault.SimFault.TheVariants.{NoMemory, Read, Write, TooLong, BadCommand, BadRecord, Job, Refused, Full}
 
 -- the exit status of the program
 abbrev pub status_of : SimFault → ℕ
@@ -13,6 +13,7 @@ status_of (BadCommand n) = 3
 status_of (BadRecord n) = 3
 status_of (Job e) = 3
 status_of Refused = 3
+status_of Full = 7
 
 -- the faults of reading the input
 abbrev pub IsReadFault : SimFault → Type 0
@@ -24,3 +25,4 @@ IsReadFault (BadCommand n) = ⊥
 IsReadFault (BadRecord n) = ⊥
 IsReadFault (Job e) = ⊥
 IsReadFault Refused = ⊥
+IsReadFault Full = ⊥

@@ -130,6 +130,7 @@ Fails faults.TooLong said = ⊥
 Fails (faults.BadCommand n) said = ⊥
 Fails (faults.BadRecord n) said = ⊥
 Fails faults.Refused said = ⊥
+Fails faults.Full said = ⊥
 
 -- reading gives what the definition says
 abbrev pub Gives : {X : Type 0} → Result X SimFault → Result X JobTextFault → Type 0

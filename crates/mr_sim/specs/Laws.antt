@@ -1,7 +1,7 @@
 -- Laws of the definitions.
 use Rattle.std.specs.Prelude.{◌≡◌, ℕ, List}
 use Rattle.mr_sim.specs.declared.fault.SimFault.{SimFault}
-use Rattle.mr_sim.specs.declared.fault.SimFault.TheVariants.{NoMemory, Read, Write, TooLong, BadCommand, BadRecord, Job, Refused}
+use Rattle.mr_sim.specs.declared.fault.SimFault.TheVariants.{NoMemory, Read, Write, TooLong, BadCommand, BadRecord, Job, Refused, Full}
 use Rattle.mr_sim.specs.declared.order.Order.{Order}
 use Rattle.mr_sim.specs.declared.subcommand.Command.{Command}
 use Rattle.mr_script.specs.Lines.{lines_of}
@@ -35,6 +35,7 @@ IsOutside (BadCommand n) = ⊥
 IsOutside (BadRecord n) = ⊥
 IsOutside (Job e) = ⊥
 IsOutside Refused = ⊥
+IsOutside Full = ⊥
 
 -- No input is both printed and refused: where a subcommand prints a text, it answers no fault of the input itself.
 abbrev pub PrintedOrRefused : Type 0

@@ -10,6 +10,8 @@ pub mod Play
 pub mod PlayLaws
 pub mod PlayRows
 pub mod Played
+pub mod Player
+pub mod Plays
 pub mod Printed
 pub mod Script
 pub mod Seq

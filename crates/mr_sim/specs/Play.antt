@@ -1,24 +1,21 @@
 -- What `play` prints for a job text and a script, and why it prints nothing (our own profile; the part files' names are Hadoop's).
-use Rattle.std.specs.Prelude.{◌≡◌, ℕ, Bool, true, false, List, [], ◌∷◌, ◌++◌, Option, Some, None, Ok, Err, if◌then◌else◌, codes, decimal}
+use Rattle.std.specs.Prelude.{◌≡◌, ℕ, ◌+◌, Bool, true, false, List, [], ◌∷◌, ◌++◌, Option, Some, None, Ok, Err, codes, decimal}
 use Rattle.std.specs.List.{flat_map, range_with_len}
 use Rattle.std.specs.Cmp.Lexicographic.{slice_cmp}
 use Rattle.std.specs.Ordering.{nat_cmp}
 use Rattle.mr_ids.specs.Attempt.{Attempt}
 use Rattle.mr_ids.specs.Text.{attempt_text}
-use Rattle.mr_paths.specs.Layout.{is_hidden}
 use Rattle.mr_user.specs.Computation.{computation}
 use Rattle.mr_user.specs.Codecs.{text_codec, number_codec, position_codec}
 use Rattle.mr_user.specs.WordCount.{word_count}
 use Rattle.mr_user.specs.MaxByKey.{max_by_key}
 use Rattle.mr_user.specs.LineIndex.{line_index}
-use Rattle.mr_packet.specs.declared.packet.Packet.{Packet}
-use Rattle.mr_packet.specs.declared.packet.Packet.TheVariants.{Outcome}
-use Rattle.mr_packet.specs.declared.packet.Envelope.{Envelope}
-use Rattle.mr_model.specs.Ids.{dest, marker, reduce_of}
-use Rattle.mr_model.specs.Content.{Content, Entry, File, Dir, children, entry_at, is_file}
+use Rattle.mr_model.specs.Ids.{Name, marker, reduce_of}
+use Rattle.mr_model.specs.Content.{entry_at, is_file}
 use Rattle.mr_model.specs.Packets.{Config}
 use Rattle.mr_model.specs.World.{World}
 use Rattle.mr_model.specs.Claims.{Limits, winner}
+use Rattle.mr_model.specs.Results.{outcome, visible}
 use Rattle.mr_model.specs.Sequential.{Job}
 use Rattle.mr_sequential.specs.Jobs.{job_of}
 use Rattle.mr_script.specs.declared.command.Command.{Command}
@@ -38,44 +35,48 @@ abbrev pub winner_word : Option Attempt → List ℕ
 winner_word None = codes "none"
 winner_word (Some a) = attempt_text a
 
--- a line for each reduce: its winner, if it has one
+-- a line for a reduce: its winner, if it has one
+abbrev pub line_of_winner : ℕ → Option Attempt → List ℕ
+line_of_winner r found = codes "r " ++ decimal r ++ 32 ∷ winner_word found ++ 10 ∷ []
+
 abbrev pub winner_line : Config → World → ℕ → List ℕ
-winner_line cfg w r = codes "r " ++ decimal r ++ 32 ∷ winner_word (winner w (reduce_of cfg.job r)) ++ 10 ∷ []
+winner_line cfg w r = line_of_winner r (winner w (reduce_of cfg.job r))
+
+-- the winners of the reduces from r on
+abbrev pub winners_text : ℕ → List (Option Attempt) → List ℕ
+winners_text r [] = []
+winners_text r (found ∷ more) = line_of_winner r found ++ winners_text (r + 1) more
+
+abbrev pub marker_word : Bool → List ℕ
+marker_word true = codes "yes"
+marker_word false = codes "no"
+
+abbrev pub line_of_marker : Bool → List ℕ
+line_of_marker there = codes "marker " ++ marker_word there ++ 10 ∷ []
 
 abbrev pub marker_line : World → List ℕ
-marker_line w = codes "marker " ++ (if is_file (entry_at w.content marker) then codes "yes" else codes "no") ++ 10 ∷ []
-
--- the first outcome that was told
-abbrev pub told_by : Packet → Option Bool → Option Bool
-told_by (Outcome succeeded) later = Some succeeded
-told_by _ later = later
-
-abbrev pub outcome : List Envelope → Option Bool
-outcome [] = None
-outcome (e ∷ es) = told_by e.body (outcome es)
+marker_line w = line_of_marker (is_file (entry_at w.content marker))
 
 abbrev pub outcome_word : Option Bool → List ℕ
 outcome_word None = codes "none"
 outcome_word (Some true) = codes "succeeded"
 outcome_word (Some false) = codes "failed"
 
+abbrev pub line_of_outcome : Option Bool → List ℕ
+line_of_outcome told = codes "outcome " ++ outcome_word told ++ 10 ∷ []
+
 abbrev pub outcome_line : World → List ℕ
-outcome_line w = codes "outcome " ++ outcome_word (outcome w.bag) ++ 10 ∷ []
+outcome_line w = line_of_outcome (outcome w)
 
--- a file directly beneath the destination, whose name is not hidden
-abbrev pub visible_by : List ℕ → Option Entry → List ℕ
-visible_by name None = []
-visible_by name (Some Dir) = []
-visible_by name (Some (File bytes is_closed)) = file_text name bytes
-
-abbrev pub visible_text : Content → List ℕ → List ℕ
-visible_text c name = if is_hidden name then [] else visible_by name (entry_at c (dest ++ name ∷ []))
+-- a visible file
+abbrev pub visible_text : Name × List ℕ → List ℕ
+visible_text f = file_text f.0 f.1
 
 -- winners by reduce, the marker, the outcome, and the visible files by rising name
 unfoldable pub world_text : Config → World → List ℕ
 world_text cfg w =
     flat_map (winner_line cfg w) (range_with_len 0 cfg.reduces)
-    ++ marker_line w ++ outcome_line w ++ flat_map (λ line. visible_text w.content line.name) (children w.content dest)
+    ++ marker_line w ++ outcome_line w ++ flat_map visible_text (visible w)
 
 -- ---- of an input
 

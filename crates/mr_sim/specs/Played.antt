@@ -1,25 +1,22 @@
 -- What a script makes of a cluster, a command at a time: its events and those of its calms (our own profile). The cluster is the run of the events.
-use Rattle.std.specs.Prelude.{ℕ, zero, suc, ◌+◌, ◌%◌, Bool, true, false, ◌&&◌, ◌||◌, not, nat_eq, nat_lt, nat_le, List, [], ◌∷◌, ◌++◌, map, filter, length, drop, slice_get, Option, Some, None, if◌then◌else◌, is_none, codes, decimal}
+use Rattle.std.specs.Prelude.{ℕ, zero, suc, ◌+◌, ◌%◌, Bool, true, false, ◌&&◌, ◌||◌, not, nat_lt, nat_le, List, [], ◌∷◌, ◌++◌, length, drop, Option, Some, None, if◌then◌else◌, is_none, codes, decimal}
 use Rattle.std.specs.Option.{option_map, option_and_then, option_or, option_to_list}
-use Rattle.std.specs.List.{flat_map, range_with_len}
 use Rattle.mr_task.specs.declared.fault.TaskFault.{TaskFault}
 use Rattle.mr_task.specs.declared.fault.TaskFault.TheVariants as task_fault
 use Rattle.mr_packet.specs.declared.packet.ContainerId.{ContainerId}
 use Rattle.mr_packet.specs.declared.packet.Envelope.{Envelope}
 use Rattle.mr_event.specs.declared.why.Why.{Why}
 use Rattle.mr_event.specs.declared.why.Why.TheVariants as why
-use Rattle.mr_container.specs.declared.wish.Wish as container_wish
-use Rattle.mr_container.specs.declared.wish.Wish.TheVariants as wish
-use Rattle.mr_container.specs.Readings as container
 use Rattle.mr_model.specs.Packets.{Config}
-use Rattle.mr_model.specs.Pasts.{Place, Step}
 use Rattle.mr_model.specs.Hearing.{Phase, Finished, Stopped}
 use Rattle.mr_model.specs.World.{World, Event, Calm, Compute, ContainerStep, Deliver, Die, Duty, LaunchOn, duty, seen_by, wish_of}
 use Rattle.mr_model.specs.Effect.{addressee, not_now, wants_compute}
 use Rattle.mr_model.specs.Claims.{Limits, world_of}
-use Rattle.mr_model.specs.Sequential.{Job, Input, input_of, made_of, most_output}
+use Rattle.mr_model.specs.Sequential.{Job, Input, made_of, most_output}
 use Rattle.mr_model.specs.Wanted.{wanted}
 use Rattle.mr_agree.specs.Works.{named}
+use Rattle.mr_world.specs.declared.limits.TheConstants.{MAX_EVENTS}
+use Rattle.mr_world.specs.Readings.{input_in, living, next_living, wish_by}
 use Rattle.mr_script.specs.declared.command.Command.{Command}
 use Rattle.mr_script.specs.declared.command.Command.TheVariants as command
 use Rattle.mr_script.specs.declared.event_name.EventName.{EventName}
@@ -64,24 +61,6 @@ why_words (why.Task fault) = codes "Task " ++ task_fault_word fault
 abbrev pub refused_line : ℕ → Why → List ℕ
 refused_line line reason = decimal line ++ codes ": NotNow " ++ why_words reason ++ 10 ∷ []
 
--- ---- the living containers
-
--- those that master k launched, alive or not, by number
-abbrev pub launched_by : Config → World → ℕ → List ContainerId
-launched_by cfg w k = map (λ n. record { app = k; number = n }) (range_with_len 0 (length (seen_by cfg w k).launched))
-
--- by generation, then number
-unfoldable pub living : Config → World → List ContainerId
-living cfg w = filter w.is_alive (flat_map (launched_by cfg w) (range_with_len 1 w.fence))
-
-abbrev pub is_behind : Option ContainerId → ContainerId → Bool
-is_behind None c = true
-is_behind (Some d) c = nat_lt d.app c.app || (nat_eq d.app c.app && nat_lt d.number c.number)
-
--- the next one after the one that stepped last, in cyclic order
-abbrev pub next_living : List ContainerId → Option ContainerId → Option ContainerId
-next_living cs last = option_or (slice_get (filter (is_behind last) cs) 0) (slice_get cs 0)
-
 -- ---- what a calm makes next
 
 -- an event, none where its work passes what it may give, and its names; who has stepped last then, and where the cursor is
@@ -108,10 +87,6 @@ has_ended _ = false
 abbrev pub is_through : Config → World → ℕ → Bool
 is_through cfg w k = not (w.is_master k) || has_ended (seen_by cfg w k).phase
 
-abbrev pub wish_by : Config → Option Place → List Step → container_wish.Wish
-wish_by cfg None h = wish.Over
-wish_by cfg (Some p) h = (container.seen (length cfg.splits) p.attempt h).wish
-
 -- more than this a calm does not make
 unfoldable pub most_calm : ℕ
 most_calm = 10000
@@ -128,14 +103,14 @@ module _ (job : Job) (cfg : Config) (within : Limits) where
 
   -- what `compute` is an event of: with no bytes, which is refused, where the container has no input
   abbrev pub computing : World → ContainerId → Option Event
-  computing w c = computed_of c (if w.is_alive c then input_of cfg w c else None)
+  computing w c = computed_of c (input_in cfg w c)
 
   abbrev pub stepping : World → ContainerId → Option Event
   stepping w c = if wants_compute (wish_of cfg w c) then computing w c else Some (ContainerStep c Calm)
 
   -- the packet at the cursor
   abbrev pub next_packet : World → Option ContainerId → ℕ → Option Next
-  next_packet w last at = if nat_lt at (length w.bag) then Some (record { names = []; event = Some (Deliver at); stepped = last; cursor = suc at }) else None
+  next_packet w last at = if nat_lt at (length w.bag) then Some (record { names = []; event = Some (Deliver at); stepped = last; cursor = at + 1 }) else None
 
   abbrev pub next_duty : World → ℕ → Option ContainerId → ℕ → Option Next
   next_duty w k last at = option_map (λ d. record { names = duty_event d.name ∷ []; event = Some (Duty k Calm); stepped = last; cursor = at }) (named (seen_by cfg w k).phase (duty cfg w k))
@@ -156,9 +131,9 @@ module _ (job : Job) (cfg : Config) (within : Limits) where
   abbrev pub world : Played → World
   world s = world_of cfg within s.events
 
-  -- a permitted event is taken if no limit forbids it
+  -- a permitted event is taken if no limit forbids it, that of a journal's events among them
   abbrev pub taken : Event → Option ContainerId → Played → Option Played
-  taken e last s = if within (world s) e then Some (record s { events = s.events ++ e ∷ []; stepped = last }) else None
+  taken e last s = if nat_lt (length s.events) MAX_EVENTS && within (world s) e then Some (record s { events = s.events ++ e ∷ []; stepped = last }) else None
 
   abbrev pub unless_refused : ℕ → Event → Option ContainerId → Played → Option Why → Option Played
   unless_refused line e last s None = taken e last s

@@ -7,19 +7,21 @@ use Rattle.mr_commit.specs.declared.fault.CommitFault.{CommitFault}
 use Rattle.mr_commit.specs.declared.fault.CommitFault.TheVariants as commits
 use Rattle.mr_sim.specs.declared.fault.JobTextFault.{JobTextFault}
 use Rattle.mr_sim.specs.declared.fault.SimFault.{SimFault}
-use Rattle.mr_sim.specs.declared.fault.SimFault.TheVariants.{NoMemory, Read, Write, TooLong, BadCommand, BadRecord, Job, Refused}
+use Rattle.mr_sim.specs.declared.fault.SimFault.TheVariants.{NoMemory, Read, Write, TooLong, BadCommand, BadRecord, Job, Refused, Full}
 use Rattle.mr_sim.specs.declared.order.Order.{Order}
 use Rattle.mr_sim.specs.declared.scene.Scene.{Scene}
 use Rattle.mr_sim.specs.declared.scene.Reply.{Reply}
 use Rattle.mr_sim.specs.declared.scene.Reply.TheVariants.{Silent, Yes, No}
 use Rattle.mr_sim.specs.declared.subcommand.Command.{Command}
-use Rattle.mr_sim.specs.declared.subcommand.Command.TheVariants.{Committer, History, Seq}
+use Rattle.mr_sim.specs.declared.subcommand.Command.TheVariants.{Committer, Play, History, Seq}
 use Rattle.mr_history.specs.Reading.{bad_line}
+use Rattle.mr_world.specs.Limits.{within}
 use Rattle.mr_sim.specs.Effect.{out, start, outcome}
 use Rattle.mr_sim.specs.History.{PrintsHistory}
 use Rattle.mr_sim.specs.JobText.{submission_of}
 use Rattle.mr_script.specs.Lines.{lines_of}
 use Rattle.mr_sim.specs.Listing.{listing}
+use Rattle.mr_sim.specs.Play.{PrintsPlay, IsBadPlayJob, IsBadPlayLine, IsFullPlay}
 use Rattle.mr_sim.specs.Script.{AreCommands, IsFirstBad}
 use Rattle.mr_sim.specs.Seq.{PrintsSeq, RefusesSeq}
 
@@ -76,32 +78,44 @@ committer_text os = replies out os start ++ listing (scene_after out os start).n
 -- the text is what the subcommand prints for the input
 abbrev pub Prints : Command → List ℕ → List ℕ → Type 0
 Prints Committer input text = (os : List (ℕ × Order)) × AreCommands 1 (lines_of input) os × (text ≡ committer_text os)
+Prints Play input text = PrintsPlay within input text
 Prints History input text = PrintsHistory input text
 Prints Seq input text = PrintsSeq input text
 
 -- the first line of a script that is no command
 abbrev pub IsBadLine : Command → List ℕ → ℕ → Type 0
 IsBadLine Committer input n = IsFirstBad 1 (lines_of input) n
+IsBadLine Play input n = IsBadPlayLine within input n
 IsBadLine History input n = ⊥
 IsBadLine Seq input n = ⊥
 
 -- the first whole line of a segment that is neither a record nor the version line at its head
 abbrev pub IsBadRecord : Command → List ℕ → ℕ → Type 0
 IsBadRecord Committer input n = ⊥
+IsBadRecord Play input n = ⊥
 IsBadRecord History input n = bad_line input ≡ Some n
 IsBadRecord Seq input n = ⊥
 
 -- what is wrong with a job text
 abbrev pub IsBadJob : Command → List ℕ → JobTextFault → Type 0
 IsBadJob Committer input e = ⊥
+IsBadJob Play input e = IsBadPlayJob within input e
 IsBadJob History input e = ⊥
 IsBadJob Seq input e = submission_of input ≡ Err e
 
 -- the job of a job text refuses a line of a split
 abbrev pub IsRefused : Command → List ℕ → Type 0
 IsRefused Committer input = ⊥
+IsRefused Play input = ⊥
 IsRefused History input = ⊥
 IsRefused Seq input = RefusesSeq input
+
+-- an event of a run, or a work, passes a limit
+abbrev pub IsFull : Command → List ℕ → Type 0
+IsFull Committer input = ⊥
+IsFull Play input = IsFullPlay within input
+IsFull History input = ⊥
+IsFull Seq input = ⊥
 
 -- the text is formed or refused only of an input within the limit
 abbrev pub IsWithin : List ℕ → Type 0
@@ -118,6 +132,7 @@ Refuses command input (BadCommand n) = IsWithin input × IsBadLine command input
 Refuses command input (BadRecord n) = IsWithin input × IsBadRecord command input n
 Refuses command input (Job e) = IsWithin input × IsBadJob command input e
 Refuses command input Refused = IsWithin input × IsRefused command input
+Refuses command input Full = IsWithin input × IsFull command input
 
 -- The text was written behind what the writer had.
 abbrev pub Writes : Command → List ℕ → Option (List ℕ) → Option (List ℕ) → Type 0
@@ -133,3 +148,4 @@ RefusesText command input (BadCommand n) = IsBadLine command input n
 RefusesText command input (BadRecord n) = IsBadRecord command input n
 RefusesText command input (Job e) = IsBadJob command input e
 RefusesText command input Refused = IsRefused command input
+RefusesText command input Full = IsFull command input

@@ -64,10 +64,14 @@ pub enum SimFault {
     /// The job refuses a line of a split.
     #[error("mrsim: refused")]
     Refused,
+    /// An event of the run, or a work, would pass a limit of the world.
+    #[error("mrsim: full")]
+    Full,
 }
 
 impl SimFault {
-    /// The exit status of the program: 3 for a refused input, 4 for a stream that failed, 5 for want of memory.
+    /// The exit status of the program: 3 for a refused input, 4 for a stream that failed, 5 for want of memory,
+    /// 7 for a limit that was passed.
     pub fn status(&self) -> u8
         ensures { result ≡ status_of self.now }
     {
@@ -79,6 +83,7 @@ impl SimFault {
             | SimFault::Refused => 3,
             SimFault::Read | SimFault::Write => 4,
             SimFault::NoMemory => 5,
+            SimFault::Full => 7,
         }
     }
 }

@@ -7,14 +7,15 @@
 //!
 //! - where `run` answers Ok, the input has at most 2^24 bytes, and the writer holds what it held, then exactly what
 //!   the subcommand prints for what was read, and nothing else (clause `printed`; `Prints` has a case for each
-//!   subcommand: `committer` by the committer effect and the listing of what it leaves, `history` by the records of
-//!   the segment's whole lines and the number of torn bytes, `seq` by the sequential execution of the job that the
-//!   text submits: for each reduce, by rising name, `== `, the part file's name and length, and its bytes);
+//!   subcommand: `committer` by the committer effect and the listing of what it leaves, `play` by the run of the cluster
+//!   that a script and its calms make, `history` by the records of the segment's whole lines and the number of torn bytes,
+//!   `seq` by the sequential execution of the job that the text submits: for each reduce, by rising name, `== `, the part
+//!   file's name and length, and its bytes);
 //! - a fault about the input is one that the input has: `TooLong` only above 2^24 bytes, `BadCommand(n)` only where
 //!   line n is the first that is no command, `BadRecord(n)` only where whole line n is the first that is no record,
 //!   `Job(key)` only where that key is the first bad one of the job text (or the text is no JSON object), `Refused`
-//!   only where the job refuses a line of a split, `Write` only where there is a text to be written (clause
-//!   `fault`, by `Refuses`);
+//!   only where the job refuses a line of a split, `Full` only where an event of a script, or a work, passes a limit of
+//!   the world, `Write` only where there is a text to be written (clause `fault`, by `Refuses`);
 //! - at every fault but `Write` the writer is as it was: a refused input writes nothing (clause `nothing`);
 //! - `run` returns for every reader: after at most 2^25 reads.
 //!
@@ -30,8 +31,13 @@
 //! definition reads the text as, key by key. A job that is read is within the limits of docs/SEQ.md (clause
 //! `limits`).
 //!
-//! **What `play` is to print** is defined, and nothing runs it yet: a job text with a script of a run (`specs/Play`). The cluster is the run
-//! of the events that the script and its calms make (`specs/Played`); an input has at most one text, and none where its job text or a line
+//! **What `play` prints** (`play`): a job text with a script of a run is run on `mr_world`'s `World`, and what is printed is exactly the text of
+//! the definitions (`PrintsPlay` of `specs/Play`): the lines of refused events, and then the winners, the marker, the outcome and the visible
+//! files of the cluster that is the run, in `mr_model`, of the events that the script and its calms make (`specs/Played`). The first bad key of the job text is
+//! told, else the first bad line of the script, else `Full` exactly where there is no such run, since an event or a work passes a limit;
+//! want of memory may come at any of these. What a container computes is what the job's definition makes of its input (`computed`).
+//!
+//! Laws of these definitions: an input has at most one text, and none where its job text or a line
 //! is bad or a limit is passed (`one_play_text`). Whatever commands follow others, each winner stays, and once the marker is there all
 //! that a reader sees stays (`scripts_go_on`, from the headline). What a calm makes next is always permitted (`calms_are_permitted`, for
 //! jobs that keep their laws). The names that a calm can stop before are those of duties and wishes,
@@ -42,7 +48,9 @@
 //! its command line (subcommands, help, refused words).
 #![tactic(auto)]
 
+mod calm;
 mod committer;
+mod event_names;
 mod fault;
 mod history;
 mod input;
@@ -51,12 +59,17 @@ mod laws;
 mod listing;
 mod order;
 mod part_files;
+mod play;
+mod player;
+mod refused;
 mod reply;
 mod scene;
 mod script;
 mod seq;
 mod subcommand;
 mod submission;
+mod works;
+mod world_text;
 
 pub use fault::{JobTextFault, SimFault};
 pub use job_text::read_job_text;

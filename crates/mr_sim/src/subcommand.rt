@@ -7,6 +7,7 @@ use crate::committer::committer;
 use crate::fault::SimFault;
 use crate::history::history;
 use crate::input::read_input;
+use crate::play::play;
 use crate::seq::seq;
 use std::alloc::Global;
 use std::io::{Read, Write};
@@ -19,6 +20,8 @@ use std::thread::Threads;
 pub enum Command {
     /// Runs a script of committer calls, and lists what the namespace holds then.
     Committer,
+    /// Runs the cluster of a job text by a script of events, and prints what came of it.
+    Play,
     /// Prints the records of one segment of a job history, and how many bytes after the last whole line were dropped.
     History,
     /// Runs the job of a job text sequentially, and prints its part files.
@@ -32,6 +35,7 @@ fn answer(alloc: Global, command: Command, input: &[u8]) -> Result<Vec<u8>, SimF
 {
     match command {
         Command::Committer => committer(alloc, input),
+        Command::Play => play(alloc, input),
         Command::History => history(alloc, input),
         Command::Seq => seq(alloc, input),
     }
