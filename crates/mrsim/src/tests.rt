@@ -37,6 +37,7 @@ fn refuses(rt: &impl Abort, alloc: Global, words: &[&str]) {
 fn subcommands(rt: HostRuntime) -> Result<(), Fail> {
     let alloc = rt.alloc();
     assert!(rt; named(alloc, &["mrsim", "committer"])? == mr_sim::Command::Committer);
+    assert!(rt; named(alloc, &["mrsim", "play"])? == mr_sim::Command::Play);
     assert!(rt; named(alloc, &["mrsim", "history"])? == mr_sim::Command::History);
     assert!(rt; named(alloc, &["mrsim", "seq"])? == mr_sim::Command::Seq);
     Ok(())
@@ -53,6 +54,7 @@ fn help(rt: HostRuntime) -> Result<(), Fail> {
         &["mrsim", "committer", "--help"],
         "write A TEXT",
     )?;
+    helps(&rt, alloc, &["mrsim", "play", "--help"], "calm K")?;
     helps(&rt, alloc, &["mrsim", "history", "--help"], "torn B")?;
     helps(&rt, alloc, &["mrsim", "seq", "--help"], "== part-r-00001 4")
 }
@@ -62,10 +64,11 @@ fn refused_words(rt: HostRuntime) {
     let alloc = rt.alloc();
     refuses(&rt, alloc, &["mrsim"]);
     refuses(&rt, alloc, &["mrsim", "help"]);
-    refuses(&rt, alloc, &["mrsim", "play"]);
+    refuses(&rt, alloc, &["mrsim", "threads"]);
     refuses(&rt, alloc, &["mrsim", "comitter"]);
     refuses(&rt, alloc, &["mrsim", "committer", "x"]);
     refuses(&rt, alloc, &["mrsim", "--turns", "committer"]);
     refuses(&rt, alloc, &["mrsim", "history", "--hold"]);
+    refuses(&rt, alloc, &["mrsim", "play", "x"]);
     refuses(&rt, alloc, &["mrsim", "seq", "x"]);
 }

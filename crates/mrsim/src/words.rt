@@ -14,7 +14,8 @@ Statuses:
   3  the input was refused: `mrsim: line N: bad command`, `mrsim: history: bad line N`,
      `mrsim: job: KEY`, `mrsim: refused`, `mrsim: input too long`
   4  a stream failed: `mrsim: read`, `mrsim: write`
-  5  `mrsim: no memory`";
+  5  `mrsim: no memory`
+  7  `mrsim: full`";
 
 const COMMITTER: &str = "Runs a script of committer calls and lists the directory that they leave";
 
@@ -65,6 +66,37 @@ prints
   reduce attempt_200707121733_0003_r_000000_0
   torn 0";
 
+const PLAY: &str = "Runs the cluster of a job by a script of events and prints what came of it";
+
+const PLAY_HELP: &str = "\
+Reads a job text (see `seq`) from the first line of standard input, and a script from the rest, one command a line:
+  start K KEPT               master K starts; of what the master before it did not flush, KEPT bytes stay
+  crash K KEPT               master K crashes; of what it did not flush, KEPT bytes stay
+  duty K [FAULT]             master K makes the store call that is due
+  launch K m T N             master K launches an attempt of map T (r: of reduce T) on node N
+  deliver I                  the packet at place I of the bag, from 0, is delivered
+  step C [FAULT]             container C makes its next step
+  compute C                  container C computes
+  die C                      container C ends before it is done
+  restart N                  node N restarts
+  expire K N                 master K gives node N up
+  calm K [before NAME]       all goes on without a fault until master K is through, or until an event of that name is next
+C is a container: its master, a full stop and its number, as 1.0. FAULT is `unavailable` (the call is not made) or
+`unanswered` (its answer is lost). Writes a line for each event that is refused, then each reduce's winner, whether the
+marker is there, the outcome, and the files that a reader of the destination sees.
+
+Example:
+  {\"id\":\"job_200707121733_0003\",\"job\":\"wordcount\",\"reduces\":1,\"splits\":[\"a b a\"]}
+  start 1 0
+  calm 1
+prints (with a tab between a word and its count)
+  r 0 attempt_200707121733_0003_r_000000_0
+  marker yes
+  outcome succeeded
+  == part-r-00000 8
+  a 2
+  b 1";
+
 const SEQ: &str = "Runs a job sequentially and prints its part files";
 
 const SEQ_HELP: &str = "\
@@ -97,12 +129,16 @@ pub fn command_line<'a>(alloc: Global) -> Result<Command<'a>, AllocError> {
         .about(HISTORY)
         .after_help(HISTORY_HELP);
     let seq = Command::new(alloc, "seq").about(SEQ).after_help(SEQ_HELP);
+    let play = Command::new(alloc, "play")
+        .about(PLAY)
+        .after_help(PLAY_HELP);
     Command::new(alloc, "mrsim")
         .about(ABOUT)
         .after_help(STATUSES)
         .disable_help_subcommand(true)
         .subcommand_required(true)
         .subcommand(committer)?
+        .subcommand(play)?
         .subcommand(history)?
         .subcommand(seq)
 }
@@ -110,6 +146,7 @@ pub fn command_line<'a>(alloc: Global) -> Result<Command<'a>, AllocError> {
 /// The subcommand that the words name. Words without one are refused before.
 pub fn command_of(matches: &ArgMatches<'_>) -> mr_sim::Command {
     match matches.subcommand() {
+        Some(("play", _)) => mr_sim::Command::Play,
         Some(("history", _)) => mr_sim::Command::History,
         Some(("seq", _)) => mr_sim::Command::Seq,
         _ => mr_sim::Command::Committer,
