@@ -1,27 +1,74 @@
-//! The world: a cluster that is run, event by event, and is at each point what `mr_model` defines. **It is being written**: what
-//! stands is within the crate, and nothing of it can be called from outside yet but its config, its limits and its faults.
+//! The world: a cluster that is run, event by event, in one process: a namespace, a history, a bag of packets, the machines of masters, nodes and
+//! containers. It is at each point what `mr_model` defines to be the run of the events that it took, its *journal*.
+//!
+//! # How to begin
+//!
+//! A job is run to its end, where nothing goes wrong:
+//!
+//! ```rust
+//! fn run_job(
+//!     alloc: Global,
+//!     world: &mut World,
+//!     map_made: &[u8],
+//!     reduce_made: &[u8],
+//! ) -> Result<Option<bool>, WorldFault> {
+//!     world.apply(Event::Start(1, 0))?;
+//!     let (mut next, mut last) = (0, None);
+//!     for _ in 0..10_000 {
+//!         let event = if next < world.bag().len() {
+//!             next += 1;
+//!             Event::Deliver(next as u64 - 1)
+//!         } else if world.duty(1)?.is_some() {
+//!             Event::Duty(1, Weather::Calm)
+//!         } else if let Some(task) = world.wanted(1) {
+//!             Event::LaunchOn(1, task, 0)
+//!         } else if let Some(c) = world.next_living(last) {
+//!             last = Some(c);
+//!             match world.input(&c) {
+//!                 None => Event::ContainerStep(c, Weather::Calm),
+//!                 Some(Input::Map { .. }) => {
+//!                     Event::Computed(c, Bytes::from_vec(Vec::from_slice(alloc, map_made)?))
+//!                 }
+//!                 Some(Input::Reduce { .. }) => {
+//!                     Event::Computed(c, Bytes::from_vec(Vec::from_slice(alloc, reduce_made)?))
+//!                 }
+//!             }
+//!         } else {
+//!             break; // nothing is left to do
+//!         };
+//!         match world.apply(event) {
+//!             Ok(_) | Err(WorldFault::NotNow(_)) => {} // who is gone hears no packet
+//!             Err(fault) => return Err(fault),
+//!         }
+//!     }
+//!     Ok(world.outcome())
+//! }
+//! ```
+//!
+//! (It is run in `crates/tests_guides`.)
 //!
 //! # What is proved
 //!
-//! The parts of a world (`Parts`: the namespace, the history, the bag, the machines of masters, nodes and living containers) *stand for* a world of
-//! `mr_model` (`specs/Standing`): one clause a part, each machine for its past there, and that world is the run of some events under the
-//! limits of `specs/Limits`. Of every world that the parts stand for:
+//! Contracts see a `World` as its config and its journal (`specs/Journal`), and `world_in` of that is the world of the definitions, under the limits of
+//! `specs/Limits`. For every world, every event and every list of events:
 //!
-//! - the parts of a new world stand for the opening world (`Parts::new`);
-//! - each event's call refuses it as defined (`Tries`): with the first reason why it is not permitted, else because it would pass a limit,
-//!   else for want of memory; and then the parts stand for what they stood for. Else the event is permitted and passes no limit, and the
-//!   parts stand for the world after it. So it is of a container's death (`die`), its step (`step`, a store call in each weather) and
-//!   bytes that are handed in (`compute`), of a packet to whomever it is sent (`deliver`; `hear_container`, `hear_node`, `hear_master`),
-//!   of a node's restart (`restart`), and of a master's start, crash, launch, expiry and store call (`start`, `crash`, `launch`, `expire`,
-//!   `duty`). A look tells the same beforehand and changes nothing (`Foresees`).
+//! - `World::new` has an empty journal, `journal` and `config` lend what contracts see;
+//! - `apply` refuses an event with the first reason why it is not permitted, else `Full` where it would pass a limit, else `NoMemory`, and then nothing has changed;
+//!   else the event is the journal's last, the world after it is the definitions', and the packets that it added are told (`Applies`). `foresee` tells the refusal
+//!   beforehand and changes nothing (`Foretells`);
+//! - `run` passes over what is not permitted, and leads to the world of the journal and all its events; it stops at the first that is `Full` or wants memory, and those
+//!   before it have happened (`Runs`);
+//! - **the headline** stands on `apply` and `run` themselves, of the world before and after (`HeadlineHolds`): a recorded winner stays, and every node told of it is told
+//!   the same; where the success marker is, a reader sees each reduce's winner's whole file and nothing else, from then on; one outcome is told; with deterministic
+//!   functions the files are the sequential execution's;
+//! - what is read is what the definitions read: for those outside `winner`, `winners`, `marker`, `outcome`, `visible`; for programs `bag`, `addressee`, `newest`,
+//!   `phase`, `duty`, `wanted`, `unflushed`, `stable`, `living`, `next_living`, `wish`, `input` (`specs/Readings`).
 //!
-//! Want of memory may also be answered where memory was refused while it was found out whether a limit would be passed; never in place of
-//! a reason. Everything that can fail comes before the first change that can't be taken back.
+//! A world's invariant is that its parts (`Parts`) *stand for* the world of its journal (`specs/Standing`): one clause a part, each machine for its past there. Each event's
+//! call keeps it (`Tries`), and everything that can fail comes before the first change that can't be taken back.
 //!
-//! A master is told what a store answers, a refusal too; only where a store is full the whole event is refused.
-//!
-//! Not here yet: what is read of a world, and the world that keeps a journal. Nothing of this was
-//! tested: nothing can be called yet.
+//! Want of memory may also be answered where memory was refused while it was found out whether a limit would be passed; never in place of a reason. A master is told what a
+//! store answers, a refusal too; only where a store is full the whole event is refused.
 #![tactic(auto)]
 
 mod alive;
