@@ -7,7 +7,7 @@ use Rattle.mr_shuffle.specs.Part.{part}
 use Rattle.mr_shuffle.specs.SequentialText.{AreSplits}
 use Rattle.mr_model.specs.Packets.{Config}
 use Rattle.mr_model.specs.Claims.{Limits}
-use Rattle.mr_model.specs.Sequential.{Job, BoundsOutputs, WholeIsSequential, MarkedFilesAreSequential}
+use Rattle.mr_model.specs.Sequential.{Job, JobLaws, BoundsOutputs, WholeIsSequential, MarkedFilesAreSequential}
 
 abbrev pub ok_of : {A E : Type 0} → Result A E → Option A
 ok_of (Ok x) = Some x
@@ -19,3 +19,7 @@ job_of job = record { output = map_output job; block = block job; part = λ piec
 -- files of a job are those of its sequential execution
 abbrev pub FilesOf : {K V : Type 0} → Computation K V → Type 0
 FilesOf job = (config : Config) (within : Limits) → AreSplits config.splits → BoundsOutputs within → WholeIsSequential (job_of job) config within × MarkedFilesAreSequential (job_of job) config within
+
+-- a job has the laws that the cluster's definitions ask for
+abbrev pub LawsOf : {K V : Type 0} → Computation K V → Type 0
+LawsOf job = (config : Config) → AreSplits config.splits → JobLaws (job_of job) config
