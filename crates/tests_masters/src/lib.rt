@@ -4,10 +4,16 @@
 #[cfg(test)]
 mod fixtures;
 #[cfg(test)]
+mod hearing;
+#[cfg(test)]
 mod leaving;
 #[cfg(test)]
 mod opening;
 #[cfg(test)]
 mod outcomes;
 #[cfg(test)]
+mod refusals;
+#[cfg(test)]
 mod running;
+#[cfg(test)]
+mod stopping;

@@ -1,0 +1,178 @@
+//! What a running master hears.
+
+use crate::fixtures::{answered, attempt, container, due, first, hears, master_of, opens, task};
+use crate::running::{finishes, first_attempt, launches, reduce, running};
+use mr_history::Records;
+use mr_ids::{AttemptId, TaskId, TaskKind};
+use mr_master::MasterMachine;
+use mr_master_model::StoreAnswer;
+use mr_packet::{Address, ContainerId, Envelope, Packet};
+use std::alloc::Global;
+use std::process::Abort;
+
+// The second attempt at the reduce.
+fn second_attempt(rt: &impl Abort) -> AttemptId {
+    match AttemptId::new(reduce(), 1) {
+        Some(attempt) => attempt,
+        None => panic!(rt; "no attempt has the number 1"),
+    }
+}
+
+// The container of this number.
+fn container_of(rt: &impl Abort, number: u32) -> ContainerId {
+    ContainerId {
+        app: first(rt),
+        number,
+    }
+}
+
+// What is told of an attempt and a container that the master does not know.
+fn unknown(rt: &impl Abort, kind: u32) -> Packet {
+    let c = container_of(rt, 1);
+    let a = second_attempt(rt);
+    match kind {
+        0 => Packet::Pending { a },
+        1 => Packet::Poll { a },
+        2 => Packet::Done { a, bytes: Some(4) },
+        3 => Packet::Failed { a },
+        4 => Packet::Ended { c },
+        5 => Packet::Where { c, map: 0 },
+        _ => Packet::FetchLost { c, a },
+    }
+}
+
+// It is not heard: nothing is sent, and nothing is due but what was due before.
+#[test]
+fn unknown_ones_are_not_heard(rt: HostRuntime) {
+    let mut master = running(&rt, rt.alloc());
+    launches(&rt, &mut master);
+    assert!(rt; answered(&rt, &mut master, StoreAnswer::Wrote(Ok(()))).len() == 0);
+    for kind in 0..7 {
+        let packet = unknown(&rt, kind);
+        assert!(rt; hears(&rt, &mut master, &packet).len() == 0, "{kind}");
+    }
+    assert!(rt; due(&rt, &master).is_none());
+}
+
+// Whether the container of this number is told whether its attempt may commit.
+fn is_answer(rt: &impl Abort, packets: &[Envelope], number: u32, may: bool) -> bool {
+    if packets.len() != 1 {
+        return false;
+    }
+    let told = match &packets[0].body {
+        Packet::Answer { yes, .. } => *yes == may,
+        _ => false,
+    };
+    told && packets[0].to == Address::Container(container_of(rt, number))
+}
+
+// The first to ask may commit; the other is told no, also once the first is done.
+#[test]
+fn one_may_commit(rt: HostRuntime) {
+    let mut master = running(&rt, rt.alloc());
+    launches(&rt, &mut master);
+    assert!(rt; master.launch(reduce(), 0).is_ok());
+    finishes(&rt, &mut master);
+    let poll = Packet::Poll {
+        a: second_attempt(&rt),
+    };
+    let no = hears(&rt, &mut master, &poll);
+    assert!(rt; is_answer(&rt, &no, 1, false));
+    let poll = Packet::Poll {
+        a: first_attempt(&rt),
+    };
+    let yes = hears(&rt, &mut master, &poll);
+    assert!(rt; is_answer(&rt, &yes, 0, true));
+}
+
+// The map of the job.
+fn map() -> TaskId {
+    task(TaskKind::Map, 0)
+}
+
+// A master whose map is Succeeded on node 0, and whose reduce is launched on node 1.
+fn mapped(rt: &impl Abort, alloc: Global) -> MasterMachine {
+    let mut master = master_of(rt, alloc, 1, 2);
+    opens(rt, &mut master, Records::new(alloc));
+    assert!(rt; master.launch(map(), 0).is_ok());
+    let done = Packet::Done {
+        a: attempt(rt, map()),
+        bytes: None,
+    };
+    assert!(rt; hears(rt, &mut master, &done).len() == 1);
+    assert!(rt; master.wanted().is_none());
+    for _ in 0..3 {
+        assert!(rt; answered(rt, &mut master, StoreAnswer::Wrote(Ok(()))).len() == 0);
+    }
+    assert!(rt; master.wanted() == Some(reduce()));
+    assert!(rt; master.launch(reduce(), 1).is_ok());
+    master
+}
+
+// Whether the reduce's container is told that the map's output lies on node 0, in incarnation 1.
+fn is_there(rt: &impl Abort, packets: &[Envelope]) -> bool {
+    if packets.len() != 1 {
+        return false;
+    }
+    let told = match &packets[0].body {
+        Packet::MapReady {
+            map: 0,
+            a,
+            n: 0,
+            incarnation: 1,
+        } => *a == attempt(rt, map()),
+        _ => false,
+    };
+    told && packets[0].to == Address::Container(container_of(rt, 1))
+}
+
+// The reduce's container asks where the map's output lies.
+fn asks(rt: &impl Abort) -> Packet {
+    let c = container_of(rt, 1);
+    Packet::Where { c, map: 0 }
+}
+
+// It does not find the output there.
+fn loses(rt: &impl Abort) -> Packet {
+    let c = container_of(rt, 1);
+    let a = attempt(rt, map());
+    Packet::FetchLost { c, a }
+}
+
+// Who asks is told where the output lies. Once it is lost, the map is wanted again, and who asks is told nothing.
+#[test]
+fn lost_output_is_made_again(rt: HostRuntime) {
+    let mut master = mapped(&rt, rt.alloc());
+    let told = hears(&rt, &mut master, &asks(&rt));
+    assert!(rt; is_there(&rt, &told));
+    assert!(rt; hears(&rt, &mut master, &loses(&rt)).len() == 0);
+    assert!(rt; master.wanted() == Some(map()));
+    assert!(rt; hears(&rt, &mut master, &asks(&rt)).len() == 0);
+}
+
+// A node that runs again has lost the output; the same incarnation, told again, changes nothing.
+#[test]
+fn restart_loses_the_output(rt: HostRuntime) {
+    let mut master = mapped(&rt, rt.alloc());
+    for (incarnation, wanted) in [(1, None), (2, Some(map()))] {
+        let up = Packet::NodeUp { n: 0, incarnation };
+        assert!(rt; hears(&rt, &mut master, &up).len() == 0);
+        assert!(rt; master.wanted() == wanted, "{incarnation}");
+    }
+}
+
+// The end of a container that was not asked to stop is a failure, which is recorded; a second time it is none.
+#[test]
+fn unasked_end_is_a_failure(rt: HostRuntime) {
+    let mut master = running(&rt, rt.alloc());
+    launches(&rt, &mut master);
+    let ended = Packet::Ended { c: container(&rt) };
+    for _ in 0..2 {
+        assert!(rt; hears(&rt, &mut master, &ended).len() == 0);
+    }
+    assert!(rt; master.wanted() == Some(reduce()));
+    for _ in 0..2 {
+        assert!(rt; answered(&rt, &mut master, StoreAnswer::Wrote(Ok(()))).len() == 0);
+    }
+    assert!(rt; due(&rt, &master).is_none());
+}

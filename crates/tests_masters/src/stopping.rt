@@ -1,0 +1,223 @@
+//! What makes a master Stopped, and what else ends its job.
+
+use crate::fixtures::{answered, does, due, generation_of, hears, master, opens};
+use crate::running::{finishes, first_attempt, launches, running};
+use mr_history::{HistoryFault, Record, Records};
+use mr_ids::AppAttempt;
+use mr_master::MasterMachine;
+use mr_master_model::{DutyName, Phase, StoreAnswer};
+use mr_names::{Answer, Kind, NameFault};
+use mr_packet::{Address, Envelope, Packet};
+use std::alloc::Global;
+use std::process::Abort;
+
+// The namespace refuses.
+fn missing() -> StoreAnswer {
+    StoreAnswer::Names(Err(NameFault::Missing))
+}
+
+// A later master is there.
+fn superseded() -> StoreAnswer {
+    StoreAnswer::Names(Err(NameFault::Superseded(2)))
+}
+
+// The answer of what is due stops the master: nothing is sent, nothing is due any more.
+fn stops(rt: &impl Abort, master: &mut MasterMachine, name: DutyName, answer: StoreAnswer) {
+    assert!(rt; due(rt, master) == Some(name), "{name:?}");
+    assert!(rt; answered(rt, master, answer).len() == 0, "{name:?}");
+    assert!(rt;
+        master.phase() == Phase::Stopped && due(rt, master).is_none(),
+        "{name:?}"
+    );
+}
+
+// Whether every one of the two nodes is told this outcome.
+fn is_outcome(told: &[Envelope], succeeded: bool) -> bool {
+    if told.len() != 2 {
+        return false;
+    }
+    is_told(&told[0], 0, succeeded) && is_told(&told[1], 1, succeeded)
+}
+
+fn is_told(envelope: &Envelope, node: u32, succeeded: bool) -> bool {
+    let told = match &envelope.body {
+        Packet::Outcome { succeeded: told } => *told == succeeded,
+        _ => false,
+    };
+    told && envelope.to == Address::Node(node)
+}
+
+// So many looks find no mark.
+fn looks(rt: &impl Abort, master: &mut MasterMachine, count: u32) {
+    for _ in 0..count {
+        let absent = StoreAnswer::Names(Ok(Answer::Found(None)));
+        assert!(rt; answered(rt, master, absent).len() == 0);
+    }
+}
+
+// A mark is found after so many others were looked for: the job ended, and each node is told how.
+fn finds(rt: &impl Abort, alloc: Global, count: u32, succeeded: bool) {
+    let mut master = master(rt, alloc);
+    looks(rt, &mut master, count);
+    let there = StoreAnswer::Names(Ok(Answer::Found(Some(Kind::File))));
+    let told = answered(rt, &mut master, there);
+    assert!(rt; is_outcome(&told, succeeded), "{count}");
+    assert!(rt;
+        master.phase() == Phase::Ended && due(rt, &master).is_none(),
+        "{count}"
+    );
+}
+
+#[test]
+fn marks_tell_the_outcome(rt: HostRuntime) {
+    finds(&rt, rt.alloc(), 0, true);
+    finds(&rt, rt.alloc(), 1, false);
+    finds(&rt, rt.alloc(), 2, false);
+}
+
+#[test]
+fn fault_stops_a_look(rt: HostRuntime) {
+    let mut master = master(&rt, rt.alloc());
+    stops(&rt, &mut master, DutyName::Marks, StoreAnswer::Fault);
+}
+
+#[test]
+fn bad_line_stops_the_reading(rt: HostRuntime) {
+    let mut master = master(&rt, rt.alloc());
+    looks(&rt, &mut master, 3);
+    let unread = StoreAnswer::Unread(HistoryFault::BadLine(1));
+    stops(&rt, &mut master, DutyName::Read, unread);
+}
+
+#[test]
+fn refusal_stops_the_setup(rt: HostRuntime) {
+    let mut master = master(&rt, rt.alloc());
+    looks(&rt, &mut master, 3);
+    let none = StoreAnswer::Told(Records::new(rt.alloc()));
+    assert!(rt; answered(&rt, &mut master, none).len() == 0);
+    stops(&rt, &mut master, DutyName::Setup, missing());
+}
+
+// A second master, of which the first recorded the success of the reduce.
+fn second(rt: &impl Abort, alloc: Global, record: Record) -> MasterMachine {
+    let Some(app) = AppAttempt::new(2) else {
+        panic!(rt; "no application attempt 2");
+    };
+    let mut master = generation_of(rt, alloc, app, 0, 2);
+    let mut records = Records::new(alloc);
+    records.push(record).expect(rt, "no memory");
+    looks(rt, &mut master, 3);
+    assert!(rt; answered(rt, &mut master, StoreAnswer::Told(records)).len() == 0);
+    master
+}
+
+// The output of the winner is nowhere.
+#[test]
+fn missing_output_stops_the_recovery(rt: HostRuntime) {
+    let won = Record::ReduceSucceeded {
+        attempt: first_attempt(&rt),
+        bytes: None,
+    };
+    let mut master = second(&rt, rt.alloc(), won);
+    assert!(rt; does(&rt, &mut master).len() == 0);
+    let absent = StoreAnswer::Names(Ok(Answer::Found(None)));
+    stops(&rt, &mut master, DutyName::Recover, absent);
+}
+
+// What an earlier master recorded as failed is aborted at once; a fault there stops the master.
+#[test]
+fn recorded_failure_is_aborted(rt: HostRuntime) {
+    let mut master = second(&rt, rt.alloc(), Record::JobUnsuccessful);
+    assert!(rt; master.phase() == Phase::Failing);
+    let mut copy = master.copy().expect(&rt, "no memory");
+    stops(&rt, &mut copy, DutyName::Abort, StoreAnswer::Fault);
+    let told = answered(&rt, &mut master, missing());
+    assert!(rt; is_outcome(&told, false) && master.phase() == Phase::Ended);
+}
+
+#[test]
+fn fault_stops_an_append(rt: HostRuntime) {
+    let mut master = running(&rt, rt.alloc());
+    launches(&rt, &mut master);
+    let full = StoreAnswer::Wrote(Err(HistoryFault::Full));
+    stops(&rt, &mut master, DutyName::Append, full);
+}
+
+#[test]
+fn refusal_stops_a_bar(rt: HostRuntime) {
+    let mut master = running(&rt, rt.alloc());
+    launches(&rt, &mut master);
+    assert!(rt; master.expire(0).is_ok());
+    stops(&rt, &mut master, DutyName::Bar, missing());
+}
+
+// The reduce is done, and both of its records are appended.
+fn done(rt: &impl Abort, alloc: Global) -> MasterMachine {
+    let mut master = running(rt, alloc);
+    launches(rt, &mut master);
+    finishes(rt, &mut master);
+    for _ in 0..2 {
+        assert!(rt; answered(rt, &mut master, StoreAnswer::Wrote(Ok(()))).len() == 0);
+    }
+    master
+}
+
+#[test]
+fn lost_answer_stops_a_flush(rt: HostRuntime) {
+    let mut master = done(&rt, rt.alloc());
+    stops(&rt, &mut master, DutyName::Flush, StoreAnswer::Fault);
+}
+
+// The same, and they are stable: the job commit is to start.
+fn won(rt: &impl Abort, alloc: Global) -> MasterMachine {
+    let mut master = done(rt, alloc);
+    assert!(rt; answered(rt, &mut master, StoreAnswer::Wrote(Ok(()))).len() == 1);
+    master
+}
+
+#[test]
+fn fault_stops_the_start(rt: HostRuntime) {
+    let mut master = won(&rt, rt.alloc());
+    stops(&rt, &mut master, DutyName::Started, StoreAnswer::Fault);
+}
+
+// A later master stops the job commit. Any other refusal fails the job, which is marked, and then aborted.
+#[test]
+fn refused_merge_fails_the_job(rt: HostRuntime) {
+    let mut master = won(&rt, rt.alloc());
+    assert!(rt; does(&rt, &mut master).len() == 0);
+    let mut copy = master.copy().expect(&rt, "no memory");
+    stops(&rt, &mut copy, DutyName::Merge, superseded());
+    assert!(rt; answered(&rt, &mut master, missing()).len() == 0);
+    aborts(&rt, &mut master);
+}
+
+// COMMIT_FAIL is created, and what is temporary is deleted: a fault at the first stops the master, at the second only a later master does.
+fn aborts(rt: &impl Abort, master: &mut MasterMachine) {
+    let mut copy = master.copy().expect(rt, "no memory");
+    stops(rt, &mut copy, DutyName::Fail, StoreAnswer::Fault);
+    assert!(rt; does(rt, master).len() == 0);
+    let mut copy = master.copy().expect(rt, "no memory");
+    stops(rt, &mut copy, DutyName::Abort, superseded());
+    let told = answered(rt, master, StoreAnswer::Fault);
+    assert!(rt; told.len() == 1 && is_told(&told[0], 0, false));
+    assert!(rt; master.phase() == Phase::Ended);
+}
+
+// A master that stopped hears nothing, NodeUp neither.
+#[test]
+fn stopped_master_hears_nothing(rt: HostRuntime) {
+    let mut master = running(&rt, rt.alloc());
+    launches(&rt, &mut master);
+    stops(&rt, &mut master, DutyName::Append, StoreAnswer::Fault);
+    let pending = Packet::Pending {
+        a: first_attempt(&rt),
+    };
+    assert!(rt; hears(&rt, &mut master, &pending).len() == 0);
+    let up = Packet::NodeUp {
+        n: 0,
+        incarnation: 2,
+    };
+    assert!(rt; hears(&rt, &mut master, &up).len() == 0);
+    assert!(rt; master.phase() == Phase::Stopped && due(&rt, &master).is_none());
+}
