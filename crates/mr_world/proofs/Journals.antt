@@ -16,7 +16,7 @@ use Rattle.mr_world.specs.declared.took.Took.{Took}
 use Rattle.mr_world.specs.Limits.{within}
 use Rattle.mr_world.specs.Standing.{Standing, IsTaken, Refuses}
 use Rattle.mr_world.specs.Journal.{Journal, Keeps, run_of, world_in, if_taken, taken, fits}
-use Rattle.mr_world.specs.Applying.{CanHappen, IsRefused, Takes, Ran, StopsAt, Runs, Counts}
+use Rattle.mr_world.specs.Applying.{CanHappen, IsRefused, Takes, AllFit, Ran, StopsAt, Runs, Counts}
 use Rattle.mr_world.proofs.Opening_parts.{opens}
 
 -- ---- an event that is taken, and one that is not
@@ -105,11 +105,12 @@ permitted-by None fits f other r = refl
 -- ---- events in turn
 
 pub ran-none : (j : Journal) → Ran j [] j
-ran-none j = record { journal = ap (λ (es : List Event). record { config = j.config; events = es }) (sym (append-nil j.events)); world = ap (run_of j.config) (sym (append-nil j.events)) }
+ran-none j = record { fits = tt; journal = ap (λ (es : List Event). record { config = j.config; events = es }) (sym (append-nil j.events)); world = ap (run_of j.config) (sym (append-nil j.events)) }
 
 -- where nothing was taken
 pub ran-passed : (j : Journal) (e : Event) (why : Why) → not_now j.config (world_in j) e ≡ Some why → Ran j (e ∷ []) j
 ran-passed j e why now = record {
+  fits = (λ none. cc (now, none), tt);
   journal = ap (λ (es : List Event). record { config = j.config; events = es }) (sym (ap (λ fs. j.events ++ (fs ++ [])) (if-not j.config (world_in j) e why now) ∙ append-nil j.events));
   world = sym (run-one j.config j.events e ∙ happens-not j.config (world_in j) e why now);
 }
@@ -119,6 +120,7 @@ permits j e c = record { now = c.now; fits = (and_parts (nat_lt (length j.events
 
 pub ran-taken : (old new : Journal) (e : Event) (took : Took) → Takes old e took new → Ran old (e ∷ []) new
 ran-taken old new e took t = let taken-now = permits old e t.could in record {
+  fits = (λ none. taken-now.fits, tt);
   journal = t.journal ∙ ap (λ (fs : List Event). record { config = old.config; events = old.events ++ (fs ++ []) }) (sym (if-taken old.config (world_in old) e taken-now));
   world = t.effect ∙ sym (run-one old.config old.events e ∙ happens-taken old.config (world_in old) e taken-now);
 }
@@ -130,8 +132,14 @@ runs-on cfg es fs = sym (run-append cfg (within cfg) opening_world es fs)
 same-after : (cfg : Config) (es gs fs : List Event) → run_of cfg es ≡ run_of cfg gs → run_of cfg (es ++ fs) ≡ run_of cfg (gs ++ fs)
 same-after cfg es gs fs same = sym (runs-on cfg es fs) ∙ (ap (λ w. run cfg (within cfg) w fs) same ∙ runs-on cfg gs fs)
 
-ran-both : (a c : Journal) (es fs : List Event) → (let b : Journal = record { config = a.config; events = a.events ++ taken a.config (world_in a) es } in (world_in b ≡ run_of a.config (a.events ++ es)) → Ran b fs c → Ran a (es ++ fs) c)
-ran-both a c es fs same r = record {
+all-fit : (cfg : Config) (w : World) (es fs : List Event) → AllFit cfg w es → AllFit cfg (run cfg (within cfg) w es) fs → AllFit cfg w (es ++ fs)
+unfolding run
+all-fit cfg w [] fs p q = q
+all-fit cfg w (e ∷ es) fs p q = (p.0, all-fit cfg (happens cfg (within cfg) w e) es fs p.1 q)
+
+ran-both : (a c : Journal) (es fs : List Event) → AllFit a.config (world_in a) es → (let b : Journal = record { config = a.config; events = a.events ++ taken a.config (world_in a) es } in (world_in b ≡ run_of a.config (a.events ++ es)) → Ran b fs c → Ran a (es ++ fs) c)
+ran-both a c es fs fit same r = record {
+  fits = all-fit a.config (world_in a) es fs fit (subst (λ w. AllFit a.config w fs) (same ∙ sym (runs-on a.config a.events es)) r.fits);
   journal = r.journal ∙ ap (λ (gs : List Event). record { config = a.config; events = gs }) (append_assoc a.events (taken a.config (world_in a) es) _ ∙ ap (λ gs. a.events ++ gs) (sym all));
   world = r.world ∙ (same-after a.config (a.events ++ taken a.config (world_in a) es) (a.events ++ es) fs same ∙ ap (run_of a.config) (append_assoc a.events es fs));
 }
@@ -140,7 +148,7 @@ ran-both a c es fs same r = record {
     all = taken-append a.config (world_in a) es fs ∙ ap (λ w. taken a.config (world_in a) es ++ taken a.config w fs) (runs-on a.config a.events es ∙ sym same)
 
 pub ran-append : (a b c : Journal) (es fs : List Event) → Ran a es b → Ran b fs c → Ran a (es ++ fs) c
-ran-append a b c es fs r q = subst (λ (m : Journal). (world_in m ≡ run_of a.config (a.events ++ es)) → Ran m fs c → Ran a (es ++ fs) c) (sym r.journal) (ran-both a c es fs) r.world q
+ran-append a b c es fs r q = subst (λ (m : Journal). (world_in m ≡ run_of a.config (a.events ++ es)) → Ran m fs c → Ran a (es ++ fs) c) (sym r.journal) (ran-both a c es fs r.fits) r.world q
 
 -- those before an event that is refused
 pub stops-at : (old mid new : Journal) (es before after : List Event) (e : Event) (f : WorldFault) → Ran old before mid → es ≡ before ++ e ∷ after

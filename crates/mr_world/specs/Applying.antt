@@ -1,7 +1,8 @@
 -- What the calls of a world promise.
 use Rattle.std.specs.Prelude.{◌≡◌, ℕ, Bool, true, ◌&&◌, nat_lt, List, [], ◌∷◌, ◌++◌, Option, None, Result, Ok, Err, length}
+use Rattle.mr_model.specs.Packets.{Config}
 use Rattle.mr_model.specs.World.{World, Event}
-use Rattle.mr_model.specs.Effect.{not_now, effect}
+use Rattle.mr_model.specs.Effect.{not_now, effect, happens}
 use Rattle.mr_model.specs.Sending.{sent}
 use Rattle.mr_world.specs.declared.fault.WorldFault.{WorldFault}
 use Rattle.mr_world.specs.declared.limits.TheConstants.{MAX_EVENTS}
@@ -38,9 +39,16 @@ abbrev pub Applies : Journal → Event → Result Took WorldFault → Journal �
 Applies old e (Ok took) new = Takes old e took new
 Applies old e (Err f) new = IsRefused old e f × (new ≡ old)
 
--- These events were run: those that were taken are in the journal from then on, and the world is that of the journal and these events.
+-- each event of a list that was permitted when it came passed no limit
+abbrev pub AllFit : Config → World → List Event → Type 0
+AllFit cfg w [] = Unit {0}
+AllFit cfg w (e ∷ es) = (not_now cfg w e ≡ None → within cfg w e ≡ true) × AllFit cfg (happens cfg (within cfg) w e) es
+
+-- These events were run: those that were taken are in the journal from then on, all others were not permitted when they came, and the world is that of the journal and
+-- these events.
 pub record Ran (old : Journal) (es : List Event) (new : Journal) : Type 0 where
   pub journal : new ≡ record { config = old.config; events = old.events ++ taken old.config (world_in old) es }
+  pub fits : AllFit old.config (world_in old) es
   pub world : world_in new ≡ run_of old.config (old.events ++ es)
 
 -- this event was run; or it was permitted and refused, and nothing has changed

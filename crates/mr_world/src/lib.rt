@@ -56,7 +56,7 @@
 //! - `apply` refuses an event with the first reason why it is not permitted, else `Full` where it would pass a limit, else `NoMemory`, and then nothing has changed;
 //!   else the event is the journal's last, the world after it is the definitions', and the packets that it added are told (`Applies`). `foresee` tells the refusal
 //!   beforehand and changes nothing (`Foretells`);
-//! - `run` passes over what is not permitted, and leads to the world of the journal and all its events; it stops at the first that is `Full` or wants memory, and those
+//! - `run` passes over what is not permitted and over nothing else, and leads to the world of the journal and all its events; it stops at the first that is `Full` or wants memory, and those
 //!   before it have happened (`Runs`);
 //! - **the headline** stands on `apply` and `run` themselves, of the world before and after (`HeadlineHolds`): a recorded winner stays, and every node told of it is told
 //!   the same; where the success marker is, a reader sees each reduce's winner's whole file and nothing else, from then on; one outcome is told; with deterministic
