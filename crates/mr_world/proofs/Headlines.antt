@@ -8,6 +8,8 @@ use Rattle.mr_model.specs.Sequential.{BoundsOutputs, most_output}
 use Rattle.mr_model.proofs.Grows.{winner_stays}
 use Rattle.mr_model.proofs.Won.{told_the_same}
 use Rattle.mr_model.proofs.Outcomes.{marker_means_complete, no_later_event, outcomes_agree}
+use Rattle.mr_model.proofs.Numbers.{whole_is_one}
+use Rattle.mr_model.proofs.Published.{published_are_winners}
 use Rattle.mr_model.proofs.Results.{results_stay}
 use Rattle.mr_model.proofs.Faithful.{marked_files_are_sequential}
 use Rattle.mr_world.specs.declared.limits.TheConstants.{MAX_MAP_OUTPUT}
@@ -28,12 +30,15 @@ holds-on cfg es fs = let one = outcomes_agree cfg (within cfg) in let stay = res
   winner_stays = winner_stays cfg (within cfg) es fs;
   told = told_the_same cfg (within cfg) (es ++ fs);
   whole_files = marker_means_complete cfg (within cfg) (es ++ fs);
+  one_whole = whole_is_one cfg (within cfg) (es ++ fs);
+  published = published_are_winners cfg (within cfg) (es ++ fs);
   marker_stays = no_later_event cfg (within cfg) es fs;
   files_stay = stay.marked_stays es fs;
   one_outcome = stay.told_outcome (es ++ fs);
   outcome_stays = stay.outcome_stays es fs;
   success_is_marked = one.marked (es ++ fs);
-  settled = stay.told_stays es fs;
+  settled = λ b o. (one.settled es fs b (stay.outcome_told es b o)).0;
+  files_settled = stay.told_stays es fs;
   marker_settled = λ b o m. (one.settled es fs b (stay.outcome_told es b o)).1.1 m;
   sequential = λ job laws faithful marked. marked_files_are_sequential job cfg (within cfg) laws (outputs-are-bounded cfg) (es ++ fs) faithful marked;
 }

@@ -1,7 +1,8 @@
 -- The headline, of a world before and after a call.
-use Rattle.std.specs.Prelude.{◌≡◌, Bool, true, Some}
-use Rattle.mr_model.specs.Ids.{Attempt, TaskId}
-use Rattle.mr_model.specs.Claims.{winner, IsToldWon, IsToldOutcome, IsMarked, IsComplete, LooksTheSame}
+use Rattle.std.specs.Prelude.{◌≡◌, ℕ, Bool, true, List, Some}
+use Rattle.mr_model.specs.Ids.{Attempt, Path, TaskId, part}
+use Rattle.mr_model.specs.Content.{Entry, File, entry_at}
+use Rattle.mr_model.specs.Claims.{winner, IsToldWon, IsToldOutcome, IsMarked, IsComplete, IsReduce, IsVisible, IsWhole, LooksTheSame}
 use Rattle.mr_model.specs.Results.{outcome, visible}
 use Rattle.mr_model.specs.Sequential.{Job, JobLaws, IsFaithful, SeesSequential}
 use Rattle.mr_world.specs.Limits.{within}
@@ -14,6 +15,11 @@ pub record HeadlineHolds (old new : Journal) : Type 0 where
   pub told : (t : TaskId) (a : Attempt) → IsToldWon (world_in new) t a → winner (world_in new) t ≡ Some a
   -- where the marker is, a reader of the destination sees for each reduce its winner's whole file, and nothing else
   pub whole_files : IsMarked (world_in new) → IsComplete new.config (world_in new)
+  -- an attempt has one whole output
+  pub one_whole : (a : Attempt) (b c : List ℕ) → IsWhole (world_in new) a b → IsWhole (world_in new) a c → b ≡ c
+  -- whatever is seen, marked or not, is a reduce's file, its winner's whole output
+  pub published : (p : Path) (x : Entry) → IsVisible p → entry_at (world_in new).content p ≡ Some x →
+      (t : TaskId) × IsReduce new.config t × (p ≡ part t) × (a : Attempt) × (bytes : List ℕ) × (winner (world_in new) t ≡ Some a) × IsWhole (world_in new) a bytes × (x ≡ File bytes true)
   -- once the marker is there, it stays, and nothing that is seen changes
   pub marker_stays : IsMarked (world_in old) → IsMarked (world_in new) × LooksTheSame (world_in old) (world_in new)
   pub files_stay : IsMarked (world_in old) → visible (world_in new) ≡ visible (world_in old)
@@ -22,7 +28,8 @@ pub record HeadlineHolds (old new : Journal) : Type 0 where
   pub outcome_stays : (b : Bool) → outcome (world_in old) ≡ Some b → outcome (world_in new) ≡ Some b
   pub success_is_marked : IsToldOutcome (world_in new) true → IsMarked (world_in new)
   -- once an outcome was told, a failed one too, nothing that is seen changes, nor whether the marker is there
-  pub settled : (b : Bool) → outcome (world_in old) ≡ Some b → visible (world_in new) ≡ visible (world_in old)
+  pub settled : (b : Bool) → outcome (world_in old) ≡ Some b → LooksTheSame (world_in old) (world_in new)
+  pub files_settled : (b : Bool) → outcome (world_in old) ≡ Some b → visible (world_in new) ≡ visible (world_in old)
   pub marker_settled : (b : Bool) → outcome (world_in old) ≡ Some b → IsMarked (world_in new) → IsMarked (world_in old)
   -- with deterministic functions, each of whose results is the definition's, the files are the sequential execution's, once the marker is there
   pub sequential : (job : Job) → JobLaws job new.config → IsFaithful job new.config (within new.config) new.events → IsMarked (world_in new) → SeesSequential job new.config (world_in new)
