@@ -7,3 +7,5 @@ mod begin;
 mod stores;
 #[cfg(test)]
 mod tests;
+#[cfg(test)]
+mod worlds;

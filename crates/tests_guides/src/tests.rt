@@ -1,6 +1,6 @@
 //! Each example, run once.
 
-use crate::{begin, stores};
+use crate::{begin, stores, worlds};
 use mr_attempt::AttemptState;
 use mr_commit::{CommitTask, StepDone};
 use mr_container::{ContainerMachine, Place, Wish};
@@ -12,6 +12,7 @@ use mr_packet::{Address, Bag, ContainerId, Envelope, Packet};
 use mr_paths::{Layout, Path};
 use mr_recover::{Recovery, Staging};
 use mr_task::{DoneReply, TaskMachine};
+use mr_world::{Config, Splits, World};
 use std::alloc::Global;
 use std::process::Abort;
 
@@ -193,4 +194,26 @@ fn containers_and_nodes(rt: HostRuntime) {
         body,
     };
     assert!(rt; begin::put_packet(&mut bag, envelope) == Ok(()) && bag.len() == 1);
+}
+
+// One map of `a b a`, and one reduce. The map makes one block behind its length: a with 2, b with 1.
+#[test]
+fn a_job_in_a_world(rt: HostRuntime) {
+    let alloc = rt.alloc();
+    let mut splits = Vec::new(alloc);
+    if splits.push(bytes(&rt, alloc, b"a b a")).is_err() {
+        panic!(rt; "no memory");
+    }
+    let config = Config {
+        job: TASK.job,
+        splits: Splits::from_vec(splits),
+        reduces: 1,
+        nodes: 1,
+        limit: 4,
+        v2_from: 1,
+    };
+    let mut world = well(&rt, World::new(alloc, config));
+    let made = b"\0\0\0\x1a\0\0\0\x01a\0\0\0\0\0\0\0\x02\0\0\0\x01b\0\0\0\0\0\0\0\x01";
+    let outcome = worlds::run_job(alloc, &mut world, made, b"a\t2\nb\t1\n");
+    assert!(rt; outcome == Ok(Some(true)));
 }

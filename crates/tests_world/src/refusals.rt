@@ -1,0 +1,122 @@
+//! Events that are not permitted: each reason, in order.
+
+use crate::fixtures::{Run, Stop, bytes, computes, container, refuses, started, takes, task};
+use mr_event::{Event, Weather, Why};
+use mr_ids::{TaskId, TaskKind};
+use mr_packet::Bytes;
+use mr_task::TaskFault;
+use mr_world::World;
+use std::alloc::Global;
+use std::process::Abort;
+
+// Before a master runs, and once it crashed.
+#[test]
+fn refused_events(rt: HostRuntime) {
+    let alloc = rt.alloc();
+    let mut world = started(&rt, alloc, 1).world;
+    let map = task(TaskKind::Map, 0);
+    assert!(rt; refuses(&rt, &mut world, Event::Start(1, 0)) == Why::WrongGeneration);
+    assert!(rt; refuses(&rt, &mut world, Event::Duty(2, Weather::Calm)) == Why::NoMaster);
+    assert!(rt; refuses(&rt, &mut world, Event::LaunchOn(1, map, 0)) == Why::NotRunning);
+    assert!(rt; refuses(&rt, &mut world, Event::Expire(1, 0)) == Why::NotRunning);
+    assert!(rt; refuses(&rt, &mut world, Event::Deliver(0)) == Why::NoPacket);
+    assert!(rt; refuses(&rt, &mut world, Event::NodeRestart(1)) == Why::NoNode);
+    assert!(rt; refuses(&rt, &mut world, Event::Crash(2, 0)) == Why::NoMaster);
+    after_its_crash(&rt, world);
+}
+
+// The master crashes: it makes no call, launches nothing and gives no node up. Nothing was told or won.
+fn after_its_crash(rt: &impl Abort, mut world: World) {
+    let map = task(TaskKind::Map, 0);
+    takes(rt, &mut world, Event::Crash(1, 0));
+    assert!(rt; refuses(rt, &mut world, Event::Duty(1, Weather::Calm)) == Why::NoMaster);
+    assert!(rt; refuses(rt, &mut world, Event::LaunchOn(1, map, 0)) == Why::NoMaster);
+    assert!(rt; refuses(rt, &mut world, Event::Expire(1, 0)) == Why::NoMaster);
+    assert!(rt; world.outcome().is_none());
+    assert!(rt; !world.marker().expect(rt, "no memory"));
+    assert!(rt;
+        world
+            .winner(task(TaskKind::Reduce, 0))
+            .expect(rt, "no memory")
+            .is_none()
+    );
+}
+
+// A master that runs, whose map was launched, and its container begins.
+fn running(rt: &impl Abort, alloc: Global) -> Run {
+    let mut run = started(rt, alloc, 1);
+    run.calms(rt, alloc, 1, Stop::BeforeStep);
+    run
+}
+
+// Whether the launch is refused for this reason.
+fn no_launch(rt: &impl Abort, run: &mut Run, task: TaskId, node: u32) -> Why {
+    refuses(rt, &mut run.world, Event::LaunchOn(1, task, node))
+}
+
+#[test]
+fn launches_are_refused_in_order(rt: HostRuntime) {
+    let alloc = rt.alloc();
+    let mut run = running(&rt, alloc);
+    let map = task(TaskKind::Map, 0);
+    assert!(rt; no_launch(&rt, &mut run, task(TaskKind::Map, 1), 1) == Why::NoTask);
+    assert!(rt; no_launch(&rt, &mut run, map, 1) == Why::NoNode);
+    assert!(rt; takes(&rt, &mut run.world, Event::LaunchOn(1, map, 0)) == 1);
+    assert!(rt; no_launch(&rt, &mut run, map, 0) == Why::Task(TaskFault::TooManyLive));
+    run.calms(&rt, alloc, 1, Stop::BeforeStep);
+    assert!(rt; refuses(&rt, &mut run.world, Event::Duty(1, Weather::Calm)) == Why::NoDuty);
+    assert!(rt; refuses(&rt, &mut run.world, Event::Expire(1, 1)) == Why::NoNode);
+}
+
+// No container of this number lives.
+#[test]
+fn no_container(rt: HostRuntime) {
+    let alloc = rt.alloc();
+    let mut run = running(&rt, alloc);
+    let step = Event::ContainerStep(container(&rt, 7), Weather::Calm);
+    assert!(rt; refuses(&rt, &mut run.world, step) == Why::NoContainer);
+    let computed = Event::Computed(container(&rt, 7), Bytes::new(alloc));
+    assert!(rt; refuses(&rt, &mut run.world, computed) == Why::NoContainer);
+    let dies = Event::Die(container(&rt, 7));
+    assert!(rt; refuses(&rt, &mut run.world, dies) == Why::NoContainer);
+}
+
+// The first container's step.
+fn step(rt: &impl Abort, weather: Weather) -> Event {
+    Event::ContainerStep(container(rt, 0), weather)
+}
+
+// The first container is handed these bytes.
+fn computed(rt: &impl Abort, alloc: Global, items: &[u8]) -> Event {
+    Event::Computed(container(rt, 0), bytes(rt, alloc, items))
+}
+
+// The container is to compute, and takes no other step; bytes that are no block are refused, and then its bytes are taken once.
+#[test]
+fn steps_are_refused_in_order(rt: HostRuntime) {
+    let alloc = rt.alloc();
+    let mut run = running(&rt, alloc);
+    let lost = Weather::Unanswered;
+    assert!(rt; refuses(&rt, &mut run.world, step(&rt, Weather::Calm)) == Why::WrongWish);
+    assert!(rt; refuses(&rt, &mut run.world, step(&rt, lost)) == Why::WrongWish);
+    let wrong = computed(&rt, alloc, b"abc");
+    assert!(rt; refuses(&rt, &mut run.world, wrong) == Why::NotBlocks);
+    computes(&rt, alloc, &mut run.world, container(&rt, 0));
+    let again = computed(&rt, alloc, b"");
+    assert!(rt; refuses(&rt, &mut run.world, again) == Why::WrongWish);
+    assert!(rt; refuses(&rt, &mut run.world, step(&rt, lost)) == Why::NoStoreCall);
+}
+
+// The container dies before it hears that its master heard it.
+#[test]
+fn nobody_hears(rt: HostRuntime) {
+    let alloc = rt.alloc();
+    let mut run = running(&rt, alloc);
+    computes(&rt, alloc, &mut run.world, container(&rt, 0));
+    let done = run.world.bag().len() as u64;
+    assert!(rt; takes(&rt, &mut run.world, step(&rt, Weather::Calm)) == 1);
+    assert!(rt; takes(&rt, &mut run.world, Event::Deliver(done)) == 1);
+    assert!(rt; takes(&rt, &mut run.world, Event::Die(container(&rt, 0))) == 1);
+    let heard = Event::Deliver(done.wrapping_add(1));
+    assert!(rt; refuses(&rt, &mut run.world, heard) == Why::NoAddressee);
+}

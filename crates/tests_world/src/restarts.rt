@@ -1,0 +1,63 @@
+//! Nodes that restart.
+
+use crate::fixtures::{Run, Stop, container, started, takes, task};
+use mr_event::{Event, Weather};
+use mr_ids::TaskKind;
+use mr_master_model::DutyName;
+use mr_packet::Packet;
+use std::alloc::Global;
+use std::process::Abort;
+
+// The map is done on node 0, and the reduce on node 1 asks for its output.
+fn reduce_asks(rt: &impl Abort, alloc: Global) -> Run {
+    let mut run = started(rt, alloc, 2);
+    run.calms(rt, alloc, 1, Stop::Before(DutyName::Flush));
+    takes(rt, &mut run.world, Event::Duty(1, Weather::Calm));
+    let reduce = task(TaskKind::Reduce, 0);
+    takes(rt, &mut run.world, Event::LaunchOn(1, reduce, 1));
+    run.calms(rt, alloc, 1, Stop::BeforeStep);
+    steps(rt, &mut run);
+    run.calms(rt, alloc, 1, Stop::BeforeStep);
+    run
+}
+
+// The reduce's container takes a step.
+fn steps(rt: &impl Abort, run: &mut Run) {
+    run.last = Some(container(rt, 1));
+    let step = Event::ContainerStep(container(rt, 1), Weather::Calm);
+    takes(rt, &mut run.world, step);
+}
+
+// Whether a launch in the node's second incarnation was sent.
+fn launched_anew(run: &Run) -> bool {
+    for envelope in run.world.bag() {
+        if let Packet::Launch { incarnation: 2, .. } = &envelope.body {
+            return true;
+        }
+    }
+    false
+}
+
+// The node of the map restarts before the fetch. The first launch, delivered again, does nothing; the map runs again in the next incarnation.
+#[test]
+fn node_restart_loses_map_output(rt: HostRuntime) {
+    let alloc = rt.alloc();
+    let mut run = reduce_asks(&rt, alloc);
+    assert!(rt; !launched_anew(&run));
+    assert!(rt; takes(&rt, &mut run.world, Event::NodeRestart(0)) == 1);
+    assert!(rt; takes(&rt, &mut run.world, Event::Deliver(0)) == 0);
+    steps(&rt, &mut run);
+    run.calms(&rt, alloc, 1, Stop::Never);
+    assert!(rt; launched_anew(&run));
+    run.succeeded(&rt, 0);
+}
+
+// A node that no living container runs on tells each living master.
+#[test]
+fn masters_are_told_by_generation(rt: HostRuntime) {
+    let mut run = started(&rt, rt.alloc(), 2);
+    takes(&rt, &mut run.world, Event::Start(2, 0));
+    assert!(rt; takes(&rt, &mut run.world, Event::NodeRestart(1)) == 2);
+    takes(&rt, &mut run.world, Event::Crash(1, 0));
+    assert!(rt; takes(&rt, &mut run.world, Event::NodeRestart(1)) == 1);
+}
