@@ -67,13 +67,20 @@ pub fn bytes(rt: &impl Abort, alloc: Global, items: &[u8]) -> Bytes {
     Bytes::from_vec(Vec::from_slice(alloc, items).expect(rt, "no memory"))
 }
 
+/// The split of the job.
+fn split(rt: &impl Abort, alloc: Global) -> Vec<u8> {
+    Vec::from_slice(alloc, b"a b a").expect(rt, "no memory")
+}
+
 /// A job of one map, of the split `a b a`, and one reduce, on so many nodes.
 pub fn config(rt: &impl Abort, alloc: Global, nodes: u32) -> Config {
     let mut splits = Vec::new(alloc);
-    let split = Vec::from_slice(alloc, b"a b a").expect(rt, "no memory");
+    let split = split(rt, alloc);
+    assert!(rt; split.len() <= 16_777_216);
     if splits.push(split).is_err() {
         panic!(rt; "no memory");
     }
+    assert!(rt; nodes >= 1 && nodes <= 64);
     Config {
         job: task(TaskKind::Map, 0).job,
         splits: Splits::from_vec(splits),
