@@ -12,6 +12,7 @@ use mr_packet::{Address, Bag, ContainerId, Envelope, Packet};
 use mr_paths::{Layout, Path};
 use mr_recover::{Recovery, Staging};
 use mr_task::{DoneReply, TaskMachine};
+use mr_user::MAX_SPLIT_LEN;
 use mr_world::{Config, Splits, World};
 use std::alloc::Global;
 use std::process::Abort;
@@ -201,7 +202,9 @@ fn containers_and_nodes(rt: HostRuntime) {
 fn a_job_in_a_world(rt: HostRuntime) {
     let alloc = rt.alloc();
     let mut splits = Vec::new(alloc);
-    if splits.push(bytes(&rt, alloc, b"a b a")).is_err() {
+    let split = bytes(&rt, alloc, b"a b a");
+    assert!(rt; split.len() <= MAX_SPLIT_LEN);
+    if splits.push(split).is_err() {
         panic!(rt; "no memory");
     }
     let config = Config {
