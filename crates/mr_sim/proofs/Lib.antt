@@ -13,5 +13,6 @@ pub mod Plays
 pub mod Readings
 pub mod Recoveries
 pub mod Refusals
+pub mod Showing
 pub mod Verbs
 pub mod Working

@@ -15,5 +15,6 @@ pub mod Plays
 pub mod Printed
 pub mod Script
 pub mod Seq
+pub mod Shown
 pub mod Submission
 pub mod Verb

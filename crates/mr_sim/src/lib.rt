@@ -36,6 +36,8 @@
 //! files of the cluster that is the run, in `mr_model`, of the events that the script and its calms make (`specs/Played`). The first bad key of the job text is
 //! told, else the first bad line of the script, else `Full` exactly where there is no such run, since an event or a work passes a limit;
 //! want of memory may come at any of these. What a container computes is what the job's definition makes of its input (`computed`).
+//! With a trace or the history shown (`Command::PlayShown`) the text has what is printed, something before it, or behind it (`Shows`); of that
+//! nothing more is said: it is tested by example.
 //!
 //! Laws of these definitions: an input has at most one text, and none where its job text or a line
 //! is bad or a limit is passed (`one_play_text`). Whatever commands follow others, each winner stays, and once the marker is there all
@@ -52,6 +54,7 @@ mod calm;
 mod committer;
 mod event_names;
 mod fault;
+mod histories;
 mod history;
 mod input;
 mod job_text;
@@ -68,6 +71,8 @@ mod script;
 mod seq;
 mod subcommand;
 mod submission;
+mod trace;
+mod trace_words;
 mod works;
 mod world_text;
 
@@ -77,5 +82,6 @@ pub use laws::{
     calms_are_permitted, names_are_of_duties_and_wishes, one_first_bad, one_play_text, one_reading,
     one_seq_text, played_rows, printed_or_refused, read_or_bad, scripts_go_on,
 };
+pub use play::Shown;
 pub use subcommand::{Command, run};
 pub use submission::{JobKind, PlanAct, PlanFault, PlanFaults, Splits, Submission};

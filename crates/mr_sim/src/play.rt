@@ -5,17 +5,20 @@ ghost use Rattle.mr_script.specs.Script.{AreCommands};
 ghost use Rattle.mr_world.specs.Journal.{world_in};
 ghost use Rattle.mr_world.specs.Limits.{within};
 ghost use Rattle.mr_sim.specs.declared.fault.SimFault.TheVariants as fault;
-ghost use Rattle.mr_sim.specs.Play.{job_line, played_of, script_by, world_text};
+ghost use Rattle.mr_sim.specs.Play.{PrintsPlay, job_line, played_of, script_by, world_text};
 ghost use Rattle.mr_sim.specs.Player.{FullWhere};
 ghost use Rattle.mr_sim.specs.Plays.{HasPlayed, IsUnread};
 ghost use Rattle.mr_sim.specs.Printed.{Prints, RefusesText};
+ghost use Rattle.mr_sim.specs.Shown.{HasText, text_in};
 ghost use Rattle.mr_sim.specs.Submission.{IsWithinLimits};
 
 use crate::fault::SimFault;
+use crate::histories::print_histories;
 use crate::job_text::read_job_text;
 use crate::player::Player;
 use crate::subcommand::Command;
 use crate::submission::Submission;
+use crate::trace::trace_of;
 use crate::world_text::print_world;
 use mr_ids::JobId;
 use mr_script::{Command as ScriptCommand, ScriptFault, commands_of, split_once};
@@ -73,14 +76,58 @@ fn text_of(player: Player) -> Result<Vec<u8>, SimFault>
     Ok(text)
 }
 
-/// What `play` prints for a job text and a script.
-pub fn play(alloc: Global, input: &[u8]) -> Result<Vec<u8>, SimFault>
-    ensures ok { IfOk result (λ v. Prints Command.Play input.now v.items) }
+/// What `play` shows beyond what came of the script.
+#[derive(Clone, Copy, Debug, PartialEq, Eq)]
+pub struct Shown {
+    /// Each event, with the packets that it added, before the rest.
+    pub trace: bool,
+    /// The stable bytes of each generation's history, behind the rest.
+    pub history: bool,
+}
+
+/// The same, with what is shown beside it.
+fn shown_text(alloc: Global, player: &Player, shown: Shown) -> Result<Vec<u8>, SimFault>
+    ensures text { IfOk result (λ text. HasText player.now text.items) }
+    ensures memory { IfErr result (λ e. e ≡ fault.NoMemory) }
+{
+    let mut text = Vec::new(alloc);
+    if shown.trace {
+        text = trace_of(alloc, &player.world)?;
+    }
+    text.extend_from_slice(&player.refused)?;
+    print_world(&mut text, &player.world)?;
+    if shown.history {
+        print_histories(&mut text, &player.world)?;
+    }
+    Ok(text)
+}
+
+/// The player of a job text and a script, which has obeyed the script.
+fn played(alloc: Global, input: &[u8]) -> Result<Player, SimFault>
+    ensures ok { IfOk result (λ player. PrintsPlay within input.now (text_in player)) }
     ensures fault { IfErr result (RefusesText Command.Play input.now) }
 {
     let (job, script) = parts_of(input);
     let submission = read_job_text(alloc, job)?;
     let commands = script_of(alloc, submission.id, script)?;
-    let player = player_of(alloc, submission, commands)?;
-    text_of(player)
+    player_of(alloc, submission, commands)
+}
+
+/// What `play` prints for a job text and a script.
+pub fn play(alloc: Global, input: &[u8]) -> Result<Vec<u8>, SimFault>
+    ensures ok { IfOk result (λ v. Prints Command.Play input.now v.items) }
+    ensures fault { IfErr result (RefusesText Command.Play input.now) }
+{
+    text_of(played(alloc, input)?)
+}
+
+#[tactic(auto, using(crate::proofs::Showing::shows))]
+/// What `play` prints, with what is shown beside it.
+pub fn play_shown(alloc: Global, input: &[u8], shown: Shown) -> Result<Vec<u8>, SimFault>
+    ensures ok { IfOk result (λ v. Prints (Command.PlayShown shown) input.now v.items) }
+    ensures fault { IfErr result (RefusesText (Command.PlayShown shown) input.now) }
+{
+    let player = played(alloc, input)?;
+    let text = shown_text(alloc, &player, shown)?;
+    Ok(text)
 }

@@ -7,7 +7,7 @@ use crate::committer::committer;
 use crate::fault::SimFault;
 use crate::history::history;
 use crate::input::read_input;
-use crate::play::play;
+use crate::play::{Shown, play, play_shown};
 use crate::seq::seq;
 use std::alloc::Global;
 use std::io::{Read, Write};
@@ -22,6 +22,8 @@ pub enum Command {
     Committer,
     /// Runs the cluster of a job text by a script of events, and prints what came of it.
     Play,
+    /// The same, and shows more of the run beside it.
+    PlayShown(Shown),
     /// Prints the records of one segment of a job history, and how many bytes after the last whole line were dropped.
     History,
     /// Runs the job of a job text sequentially, and prints its part files.
@@ -36,6 +38,7 @@ fn answer(alloc: Global, command: Command, input: &[u8]) -> Result<Vec<u8>, SimF
     match command {
         Command::Committer => committer(alloc, input),
         Command::Play => play(alloc, input),
+        Command::PlayShown(shown) => play_shown(alloc, input, shown),
         Command::History => history(alloc, input),
         Command::Seq => seq(alloc, input),
     }

@@ -1,6 +1,7 @@
 //! What the command line takes, what it refuses, and its help.
 use crate::words::{command_line, command_of};
 use clap::error::ErrorKind;
+use mr_sim::Shown;
 use std::alloc::Global;
 use std::process::Abort;
 use std::test::Fail;
@@ -44,6 +45,27 @@ fn subcommands(rt: HostRuntime) -> Result<(), Fail> {
 }
 
 #[test]
+fn shown_words(rt: HostRuntime) -> Result<(), Fail> {
+    let alloc = rt.alloc();
+    let traced = named(alloc, &["mrsim", "play", "--trace"])?;
+    let both = named(alloc, &["mrsim", "play", "--history", "--trace"])?;
+    assert!(rt;
+        traced
+            == mr_sim::Command::PlayShown(Shown {
+                trace: true,
+                history: false
+            })
+    );
+    assert!(rt;
+        both == mr_sim::Command::PlayShown(Shown {
+            trace: true,
+            history: true
+        })
+    );
+    Ok(())
+}
+
+#[test]
 fn help(rt: HostRuntime) -> Result<(), Fail> {
     let alloc = rt.alloc();
     helps(&rt, alloc, &["mrsim", "--help"], "Statuses:")?;
@@ -69,6 +91,7 @@ fn refused_words(rt: HostRuntime) {
     refuses(&rt, alloc, &["mrsim", "committer", "x"]);
     refuses(&rt, alloc, &["mrsim", "--turns", "committer"]);
     refuses(&rt, alloc, &["mrsim", "history", "--hold"]);
+    refuses(&rt, alloc, &["mrsim", "play", "--history", "yes"]);
     refuses(&rt, alloc, &["mrsim", "play", "x"]);
     refuses(&rt, alloc, &["mrsim", "seq", "x"]);
 }

@@ -1,5 +1,6 @@
 //! The words of the command line.
-use clap::{ArgMatches, Command};
+use clap::{Arg, ArgAction, ArgMatches, Command};
+use mr_sim::Shown;
 use std::alloc::{AllocError, Global};
 
 const ABOUT: &str =
@@ -120,6 +121,18 @@ prints (with a tab between a word and its count)
   == part-r-00001 4
   a 2";
 
+const HISTORY_SHOWN: &str = "Shows each master's history behind the rest";
+
+const TRACE_SHOWN: &str = "Shows each event, with the packets that it added, before the rest";
+
+// A word that asks for more.
+fn shows<'a>(alloc: Global, name: &'a str, help: &'a str) -> Arg<'a> {
+    Arg::new(alloc, name)
+        .long(name)
+        .action(ArgAction::SetTrue)
+        .help(help)
+}
+
 /// The program's command line.
 pub fn command_line<'a>(alloc: Global) -> Result<Command<'a>, AllocError> {
     let committer = Command::new(alloc, "committer")
@@ -131,7 +144,9 @@ pub fn command_line<'a>(alloc: Global) -> Result<Command<'a>, AllocError> {
     let seq = Command::new(alloc, "seq").about(SEQ).after_help(SEQ_HELP);
     let play = Command::new(alloc, "play")
         .about(PLAY)
-        .after_help(PLAY_HELP);
+        .after_help(PLAY_HELP)
+        .arg(shows(alloc, "history", HISTORY_SHOWN))?
+        .arg(shows(alloc, "trace", TRACE_SHOWN))?;
     Command::new(alloc, "mrsim")
         .about(ABOUT)
         .after_help(STATUSES)
@@ -146,9 +161,22 @@ pub fn command_line<'a>(alloc: Global) -> Result<Command<'a>, AllocError> {
 /// The subcommand that the words name. Words without one are refused before.
 pub fn command_of(matches: &ArgMatches<'_>) -> mr_sim::Command {
     match matches.subcommand() {
-        Some(("play", _)) => mr_sim::Command::Play,
+        Some(("play", words)) => play_of(words),
         Some(("history", _)) => mr_sim::Command::History,
         Some(("seq", _)) => mr_sim::Command::Seq,
         _ => mr_sim::Command::Committer,
+    }
+}
+
+// What of a run is shown.
+fn play_of(words: &ArgMatches<'_>) -> mr_sim::Command {
+    let shown = Shown {
+        trace: words.get_flag("trace"),
+        history: words.get_flag("history"),
+    };
+    if shown.trace || shown.history {
+        mr_sim::Command::PlayShown(shown)
+    } else {
+        mr_sim::Command::Play
     }
 }

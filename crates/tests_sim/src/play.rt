@@ -1,6 +1,6 @@
 //! What `play` prints for job texts and scripts, and which it refuses.
 use crate::committer::{gives, is_refused};
-use mr_sim::{Command, JobTextFault, SimFault, run};
+use mr_sim::{Command, JobTextFault, Shown, SimFault, run};
 use std::io;
 use std::io::Write;
 use std::process::Abort;
@@ -298,6 +298,39 @@ fn block_in_two_pieces(rt: HostRuntime) -> Result<(), Fail> {
         Err(fault) => panic!(rt; "{fault}"),
     }
     Ok(())
+}
+
+// A master that crashes and one that does nothing: the history behind the rest, and the events before it.
+#[test]
+fn history_and_trace_are_shown(rt: HostRuntime) -> Result<(), Fail> {
+    let input = format!(in rt.alloc();
+        "{ONE}\nstart 1 0\ncalm 1 before flush\nduty 1\nduty 2\nstart 2 0"
+    )?;
+    let printed = "5: NotNow NoMaster\nr 0 none\nmarker no\noutcome none\n";
+    let history =
+        "== history 1 179\n{\"version\":2}\n{\"attempt\":\"attempt_200707121733_0003_m_000000_0\",\"event\":\"started\",\"node\":0}\n{\"attempt\":\"attempt_200707121733_0003_m_000000_0\",\"event\":\"map\",\"incarnation\":1,\"node\":0}\n== history 2 0\n";
+    let shown = Shown {
+        trace: false,
+        history: true,
+    };
+    let all = format!(in rt.alloc(); "{printed}{history}")?;
+    gives(
+        &rt,
+        Command::PlayShown(shown),
+        input.as_bytes(),
+        all.as_bytes(),
+    )?;
+    let shown = Shown {
+        trace: true,
+        history: false,
+    };
+    let start = format!(in rt.alloc(); "{ONE}\nstart 1 0\nduty 1\nstep 1.0\ncrash 1 7")?;
+    gives(
+        &rt,
+        Command::PlayShown(shown),
+        start.as_bytes(),
+        b"0: start 1 0\n1: duty 1 marks\n2: crash 1 7\n4: NotNow NoContainer\nr 0 none\nmarker no\noutcome none\n",
+    )
 }
 
 #[test]
