@@ -308,7 +308,7 @@ fn history_and_trace_are_shown(rt: HostRuntime) -> Result<(), Fail> {
     )?;
     let printed = "5: NotNow NoMaster\nr 0 none\nmarker no\noutcome none\n";
     let history =
-        "== history 1 179\n{\"version\":2}\n{\"attempt\":\"attempt_200707121733_0003_m_000000_0\",\"event\":\"started\",\"node\":0}\n{\"attempt\":\"attempt_200707121733_0003_m_000000_0\",\"event\":\"map\",\"incarnation\":1,\"node\":0}\n== history 2 0\n";
+        "== history 1 182\n{\"version\":2}\n{\"attempt\":\"attempt_200707121733_0003_m_000000_0\",\"event\":\"started\",\"node\":0}\n{\"attempt\":\"attempt_200707121733_0003_m_000000_0\",\"event\":\"map\",\"incarnation\":1,\"node\":0}\n== history 2 0\n";
     let shown = Shown {
         trace: false,
         history: true,
