@@ -80,7 +80,7 @@ committer_text os = replies out os start ++ listing (scene_after out os start).n
 abbrev pub Prints : Command → List ℕ → List ℕ → Type 0
 Prints Committer input text = (os : List (ℕ × Order)) × AreCommands 1 (lines_of input) os × (text ≡ committer_text os)
 Prints Play input text = PrintsPlay within input text
-Prints (PlayShown shown) input text = Shows within input text
+Prints (PlayShown shown) input text = Shows within shown input text
 Prints History input text = PrintsHistory input text
 Prints Seq input text = PrintsSeq input text
 

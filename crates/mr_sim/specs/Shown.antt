@@ -1,8 +1,9 @@
 -- What `play` shows beyond what came of a script, where it is asked to (our own profile). Nothing is said of it but where it stands.
-use Rattle.std.specs.Prelude.{◌≡◌, ℕ, List, ◌∷◌, ◌++◌, length, codes, decimal}
+use Rattle.std.specs.Prelude.{◌≡◌, ℕ, false, List, [], ◌∷◌, ◌++◌, length, codes, decimal}
 use Rattle.mr_model.specs.Packets.{Config}
 use Rattle.mr_model.specs.Claims.{Limits}
 use Rattle.mr_world.specs.Journal.{world_in}
+use Rattle.mr_sim.specs.declared.play.Shown.{Shown}
 use Rattle.mr_sim.specs.declared.player.Player.{Player}
 use Rattle.mr_sim.specs.Play.{PrintsPlay, world_text}
 
@@ -18,16 +19,20 @@ segment_text k bytes = codes "== history " ++ decimal k ++ codes " " ++ decimal 
 abbrev pub text_in : Player → List ℕ
 text_in p = p.refused.items ++ world_text p.world.config (world_in p.world)
 
--- a text that has it, with something before it, or behind it
-pub record HasText (p : Player) (text : List ℕ) : Type 0 where
+-- a text that has it: with something before it only where a trace is asked for, and behind it only where the history is
+pub record HasText (p : Player) (shown : Shown) (text : List ℕ) : Type 0 where
   pub before : List ℕ
   pub behind : List ℕ
+  pub untraced : shown.trace ≡ false → before ≡ []
+  pub plain : shown.history ≡ false → behind ≡ []
   pub is : text ≡ before ++ (text_in p ++ behind)
 
--- the text has what `play` prints, with something before it, or behind it
-pub record Shows (within : Config → Limits) (input text : List ℕ) : Type 0 where
+-- the text has what `play` prints: with something before it only where a trace is asked for, and behind it only where the history is
+pub record Shows (within : Config → Limits) (shown : Shown) (input text : List ℕ) : Type 0 where
   pub before : List ℕ
   pub printed : List ℕ
   pub behind : List ℕ
+  pub untraced : shown.trace ≡ false → before ≡ []
+  pub plain : shown.history ≡ false → behind ≡ []
   pub prints : PrintsPlay within input printed
   pub is : text ≡ before ++ (printed ++ behind)

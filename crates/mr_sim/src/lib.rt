@@ -36,8 +36,8 @@
 //! files of the cluster that is the run, in `mr_model`, of the events that the script and its calms make (`specs/Played`). The first bad key of the job text is
 //! told, else the first bad line of the script, else `Full` exactly where there is no such run, since an event or a work passes a limit;
 //! want of memory may come at any of these. What a container computes is what the job's definition makes of its input (`computed`).
-//! With a trace or the history shown (`Command::PlayShown`) the text has what is printed, something before it, or behind it (`Shows`); of that
-//! nothing more is said: it is tested by example.
+//! With a trace or the history shown (`Command::PlayShown`) the text has what is printed, with something before it only where a trace is asked
+//! for, and behind it only where the history is (`Shows`). What these say no clause tells: they are tested by example.
 //!
 //! Laws of these definitions: an input has at most one text, and none where its job text or a line
 //! is bad or a limit is passed (`one_play_text`). Whatever commands follow others, each winner stays, and once the marker is there all

@@ -87,7 +87,7 @@ pub struct Shown {
 
 /// The same, with what is shown beside it.
 fn shown_text(alloc: Global, player: &Player, shown: Shown) -> Result<Vec<u8>, SimFault>
-    ensures text { IfOk result (λ text. HasText player.now text.items) }
+    ensures text { IfOk result (λ text. HasText player.now shown text.items) }
     ensures memory { IfErr result (λ e. e ≡ fault.NoMemory) }
 {
     let mut text = Vec::new(alloc);
