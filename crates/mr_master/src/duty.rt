@@ -46,6 +46,13 @@ impl Duty {
     {
         &self.call
     }
+
+    /// The call, taken out.
+    pub fn into_call(self) -> StoreCall
+        ensures { result ≡ self.call }
+    {
+        self.call
+    }
 }
 
 // The call of the line that is next, if there is one.

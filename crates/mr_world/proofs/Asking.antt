@@ -244,7 +244,7 @@ not-told p k app f c called g has is same why = not-foretold p k f c g has (subs
 
 -- ---- a call that is due and finds room
 
-asks : (p : Parts) (k : ℕ) (f : Weather) (c : StoreCall) (a : StoreAnswer) → IsForeseen p k f c a → (w : World) → Standing p w → MayAsk p w k f c
+pub asks : (p : Parts) (k : ℕ) (f : Weather) (c : StoreCall) (a : StoreAnswer) → IsForeseen p k f c a → (w : World) → Standing p w → MayAsk p w k f c
 asks p k f c a i w s = may-ask p w k f c s (i.due.due w s) i.ranged i.room
 
 now-of : (p : Parts) (w : World) (k : ℕ) (f : Weather) (c : StoreCall) → MayAsk p w k f c → not_now p.config w (Duty k f) ≡ None

@@ -19,5 +19,6 @@ pub mod Readings
 pub mod Seen
 pub mod Winning
 pub mod Journal
+pub mod Asks
 pub mod Applying
 pub mod Headline

@@ -60,7 +60,10 @@ impl Parts {
         ensures { IfOk result (λ answer. answer ≡ answer_to self.now.names self.now.history app call.now) }
     {
         match call {
-            StoreCall::Names(op) => Ok(StoreAnswer::Names(names_answer(&self.names, app, op)?)),
+            StoreCall::Names(op) => {
+                let answer = names_answer(&self.names, master_caller(app), op)?;
+                Ok(StoreAnswer::Names(answer))
+            }
             StoreCall::Append(line) => Ok(written(self.history.append_refusal(app, line))),
             StoreCall::Flush => Ok(written(self.history.flush_refusal(app))),
             StoreCall::Read => read(&self.history, app),
@@ -81,29 +84,29 @@ fn is_segment_full(refusal: Option<HistoryFault>) -> bool
     matches!(refusal, Some(HistoryFault::Full))
 }
 
-// The answer of the namespace.
-fn names_answer(
+/// What the namespace will answer to this caller.
+pub fn names_answer(
     names: &Namespace,
-    app: AppAttempt,
+    caller: Caller,
     op: &Op,
 ) -> Result<Result<Answer, NameFault>, AllocError>
-    ensures { IfOk result (λ answer. answer ≡ (call_of names.now (master app) op.now).0) }
+    ensures { IfOk result (λ answer. answer ≡ (call_of names.now caller op.now).0) }
 {
-    match names.foresee(master_caller(app), op) {
+    match names.foresee(caller, op) {
         Some(refusal) => Ok(Err(refusal)),
-        None => Ok(Ok(found(names, app, op)?)),
+        None => Ok(Ok(found(names, caller, op)?)),
     }
 }
 
 // The answer of a call of the namespace that is not refused.
-fn found(names: &Namespace, app: AppAttempt, op: &Op) -> Result<Answer, AllocError>
-    requires { refused names.now (master app) op.now ≡ None }
+fn found(names: &Namespace, caller: Caller, op: &Op) -> Result<Answer, AllocError>
+    requires { refused names.now caller op.now ≡ None }
     ensures { IfOk result (λ found. found ≡ answer names.now.content op.now) }
 {
     let found = match op {
-        Op::List(path) => names.list(master_caller(app), path).map(Answer::Listed),
-        Op::Exists(path) => names.exists(master_caller(app), path).map(Answer::Found),
-        Op::Read(path) => names.read(master_caller(app), path).map(Answer::Contents),
+        Op::List(path) => names.list(caller, path).map(Answer::Listed),
+        Op::Exists(path) => names.exists(caller, path).map(Answer::Found),
+        Op::Read(path) => names.read(caller, path).map(Answer::Contents),
         _ => Ok(Answer::Done),
     };
     match found {

@@ -62,7 +62,8 @@
 //!   the same; where the success marker is, a reader sees each reduce's winner's whole file and nothing else, from then on; one outcome is told; with deterministic
 //!   functions the files are the sequential execution's;
 //! - what is read is what the definitions read: for those outside `winner`, `winners`, `marker`, `outcome`, `visible`; for programs `bag`, `addressee`, `newest`,
-//!   `phase`, `duty`, `wanted`, `unflushed`, `stable`, `living`, `next_living`, `wish`, `input` (`specs/Readings`).
+//!   `phase`, `duty`, `wanted`, `unflushed`, `stable`, `living`, `next_living`, `wish`, `input` (`specs/Readings`), and `asks`: the store call that an event
+//!   would make now, by whom, and what its caller would hear (`specs/Asks`).
 //!
 //! A world's invariant is that its parts (`Parts`) *stand for* the world of its journal (`specs/Standing`): one clause a part, each machine for its past there. Each event's
 //! call keeps it (`Tries`), and everything that can fail comes before the first change that can't be taken back.
@@ -73,6 +74,7 @@
 
 mod alive;
 mod ask;
+mod asked;
 mod call;
 mod compute;
 mod config;
@@ -112,6 +114,7 @@ mod took;
 mod winners;
 mod world;
 
+pub use asked::Asked;
 pub use config::Config;
 pub use fault::WorldFault;
 pub use inputs::Input;

@@ -9,11 +9,13 @@ ghost use Rattle.mr_model.specs.Claims.{winner};
 ghost use Rattle.mr_model.specs.Results.{outcome, visible};
 ghost use Rattle.mr_world.specs.declared.fault.WorldFault.TheVariants.{NoMemory};
 ghost use Rattle.mr_world.specs.Applying.{Applies, Foretells, Passes, Runs};
+ghost use Rattle.mr_world.specs.Asks.{asked_in};
 ghost use Rattle.mr_world.specs.Headline.{HeadlineHolds};
 ghost use Rattle.mr_world.specs.Journal.{world_in};
 ghost use Rattle.mr_world.specs.Readings.{as_input, due_in, input_in, living, next_living, phase_in, unflushed_in, wanted_in, wish_in};
 ghost use Rattle.mr_world.specs.Seen.{as_pair};
 
+use crate::asked::Asked;
 use crate::config::Config;
 use crate::fault::WorldFault;
 use crate::happen::{foresee, make_room, take};
@@ -256,5 +258,22 @@ impl World {
         ensures { option_map as_input result ≡ input_in self.now.config (world_in self.now) c.now }
     {
         self.parts.input(c)
+    }
+}
+
+// What programs read of an event before it happens
+impl World {
+    /// The store call that this event would make now, by whom, and what its caller would hear: the answer, a refusal too, or in bad weather
+    /// nothing. None where the event makes no store call, or would not be taken. It changes nothing, and refuses want of memory alone.
+    pub fn asks(&self, event: &Event) -> Result<Option<Asked>, WorldFault>
+        ensures is { IfOk result (λ asked. asked ≡ asked_in self.now event.now) }
+        ensures memory { IfErr result (λ fault. fault ≡ WorldFault.NoMemory) }
+    {
+        match self.foresee(event) {
+            Ok(()) => self.parts.asked(event),
+            Err(WorldFault::NotNow(_why)) => Ok(None),
+            Err(WorldFault::Full) => Ok(None),
+            Err(WorldFault::NoMemory) => Err(WorldFault::NoMemory),
+        }
     }
 }

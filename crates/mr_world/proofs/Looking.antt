@@ -1,0 +1,82 @@
+-- The store call of an event is what the definitions say.
+use Rattle.std.proofs.Common.{◌≡◌, ℕ, refl, sym, ◌∙◌, ap, ap₂, subst, Bool, true, false, ◌&&◌, Option, Some, None, Result, Ok, Err, IsErrAnd, if◌then◌else◌, is_none, absurd}
+use Rattle.std.proofs.lemmas.Result.{err_from_is_err_and}
+use Rattle.std.specs.Option.{option_map}
+use Rattle.mr_event.specs.declared.why.Why.{Why}
+use Rattle.mr_container.specs.declared.reply.Reply.{Reply}
+use Rattle.mr_names.specs.declared.op.Op.{Op}
+use Rattle.mr_master_model.specs.declared.store.StoreCall.{StoreCall}
+use Rattle.mr_master_model.specs.declared.store.StoreAnswer.{StoreAnswer}
+use Rattle.mr_model.specs.Effect.{not_now}
+use Rattle.mr_model.specs.Ids.{ContainerId}
+use Rattle.mr_model.specs.Packets.{Caller, Store}
+use Rattle.mr_model.specs.Stored.{heard_in}
+use Rattle.mr_model.specs.World.{World, Event, Weather, Duty, ContainerStep, duty, op_of, caller_of}
+use Rattle.mr_model.proofs.Stored.{stores_go_on}
+use Rattle.mr_agree.specs.Steps.{store_call}
+use Rattle.mr_world.specs.declared.asked.Asked.{Asked}
+use Rattle.mr_world.specs.declared.asked.Asked.TheVariants.{Master, Container}
+use Rattle.mr_world.specs.declared.call.StoreCall as container
+use Rattle.mr_world.specs.declared.fault.WorldFault.{WorldFault}
+use Rattle.mr_world.specs.declared.fault.WorldFault.TheVariants as fault
+use Rattle.mr_world.specs.declared.parts.Parts.{Parts}
+use Rattle.mr_world.specs.Applying.{CanHappen, IsRefused}
+use Rattle.mr_world.specs.Asking.{IsForeseen, RefusesDuty}
+use Rattle.mr_world.specs.Asks.{asked_by, asked_in, by_container, by_master, Looks}
+use Rattle.mr_world.specs.Calling.{ForeseesCall, answer_of}
+use Rattle.mr_world.specs.Journal.{Journal, world_in, fits}
+use Rattle.mr_world.specs.Limits.{within}
+use Rattle.mr_world.specs.Standing.{Standing, IsTaken, Refuses}
+use Rattle.mr_world.proofs.Asking.{asks}
+
+-- ---- what would be taken is refused for want of memory alone
+
+wants : (o : Option Why) (b : Bool) (f : WorldFault) → o ≡ None → b ≡ true → Refuses o b f → f ≡ fault.NoMemory
+wants o b f now fits r = subst (λ c. Refuses None c f) fits (subst (λ x. Refuses x b f) now r)
+
+pub looks-refused : (p : Parts) (e : Event) (r : Result (Option Asked) WorldFault) (f : WorldFault) → ((w : World) → Standing p w → Refuses (not_now p.config w e) (within p.config w e) f)
+    → IsErrAnd r (λ x. x ≡ f) → Looks p e r
+looks-refused p e r f why is = let q = err_from_is_err_and r is in
+    subst (Looks p e) (sym q.1) (λ w s t. q.2 ∙ wants (not_now p.config w e) (within p.config w e) f t.now t.fits (why w s))
+
+pub looks-in-vain : (p : Parts) (e : Event) (r : Result (Option Asked) WorldFault) → IsErrAnd r (λ x. x ≡ fault.NoMemory) → Looks p e r
+looks-in-vain p e r is = let q = err_from_is_err_and r is in subst (Looks p e) (sym q.1) (λ w s t. q.2)
+
+-- ---- a master's
+
+same-call : (a b : StoreCall) → Some a ≡ Some b → a ≡ b
+same-call a b e = cc
+
+pub by-master : (p : Parts) (app k : ℕ) (f : Weather) (c : StoreCall) (a : StoreAnswer) → app ≡ k → IsForeseen p k f c a → (w : World) → Standing p w → Some (Master app c a) ≡ by_master w k f (duty p.config w k)
+by-master p app k f c a is i w s = let m = asks p k f c a i w s in
+    let call : store_call m.call ≡ c = same-call _ c (sym (ap (option_map store_call) m.due) ∙ (i.due.due w s).due) in
+    ap (λ j. Some (Master j c a)) is ∙ (ap₂ (λ x y. Some (Master k x y)) (sym call) (i.told ∙ sym m.agrees.told) ∙ ap (by_master w k f) (sym m.due))
+
+-- ---- a container's
+
+pub by-container : (p : Parts) (c : ContainerId) (f : Weather) (call : container.StoreCall) (r : Reply) → ForeseesCall p c f (Ok (Some call)) → r ≡ heard_in f (answer_of p.names call).0
+    → (w : World) → Standing p w → Some (Container call.caller call.op r) ≡ by_container w c f (op_of p.config w c)
+by-container p c f call r fore is w s = let g = fore w s in
+    let heard = (stores_go_on.container_calls p.config w p.names p.history c f call.op s.stores g.1).heard in
+    ap (λ x. Some (Container call.caller call.op x)) is
+    ∙ (subst (λ (who : Caller). Some (Container who call.op (heard_in f (answer_of p.names (record { caller = who; op = call.op })).0)) ≡ by_container w c f (Some call.op)) g.2
+    (ap (λ x. Some (Container (caller_of w c) call.op x)) (sym heard))
+    ∙ ap (by_container w c f) (sym g.1))
+
+-- ---- of an event that is looked at
+
+away : (o : Option Why) (b : Bool) (why : Why) (x : Option Asked) → Refuses o b (fault.NotNow why) → None ≡ (if is_none o && b then x else None)
+away (Some y) b why x r = refl
+away None true why x r = cc
+away None false why x r = refl
+
+pub not-now : (j : Journal) (e : Event) (f : WorldFault) (why : Why) → f ≡ fault.NotNow why → IsRefused j e f → None ≡ asked_in j e
+not-now j e f why is r = away (not_now j.config (world_in j) e) (fits j e) why (asked_by j.config (world_in j) e) (subst (IsRefused j e) is r)
+
+too-much : (o : Option Why) (b : Bool) (x : Option Asked) → Refuses o b fault.Full → None ≡ (if is_none o && b then x else None)
+too-much (Some y) b x r = refl
+too-much None true x r = cc
+too-much None false x r = refl
+
+pub no-room : (j : Journal) (e : Event) (f : WorldFault) → f ≡ fault.Full → IsRefused j e f → None ≡ asked_in j e
+no-room j e f is r = too-much (not_now j.config (world_in j) e) (fits j e) (asked_by j.config (world_in j) e) (subst (IsRefused j e) is r)
