@@ -50,7 +50,7 @@ fn print_version(out: &mut Vec<u8>, version: u32) -> Result<(), AllocError>
 }
 
 /// One record, and no line feed.
-fn print_record(out: &mut Vec<u8>, record: &Record) -> Result<(), AllocError>
+pub fn print_record(out: &mut Vec<u8>, record: &Record) -> Result<(), AllocError>
     ensures { OnOk result (out.new.items ≡ out.old.items ++ record_text «record».now) }
 {
     match *record {

@@ -50,6 +50,7 @@
 //! its command line (subcommands, help, refused words).
 #![tactic(auto)]
 
+mod call_words;
 mod calm;
 mod committer;
 mod event_names;
@@ -69,6 +70,7 @@ mod reply;
 mod scene;
 mod script;
 mod seq;
+mod sources;
 mod subcommand;
 mod submission;
 mod trace;

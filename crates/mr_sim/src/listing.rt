@@ -9,7 +9,7 @@ use mr_paths::Name;
 use std::alloc::AllocError;
 
 /// Names with slashes between them.
-fn print_names(names: &[Name], out: &mut Vec<u8>) -> Result<(), AllocError>
+pub fn print_names(names: &[Name], out: &mut Vec<u8>) -> Result<(), AllocError>
     ensures { OnOk result (out.new.items ≡ out.old.items ++ join_with_byte 47 names.now) }
 {
     match names {

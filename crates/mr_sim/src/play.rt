@@ -79,7 +79,7 @@ fn text_of(player: Player) -> Result<Vec<u8>, SimFault>
 /// What `play` shows beyond what came of the script.
 #[derive(Clone, Copy, Debug, PartialEq, Eq)]
 pub struct Shown {
-    /// Each event, with the packets that it added, before the rest.
+    /// Each event, with the line that made it, its store call and the packets that it added, before the rest.
     pub trace: bool,
     /// The stable bytes of each generation's history, behind the rest.
     pub history: bool,
@@ -92,7 +92,7 @@ fn shown_text(alloc: Global, player: &Player, shown: Shown) -> Result<Vec<u8>, S
 {
     let mut text = Vec::new(alloc);
     if shown.trace {
-        text = trace_of(alloc, &player.world)?;
+        text = trace_of(alloc, player)?;
     }
     text.extend_from_slice(&player.refused)?;
     print_world(&mut text, &player.world)?;

@@ -9,13 +9,14 @@ ghost use Rattle.mr_world.specs.Limits.{within};
 
 use crate::fault::SimFault;
 use crate::refused::print_refused;
+use crate::sources::{Source, Stretch};
 use crate::submission::{JobKind, Submission};
 use crate::works::computed;
 use mr_event::{Event, Why};
 use mr_packet::ContainerId;
 use mr_script::Command;
 use mr_world::{Config, Splits, World, WorldFault};
-use std::alloc::Global;
+use std::alloc::{AllocError, Global};
 
 /// A world in which a script happens.
 #[derive(Drop)]
@@ -29,6 +30,8 @@ pub struct Player {
     pub stepped: Option<ContainerId>,
     /// The lines of refused events.
     pub refused: Vec<u8>,
+    /// Which line of the script made which events.
+    pub stretches: Vec<Stretch>,
 }
 
 impl Player {
@@ -48,6 +51,7 @@ impl Player {
             cursor: 0,
             stepped: None,
             refused: Vec::new(alloc),
+            stretches: Vec::new(alloc),
         })
     }
 
@@ -61,8 +65,21 @@ impl Player {
         Ok(())
     }
 
-    /// Obeys one command.
+    /// Obeys the command of a line, and notes which events it made.
     fn obey(&mut self, alloc: Global, line: usize, command: Command) -> Result<(), SimFault>
+        ensures { Goes self.old (obeyed (job_as self.old.job) self.old.world.config (within self.old.world.config) line command (state_in self.old)) result self.new }
+    {
+        let source = Source {
+            line: line as u64,
+            is_calm: matches!(command, Command::Calm(..)),
+        };
+        self.carry_out(alloc, line, command)?;
+        self.note(source)?;
+        Ok(())
+    }
+
+    /// Carries out one command.
+    fn carry_out(&mut self, alloc: Global, line: usize, command: Command) -> Result<(), SimFault>
         ensures { Goes self.old (obeyed (job_as self.old.job) self.old.world.config (within self.old.world.config) line command (state_in self.old)) result self.new }
     {
         match command {
@@ -70,6 +87,21 @@ impl Player {
             Command::Compute(c) => self.compute_at(alloc, line, c),
             Command::Calm(k, stop) => self.calm(alloc, k, stop),
         }
+    }
+
+    /// Notes what made the events since the last note, if there were any.
+    fn note(&mut self, source: Source) -> Result<(), AllocError>
+        ensures { self.new ≡ record self.old { stretches = self.new.stretches } }
+    {
+        let before = match self.stretches.last() {
+            Some(stretch) => stretch.end,
+            None => 0,
+        };
+        let end = self.world.journal().len() as u64;
+        if before < end {
+            self.stretches.push(Stretch { source, end })?;
+        }
+        Ok(())
     }
 
     /// Makes the event that a line names.

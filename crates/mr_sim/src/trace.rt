@@ -1,29 +1,32 @@
-//! The trace of a run: its events in words, with the packets that each added.
+//! The trace of a run: its events in words, each with its line of the script, its store call and its packets.
 ghost use Rattle.std.specs.Prelude.{◌≡◌, IfOk, IfErr, map};
 ghost use Rattle.mr_sim.specs.declared.fault.SimFault.TheVariants.{NoMemory};
 
+use crate::call_words::put_call;
 use crate::event_names::{duty_event, name_word, wish_event};
 use crate::fault::SimFault;
-use crate::trace_words::{put_envelope, put_event, put_number};
+use crate::player::Player;
+use crate::sources::{Source, source_of};
+use crate::trace_words::{put_envelope, put_event, put_number, put_source};
 use mr_event::Event;
 use mr_packet::Bytes;
 use mr_script::EventName;
 use mr_world::{Config, Splits, World};
 use std::alloc::{AllocError, Global};
 
-/// A line for each event of the world's journal: its place there, the event in the words of a script, what the duty or the wish
-/// was, and the packets that it added. For this the events happen once more, in a world of their own.
-pub fn trace_of(alloc: Global, world: &World) -> Result<Vec<u8>, SimFault>
+/// A line for each event of a player's journal: its place there, the event in the words of a script, what the duty or the wish was,
+/// which line of the script it came of, its store call with the answer, and the packets that it added. For this the events happen once
+/// more, in a world of their own.
+pub fn trace_of(alloc: Global, player: &Player) -> Result<Vec<u8>, SimFault>
     ensures { IfErr result (λ e. e ≡ SimFault.NoMemory) }
 {
     let mut out = Vec::new(alloc);
-    let mut again = opened(alloc, world.config())?;
+    let mut again = opened(alloc, player.world.config())?;
     let mut place = 0u64;
-    for event in world.journal() {
+    for event in player.world.journal() {
         put_number(&mut out, b"", place)?;
         out.extend_from_slice(b": ")?;
-        put_event(&mut out, event)?;
-        put_name(&mut out, &again, event)?;
+        put_before(&mut out, &again, event, source_of(&player.stretches, place))?;
         repeat(alloc, &mut out, &mut again, event)?;
         out.extend_from_slice(b"\n")?;
         place = place.saturating_add(1);
@@ -31,8 +34,29 @@ pub fn trace_of(alloc: Global, world: &World) -> Result<Vec<u8>, SimFault>
     Ok(out)
 }
 
-// A world at its beginning, of an equal config.
-fn opened(alloc: Global, config: &Config) -> Result<World, SimFault>
+// What is known of an event before it happens.
+fn put_before(
+    out: &mut Vec<u8>,
+    world: &World,
+    event: &Event,
+    source: Option<Source>,
+) -> Result<(), AllocError> {
+    put_event(out, event)?;
+    put_name(out, world, event)?;
+    if let Some(source) = source {
+        put_source(out, source)?;
+    }
+    let mut call = Vec::new(*out.allocator());
+    put_call(&mut call, world, event)?;
+    if call.is_empty() {
+        return Ok(());
+    }
+    out.extend_from_slice(b" | ")?;
+    out.extend_from_slice(&call)
+}
+
+/// A world at its beginning, of an equal config.
+pub fn opened(alloc: Global, config: &Config) -> Result<World, SimFault>
     ensures { IfErr result (λ e. e ≡ SimFault.NoMemory) }
 {
     config.ranges();
@@ -81,7 +105,8 @@ fn repeat(
     Ok(())
 }
 
-fn copy_of(alloc: Global, event: &Event) -> Result<Event, AllocError> {
+/// An equal event.
+pub fn copy_of(alloc: Global, event: &Event) -> Result<Event, AllocError> {
     match event {
         Event::Start(k, kept) => Ok(Event::Start(*k, *kept)),
         Event::Crash(k, kept) => Ok(Event::Crash(*k, *kept)),

@@ -1,4 +1,5 @@
 //! Events and packets in words, for the trace of a run.
+use crate::sources::Source;
 use itoa::Buffer;
 use mr_event::{Event, Weather};
 use mr_ids::{AttemptId, TaskId, TaskKind};
@@ -16,7 +17,8 @@ fn put_small(out: &mut Vec<u8>, word: &[u8], number: u32) -> Result<(), AllocErr
     put_number(out, word, u64::from(number))
 }
 
-fn put_attempt(out: &mut Vec<u8>, word: &[u8], attempt: &AttemptId) -> Result<(), AllocError> {
+/// A word, and an attempt behind it.
+pub fn put_attempt(out: &mut Vec<u8>, word: &[u8], attempt: &AttemptId) -> Result<(), AllocError> {
     out.extend_from_slice(word)?;
     attempt.write(out)
 }
@@ -94,6 +96,12 @@ fn put_address(out: &mut Vec<u8>, to: &Address) -> Result<(), AllocError> {
         Address::Container(c) => put_container(out, b"container ", c),
         Address::Node(n) => put_small(out, b"node ", *n),
     }
+}
+
+/// The line of the script that an event came of.
+pub fn put_source(out: &mut Vec<u8>, source: Source) -> Result<(), AllocError> {
+    put_number(out, b" (line ", source.line)?;
+    out.extend_from_slice(if source.is_calm { b", calm)" } else { b")" })
 }
 
 /// A packet, with its place in the bag and to whom it goes.

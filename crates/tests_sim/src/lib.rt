@@ -13,3 +13,5 @@ mod scripts;
 mod segments;
 #[cfg(test)]
 mod seq;
+#[cfg(test)]
+mod traces;

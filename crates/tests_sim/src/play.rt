@@ -11,9 +11,9 @@ use std::thread::Threads;
 
 /// Compares what is written with what is expected.
 #[derive(Drop)]
-struct Expecting<'a> {
-    left: &'a [u8],
-    same: bool,
+pub struct Expecting<'a> {
+    pub left: &'a [u8],
+    pub same: bool,
 }
 
 impl Write for Expecting<'_> {
@@ -329,7 +329,7 @@ fn history_and_trace_are_shown(rt: HostRuntime) -> Result<(), Fail> {
         &rt,
         Command::PlayShown(shown),
         start.as_bytes(),
-        b"0: start 1 0\n1: duty 1 marks\n2: crash 1 7\n4: NotNow NoContainer\nr 0 none\nmarker no\noutcome none\n",
+        b"0: start 1 0 (line 2)\n1: duty 1 marks (line 3) | exists /staging/COMMIT_SUCCESS: nothing\n2: crash 1 7 (line 5)\n4: NotNow NoContainer\nr 0 none\nmarker no\noutcome none\n",
     )
 }
 
