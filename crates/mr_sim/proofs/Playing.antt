@@ -236,10 +236,10 @@ module _ (within : Config → Limits) (input : List ℕ) where
       let left : p.left ≡ q.left = some_is p.left q.left (sym p.comes ∙ (λ i. played_of within (job i) (commands i)) ∙ q.comes) in
       p.is ∙ (λ i. played_text within (job i) (left i)) ∙ sym q.is
 
-  not_bad_job : (text : List ℕ) (e : JobTextFault) → PrintsPlay within input text → IsBadPlayJob within input e → ⊥
+  not_bad_job : (text : List ℕ) (e : JobTextFault) → PrintsPlay within input text → IsBadPlayJob input e → ⊥
   not_bad_job text e p h = not_both p.job e (sym p.said ∙ h)
 
-  not_bad_line : (text : List ℕ) (n : ℕ) → PrintsPlay within input text → IsBadPlayLine within input n → ⊥
+  not_bad_line : (text : List ℕ) (n : ℕ) → PrintsPlay within input text → IsBadPlayLine input n → ⊥
   not_bad_line text n p h =
       let job : h.job ≡ p.job = same_job h.job p.job h.said p.said in
       script_or_bad p.job.id 2 (script_by (after 10 input)) p.commands n p.read (subst (λ (j : Submission). IsFirstBad j.id 2 (script_lines input) n) job h.bad)

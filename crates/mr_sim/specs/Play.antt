@@ -1,5 +1,5 @@
 -- What `play` prints for a job text and a script, and why it prints nothing (our own profile; the part files' names are Hadoop's).
-use Rattle.std.specs.Prelude.{◌≡◌, ℕ, ◌+◌, Bool, true, false, List, [], ◌∷◌, ◌++◌, Option, Some, None, Ok, Err, codes, decimal}
+use Rattle.std.specs.Prelude.{◌≡◌, ℕ, Bool, true, false, List, [], ◌∷◌, ◌++◌, Option, Some, None, Ok, Err, codes, decimal}
 use Rattle.std.specs.List.{flat_map, range_with_len}
 use Rattle.std.specs.Cmp.Lexicographic.{slice_cmp}
 use Rattle.std.specs.Ordering.{nat_cmp}
@@ -41,11 +41,6 @@ line_of_winner r found = codes "r " ++ decimal r ++ 32 ∷ winner_word found ++ 
 
 abbrev pub winner_line : Config → World → ℕ → List ℕ
 winner_line cfg w r = line_of_winner r (winner w (reduce_of cfg.job r))
-
--- the winners of the reduces from r on
-abbrev pub winners_text : ℕ → List (Option Attempt) → List ℕ
-winners_text r [] = []
-winners_text r (found ∷ more) = line_of_winner r found ++ winners_text (r + 1) more
 
 abbrev pub marker_word : Bool → List ℕ
 marker_word true = codes "yes"
@@ -100,6 +95,15 @@ script_by (Some rest) = rest
 abbrev pub script_lines : List ℕ → List (List ℕ)
 script_lines input = lines_of (script_by (after 10 input))
 
+-- a bad job text is told before a bad script
+abbrev pub IsBadPlayJob : List ℕ → JobTextFault → Type 0
+IsBadPlayJob input e = submission_of (job_line input) ≡ Err e
+
+pub record IsBadPlayLine (input : List ℕ) (n : ℕ) : Type 0 where
+  pub job : Submission
+  pub said : submission_of (job_line input) ≡ Ok job
+  pub bad : IsFirstBad job.id 2 (script_lines input) n
+
 -- limits, for each config
 module _ (within : Config → Limits) where
   -- what commands make of a job's cluster; none where a limit is passed
@@ -119,14 +123,9 @@ module _ (within : Config → Limits) where
     pub comes : played_of job commands ≡ Some left
     pub is : text ≡ played_text job left
 
-  -- a bad job text is told before a bad script
-  abbrev pub IsBadPlayJob : List ℕ → JobTextFault → Type 0
-  IsBadPlayJob input e = submission_of (job_line input) ≡ Err e
-
-  pub record IsBadPlayLine (input : List ℕ) (n : ℕ) : Type 0 where
-    pub job : Submission
-    pub said : submission_of (job_line input) ≡ Ok job
-    pub bad : IsFirstBad job.id 2 (script_lines input) n
+  -- the cluster of which it is printed
+  abbrev pub printed_world : (input text : List ℕ) → PrintsPlay input text → World
+  printed_world input text p = Rattle.mr_sim.specs.Played.world (job_as p.job.job) (config_of p.job) (within (config_of p.job)) p.left
 
   -- the script is read, and an event or a work passes a limit
   pub record IsFullPlay (input : List ℕ) : Type 0 where

@@ -25,8 +25,8 @@ pub record NamesAreOfDutiesAndWishes : Type 0 where
 -- `play` prints at most one text for an input, and none where the input is refused
 pub record OnePlayText : Type 0 where
   pub one : (within : Config → Limits) (input text other : List ℕ) → PrintsPlay within input text → PrintsPlay within input other → text ≡ other
-  pub not_bad_job : (within : Config → Limits) (input text : List ℕ) (e : JobTextFault) → PrintsPlay within input text → IsBadPlayJob within input e → ⊥
-  pub not_bad_line : (within : Config → Limits) (input text : List ℕ) (n : ℕ) → PrintsPlay within input text → IsBadPlayLine within input n → ⊥
+  pub not_bad_job : (within : Config → Limits) (input text : List ℕ) (e : JobTextFault) → PrintsPlay within input text → IsBadPlayJob input e → ⊥
+  pub not_bad_line : (within : Config → Limits) (input text : List ℕ) (n : ℕ) → PrintsPlay within input text → IsBadPlayLine input n → ⊥
   pub not_full : (within : Config → Limits) (input text : List ℕ) → PrintsPlay within input text → IsFullPlay within input → ⊥
 
 -- What stays while a script goes on: its events, each winner, and, once the marker is there, the marker and all that a reader sees.

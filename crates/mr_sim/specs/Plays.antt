@@ -1,16 +1,19 @@
 -- What the steps of `play` promise.
-use Rattle.std.specs.Prelude.{◌≡◌, ℕ, List, Some}
+use Rattle.std.specs.Prelude.{◌≡◌, ℕ, ◌+◌, List, [], ◌∷◌, ◌++◌, Option, Some}
+use Rattle.mr_ids.specs.Attempt.{Attempt}
 use Rattle.mr_ids.specs.declared.id.JobId.{JobId}
 use Rattle.mr_script.specs.declared.command.Command.{Command}
 use Rattle.mr_script.specs.Lines.{lines_of}
 use Rattle.mr_script.specs.Script.{IsFirstBad}
+use Rattle.mr_world.specs.Journal.{world_in}
 use Rattle.mr_world.specs.Limits.{within}
 use Rattle.mr_sim.specs.declared.fault.SimFault.{SimFault}
 use Rattle.mr_sim.specs.declared.fault.SimFault.TheVariants as fault
 use Rattle.mr_sim.specs.declared.player.Player.{Player}
 use Rattle.mr_sim.specs.declared.submission.Submission.{Submission}
-use Rattle.mr_sim.specs.Play.{config_of, played_of}
+use Rattle.mr_sim.specs.Play.{PrintsPlay, config_of, line_of_winner, played_of, printed_world}
 use Rattle.mr_sim.specs.Player.{state_in}
+use Rattle.mr_sim.specs.Shown.{text_in}
 
 -- a script is not read: its first bad line, where line 2 of the input is its first, or want of memory
 abbrev pub IsUnread : JobId → List ℕ → SimFault → Type 0
@@ -22,3 +25,15 @@ IsUnread job script _ = ⊥
 pub record HasPlayed (job : Submission) (commands : List (ℕ × Command)) (p : Player) : Type 0 where
   pub config : p.world.config ≡ config_of job
   pub comes : played_of within job commands ≡ Some (state_in p)
+
+-- a player has played what an input says: its text is printed, of its cluster
+pub record HasPrinted (input : List ℕ) (p : Player) : Type 0 where
+  pub prints : PrintsPlay within input (text_in p)
+  pub cluster : printed_world within input (text_in p) prints ≡ world_in p.world
+
+-- ---- what is printed, piece by piece
+
+-- the winners of the reduces from r on
+abbrev pub winners_text : ℕ → List (Option Attempt) → List ℕ
+winners_text r [] = []
+winners_text r (found ∷ more) = line_of_winner r found ++ winners_text (r + 1) more

@@ -87,8 +87,8 @@ Prints Seq input text = PrintsSeq input text
 -- the first line of a script that is no command
 abbrev pub IsBadLine : Command → List ℕ → ℕ → Type 0
 IsBadLine Committer input n = IsFirstBad 1 (lines_of input) n
-IsBadLine Play input n = IsBadPlayLine within input n
-IsBadLine (PlayShown shown) input n = IsBadPlayLine within input n
+IsBadLine Play input n = IsBadPlayLine input n
+IsBadLine (PlayShown shown) input n = IsBadPlayLine input n
 IsBadLine History input n = ⊥
 IsBadLine Seq input n = ⊥
 
@@ -103,8 +103,8 @@ IsBadRecord Seq input n = ⊥
 -- what is wrong with a job text
 abbrev pub IsBadJob : Command → List ℕ → JobTextFault → Type 0
 IsBadJob Committer input e = ⊥
-IsBadJob Play input e = IsBadPlayJob within input e
-IsBadJob (PlayShown shown) input e = IsBadPlayJob within input e
+IsBadJob Play input e = IsBadPlayJob input e
+IsBadJob (PlayShown shown) input e = IsBadPlayJob input e
 IsBadJob History input e = ⊥
 IsBadJob Seq input e = submission_of input ≡ Err e
 

@@ -1,6 +1,7 @@
 //! The job history of a world, as `play` shows it.
 ghost use Rattle.std.specs.Prelude.{◌≡◌, ◌++◌, ℕ, List, OnOk};
-ghost use Rattle.mr_sim.specs.Shown.{Extends, segment_text};
+ghost use Rattle.mr_world.specs.Journal.{world_in};
+ghost use Rattle.mr_sim.specs.Shown.{AddsSegments, segment_text};
 
 use itoa::Buffer;
 use mr_world::World;
@@ -22,9 +23,10 @@ fn print_segment(out: &mut Vec<u8>, k: u32, bytes: &[u8]) -> Result<(), AllocErr
 
 /// The segment of each generation that was started, by rising generation.
 pub fn print_histories(out: &mut Vec<u8>, world: &World) -> Result<(), AllocError>
-    ensures { OnOk result (Extends out.old.items out.new.items) }
+    ensures { OnOk result (AddsSegments (world_in world.now) (world_in world.now).fence out.old.items out.new.items) }
 {
-    for k in 1..=world.newest() {
+    for older in 0..world.newest() {
+        let k = older + 1;
         print_segment(out, k, world.stable(k))?;
     }
     Ok(())

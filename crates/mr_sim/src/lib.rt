@@ -37,7 +37,8 @@
 //! told, else the first bad line of the script, else `Full` exactly where there is no such run, since an event or a work passes a limit;
 //! want of memory may come at any of these. What a container computes is what the job's definition makes of its input (`computed`).
 //! With a trace or the history shown (`Command::PlayShown`) the text has what is printed, with something before it only where a trace is asked
-//! for, and behind it only where the history is (`Shows`). What these say no clause tells: they are tested by example.
+//! for, and behind it only where the history is (`Shows`): for each generation that was started, in order, its head line `== history K LENGTH` and as many bytes,
+//! whose records are those that are stable in its segment. What a trace says no clause tells: it is tested by example.
 //!
 //! Laws of these definitions: an input has at most one text, and none where its job text or a line
 //! is bad or a limit is passed (`one_play_text`). Whatever commands follow others, each winner stays, and once the marker is there all

@@ -5,9 +5,9 @@ ghost use Rattle.mr_script.specs.Script.{AreCommands};
 ghost use Rattle.mr_world.specs.Journal.{world_in};
 ghost use Rattle.mr_world.specs.Limits.{within};
 ghost use Rattle.mr_sim.specs.declared.fault.SimFault.TheVariants as fault;
-ghost use Rattle.mr_sim.specs.Play.{PrintsPlay, job_line, played_of, script_by, world_text};
+ghost use Rattle.mr_sim.specs.Play.{job_line, played_of, script_by, world_text};
 ghost use Rattle.mr_sim.specs.Player.{FullWhere};
-ghost use Rattle.mr_sim.specs.Plays.{HasPlayed, IsUnread};
+ghost use Rattle.mr_sim.specs.Plays.{HasPlayed, HasPrinted, IsUnread};
 ghost use Rattle.mr_sim.specs.Printed.{Prints, RefusesText};
 ghost use Rattle.mr_sim.specs.Shown.{HasText, text_in};
 ghost use Rattle.mr_sim.specs.Submission.{IsWithinLimits};
@@ -102,9 +102,10 @@ fn shown_text(alloc: Global, player: &Player, shown: Shown) -> Result<Vec<u8>, S
     Ok(text)
 }
 
+#[tactic(auto, using(crate::proofs::Showing::printed))]
 /// The player of a job text and a script, which has obeyed the script.
 fn played(alloc: Global, input: &[u8]) -> Result<Player, SimFault>
-    ensures ok { IfOk result (λ player. PrintsPlay within input.now (text_in player)) }
+    ensures ok { IfOk result (HasPrinted input.now) }
     ensures fault { IfErr result (RefusesText Command.Play input.now) }
 {
     let (job, script) = parts_of(input);

@@ -5,7 +5,8 @@ ghost use Rattle.mr_world.specs.declared.fault.WorldFault.TheVariants as world;
 ghost use Rattle.mr_world.specs.Journal.{world_in};
 ghost use Rattle.mr_world.specs.Seen.{as_pair};
 ghost use Rattle.mr_sim.specs.declared.fault.SimFault.TheVariants.{NoMemory};
-ghost use Rattle.mr_sim.specs.Play.{line_of_marker, line_of_outcome, line_of_winner, visible_text, winners_text, world_text};
+ghost use Rattle.mr_sim.specs.Play.{line_of_marker, line_of_outcome, line_of_winner, visible_text, world_text};
+ghost use Rattle.mr_sim.specs.Plays.{winners_text};
 
 use crate::fault::SimFault;
 use crate::part_files::print_file;

@@ -1,11 +1,11 @@
-use Rattle.std.proofs.Common.{◌++◌, [], sym, ap, ◌∙◌, append-nil, append_assoc}
-use Rattle.mr_sim.specs.Shown.{segment_text}
+use Rattle.std.proofs.Common.{◌+◌, [], ◌∙◌, sym, refl, append-nil, arith}
+use Rattle.mr_world.specs.Journal.{world_in}
+use Rattle.mr_sim.proofs.Showing.{adds-one}
 use Rattle.mr_sim.proofs.histories.print_histories.Goals as goal
 
-pub loop-k-init : goal.loop-k-init
-loop-k-init c = ([], sym (append-nil c.args.out.now.items))
+pub loop-older-init : goal.loop-older-init
+loop-older-init c = ([], refl, sym (append-nil c.args.out.now.items))
 
-pub loop-k-preserved : goal.loop-k-preserved
-loop-k-preserved c =
-    let text = segment_text c.loop-k.k c.stable.result.now in
-    (c.loop-k.invariant.0 ++ text, c.in_ok-print_segment.ensures ∙ ap (λ xs. xs ++ text) c.loop-k.invariant.1 ∙ append_assoc c.args.out.now.items c.loop-k.invariant.0 text)
+pub loop-older-preserved : goal.loop-older-preserved
+loop-older-preserved c = adds-one (world_in c.args.world.now) c.loop-older.older (c.loop-older.older + 1) c.args.out.now.items c.loop-older.out.items c.print_segment.new.out.items c.stable.result.now
+    (omega arith) c.loop-older.invariant (c.stable.ensures.stable (omega (arith, c.loop-older-test.true, c.newest-older-end.ensures))) c.in_ok-print_segment.ensures
