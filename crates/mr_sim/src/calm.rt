@@ -236,7 +236,7 @@ fn passed(world: &World, from: usize) -> usize
 {
     let mut cursor = from;
     while cursor < world.bag().len() {
-        match world.addressee(cursor) {
+        match world.undeliverable(cursor) {
             Some(_) => cursor += 1,
             None => return cursor,
         }

@@ -40,7 +40,7 @@ use Rattle.mr_world.specs.Asking.{answer_to, names_after, history_after, passes,
 use Rattle.mr_world.specs.Duties.{IsDue, HasDuty, IsSet, HasTold, MakesReady, says_then, fits_then}
 use Rattle.mr_world.specs.Limits.{within, fits_bag, fits_store}
 use Rattle.mr_world.specs.Machines.{master_of}
-use Rattle.mr_world.specs.Standing.{Standing, Reached, IsTaken, Refuses, Foresees, Tries}
+use Rattle.mr_world.specs.Standing.{Standing, Reached, IsTaken, Refuses, RefusesEvent, Foresees, Tries}
 use Rattle.mr_world.proofs.Attending.{history-agrees, told-stands, allowed, limit-is, bag-alone, says-then}
 use Rattle.mr_world.proofs.Filling.{is_let, let-is, names-free, append-free, call-fits}
 use Rattle.mr_world.proofs.Refusals.{NeedsRoom, refuses-now, refuses-memory}
@@ -92,10 +92,10 @@ unfolding not_now
 dead cfg w k f e = rw e refl
 
 pub no-duty : (p : Parts) (k : ℕ) (m : master.Master) → master_of p.masters k ≡ Some m → master.Answers m (λ w past. due.duty w (next.seen w past)) None → (f : Weather) → RefusesDuty p k f (fault.NotNow NoDuty)
-no-duty p k m at told f w s = refuses-now _ (idle p.config w k f (lives p k m at w s) (no-call _ _ (due-is p k m None at told w s)))
+no-duty p k m at told f w s = refuses-now _ _ (idle p.config w k f (lives p k m at w s) (no-call _ _ (due-is p k m None at told w s)))
 
 pub no-memory : (p : Parts) (k : ℕ) (m : master.Master) → master_of p.masters k ≡ Some m → master.Answers m (λ w past. is_some (due.duty w (next.seen w past))) true → (f : Weather) → RefusesDuty p k f fault.NoMemory
-no-memory p k m at told f w s = refuses-memory _ (busy p.config w k f (lives p k m at w s) (some-call _ _ (is-due p k m true at told w s)))
+no-memory p k m at told f w s = refuses-memory _ (busy p.config w k f (lives p k m at w s) (some-call _ _ (is-due p k m true at told w s))) refl
 
 -- ---- the segment of a living master
 
@@ -210,12 +210,12 @@ now-is : (p : Parts) (w : World) (k : ℕ) (f : Weather) (c : StoreCall) → IsD
 now-is p w k f c due = let x = store-call-is _ c due.due in allowed p.config w k f x.0 due.alive x.1
 
 -- refused before a store is asked
-pub not-foretold : (p : Parts) (k : ℕ) (f : Weather) (c : StoreCall) (g : WorldFault) → HasDuty p k c → Refuses None (not (passes p k f c)) g → RefusesDuty p k f g
+pub not-foretold : (p : Parts) (k : ℕ) (f : Weather) (c : StoreCall) (g : WorldFault) → HasDuty p k c → Refuses None (not (passes p k f c)) true g → RefusesDuty p k f g
 not-foretold p k f c g has why w s = by (passes p k f c) refl why
   where
-    by : (b : Bool) → passes p k f c ≡ b → Refuses None (not b) g → Refuses (not_now p.config w (Duty k f)) (within p.config w (Duty k f)) g
-    by true e y = subst (λ o. Refuses o (within p.config w (Duty k f)) g) (sym (now-is p w k f c (has.due w s))) (subst (λ b. Refuses None b g) (sym (too-much p w k f c s (has.due w s) e)) y)
-    by false e y = subst (Refuses (not_now p.config w (Duty k f)) (within p.config w (Duty k f))) (sym y) (refuses-memory _ (now-is p w k f c (has.due w s)))
+    by : (b : Bool) → passes p k f c ≡ b → Refuses None (not b) true g → RefusesEvent p.config w (Duty k f) g
+    by true e y = subst (λ o. Refuses o (within p.config w (Duty k f)) true g) (sym (now-is p w k f c (has.due w s))) (subst (λ b. Refuses None b true g) (sym (too-much p w k f c s (has.due w s) e)) y)
+    by false e y = subst (RefusesEvent p.config w (Duty k f)) (sym y) (refuses-memory _ (now-is p w k f c (has.due w s)) refl)
 
 -- ---- the exit of a `?`
 
@@ -226,7 +226,7 @@ pub refused-so : {A : Type 0} (p : Parts) (k : ℕ) (f : Weather) (r : Result A 
 refused-so {A} p k f r g why is = let q = err_from_is_err_and r is in
     subst (λ (z : Result A WorldFault). Foresees {A = A} p (Duty k f) z) (sym q.1) (subst (λ x. Foresees {A = A} p (Duty k f) (Err x)) (sym q.2) why)
 
-pub unchanged-so : {A : Type 0} (p q : Parts) (k : ℕ) (f : Weather) (r : Result A WorldFault) (g : WorldFault) → ((w : World) → Standing p w → Refuses (not_now p.config w (Duty k f)) (within p.config w (Duty k f)) g × Standing q w)
+pub unchanged-so : {A : Type 0} (p q : Parts) (k : ℕ) (f : Weather) (r : Result A WorldFault) (g : WorldFault) → ((w : World) → Standing p w → RefusesEvent p.config w (Duty k f) g × Standing q w)
     → IsErrAnd r (λ x. x ≡ g) → Tries p (Duty k f) r q
 unchanged-so {A} p q k f r g why is = let z = err_from_is_err_and r is in
     subst (λ (y : Result A WorldFault). Tries {A = A} p (Duty k f) y q) (sym z.1) (subst (λ x. Tries {A = A} p (Duty k f) (Err x) q) (sym z.2) why)
@@ -236,11 +236,11 @@ refused-early p k f r g why is = let q = err_from_is_err_and r is in
     subst (λ (z : Result Due WorldFault). ForeseesDuty p k f z) (sym q.1) (subst (λ x. ForeseesDuty p k f (Err x)) (sym q.2) why)
 
 pub no-master : (p : Parts) (k : ℕ) (f : Weather) (g : WorldFault) → (g ≡ fault.NotNow NoMaster) × ((w : World) → Standing p w → w.is_master k ≡ false) → RefusesDuty p k f g
-no-master p k f g none w s = subst (Refuses (not_now p.config w (Duty k f)) (within p.config w (Duty k f))) (sym none.0) (refuses-now _ (dead p.config w k f (none.1 w s)))
+no-master p k f g none w s = subst (RefusesEvent p.config w (Duty k f)) (sym none.0) (refuses-now _ _ (dead p.config w k f (none.1 w s)))
 
 -- of the call that was asked about
-pub not-told : (p : Parts) (k app : ℕ) (f : Weather) (c called : StoreCall) (g : WorldFault) → HasDuty p k c → app ≡ k → called ≡ c → Refuses None (not (passes p app f called)) g → RefusesDuty p k f g
-not-told p k app f c called g has is same why = not-foretold p k f c g has (subst (λ z. Refuses None (not (passes p k f z)) g) same (subst (λ j. Refuses None (not (passes p j f called)) g) is why))
+pub not-told : (p : Parts) (k app : ℕ) (f : Weather) (c called : StoreCall) (g : WorldFault) → HasDuty p k c → app ≡ k → called ≡ c → Refuses None (not (passes p app f called)) true g → RefusesDuty p k f g
+not-told p k app f c called g has is same why = not-foretold p k f c g has (subst (λ z. Refuses None (not (passes p k f z)) true g) same (subst (λ j. Refuses None (not (passes p j f called)) true g) is why))
 
 -- ---- a call that is due and finds room
 
@@ -273,16 +273,16 @@ wants-memory p k f c a i w s = now-of p w k f c (asks p k f c a i w s)
 
 -- the machine could not be made ready
 pub not-ready : (p q : Parts) (k : ℕ) (f : Weather) (c : StoreCall) (a : StoreAnswer) (g : WorldFault) → IsForeseen p k f c a → MakesReady p k a (Err g) q
-    → (w : World) → Standing p w → Refuses (not_now p.config w (Duty k f)) (within p.config w (Duty k f)) g × Standing q w
+    → (w : World) → Standing p w → RefusesEvent p.config w (Duty k f) g × Standing q w
 not-ready p q k f c a g i makes w s = let m = asks p k f c a i w s in let y = makes w s in (
-  subst (λ o. Refuses o (within p.config w (Duty k f)) g) (sym (now-of p w k f c m)) (subst (λ b. Refuses None b g) (sym (limit-of p w k f c a s m i.told)) y.0),
+  subst (λ o. Refuses o (within p.config w (Duty k f)) true g) (sym (now-of p w k f c m)) (subst (λ b. Refuses None b true g) (sym (limit-of p w k f c a s m i.told)) y.0),
   y.1,
 )
 
 -- the stores had no memory for the call
 pub not-asked : (p q r : Parts) (k : ℕ) (f : Weather) (c : StoreCall) (a : StoreAnswer) (ready : Ready) → IsForeseen p k f c a → MakesReady p k a (Ok ready) q → r ≡ q
-    → (w : World) → Standing p w → Refuses (not_now p.config w (Duty k f)) (within p.config w (Duty k f)) fault.NoMemory × Standing r w
-not-asked p q r k f c a ready i makes same w s = (refuses-memory _ (wants-memory p k f c a i w s), subst (λ (z : Parts). Standing z w) (sym same) (makes.1 w s).0)
+    → (w : World) → Standing p w → RefusesEvent p.config w (Duty k f) fault.NoMemory × Standing r w
+not-asked p q r k f c a ready i makes same w s = (refuses-memory _ (wants-memory p k f c a i w s) refl, subst (λ (z : Parts). Standing z w) (sym same) (makes.1 w s).0)
 
 -- the call was made
 left-so : (q r : Parts) (k : ℕ) (f : Weather) (c : StoreCall) → HasAsked q k f c r → r ≡ record q { names = left_in f q.names (names_after q.names k c); history = left_in f q.history (history_after q.history k c) }

@@ -105,22 +105,22 @@ fits-not : (p : Parts) (w : World) (k : ℕ) (a : StoreAnswer) (r : Ready) → S
 fits-not p w k a r s is many = lt-leb _ _ (subst (λ (es : List Envelope). MAX_PACKETS < length w.bag + length es) is (subst (λ (es : List Envelope). MAX_PACKETS < length es + length r.packets) s.bag many))
 
 err-made : (p q : Parts) (k : ℕ) (a : StoreAnswer) (x : Result Ready WorldFault) (f : WorldFault) → IsErrAnd x (λ g. g ≡ f)
-    → ((w : World) → Standing p w → Refuses None (fits_then p.config w k a) f × Standing q w) → MakesReady p k a x q
+    → ((w : World) → Standing p w → Refuses None (fits_then p.config w k a) true f × Standing q w) → MakesReady p k a x q
 err-made p q k a x f g why = let z = err_from_is_err_and x g in subst (λ (y : Result Ready WorldFault). MakesReady p k a y q) (sym z.1) (subst (λ e. MakesReady p k a (Err e) q) (sym z.2) why)
 
 pub not-ready : (p : Parts) (k : ℕ) (a : StoreAnswer) (x : Result Ready WorldFault) (masters : Masters) → IsKept p.masters k masters → IsErrAnd x (λ g. g ≡ fault.NoMemory) → MakesReady p k a x (record p { masters = masters })
-not-ready p k a x masters i g = err-made p (record p { masters = masters }) k a x fault.NoMemory g (λ w s. (refuses-memory _ refl, stands-still p w k masters p.bag s i refl))
+not-ready p k a x masters i g = err-made p (record p { masters = masters }) k a x fault.NoMemory g (λ w s. (refuses-memory _ refl refl, stands-still p w k masters p.bag s i refl))
 
 pub no-room : (p : Parts) (k : ℕ) (a : StoreAnswer) (r : Ready) (x : Result Ready WorldFault) (f : WorldFault) (masters : Masters) → IsMadeReady p.masters k a r masters
     → (f ≡ fault.Full) × (MAX_PACKETS < length p.bag.packets + length r.packets) → IsErrAnd x (λ g. g ≡ f) → MakesReady p k a x (record p { masters = masters })
 no-room p k a r x f masters m full g = err-made p (record p { masters = masters }) k a x f g (λ w s. (
-  subst (λ e. Refuses None (fits_then p.config w k a) e) (sym full.0) (refuses-full refl (fits-not p w k a r s (says-these p w k a r masters s m) full.1)),
+  subst (λ e. Refuses None (fits_then p.config w k a) true e) (sym full.0) (refuses-full _ refl (fits-not p w k a r s (says-these p w k a r masters s m) full.1)),
   stands-still p w k masters p.bag s (as-kept m) refl,
 ))
 
 pub no-memory-for : (p : Parts) (k : ℕ) (a : StoreAnswer) (r : Ready) (x : Result Ready WorldFault) (masters : Masters) (bag : Held) → IsMadeReady p.masters k a r masters → bag.packets ≡ p.bag.packets
     → IsErrAnd x (λ g. g ≡ fault.NoMemory) → MakesReady p k a x (record p { masters = masters; bag = bag })
-no-memory-for p k a r x masters bag m b g = err-made p (record p { masters = masters; bag = bag }) k a x fault.NoMemory g (λ w s. (refuses-memory _ refl, stands-still p w k masters bag s (as-kept m) b))
+no-memory-for p k a r x masters bag m b g = err-made p (record p { masters = masters; bag = bag }) k a x fault.NoMemory g (λ w s. (refuses-memory _ refl refl, stands-still p w k masters bag s (as-kept m) b))
 
 pub all-ready : (p : Parts) (k : ℕ) (a : StoreAnswer) (r : Ready) (masters : Masters) (bag : Held) → IsMadeReady p.masters k a r masters → bag.packets ≡ p.bag.packets → length r.packets ≤ bag.spare
     → length p.bag.packets + length r.packets ≤ MAX_PACKETS → MakesReady p k a (Ok r) (record p { masters = masters; bag = bag })

@@ -40,7 +40,7 @@ use Rattle.mr_world.specs.Calling.{is_call, is_made, step_fault, permitted, Fore
 use Rattle.mr_world.specs.Letters.{IsAlone}
 use Rattle.mr_world.specs.Living.{kept, Changes}
 use Rattle.mr_world.specs.Limits.{within, fits_bag, fits_call, is_full, barred_of}
-use Rattle.mr_world.specs.Standing.{Standing, IsTaken, Refuses}
+use Rattle.mr_world.specs.Standing.{Standing, IsTaken, Refuses, RefusesEvent}
 use Rattle.mr_world.proofs.Refusals.{bag-fits, refuses-now, refuses-full, refuses-memory}
 use Rattle.mr_world.proofs.Saying.{says}
 use Rattle.mr_world.proofs.Frames.{rests, living-moved, nodes-stay}
@@ -201,28 +201,28 @@ within-is p w c f o m s there e few =
 
 -- ---- the answers of a look
 
-pub absent : (p : Parts) (c : ContainerId) (f : Weather) → kept p.living c ≡ None → (w : World) → Standing p w → Refuses (not_now p.config w (ContainerStep c f)) (within p.config w (ContainerStep c f)) (fault.NotNow NoContainer)
+pub absent : (p : Parts) (c : ContainerId) (f : Weather) → kept p.living c ≡ None → (w : World) → Standing p w → RefusesEvent p.config w (ContainerStep c f) (fault.NotNow NoContainer)
 unfolding not_now
-absent p c f e w s = let dead : w.is_alive c ≡ false = sym (s.living.alive c) ∙ ap is_some e in refuses-now _ (rw dead refl)
+absent p c f e w s = let dead : w.is_alive c ≡ false = sym (s.living.alive c) ∙ ap is_some e in refuses-now _ _ (rw dead refl)
 
 -- refused for the wish, or permitted
-refused-by : (o : Option Why) (fits : Bool) (e : WorldFault) → Err e ≡ permitted o → Refuses o fits e
-refused-by None fits e is = cc
-refused-by (Some why) fits e is = cc
+refused-by : (o : Option Why) (fits at_once : Bool) (e : WorldFault) → Err e ≡ permitted o → Refuses o fits at_once e
+refused-by None fits at_once e is = cc
+refused-by (Some why) fits at_once e is = cc
 
 allowed-by : (o : Option Why) → Ok tt ≡ permitted o → o ≡ None
 allowed-by None is = refl
 allowed-by (Some why) is = cc
 
 pub wrong-step : (p : Parts) (c : ContainerId) (f : Weather) (m : container.Container) (e : WorldFault) → kept p.living c ≡ Some m → Err e ≡ permitted (step_fault m.seen.wish f)
-    → (w : World) → Standing p w → Refuses (not_now p.config w (ContainerStep c f)) (within p.config w (ContainerStep c f)) e
-wrong-step p c f m e there is w s = subst (λ o. Refuses o (within p.config w (ContainerStep c f)) e) (sym (now-is p w c f m s there)) (refused-by (step_fault m.seen.wish f) _ e is)
+    → (w : World) → Standing p w → RefusesEvent p.config w (ContainerStep c f) e
+wrong-step p c f m e there is w s = subst (λ o. Refuses o (within p.config w (ContainerStep c f)) true e) (sym (now-is p w c f m s there)) (refused-by (step_fault m.seen.wish f) _ true e is)
 
 pub right-step : (p : Parts) (c : ContainerId) (f : Weather) (m : container.Container) → kept p.living c ≡ Some m → Ok tt ≡ permitted (step_fault m.seen.wish f) → (w : World) → Standing p w → not_now p.config w (ContainerStep c f) ≡ None
 right-step p c f m there is w s = now-is p w c f m s there ∙ allowed-by _ is
 
 -- a fault that a `?` hands on
-pub fault-foreseen : (p : Parts) (c : ContainerId) (f : Weather) (r : Result (Option StoreCall) WorldFault) (e : WorldFault) → ((w : World) → Standing p w → Refuses (not_now p.config w (ContainerStep c f)) (within p.config w (ContainerStep c f)) e)
+pub fault-foreseen : (p : Parts) (c : ContainerId) (f : Weather) (r : Result (Option StoreCall) WorldFault) (e : WorldFault) → ((w : World) → Standing p w → RefusesEvent p.config w (ContainerStep c f) e)
     → IsErrAnd r (λ g. g ≡ e) → ForeseesCall p c f r
 fault-foreseen p c f r e why g = let q = err_from_is_err_and r g in subst (ForeseesCall p c f) (sym q.1) (subst (λ x. ForeseesCall p c f (Err x)) (sym q.2) why)
 
@@ -232,9 +232,9 @@ wished p c m o there is w s = (says p w c m s there).call ∙ (ap (λ d. wished_
 
 pub full-call : (p : Parts) (c : ContainerId) (f : Weather) (m : container.Container) (o : Op) → kept p.living c ≡ Some m → length p.bag.packets ≤ MAX_PACKETS → Ok tt ≡ permitted (step_fault m.seen.wish f)
     → Some o ≡ wished_op p.layout.dest m.id.app m.place.attempt m.seen.result m.seen.wish → (is_made f && is_full (names.refused p.names (called_by m.id m.place.attempt) o)) ≡ true
-    → (w : World) → Standing p w → Refuses (not_now p.config w (ContainerStep c f)) (within p.config w (ContainerStep c f)) fault.Full
+    → (w : World) → Standing p w → RefusesEvent p.config w (ContainerStep c f) fault.Full
 full-call p c f m o there few now is full w s = let e = wished p c m (Some o) there is w s in
-    refuses-full (right-step p c f m there now w s) (within-is p w c f o m s there e few ∙ (ap (λ x. not (is_made f && is_full (names.refused p.names x o))) ((says p w c m s there).caller o e) ∙ ap not full))
+    refuses-full _ (right-step p c f m there now w s) (within-is p w c f o m s there e few ∙ (ap (λ x. not (is_made f && is_full (names.refused p.names x o))) ((says p w c m s there).caller o e) ∙ ap not full))
 
 pub fitting-call : (p : Parts) (c : ContainerId) (f : Weather) (m : container.Container) (o : Op) (who : Caller) → kept p.living c ≡ Some m → length p.bag.packets ≤ MAX_PACKETS → Ok tt ≡ permitted (step_fault m.seen.wish f)
     → Some o ≡ wished_op p.layout.dest m.id.app m.place.attempt m.seen.result m.seen.wish → who ≡ called_by m.id m.place.attempt → (is_made f && is_full (names.refused p.names who o)) ≡ false
@@ -251,7 +251,7 @@ no-call p c f m there now is w s = (right-step p c f m there now w s, wished p c
 
 pub memory-wanted : (p : Parts) (c : ContainerId) (f : Weather) (r : Result (Option StoreCall) WorldFault) → ((w : World) → Standing p w → not_now p.config w (ContainerStep c f) ≡ None)
     → IsErrAnd r (λ g. g ≡ fault.NoMemory) → ForeseesCall p c f r
-memory-wanted p c f r now g = fault-foreseen p c f r fault.NoMemory (λ w s. refuses-memory _ (now w s)) g
+memory-wanted p c f r now g = fault-foreseen p c f r fault.NoMemory (λ w s. refuses-memory _ (now w s) refl) g
 
 -- ---- what the parts stand for once the call was made
 

@@ -32,9 +32,9 @@ use Rattle.mr_world.specs.declared.nodes.Nodes.{Nodes}
 use Rattle.mr_world.specs.declared.parts.Parts.{Parts}
 use Rattle.mr_world.specs.Computing.{fault_by, bytes_fault, unless_fault, Computes}
 use Rattle.mr_world.specs.Living.{kept, Changes, stepped}
-use Rattle.mr_world.specs.Limits.{within, fits_bytes, fits_bag}
+use Rattle.mr_world.specs.Limits.{within, fits_bytes, fits_bag, fits_at_once}
 use Rattle.mr_world.specs.Machines.{node_of, node_stepped, ChangesNode, SameNodes}
-use Rattle.mr_world.specs.Standing.{Standing, IsTaken, Refuses, Foresees}
+use Rattle.mr_world.specs.Standing.{Standing, IsTaken, Refuses, Foresees, RefusesEvent}
 use Rattle.mr_world.proofs.Refusals.{bag-fits, refuses-now}
 use Rattle.mr_world.proofs.Saying.{says}
 use Rattle.mr_world.proofs.Frames.{rests, living-moved, nodes-moved, nodes-stay}
@@ -118,15 +118,15 @@ map-stands p c bytes place living nodes x k is ns w s t = map-stands-at p w c by
 
 -- ---- when they can be
 
-pub absent : (p : Parts) (c : ContainerId) (bytes : List ℕ) → kept p.living c ≡ None → (w : World) → Standing p w → Refuses (not_now p.config w (Compute c bytes)) (within p.config w (Compute c bytes)) (fault.NotNow NoContainer)
+pub absent : (p : Parts) (c : ContainerId) (bytes : List ℕ) → kept p.living c ≡ None → (w : World) → Standing p w → RefusesEvent p.config w (Compute c bytes) (fault.NotNow NoContainer)
 unfolding not_now
-absent p c bytes e w s = let dead : w.is_alive c ≡ false = sym (s.living.alive c) ∙ ap is_some e in refuses-now _ (rw dead refl)
+absent p c bytes e w s = let dead : w.is_alive c ≡ false = sym (s.living.alive c) ∙ ap is_some e in refuses-now _ _ (rw dead refl)
 
 pub wrong-wish : (p : Parts) (c : ContainerId) (bytes : List ℕ) (m : container.Container) → kept p.living c ≡ Some m → is_computing m.seen.wish ≡ false → (w : World) → Standing p w
-    → Refuses (not_now p.config w (Compute c bytes)) (within p.config w (Compute c bytes)) (fault.NotNow WrongWish)
+    → RefusesEvent p.config w (Compute c bytes) (fault.NotNow WrongWish)
 unfolding not_now
 wrong-wish p c bytes m there other_wish w s = let alive : w.is_alive c ≡ true = sym (s.living.alive c) ∙ ap is_some there in
-    let other : wants_compute (wish_of p.config w c) ≡ false = (says p w c m s there).computes ∙ other_wish in refuses-now _ (rw (alive, other) refl)
+    let other : wants_compute (wish_of p.config w c) ≡ false = (says p w c m s there).computes ∙ other_wish in refuses-now _ _ (rw (alive, other) refl)
 
 now-is : (p : Parts) (w : World) (c : ContainerId) (bytes : List ℕ) (m : container.Container) → Standing p w → kept p.living c ≡ Some m → is_computing m.seen.wish ≡ true
     → not_now p.config w (Compute c bytes) ≡ unless (of_reduces m.place.attempt.task.kind || is_some (cut p.config.reduces bytes)) NotBlocks None
@@ -145,12 +145,12 @@ within-is p w c bytes m s there few =
     let room : fits_bag p.config w (Compute c bytes) ≡ true = bag-fits p w (Compute c bytes) 0 s (sends-none p.config w c bytes) (omega (arith, few)) in
     ap (λ b. fits_bytes (w.place c) (length bytes) && b) room ∙ (and-true _ ∙ ap (λ o. fits_bytes o (length bytes)) (says p w c m s there).place)
 
-judged : (k : TaskKind) (blocks small short : Bool) (e : WorldFault) → Err e ≡ unless_fault (fault_by k blocks small short) → Refuses (unless (of_reduces k || blocks) NotBlocks None) (if of_reduces k then short else small) e
+judged : (k : TaskKind) (blocks small short : Bool) (e : WorldFault) → Err e ≡ unless_fault (fault_by k blocks small short) → Refuses (unless (of_reduces k || blocks) NotBlocks None) (if of_reduces k then short else small) (if of_reduces k then short else small) e
 judged kind.Map true true short e is = cc
-judged kind.Map true false short e is = inl cc
+judged kind.Map true false short e is = cc
 judged kind.Map false small short e is = cc
 judged kind.Reduce blocks small true e is = cc
-judged kind.Reduce blocks small false e is = inl cc
+judged kind.Reduce blocks small false e is = cc
 
 passed : (k : TaskKind) (blocks small short : Bool) → Ok tt ≡ unless_fault (fault_by k blocks small short) → (unless (of_reduces k || blocks) NotBlocks None ≡ None) × ((if of_reduces k then short else small) ≡ true)
 passed kind.Map true true short is = (refl, refl)
@@ -160,10 +160,11 @@ passed kind.Reduce blocks small true is = (refl, refl)
 passed kind.Reduce blocks small false is = cc
 
 pub refused : (p : Parts) (c : ContainerId) (bytes : List ℕ) (m : container.Container) (e : WorldFault) → kept p.living c ≡ Some m → is_computing m.seen.wish ≡ true → length p.bag.packets ≤ MAX_PACKETS
-    → Err e ≡ unless_fault (bytes_fault m.place.attempt.task.kind p.config.reduces bytes) → (w : World) → Standing p w → Refuses (not_now p.config w (Compute c bytes)) (within p.config w (Compute c bytes)) e
-refused p c bytes m e there wish few is w s = subst (λ o. Refuses o (within p.config w (Compute c bytes)) e) (sym (now-is p w c bytes m s there wish))
-    (subst (λ b. Refuses (unless (of_reduces m.place.attempt.task.kind || is_some (cut p.config.reduces bytes)) NotBlocks None) b e) (sym (within-is p w c bytes m s there few))
-    (judged m.place.attempt.task.kind (is_some (cut p.config.reduces bytes)) _ _ e is))
+    → Err e ≡ unless_fault (bytes_fault m.place.attempt.task.kind p.config.reduces bytes) → (w : World) → Standing p w → RefusesEvent p.config w (Compute c bytes) e
+refused p c bytes m e there wish few is w s = subst (λ o. Refuses o (within p.config w (Compute c bytes)) (fits_at_once p.config w (Compute c bytes)) e) (sym (now-is p w c bytes m s there wish))
+    (subst (λ b. Refuses (unless (of_reduces m.place.attempt.task.kind || is_some (cut p.config.reduces bytes)) NotBlocks None) b (fits_at_once p.config w (Compute c bytes)) e) (sym (within-is p w c bytes m s there few))
+    (subst (λ o. Refuses (unless (of_reduces m.place.attempt.task.kind || is_some (cut p.config.reduces bytes)) NotBlocks None) (fits_bytes (Some m.place) (length bytes)) (fits_bytes o (length bytes)) e) (sym (says p w c m s there).place)
+    (judged m.place.attempt.task.kind (is_some (cut p.config.reduces bytes)) _ _ e is)))
 
 pub taken : (p : Parts) (c : ContainerId) (bytes : List ℕ) (m : container.Container) → kept p.living c ≡ Some m → is_computing m.seen.wish ≡ true → length p.bag.packets ≤ MAX_PACKETS
     → Ok tt ≡ unless_fault (bytes_fault m.place.attempt.task.kind p.config.reduces bytes) → (w : World) → Standing p w → IsTaken p.config w (Compute c bytes)
@@ -172,7 +173,7 @@ taken p c bytes m there wish few is w s = let q = passed m.place.attempt.task.ki
   fits = within-is p w c bytes m s there few ∙ q.1;
 }
 
-pub fault-foreseen : (p : Parts) (c : ContainerId) (bytes : List ℕ) (r : Result Place WorldFault) (e : WorldFault) → ((w : World) → Standing p w → Refuses (not_now p.config w (Compute c bytes)) (within p.config w (Compute c bytes)) e)
+pub fault-foreseen : (p : Parts) (c : ContainerId) (bytes : List ℕ) (r : Result Place WorldFault) (e : WorldFault) → ((w : World) → Standing p w → RefusesEvent p.config w (Compute c bytes) e)
     → IsErrAnd r (λ g. g ≡ e) → Foresees p (Compute c bytes) r
 fault-foreseen p c bytes r e why g = let q = err_from_is_err_and r g in
     subst (λ (z : Result Place WorldFault). Foresees {A = Place} p (Compute c bytes) z) (sym q.1) (subst (λ x. Foresees {A = Place} p (Compute c bytes) (Err x)) (sym q.2) why)

@@ -10,8 +10,7 @@ use Rattle.mr_world.specs.declared.deliver.Addressee.TheVariants.{Nobody}
 use Rattle.mr_world.specs.declared.fault.WorldFault.TheVariants as fault
 use Rattle.mr_world.specs.declared.parts.Parts.{Parts}
 use Rattle.mr_world.specs.Addressees.{named, whom}
-use Rattle.mr_world.specs.Limits.{within}
-use Rattle.mr_world.specs.Standing.{Standing, Refuses}
+use Rattle.mr_world.specs.Standing.{Standing, RefusesEvent}
 use Rattle.mr_world.proofs.Refusals.{refuses-now}
 
 somebody : (a : Address) → named a ≡ Nobody → ⊥
@@ -27,5 +26,5 @@ no-packet : (cfg : Config) (w : World) (i : ℕ) → slice_get w.bag i ≡ None 
 unfolding not_now
 no-packet cfg w i e = rw e refl
 
-pub refused : (p : Parts) (i : ℕ) → whom (slice_get p.bag.packets i) ≡ Nobody → (w : World) → Standing p w → Refuses (not_now p.config w (Deliver i)) (within p.config w (Deliver i)) (fault.NotNow NoPacket)
-refused p i is w s = refuses-now _ (no-packet p.config w i (subst (λ es. slice_get es i ≡ None) s.bag (none-there (slice_get p.bag.packets i) is)))
+pub refused : (p : Parts) (i : ℕ) → whom (slice_get p.bag.packets i) ≡ Nobody → (w : World) → Standing p w → RefusesEvent p.config w (Deliver i) (fault.NotNow NoPacket)
+refused p i is w s = refuses-now _ _ (no-packet p.config w i (subst (λ es. slice_get es i ≡ None) s.bag (none-there (slice_get p.bag.packets i) is)))

@@ -15,7 +15,7 @@ use Rattle.mr_world.specs.declared.living.Living.{Living}
 use Rattle.mr_world.specs.declared.parts.Parts.{Parts}
 use Rattle.mr_world.specs.Living.{kept, Changes}
 use Rattle.mr_world.specs.Limits.{within, fits_bag}
-use Rattle.mr_world.specs.Standing.{Standing, IsTaken, Refuses}
+use Rattle.mr_world.specs.Standing.{Standing, IsTaken, RefusesEvent}
 use Rattle.mr_world.proofs.Refusals.{NeedsRoom, refuses-now}
 use Rattle.mr_world.proofs.Frames.{rests, living-without, nodes-stay}
 
@@ -43,8 +43,8 @@ sends-one : (cfg : Config) (w : World) (c : ContainerId) → length (sent cfg w 
 unfolding sent
 sends-one cfg w c = refl
 
-pub refused : (p : Parts) (c : ContainerId) → is_some (kept p.living c) ≡ false → (w : World) → Standing p w → Refuses (not_now p.config w (Die c)) (within p.config w (Die c)) (fault.NotNow NoContainer)
-refused p c e w s = refuses-now _ (not-alive p.config w c (sym (s.living.alive c) ∙ e))
+pub refused : (p : Parts) (c : ContainerId) → is_some (kept p.living c) ≡ false → (w : World) → Standing p w → RefusesEvent p.config w (Die c) (fault.NotNow NoContainer)
+refused p c e w s = refuses-now _ _ (not-alive p.config w c (sym (s.living.alive c) ∙ e))
 
 pub needs : (p : Parts) (c : ContainerId) → is_some (kept p.living c) ≡ true → (w : World) → Standing p w → NeedsRoom p w (Die c) 1
 needs p c e w s = record { now = allowed p.config w c (sym (s.living.alive c) ∙ e); limit = limit-is p.config w c; count = sends-one p.config w c }

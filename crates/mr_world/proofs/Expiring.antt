@@ -24,8 +24,8 @@ use Rattle.mr_world.specs.Machines.{master_of}
 use Rattle.mr_world.specs.Masters.{Ceases, Returns}
 use Rattle.mr_world.specs.Reasons.{why_of}
 use Rattle.mr_world.specs.Limits.{within, fits_bag, launch_count}
-use Rattle.mr_world.specs.Standing.{Standing, Reached, IsTaken, Refuses}
-use Rattle.mr_world.proofs.Refusals.{NeedsRoom, refuses-now, refuses-memory}
+use Rattle.mr_world.specs.Standing.{Standing, Reached, IsTaken, RefusesEvent}
+use Rattle.mr_world.proofs.Refusals.{NeedsRoom, refuses-now, lacks-memory}
 use Rattle.mr_world.proofs.Mastering.{goes-on, not-kept, is-generation}
 use Rattle.mr_world.proofs.Stepping.{agrees, masters-step, swapped, other-steps, launches-add}
 
@@ -44,8 +44,8 @@ alive : (cfg : Config) (w : World) (k n : ℕ) → w.is_master k ≡ true → no
 unfolding not_now
 alive cfg w k n e = rw e refl
 
-pub dead : (p : Parts) (k n : ℕ) → is_some (master_of p.masters k) ≡ false → (w : World) → Standing p w → Refuses (not_now p.config w (Expire k n)) (within p.config w (Expire k n)) (fault.NotNow NoMaster)
-dead p k n e w s = refuses-now _ (not-alive p.config w k n (not-kept p k e w s))
+pub dead : (p : Parts) (k n : ℕ) → is_some (master_of p.masters k) ≡ false → (w : World) → Standing p w → RefusesEvent p.config w (Expire k n) (fault.NotNow NoMaster)
+dead p k n e w s = refuses-now _ _ (not-alive p.config w k n (not-kept p k e w s))
 
 -- what the machine answers
 abbrev pub Asked : Parts → ℕ → ℕ → master.Master → Option LaunchFault → Type 0
@@ -58,8 +58,8 @@ lives : (p : Parts) (k : ℕ) (m : master.Master) (w : World) → Standing p w �
 lives p k m w s at = sym (s.masters.alive k) ∙ ap is_some at
 
 pub refused : (p : Parts) (k n : ℕ) (m : master.Master) (o : Option LaunchFault) (f : LaunchFault) (y : Why) → Asked p k n m o → o ≡ Some f → y ≡ why_of f → (w : World) → Standing p w
-    → Refuses (not_now p.config w (Expire k n)) (within p.config w (Expire k n)) (fault.NotNow y)
-refused p k n m o f y a e is w s = refuses-now _ (alive p.config w k n (lives p k m w s a.0) ∙ (reason _ f (sym (asked p k n m o a w s) ∙ e) ∙ ap Some (sym is)))
+    → RefusesEvent p.config w (Expire k n) (fault.NotNow y)
+refused p k n m o f y a e is w s = refuses-now _ _ (alive p.config w k n (lives p k m w s a.0) ∙ (reason _ f (sym (asked p k n m o a w s) ∙ e) ∙ ap Some (sym is)))
 
 pub allowed : (p : Parts) (k n : ℕ) (m : master.Master) (o : Option LaunchFault) → Asked p k n m o → o ≡ None → (w : World) → Standing p w → not_now p.config w (Expire k n) ≡ None
 allowed p k n m o a e w s = alive p.config w k n (lives p k m w s a.0) ∙ no-reason _ _ (sym (asked p k n m o a w s) ∙ e)
@@ -94,9 +94,9 @@ expired p w k n mid masters bag before m packets s taken at out back step told b
 
 pub not-expired : (p : Parts) (k n : ℕ) (mid masters : Masters) (bag : Held) (before m : master.Master) → ((w : World) → Standing p w → IsTaken p.config w (Expire k n))
     → Some before ≡ master_of p.masters k → Ceases p.masters k mid → Returns mid k m masters → m ≡ before → bag.packets ≡ p.bag.packets
-    → (w : World) → Standing p w → Refuses (not_now p.config w (Expire k n)) (within p.config w (Expire k n)) fault.NoMemory × Standing (record p { masters = masters; bag = bag }) w
+    → (w : World) → Standing p w → RefusesEvent p.config w (Expire k n) fault.NoMemory × Standing (record p { masters = masters; bag = bag }) w
 not-expired p k n mid masters bag before m taken at out back same b w s = (
-  refuses-memory _ (taken w s).now,
+  lacks-memory (taken w s),
   still p w k masters bag before m s (sym at) (swapped p.masters mid masters k m out back) (subst (master.StandsStill before) (sym same) (λ w past st. st)) b,
 )
 

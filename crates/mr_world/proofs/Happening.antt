@@ -11,8 +11,8 @@ use Rattle.mr_world.specs.declared.parts.Parts.{Parts}
 use Rattle.mr_world.specs.declared.took.Took.{Took}
 use Rattle.mr_world.specs.Applying.{Counts, Takes, IsRefused}
 use Rattle.mr_world.specs.Journal.{Journal, Keeps, run_of}
-use Rattle.mr_world.specs.Limits.{within}
-use Rattle.mr_world.specs.Standing.{Standing, IsTaken, Refuses}
+use Rattle.mr_world.specs.Limits.{within, fits_at_once}
+use Rattle.mr_world.specs.Standing.{Standing, IsTaken, Refuses, RefusesEvent}
 use Rattle.mr_world.proofs.Journals.{journal_of, keeps-one, takes}
 
 -- an event was taken by the parts p, which became q
@@ -47,6 +47,6 @@ pub same-journal : (p q : Parts) (j : Journal) (es fs : List Event) → journal_
 same-journal p q j es fs view same config = ap (λ (hs : List Event). record { config = q.config; events = hs }) same ∙ (ap (λ (cfg : Config). record { config = cfg; events = es }) config ∙ view)
 
 -- where the journal has room, an event is refused as the parts refuse it
-pub refused-by : (p : Parts) (es : List Event) (e : Event) (f : WorldFault) (w : World) → length es < MAX_EVENTS → Refuses (not_now p.config w e) (within p.config w e) f
-    → Refuses (not_now p.config w e) (nat_lt (length es) MAX_EVENTS && within p.config w e) f
-refused-by p es e f w few r = subst (λ b. Refuses (not_now p.config w e) (b && within p.config w e) f) (sym (lt-ltb (length es) MAX_EVENTS few)) r
+pub refused-by : (p : Parts) (es : List Event) (e : Event) (f : WorldFault) (w : World) → length es < MAX_EVENTS → RefusesEvent p.config w e f
+    → Refuses (not_now p.config w e) (nat_lt (length es) MAX_EVENTS && within p.config w e) (nat_lt (length es) MAX_EVENTS && fits_at_once p.config w e) f
+refused-by p es e f w few r = subst (λ b. Refuses (not_now p.config w e) (b && within p.config w e) (b && fits_at_once p.config w e) f) (sym (lt-ltb (length es) MAX_EVENTS few)) r

@@ -26,7 +26,7 @@ use Rattle.mr_world.specs.declared.living.Living.{Living}
 use Rattle.mr_world.specs.declared.parts.Parts.{Parts}
 use Rattle.mr_world.specs.Living.{kept, Changes, stepped, is_over, ends_by, one_if}
 use Rattle.mr_world.specs.Limits.{within, fits_bag}
-use Rattle.mr_world.specs.Standing.{Standing, IsTaken, IsTo, Refuses}
+use Rattle.mr_world.specs.Standing.{Standing, IsTaken, IsTo, RefusesEvent}
 use Rattle.mr_world.proofs.Refusals.{NeedsRoom, refuses-now}
 use Rattle.mr_world.proofs.Frames.{rests, living-moved, nodes-stay}
 
@@ -75,8 +75,8 @@ counted c true = refl
 counted c false = refl
 
 pub refused : (p : Parts) (i : ℕ) (c : ContainerId) → IsTo p i (Container c) → is_some (kept p.living c) ≡ false → (w : World) → Standing p w
-    → Refuses (not_now p.config w (Deliver i)) (within p.config w (Deliver i)) (fault.NotNow NoAddressee)
-refused p i c to e w s = refuses-now _ (not-alive p.config w i c to.0 (carried p w i _ s to.1) (sym (s.living.alive c) ∙ e))
+    → RefusesEvent p.config w (Deliver i) (fault.NotNow NoAddressee)
+refused p i c to e w s = refuses-now _ _ (not-alive p.config w i c to.0 (carried p w i _ s to.1) (sym (s.living.alive c) ∙ e))
 
 some-of : (o : Option container.Container) → is_some o ≡ true → (m : container.Container) × (o ≡ Some m)
 some-of (Some m) e = (m, refl)

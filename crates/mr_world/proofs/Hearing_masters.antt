@@ -23,8 +23,8 @@ use Rattle.mr_world.specs.declared.parts.Parts.{Parts}
 use Rattle.mr_world.specs.Machines.{master_of}
 use Rattle.mr_world.specs.Masters.{Ceases, Returns}
 use Rattle.mr_world.specs.Limits.{within, fits_bag, launch_count}
-use Rattle.mr_world.specs.Standing.{Standing, Reached, IsTaken, IsTo, Refuses}
-use Rattle.mr_world.proofs.Refusals.{NeedsRoom, refuses-now, refuses-memory}
+use Rattle.mr_world.specs.Standing.{Standing, Reached, IsTaken, IsTo, RefusesEvent}
+use Rattle.mr_world.proofs.Refusals.{NeedsRoom, refuses-now, lacks-memory}
 use Rattle.mr_world.proofs.Mastering.{not-kept, is-generation}
 use Rattle.mr_world.proofs.Frames.{reached-on, living-stay, nodes-stay}
 use Rattle.mr_world.proofs.Stepping.{masters-step, swapped, other-steps, launches-add}
@@ -42,8 +42,8 @@ alive : (cfg : Config) (w : World) (i k : ℕ) (b : Packet) → slice_get w.bag 
 unfolding not_now
 alive cfg w i k b at e = rw (at, e) refl
 
-pub dead : (p : Parts) (i k : ℕ) → IsTo p i (Master k) → is_some (master_of p.masters k) ≡ false → (w : World) → Standing p w → Refuses (not_now p.config w (Deliver i)) (within p.config w (Deliver i)) (fault.NotNow NoAddressee)
-dead p i k to e w s = refuses-now _ (not-alive p.config w i k to.0 (carried p w i k to.0 s to.1) (not-kept p k e w s))
+pub dead : (p : Parts) (i k : ℕ) → IsTo p i (Master k) → is_some (master_of p.masters k) ≡ false → (w : World) → Standing p w → RefusesEvent p.config w (Deliver i) (fault.NotNow NoAddressee)
+dead p i k to e w s = refuses-now _ _ (not-alive p.config w i k to.0 (carried p w i k to.0 s to.1) (not-kept p k e w s))
 
 pub allowed : (p : Parts) (i k : ℕ) (m : master.Master) → IsTo p i (Master k) → master_of p.masters k ≡ Some m → (w : World) → Standing p w → not_now p.config w (Deliver i) ≡ None
 allowed p i k m to at w s = alive p.config w i k to.0 (carried p w i k to.0 s to.1) (sym (s.masters.alive k) ∙ ap is_some at)
@@ -87,8 +87,8 @@ heard p w i k mid masters bag before m packets s taken to at out back step told 
 
 pub not-heard : (p : Parts) (i k : ℕ) (mid masters : Masters) (bag : Held) (before m : master.Master) → ((w : World) → Standing p w → IsTaken p.config w (Deliver i))
     → Some before ≡ master_of p.masters k → Ceases p.masters k mid → Returns mid k m masters → master.StandsStill before m → bag.packets ≡ p.bag.packets
-    → (w : World) → Standing p w → Refuses (not_now p.config w (Deliver i)) (within p.config w (Deliver i)) fault.NoMemory × Standing (record p { masters = masters; bag = bag }) w
+    → (w : World) → Standing p w → RefusesEvent p.config w (Deliver i) fault.NoMemory × Standing (record p { masters = masters; bag = bag }) w
 not-heard p i k mid masters bag before m taken at out back same b w s = (
-  refuses-memory _ (taken w s).now,
+  lacks-memory (taken w s),
   still p w k masters bag before m s (sym at) (swapped p.masters mid masters k m out back) same b,
 )

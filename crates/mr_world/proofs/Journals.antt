@@ -15,7 +15,7 @@ use Rattle.mr_world.specs.declared.parts.Parts.{Parts}
 use Rattle.mr_world.specs.declared.took.Took.{Took}
 use Rattle.mr_world.specs.Limits.{within}
 use Rattle.mr_world.specs.Standing.{Standing, IsTaken, Refuses}
-use Rattle.mr_world.specs.Journal.{Journal, Keeps, run_of, world_in, if_taken, taken, fits}
+use Rattle.mr_world.specs.Journal.{Journal, Keeps, run_of, world_in, if_taken, taken, fits, fits_first}
 use Rattle.mr_world.specs.Applying.{CanHappen, IsRefused, Takes, AllFit, Ran, StopsAt, Runs, Counts}
 use Rattle.mr_world.proofs.Opening_parts.{opens}
 
@@ -91,16 +91,17 @@ takes p q es e took same t few counts = record {
 }
 
 -- a reason is the one of the definitions
-pub refused-now : (o : Option Why) (fits : Bool) (why : Why) → Refuses o fits (fault.NotNow why) → o ≡ Some why
-refused-now (Some x) fits why r = cc
-refused-now None true why r = absurd (cc r)
-refused-now None false why (inl e) = absurd (cc e)
-refused-now None false why (inr e) = absurd (cc e)
+pub refused-now : (o : Option Why) (fits at_once : Bool) (why : Why) → Refuses o fits at_once (fault.NotNow why) → o ≡ Some why
+refused-now (Some x) fits at_once why r = cc
+refused-now None true at_once why r = absurd (cc r)
+refused-now None false false why r = absurd (cc r)
+refused-now None false true why (inl e) = absurd (cc e)
+refused-now None false true why (inr e) = absurd (cc e)
 
 -- any other fault answers an event that is permitted
-pub permitted-by : (o : Option Why) (fits : Bool) (f : WorldFault) → ((why : Why) → f ≡ fault.NotNow why → ⊥) → Refuses o fits f → o ≡ None
-permitted-by (Some x) fits f other r = absurd (other x r)
-permitted-by None fits f other r = refl
+pub permitted-by : (o : Option Why) (fits at_once : Bool) (f : WorldFault) → ((why : Why) → f ≡ fault.NotNow why → ⊥) → Refuses o fits at_once f → o ≡ None
+permitted-by (Some x) fits at_once f other r = absurd (other x r)
+permitted-by None fits at_once f other r = refl
 
 -- ---- events in turn
 
@@ -167,10 +168,10 @@ stopped {A} old mid new es before after e f r ran are p g = let z = err_from_is_
 
 -- one that was not permitted was passed over
 pub passed-over : (old new : Journal) (e : Event) (f : WorldFault) (why : Why) → f ≡ fault.NotNow why → IsRefused old e f × (new ≡ old) → Ran old (e ∷ []) new
-passed-over old new e f why is p = subst (Ran old (e ∷ [])) (sym p.1) (ran-passed old e why (refused-now (not_now old.config (world_in old) e) (fits old e) why (subst (IsRefused old e) is p.0)))
+passed-over old new e f why is p = subst (Ran old (e ∷ [])) (sym p.1) (ran-passed old e why (refused-now (not_now old.config (world_in old) e) (fits old e) (fits_first old e) why (subst (IsRefused old e) is p.0)))
 
 passes-not : (old new : Journal) (e : Event) (f : WorldFault) → ((why : Why) → f ≡ fault.NotNow why → ⊥) → IsRefused old e f × (new ≡ old) → (not_now old.config (world_in old) e ≡ None) × IsRefused old e f × (new ≡ old)
-passes-not old new e f other p = (permitted-by (not_now old.config (world_in old) e) (fits old e) f other p.0, p.0, p.1)
+passes-not old new e f other p = (permitted-by (not_now old.config (world_in old) e) (fits old e) (fits_first old e) f other p.0, p.0, p.1)
 
 pub passes-full : (old new : Journal) (e : Event) (f : WorldFault) → f ≡ fault.Full → IsRefused old e f × (new ≡ old) → (not_now old.config (world_in old) e ≡ None) × IsRefused old e fault.Full × (new ≡ old)
 passes-full old new e f is p = passes-not old new e fault.Full (λ why x. cc x) (subst (λ g. IsRefused old e g × (new ≡ old)) is p)

@@ -28,8 +28,8 @@ use Rattle.mr_world.specs.Machines.{master_of}
 use Rattle.mr_world.specs.Masters.{Ceases, Returns}
 use Rattle.mr_world.specs.Reasons.{why_of}
 use Rattle.mr_world.specs.Limits.{within, fits_bag, launch_count}
-use Rattle.mr_world.specs.Standing.{Standing, Reached, IsTaken, Refuses}
-use Rattle.mr_world.proofs.Refusals.{NeedsRoom, refuses-now, refuses-full, refuses-memory}
+use Rattle.mr_world.specs.Standing.{Standing, Reached, IsTaken, RefusesEvent}
+use Rattle.mr_world.proofs.Refusals.{NeedsRoom, refuses-now, refuses-full, lacks-memory}
 use Rattle.mr_world.proofs.Mastering.{goes-on, not-kept, is-generation}
 use Rattle.mr_world.proofs.Stepping.{agrees, masters-step, masters-still, one-launch, launches-add, swapped}
 
@@ -76,8 +76,8 @@ alive : (cfg : Config) (w : World) (k : ℕ) (t : TaskId) (n : ℕ) → w.is_mas
 unfolding not_now
 alive cfg w k t n e = rw e refl
 
-pub dead : (p : Parts) (k : ℕ) (t : TaskId) (n : ℕ) → is_some (master_of p.masters k) ≡ false → (w : World) → Standing p w → Refuses (not_now p.config w (LaunchOn k t n)) (within p.config w (LaunchOn k t n)) (fault.NotNow NoMaster)
-dead p k t n e w s = refuses-now _ (not-alive p.config w k t n (not-kept p k e w s))
+pub dead : (p : Parts) (k : ℕ) (t : TaskId) (n : ℕ) → is_some (master_of p.masters k) ≡ false → (w : World) → Standing p w → RefusesEvent p.config w (LaunchOn k t n) (fault.NotNow NoMaster)
+dead p k t n e w s = refuses-now _ _ (not-alive p.config w k t n (not-kept p k e w s))
 
 -- what the machine answers
 abbrev pub Asked : Parts → ℕ → TaskId → ℕ → master.Master → Option LaunchFault → Type 0
@@ -90,8 +90,8 @@ lives : (p : Parts) (k : ℕ) (m : master.Master) (w : World) → Standing p w �
 lives p k m w s at = sym (s.masters.alive k) ∙ ap is_some at
 
 pub refused : (p : Parts) (k : ℕ) (t : TaskId) (n : ℕ) (m : master.Master) (o : Option LaunchFault) (f : LaunchFault) (y : Why) → Asked p k t n m o → o ≡ Some f → y ≡ why_of f → (w : World) → Standing p w
-    → Refuses (not_now p.config w (LaunchOn k t n)) (within p.config w (LaunchOn k t n)) (fault.NotNow y)
-refused p k t n m o f y a e is w s = refuses-now _ (alive p.config w k t n (lives p k m w s a.0) ∙ (reason _ f (sym (asked p k t n m o a w s) ∙ e) ∙ ap Some (sym is)))
+    → RefusesEvent p.config w (LaunchOn k t n) (fault.NotNow y)
+refused p k t n m o f y a e is w s = refuses-now _ _ (alive p.config w k t n (lives p k m w s a.0) ∙ (reason _ f (sym (asked p k t n m o a w s) ∙ e) ∙ ap Some (sym is)))
 
 allowed : (p : Parts) (k : ℕ) (t : TaskId) (n : ℕ) (m : master.Master) (o : Option LaunchFault) → Asked p k t n m o → o ≡ None → (w : World) → Standing p w → not_now p.config w (LaunchOn k t n) ≡ None
 allowed p k t n m o a e w s = alive p.config w k t n (lives p k m w s a.0) ∙ no-reason p.config (seen_by p.config w k) t n (sym (asked p k t n m o a w s) ∙ e)
@@ -105,8 +105,8 @@ unfolding sent master_act
 sends-one cfg w k t n = refl
 
 pub full : (p : Parts) (k : ℕ) (t : TaskId) (n : ℕ) (m : master.Master) (o : Option LaunchFault) → Asked p k t n m o → o ≡ None → MAX_CONTAINERS ≤ p.launched → (w : World) → Standing p w
-    → Refuses (not_now p.config w (LaunchOn k t n)) (within p.config w (LaunchOn k t n)) fault.Full
-full p k t n m o a e many w s = refuses-full (allowed p k t n m o a e w s)
+    → RefusesEvent p.config w (LaunchOn k t n) fault.Full
+full p k t n m o a e many w s = refuses-full _ (allowed p k t n m o a e w s)
     (limit-is p.config w k t n ∙ ap (λ (b : Bool). b && fits_bag p.config w (LaunchOn k t n)) (le-ltb (launch_count w) MAX_CONTAINERS (subst (λ c. MAX_CONTAINERS ≤ c) s.launched many)))
 
 pub needs : (p : Parts) (k : ℕ) (t : TaskId) (n : ℕ) (m : master.Master) (o : Option LaunchFault) → Asked p k t n m o → o ≡ None → p.launched < MAX_CONTAINERS → (w : World) → Standing p w → NeedsRoom p w (LaunchOn k t n) 1
@@ -148,9 +148,9 @@ launched p w k t n mid masters bag before m packet r s taken at out back is step
 
 pub not-launched : (p : Parts) (k : ℕ) (t : TaskId) (n : ℕ) (mid masters : Masters) (bag : Held) (before m : master.Master) (f : LaunchFault) (r : Result Envelope LaunchFault) → ((w : World) → Standing p w → IsTaken p.config w (LaunchOn k t n))
     → Some before ≡ master_of p.masters k → Ceases p.masters k mid → Returns mid k m masters → r ≡ Err f → OnErr r (master.StandsStill before m) → bag.packets ≡ p.bag.packets
-    → (w : World) → Standing p w → Refuses (not_now p.config w (LaunchOn k t n)) (within p.config w (LaunchOn k t n)) fault.NoMemory × Standing (record p { masters = masters; bag = bag }) w
+    → (w : World) → Standing p w → RefusesEvent p.config w (LaunchOn k t n) fault.NoMemory × Standing (record p { masters = masters; bag = bag }) w
 not-launched p k t n mid masters bag before m f r taken at out back is same b w s = (
-  refuses-memory _ (taken w s).now,
+  lacks-memory (taken w s),
   still p w k masters bag before m s (sym at) (swapped p.masters mid masters k m out back) (subst (λ (z : Result Envelope LaunchFault). OnErr z (master.StandsStill before m)) is same) b,
 )
 

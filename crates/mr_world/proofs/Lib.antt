@@ -32,6 +32,7 @@ pub mod Read_masters
 pub mod Read_containers
 pub mod Read_results
 pub mod Read_winners
+pub mod Noting
 pub mod Journals
 pub mod Headlines
 pub mod Happening

@@ -95,7 +95,7 @@ not-kept p k e w s = sym (s.masters.alive k) ∙ e
 pub no-master : {A : Type 0} (p : Parts) (e : Event) (k : ℕ) (r : Result A WorldFault) (g : WorldFault) → ((w : World) → w.is_master k ≡ false → not_now p.config w e ≡ Some NoMaster)
     → (g ≡ fault.NotNow NoMaster) × ((w : World) → Standing p w → w.is_master k ≡ false) → IsErrAnd r (λ f. f ≡ g) → Foresees p e r
 no-master {A} p e k r g why none is = let q = err_from_is_err_and r is in
-    subst (λ (z : Result A WorldFault). Foresees {A = A} p e z) (sym q.1) (subst (λ f. Foresees {A = A} p e (Err f)) (sym (q.2 ∙ none.0)) (λ w s. refuses-now _ (why w (none.1 w s))))
+    subst (λ (z : Result A WorldFault). Foresees {A = A} p e z) (sym q.1) (subst (λ f. Foresees {A = A} p e (Err f)) (sym (q.2 ∙ none.0)) (λ w s. refuses-now _ _ (why w (none.1 w s))))
 
 pub unraised : (app k fence : ℕ) → app ≡ k → nat_le app fence ≡ false → (1 ≤ k) × (k ≤ fence) × (k ≤ 1000) → ⊥
 unraised app k fence e f r = grind (arith, nat_tests, r.1)

@@ -36,12 +36,12 @@ next-winner (MapSucceeded a node incarnation) rs t = refl
 next-winner (AttemptFailed a) rs t = refl
 next-winner JobUnsuccessful rs t = refl
 
-none-told : (t : TaskId) → winner_in [] t ≡ None
+pub none-told : (t : TaskId) → winner_in [] t ≡ None
 unfolding winner_in
 none-told t = refl
 
 -- at place i of the records
-at-place : (rs : List Record) (t : TaskId) (i : ℕ) (r : Record) → i < length rs → r ≡ get_or rs i r → winner_in (drop i rs) t ≡ option_or (success_of r t) (winner_in (drop (i + 1) rs) t)
+pub at-place : (rs : List Record) (t : TaskId) (i : ℕ) (r : Record) → i < length rs → r ≡ get_or rs i r → winner_in (drop i rs) t ≡ option_or (success_of r t) (winner_in (drop (i + 1) rs) t)
 at-place rs t i r l is = at_drop_more (λ (xs : List Record). winner_in xs t) rs i r l ∙ (ap (λ x. winner_in (x ∷ drop (i + 1) rs) t) (sym is) ∙ next-winner r (drop (i + 1) rs) t)
 
 pub found-there : (rs : List Record) (t : TaskId) (i : ℕ) (r : Record) (a : Attempt) → i < length rs → r ≡ get_or rs i r → Some a ≡ success_of r t → winner_in (drop i rs) t ≡ winner_in rs t → Some a ≡ winner_in rs t
@@ -52,16 +52,6 @@ not-there rs t i r l is none kept = ap (λ o. option_or o (winner_in (drop (i + 
 
 pub none-left : (rs : List Record) (t : TaskId) (i : ℕ) → length rs ≤ i → winner_in (drop i rs) t ≡ winner_in rs t → None ≡ winner_in rs t
 none-left rs t i l kept = sym (none-told t) ∙ (ap (λ (xs : List Record). winner_in xs t) (sym (drop_of_length-le rs l)) ∙ kept)
-
--- ---- a list that is made number by number
-
-next-numbers : (n m : ℕ) → n < m → range_with_len n (m - n) ≡ n ∷ range_with_len (n + 1) (m - (n + 1))
-next-numbers n m l = let e : m - n ≡ suc (m - (n + 1)) = omega (arith, l) in rw e refl
-
-pub one-more : {A : Type 0} (f : ℕ → A) (xs ys all : List A) (n m : ℕ) (x : A) → n < m → x ≡ f n → ys ≡ xs ++ x ∷ [] → xs ++ map f (range_with_len n (m - n)) ≡ all → ys ++ map f (range_with_len (n + 1) (m - (n + 1))) ≡ all
-one-more f xs ys all n m x l is more kept =
-    let rest = map f (range_with_len (n + 1) (m - (n + 1))) in
-    ap (λ zs. zs ++ rest) more ∙ (append_assoc xs (x ∷ []) rest ∙ (ap (λ y. xs ++ y ∷ rest) is ∙ (ap (λ ns. xs ++ map f ns) (sym (next-numbers n m l)) ∙ kept)))
 
 -- ---- of a world
 

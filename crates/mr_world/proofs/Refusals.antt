@@ -4,27 +4,37 @@ use Rattle.std.proofs.lemmas.Bool.{le-leb, lt-leb}
 use Rattle.std.proofs.lemmas.Result.{err_from_is_err_and}
 use Rattle.mr_packet.specs.declared.bag.TheConstants.{MAX_PACKETS}
 use Rattle.mr_event.specs.declared.why.Why.{Why}
+use Rattle.mr_model.specs.Packets.{Config}
 use Rattle.mr_model.specs.World.{World, Event}
 use Rattle.mr_model.specs.Effect.{not_now}
 use Rattle.mr_model.specs.Sending.{sent}
 use Rattle.mr_world.specs.declared.fault.WorldFault.{WorldFault}
 use Rattle.mr_world.specs.declared.fault.WorldFault.TheVariants as fault
 use Rattle.mr_world.specs.declared.parts.Parts.{Parts}
-use Rattle.mr_world.specs.Limits.{within, fits_bag}
-use Rattle.mr_world.specs.Standing.{Standing, IsTaken, Refuses, Foresees, Tries}
+use Rattle.mr_world.specs.Limits.{within, fits_at_once, fits_bag}
+use Rattle.mr_world.specs.Standing.{Standing, IsTaken, Refuses, RefusesEvent, Foresees, Tries}
 
-pub refuses-now : {o : Option Why} {why : Why} (fits : Bool) → o ≡ Some why → Refuses o fits (fault.NotNow why)
-refuses-now {o} {why} fits e = subst (λ z. Refuses z fits (fault.NotNow why)) (sym e) refl
+pub refuses-now : {o : Option Why} {why : Why} (fits at_once : Bool) → o ≡ Some why → Refuses o fits at_once (fault.NotNow why)
+refuses-now {o} {why} fits at_once e = subst (λ z. Refuses z fits at_once (fault.NotNow why)) (sym e) refl
 
-pub refuses-full : {o : Option Why} {fits : Bool} → o ≡ None → fits ≡ false → Refuses o fits fault.Full
-refuses-full {o} {fits} e f = subst (λ z. Refuses z fits fault.Full) (sym e) (subst (λ b. Refuses None b fault.Full) (sym f) (inl refl))
+too-much : (at_once : Bool) → Refuses None false at_once fault.Full
+too-much false = refl
+too-much true = inl refl
 
-no-memory : (fits : Bool) → Refuses None fits fault.NoMemory
+pub refuses-full : {o : Option Why} {fits : Bool} (at_once : Bool) → o ≡ None → fits ≡ false → Refuses o fits at_once fault.Full
+refuses-full {o} {fits} at_once e f = subst (λ z. Refuses z fits at_once fault.Full) (sym e) (subst (λ b. Refuses None b at_once fault.Full) (sym f) (too-much at_once))
+
+no-memory : (fits : Bool) → Refuses None fits true fault.NoMemory
 no-memory true = refl
 no-memory false = inr refl
 
-pub refuses-memory : {o : Option Why} (fits : Bool) → o ≡ None → Refuses o fits fault.NoMemory
-refuses-memory {o} fits e = subst (λ z. Refuses z fits fault.NoMemory) (sym e) (no-memory fits)
+-- where no limit is passed that is seen at once
+pub refuses-memory : {o : Option Why} {at_once : Bool} (fits : Bool) → o ≡ None → at_once ≡ true → Refuses o fits at_once fault.NoMemory
+refuses-memory {o} {at_once} fits e l = subst (λ z. Refuses z fits at_once fault.NoMemory) (sym e) (subst (λ b. Refuses None fits b fault.NoMemory) (sym l) (no-memory fits))
+
+-- an event that could be taken
+pub lacks-memory : {cfg : Config} {w : World} {e : Event} → IsTaken cfg w e → RefusesEvent cfg w e fault.NoMemory
+lacks-memory {cfg} {w} {e} t = subst (λ z. Refuses z (within cfg w e) (fits_at_once cfg w e) fault.NoMemory) (sym t.now) (subst (λ b. Refuses None b (fits_at_once cfg w e) fault.NoMemory) (sym t.fits) refl)
 
 -- so many packets find room in the bag, or do not
 pub bag-fits : (p : Parts) (w : World) (e : Event) (n : ℕ) → Standing p w → length (sent p.config w e) ≡ n → length p.bag.packets + n ≤ MAX_PACKETS → fits_bag p.config w e ≡ true
@@ -44,22 +54,23 @@ pub foresees-room : (p : Parts) (e : Event) (n : ℕ) → ((w : World) → Stand
     → OnOk r (length p.bag.packets + n ≤ MAX_PACKETS) → IfErr r (λ f. (f ≡ fault.Full) × (MAX_PACKETS < length p.bag.packets + n)) → Foresees p e r
 foresees-room p e n needs (Ok u) room full = λ w s. let i = needs w s in record { now = i.now; fits = i.limit ∙ bag-fits p w e n s i.count room }
 foresees-room p e n needs (Err f) room full = λ w s. let i = needs w s in
-    subst (Refuses (not_now p.config w e) (within p.config w e)) (sym full.0) (refuses-full i.now (i.limit ∙ bag-full p w e n s i.count full.1))
+    subst (RefusesEvent p.config w e) (sym full.0) (refuses-full _ i.now (i.limit ∙ bag-full p w e n s i.count full.1))
 
 pub taken-by : {p : Parts} {w : World} {e : Event} {n : ℕ} → Standing p w → NeedsRoom p w e n → length p.bag.packets + n ≤ MAX_PACKETS → IsTaken p.config w e
 taken-by {p} {w} {e} {n} s i room = record { now = i.now; fits = i.limit ∙ bag-fits p w e n s i.count room }
 
-pub full-by : {p : Parts} {w : World} {e : Event} {n : ℕ} → Standing p w → NeedsRoom p w e n → MAX_PACKETS < length p.bag.packets + n → Refuses (not_now p.config w e) (within p.config w e) fault.Full
-full-by {p} {w} {e} {n} s i room = refuses-full i.now (i.limit ∙ bag-full p w e n s i.count room)
+pub full-by : {p : Parts} {w : World} {e : Event} {n : ℕ} → Standing p w → NeedsRoom p w e n → MAX_PACKETS < length p.bag.packets + n → RefusesEvent p.config w e fault.Full
+full-by {p} {w} {e} {n} s i room = refuses-full _ i.now (i.limit ∙ bag-full p w e n s i.count room)
 
 -- what the exit of a `?` answers where memory was refused
-pub memory-foreseen : {A : Type 0} (p : Parts) (e : Event) (r : Result A WorldFault) → ((w : World) → Standing p w → not_now p.config w e ≡ None) → IsErrAnd r (λ f. f ≡ fault.NoMemory) → Foresees p e r
-memory-foreseen {A} p e r now g = let q = err_from_is_err_and r g in
-    subst (λ (z : Result A WorldFault). Foresees {A = A} p e z) (sym q.1) (subst (λ f. Foresees {A = A} p e (Err f)) (sym q.2) (λ w s. refuses-memory _ (now w s)))
+pub memory-foreseen : {A : Type 0} (p : Parts) (e : Event) (r : Result A WorldFault) → ((w : World) → Standing p w → not_now p.config w e ≡ None) → ((w : World) → Standing p w → fits_at_once p.config w e ≡ true)
+    → IsErrAnd r (λ f. f ≡ fault.NoMemory) → Foresees p e r
+memory-foreseen {A} p e r now at_once g = let q = err_from_is_err_and r g in
+    subst (λ (z : Result A WorldFault). Foresees {A = A} p e z) (sym q.1) (subst (λ f. Foresees {A = A} p e (Err f)) (sym q.2) (λ w s. refuses-memory _ (now w s) (at_once w s)))
 
 pub memory-tried : {A : Type 0} (p q : Parts) (e : Event) (r : Result A WorldFault) → ((w : World) → Standing p w → IsTaken p.config w e) → ((w : World) → Standing p w → Standing q w) → IsErrAnd r (λ f. f ≡ fault.NoMemory) → Tries p e r q
 memory-tried {A} p q e r taken same g = let z = err_from_is_err_and r g in
-    subst (λ (y : Result A WorldFault). Tries {A = A} p e y q) (sym z.1) (subst (λ f. Tries {A = A} p e (Err f) q) (sym z.2) (λ w s. (refuses-memory _ (taken w s).now, same w s)))
+    subst (λ (y : Result A WorldFault). Tries {A = A} p e y q) (sym z.1) (subst (λ f. Tries {A = A} p e (Err f) q) (sym z.2) (λ w s. (lacks-memory (taken w s), same w s)))
 
 -- what the exit of a `?` answers where the bag has no room for so many
 pub full-foreseen : {A : Type 0} (p : Parts) (e : Event) (n : ℕ) (r : Result A WorldFault) → ((w : World) → Standing p w → NeedsRoom p w e n) → MAX_PACKETS < length p.bag.packets + n → IsErrAnd r (λ f. f ≡ fault.Full) → Foresees p e r

@@ -32,7 +32,7 @@ use Rattle.mr_world.specs.Living.{kept}
 use Rattle.mr_world.specs.Limits.{within, fits_bag}
 use Rattle.mr_world.specs.Machines.{node_of, node_stepped, master_of, ChangesNode}
 use Rattle.mr_world.specs.Restarting.{unless_on}
-use Rattle.mr_world.specs.Standing.{Standing, IsTaken, Refuses, LivingStand}
+use Rattle.mr_world.specs.Standing.{Standing, IsTaken, LivingStand, RefusesEvent}
 use Rattle.mr_world.proofs.Frames.{rests, nodes-moved}
 use Rattle.mr_world.proofs.Refusals.{NeedsRoom, refuses-now, refuses-full}
 use Rattle.mr_world.proofs.Saying.{says}
@@ -107,8 +107,8 @@ is-there : (cfg : Config) (w : World) (n : ℕ) → not_now cfg w (NodeRestart n
 unfolding not_now
 is-there cfg w n e = (unless_parts _ _ _ e).0
 
-pub absent : (p : Parts) (n : ℕ) → is_some (node_of p.nodes n) ≡ false → (w : World) → Standing p w → Refuses (not_now p.config w (NodeRestart n)) (within p.config w (NodeRestart n)) (fault.NotNow NoNode)
-absent p n none w s = refuses-now _ (not-allowed p.config w n (sym (s.nodes.there n) ∙ none))
+pub absent : (p : Parts) (n : ℕ) → is_some (node_of p.nodes n) ≡ false → (w : World) → Standing p w → RefusesEvent p.config w (NodeRestart n) (fault.NotNow NoNode)
+absent p n none w s = refuses-now _ _ (not-allowed p.config w n (sym (s.nodes.there n) ∙ none))
 
 pub present : (p : Parts) (n : ℕ) (m : node.Node) → node_of p.nodes n ≡ Some m → (w : World) → Standing p w → not_now p.config w (NodeRestart n) ≡ None
 present p n m at w s = allowed p.config w n (sym (s.nodes.there n) ∙ ap is_some at)
@@ -117,19 +117,23 @@ limit-is : (cfg : Config) (w : World) (n : ℕ) → within cfg w (NodeRestart n)
 unfolding within call_of
 limit-is cfg w n = refl
 
-not-less : (i j : ℕ) → i ≡ j → j ≡ 4294967295 → nat_lt i (2 ^ 32 - 1) ≡ false
+not-less : (i j : ℕ) → i ≡ j → j ≡ 2 ^ 32 - 1 → nat_lt i (2 ^ 32 - 1) ≡ false
 not-less i j e f = grind (arith, nat_tests, e, f)
 
-less : (i j : ℕ) → i ≡ j → j < 4294967295 → nat_lt i (2 ^ 32 - 1) ≡ true
+less : (i j : ℕ) → i ≡ j → j < 2 ^ 32 - 1 → nat_lt i (2 ^ 32 - 1) ≡ true
 less i j e l = lt-ltb i (2 ^ 32 - 1) (omega (arith, e, l))
 
 -- in its last incarnation it can't
-pub last : (p : Parts) (n : ℕ) (m : node.Node) → node_of p.nodes n ≡ Some m → m.seen.incarnation ≡ 4294967295 → (w : World) → Standing p w
-    → Refuses (not_now p.config w (NodeRestart n)) (within p.config w (NodeRestart n)) fault.Full
-last p n m at is w s = refuses-full (present p n m at w s)
+pub last : (p : Parts) (n : ℕ) (m : node.Node) → node_of p.nodes n ≡ Some m → m.seen.incarnation ≡ 2 ^ 32 - 1 → (w : World) → Standing p w
+    → RefusesEvent p.config w (NodeRestart n) fault.Full
+last p n m at is w s = refuses-full _ (present p n m at w s)
     (limit-is p.config w n ∙ ap (λ b. b && fits_bag p.config w (NodeRestart n)) (not-less _ _ (incarnation-is p w n m s at) is))
 
-pub needs : (p : Parts) (n : ℕ) (m : node.Node) (packets : List Envelope) → node_of p.nodes n ≡ Some m → m.seen.incarnation < 4294967295 → Told p n m packets
+-- it has a next incarnation
+pub rises : (p : Parts) (n : ℕ) (m : node.Node) → node_of p.nodes n ≡ Some m → m.seen.incarnation < 2 ^ 32 - 1 → (w : World) → Standing p w → fits_at_once p.config w (NodeRestart n) ≡ true
+rises p n m at l w s = less _ _ (incarnation-is p w n m s at) l
+
+pub needs : (p : Parts) (n : ℕ) (m : node.Node) (packets : List Envelope) → node_of p.nodes n ≡ Some m → m.seen.incarnation < 2 ^ 32 - 1 → Told p n m packets
     → (w : World) → Standing p w → NeedsRoom p w (NodeRestart n) (length packets)
 needs p n m packets at l is w s = record {
   now = present p n m at w s;

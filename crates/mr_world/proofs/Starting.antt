@@ -24,7 +24,7 @@ use Rattle.mr_world.specs.declared.parts.Parts.{Parts}
 use Rattle.mr_world.specs.Machines.{master_of, master_count}
 use Rattle.mr_world.specs.Masters.{Begins}
 use Rattle.mr_world.specs.Limits.{within, fits_bag}
-use Rattle.mr_world.specs.Standing.{Standing, Reached, IsTaken, Refuses, MastersStand, MasterIn}
+use Rattle.mr_world.specs.Standing.{Standing, Reached, IsTaken, MastersStand, MasterIn, RefusesEvent}
 use Rattle.mr_world.proofs.Bounds.{small, fits-parts, within-is}
 use Rattle.mr_world.proofs.Refusals.{refuses-now, refuses-full}
 use Rattle.mr_world.proofs.Frames.{launches-same}
@@ -44,8 +44,8 @@ not-allowed : (cfg : Config) (w : World) (k kept : ℕ) → nat_eq k (suc w.fenc
 unfolding not_now
 not-allowed cfg w k kept e = rw e refl
 
-pub refused : (p : Parts) (k kept : ℕ) → nat_eq k (p.names.fence + 1) ≡ false → (w : World) → Standing p w → Refuses (not_now p.config w (Start k kept)) (within p.config w (Start k kept)) (fault.NotNow WrongGeneration)
-refused p k kept e w s = refuses-now _ (not-allowed p.config w k kept (subst (λ n. nat_eq k n ≡ false) (next s.stores.namespace.fence) e))
+pub refused : (p : Parts) (k kept : ℕ) → nat_eq k (p.names.fence + 1) ≡ false → (w : World) → Standing p w → RefusesEvent p.config w (Start k kept) (fault.NotNow WrongGeneration)
+refused p k kept e w s = refuses-now _ _ (not-allowed p.config w k kept (subst (λ n. nat_eq k n ≡ false) (next s.stores.namespace.fence) e))
   where
     next : {a b : ℕ} → a ≡ b → a + 1 ≡ suc b
     next {a} {b} e = omega arith
@@ -61,8 +61,8 @@ calls-none cfg w k kept = refl
 room : (cfg : Config) (w : World) (k kept : ℕ) → Reached cfg w → fits_bag cfg w (Start k kept) ≡ true
 room cfg w k kept r = rw (sends-none cfg w k kept) (le-leb _ _ (let b = (small r).bag in omega arith))
 
-pub full : (p : Parts) (k kept : ℕ) → k ≡ p.names.fence + 1 → 1000 < k → (w : World) → Standing p w → Refuses (not_now p.config w (Start k kept)) (within p.config w (Start k kept)) fault.Full
-full p k kept e l w s = refuses-full (allowed p.config w k kept (omega (arith, s.stores.namespace.fence)))
+pub full : (p : Parts) (k kept : ℕ) → k ≡ p.names.fence + 1 → 1000 < k → (w : World) → Standing p w → RefusesEvent p.config w (Start k kept) fault.Full
+full p k kept e l w s = refuses-full _ (allowed p.config w k kept (omega (arith, s.stores.namespace.fence)))
     (within-is p.config w (Start k kept) (calls-none p.config w k kept) (room p.config w k kept s.reached) ∙ lt-leb k 1000 l)
 
 pub taken : (p : Parts) (k kept : ℕ) → k ≡ p.names.fence + 1 → k ≤ 1000 → (w : World) → Standing p w → IsTaken p.config w (Start k kept)

@@ -16,7 +16,6 @@ use Rattle.mr_master_model.specs.Past.{Answered}
 use Rattle.mr_master_model.specs.Next as next
 use Rattle.mr_master.specs.State.{Master, Answers}
 use Rattle.mr_model.specs.World.{World, Weather, Duty}
-use Rattle.mr_model.specs.Effect.{not_now}
 use Rattle.mr_model.specs.Stored.{master, left_in}
 use Rattle.mr_agree.specs.Stores.{told_of, told_in}
 use Rattle.mr_world.specs.declared.duty.Due.{Due}
@@ -25,9 +24,9 @@ use Rattle.mr_world.specs.declared.masters.Masters.{Masters}
 use Rattle.mr_world.specs.declared.parts.Parts.{Parts}
 use Rattle.mr_world.specs.Calling.{is_made}
 use Rattle.mr_world.specs.Duties.{HasDuty}
-use Rattle.mr_world.specs.Limits.{within, is_full}
+use Rattle.mr_world.specs.Limits.{is_full}
 use Rattle.mr_world.specs.Machines.{master_of}
-use Rattle.mr_world.specs.Standing.{Standing, Refuses}
+use Rattle.mr_world.specs.Standing.{Standing, RefusesEvent}
 
 -- the answer to the master of generation k
 abbrev pub answer_to : names.State → history.State → ℕ → StoreCall → StoreAnswer
@@ -98,7 +97,7 @@ pub record IsForeseen (p : Parts) (k : ℕ) (f : Weather) (c : StoreCall) (a : S
 
 -- a duty is refused so, in each weather
 abbrev pub RefusesDuty : Parts → ℕ → Weather → WorldFault → Type 0
-RefusesDuty p k f fault = (w : World) → Standing p w → Refuses (not_now p.config w (Duty k f)) (within p.config w (Duty k f)) fault
+RefusesDuty p k f fault = (w : World) → Standing p w → RefusesEvent p.config w (Duty k f) fault
 
 -- a look at a duty: it is due, or refused so
 abbrev pub ForeseesDuty : Parts → ℕ → Weather → Result Due WorldFault → Type 0

@@ -16,9 +16,8 @@ use Rattle.mr_world.specs.declared.call.StoreCall.{StoreCall}
 use Rattle.mr_world.specs.declared.fault.WorldFault.{WorldFault}
 use Rattle.mr_world.specs.declared.fault.WorldFault.TheVariants as fault
 use Rattle.mr_world.specs.declared.parts.Parts.{Parts}
-use Rattle.mr_world.specs.Limits.{within}
 use Rattle.mr_world.specs.Living.{Changes, stepped}
-use Rattle.mr_world.specs.Standing.{Standing, IsTaken, Refuses}
+use Rattle.mr_world.specs.Standing.{Standing, IsTaken, RefusesEvent}
 
 -- the wishes that are store calls
 abbrev pub is_call : Wish → Bool
@@ -52,7 +51,7 @@ is_made Unanswered = true
 abbrev pub ForeseesCall : Parts → ContainerId → Weather → Result (Option StoreCall) WorldFault → Type 0
 ForeseesCall p c f (Ok (Some call)) = (w : World) → Standing p w → IsTaken p.config w (ContainerStep c f) × (op_of p.config w c ≡ Some call.op) × (caller_of w c ≡ call.caller)
 ForeseesCall p c f (Ok None) = (w : World) → Standing p w → (not_now p.config w (ContainerStep c f) ≡ None) × (op_of p.config w c ≡ None)
-ForeseesCall p c f (Err e) = (w : World) → Standing p w → Refuses (not_now p.config w (ContainerStep c f)) (within p.config w (ContainerStep c f)) e
+ForeseesCall p c f (Err e) = (w : World) → Standing p w → RefusesEvent p.config w (ContainerStep c f) e
 
 -- the namespace's answer of the call, and what is left
 abbrev pub answer_of : names.State → StoreCall → Result Answer NameFault × names.State

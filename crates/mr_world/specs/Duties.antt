@@ -89,4 +89,4 @@ pub record HasTold (old : Parts) (k : ℕ) (a : StoreAnswer) (r : Ready) (new : 
 -- room, or memory was refused, and they stand for it still.
 abbrev pub MakesReady : Parts → ℕ → StoreAnswer → Result Ready WorldFault → Parts → Type 0
 MakesReady old k a (Ok r) new = IsSet new k a r × ((w : World) → Standing old w → Standing new w × (r.packets ≡ says_then old.config w k a) × (fits_then old.config w k a ≡ true))
-MakesReady old k a (Err fault) new = (w : World) → Standing old w → Refuses None (fits_then old.config w k a) fault × Standing new w
+MakesReady old k a (Err fault) new = (w : World) → Standing old w → Refuses None (fits_then old.config w k a) true fault × Standing new w

@@ -7,7 +7,7 @@ use Rattle.mr_model.specs.Claims.{world_of}
 use Rattle.mr_model.specs.Sequential.{is_taken}
 use Rattle.mr_world.specs.declared.limits.TheConstants.{MAX_EVENTS}
 use Rattle.mr_world.specs.declared.parts.Parts.{Parts}
-use Rattle.mr_world.specs.Limits.{within}
+use Rattle.mr_world.specs.Limits.{within, fits_at_once}
 use Rattle.mr_world.specs.Standing.{Standing}
 
 -- the events are those that were taken, in order
@@ -41,3 +41,7 @@ pub record Keeps (p : Parts) (es : List Event) : Type 0 where
 -- whether an event passes no limit, that of the journal among them
 abbrev pub fits : Journal → Event → Bool
 fits j e = nat_lt (length j.events) MAX_EVENTS && within j.config (world_in j) e
+
+-- of these limits those that are seen at once
+abbrev pub fits_first : Journal → Event → Bool
+fits_first j e = nat_lt (length j.events) MAX_EVENTS && fits_at_once j.config (world_in j) e

@@ -14,7 +14,7 @@ use Rattle.mr_model.specs.Records.{Record, Segment}
 use Rattle.mr_model.specs.Packets.{Config, Store, Names, Append_record, Flush, Read_history}
 use Rattle.mr_model.specs.Pasts.{Place, incarnation_of}
 use Rattle.mr_model.specs.Duties.{Master_step, Came, Launches, Expires, Asks}
-use Rattle.mr_model.specs.World.{World, Event, Start, LaunchOn, Compute, NodeRestart, Made, call_of, is_applied}
+use Rattle.mr_model.specs.World.{World, Event, Start, LaunchOn, Compute, Die, NodeRestart, Made, call_of, is_applied}
 use Rattle.mr_model.specs.Sending.{sent}
 use Rattle.mr_model.specs.Claims.{Limits}
 use Rattle.mr_world.specs.declared.limits.TheConstants.{MAX_CONTAINERS, MAX_MAP_OUTPUT}
@@ -79,6 +79,13 @@ fits_own w _ = true
 -- the packets of an event find room in the bag
 abbrev pub fits_bag : Config → World → Event → Bool
 fits_bag cfg w e = nat_le (length w.bag + length (sent cfg w e)) MAX_PACKETS
+
+-- The limits that are seen before anything is computed: an event's own, and room for the one packet of a launch or a death. Of all other packets, and of store calls, it takes memory to
+-- find out what they are.
+abbrev pub fits_at_once : Config → World → Event → Bool
+fits_at_once cfg w (LaunchOn k t n) = fits_own w (LaunchOn k t n) && fits_bag cfg w (LaunchOn k t n)
+fits_at_once cfg w (Die c) = fits_bag cfg w (Die c)
+fits_at_once cfg w e = fits_own w e
 
 -- whether an event passes no limit
 unfoldable pub within : Config → Limits

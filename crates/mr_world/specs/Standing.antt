@@ -21,7 +21,7 @@ use Rattle.mr_world.specs.declared.masters.Masters.{Masters}
 use Rattle.mr_world.specs.declared.nodes.Nodes.{Nodes}
 use Rattle.mr_world.specs.declared.parts.Parts.{Parts}
 use Rattle.mr_world.specs.Living.{kept}
-use Rattle.mr_world.specs.Limits.{within, launch_count}
+use Rattle.mr_world.specs.Limits.{within, fits_at_once, launch_count}
 use Rattle.mr_world.specs.Machines.{node_of, master_of, master_count}
 
 -- w is the world after some events
@@ -71,19 +71,24 @@ pub record IsTaken (cfg : Config) (w : World) (e : Event) : Type 0 where
   pub now : not_now cfg w e ≡ None
   pub fits : within cfg w e ≡ true
 
--- The fault that is answered: the first reason why an event is not permitted, or else that it would pass a limit, or else want of memory, which may also
--- come while it is found out whether it would.
-abbrev pub Refuses : Option Why → Bool → WorldFault → Type 0
-Refuses (Some why) fits f = f ≡ fault.NotNow why
-Refuses None true f = f ≡ fault.NoMemory
-Refuses None false f = (f ≡ fault.Full) ⊎ (f ≡ fault.NoMemory)
+-- The fault that is answered: the first reason why an event is not permitted, or else that it would pass a limit, or else want of memory. Where it passes none of
+-- the limits that are seen at once, want of memory may also come while it is found out whether it passes another.
+abbrev pub Refuses : Option Why → Bool → Bool → WorldFault → Type 0
+Refuses (Some why) fits at_once f = f ≡ fault.NotNow why
+Refuses None true at_once f = f ≡ fault.NoMemory
+Refuses None false false f = f ≡ fault.Full
+Refuses None false true f = (f ≡ fault.Full) ⊎ (f ≡ fault.NoMemory)
+
+-- an event is refused so
+abbrev pub RefusesEvent : Config → World → Event → WorldFault → Type 0
+RefusesEvent cfg w e f = Refuses (not_now cfg w e) (within cfg w e) (fits_at_once cfg w e) f
 
 -- a look at an event: it would be taken, or is refused so
 abbrev pub Foresees : {A : Type 0} → Parts → Event → Result A WorldFault → Type 0
 Foresees p e (Ok a) = (w : World) → Standing p w → IsTaken p.config w e
-Foresees p e (Err f) = (w : World) → Standing p w → Refuses (not_now p.config w e) (within p.config w e) f
+Foresees p e (Err f) = (w : World) → Standing p w → RefusesEvent p.config w e f
 
 -- an event was taken, and had its effect; or it was refused, and the parts stand for what they stood for
 abbrev pub Tries : {A : Type 0} → Parts → Event → Result A WorldFault → Parts → Type 0
 Tries old e (Ok a) new = (w : World) → Standing old w → IsTaken old.config w e × Standing new (effect old.config w e)
-Tries old e (Err f) new = (w : World) → Standing old w → Refuses (not_now old.config w e) (within old.config w e) f × Standing new w
+Tries old e (Err f) new = (w : World) → Standing old w → RefusesEvent old.config w e f × Standing new w

@@ -27,9 +27,9 @@ impl Parts {
     pub fn foresee_call(
         &self,
         c: &ContainerId,
-        fault: Weather,
+        weather: Weather,
     ) -> Result<Option<StoreCall>, WorldFault>
-        ensures foresees { ForeseesCall self.now c.now fault result }
+        ensures foresees { ForeseesCall self.now c.now weather result }
         ensures lives { OnOk result (is_some (kept self.now.living c.now) ≡ true) }
     {
         tell_most(&self.bag);
@@ -37,7 +37,7 @@ impl Parts {
             Some(machine) => machine,
             None => return Err(WorldFault::NotNow(Why::NoContainer)),
         };
-        check_step(&machine.wish(), fault)?;
+        check_step(&machine.wish(), weather)?;
         let call = match machine.call(&self.layout)? {
             Some(op) => StoreCall {
                 caller: machine.caller(),
@@ -45,7 +45,7 @@ impl Parts {
             },
             None => return Ok(None),
         };
-        if would_be_full(&self.names, &call, fault) {
+        if would_be_full(&self.names, &call, weather) {
             return Err(WorldFault::Full);
         }
         Ok(Some(call))
@@ -55,25 +55,25 @@ impl Parts {
     pub fn call_store(
         &mut self,
         c: &ContainerId,
-        fault: Weather,
+        weather: Weather,
         call: &StoreCall,
     ) -> Result<(), AllocError>
-        ensures ok { OnOk result (HasCalled self.old c.now fault call.now self.new) }
+        ensures ok { OnOk result (HasCalled self.old c.now weather call.now self.new) }
         ensures err { OnErr result (self.new ≡ self.old) }
     {
-        let reply = make(&mut self.names, call, fault)?;
+        let reply = make(&mut self.names, call, weather)?;
         self.living.on(c, reply);
         Ok(())
     }
 }
 
-fn check_step(wish: &Wish, fault: Weather) -> Result<(), WorldFault>
-    ensures { result ≡ permitted (step_fault wish.now fault) }
+fn check_step(wish: &Wish, weather: Weather) -> Result<(), WorldFault>
+    ensures { result ≡ permitted (step_fault wish.now weather) }
 {
     if wish.is_computing() {
         return Err(WorldFault::NotNow(Why::WrongWish));
     }
-    if !is_call(wish) && !is_calm(fault) {
+    if !is_call(wish) && !is_calm(weather) {
         return Err(WorldFault::NotNow(Why::NoStoreCall));
     }
     Ok(())
@@ -97,27 +97,27 @@ fn is_call(wish: &Wish) -> bool
     )
 }
 
-fn is_calm(fault: Weather) -> bool
-    ensures { result ≡ is_calm fault }
+fn is_calm(weather: Weather) -> bool
+    ensures { result ≡ is_calm weather }
 {
-    matches!(fault, Weather::Calm)
+    matches!(weather, Weather::Calm)
 }
 
 /// Whether a call is made in this weather.
-pub fn is_made(fault: Weather) -> bool
-    ensures { result ≡ is_made fault }
+pub fn is_made(weather: Weather) -> bool
+    ensures { result ≡ is_made weather }
 {
-    match fault {
+    match weather {
         Weather::Calm | Weather::Unanswered => true,
         Weather::Unavailable => false,
     }
 }
 
 // Whether the call is made and would pass a limit of the namespace.
-fn would_be_full(names: &Namespace, call: &StoreCall, fault: Weather) -> bool
-    ensures { result ≡ (is_made fault && is_full (refused names.now call.now.caller call.now.op)) }
+fn would_be_full(names: &Namespace, call: &StoreCall, weather: Weather) -> bool
+    ensures { result ≡ (is_made weather && is_full (refused names.now call.now.caller call.now.op)) }
 {
-    is_made(fault) && is_full(names.foresee(call.caller, &call.op))
+    is_made(weather) && is_full(names.foresee(call.caller, &call.op))
 }
 
 /// Whether a call of the namespace is refused for want of room.
@@ -128,12 +128,12 @@ pub fn is_full(refusal: Option<NameFault>) -> bool
 }
 
 // What its caller hears of a call, in this weather. It may want memory, and then nothing has changed.
-fn make(names: &mut Namespace, call: &StoreCall, fault: Weather) -> Result<Reply, AllocError>
-    ensures heard { IfOk result (λ reply. reply ≡ heard_in fault (answer_of names.old call.now).0) }
-    ensures left { OnOk result (names.new ≡ left_in fault names.old (answer_of names.old call.now).1) }
+fn make(names: &mut Namespace, call: &StoreCall, weather: Weather) -> Result<Reply, AllocError>
+    ensures heard { IfOk result (λ reply. reply ≡ heard_in weather (answer_of names.old call.now).0) }
+    ensures left { OnOk result (names.new ≡ left_in weather names.old (answer_of names.old call.now).1) }
     ensures err { OnErr result (names.new ≡ names.old) }
 {
-    match fault {
+    match weather {
         Weather::Calm => Ok(Reply::Answered(answer(names, call)?)),
         Weather::Unavailable => Ok(Reply::Fault),
         Weather::Unanswered => {

@@ -30,7 +30,7 @@ impl Parts {
         ensures told { IfOk result (λ answer. answer ≡ told_in weather (answer_to self.now.names self.now.history app call.now)) }
         ensures room { OnOk result (passes self.now app weather call.now ≡ false) }
         ensures ranged { IsRanged call.now }
-        ensures refused { IfErr result (λ fault. Refuses None (not (passes self.now app weather call.now)) fault) }
+        ensures refused { IfErr result (λ fault. Refuses None (not (passes self.now app weather call.now)) true fault) }
     {
         tell_ranges(call);
         if is_made(weather) && self.finds_full(app, call) {

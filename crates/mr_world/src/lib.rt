@@ -61,14 +61,15 @@
 //! - **the headline** stands on `apply` and `run` themselves, of the world before and after (`HeadlineHolds`): a recorded winner stays, and every node told of it is told
 //!   the same; where the success marker is, a reader sees each reduce's winner's whole file and nothing else, from then on; one outcome is told; with deterministic
 //!   functions the files are the sequential execution's;
-//! - what is read is what the definitions read: for those outside `winner`, `winners`, `marker`, `outcome`, `visible`; for programs `bag`, `addressee`, `newest`,
+//! - what is read is what the definitions read: for those outside `winner`, `winners`, `marker`, `outcome`, `visible`; for programs `bag`, `undeliverable`, `newest`,
 //!   `phase`, `duty`, `wanted`, `unflushed`, `stable`, `living`, `next_living`, `wish`, `input` (`specs/Readings`), and `asks`: the store call that an event
 //!   would make now, by whom, and what its caller would hear (`specs/Asks`).
 //!
 //! A world's invariant is that its parts (`Parts`) *stand for* the world of its journal (`specs/Standing`): one clause a part, each machine for its past there. Each event's
 //! call keeps it (`Tries`), and everything that can fail comes before the first change that can't be taken back.
 //!
-//! Want of memory may also be answered where memory was refused while it was found out whether a limit would be passed; never in place of a reason. A master is told what a
+//! Want of memory comes in place of neither a reason nor `Full` where a limit is passed that is seen at once (`fits_at_once` of `specs/Limits`: a journal's events, a start, a launch, a
+//! death, the bytes of a work, an incarnation). Whether any other limit is passed takes memory to find out, and where that was refused want of memory may be answered. A master is told what a
 //! store answers, a refusal too; only where a store is full the whole event is refused.
 #![tactic(auto)]
 

@@ -1,4 +1,4 @@
-ghost use Rattle.std.specs.Prelude.{◌≡◌, ℕ, None, Some, is_some, IfOk, IfSome, OnOk, OnErr, ◌<◌, nat_lt, if◌then◌else◌};
+ghost use Rattle.std.specs.Prelude.{◌≡◌, ℕ, None, Some, is_some, IfOk, IfSome, OnOk, OnErr, ◌<◌, ◌-◌, ◌^◌, nat_lt, if◌then◌else◌};
 ghost use Rattle.std.specs.Option.{option_copied};
 ghost use Rattle.mr_node.specs.Readings.{opening, reaction};
 ghost use Rattle.mr_node.specs.Past.{Hears, Restarts, Shelves};
@@ -77,7 +77,7 @@ impl Nodes {
     /// A node, if there is one of this number, begins anew. It takes no memory.
     #[tactic(auto, unfolding(crate::specs::Machines::node_of))]
     pub fn restart(&mut self, n: u32)
-        requires { IfSome (node_of self.old n) (λ m. m.seen.incarnation < 4294967295) }
+        requires { IfSome (node_of self.old n) (λ m. m.seen.incarnation < 2 ^ 32 - 1) }
         ensures { ChangesNode self.old n (node_stepped self.old n Restarts) self.new }
     {
         if let Some(machine) = self.machines.get_mut(n as usize) {

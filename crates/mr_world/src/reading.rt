@@ -34,7 +34,7 @@ impl Parts {
 
     /// Why the packet at this place of the bag can't be delivered now: `NoPacket`, or `NoAddressee` where it goes to nobody who is alive;
     /// none where it can. It takes no memory.
-    pub fn addressee(&self, i: usize) -> Option<Why>
+    pub fn undeliverable(&self, i: usize) -> Option<Why>
         ensures { (w : World) → Standing self.now w → result ≡ addressee w (slice_get w.bag i) }
     {
         let is_there = match whom(&self.bag, i) {

@@ -1,4 +1,4 @@
-ghost use Rattle.std.specs.Prelude.{◌≡◌, ◌<◌, ◌≤◌, ◌+◌, length, is_some, IfOk, IfSome, if◌then◌else◌, Some, None};
+ghost use Rattle.std.specs.Prelude.{◌≡◌, ◌<◌, ◌≤◌, ◌+◌, ◌-◌, ◌^◌, length, is_some, IfOk, IfSome, if◌then◌else◌, Some, None};
 ghost use Rattle.mr_packet.specs.declared.packet.Packet.TheVariants.{NodeUp};
 ghost use Rattle.mr_model.specs.Sending.{sent, to_app, to_masters};
 ghost use Rattle.mr_model.specs.World.{World, NodeRestart};
@@ -27,7 +27,7 @@ impl Parts {
     /// Whether the node can restart now, and the packets by which the living masters are told of its next incarnation.
     pub fn restart_packets(&self, n: u32) -> Result<Vec<Envelope>, WorldFault>
         ensures foresees { Foresees self.now (NodeRestart n) result }
-        ensures rises { IfOk result (λ packets. IfSome (node_of self.now.nodes n) (λ m. m.seen.incarnation < 4294967295)) }
+        ensures rises { IfOk result (λ packets. IfSome (node_of self.now.nodes n) (λ m. m.seen.incarnation < 2 ^ 32 - 1)) }
         ensures sent { IfOk result (λ packets. (w : World) → Standing self.now w → packets.items ≡ sent self.now.config w (NodeRestart n)) }
         ensures room { IfOk result (λ packets. length self.now.bag.packets + length packets.items ≤ MAX_PACKETS) }
     {

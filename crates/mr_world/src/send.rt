@@ -10,15 +10,15 @@ use crate::letters::Letters;
 use crate::parts::Parts;
 use crate::room::reserve;
 use mr_event::Weather;
-use mr_packet::ContainerId;
+use mr_packet::{ContainerId, MAX_PACKETS};
 
 impl Parts {
     /// Whether the container can take its next step, which is permitted and no store call; and what it puts into the bag.
-    pub fn check_send(&self, c: &ContainerId, fault: Weather) -> Result<Letters, WorldFault>
-        requires { IsAlone self.now c.now fault }
-        ensures foresees { Foresees self.now (ContainerStep c.now fault) result }
+    pub fn check_send(&self, c: &ContainerId, weather: Weather) -> Result<Letters, WorldFault>
+        requires { IsAlone self.now c.now weather }
+        ensures foresees { Foresees self.now (ContainerStep c.now weather) result }
         ensures letters { IfOk result (λ letters. letters ≡ letters_of (kept self.now.living c.now)) }
-        ensures room { IfOk result (λ letters. length self.now.bag.packets + count_of letters ≤ 1000000) }
+        ensures room { IfOk result (λ letters. length self.now.bag.packets + count_of letters ≤ MAX_PACKETS) }
     {
         let letters = self.living.letters(c);
         self.check_room(letters.count())?;
@@ -26,12 +26,12 @@ impl Parts {
     }
 
     /// The container takes its next step, which is permitted and no store call: it sends the packet that it wishes to send, if it wishes to.
-    pub fn send_packet(&mut self, c: &ContainerId, fault: Weather) -> Result<(), WorldFault>
-        requires { IsAlone self.old c.now fault }
-        ensures tries { Tries self.old (ContainerStep c.now fault) result self.new }
+    pub fn send_packet(&mut self, c: &ContainerId, weather: Weather) -> Result<(), WorldFault>
+        requires { IsAlone self.old c.now weather }
+        ensures tries { Tries self.old (ContainerStep c.now weather) result self.new }
         ensures config { self.new.config ≡ self.old.config }
     {
-        match self.check_send(c, fault)? {
+        match self.check_send(c, weather)? {
             Letters::Nothing => Ok(()),
             Letters::One(packet) => {
                 reserve(&mut self.bag, 1)?;

@@ -9,29 +9,29 @@ use mr_packet::ContainerId;
 
 impl Parts {
     /// Whether the container can take its next step now, in this weather.
-    pub fn check_step(&self, c: &ContainerId, fault: Weather) -> Result<(), WorldFault>
-        ensures { Foresees self.now (ContainerStep c.now fault) result }
+    pub fn check_step(&self, c: &ContainerId, weather: Weather) -> Result<(), WorldFault>
+        ensures { Foresees self.now (ContainerStep c.now weather) result }
     {
-        match self.foresee_call(c, fault)? {
+        match self.foresee_call(c, weather)? {
             Some(_call) => Ok(()),
             None => {
-                self.check_send(c, fault)?;
+                self.check_send(c, weather)?;
                 Ok(())
             }
         }
     }
 
     /// The container takes its next step: it makes a store call and hears the answer, or sends a packet, or nothing happens.
-    pub fn step(&mut self, c: &ContainerId, fault: Weather) -> Result<(), WorldFault>
-        ensures tries { Tries self.old (ContainerStep c.now fault) result self.new }
+    pub fn step(&mut self, c: &ContainerId, weather: Weather) -> Result<(), WorldFault>
+        ensures tries { Tries self.old (ContainerStep c.now weather) result self.new }
         ensures config { self.new.config ≡ self.old.config }
     {
-        match self.foresee_call(c, fault)? {
+        match self.foresee_call(c, weather)? {
             Some(call) => {
-                self.call_store(c, fault, &call)?;
+                self.call_store(c, weather, &call)?;
                 Ok(())
             }
-            None => self.send_packet(c, fault),
+            None => self.send_packet(c, weather),
         }
     }
 }

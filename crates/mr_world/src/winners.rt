@@ -1,5 +1,5 @@
 //! Which attempts won, as the history tells.
-ghost use Rattle.std.specs.Prelude.{◌≡◌, IfOk, IfErr, map};
+ghost use Rattle.std.specs.Prelude.{◌≡◌, ℕ, IfOk, IfErr, None, map, replicate, slice_get};
 ghost use Rattle.std.specs.List.{range_with_len};
 ghost use Rattle.mr_model.specs.Ids.{reduce_of};
 ghost use Rattle.mr_model.specs.Records.{winner_in};
@@ -7,7 +7,7 @@ ghost use Rattle.mr_model.specs.Claims.{records, winner};
 ghost use Rattle.mr_model.specs.World.{World};
 ghost use Rattle.mr_world.specs.declared.fault.WorldFault.TheVariants.{NoMemory};
 ghost use Rattle.mr_world.specs.Standing.{Standing};
-ghost use Rattle.mr_world.specs.Winning.{if_at, success_of};
+ghost use Rattle.mr_world.specs.Winning.{Notes, NotesAt, if_at, is_free, success_of};
 
 use crate::fault::WorldFault;
 use crate::parts::Parts;
@@ -82,7 +82,7 @@ fn if_at(attempt: AttemptId, task: TaskId) -> Option<AttemptId>
     }
 }
 
-// The winners of the first reduces of a job.
+// The winners of the first reduces of a job, by one walk over what is told.
 fn winners_of(
     alloc: Global,
     job: JobId,
@@ -91,14 +91,58 @@ fn winners_of(
 ) -> Result<Vec<Option<AttemptId>>, AllocError>
     ensures { IfOk result (λ all. all.items ≡ map (λ r. winner_in told.now (reduce_of job r)) (range_with_len 0 reduces)) }
 {
-    let mut all = Vec::new(alloc);
-    for number in 0..reduces {
-        let task = TaskId {
-            job,
-            kind: TaskKind::Reduce,
-            number,
-        };
-        all.push(winner_of(told, task))?;
-    }
+    let mut all = none_yet(alloc, reduces)?;
+    note_all(&mut all, job, told);
     Ok(all)
+}
+
+// Of so many reduces no winner is known.
+fn none_yet(alloc: Global, reduces: u32) -> Result<Vec<Option<AttemptId>>, AllocError>
+    ensures { IfOk result (λ all. all.items ≡ replicate reduces None) }
+{
+    vec![in alloc; None; reduces as usize]
+}
+
+// Of each reduce the first success that is told is noted at its place.
+fn note_all(all: &mut [Option<AttemptId>], job: JobId, told: &[Record])
+    ensures { (n : ℕ) → all.old ≡ replicate n None → all.new ≡ map (λ r. winner_in told.now (reduce_of job r)) (range_with_len 0 n) }
+{
+    for entry in told {
+        note(all, job, entry);
+    }
+}
+
+// The success that an entry tells is noted, where none is yet.
+fn note(all: &mut [Option<AttemptId>], job: JobId, entry: &Record)
+    ensures { Notes job entry.now all.old all.new }
+{
+    let Record::ReduceSucceeded { attempt, .. } = *entry else {
+        return;
+    };
+    let number = attempt.task().number;
+    let reduce = TaskId {
+        job,
+        kind: TaskKind::Reduce,
+        number,
+    };
+    if attempt.task() == reduce {
+        note_at(all, number as usize, attempt);
+    }
+}
+
+// The attempt is noted, where none is yet.
+fn note_at(all: &mut [Option<AttemptId>], number: usize, attempt: AttemptId)
+    ensures { NotesAt number attempt all.old all.new }
+{
+    if !is_free(all, number) {
+        return;
+    }
+    all[number] = Some(attempt);
+}
+
+// Whether there is such a reduce, of which no attempt is noted.
+fn is_free(all: &[Option<AttemptId>], number: usize) -> bool
+    ensures { result ≡ is_free (slice_get all.now number) }
+{
+    matches!(all.get(number), Some(None))
 }

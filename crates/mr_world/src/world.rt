@@ -221,10 +221,10 @@ impl World {
 
     /// Why the packet at this place of the bag can't be delivered now: `NoPacket`, or `NoAddressee` where it goes to nobody who is alive;
     /// none where it can. It takes no memory.
-    pub fn addressee(&self, i: usize) -> Option<Why>
+    pub fn undeliverable(&self, i: usize) -> Option<Why>
         ensures { result ≡ addressee (world_in self.now) (slice_get (world_in self.now).bag i) }
     {
-        self.parts.addressee(i)
+        self.parts.undeliverable(i)
     }
 }
 

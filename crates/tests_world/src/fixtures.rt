@@ -188,7 +188,7 @@ impl Run {
     fn delivers(&mut self, rt: &impl Abort) -> bool {
         for place in self.next..self.world.bag().len() {
             self.next = place + 1;
-            if self.world.addressee(place).is_none() {
+            if self.world.undeliverable(place).is_none() {
                 takes(rt, &mut self.world, Event::Deliver(place as u64));
                 return true;
             }

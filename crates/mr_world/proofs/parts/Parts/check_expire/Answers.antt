@@ -1,4 +1,4 @@
-use Rattle.std.proofs.Common.{◌≡◌, sym, ap, subst, is_some, arith}
+use Rattle.std.proofs.Common.{refl, ◌≡◌, sym, ap, subst, is_some, arith}
 use Rattle.mr_master.specs.State.{Master, Answers}
 use Rattle.mr_master_model.specs.Next.{sent}
 use Rattle.mr_master_model.specs.Past.{Expires}
@@ -16,7 +16,7 @@ returns-in-Some-expire_refusal-clause-foresees c = refused c.args.self.now c.arg
 
 pub returns-in_err-packets-clause-foresees : goal.returns-in_err-packets-clause-foresees
 returns-in_err-packets-clause-foresees c = memory-foreseen c.args.self.now (Expire c.args.k c.args.node) c.from_residual.result
-    (allowed c.args.self.now c.args.k c.args.node c.in-Some.machine.now c.expire_refusal.result (sym c.in-Some.ensures, c.expire_refusal.ensures) c.in_default-expire_refusal.is) c.from_residual.ensures.1
+    (allowed c.args.self.now c.args.k c.args.node c.in-Some.machine.now c.expire_refusal.result (sym c.in-Some.ensures, c.expire_refusal.ensures) c.in_default-expire_refusal.is) (λ w s. refl) c.from_residual.ensures.1
 
 pub returns-then-len-clause-foresees : goal.returns-then-len-clause-foresees
 returns-then-len-clause-foresees c = λ w s. full-by s (needs c.args.self.now c.args.k c.args.node c.in-Some.machine.now c.expire_refusal.result c.in_ok-packets.packets.items (sym c.in-Some.ensures, c.expire_refusal.ensures) c.in_default-expire_refusal.is c.in_ok-packets.ensures w s)

@@ -1,4 +1,4 @@
-use Rattle.std.proofs.Common.{sym, ◌∙◌, ap, slice_get, arith}
+use Rattle.std.proofs.Common.{refl, sym, ◌∙◌, ap, slice_get, arith}
 use Rattle.mr_model.specs.World.{Deliver}
 use Rattle.mr_world.specs.Living.{one_if}
 use Rattle.mr_world.specs.Replying.{answers_at}
@@ -11,7 +11,7 @@ pub returns-then-len-lt-MAX_PACKETS-clause-foresees : goal.returns-then-len-lt-M
 returns-then-len-lt-MAX_PACKETS-clause-foresees c = λ w s. taken-by s (needs c.args.self.now c.args.i c.args.n c.requires w s) (omega (arith, one_if-most (answers_at c.args.self.now.nodes c.args.n (slice_get c.args.self.now.bag.packets c.args.i))))
 
 pub returns-in_err-answers-clause-foresees : goal.returns-in_err-answers-clause-foresees
-returns-in_err-answers-clause-foresees c = memory-foreseen c.args.self.now (Deliver c.args.i) c.from_residual.result (λ w s. (needs c.args.self.now c.args.i c.args.n c.requires w s).now) c.from_residual.ensures.1
+returns-in_err-answers-clause-foresees c = memory-foreseen c.args.self.now (Deliver c.args.i) c.from_residual.result (λ w s. (needs c.args.self.now c.args.i c.args.n c.requires w s).now) (λ w s. refl) c.from_residual.ensures.1
 
 pub returns-then-answers-clause-foresees : goal.returns-then-answers-clause-foresees
 returns-then-answers-clause-foresees c = λ w s. full-by s (needs c.args.self.now c.args.i c.args.n c.requires w s)

@@ -5,5 +5,5 @@ use Rattle.mr_world.proofs.Calling.{alone}
 use Rattle.mr_world.proofs.parts.Parts.check_step.Goals as goal
 
 pub check_send-requires : goal.check_send-requires
-check_send-requires c = alone c.args.self.now c.args.c.now c.args.fault c.in_ok-_call.ensures.lives
-    (subst (λ (o : Option StoreCall). ForeseesCall c.args.self.now c.args.c.now c.args.fault (Ok o)) c.in-None.is c.in_ok-_call.ensures.foresees)
+check_send-requires c = alone c.args.self.now c.args.c.now c.args.weather c.in_ok-_call.ensures.lives
+    (subst (λ (o : Option StoreCall). ForeseesCall c.args.self.now c.args.c.now c.args.weather (Ok o)) c.in-None.is c.in_ok-_call.ensures.foresees)

@@ -1,7 +1,7 @@
 use Rattle.std.proofs.Common.{◌≡◌, sym, ap, subst, length, is_some, IsErrAnd, arith, rules}
 use Rattle.mr_model.specs.World.{NodeRestart}
 use Rattle.mr_world.proofs.Refusals.{memory-foreseen, full-foreseen, taken-by}
-use Rattle.mr_world.proofs.Restarting.{absent, last, present, needs, told, told-by}
+use Rattle.mr_world.proofs.Restarting.{absent, last, present, needs, told, told-by, rises}
 use Rattle.mr_world.proofs.parts.Parts.restart_packets.Goals as goal
 
 pub returns-in_default-clause-foresees : goal.returns-in_default-clause-foresees
@@ -11,7 +11,7 @@ pub returns-then-incarnation-clause-foresees : goal.returns-then-incarnation-cla
 returns-then-incarnation-clause-foresees c = last c.args.self.now c.args.n c.in-Some.machine.now (sym c.in-Some.ensures) (omega (arith, c.if-incarnation.true, c.incarnation-incarnation.ensures))
 
 pub returns-in_err-packets-clause-foresees : goal.returns-in_err-packets-clause-foresees
-returns-in_err-packets-clause-foresees c = memory-foreseen c.args.self.now (NodeRestart c.args.n) c.from_residual.result (present c.args.self.now c.args.n c.in-Some.machine.now (sym c.in-Some.ensures)) c.from_residual.ensures.1
+returns-in_err-packets-clause-foresees c = memory-foreseen c.args.self.now (NodeRestart c.args.n) c.from_residual.result (present c.args.self.now c.args.n c.in-Some.machine.now (sym c.in-Some.ensures)) (rises c.args.self.now c.args.n c.in-Some.machine.now (sym c.in-Some.ensures) (search rules)) c.from_residual.ensures.1
 
 pub returns-in_err-check_room-clause-foresees : goal.returns-in_err-check_room-clause-foresees
 returns-in_err-check_room-clause-foresees c = let full = c.in_err-check_room.ensures.full in

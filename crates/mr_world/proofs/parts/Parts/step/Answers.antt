@@ -5,9 +5,9 @@ use Rattle.mr_world.proofs.Calling.{alone, call-stands}
 use Rattle.mr_world.proofs.parts.Parts.step.Goals as goal
 
 pub returns-in_ok-call_store-in-Some-clause-tries : goal.returns-in_ok-call_store-in-Some-clause-tries
-returns-in_ok-call_store-in-Some-clause-tries c = call-stands c.args.self.now c.call_store.new.self c.args.c.now c.args.fault c.in-Some.call c.in_ok-call.ensures.lives
-    (subst (λ (o : Option StoreCall). ForeseesCall c.args.self.now c.args.c.now c.args.fault (Ok o)) c.in-Some.is c.in_ok-call.ensures.foresees) c.in_ok-call_store-in-Some.ensures.ok
+returns-in_ok-call_store-in-Some-clause-tries c = call-stands c.args.self.now c.call_store.new.self c.args.c.now c.args.weather c.in-Some.call c.in_ok-call.ensures.lives
+    (subst (λ (o : Option StoreCall). ForeseesCall c.args.self.now c.args.c.now c.args.weather (Ok o)) c.in-Some.is c.in_ok-call.ensures.foresees) c.in_ok-call_store-in-Some.ensures.ok
 
 pub send_packet-requires : goal.send_packet-requires
-send_packet-requires c = alone c.args.self.now c.args.c.now c.args.fault c.in_ok-call.ensures.lives
-    (subst (λ (o : Option StoreCall). ForeseesCall c.args.self.now c.args.c.now c.args.fault (Ok o)) c.in-None.is c.in_ok-call.ensures.foresees)
+send_packet-requires c = alone c.args.self.now c.args.c.now c.args.weather c.in_ok-call.ensures.lives
+    (subst (λ (o : Option StoreCall). ForeseesCall c.args.self.now c.args.c.now c.args.weather (Ok o)) c.in-None.is c.in_ok-call.ensures.foresees)
