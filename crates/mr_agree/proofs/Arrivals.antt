@@ -32,7 +32,7 @@ use Rattle.mr_model.proofs.Wins as wins
 use Rattle.mr_model.proofs.Maps as maps
 use Rattle.mr_agree.specs.Steps.{setting}
 use Rattle.mr_agree.specs.Points.{View, Alike}
-use Rattle.mr_agree.specs.Arrivals.{at_task, attempts}
+use Rattle.mr_agree.specs.inner.Arrivals.{at_task, attempts}
 use Rattle.mr_agree.proofs.Points.{live_in, tells}
 
 -- ---- attempts of launches

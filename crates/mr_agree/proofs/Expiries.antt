@@ -35,7 +35,7 @@ use Rattle.mr_model.proofs.Made.{fitted}
 use Rattle.mr_agree.specs.Steps.{setting, step_of}
 use Rattle.mr_agree.specs.Points.{view, Alike, launch_as, refusal_as}
 use Rattle.mr_agree.specs.Begins.{attempts_in}
-use Rattle.mr_agree.specs.Arrivals.{at_task, attempts}
+use Rattle.mr_agree.specs.inner.Arrivals.{at_task, attempts}
 use Rattle.mr_agree.specs.Holds.{Holds, Kept}
 use Rattle.mr_agree.proofs.Turn.{if_cases}
 use Rattle.mr_agree.proofs.Begins.{told-is}

@@ -11,7 +11,7 @@ use Rattle.mr_model.specs.Sending.{live_of}
 use Rattle.mr_model.specs.Claims.{In}
 use Rattle.mr_model.proofs.Lists.{attempt_eq-true, attempt_eq-refl}
 use Rattle.mr_model.proofs.Names.{task_eq-true}
-use Rattle.mr_agree.specs.Arrivals.{at_task, attempts}
+use Rattle.mr_agree.specs.inner.Arrivals.{at_task, attempts}
 use Rattle.mr_agree.proofs.Launches.{Numbered}
 
 -- ---- those of a task's launches that are on a node

@@ -24,7 +24,7 @@ use Rattle.mr_model.proofs.Lists.{attempt_eq-true, In-parts}
 use Rattle.mr_agree.specs.Steps.{setting}
 use Rattle.mr_agree.specs.Points.{launch_as, in_order}
 use Rattle.mr_agree.specs.Holds.{LaunchesFound}
-use Rattle.mr_agree.specs.Arrivals.{at_task, attempts}
+use Rattle.mr_agree.specs.inner.Arrivals.{at_task, attempts}
 use Rattle.mr_agree.proofs.Early.{nat-sym, same_sym}
 use Rattle.mr_agree.proofs.Points.{task-test, job-is}
 use Rattle.mr_agree.proofs.Launches.{AllAlike, places, found-by, found-in, launched-found}

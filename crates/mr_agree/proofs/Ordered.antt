@@ -12,7 +12,7 @@ use Rattle.mr_model.specs.Ids.{bool_eq, task_eq, same_job, of_reduces}
 use Rattle.mr_model.specs.Hearing.{Launched, in_place, in_task_order}
 use Rattle.mr_model.proofs.Lists.{Each, Each-append}
 use Rattle.mr_model.proofs.Names.{task_eq-true, task_eq-refl, same_job-true}
-use Rattle.mr_agree.specs.Arrivals.{at_task}
+use Rattle.mr_agree.specs.inner.Arrivals.{at_task}
 
 -- ---- tasks in order
 

@@ -41,7 +41,7 @@ use Rattle.mr_model.proofs.Wins.{calls_agree}
 use Rattle.mr_agree.specs.Steps.{setting, step_of}
 use Rattle.mr_agree.specs.Points.{View, Alike, launch_as, in_order}
 use Rattle.mr_agree.specs.Holds.{Holds, LaunchesFound, pair_of}
-use Rattle.mr_agree.specs.Arrivals.{at_task}
+use Rattle.mr_agree.specs.inner.Arrivals.{at_task}
 use Rattle.mr_agree.proofs.Works.{runs-is}
 use Rattle.mr_agree.proofs.Points.{task-test, job-is}
 use Rattle.mr_agree.proofs.Launches.{AllAlike, found, found-in}

@@ -15,7 +15,7 @@ use Rattle.mr_agree.specs.Works.{CanBe, work_at}
 use Rattle.mr_agree.specs.Agreement.{machine_seen}
 use Rattle.mr_agree.specs.Points.{StandsAt}
 use Rattle.mr_agree.specs.Holds.{Holds}
-use Rattle.mr_agree.specs.Whole.{MasterAgrees, MastersAgree}
+use Rattle.mr_agree.specs.MastersAgree.{MasterAgrees, MastersAgree}
 use Rattle.mr_agree.proofs.Early.{Early, young-runs}
 use Rattle.mr_agree.proofs.Until.{until, sends-early}
 use Rattle.mr_agree.proofs.Points.{point}

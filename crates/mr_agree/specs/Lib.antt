@@ -6,6 +6,6 @@ pub mod Points
 pub mod Alike
 pub mod Begins
 pub mod Holds
-pub mod Arrivals
-pub mod Whole
+pub mod MastersAgree
 pub mod Stores
+pub mod inner

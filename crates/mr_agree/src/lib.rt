@@ -31,7 +31,7 @@ ghost use Rattle.mr_agree.specs.Holds.{EndsEarly, LateStepsKeep, LaunchesAgree, 
 ghost use Rattle.mr_agree.specs.Points.{PointsAgree};
 ghost use Rattle.mr_agree.specs.Recorded.{ReducesAreRecorded};
 ghost use Rattle.mr_agree.specs.Stores.{MastersGoOn, MastersSend, StoreCallsAgree};
-ghost use Rattle.mr_agree.specs.Whole.{MastersAgree};
+ghost use Rattle.mr_agree.specs.MastersAgree.{MastersAgree};
 ghost use Rattle.mr_agree.specs.Agreement.{TurnsAgree};
 
 /// Wherever a master's past has led, it acts as its machine, which has seen the same: in its phase, its next store call, its refusals, its next attempt, the

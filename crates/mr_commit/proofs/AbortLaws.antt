@@ -18,7 +18,7 @@ use Rattle.mr_commit.specs.declared.fault.CommitFault.{CommitFault}
 use Rattle.mr_commit.specs.Line.{replaced}
 use Rattle.mr_commit.specs.Line.Line.{Clears}
 use Rattle.mr_commit.specs.Steps.{after}
-use Rattle.mr_commit.specs.Whole.{going_on, run, whole, most_calls}
+use Rattle.mr_commit.specs.CommitterEffect.{going_on, run, whole, most_calls}
 use Rattle.mr_commit.specs.Laws.{IsTakenOut, AbortsLeave}
 use Rattle.mr_commit.proofs.TaskLaws.{answered_by, passed, run_end, cleared}
 

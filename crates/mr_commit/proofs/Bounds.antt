@@ -14,7 +14,7 @@ use Rattle.mr_names.specs.Held.{node_at}
 use Rattle.mr_names.specs.Listing.{children, line_of}
 use Rattle.mr_names.specs.Calls.{effect}
 use Rattle.mr_names.proofs.ContentLaws.{same, same_path, same_itself, same_or_not, get_kept, get-without}
-use Rattle.mr_commit.specs.Whole.{longest, deepest}
+use Rattle.mr_commit.specs.CommitterEffect.{longest, deepest}
 use Rattle.mr_commit.specs.Settles.{RaisesBy}
 
 -- ---- how many entries

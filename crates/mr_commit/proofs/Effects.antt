@@ -9,7 +9,7 @@ use Rattle.mr_commit.specs.declared.fault.StepDone.TheVariants as done
 use Rattle.mr_commit.specs.Line.{Line}
 use Rattle.mr_commit.specs.Steps.{step_of}
 use Rattle.mr_commit.specs.Settles.{Settles}
-use Rattle.mr_commit.specs.Whole.{Reaches, none_yet, one_more, LeadsTo, going_on, run, whole, most_calls, deepest}
+use Rattle.mr_commit.specs.CommitterEffect.{Reaches, none_yet, one_more, LeadsTo, going_on, run, whole, most_calls, deepest}
 use Rattle.mr_commit.proofs.Bounds.{shallow_first}
 use Rattle.mr_commit.proofs.Ending.{Fine, step_more}
 use Rattle.mr_commit.proofs.Wholes.{run_more, run_last, run_fault, some_calls}

@@ -29,7 +29,7 @@ use Rattle.mr_commit.specs.Line.{Line, op_of, replaced, found, listed, merging, 
 use Rattle.mr_commit.specs.Line.Line.{Does, Clears, Needs, Merges, MergesEach, MergesTasks, Seeks, Measures}
 use Rattle.mr_commit.specs.Steps.{after, step_of}
 use Rattle.mr_commit.specs.Settles.{is_single, AllSingle, RaisesBy, Raises, Settles}
-use Rattle.mr_commit.specs.Whole.{merge_calls, line_calls, most_calls}
+use Rattle.mr_commit.specs.CommitterEffect.{merge_calls, line_calls, most_calls}
 use Rattle.mr_commit.proofs.Bounds.{Bounded, stays_bounded, few_children}
 
 abbrev pub AllRaise : List Line → Type 0

@@ -33,7 +33,7 @@ use Rattle.mr_commit.specs.declared.fault.CommitFault.TheVariants as fault
 use Rattle.mr_commit.specs.Line.{Line, op_of, replaced, older, moves, fault_of, sought, before, taking_over, is_missing}
 use Rattle.mr_commit.specs.Line.Line.{Does, Clears, Seeks, Measures}
 use Rattle.mr_commit.specs.Steps.{after}
-use Rattle.mr_commit.specs.Whole.{HasEffect, going_on, run, most_calls, deepest}
+use Rattle.mr_commit.specs.CommitterEffect.{HasEffect, going_on, run, most_calls, deepest}
 use Rattle.mr_commit.specs.Recovery.{recovered, recovery_from, recover_task}
 use Rattle.mr_commit.specs.Recovered.{IsNewest, NoneEarlier, part_file, HasLength, LacksFile, HasOtherLength, IsRecovered, TasksRecover}
 use Rattle.mr_commit.proofs.TaskLaws.{Replaced, faulted_by, failed, clash, passed, run_on, run_end, cleared, not_refused, replacing}

@@ -21,7 +21,7 @@ use Rattle.mr_commit.specs.Line.Line.{Does, Clears, Needs}
 use Rattle.mr_commit.specs.Settles.{is_single}
 use Rattle.mr_commit.specs.Steps.{after}
 use Rattle.mr_commit.specs.Tables.{commit_task}
-use Rattle.mr_commit.specs.Whole.{going_on, run, whole, most_calls}
+use Rattle.mr_commit.specs.CommitterEffect.{going_on, run, whole, most_calls}
 use Rattle.mr_commit.specs.Laws.{IsCommitted}
 use Rattle.mr_commit.proofs.Ending.{single}
 

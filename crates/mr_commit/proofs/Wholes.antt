@@ -21,7 +21,7 @@ use Rattle.mr_names.specs.declared.fault.NameFault.TheVariants as names
 use Rattle.mr_names.specs.declared.op.Op.{Op}
 use Rattle.mr_names.specs.declared.op.Op.TheVariants as op
 use Rattle.mr_commit.specs.Tables.{setup_job, commit_task, abort_task, commit_job, abort_job}
-use Rattle.mr_commit.specs.Whole.{NeedsTaskCommit, has_output, Reaches, none_yet, one_more, Finishes, Commits, HasEffect, whole, run, most_calls, merge_calls, deepest}
+use Rattle.mr_commit.specs.CommitterEffect.{NeedsTaskCommit, has_output, Reaches, none_yet, one_more, Finishes, Commits, HasEffect, whole, run, most_calls, merge_calls, deepest}
 use Rattle.mr_commit.proofs.Bounds.{shallow_first}
 use Rattle.mr_commit.proofs.Steps.{fault_at-own}
 use Rattle.mr_commit.proofs.Ending.{Fine, Less, step_more}

@@ -13,7 +13,7 @@ use Rattle.mr_commit.specs.Settles.{Settles}
 use Rattle.mr_commit.specs.Line.Line.{Seeks}
 use Rattle.mr_commit.specs.Tables as tables
 use Rattle.mr_commit.specs.Tables.{setup_job, commit_task, commit_job}
-use Rattle.mr_commit.specs.Whole.{LeadsTo, whole}
+use Rattle.mr_commit.specs.CommitterEffect.{LeadsTo, whole}
 
 -- steps lead to one answer and one namespace
 abbrev pub OneResult : Type 0

@@ -1,9 +1,9 @@
 pub mod Line
 pub mod Steps
 pub mod Tables
-pub mod Whole
-pub mod TableLine
+pub mod CommitterEffect
 pub mod Settles
 pub mod Laws
 pub mod Recovery
 pub mod Recovered
+pub mod inner

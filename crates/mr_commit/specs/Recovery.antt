@@ -13,7 +13,7 @@ use Rattle.mr_commit.specs.declared.fault.StepDone.{StepDone}
 use Rattle.mr_commit.specs.Line.{Line, before}
 use Rattle.mr_commit.specs.Line.Line.{Seeks}
 use Rattle.mr_commit.specs.Steps.{next_call, Hears, Steps}
-use Rattle.mr_commit.specs.Whole.{whole, HasEffect, Commits}
+use Rattle.mr_commit.specs.CommitterEffect.{whole, HasEffect, Commits}
 
 pub data Recovery : Type 0 where
   Nowhere : Recovery  -- the first generation has no earlier one: no call is made

@@ -1,7 +1,7 @@
 ghost use Rattle.std.specs.Prelude.{◌≡◌, [], ◌∷◌, IfOk};
 ghost use Rattle.std.specs.Option.{option_copied};
 ghost use Rattle.mr_commit.specs.Steps.{next_call, Hears, Steps};
-ghost use Rattle.mr_commit.specs.Whole.{Commits, HasEffect};
+ghost use Rattle.mr_commit.specs.CommitterEffect.{Commits, HasEffect};
 ghost use Rattle.mr_commit.specs.Tables.{abort_task, abort_job};
 
 use crate::checks::heard_generation;

@@ -1,6 +1,6 @@
 ghost use Rattle.std.specs.Prelude.{◌≡◌, OnOk, IfOk, IfErr, None, Some};
 ghost use Rattle.mr_names.specs.Calls.{unheard};
-ghost use Rattle.mr_commit.specs.Whole.{NeedsTaskCommit, checked};
+ghost use Rattle.mr_commit.specs.CommitterEffect.{NeedsTaskCommit, checked};
 
 use crate::fault::CommitFault;
 use mr_ids::{AppAttempt, AttemptId};

@@ -117,7 +117,7 @@ impl Model for TableLine {
     ghost Value = { Line };
 
     ghost use Rattle.std.specs.Prelude.{◌≡◌};
-    ghost use Rattle.mr_commit.specs.TableLine.{line_of};
+    ghost use Rattle.mr_commit.specs.inner.TableLine.{line_of};
 
     ghost view = { line_of };
 

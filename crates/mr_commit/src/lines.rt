@@ -2,7 +2,7 @@ ghost use Rattle.std.specs.Prelude.{◌≡◌, [], ◌∷◌, ◌++◌, IfOk, On
 ghost use Rattle.std.specs.Option.{option_copied};
 ghost use Rattle.mr_commit.specs.Settles.{Settles};
 ghost use Rattle.mr_commit.specs.Steps.{next_call, next_passes, done_at, Hears, Steps};
-ghost use Rattle.mr_commit.specs.Whole.{Finishes, HasEffect};
+ghost use Rattle.mr_commit.specs.CommitterEffect.{Finishes, HasEffect};
 
 use crate::fault::{CommitFault, StepDone};
 use crate::line::TableLine;

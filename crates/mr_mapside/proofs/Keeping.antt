@@ -24,7 +24,7 @@ use Rattle.mr_user.proofs.Grouping.{IsRising, rising_sorted, same_values}
 use Rattle.mr_user.proofs.Rising.{rising_same}
 use Rattle.mr_mapside.specs.Block.{framed, combined_group, spelled_pair, spelled, block_of, output_of}
 use Rattle.mr_mapside.specs.Runs.{pairs_in, pairs_in_all, ArePairs, IsRun, AreRuns, merged}
-use Rattle.mr_mapside.specs.Kept.{SameValues, KeptAt, Kept}
+use Rattle.mr_mapside.specs.inner.Kept.{SameValues, KeptAt, Kept}
 use Rattle.mr_mapside.proofs.RunReading.{read_back, pairs_written}
 use Rattle.mr_mapside.proofs.RunFronts.{get-set_same, get-set_other}
 use Rattle.mr_mapside.proofs.RunMerging.{each_place}

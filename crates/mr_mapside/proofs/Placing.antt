@@ -6,7 +6,7 @@ use Rattle.std.specs.Int.{w32, from_be_bytes}
 use Rattle.std.proofs.lemmas.Bool.{eq-eqb, eqb-true, eqb-false, ne_eqb}
 use Rattle.std.proofs.lemmas.List.{take_at, drop_at, take-append-drop, length-append}
 use Rattle.mr_mapside.specs.Cutting.{parted, first_block, cut}
-use Rattle.mr_mapside.specs.Places.{at_place, IsWithin, ArePlaces}
+use Rattle.mr_mapside.specs.inner.Places.{at_place, IsWithin, ArePlaces}
 use Rattle.mr_mapside.specs.declared.cut_output.Place.{Place}
 use Rattle.mr_mapside.proofs.Cuts.{parted_is}
 

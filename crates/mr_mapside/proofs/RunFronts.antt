@@ -26,7 +26,7 @@ use Rattle.mr_mapside.specs.Runs.{pair_at, pairs_in, ArePairs, IsRun, AreRuns, p
 use Rattle.mr_user.specs.Groups.{values_of, groups_of}
 use Rattle.mr_user.specs.Meaning.{others_of}
 use Rattle.mr_user.proofs.LeastGroup.{least_first}
-use Rattle.mr_mapside.specs.Fronts.{at, left_at, front_cmp, IsFirst, AreFronts, Holds, Adds, rest_at, with_rest, NotBelow, Without, AreNotBelow, Passes}
+use Rattle.mr_mapside.specs.inner.Fronts.{at, left_at, front_cmp, IsFirst, AreFronts, Holds, Adds, rest_at, with_rest, NotBelow, Without, AreNotBelow, Passes}
 use Rattle.mr_mapside.proofs.RunReading.{first_pair, pairs_behind}
 use Rattle.mr_mapside.proofs.RunMerging.{all_joined, each_place, each_before, at_place, set_each, fails_off, passes_off, no_values, all_others, turned, not_below_first, itself_not_below, without_above}
 

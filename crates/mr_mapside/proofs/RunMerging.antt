@@ -10,7 +10,7 @@ use Rattle.std.specs.declared.cmp.Ordering.{Ordering}
 use Rattle.std.specs.declared.cmp.Ordering.TheVariants.{Less, Equal, Greater}
 use Rattle.mr_user.specs.Meaning.{others_of}
 use Rattle.mr_user.specs.Groups.{values_of}
-use Rattle.mr_mapside.specs.Fronts.{NotBelow, Without}
+use Rattle.mr_mapside.specs.inner.Fronts.{NotBelow, Without}
 
 -- lists of lists
 pub all_joined : {A B : Type 0} (P : B → Type 0) (f : A → List B) (xs : List A) → AllByRecursion (λ x. AllByRecursion P (f x)) xs → AllByRecursion P (flat_map f xs)

@@ -17,7 +17,7 @@ use Rattle.mr_user.specs.Meaning.{others_of}
 use Rattle.mr_user.proofs.Grouping.{gathered}
 use Rattle.mr_mapside.specs.declared.front.Front.{Front}
 use Rattle.mr_mapside.specs.Runs.{ArePairs, pairs_in_all, merged}
-use Rattle.mr_mapside.specs.Fronts.{front_cmp, IsFirst, Holds, Adds, rest_at, with_rest, Without, AreNotBelow, Passes, Takes}
+use Rattle.mr_mapside.specs.inner.Fronts.{front_cmp, IsFirst, Holds, Adds, rest_at, with_rest, Without, AreNotBelow, Passes, Takes}
 use Rattle.mr_mapside.proofs.RunReading.{pair_within}
 use Rattle.mr_mapside.proofs.RunFronts.{fronts_popped, pairs_left, settled, passed, least_is, not_below_kept, front_not_below, without_least, nothing_left, first_group, group_given}
 

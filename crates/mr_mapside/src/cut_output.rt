@@ -3,7 +3,7 @@ ghost use Rattle.std.specs.Prelude.{◌≡◌, ◌≤◌, length, IfOk};
 ghost use Rattle.std.specs.Option.{option_map, option_and_then};
 ghost use Rattle.std.specs.List.{slice_get};
 ghost use Rattle.mr_mapside.specs.Cutting.{cut};
-ghost use Rattle.mr_mapside.specs.Places.{ArePlaces};
+ghost use Rattle.mr_mapside.specs.inner.Places.{ArePlaces};
 
 use crate::cutting::first_block;
 use crate::output::MapOutput;
@@ -28,7 +28,7 @@ pub struct CutOutput {
 impl Model for CutOutput {
     ghost use Rattle.std.specs.Prelude.{List, ℕ};
     ghost use Rattle.std.specs.Option.{option_map};
-    ghost use Rattle.mr_mapside.specs.Places.{ArePlaces};
+    ghost use Rattle.mr_mapside.specs.inner.Places.{ArePlaces};
 
     ghost Value = { List ℕ };
 

@@ -6,7 +6,7 @@ ghost use Rattle.mr_user.specs.Faults.{RefusedIf};
 ghost use Rattle.mr_user.specs.Laws.{PairsFit};
 ghost use Rattle.mr_user.specs.Sequential.{pairs_of_split};
 ghost use Rattle.mr_mapside.specs.Block.{spelled};
-ghost use Rattle.mr_mapside.specs.Kept.{Kept};
+ghost use Rattle.mr_mapside.specs.inner.Kept.{Kept};
 
 use mr_user::{Job, MAX_SPLIT_LEN, UserFault, Wire, next_line, shares, sort_pairs};
 use std::alloc::{AllocError, Global};

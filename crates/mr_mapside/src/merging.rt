@@ -4,7 +4,7 @@ ghost use Rattle.std.specs.BinaryHeap.{heap_items};
 ghost use Rattle.mr_user.specs.Computation.{computation};
 ghost use Rattle.mr_user.specs.Faults.{BadWireIf};
 ghost use Rattle.mr_mapside.specs.Runs.{pair_at, ArePairs, AreRuns, merged, GivesGroup};
-ghost use Rattle.mr_mapside.specs.Fronts.{Adds, Holds, AreNotBelow, Takes, rest_at, with_rest};
+ghost use Rattle.mr_mapside.specs.inner.Fronts.{Adds, Holds, AreNotBelow, Takes, rest_at, with_rest};
 
 use crate::front::Front;
 use mr_user::{Job, UserFault, Wire};
@@ -152,7 +152,7 @@ impl<'a, J: Job> Model for RunGroups<'a, J> {
     ghost use Rattle.std.specs.BinaryHeap.{heap_items};
     ghost use Rattle.mr_user.specs.Computation.{computation};
     ghost use Rattle.mr_mapside.specs.Runs.{merged};
-    ghost use Rattle.mr_mapside.specs.Fronts.{Holds};
+    ghost use Rattle.mr_mapside.specs.inner.Fronts.{Holds};
 
     ghost Value = { List (J.Key × List J.Value) };
 

@@ -8,7 +8,7 @@ use Rattle.mr_paths.specs.Path.{path_cmp, path_total, path_exact, strip}
 use Rattle.mr_paths.proofs.Paths.{strip-append, append-strip}
 use Rattle.mr_names.specs.declared.node.Node.{Node}
 use Rattle.mr_names.specs.Content.{Content, within, without, without_one}
-use Rattle.mr_names.specs.Tree.{Edges, along, steps, standing, IsTold}
+use Rattle.mr_names.specs.inner.Tree.{Edges, along, steps, standing, IsTold}
 use Rattle.mr_names.proofs.ContentLaws.{get-without_one, same, same_path, get-without}
 use Rattle.mr_names.proofs.Walks.{Names, steps-append, steps-none, absent}
 

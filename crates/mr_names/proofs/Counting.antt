@@ -18,7 +18,7 @@ use Rattle.mr_paths.specs.Path.{path_cmp, path_total}
 use Rattle.mr_names.specs.declared.node.Node.{Node}
 use Rattle.mr_names.specs.declared.place.Place.{Place}
 use Rattle.mr_names.specs.Content.{Content}
-use Rattle.mr_names.specs.Tree.{Edges, steps, standing, IsTold, edges_of, nodes_of}
+use Rattle.mr_names.specs.inner.Tree.{Edges, steps, standing, IsTold, edges_of, nodes_of}
 use Rattle.mr_names.proofs.ContentLaws.{same, same_path, same_itself}
 use Rattle.mr_names.proofs.Walks.{Names, there}
 

@@ -17,7 +17,7 @@ use Rattle.mr_names.specs.declared.place.Place.{Place}
 use Rattle.mr_names.specs.declared.node.Node.{Node}
 use Rattle.mr_paths.specs.Path.{path_total, path_exact}
 use Rattle.mr_names.specs.Content.{Content, renamed, within, changed_at, changed_by, without_one}
-use Rattle.mr_names.specs.Tree.{edges_of, nodes_of, child_by, steps, along, standing, IsTold, Held, EdgeSet, SameGraph, NodeAdded, EdgeMoved, NodeChanged, NodeCut, first_of, first_by, first_edge}
+use Rattle.mr_names.specs.inner.Tree.{edges_of, nodes_of, child_by, steps, along, standing, IsTold, Held, EdgeSet, SameGraph, NodeAdded, EdgeMoved, NodeChanged, NodeCut, first_of, first_by, first_edge}
 use Rattle.mr_paths.proofs.Paths.{strip-append}
 use Rattle.mr_names.proofs.ContentLaws.{different}
 use Rattle.mr_names.proofs.Walks.{leaf_stays, absent, added_told, added_leads, moved_told, changed_told, steps-append, root_told, leaf_told}

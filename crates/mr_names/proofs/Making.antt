@@ -10,7 +10,7 @@ use Rattle.mr_names.specs.declared.node.Node.TheVariants.{Dir, File}
 use Rattle.mr_names.specs.declared.place.Place.{Place}
 use Rattle.mr_names.specs.Content.{Content, IsTree, within, without, with_dirs}
 use Rattle.mr_names.specs.Held.{is_absent, missing_count}
-use Rattle.mr_names.specs.Tree.{Edges, along, steps, standing, edges_of, nodes_of, IsTold, NodeAdded, SameGraph, HasRoom, DirsAdded, SomeAdded, paths_down}
+use Rattle.mr_names.specs.inner.Tree.{Edges, along, steps, standing, edges_of, nodes_of, IsTold, NodeAdded, SameGraph, HasRoom, DirsAdded, SomeAdded, paths_down}
 use Rattle.mr_names.proofs.ContentLaws.{get-without, get_kept, drop-prefixes, none_left, there_first, count_first, counted}
 use Rattle.mr_names.proofs.Walks.{Names, steps-append}
 use Rattle.mr_names.proofs.Beneath.{all_gone}

@@ -6,7 +6,7 @@ use Rattle.mr_paths.specs.Path.{path_cmp, path_total, strip}
 use Rattle.mr_paths.proofs.Paths.{strip-append, append-strip}
 use Rattle.mr_names.specs.declared.node.Node.{Node}
 use Rattle.mr_names.specs.Content.{Content, within, without_one, renamed, renamed_at_by}
-use Rattle.mr_names.specs.Tree.{Edges, along, steps, standing, IsTold}
+use Rattle.mr_names.specs.inner.Tree.{Edges, along, steps, standing, IsTold}
 use Rattle.mr_names.proofs.ContentLaws.{get-without_one, same, same_path, same_itself, same_from, get-renamed}
 
 abbrev pub Names : Type 0

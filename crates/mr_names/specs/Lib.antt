@@ -5,8 +5,7 @@ pub mod Laws
 pub mod Listing
 pub mod Node
 pub mod Rows
-pub mod Tree
-pub mod TreeProofs
 pub mod Walk
 pub mod Attempts
 pub mod Barred
+pub mod inner

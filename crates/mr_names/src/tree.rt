@@ -2,8 +2,8 @@ ghost use Rattle.std.specs.Prelude.{◌≡◌, ◌+◌, ℕ, [], ◌∷◌, ◌+
 ghost use Rattle.std.specs.Prelude.{map as list_map};
 ghost use Rattle.std.specs.FinMap as map;
 ghost use Rattle.std.specs.Option.{option_copied};
-ghost use Rattle.mr_names.specs.Tree.{Held};
-ghost use Rattle.mr_names.specs.TreeProofs.{held_prop};
+ghost use Rattle.mr_names.specs.inner.Tree.{Held};
+ghost use Rattle.mr_names.specs.inner.TreeProofs.{held_prop};
 ghost use Rattle.mr_names.specs.Content.{IsTree, without, renamed, changed_at, with_dirs};
 ghost use Rattle.mr_names.specs.Node.{appended, closed_of};
 ghost use Rattle.mr_names.specs.Laws.{MayRename};

@@ -8,7 +8,7 @@ use Rattle.mr_mapside.specs.declared.fault.ShuffleFault.{ShuffleFault}
 use Rattle.mr_mapside.specs.declared.fault.ShuffleFault.TheVariants as shuffle
 use Rattle.mr_shuffle.specs.declared.piece.Piece.{Piece}
 use Rattle.mr_shuffle.specs.Part.{result_map, first_then, pairs_of_piece, pairs_of_pieces, pairs_of_all}
-use Rattle.mr_shuffle.specs.Fault.{ReadFaultIs}
+use Rattle.mr_shuffle.specs.inner.Fault.{ReadFaultIs}
 use Rattle.mr_shuffle.specs.Work.{bytes_of, in_work, ReduceFaultIs}
 use Rattle.mr_mapside.specs.declared.fault.WorkFault.{WorkFault}
 use Rattle.mr_mapside.specs.declared.fault.WorkFault.TheVariants as work

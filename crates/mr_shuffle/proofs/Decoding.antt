@@ -7,7 +7,7 @@ use Rattle.mr_user.specs.Laws.{CodecLaws}
 use Rattle.mr_user.specs.Faults.{BadWireIf}
 use Rattle.mr_user.specs.declared.fault.UserFault.{UserFault}
 use Rattle.mr_user.specs.declared.fault.UserFault.TheVariants as user
-use Rattle.mr_shuffle.specs.Fault.{ReadFaultIs, read_fault}
+use Rattle.mr_shuffle.specs.inner.Fault.{ReadFaultIs, read_fault}
 use Rattle.mr_mapside.specs.declared.fault.ShuffleFault.{ShuffleFault}
 use Rattle.mr_mapside.specs.declared.fault.ShuffleFault.TheVariants.{Truncated, Disorder}
 use Rattle.mr_mapside.specs.Runs.{pair_at}

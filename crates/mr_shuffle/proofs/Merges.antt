@@ -5,7 +5,7 @@ use Rattle.mr_user.specs.Computation.{Computation}
 use Rattle.mr_user.specs.Groups.{groups_of}
 use Rattle.mr_mapside.specs.declared.fault.ShuffleFault.{ShuffleFault}
 use Rattle.mr_mapside.specs.declared.fault.ShuffleFault.TheVariants as shuffle
-use Rattle.mr_shuffle.specs.Fault.{ReadFaultIs}
+use Rattle.mr_shuffle.specs.inner.Fault.{ReadFaultIs}
 use Rattle.mr_shuffle.specs.Part.{result_map, first_then, pairs_of_piece, pairs_of_pieces, pairs_of_all}
 use Rattle.mr_shuffle.specs.Merging.{items_of, HasFault, IsMergeOf}
 

@@ -3,7 +3,7 @@ ghost use Rattle.std.specs.Prelude.{◌≡◌, None, OnOk, IfErr};
 ghost use Rattle.std.specs.Result.{result_err};
 ghost use Rattle.mr_user.specs.Computation.{computation};
 ghost use Rattle.mr_shuffle.specs.Part.{goes_down, pairs_of_piece};
-ghost use Rattle.mr_shuffle.specs.Fault.{ReadFaultIs, read_fault};
+ghost use Rattle.mr_shuffle.specs.inner.Fault.{ReadFaultIs, read_fault};
 
 use mr_mapside::{ShuffleFault, read_pair};
 use mr_user::{Job, UserFault};

@@ -7,7 +7,7 @@ ghost use Rattle.mr_user.specs.Groups.{groups_of};
 ghost use Rattle.mr_user.specs.Sequential.{key_lines};
 ghost use Rattle.mr_mapside.specs.Work.{FullIf};
 ghost use Rattle.mr_shuffle.specs.Part.{result_map, pairs_of_pieces, pairs_of_all, part};
-ghost use Rattle.mr_shuffle.specs.Fault.{ReadFaultIs};
+ghost use Rattle.mr_shuffle.specs.inner.Fault.{ReadFaultIs};
 ghost use Rattle.mr_shuffle.specs.Work.{bytes_of, ArePiecesOf, ReduceFaultIs, in_work};
 
 use crate::piece::{Piece, are_pieces_of};

@@ -12,7 +12,7 @@ use Rattle.mr_sim.specs.declared.submission.JobKind.{JobKind}
 use Rattle.mr_sim.specs.EventNames.{stops_at}
 use Rattle.mr_sim.specs.Play.{job_as}
 use Rattle.mr_sim.specs.Played.{calmed_by, calms, cursor_at, is_through, most_calm, next_of}
-use Rattle.mr_sim.specs.Player.{calm_of, cluster_in, made_then, names_of, next_in, state_in, CalmsOnce, FullWhere, MakesNext, Reaches, SameJob}
+use Rattle.mr_sim.specs.inner.Player.{calm_of, cluster_in, made_then, names_of, next_in, state_in, CalmsOnce, FullWhere, MakesNext, Reaches, SameJob}
 
 names_are : (p : Player) (k : ℕ) (c : Coming) → (next_in p k c).names ≡ names_of c
 names_are p k coming.Deliver = refl

@@ -24,7 +24,7 @@ use Rattle.mr_sim.specs.declared.calm.Coming.{Coming}
 use Rattle.mr_sim.specs.declared.calm.Coming.TheVariants as coming
 use Rattle.mr_sim.specs.EventNames.{duty_event, wish_event}
 use Rattle.mr_sim.specs.Played.{Next, computing, cursor_at, has_ended, is_through, next_duty, next_launch, next_of, next_step, passed, stepping}
-use Rattle.mr_sim.specs.Player.{next_as}
+use Rattle.mr_sim.specs.inner.Player.{next_as}
 use Rattle.mr_sim.proofs.Calming.{all_pass, next_has}
 
 some_is : {A : Type 0} (x y : A) → Some x ≡ Some y → x ≡ y

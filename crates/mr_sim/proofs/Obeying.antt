@@ -10,7 +10,7 @@ use Rattle.mr_commit.specs.declared.fault.CommitFault.{CommitFault}
 use Rattle.mr_commit.specs.declared.fault.CommitFault.TheVariants as fault
 use Rattle.mr_commit.specs.Line.{Line}
 use Rattle.mr_commit.specs.Recovery.{Recovery, Nowhere, Left, recovered, RecoveryHas}
-use Rattle.mr_commit.specs.Whole.{whole, has_output, HasEffect, NeedsTaskCommit}
+use Rattle.mr_commit.specs.CommitterEffect.{whole, has_output, HasEffect, NeedsTaskCommit}
 use Rattle.mr_sim.specs.declared.order.Order.{Order}
 use Rattle.mr_sim.specs.declared.scene.Scene.{Scene}
 use Rattle.mr_sim.specs.declared.scene.Reply.{Reply}

@@ -11,7 +11,7 @@ use Rattle.mr_sim.specs.declared.player.Player.{Player}
 use Rattle.mr_sim.specs.declared.submission.JobKind.{JobKind}
 use Rattle.mr_sim.specs.Play.{job_as}
 use Rattle.mr_sim.specs.Played.{Played, obeyed, played}
-use Rattle.mr_sim.specs.Player.{state_in, FullWhere, Goes, Reaches}
+use Rattle.mr_sim.specs.inner.Player.{state_in, FullWhere, Goes, Reaches}
 use Rattle.mr_sim.proofs.Calmly.{full_then}
 use Rattle.mr_sim.proofs.Playing.{played_then}
 

@@ -9,7 +9,7 @@ use Rattle.mr_sim.specs.declared.player.Player.{Player}
 use Rattle.mr_sim.specs.declared.submission.Submission.{Submission}
 use Rattle.mr_sim.specs.Play.{config_of, job_as, played_of}
 use Rattle.mr_sim.specs.Played.{begun, played}
-use Rattle.mr_sim.specs.Player.{FullWhere, state_in}
+use Rattle.mr_sim.specs.inner.Player.{FullWhere, state_in}
 
 -- what a player that begins makes of commands is what is made of them in the cluster of its job
 pub from-begin : (job : Submission) (cs : List (ℕ × Command)) (p : Player) → p.job ≡ job.job → p.world.config ≡ config_of job → state_in p ≡ begun

@@ -5,7 +5,7 @@ use Rattle.mr_sim.specs.declared.order.Order.{Order}
 use Rattle.mr_sim.specs.declared.order.Order.TheVariants.{As, Raise, Check, Setup, Write, Needs, Commit, Abort, Recover, CommitJob, AbortJob, Bar, By}
 use Rattle.mr_script.specs.Lines.{before, after, lines_of}
 use Rattle.mr_sim.specs.Script.{attempt_word, task_word, line_of, IsCommand, IsLine}
-use Rattle.mr_sim.specs.Verb.{verb_of, rest_of}
+use Rattle.mr_sim.specs.inner.Verb.{verb_of, rest_of}
 use Rattle.mr_sim.specs.Laws.{OneReading, ReadOrBad, OneFirstBad}
 use Rattle.mr_script.proofs.Lines.{same-lines, not-both, same-first}
 use Rattle.mr_script.proofs.Words.{before-by, after-by, none-after}

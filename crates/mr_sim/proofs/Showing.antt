@@ -11,8 +11,8 @@ use Rattle.mr_sim.specs.declared.player.Player.{Player}
 use Rattle.mr_sim.specs.declared.submission.Submission.{Submission}
 use Rattle.mr_sim.specs.JobText.{submission_of}
 use Rattle.mr_sim.specs.Play.{job_line, script_lines, world_text}
-use Rattle.mr_sim.specs.Player.{state_in}
-use Rattle.mr_sim.specs.Plays.{HasPlayed, HasPrinted}
+use Rattle.mr_sim.specs.inner.Player.{state_in}
+use Rattle.mr_sim.specs.inner.PlaySteps.{HasPlayed, HasPrinted}
 use Rattle.mr_sim.specs.Shown.{AddsSegments, HasText, IsHistory, IsSegment, Shows, segment_text, text_in}
 
 -- one segment more was written

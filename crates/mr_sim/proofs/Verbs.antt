@@ -6,7 +6,7 @@ use Rattle.mr_script.specs.Lines.{before, after}
 use Rattle.mr_sim.specs.declared.order.Order.{Order}
 use Rattle.mr_sim.specs.declared.order.Order.TheVariants.{As, Raise, Check, Setup, Write, Needs, Commit, Abort, Recover, CommitJob, AbortJob, Bar, By}
 use Rattle.mr_sim.specs.Script.{line_of, IsCommand, IsBad}
-use Rattle.mr_sim.specs.Verb.{verb_text, verb_of, rest_of}
+use Rattle.mr_sim.specs.inner.Verb.{verb_text, verb_of, rest_of}
 
 pub first-line_of : (o : Order) → before 32 (line_of o) ≡ verb_text (verb_of o)
 first-line_of (As k) = refl

@@ -29,7 +29,7 @@ use Rattle.mr_model.specs.Sequential.{Split, Pieces, given, input_at, input_of, 
 use Rattle.mr_sequential.specs.Jobs.{ok_of}
 use Rattle.mr_world.specs.Ranges.{IsInRange}
 use Rattle.mr_world.specs.Readings.{input_in}
-use Rattle.mr_sim.specs.Player.{IsShort, Works}
+use Rattle.mr_sim.specs.inner.Player.{IsShort, Works}
 
 -- ---- what a work answers
 

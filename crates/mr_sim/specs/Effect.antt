@@ -15,7 +15,7 @@ use Rattle.mr_commit.specs.declared.fault.CommitFault.TheVariants as fault
 use Rattle.mr_commit.specs.Line.{fault_of}
 use Rattle.mr_commit.specs.Tables.{setup_job, commit_task, abort_task, commit_job, abort_job}
 use Rattle.mr_commit.specs.Recovery.{recovered, recover_task}
-use Rattle.mr_commit.specs.Whole.{whole, has_output, checked}
+use Rattle.mr_commit.specs.CommitterEffect.{whole, has_output, checked}
 use Rattle.mr_sim.specs.declared.order.Order.{Order}
 use Rattle.mr_sim.specs.declared.order.Order.TheVariants.{As, Raise, Check, Setup, Write, Needs, Commit, Abort, Recover, CommitJob, AbortJob, Bar, By}
 use Rattle.mr_sim.specs.declared.scene.Scene.{Scene}

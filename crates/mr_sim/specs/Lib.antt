@@ -10,11 +10,9 @@ pub mod Play
 pub mod PlayLaws
 pub mod PlayRows
 pub mod Played
-pub mod Player
-pub mod Plays
 pub mod Printed
 pub mod Script
 pub mod Seq
 pub mod Shown
 pub mod Submission
-pub mod Verb
+pub mod inner

@@ -8,7 +8,7 @@ ghost use Rattle.mr_sim.specs.declared.fault.SimFault.TheVariants.{NoMemory};
 ghost use Rattle.mr_sim.specs.EventNames.{stops_at};
 ghost use Rattle.mr_sim.specs.Play.{job_as};
 ghost use Rattle.mr_sim.specs.Played.{cursor_at, is_through, most_calm, next_of, next_step};
-ghost use Rattle.mr_sim.specs.Player.{calm_of, cluster_in, next_in, CalmsOnce, Goes, HappensAs, MakesNext, names_of};
+ghost use Rattle.mr_sim.specs.inner.Player.{calm_of, cluster_in, next_in, CalmsOnce, Goes, HappensAs, MakesNext, names_of};
 
 use crate::event_names::{duty_event, wish_event};
 use crate::fault::SimFault;

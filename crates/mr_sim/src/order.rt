@@ -4,7 +4,7 @@ ghost use Rattle.mr_ids.specs.Attempt.{Attempt};
 ghost use Rattle.mr_ids.specs.Text.{IsTask, IsAttempt};
 ghost use Rattle.mr_sim.specs.Script.{attempt_word, task_word, caller_word, IsCaller, IsCommand, IsLine, IsBad};
 ghost use Rattle.mr_sim.specs.Script.{NamesNone};
-ghost use Rattle.mr_sim.specs.Verb.{verb_of, verb_text, rest_of};
+ghost use Rattle.mr_sim.specs.inner.Verb.{verb_of, verb_text, rest_of};
 
 use mr_ids::{AppAttempt, AttemptId, TaskId, TaskKind};
 use mr_names::Bytes;

@@ -3,7 +3,7 @@ ghost use Rattle.std.specs.Prelude.{◌≡◌, [], ◌∷◌, Some, OnOk, IfOk, 
 ghost use Rattle.mr_sim.specs.declared.fault.SimFault.TheVariants.{NoMemory};
 ghost use Rattle.mr_sim.specs.Play.{config_of, job_as, played_of};
 ghost use Rattle.mr_sim.specs.Played.{begun, computing, made, obeyed, played, stepped_by};
-ghost use Rattle.mr_sim.specs.Player.{cluster_in, state_in, Goes, IsEvent, Takes};
+ghost use Rattle.mr_sim.specs.inner.Player.{cluster_in, state_in, Goes, IsEvent, Takes};
 ghost use Rattle.mr_sim.specs.Submission.{IsWithinLimits};
 ghost use Rattle.mr_world.specs.Limits.{within};
 

@@ -11,7 +11,7 @@ ghost use Rattle.mr_user.specs.Computation.{computation};
 ghost use Rattle.mr_world.specs.Readings.{as_input};
 ghost use Rattle.mr_sim.specs.Play.{job_as};
 ghost use Rattle.mr_sim.specs.Played.{computed_of};
-ghost use Rattle.mr_sim.specs.Player.{IsEvent, IsShort, Works};
+ghost use Rattle.mr_sim.specs.inner.Player.{IsEvent, IsShort, Works};
 
 use crate::fault::SimFault;
 use crate::submission::JobKind;

@@ -3,10 +3,10 @@ ghost use Rattle.std.specs.Prelude.{◌≡◌, ◌++◌, Ok, map, IfOk, IfErr, O
 ghost use Rattle.std.specs.List.{flat_map};
 ghost use Rattle.mr_world.specs.declared.fault.WorldFault.TheVariants as world;
 ghost use Rattle.mr_world.specs.Journal.{world_in};
-ghost use Rattle.mr_world.specs.Seen.{as_pair};
+ghost use Rattle.mr_world.specs.VisibleFiles.{as_pair};
 ghost use Rattle.mr_sim.specs.declared.fault.SimFault.TheVariants.{NoMemory};
 ghost use Rattle.mr_sim.specs.Play.{line_of_marker, line_of_outcome, line_of_winner, visible_text, world_text};
-ghost use Rattle.mr_sim.specs.Plays.{winners_text};
+ghost use Rattle.mr_sim.specs.inner.PlaySteps.{winners_text};
 
 use crate::fault::SimFault;
 use crate::part_files::print_file;

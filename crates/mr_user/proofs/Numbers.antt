@@ -9,7 +9,7 @@ use Rattle.std.proofs.lemmas.Str.{IsUtf8-from_ascii}
 use Rattle.std.proofs.lemmas.Str.Parse.{IsNumeralModel, numerals_by_value, parse_digits}
 use Rattle.std.proofs.lemmas.List.{take_more}
 use Rattle.mr_user.specs.MaxByKey.{number_of, greatest}
-use Rattle.mr_user.specs.MaxByKeyProofs.{greatest-append}
+use Rattle.mr_user.specs.inner.MaxByKeyProofs.{greatest-append}
 
 own : IsNumeralModel (λ ds. list_all is_ascii_digit ds ≡ true) (digits_value 10)
 own = numerals_by_value _ (search rules)

@@ -20,7 +20,7 @@ use Rattle.std.specs.Ordering.{eq_by_cmp, is_eq, match_ordering, ordering_revers
 use Rattle.std.specs.declared.cmp.Ordering.{Ordering}
 use Rattle.std.specs.declared.cmp.Ordering.TheVariants.{Less, Equal, Greater}
 use Rattle.mr_user.specs.Computation.{Computation}
-use Rattle.mr_user.specs.Gathered.{IsGathered, put_pair}
+use Rattle.mr_user.specs.inner.Gathered.{IsGathered, put_pair}
 use Rattle.mr_user.specs.Groups.{groups_of, values_of}
 use Rattle.mr_user.specs.Sequential.{both, lines_of, pairs_of_lines, pairs_of_split, pairs_of_splits, part_of, key_lines, text_of}
 use Rattle.mr_user.proofs.Rising.{map-append, units, any-rising, apart_sorted, rising_same, and_right}

@@ -3,7 +3,7 @@ ghost use Rattle.std.specs.Option.{option_map};
 ghost use Rattle.mr_user.specs.Computation.{computation};
 ghost use Rattle.mr_user.specs.Sequential.{pairs_of_splits, part_of, key_lines, output};
 ghost use Rattle.mr_user.specs.Faults.{RefusedIf};
-ghost use Rattle.mr_user.specs.Gathered.{IsGathered};
+ghost use Rattle.mr_user.specs.inner.Gathered.{IsGathered};
 
 use crate::fault::UserFault;
 use crate::gathering::{Gathered, gather_split, no_groups};

@@ -3,7 +3,7 @@ ghost use Rattle.std.specs.Prelude.{◌≡◌, ◌<◌, ◌≤◌, ◌++◌, Lis
 ghost use Rattle.std.specs.List.{flat_map};
 ghost use Rattle.mr_user.specs.Computation.{computation};
 ghost use Rattle.mr_user.specs.Faults.{RefusedIf};
-ghost use Rattle.mr_user.specs.Gathered.{IsGathered, put_pair};
+ghost use Rattle.mr_user.specs.inner.Gathered.{IsGathered, put_pair};
 ghost use Rattle.mr_user.specs.Sequential.{key_lines, pairs_of_split};
 
 use crate::execution::{MAX_SPLIT_LEN, write_lines};

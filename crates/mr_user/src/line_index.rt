@@ -2,7 +2,7 @@ ghost use Rattle.std.specs.Prelude.{◌≡◌, ◌≤◌, ◌^◌, ◌++◌, len
 ghost use Rattle.std.specs.List.{join_with_byte};
 ghost use Rattle.mr_user.specs.Words.{words_of};
 ghost use Rattle.mr_user.specs.LineIndex.{line_index, position_text};
-ghost use Rattle.mr_user.specs.LineIndexProofs.{line_index_laws};
+ghost use Rattle.mr_user.specs.inner.LineIndexProofs.{line_index_laws};
 
 use crate::fault::UserFault;
 use crate::job::Job;

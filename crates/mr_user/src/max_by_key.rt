@@ -4,7 +4,7 @@ ghost use Rattle.std.specs.Char.{is_ascii_digit};
 ghost use Rattle.mr_user.specs.Faults.{RefusedIf};
 ghost use Rattle.mr_user.specs.Words.{words_of};
 ghost use Rattle.mr_user.specs.MaxByKey.{max_by_key, numbered, number_of, greatest};
-ghost use Rattle.mr_user.specs.MaxByKeyProofs.{max_by_key_laws};
+ghost use Rattle.mr_user.specs.inner.MaxByKeyProofs.{max_by_key_laws};
 
 use crate::fault::UserFault;
 use crate::job::Job;

@@ -1,6 +1,6 @@
 ghost use Rattle.std.specs.Prelude.{◌≡◌, ◌++◌, ◌≤◌, ◌<◌, length, Some, None, IfOk, IfErr, OnOk, IsTrue};
 ghost use Rattle.mr_user.specs.Codecs.{position_codec};
-ghost use Rattle.mr_user.specs.CodecProofs.{position_laws};
+ghost use Rattle.mr_user.specs.inner.CodecProofs.{position_laws};
 
 use crate::fault::UserFault;
 use crate::wire::Wire;

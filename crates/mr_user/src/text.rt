@@ -5,7 +5,7 @@ ghost use Rattle.std.specs.Cmp.Lexicographic.{pointwise, slice_cmp, nat_list_cmp
 ghost use Rattle.std.specs.Ordering.{nat_cmp};
 ghost use Rattle.mr_user.specs.Codecs.{text_codec};
 ghost use Rattle.mr_user.specs.Laws.{AreBytes};
-ghost use Rattle.mr_user.specs.CodecProofs.{text_laws};
+ghost use Rattle.mr_user.specs.inner.CodecProofs.{text_laws};
 
 use crate::fault::UserFault;
 use crate::wire::Wire;

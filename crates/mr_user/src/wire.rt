@@ -3,7 +3,7 @@ ghost use Rattle.mr_user.specs.Computation.{Codec};
 ghost use Rattle.mr_user.specs.Laws.{CodecLaws};
 ghost use Rattle.mr_user.specs.Codecs.{number_codec};
 ghost use Rattle.mr_user.specs.Faults.{BadWireIf};
-ghost use Rattle.mr_user.specs.CodecProofs.{number_laws};
+ghost use Rattle.mr_user.specs.inner.CodecProofs.{number_laws};
 
 use crate::fault::UserFault;
 use std::alloc::{AllocError, Global};

@@ -1,7 +1,7 @@
 ghost use Rattle.std.specs.Prelude.{◌≡◌, ◌≤◌, ◌^◌, length, map, IfOk};
 ghost use Rattle.mr_user.specs.Words.{words_of};
 ghost use Rattle.mr_user.specs.WordCount.{word_count, held_sum};
-ghost use Rattle.mr_user.specs.WordCountProofs.{word_count_laws};
+ghost use Rattle.mr_user.specs.inner.WordCountProofs.{word_count_laws};
 
 use crate::fault::UserFault;
 use crate::job::Job;

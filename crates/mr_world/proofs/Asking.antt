@@ -36,8 +36,8 @@ use Rattle.mr_world.specs.declared.fault.WorldFault.{WorldFault}
 use Rattle.mr_world.specs.declared.fault.WorldFault.TheVariants as fault
 use Rattle.mr_world.specs.declared.masters.Masters.{Masters}
 use Rattle.mr_world.specs.declared.parts.Parts.{Parts}
-use Rattle.mr_world.specs.Asking.{answer_to, names_after, history_after, passes, IsRanged, HasAsked, IsForeseen, RefusesDuty, ForeseesDuty, SendsThen}
-use Rattle.mr_world.specs.Duties.{IsDue, HasDuty, IsSet, HasTold, MakesReady, says_then, fits_then}
+use Rattle.mr_world.specs.inner.Asking.{answer_to, names_after, history_after, passes, IsRanged, HasAsked, IsForeseen, RefusesDuty, ForeseesDuty, SendsThen}
+use Rattle.mr_world.specs.inner.Duties.{IsDue, HasDuty, IsSet, HasTold, MakesReady, says_then, fits_then}
 use Rattle.mr_world.specs.Limits.{within, fits_bag, fits_store}
 use Rattle.mr_world.specs.Machines.{master_of}
 use Rattle.mr_world.specs.Standing.{Standing, Reached, IsTaken, Refuses, RefusesEvent, Foresees, Tries}

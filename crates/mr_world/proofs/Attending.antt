@@ -29,9 +29,9 @@ use Rattle.mr_world.specs.declared.fault.WorldFault.{WorldFault}
 use Rattle.mr_world.specs.declared.fault.WorldFault.TheVariants as fault
 use Rattle.mr_world.specs.declared.masters.Masters.{Masters}
 use Rattle.mr_world.specs.declared.parts.Parts.{Parts}
-use Rattle.mr_world.specs.Duties.{IsKept, IsMadeReady, IsReadyAt, HasHeard, HasTold, MakesReady, says_then, fits_then}
+use Rattle.mr_world.specs.inner.Duties.{IsKept, IsMadeReady, IsReadyAt, HasHeard, HasTold, MakesReady, says_then, fits_then}
 use Rattle.mr_world.specs.Machines.{master_of}
-use Rattle.mr_world.specs.Masters.{Ceases, Returns}
+use Rattle.mr_world.specs.inner.Masters.{Ceases, Returns}
 use Rattle.mr_world.specs.Limits.{within, fits_bag, fits_call, fits_store, launch_count}
 use Rattle.mr_world.specs.Standing.{Standing, Reached, IsTaken, Refuses}
 use Rattle.mr_world.proofs.Refusals.{refuses-full, refuses-memory}

@@ -36,8 +36,8 @@ use Rattle.mr_world.specs.declared.parts.Parts.{Parts}
 use Rattle.mr_world.specs.declared.call.StoreCall.{StoreCall}
 use Rattle.mr_world.specs.declared.fault.WorldFault.{WorldFault}
 use Rattle.mr_world.specs.declared.fault.WorldFault.TheVariants as fault
-use Rattle.mr_world.specs.Calling.{is_call, is_made, step_fault, permitted, ForeseesCall, HasCalled}
-use Rattle.mr_world.specs.Letters.{IsAlone}
+use Rattle.mr_world.specs.inner.Calling.{is_call, is_made, step_fault, permitted, ForeseesCall, HasCalled}
+use Rattle.mr_world.specs.inner.Letters.{IsAlone}
 use Rattle.mr_world.specs.Living.{kept, Changes}
 use Rattle.mr_world.specs.Limits.{within, fits_bag, fits_call, is_full, barred_of}
 use Rattle.mr_world.specs.Standing.{Standing, IsTaken, Refuses, RefusesEvent}

@@ -30,7 +30,7 @@ use Rattle.mr_world.specs.declared.fault.WorldFault.TheVariants as fault
 use Rattle.mr_world.specs.declared.living.Living.{Living}
 use Rattle.mr_world.specs.declared.nodes.Nodes.{Nodes}
 use Rattle.mr_world.specs.declared.parts.Parts.{Parts}
-use Rattle.mr_world.specs.Computing.{fault_by, bytes_fault, unless_fault, Computes}
+use Rattle.mr_world.specs.inner.Computing.{fault_by, bytes_fault, unless_fault, Computes}
 use Rattle.mr_world.specs.Living.{kept, Changes, stepped}
 use Rattle.mr_world.specs.Limits.{within, fits_bytes, fits_bag, fits_at_once}
 use Rattle.mr_world.specs.Machines.{node_of, node_stepped, ChangesNode, SameNodes}

@@ -14,7 +14,7 @@ use Rattle.mr_agree.proofs.Stores.{masters_go_on}
 use Rattle.mr_world.specs.declared.masters.Masters.{Masters}
 use Rattle.mr_world.specs.declared.parts.Parts.{Parts}
 use Rattle.mr_world.specs.Machines.{master_of}
-use Rattle.mr_world.specs.Masters.{Ceases}
+use Rattle.mr_world.specs.inner.Masters.{Ceases}
 use Rattle.mr_world.specs.Limits.{within}
 use Rattle.mr_world.specs.Standing.{Standing, Reached, IsTaken, MastersStand}
 use Rattle.mr_world.proofs.Bounds.{small, within-is}

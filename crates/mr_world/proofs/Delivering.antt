@@ -9,7 +9,7 @@ use Rattle.mr_model.specs.Effect.{not_now, NoPacket}
 use Rattle.mr_world.specs.declared.deliver.Addressee.TheVariants.{Nobody}
 use Rattle.mr_world.specs.declared.fault.WorldFault.TheVariants as fault
 use Rattle.mr_world.specs.declared.parts.Parts.{Parts}
-use Rattle.mr_world.specs.Addressees.{named, whom}
+use Rattle.mr_world.specs.inner.Addressees.{named, whom}
 use Rattle.mr_world.specs.Standing.{Standing, RefusesEvent}
 use Rattle.mr_world.proofs.Refusals.{refuses-now}
 

@@ -10,7 +10,7 @@ use Rattle.std.specs.Map.{keys_of, lookup}
 use Rattle.mr_container.specs.State.{Container}
 use Rattle.mr_model.specs.Ids.{ContainerId}
 use Rattle.mr_world.specs.Living.{container_cmp}
-use Rattle.mr_world.specs.Restarting.{stays, unless_on}
+use Rattle.mr_world.specs.inner.Restarting.{stays, unless_on}
 
 total : IsTotalOrder container_cmp
 total = then_total (on_total (λ (c : ContainerId). c.app) nat_cmp_total) (on_total (λ (c : ContainerId). c.number) nat_cmp_total)

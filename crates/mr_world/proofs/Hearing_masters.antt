@@ -21,7 +21,7 @@ use Rattle.mr_world.proofs.Launching.{still}
 use Rattle.mr_world.specs.declared.masters.Masters.{Masters}
 use Rattle.mr_world.specs.declared.parts.Parts.{Parts}
 use Rattle.mr_world.specs.Machines.{master_of}
-use Rattle.mr_world.specs.Masters.{Ceases, Returns}
+use Rattle.mr_world.specs.inner.Masters.{Ceases, Returns}
 use Rattle.mr_world.specs.Limits.{within, fits_bag, launch_count}
 use Rattle.mr_world.specs.Standing.{Standing, Reached, IsTaken, IsTo, RefusesEvent}
 use Rattle.mr_world.proofs.Refusals.{NeedsRoom, refuses-now, lacks-memory}

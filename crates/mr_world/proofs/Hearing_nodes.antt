@@ -38,8 +38,8 @@ use Rattle.mr_world.specs.declared.parts.Parts.{Parts}
 use Rattle.mr_world.specs.Living.{kept, one_if, Same}
 use Rattle.mr_world.specs.Limits.{within, fits_bag}
 use Rattle.mr_world.specs.Machines.{node_of, node_stepped, reaction_of, ChangesNode, SameNodes}
-use Rattle.mr_world.specs.Serving.{added_by, begun_by, served, BeginsAnew, Serves}
-use Rattle.mr_world.specs.Replying.{answers_at}
+use Rattle.mr_world.specs.inner.Serving.{added_by, begun_by, served, BeginsAnew, Serves}
+use Rattle.mr_world.specs.inner.Replying.{answers_at}
 use Rattle.mr_world.specs.Standing.{Standing, IsTaken, IsTo, LivingStand}
 use Rattle.mr_world.proofs.Frames.{rests, nodes-moved}
 use Rattle.mr_world.proofs.Refusals.{NeedsRoom}

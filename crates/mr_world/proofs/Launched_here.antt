@@ -19,7 +19,7 @@ use Rattle.mr_world.specs.declared.living.Living.{Living}
 use Rattle.mr_world.specs.declared.nodes.Nodes.{Nodes}
 use Rattle.mr_world.specs.Living.{kept, Changes}
 use Rattle.mr_world.specs.Machines.{node_of, reaction_of}
-use Rattle.mr_world.specs.Serving.{begun_at, served, BeginsAnew}
+use Rattle.mr_world.specs.inner.Serving.{begun_at, served, BeginsAnew}
 
 -- a launch begins its own container, for its own attempt, or none
 by-tests : (known same : Bool) (c e : ContainerId) (a b : Attempt) (x : Envelope) → Starts e b ≡ (if known then Nothing else if same then Starts c a else Adds x) → (e ≡ c) × (b ≡ a)

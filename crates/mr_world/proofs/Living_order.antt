@@ -25,7 +25,7 @@ use Rattle.mr_model.proofs.Ranges.{always-placed}
 use Rattle.mr_world.specs.declared.parts.Parts.{Parts}
 use Rattle.mr_world.specs.Limits.{within}
 use Rattle.mr_world.specs.Living.{container_cmp, kept}
-use Rattle.mr_world.specs.Order.{in_order}
+use Rattle.mr_world.specs.inner.LivingOrder.{in_order}
 use Rattle.mr_world.specs.Readings.{living, launched_by}
 use Rattle.mr_world.specs.Standing.{Standing}
 use Rattle.mr_world.proofs.Keys.{found_is}

@@ -21,9 +21,9 @@ use Rattle.mr_world.specs.declared.fault.WorldFault.{WorldFault}
 use Rattle.mr_world.specs.declared.fault.WorldFault.TheVariants as fault
 use Rattle.mr_world.specs.declared.parts.Parts.{Parts}
 use Rattle.mr_world.specs.Applying.{CanHappen, IsRefused}
-use Rattle.mr_world.specs.Asking.{IsForeseen, RefusesDuty}
+use Rattle.mr_world.specs.inner.Asking.{IsForeseen, RefusesDuty}
 use Rattle.mr_world.specs.Asks.{asked_by, asked_in, by_container, by_master, Looks}
-use Rattle.mr_world.specs.Calling.{ForeseesCall, answer_of}
+use Rattle.mr_world.specs.inner.Calling.{ForeseesCall, answer_of}
 use Rattle.mr_world.specs.Journal.{Journal, world_in, fits}
 use Rattle.mr_world.specs.Limits.{within}
 use Rattle.mr_world.specs.Standing.{Standing, IsTaken, Refuses}

@@ -17,7 +17,7 @@ use Rattle.mr_model.proofs.Acts.{masters_act}
 use Rattle.mr_agree.specs.Steps.{setting, steps}
 use Rattle.mr_world.specs.declared.masters.Masters.{Masters}
 use Rattle.mr_world.specs.declared.parts.Parts.{Parts}
-use Rattle.mr_world.specs.Masters.{SameMasters}
+use Rattle.mr_world.specs.inner.Masters.{SameMasters}
 use Rattle.mr_world.specs.Limits.{launch_count}
 use Rattle.mr_world.specs.Standing.{Standing, IsTaken, MastersStand, MasterIn, Foresees}
 use Rattle.std.proofs.lemmas.Bool.Decides.{nat_tests}

@@ -23,7 +23,7 @@ use Rattle.mr_model.proofs.Listing.{children-names, has_name}
 use Rattle.mr_model.proofs.Names.{name_eq-refl}
 use Rattle.mr_world.specs.declared.parts.Parts.{Parts}
 use Rattle.mr_world.specs.declared.results.VisibleFile.{VisibleFile}
-use Rattle.mr_world.specs.Seen.{as_pair, contents, is_file_kind, seen_beneath}
+use Rattle.mr_world.specs.VisibleFiles.{as_pair, contents, is_file_kind, seen_beneath}
 use Rattle.mr_world.specs.Standing.{Standing}
 
 -- ---- who looks on from outside is heard

@@ -19,7 +19,7 @@ use Rattle.mr_model.specs.World.{World}
 use Rattle.mr_model.proofs.Bytes.{tells-below}
 use Rattle.mr_world.specs.declared.parts.Parts.{Parts}
 use Rattle.mr_world.specs.Standing.{Standing}
-use Rattle.mr_world.specs.Winning.{success_of}
+use Rattle.mr_world.specs.inner.Winning.{success_of}
 use Rattle.mr_world.proofs.Bounds.{small}
 
 -- ---- the first success

@@ -25,7 +25,7 @@ use Rattle.mr_agree.proofs.Stores.{masters_go_on}
 use Rattle.mr_world.specs.declared.letters.Letters.TheVariants.{Nothing, One, Last}
 use Rattle.mr_world.specs.declared.living.Living.{Living}
 use Rattle.mr_world.specs.declared.parts.Parts.{Parts}
-use Rattle.mr_world.specs.Letters.{IsAlone, is_last, letters_by, letters_of, count_of}
+use Rattle.mr_world.specs.inner.Letters.{IsAlone, is_last, letters_by, letters_of, count_of}
 use Rattle.mr_world.specs.Living.{kept, Changes, stepped}
 use Rattle.mr_world.specs.Limits.{within, fits_bag, fits_call}
 use Rattle.mr_world.specs.Standing.{Standing, IsTaken}

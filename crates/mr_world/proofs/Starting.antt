@@ -22,7 +22,7 @@ use Rattle.mr_world.specs.declared.fault.WorldFault.TheVariants as fault
 use Rattle.mr_world.specs.declared.masters.Masters.{Masters}
 use Rattle.mr_world.specs.declared.parts.Parts.{Parts}
 use Rattle.mr_world.specs.Machines.{master_of, master_count}
-use Rattle.mr_world.specs.Masters.{Begins}
+use Rattle.mr_world.specs.inner.Masters.{Begins}
 use Rattle.mr_world.specs.Limits.{within, fits_bag}
 use Rattle.mr_world.specs.Standing.{Standing, Reached, IsTaken, MastersStand, MasterIn, RefusesEvent}
 use Rattle.mr_world.proofs.Bounds.{small, fits-parts, within-is}

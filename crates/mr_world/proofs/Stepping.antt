@@ -13,12 +13,12 @@ use Rattle.mr_model.specs.Claims.{world_of}
 use Rattle.mr_model.proofs.Made.{pasts_are_made}
 use Rattle.mr_agree.specs.Steps.{setting, step_of, steps}
 use Rattle.mr_agree.specs.Agreement.{machine_seen}
-use Rattle.mr_agree.specs.Whole.{MasterAgrees}
+use Rattle.mr_agree.specs.MastersAgree.{MasterAgrees}
 use Rattle.mr_agree.specs.Stores.{MasterMoves}
 use Rattle.mr_agree.proofs.Whole.{masters_agree}
 use Rattle.mr_world.specs.declared.masters.Masters.{Masters}
 use Rattle.mr_world.specs.Machines.{master_of}
-use Rattle.mr_world.specs.Masters.{Ceases, Returns}
+use Rattle.mr_world.specs.inner.Masters.{Ceases, Returns}
 use Rattle.mr_world.specs.Limits.{within, launches_in, launches_of}
 use Rattle.mr_world.specs.Standing.{Reached, MastersStand, MasterIn}
 use Rattle.mr_world.proofs.Mastering.{stays-in}

@@ -2,7 +2,7 @@ ghost use Rattle.std.specs.Prelude.{◌≡◌, ◌≤◌, OnOk, OnErr};
 ghost use Rattle.mr_names.specs.Calls.{call_of};
 ghost use Rattle.mr_history.specs.Calls as segments;
 ghost use Rattle.mr_model.specs.Stored.{master};
-ghost use Rattle.mr_world.specs.Asking.{HasAsked, is_look};
+ghost use Rattle.mr_world.specs.inner.Asking.{HasAsked, is_look};
 
 use crate::call::is_made;
 use crate::foretell::master_caller;

@@ -3,7 +3,7 @@ ghost use Rattle.std.specs.Prelude.{◌≡◌, IfOk};
 ghost use Rattle.mr_model.specs.Stored.{heard_in};
 ghost use Rattle.mr_model.specs.World.{ContainerStep, Duty};
 ghost use Rattle.mr_world.specs.Asks.{Looks};
-ghost use Rattle.mr_world.specs.Calling.{answer_of};
+ghost use Rattle.mr_world.specs.inner.Calling.{answer_of};
 
 use crate::call::StoreCall as ContainerCall;
 use crate::duty::Due;

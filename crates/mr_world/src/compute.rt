@@ -1,7 +1,7 @@
 ghost use Rattle.std.specs.Prelude.{◌≡◌, IfOk, OnOk, None, ℕ};
 ghost use Rattle.mr_ids.specs.declared.id.TaskKind.TheVariants.{Map, Reduce};
 ghost use Rattle.mr_model.specs.World.{Compute};
-ghost use Rattle.mr_world.specs.Computing.{bytes_fault, unless_fault, Computes};
+ghost use Rattle.mr_world.specs.inner.Computing.{bytes_fault, unless_fault, Computes};
 ghost use Rattle.mr_world.specs.Living.{kept};
 ghost use Rattle.mr_world.specs.Standing.{Foresees, Tries};
 

@@ -1,6 +1,6 @@
 ghost use Rattle.std.specs.Prelude.{◌≡◌, slice_get};
 ghost use Rattle.mr_model.specs.World.{Deliver};
-ghost use Rattle.mr_world.specs.Addressees.{whom};
+ghost use Rattle.mr_world.specs.inner.Addressees.{whom};
 ghost use Rattle.mr_world.specs.Standing.{Foresees, Tries};
 
 use crate::fault::WorldFault;

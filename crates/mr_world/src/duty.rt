@@ -1,6 +1,6 @@
 ghost use Rattle.std.specs.Prelude.{◌≡◌, ◌≤◌, IfOk, OnOk, true, is_some};
 ghost use Rattle.mr_model.specs.World.{Duty};
-ghost use Rattle.mr_world.specs.Asking.{ForeseesDuty, SendsThen};
+ghost use Rattle.mr_world.specs.inner.Asking.{ForeseesDuty, SendsThen};
 ghost use Rattle.mr_world.specs.Machines.{master_of};
 ghost use Rattle.mr_world.specs.Standing.{Foresees, Tries};
 

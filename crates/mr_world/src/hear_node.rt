@@ -7,8 +7,8 @@ ghost use Rattle.mr_node.specs.Past.{Hears};
 ghost use Rattle.mr_model.specs.World.{Deliver};
 ghost use Rattle.mr_world.specs.Living.{Same, one_if};
 ghost use Rattle.mr_world.specs.Machines.{node_of, ChangesNode, SameNodes, node_stepped, reaction_of};
-ghost use Rattle.mr_world.specs.Replying.{answers_at};
-ghost use Rattle.mr_world.specs.Serving.{added_by, Serves};
+ghost use Rattle.mr_world.specs.inner.Replying.{answers_at};
+ghost use Rattle.mr_world.specs.inner.Serving.{added_by, Serves};
 ghost use Rattle.mr_world.specs.Standing.{IsTo, Foresees, Tries};
 
 use crate::fault::WorldFault;

@@ -1,7 +1,7 @@
 ghost use Rattle.std.specs.Prelude.{◌≡◌, ◌<◌, length, is_some, true, OnOk};
 ghost use Rattle.mr_model.specs.World.{LaunchOn};
 ghost use Rattle.mr_world.specs.Machines.{master_of};
-ghost use Rattle.mr_world.specs.Reasons.{why_of};
+ghost use Rattle.mr_world.specs.inner.Reasons.{why_of};
 ghost use Rattle.mr_world.specs.Standing.{Foresees, Tries};
 
 use crate::fault::WorldFault;

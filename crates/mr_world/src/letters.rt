@@ -1,5 +1,5 @@
 ghost use Rattle.std.specs.Prelude.{◌≡◌};
-ghost use Rattle.mr_world.specs.Letters.{count_of};
+ghost use Rattle.mr_world.specs.inner.Letters.{count_of};
 
 use mr_packet::Envelope;
 

@@ -9,11 +9,11 @@ ghost use Rattle.mr_container.specs.Wished.{wished_packet};
 ghost use Rattle.mr_container.specs.State.{after};
 ghost use Rattle.mr_model.specs.Actors.{is_finished};
 ghost use Rattle.mr_model.specs.Ids.{ContainerId};
-ghost use Rattle.mr_world.specs.Letters.{letters_by, letters_of, is_last};
+ghost use Rattle.mr_world.specs.inner.Letters.{letters_by, letters_of, is_last};
 ghost use Rattle.mr_world.specs.Living.{container_cmp, kept, Changes, Same, stepped, is_over};
-ghost use Rattle.mr_world.specs.Order.{in_order};
+ghost use Rattle.mr_world.specs.inner.LivingOrder.{in_order};
 ghost use Rattle.mr_world.specs.Readings.{is_behind, next_living};
-ghost use Rattle.mr_world.specs.Restarting.{stays, unless_on};
+ghost use Rattle.mr_world.specs.inner.Restarting.{stays, unless_on};
 
 use crate::letters::Letters;
 use mr_container::{ContainerMachine, Reply, Wish};
@@ -159,7 +159,7 @@ impl Living {
 // Who lives, in order.
 impl Living {
     /// The containers stand in order. This call does nothing: it tells the caller so.
-    #[tactic(auto, unfolding(crate::specs::Order::in_order))]
+    #[tactic(auto, unfolding(crate::specs::inner::LivingOrder::in_order))]
     pub fn tell_order(&self)
         ensures { IsStrictlySortedBy container_cmp (in_order self.now) }
     {
@@ -167,7 +167,7 @@ impl Living {
     }
 
     /// All containers that live, in order.
-    #[tactic(auto, unfolding(crate::specs::Order::in_order))]
+    #[tactic(auto, unfolding(crate::specs::inner::LivingOrder::in_order))]
     pub fn all(&self, alloc: Global) -> Result<Vec<ContainerId>, AllocError>
         ensures { IfOk result (λ all. all.items ≡ in_order self.now) }
     {
@@ -179,7 +179,7 @@ impl Living {
     }
 
     /// The next one that lives after a container, in cyclic order; the first, where none is given. It takes no memory, and walks over none.
-    #[tactic(auto, unfolding(crate::specs::Order::in_order))]
+    #[tactic(auto, unfolding(crate::specs::inner::LivingOrder::in_order))]
     pub fn next(&self, after: Option<ContainerId>) -> Option<ContainerId>
         ensures { result ≡ next_living (in_order self.now) after }
     {
@@ -192,7 +192,7 @@ impl Living {
     }
 
     // The first of all.
-    #[tactic(auto, unfolding(crate::specs::Order::in_order))]
+    #[tactic(auto, unfolding(crate::specs::inner::LivingOrder::in_order))]
     fn first(&self) -> Option<ContainerId>
         ensures { result ≡ slice_get (in_order self.now) 0 }
     {
@@ -201,7 +201,7 @@ impl Living {
     }
 
     // The first behind a container.
-    #[tactic(auto, unfolding(crate::specs::Order::in_order))]
+    #[tactic(auto, unfolding(crate::specs::inner::LivingOrder::in_order))]
     fn next_behind(&self, c: ContainerId) -> Option<ContainerId>
         ensures { result ≡ slice_get (filter (is_behind (Some c)) (in_order self.now)) 0 }
     {

@@ -1,7 +1,7 @@
 ghost use Rattle.std.specs.Prelude.{◌≡◌, ◌≤◌, ℕ, None, is_some, OnOk, OnErr};
 ghost use Rattle.std.specs.Option.{option_copied};
 ghost use Rattle.mr_world.specs.Machines.{master_of, master_count};
-ghost use Rattle.mr_world.specs.Masters.{SameMasters, Begins, Ceases, Returns};
+ghost use Rattle.mr_world.specs.inner.Masters.{SameMasters, Begins, Ceases, Returns};
 
 use mr_master::MasterMachine;
 use std::alloc::{AllocError, Global};

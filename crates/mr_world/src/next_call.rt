@@ -1,7 +1,7 @@
 ghost use Rattle.std.specs.Prelude.{◌≡◌, true, is_some, IfOk, IfErr};
 ghost use Rattle.mr_model.specs.World.{Weather};
-ghost use Rattle.mr_world.specs.Asking.{RefusesDuty};
-ghost use Rattle.mr_world.specs.Duties.{HasDuty};
+ghost use Rattle.mr_world.specs.inner.Asking.{RefusesDuty};
+ghost use Rattle.mr_world.specs.inner.Duties.{HasDuty};
 ghost use Rattle.mr_world.specs.Machines.{master_of};
 
 use crate::fault::WorldFault;

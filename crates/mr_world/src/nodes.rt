@@ -3,7 +3,7 @@ ghost use Rattle.std.specs.Option.{option_copied};
 ghost use Rattle.mr_node.specs.Readings.{opening, reaction};
 ghost use Rattle.mr_node.specs.Past.{Hears, Restarts, Shelves};
 ghost use Rattle.mr_world.specs.Machines.{node_of, ChangesNode, SameNodes, node_stepped, reaction_of};
-ghost use Rattle.mr_world.specs.Serving.{added_by};
+ghost use Rattle.mr_world.specs.inner.Serving.{added_by};
 
 use mr_ids::AttemptId;
 use mr_mapside::MapOutput;

@@ -1,6 +1,6 @@
 ghost use Rattle.std.specs.Prelude.{◌≡◌, true, is_some, IfOk, OnErr};
 ghost use Rattle.mr_master_model.specs.declared.store.StoreAnswer.{StoreAnswer};
-ghost use Rattle.mr_world.specs.Duties.{IsKept, IsMadeReady, IsReadyAt, HasHeard, MakesReady, IsSet, HasTold};
+ghost use Rattle.mr_world.specs.inner.Duties.{IsKept, IsMadeReady, IsReadyAt, HasHeard, MakesReady, IsSet, HasTold};
 ghost use Rattle.mr_world.specs.Machines.{master_of};
 
 use crate::fault::WorldFault;

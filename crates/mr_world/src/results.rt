@@ -8,7 +8,7 @@ ghost use Rattle.mr_model.specs.Content.{entry_at, is_file, children, option_kin
 ghost use Rattle.mr_model.specs.Results.{first_told, outcome, visible};
 ghost use Rattle.mr_model.specs.World.{World};
 ghost use Rattle.mr_world.specs.declared.fault.WorldFault.TheVariants.{NoMemory};
-ghost use Rattle.mr_world.specs.Seen.{as_pair, contents, is_file_kind, seen_beneath};
+ghost use Rattle.mr_world.specs.VisibleFiles.{as_pair, contents, is_file_kind, seen_beneath};
 ghost use Rattle.mr_world.specs.Standing.{Standing};
 
 use crate::fault::WorldFault;

@@ -1,6 +1,6 @@
 ghost use Rattle.std.specs.Prelude.{◌≡◌, ◌≤◌, ◌+◌, length, IfOk, OnOk};
 ghost use Rattle.mr_model.specs.World.{ContainerStep};
-ghost use Rattle.mr_world.specs.Letters.{IsAlone, letters_of, count_of};
+ghost use Rattle.mr_world.specs.inner.Letters.{IsAlone, letters_of, count_of};
 ghost use Rattle.mr_world.specs.Living.{kept};
 ghost use Rattle.mr_world.specs.Standing.{Foresees, Tries};
 

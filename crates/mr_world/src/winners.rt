@@ -7,7 +7,7 @@ ghost use Rattle.mr_model.specs.Claims.{records, winner};
 ghost use Rattle.mr_model.specs.World.{World};
 ghost use Rattle.mr_world.specs.declared.fault.WorldFault.TheVariants.{NoMemory};
 ghost use Rattle.mr_world.specs.Standing.{Standing};
-ghost use Rattle.mr_world.specs.Winning.{Notes, NotesAt, if_at, is_free, success_of};
+ghost use Rattle.mr_world.specs.inner.Winning.{Notes, NotesAt, if_at, is_free, success_of};
 
 use crate::fault::WorldFault;
 use crate::parts::Parts;

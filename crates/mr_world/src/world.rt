@@ -13,7 +13,7 @@ ghost use Rattle.mr_world.specs.Asks.{asked_in};
 ghost use Rattle.mr_world.specs.Headline.{HeadlineHolds};
 ghost use Rattle.mr_world.specs.Journal.{world_in};
 ghost use Rattle.mr_world.specs.Readings.{as_input, due_in, input_in, living, next_living, phase_in, unflushed_in, wanted_in, wish_in};
-ghost use Rattle.mr_world.specs.Seen.{as_pair};
+ghost use Rattle.mr_world.specs.VisibleFiles.{as_pair};
 
 use crate::asked::Asked;
 use crate::config::Config;

@@ -3,7 +3,7 @@ use Rattle.std.proofs.lemmas.Iterator.Adapters.{YieldsList-from_vec}
 use Rattle.std.proofs.lemmas.Iterator.Consumers.{YieldsList-end}
 use Rattle.std.proofs.lemmas.List.{map-id}
 use Rattle.mr_user.specs.Computation.{computation}
-use Rattle.mr_mapside.specs.Kept.{Kept}
+use Rattle.mr_mapside.specs.inner.Kept.{Kept}
 use Rattle.mr_mapside.proofs.Keeping.{pair_more}
 use Rattle.mr_mapside.proofs.kept.add_pairs.Goals as goal
 

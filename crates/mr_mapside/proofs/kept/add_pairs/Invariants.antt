@@ -1,6 +1,6 @@
 use Rattle.std.proofs.Common.{◌≡◌, ◌++◌, List, length}
 use Rattle.mr_user.specs.Computation.{computation}
-use Rattle.mr_mapside.specs.Kept.{Kept}
+use Rattle.mr_mapside.specs.inner.Kept.{Kept}
 use Rattle.mr_mapside.proofs.kept.add_pairs.Given as goal
 
 abbrev pub invariant-loop-pair : goal.invariant-loop-pair

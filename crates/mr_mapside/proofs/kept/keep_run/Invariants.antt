@@ -1,7 +1,7 @@
 use Rattle.std.proofs.Common.{◌≡◌, ℕ, List, [], cond, ltb, length, Some}
 use Rattle.std.specs.List.{slice_get}
 use Rattle.mr_user.specs.Computation.{computation}
-use Rattle.mr_mapside.specs.Kept.{Kept, KeptAt}
+use Rattle.mr_mapside.specs.inner.Kept.{Kept, KeptAt}
 use Rattle.mr_mapside.proofs.kept.keep_run.Given as goal
 
 abbrev pub invariant-loop-r : goal.invariant-loop-r

@@ -1,7 +1,7 @@
 use Rattle.std.proofs.Common.{◌≡◌, ◌≤◌, ◌+◌, List, length, Some}
 use Rattle.mr_user.specs.Computation.{computation}
 use Rattle.mr_user.specs.Sequential.{both, lines_of, pairs_of_lines, pairs_of_split}
-use Rattle.mr_mapside.specs.Kept.{Kept}
+use Rattle.mr_mapside.specs.inner.Kept.{Kept}
 use Rattle.mr_mapside.proofs.kept.kept_runs.Given as goal
 
 abbrev pub invariant-loop-rest : goal.invariant-loop-rest

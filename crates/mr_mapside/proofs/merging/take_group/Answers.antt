@@ -5,7 +5,7 @@ use Rattle.mr_user.specs.Computation.{computation}
 use Rattle.mr_user.specs.Groups.{values_of}
 use Rattle.mr_user.specs.Meaning.{others_of}
 use Rattle.mr_mapside.specs.Runs.{pairs_in_all}
-use Rattle.mr_mapside.specs.Fronts.{Without}
+use Rattle.mr_mapside.specs.inner.Fronts.{Without}
 use Rattle.mr_mapside.proofs.RunSteps.{place_there, pair_fits, pairs_then, holds_then, least_first_front, least_then, passes_then, given_then, merged_none, merged_some, on_err_always, one_given, takes_none}
 use Rattle.mr_mapside.proofs.merging.take_group.Goals as goal
 

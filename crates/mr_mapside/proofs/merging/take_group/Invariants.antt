@@ -4,7 +4,7 @@ use Rattle.mr_user.specs.Computation.{computation}
 use Rattle.mr_user.specs.Groups.{values_of}
 use Rattle.mr_user.specs.Meaning.{others_of}
 use Rattle.mr_mapside.specs.Runs.{pairs_in_all}
-use Rattle.mr_mapside.specs.Fronts.{Holds, AreNotBelow}
+use Rattle.mr_mapside.specs.inner.Fronts.{Holds, AreNotBelow}
 use Rattle.mr_mapside.proofs.merging.take_group.Given as goal
 
 abbrev pub invariant-loop-values : goal.invariant-loop-values

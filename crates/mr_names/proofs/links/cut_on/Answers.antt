@@ -1,5 +1,5 @@
 use Rattle.std.proofs.Common.{◌≡◌, ℕ, sym, ◌∙◌, Some, None}
-use Rattle.mr_names.specs.Tree.{first_edge}
+use Rattle.mr_names.specs.inner.Tree.{first_edge}
 use Rattle.mr_names.proofs.Deleting.{opt_none, cutting_down, cutting_up, cutting_done}
 use Rattle.mr_names.proofs.links.cut_on.Goals as goal
 

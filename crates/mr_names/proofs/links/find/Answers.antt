@@ -1,6 +1,6 @@
 use Rattle.std.proofs.Common.{◌∙◌, sym, ap, drop, ◌∷◌, suc, ◌<◌, length, arith}
 use Rattle.std.proofs.Math.Seq.{drop-cons}
-use Rattle.mr_names.specs.Tree.{edges_of}
+use Rattle.mr_names.specs.inner.Tree.{edges_of}
 use Rattle.mr_names.proofs.Walks.{stuck}
 use Rattle.mr_names.proofs.links.find.Goals as goal
 

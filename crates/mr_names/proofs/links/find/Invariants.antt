@@ -1,5 +1,5 @@
 use Rattle.std.proofs.Common.{◌≡◌, Some, drop}
-use Rattle.mr_names.specs.Tree.{steps, edges_of}
+use Rattle.mr_names.specs.inner.Tree.{steps, edges_of}
 use Rattle.mr_names.proofs.links.find.Given as goal
 
 -- what is left of the path leads from here where the path leads

@@ -3,7 +3,7 @@ use Rattle.std.specs.List.Sorted.{IsStrictlySortedBy}
 use Rattle.std.specs.Cmp.Lexicographic.{slice_cmp}
 use Rattle.std.specs.Ordering.{nat_cmp}
 use Rattle.std.specs.Option.{option_copied}
-use Rattle.mr_names.specs.Tree.{links_by}
+use Rattle.mr_names.specs.inner.Tree.{links_by}
 use Rattle.mr_names.proofs.NodeLines.{empty_sorted}
 use Rattle.mr_names.proofs.links.list.Goals.{in-Some+in-None, in_default}
 use Rattle.mr_names.proofs.links.list.Goals as goal

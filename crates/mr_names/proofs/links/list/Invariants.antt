@@ -1,6 +1,6 @@
 use Rattle.std.proofs.Common.{◌≡◌, ◌++◌}
 use Rattle.std.specs.List.{filter_map}
-use Rattle.mr_names.specs.Tree.{line_at}
+use Rattle.mr_names.specs.inner.Tree.{line_at}
 use Rattle.mr_names.proofs.links.list.Given as goal
 
 -- the lines so far, and those of the edges that are left, are all lines

@@ -1,5 +1,5 @@
 use Rattle.std.proofs.Common.{◌≡◌, ◌∙◌, ◌∷◌, ◌++◌, [], ap, map, reverse}
-use Rattle.mr_names.specs.Tree.{ahead_of}
+use Rattle.mr_names.specs.inner.Tree.{ahead_of}
 use Rattle.mr_names.proofs.Visiting.{pushed_on, pushed_all}
 use Rattle.mr_names.proofs.links.push_ahead.Goals as goal
 

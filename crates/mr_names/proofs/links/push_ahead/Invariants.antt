@@ -1,5 +1,5 @@
 use Rattle.std.proofs.Common.{◌≡◌, ◌++◌, map, reverse}
-use Rattle.mr_names.specs.Tree.{ahead_of}
+use Rattle.mr_names.specs.inner.Tree.{ahead_of}
 use Rattle.mr_names.proofs.links.push_ahead.Given as goal
 
 -- what is ahead so far, and then those of the edges that are left from the last on

@@ -1,5 +1,5 @@
 use Rattle.std.proofs.Common.{Some, None, ◌<◌, length, arith}
-use Rattle.mr_names.specs.Tree.{edges_of}
+use Rattle.mr_names.specs.inner.Tree.{edges_of}
 use Rattle.mr_names.proofs.Making.{one_more}
 use Rattle.mr_names.proofs.links.reach.Goals as goal
 

@@ -1,5 +1,5 @@
 use Rattle.std.proofs.Common.{◌≡◌, Some, take}
-use Rattle.mr_names.specs.Tree.{steps, edges_of}
+use Rattle.mr_names.specs.inner.Tree.{steps, edges_of}
 use Rattle.mr_names.proofs.links.reach.Given as goal
 
 -- the names so far lead here

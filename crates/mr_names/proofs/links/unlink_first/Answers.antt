@@ -1,7 +1,7 @@
 use Rattle.std.proofs.Common.{◌∙◌, sym, ap, refl, rules}
 use Rattle.slab.proofs.SlabLemmas.{Updates-with_value}
 use Rattle.std.specs.Option.{option_copied_mut}
-use Rattle.mr_names.specs.Tree.{first_by, first_of}
+use Rattle.mr_names.specs.inner.Tree.{first_by, first_of}
 use Rattle.mr_names.proofs.Graph.{edge_set, name_apart}
 use Rattle.mr_names.proofs.links.unlink_first.Goals as goal
 

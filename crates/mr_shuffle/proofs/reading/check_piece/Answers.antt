@@ -4,7 +4,7 @@ use Rattle.std.proofs.lemmas.Grind.{common_steps}
 use Rattle.std.proofs.lemmas.List.{take_all}
 use Rattle.mr_user.specs.Computation.{computation}
 use Rattle.mr_shuffle.specs.Part.{pairs_of_piece}
-use Rattle.mr_shuffle.specs.Fault.{ReadFaultIs}
+use Rattle.mr_shuffle.specs.inner.Fault.{ReadFaultIs}
 use Rattle.mr_shuffle.proofs.Decoding.{one_more, gone_down, not_read, read_whole}
 use Rattle.mr_shuffle.proofs.reading.check_piece.Goals as goal
 

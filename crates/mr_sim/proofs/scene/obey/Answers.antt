@@ -1,7 +1,7 @@
 use Rattle.std.proofs.Common.{◌≡◌, [], ◌∷◌, ap, ◌∙◌, sym}
 use Rattle.mr_commit.specs.Tables.{setup_job, commit_task, abort_task, commit_job, abort_job}
 use Rattle.mr_commit.specs.Recovery.{recovered, recover_task}
-use Rattle.mr_commit.specs.Whole.{whole, checked}
+use Rattle.mr_commit.specs.CommitterEffect.{whole, checked}
 use Rattle.mr_names.specs.declared.op.Op.TheVariants as op
 use Rattle.mr_sim.specs.declared.order.Order.{Order}
 use Rattle.mr_sim.specs.Effect.{outcome, silent, in_turn, writes}

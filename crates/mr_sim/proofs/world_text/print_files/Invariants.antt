@@ -1,5 +1,5 @@
 use Rattle.std.proofs.Common.{◌≡◌, ◌++◌, map, take, flat_map}
-use Rattle.mr_world.specs.Seen.{as_pair}
+use Rattle.mr_world.specs.VisibleFiles.{as_pair}
 use Rattle.mr_sim.specs.Play.{visible_text}
 use Rattle.mr_sim.proofs.world_text.print_files.Given as goal
 

@@ -1,5 +1,5 @@
 use Rattle.std.proofs.Common.{◌≡◌, ◌++◌, drop}
-use Rattle.mr_sim.specs.Plays.{winners_text}
+use Rattle.mr_sim.specs.inner.PlaySteps.{winners_text}
 use Rattle.mr_sim.proofs.world_text.print_winners.Given as goal
 
 abbrev pub invariant-loop-reduce : goal.invariant-loop-reduce

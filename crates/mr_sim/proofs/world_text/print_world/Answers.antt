@@ -1,9 +1,9 @@
 use Rattle.std.proofs.Common.{◌++◌, ◌∙◌, ap, map}
 use Rattle.std.specs.List.{flat_map}
 use Rattle.mr_world.specs.Journal.{world_in}
-use Rattle.mr_world.specs.Seen.{as_pair}
+use Rattle.mr_world.specs.VisibleFiles.{as_pair}
 use Rattle.mr_sim.specs.Play.{visible_text}
-use Rattle.mr_sim.specs.Plays.{winners_text}
+use Rattle.mr_sim.specs.inner.PlaySteps.{winners_text}
 use Rattle.mr_sim.proofs.PlayText.{world-is-printed}
 use Rattle.mr_sim.proofs.world_text.print_world.Goals as goal
 

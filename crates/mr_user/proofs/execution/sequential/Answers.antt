@@ -1,7 +1,7 @@
 use Rattle.std.proofs.Common.{◌∙◌, ap, sym, subst, arith, List, Vec, Global, ℕ}
 use Rattle.std.specs.Option.{option_map}
 use Rattle.mr_user.specs.Computation.{computation}
-use Rattle.mr_user.specs.Gathered.{IsGathered}
+use Rattle.mr_user.specs.inner.Gathered.{IsGathered}
 use Rattle.mr_user.specs.Sequential.{part_of, text_of}
 use Rattle.mr_user.proofs.Putting.{file_gathered}
 use Rattle.mr_user.proofs.execution.sequential.Goals as goal

@@ -3,7 +3,7 @@ use Rattle.std.proofs.lemmas.Iterator.Adapters.{YieldsList-from_vec}
 use Rattle.std.proofs.lemmas.Iterator.Consumers.{YieldsList-end}
 use Rattle.std.proofs.lemmas.List.{length-set, map-id}
 use Rattle.mr_user.specs.Computation.{computation}
-use Rattle.mr_user.specs.Gathered.{IsGathered}
+use Rattle.mr_user.specs.inner.Gathered.{IsGathered}
 use Rattle.mr_user.proofs.Putting.{gathered_more, gathered_then}
 use Rattle.mr_user.proofs.gathering.gather_pairs.Goals as goal
 

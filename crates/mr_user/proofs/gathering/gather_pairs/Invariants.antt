@@ -1,6 +1,6 @@
 use Rattle.std.proofs.Common.{◌≡◌, ◌++◌, List, length}
 use Rattle.mr_user.specs.Computation.{computation}
-use Rattle.mr_user.specs.Gathered.{IsGathered}
+use Rattle.mr_user.specs.inner.Gathered.{IsGathered}
 use Rattle.mr_user.proofs.gathering.gather_pairs.Given as goal
 
 abbrev pub invariant-loop-key : goal.invariant-loop-key

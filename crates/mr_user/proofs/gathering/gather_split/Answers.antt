@@ -1,7 +1,7 @@
 use Rattle.std.proofs.Common.{◌∙◌, ◌++◌, ◌+◌, [], Some, length, sym, ap, subst, arith, append-nil, append_assoc}
 use Rattle.std.proofs.lemmas.Bool.{eqb-true}
 use Rattle.mr_user.specs.Computation.{computation}
-use Rattle.mr_user.specs.Gathered.{IsGathered}
+use Rattle.mr_user.specs.inner.Gathered.{IsGathered}
 use Rattle.mr_user.specs.Sequential.{both, lines_of, pairs_of_lines}
 use Rattle.mr_user.proofs.Putting.{both_start, mapped_more, no_lines, gathered_none}
 use Rattle.mr_user.proofs.gathering.gather_split.Goals as goal

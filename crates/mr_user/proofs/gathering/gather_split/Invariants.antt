@@ -1,6 +1,6 @@
 use Rattle.std.proofs.Common.{◌≡◌, ◌≤◌, ◌+◌, ◌++◌, List, length, Some}
 use Rattle.mr_user.specs.Computation.{computation}
-use Rattle.mr_user.specs.Gathered.{IsGathered}
+use Rattle.mr_user.specs.inner.Gathered.{IsGathered}
 use Rattle.mr_user.specs.Sequential.{both, lines_of, pairs_of_lines, pairs_of_split}
 use Rattle.mr_user.proofs.gathering.gather_split.Given as goal
 

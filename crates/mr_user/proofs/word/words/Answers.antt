@@ -3,9 +3,9 @@ use borrow.Author.Tests.{tests}
 use Rattle.std.specs.List.{AllByRecursion}
 use Rattle.std.proofs.lemmas.Iterator.Consumers.{YieldsList-end, YieldsList-at}
 use Rattle.std.proofs.lemmas.Iterator.Splits.{YieldsList-from_slice_split}
-use Rattle.mr_user.specs.CodecProofs.{bytes_from_places}
+use Rattle.mr_user.specs.inner.CodecProofs.{bytes_from_places}
 use Rattle.mr_user.specs.Words.{is_gap, is_empty, words_of}
-use Rattle.mr_user.specs.WordsProofs.{IsPart, words_are}
+use Rattle.mr_user.specs.inner.WordsProofs.{IsPart, words_are}
 use Rattle.mr_user.proofs.word.words.Goals as goal
 
 short_at : (most : ℕ) (words : List (Bor (List ℕ))) (i : ℕ) (d : Bor (List ℕ)) → i < length words → AllByRecursion (IsPart most) (map (λ word. word.now) words) → length (get_or words i d).now ≤ most

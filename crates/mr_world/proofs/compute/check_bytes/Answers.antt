@@ -1,5 +1,5 @@
 use Rattle.std.proofs.Common.{◌∙◌, ap, sym}
-use Rattle.mr_world.specs.Computing.{bytes_fault, unless_fault}
+use Rattle.mr_world.specs.inner.Computing.{bytes_fault, unless_fault}
 use Rattle.mr_world.proofs.compute.check_bytes.Goals as goal
 
 pub returns-in-Reduce : goal.returns-in-Reduce

@@ -1,7 +1,7 @@
 use Rattle.std.proofs.Common.{◌≡◌, ◌++◌, drop, map}
 use Rattle.std.specs.List.{flat_map}
 use Rattle.mr_model.specs.Content.{Listed}
-use Rattle.mr_world.specs.Seen.{as_pair, seen_beneath}
+use Rattle.mr_world.specs.VisibleFiles.{as_pair, seen_beneath}
 use Rattle.mr_world.proofs.results.visible_files.Given as goal
 
 -- the files so far and those of the entries that are left are those of all

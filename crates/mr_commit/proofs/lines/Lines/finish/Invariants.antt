@@ -1,5 +1,5 @@
 use Rattle.std.specs.FinMap as finite
-use Rattle.mr_commit.specs.Whole.{most_calls, deepest}
+use Rattle.mr_commit.specs.CommitterEffect.{most_calls, deepest}
 use Rattle.mr_commit.proofs.Wholes.{Going}
 use Rattle.mr_commit.proofs.lines.Lines.finish.Given as goal
 

@@ -1,7 +1,7 @@
 use Rattle.std.proofs.Common.{ℕ, List, Bor, map, cond, ltb}
 use Rattle.std.specs.BinaryHeap.{heap_items}
 use Rattle.mr_user.specs.Computation.{computation}
-use Rattle.mr_mapside.specs.Fronts.{AreFronts, left_at}
+use Rattle.mr_mapside.specs.inner.Fronts.{AreFronts, left_at}
 use Rattle.mr_mapside.proofs.merging.RunGroups.new.Given as goal
 
 abbrev pub invariant-loop-list : goal.invariant-loop-list

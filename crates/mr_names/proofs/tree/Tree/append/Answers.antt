@@ -1,7 +1,7 @@
 use Rattle.std.proofs.Common.{◌∙◌, ap, sym}
 use Rattle.mr_names.specs.Content.{changed_at}
 use Rattle.mr_names.specs.Node.{appended}
-use Rattle.mr_names.specs.TreeProofs.{held_prop}
+use Rattle.mr_names.specs.inner.TreeProofs.{held_prop}
 use Rattle.mr_names.proofs.Graph.{some_changed, told_same, content_is, on_err, either}
 use Rattle.mr_names.proofs.tree.Tree.append.Goals as goal
 

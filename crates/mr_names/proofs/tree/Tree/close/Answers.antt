@@ -1,7 +1,7 @@
 use Rattle.std.proofs.Common.{◌∙◌, ap, sym}
 use Rattle.mr_names.specs.Content.{changed_at}
 use Rattle.mr_names.specs.Node.{closed_of}
-use Rattle.mr_names.specs.TreeProofs.{held_prop}
+use Rattle.mr_names.specs.inner.TreeProofs.{held_prop}
 use Rattle.mr_names.proofs.Graph.{some_changed, content_is}
 use Rattle.mr_names.proofs.tree.Tree.close.Goals as goal
 

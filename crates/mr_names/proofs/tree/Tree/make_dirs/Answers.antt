@@ -2,8 +2,8 @@ use Rattle.std.proofs.Common.{◌≡◌, ◌∙◌, ◌+◌, ◌++◌, ◌-◌, 
 use Rattle.mr_paths.specs.Path.{prefixes}
 use Rattle.mr_names.specs.Content.{without, with_dirs}
 use Rattle.mr_names.specs.Held.{is_absent}
-use Rattle.mr_names.specs.Tree.{paths_down, HasRoom}
-use Rattle.mr_names.specs.TreeProofs.{held_prop}
+use Rattle.mr_names.specs.inner.Tree.{paths_down, HasRoom}
+use Rattle.mr_names.specs.inner.TreeProofs.{held_prop}
 use Rattle.mr_names.proofs.Graph.{content_is, either}
 use Rattle.mr_names.proofs.Making.{has_room, made_is, made_none, first_made, left_is}
 use Rattle.mr_names.proofs.tree.Tree.make_dirs.Goals as goal

@@ -1,7 +1,7 @@
 use Rattle.std.proofs.Common.{◌≡◌, ◌∙◌, ap, sym, Some, ◌∷◌, ◌++◌, [], subst}
 use Rattle.mr_names.specs.Content.{without_one}
-use Rattle.mr_names.specs.Tree.{edges_of, nodes_of, along, steps, first_edge}
-use Rattle.mr_names.specs.TreeProofs.{held_prop}
+use Rattle.mr_names.specs.inner.Tree.{edges_of, nodes_of, along, steps, first_edge}
+use Rattle.mr_names.specs.inner.TreeProofs.{held_prop}
 use Rattle.mr_names.proofs.Graph.{told_cut, first_is, first_none}
 use Rattle.mr_names.proofs.Beneath.{depth_falls, within_itself}
 use Rattle.mr_names.proofs.Deleting.{opt_none, opt_some, within_more, leads_on, gone_already, one_less, cut_and_more, some_less}

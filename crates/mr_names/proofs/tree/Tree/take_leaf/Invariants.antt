@@ -1,6 +1,6 @@
 use Rattle.std.proofs.Common.{◌≡◌, ℕ, List, Some, true}
 use Rattle.mr_names.specs.Content.{within}
-use Rattle.mr_names.specs.Tree.{steps, edges_of, nodes_of, first_edge}
+use Rattle.mr_names.specs.inner.Tree.{steps, edges_of, nodes_of, first_edge}
 use Rattle.mr_names.proofs.Beneath.{depth}
 use Rattle.mr_names.proofs.tree.Tree.take_leaf.Given as goal
 

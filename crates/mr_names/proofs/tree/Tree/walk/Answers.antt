@@ -6,7 +6,7 @@ use Rattle.std.specs.Option.{option_copied, option_map}
 use Rattle.slab.specs.Slab.{get}
 use Rattle.mr_names.specs.declared.place.Place.{Place}
 use Rattle.mr_names.specs.declared.walk.Found.{Found}
-use Rattle.mr_names.specs.Tree.{links_by, ahead_of}
+use Rattle.mr_names.specs.inner.Tree.{links_by, ahead_of}
 use Rattle.mr_names.specs.Walk.{walk}
 use Rattle.mr_names.proofs.Visiting.{Visits, visits_first, visits_on, visits_live, visits_done}
 use Rattle.mr_names.proofs.tree.Tree.walk.Goals as goal

@@ -1,5 +1,5 @@
 use Rattle.std.proofs.Common.{◌<◌, ◌≤◌, Bool, Ok, subst, arith}
-use Rattle.mr_sim.specs.Player.{CalmsOnce}
+use Rattle.mr_sim.specs.inner.Player.{CalmsOnce}
 use Rattle.mr_sim.proofs.Calmly.{none_made, one_made, ended, failed, all_made}
 use Rattle.mr_sim.proofs.Players.{failed_goes}
 use Rattle.mr_sim.proofs.player.Player.calm.Goals as goal

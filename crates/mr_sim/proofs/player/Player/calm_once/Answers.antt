@@ -1,5 +1,5 @@
 use Rattle.std.proofs.Common.{option_map, sym, ap, ◌∙◌}
-use Rattle.mr_sim.specs.Player.{next_in}
+use Rattle.mr_sim.specs.inner.Player.{next_in}
 use Rattle.mr_sim.proofs.Calmly.{calmed_once}
 use Rattle.mr_sim.proofs.player.Player.calm_once.Goals as goal
 

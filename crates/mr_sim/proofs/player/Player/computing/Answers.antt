@@ -6,7 +6,7 @@ use Rattle.mr_world.specs.Limits.{within}
 use Rattle.mr_world.specs.Readings.{as_input}
 use Rattle.mr_sim.specs.Play.{job_as}
 use Rattle.mr_sim.specs.Played.{computed_of}
-use Rattle.mr_sim.specs.Player.{IsEvent}
+use Rattle.mr_sim.specs.inner.Player.{IsEvent}
 use Rattle.mr_sim.proofs.player.Player.computing.Goals as goal
 
 pub returns : goal.returns

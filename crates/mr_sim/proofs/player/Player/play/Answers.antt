@@ -2,7 +2,7 @@ use Rattle.std.proofs.Common.{◌∙◌, sym, subst, length, drop, suc}
 use Rattle.std.proofs.lemmas.Iterator.Adapters.{YieldsList-from_vec}
 use Rattle.std.proofs.lemmas.Iterator.Consumers.{YieldsList-so_far, YieldsList-turn, YieldsList-end}
 use Rattle.std.proofs.lemmas.List.{map-id}
-use Rattle.mr_sim.specs.Player.{Reaches}
+use Rattle.mr_sim.specs.inner.Player.{Reaches}
 use Rattle.mr_sim.proofs.Players.{played_by, none_obeyed, one_obeyed, one_failed, split_by}
 use Rattle.mr_sim.proofs.player.Player.play.Goals as goal
 

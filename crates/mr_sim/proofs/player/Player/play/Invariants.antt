@@ -1,4 +1,4 @@
-use Rattle.mr_sim.specs.Player.{Reaches}
+use Rattle.mr_sim.specs.inner.Player.{Reaches}
 use Rattle.mr_sim.proofs.Players.{played_by}
 use Rattle.mr_sim.proofs.player.Player.play.Given as goal
 

@@ -1,6 +1,6 @@
 use Rattle.std.proofs.Common.{subst, List, ℕ}
 use Rattle.mr_user.specs.Laws.{AreBytes}
-use Rattle.mr_user.specs.CodecProofs.{text_fits}
+use Rattle.mr_user.specs.inner.CodecProofs.{text_fits}
 use Rattle.mr_user.proofs.text.TextWire.fits.Goals as goal
 
 pub returns : goal.returns

@@ -1,7 +1,7 @@
 use Rattle.std.proofs.Common.{rules, refl, ◌≡◌}
 use Rattle.std.proofs.lemmas.Map.Entries.{filter_from_retain_pairs}
 use Rattle.mr_world.specs.Living.{kept}
-use Rattle.mr_world.specs.Restarting.{stays}
+use Rattle.mr_world.specs.inner.Restarting.{stays}
 use Rattle.mr_world.proofs.Ending.{ended_on}
 use Rattle.mr_world.proofs.living.Living.end_on.Goals as goal
 

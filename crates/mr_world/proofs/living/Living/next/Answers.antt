@@ -1,5 +1,5 @@
 use Rattle.std.proofs.Common.{sym, ◌∙◌, ap}
-use Rattle.mr_world.specs.Order.{in_order}
+use Rattle.mr_world.specs.inner.LivingOrder.{in_order}
 use Rattle.mr_world.specs.Readings.{next_living}
 use Rattle.mr_world.proofs.Living_next.{next-first, next-round}
 use Rattle.mr_world.proofs.living.Living.next.Goals as goal

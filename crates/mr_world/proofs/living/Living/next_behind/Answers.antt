@@ -1,5 +1,5 @@
 use Rattle.std.proofs.Common.{sym, ◌∙◌}
-use Rattle.mr_world.specs.Order.{in_order}
+use Rattle.mr_world.specs.inner.LivingOrder.{in_order}
 use Rattle.mr_world.proofs.Living_next.{first-behind, none-behind}
 use Rattle.mr_world.proofs.living.Living.next_behind.Goals as goal
 

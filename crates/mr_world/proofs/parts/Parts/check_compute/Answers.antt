@@ -3,7 +3,7 @@ use Rattle.mr_ids.specs.declared.id.TaskKind.{TaskKind}
 use Rattle.mr_container.specs.declared.place.Place.{Place}
 use Rattle.mr_container.specs.Readings.{is_computing}
 use Rattle.mr_ids.specs.declared.id.TaskId.{TaskId}
-use Rattle.mr_world.specs.Computing.{bytes_fault, unless_fault}
+use Rattle.mr_world.specs.inner.Computing.{bytes_fault, unless_fault}
 use Rattle.mr_world.proofs.Computing.{absent, wrong-wish, refused, taken, fault-foreseen}
 use Rattle.mr_world.proofs.parts.Parts.check_compute.Goals as goal
 

@@ -1,6 +1,6 @@
 use Rattle.std.proofs.Common.{sym, ◌∙◌, ap, ◌&&◌}
 use Rattle.mr_names.specs.Calls.{refused}
-use Rattle.mr_world.specs.Calling.{permitted, step_fault, is_made}
+use Rattle.mr_world.specs.inner.Calling.{permitted, step_fault, is_made}
 use Rattle.mr_world.specs.Limits.{is_full}
 use Rattle.mr_world.proofs.Calling.{absent, wrong-step, right-step, fault-foreseen, memory-wanted, no-call, full-call, fitting-call}
 use Rattle.mr_world.proofs.parts.Parts.foresee_call.Goals as goal

@@ -1,5 +1,5 @@
 use Rattle.std.proofs.Common.{◌∙◌, ap}
-use Rattle.mr_world.specs.Seen.{is_file_kind}
+use Rattle.mr_world.specs.VisibleFiles.{is_file_kind}
 use Rattle.mr_world.proofs.Read_results.{marker-is}
 use Rattle.mr_world.proofs.parts.Parts.marker.Goals as goal
 

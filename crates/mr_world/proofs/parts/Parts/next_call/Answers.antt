@@ -3,7 +3,7 @@ use Rattle.mr_master_model.specs.Duty as due
 use Rattle.mr_master_model.specs.Next.{seen}
 use Rattle.mr_master.specs.State.{Answers}
 use Rattle.mr_model.specs.World.{Weather}
-use Rattle.mr_world.specs.Asking.{RefusesDuty}
+use Rattle.mr_world.specs.inner.Asking.{RefusesDuty}
 use Rattle.mr_world.specs.declared.fault.WorldFault.TheVariants as fault
 use Rattle.mr_world.proofs.Asking.{if-err, has-duty, no-duty, no-memory}
 use Rattle.mr_world.proofs.parts.Parts.next_call.Goals as goal

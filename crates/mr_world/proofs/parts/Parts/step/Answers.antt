@@ -1,5 +1,5 @@
 use Rattle.std.proofs.Common.{Option, Ok, subst}
-use Rattle.mr_world.specs.Calling.{ForeseesCall}
+use Rattle.mr_world.specs.inner.Calling.{ForeseesCall}
 use Rattle.mr_world.specs.declared.call.StoreCall.{StoreCall}
 use Rattle.mr_world.proofs.Calling.{alone, call-stands}
 use Rattle.mr_world.proofs.parts.Parts.step.Goals as goal

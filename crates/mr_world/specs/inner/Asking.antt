@@ -22,8 +22,8 @@ use Rattle.mr_world.specs.declared.duty.Due.{Due}
 use Rattle.mr_world.specs.declared.fault.WorldFault.{WorldFault}
 use Rattle.mr_world.specs.declared.masters.Masters.{Masters}
 use Rattle.mr_world.specs.declared.parts.Parts.{Parts}
-use Rattle.mr_world.specs.Calling.{is_made}
-use Rattle.mr_world.specs.Duties.{HasDuty}
+use Rattle.mr_world.specs.inner.Calling.{is_made}
+use Rattle.mr_world.specs.inner.Duties.{HasDuty}
 use Rattle.mr_world.specs.Limits.{is_full}
 use Rattle.mr_world.specs.Machines.{master_of}
 use Rattle.mr_world.specs.Standing.{Standing, RefusesEvent}

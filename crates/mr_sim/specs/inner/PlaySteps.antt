@@ -12,7 +12,7 @@ use Rattle.mr_sim.specs.declared.fault.SimFault.TheVariants as fault
 use Rattle.mr_sim.specs.declared.player.Player.{Player}
 use Rattle.mr_sim.specs.declared.submission.Submission.{Submission}
 use Rattle.mr_sim.specs.Play.{PrintsPlay, config_of, line_of_winner, played_of, printed_world}
-use Rattle.mr_sim.specs.Player.{state_in}
+use Rattle.mr_sim.specs.inner.Player.{state_in}
 use Rattle.mr_sim.specs.Shown.{text_in}
 
 -- a script is not read: its first bad line, where line 2 of the input is its first, or want of memory

@@ -12,9 +12,9 @@ use Rattle.std.proofs.lemmas.Bool.{lt-ltb, ltb-true}
 use Rattle.mr_user.specs.Computation.{Computation, computation}
 use Rattle.mr_user.specs.Laws.{JobLaws, PairsFit, AllFit}
 use Rattle.mr_user.specs.Codecs.{number_codec, text_codec}
-use Rattle.mr_user.specs.CodecProofs.{text_fits}
+use Rattle.mr_user.specs.inner.CodecProofs.{text_fits}
 use Rattle.mr_user.specs.Words.{words_of}
-use Rattle.mr_user.specs.WordsProofs.{IsPart, words_are}
+use Rattle.mr_user.specs.inner.WordsProofs.{IsPart, words_are}
 use Rattle.mr_user.specs.MaxByKey.{is_number, number_of, numbered, greatest, max_by_key}
 
 abbrev pub ranking : Computation (List ℕ) ℕ

@@ -11,7 +11,7 @@ use Rattle.mr_names.specs.declared.node.Node.{Node}
 use Rattle.mr_names.specs.declared.place.Place.{Place}
 use Rattle.mr_names.specs.Node.{coded_node}
 use Rattle.mr_names.specs.Content.{Content}
-use Rattle.mr_names.specs.Tree.{Edges, IsTold, Held, edges_of, nodes_of}
+use Rattle.mr_names.specs.inner.Tree.{Edges, IsTold, Held, edges_of, nodes_of}
 
 nodes_set : (x y : Option Node) → IsProp (x ≡ y)
 nodes_set x y = Coded-set (coded_option coded_node) x y

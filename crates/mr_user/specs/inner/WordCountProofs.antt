@@ -10,9 +10,9 @@ use Rattle.std.proofs.lemmas.Bool.{lt-ltb}
 use Rattle.mr_user.specs.Computation.{Computation, computation}
 use Rattle.mr_user.specs.Laws.{JobLaws, PairsFit}
 use Rattle.mr_user.specs.Codecs.{number_codec, text_codec}
-use Rattle.mr_user.specs.CodecProofs.{text_fits}
+use Rattle.mr_user.specs.inner.CodecProofs.{text_fits}
 use Rattle.mr_user.specs.Words.{words_of}
-use Rattle.mr_user.specs.WordsProofs.{IsPart, words_are}
+use Rattle.mr_user.specs.inner.WordsProofs.{IsPart, words_are}
 use Rattle.mr_user.specs.WordCount.{held_sum, word_count}
 
 abbrev pub counting : Computation (List ℕ) ℕ

@@ -9,9 +9,9 @@ use Rattle.mr_user.specs.declared.position.Position.{Position}
 use Rattle.mr_user.specs.Computation.{Computation, computation}
 use Rattle.mr_user.specs.Laws.{JobLaws, PairsFit}
 use Rattle.mr_user.specs.Codecs.{position_codec, text_codec}
-use Rattle.mr_user.specs.CodecProofs.{text_fits}
+use Rattle.mr_user.specs.inner.CodecProofs.{text_fits}
 use Rattle.mr_user.specs.Words.{words_of}
-use Rattle.mr_user.specs.WordsProofs.{IsPart, words_are}
+use Rattle.mr_user.specs.inner.WordsProofs.{IsPart, words_are}
 use Rattle.mr_user.specs.LineIndex.{line_index}
 
 abbrev pub indexing : Computation (List ℕ) Position

@@ -16,7 +16,7 @@ use Rattle.mr_world.specs.declared.fault.WorldFault.{WorldFault}
 use Rattle.mr_world.specs.declared.masters.Masters.{Masters}
 use Rattle.mr_world.specs.declared.parts.Parts.{Parts}
 use Rattle.mr_world.specs.Machines.{master_of}
-use Rattle.mr_world.specs.Masters.{Returns}
+use Rattle.mr_world.specs.inner.Masters.{Returns}
 use Rattle.mr_world.specs.Standing.{Standing, Refuses}
 
 -- ---- the call
