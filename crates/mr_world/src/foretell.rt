@@ -1,4 +1,4 @@
-ghost use Rattle.std.specs.Prelude.{◌≡◌, ◌≤◌, ◌<◌, ◌^◌, ◌&&◌, false, not, None, IfOk, IfErr, OnOk};
+ghost use Rattle.std.specs.Prelude.{◌≡◌, ◌≤◌, ◌<◌, ◌^◌, ◌&&◌, true, false, not, None, IfOk, IfErr, OnOk};
 ghost use Rattle.mr_names.specs.Calls.{call_of, refused, answer};
 ghost use Rattle.mr_history.specs.Calls as segments;
 ghost use Rattle.mr_history.specs.Line.{InRange, IsIn32};
