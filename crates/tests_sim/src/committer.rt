@@ -362,9 +362,8 @@ commitjob",
     )
 }
 
-// A read that fails is answered at once, and nothing is written; one that is interrupted is tried again.
-#[test]
-fn a_read_fails(rt: HostRuntime) -> Result<(), Fail> {
+// A read that fails is answered at once, and nothing is written.
+fn each_read_fails<H: AllocGlobal + Clock + Threads + Wait + Sync + Abort>(rt: &H) {
     let mut whole = 0u32;
     for good in 0..60 {
         let mut input = FaultyReader {
@@ -374,7 +373,7 @@ fn a_read_fails(rt: HostRuntime) -> Result<(), Fail> {
             error: ErrorKind::Other,
         };
         let mut output = FaultyWriter::new(3, 1000);
-        match run(&rt, &Command::Committer, &mut input, &mut output) {
+        match run(rt, &Command::Committer, &mut input, &mut output) {
             Ok(()) => {
                 assert!(rt; output.took(HELLO_TEXT));
                 whole = whole.saturating_add(1);
@@ -388,16 +387,15 @@ fn a_read_fails(rt: HostRuntime) -> Result<(), Fail> {
     }
     // 109 bytes take 37 reads of 3 bytes, and one that finds the end.
     assert_eq!(rt; whole, 22);
-    Ok(())
 }
 
-#[test]
-fn a_write_fails(rt: HostRuntime) -> Result<(), Fail> {
+// So is a write that fails.
+fn each_write_fails<H: AllocGlobal + Clock + Threads + Wait + Sync + Abort>(rt: &H) {
     let mut whole = 0u32;
     for good in 0..20 {
         let mut input = HELLO;
         let mut output = FaultyWriter::new(3, good);
-        match run(&rt, &Command::Committer, &mut input, &mut output) {
+        match run(rt, &Command::Committer, &mut input, &mut output) {
             Ok(()) => whole = whole.saturating_add(1),
             Err(SimFault::NoMemory) => panic!(rt; "no memory"),
             Err(fault) => assert_eq!(rt; fault, SimFault::Write),
@@ -408,7 +406,12 @@ fn a_write_fails(rt: HostRuntime) -> Result<(), Fail> {
     }
     // 39 bytes take 13 writes of 3 bytes.
     assert_eq!(rt; whole, 7);
-    Ok(())
+}
+
+#[test]
+fn each_stream_fails(rt: HostRuntime) {
+    each_read_fails(&rt);
+    each_write_fails(&rt);
 }
 
 #[test]
@@ -455,6 +458,7 @@ fn statuses(rt: HostRuntime) -> Result<(), Fail> {
         (SimFault::Read, 4, "mrsim: read"),
         (SimFault::Write, 4, "mrsim: write"),
         (SimFault::NoMemory, 5, "mrsim: no memory"),
+        (SimFault::Full, 7, "mrsim: full"),
     ];
     for (fault, status, text) in faults {
         assert_eq!(rt; fault.status(), status);

@@ -394,3 +394,25 @@ fn job_before_script(rt: HostRuntime) -> Result<(), Fail> {
         b"r 0 none\nmarker no\noutcome none\n".as_slice(),
     )
 }
+
+// As many masters as there may be live, and the node restarts so many times.
+fn restarts<H: AllocGlobal + Abort>(rt: &H, count: u32) -> Result<String, Fail> {
+    let mut script = format!(in rt.alloc(); "{ONE}\n")?;
+    for k in 1..=1000u32 {
+        let line = format!(in rt.alloc(); "start {k} 0\n")?;
+        script.push_str(&line)?;
+    }
+    for _ in 0..count {
+        script.push_str("restart 0\n")?;
+    }
+    Ok(script)
+}
+
+// Each restart tells every master. The thousandth makes the millionth packet, and for the next there is no place.
+#[test]
+fn bag_is_full(rt: HostRuntime) -> Result<(), Fail> {
+    let none = b"r 0 none\nmarker no\noutcome none\n".as_slice();
+    gives(&rt, Command::Play, restarts(&rt, 1000)?.as_bytes(), none)?;
+    let input = restarts(&rt, 1001)?;
+    is_refused(&rt, Command::Play, input.as_bytes(), SimFault::Full)
+}

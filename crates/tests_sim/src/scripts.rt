@@ -2,7 +2,9 @@
 
 use mr_event::Event;
 use mr_ids::JobId;
-use mr_script::{Command, EventName, ScriptFault, commands_of};
+use mr_script::{
+    Command, EventName, ScriptFault, commands_of, generation, long_number, number, split_once,
+};
 use std::alloc::Global;
 use std::process::Abort;
 
@@ -56,5 +58,46 @@ fn bad_commands_of_scripts(rt: HostRuntime) {
     ];
     for line in lines {
         assert!(rt; is_bad(rt.alloc(), line, 2));
+    }
+}
+
+#[test]
+fn bytes_are_split_once(rt: HostRuntime) {
+    let (front, rest) = split_once(b" a  b", b' ').expect(&rt, "not split");
+    assert!(rt; front.is_empty() && rest == b"a  b".as_slice());
+    let (front, rest) = split_once(b"ab ", b' ').expect(&rt, "not split");
+    assert!(rt; front == b"ab".as_slice() && rest.is_empty());
+    assert!(rt; split_once(b"ab", b' ').is_none());
+}
+
+// A number is its decimal with no zero in front, and in its range.
+#[test]
+fn numbers_of_words(rt: HostRuntime) {
+    assert!(rt; number(b"0") == Some(0) && number(b"4294967295") == Some(u32::MAX));
+    assert!(rt; number(b"4294967296").is_none());
+    assert!(rt; long_number(b"18446744073709551615") == Some(u64::MAX));
+    let words: [&[u8]; 9] = [
+        b"",
+        b"00",
+        b"01",
+        b"+1",
+        b"-1",
+        b"1 ",
+        b"a",
+        b"\xff",
+        b"18446744073709551616",
+    ];
+    for word in words {
+        assert!(rt; number(word).is_none() && long_number(word).is_none());
+    }
+}
+
+#[test]
+fn generations_of_words(rt: HostRuntime) {
+    let last = generation(b"1000").expect(&rt, "no generation");
+    assert!(rt; last.number() == 1000);
+    let words: [&[u8]; 3] = [b"0", b"1001", b"01"];
+    for word in words {
+        assert!(rt; generation(word).is_none());
     }
 }

@@ -5,7 +5,7 @@ use mr_event::{Event, Weather, Why};
 use mr_ids::{AppAttempt, AttemptId, JobId, TaskId, TaskKind};
 use mr_master_model::{DutyName, Phase};
 use mr_packet::{Bytes, ContainerId};
-use mr_world::{Config, Input, Splits, World, WorldFault};
+use mr_world::{Config, Input, Splits, VisibleFile, World, WorldFault};
 use std::alloc::Global;
 use std::process::Abort;
 
@@ -14,8 +14,19 @@ const BLOCK: [u8; 30] = [
     0, 0, 0, 26, 0, 0, 0, 1, 97, 0, 0, 0, 0, 0, 0, 0, 2, 0, 0, 0, 1, 98, 0, 0, 0, 0, 0, 0, 0, 1,
 ];
 
-/// What the reduce makes of that block.
+/// What it makes for two reduces: a block of `b` with 1, and one of `a` with 2.
+const BLOCKS: [u8; 34] = [
+    0, 0, 0, 13, 0, 0, 0, 1, 98, 0, 0, 0, 0, 0, 0, 0, 1, 0, 0, 0, 13, 0, 0, 0, 1, 97, 0, 0, 0, 0,
+    0, 0, 0, 2,
+];
+
+/// What the one reduce makes of its block.
 pub const TEXT: &[u8] = b"a\t2\nb\t1\n";
+
+/// What the first and the second of two reduces make of theirs.
+const FIRST: &[u8] = b"b\t1\n";
+
+const SECOND: &[u8] = b"a\t2\n";
 
 /// How far a run is: its world, how many packets were delivered or passed over, and who stepped last.
 #[derive(Drop)]
@@ -48,7 +59,12 @@ pub fn task(kind: TaskKind, number: u32) -> TaskId {
 
 /// The attempt of this number at reduce 0.
 pub fn attempt(rt: &impl Abort, number: u32) -> AttemptId {
-    match AttemptId::new(task(TaskKind::Reduce, 0), number) {
+    attempt_at(rt, 0, number)
+}
+
+/// The attempt of this number at a reduce.
+pub fn attempt_at(rt: &impl Abort, reduce: u32, number: u32) -> AttemptId {
+    match AttemptId::new(task(TaskKind::Reduce, reduce), number) {
         Some(attempt) => attempt,
         None => panic!(rt; "no attempt has this number"),
     }
@@ -72,8 +88,8 @@ fn split(rt: &impl Abort, alloc: Global) -> Vec<u8> {
     Vec::from_slice(alloc, b"a b a").expect(rt, "no memory")
 }
 
-/// A job of one map, of the split `a b a`, and one reduce, on so many nodes.
-pub fn config(rt: &impl Abort, alloc: Global, nodes: u32) -> Config {
+/// A job of one map, of the split `a b a`, and of so many reduces, on so many nodes.
+fn config(rt: &impl Abort, alloc: Global, nodes: u32, reduces: u32) -> Config {
     let mut splits = Vec::new(alloc);
     let split = split(rt, alloc);
     assert!(rt; split.len() <= 16_777_216);
@@ -81,21 +97,36 @@ pub fn config(rt: &impl Abort, alloc: Global, nodes: u32) -> Config {
         panic!(rt; "no memory");
     }
     assert!(rt; nodes >= 1 && nodes <= 64);
+    assert!(rt; reduces >= 1 && reduces <= 2);
     Config {
         job: task(TaskKind::Map, 0).job,
         splits: Splits::from_vec(splits),
-        reduces: 1,
+        reduces,
         nodes,
         limit: 4,
         v2_from: 1,
     }
 }
 
-/// The opening world of that job.
+/// The opening world of the job of one reduce.
 pub fn world(rt: &impl Abort, alloc: Global, nodes: u32) -> World {
-    match World::new(alloc, config(rt, alloc, nodes)) {
+    opening(rt, alloc, nodes, 1)
+}
+
+/// The opening world of a job.
+fn opening(rt: &impl Abort, alloc: Global, nodes: u32, reduces: u32) -> World {
+    match World::new(alloc, config(rt, alloc, nodes, reduces)) {
         Ok(world) => world,
         Err(_) => panic!(rt; "no world"),
+    }
+}
+
+/// A run of the job of so many reduces on one node, before its first event.
+pub fn begun(rt: &impl Abort, alloc: Global, reduces: u32) -> Run {
+    Run {
+        world: opening(rt, alloc, 1, reduces),
+        next: 0,
+        last: None,
     }
 }
 
@@ -143,12 +174,38 @@ pub fn refuses(rt: &impl Abort, world: &mut World, event: Event) -> Why {
 
 /// Bytes are handed in to the container: what the job makes of what it asks for.
 pub fn computes(rt: &impl Abort, alloc: Global, world: &mut World, c: ContainerId) {
+    let reduces = world.config().reduce_count();
     let made = match world.input(&c) {
-        Some(Input::Map { .. }) => bytes(rt, alloc, BLOCK.as_slice()),
-        Some(Input::Reduce { .. }) => bytes(rt, alloc, TEXT),
+        Some(Input::Map { .. }) => bytes(rt, alloc, output(reduces)),
+        Some(Input::Reduce { reduce, .. }) => bytes(rt, alloc, text(reduces, reduce)),
         None => panic!(rt; "it does not compute"),
     };
     takes(rt, world, Event::Computed(c, made));
+}
+
+/// What the map makes for so many reduces.
+fn output(reduces: u32) -> &'static [u8] {
+    if reduces == 1 {
+        BLOCK.as_slice()
+    } else {
+        BLOCKS.as_slice()
+    }
+}
+
+/// What a reduce of so many makes.
+fn text(reduces: u32, reduce: u32) -> &'static [u8] {
+    if reduces == 1 {
+        TEXT
+    } else if reduce == 0 {
+        FIRST
+    } else {
+        SECOND
+    }
+}
+
+// Whether the file has this name and these bytes.
+fn is_part(file: &VisibleFile, name: &[u8], text: &[u8]) -> bool {
+    file.name.as_bytes() == name && file.bytes.as_slice() == text
 }
 
 impl Run {
@@ -215,14 +272,59 @@ impl Run {
 
     /// The job succeeded: the winner of its reduce is the attempt of this number, and its one visible file is the text.
     pub fn succeeded(&self, rt: &impl Abort, number: u32) {
-        let world = &self.world;
-        assert!(rt; world.outcome() == Some(true));
-        assert!(rt; world.marker().expect(rt, "no memory"));
-        let winners = world.winners().expect(rt, "no memory");
+        self.ended(rt, true, true);
+        self.is_won_by(rt, number);
+        self.shows_the_file(rt);
+    }
+
+    /// The winner of the one reduce is the attempt of this number.
+    pub fn is_won_by(&self, rt: &impl Abort, number: u32) {
+        let winners = self.world.winners().expect(rt, "no memory");
         assert!(rt; winners.as_slice() == [Some(attempt(rt, number))].as_slice());
-        let files = world.visible().expect(rt, "no memory");
+    }
+
+    /// The job of two reduces succeeded: the winners are the attempts of these numbers.
+    pub fn both_succeeded(&self, rt: &impl Abort, first: u32, second: u32) {
+        self.ended(rt, true, true);
+        self.are_won_by(rt, first, Some(second));
+        self.shows_both_files(rt);
+    }
+
+    /// The job of two reduces failed: the first attempt won reduce 0, none won reduce 1, and no file is visible.
+    pub fn failed(&self, rt: &impl Abort) {
+        self.ended(rt, false, false);
+        self.are_won_by(rt, 0, None);
+        assert!(rt; self.world.visible().expect(rt, "no memory").is_empty());
+    }
+
+    // The winners of two reduces are the attempts of these numbers.
+    fn are_won_by(&self, rt: &impl Abort, first: u32, second: Option<u32>) {
+        let winners = self.world.winners().expect(rt, "no memory");
+        let second = match second {
+            Some(number) => Some(attempt_at(rt, 1, number)),
+            None => None,
+        };
+        assert!(rt; winners.as_slice() == [Some(attempt(rt, first)), second].as_slice());
+    }
+
+    /// Whether the success marker is there, and which outcome was told first.
+    pub fn ended(&self, rt: &impl Abort, marked: bool, succeeded: bool) {
+        assert!(rt; self.world.marker().expect(rt, "no memory") == marked);
+        assert!(rt; self.world.outcome() == Some(succeeded));
+    }
+
+    /// The visible files of a job of one reduce: its text.
+    pub fn shows_the_file(&self, rt: &impl Abort) {
+        let files = self.world.visible().expect(rt, "no memory");
         assert!(rt; files.len() == 1);
-        assert!(rt; files[0].name.as_bytes() == b"part-r-00000".as_slice());
-        assert!(rt; files[0].bytes.as_slice() == TEXT);
+        assert!(rt; is_part(&files[0], b"part-r-00000", TEXT));
+    }
+
+    /// The visible files of a job of two reduces: their texts.
+    pub fn shows_both_files(&self, rt: &impl Abort) {
+        let files = self.world.visible().expect(rt, "no memory");
+        assert!(rt; files.len() == 2);
+        assert!(rt; is_part(&files[0], b"part-r-00000", FIRST));
+        assert!(rt; is_part(&files[1], b"part-r-00001", SECOND));
     }
 }

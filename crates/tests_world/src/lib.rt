@@ -6,6 +6,8 @@ mod calls;
 #[cfg(test)]
 mod crashes;
 #[cfg(test)]
+mod cuts;
+#[cfg(test)]
 mod fixtures;
 #[cfg(test)]
 mod readings;
@@ -15,3 +17,5 @@ mod refusals;
 mod restarts;
 #[cfg(test)]
 mod runs;
+#[cfg(test)]
+mod sweeps;

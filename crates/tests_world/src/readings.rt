@@ -5,7 +5,7 @@ use mr_container::Wish;
 use mr_event::{Event, Weather};
 use mr_ids::TaskKind;
 use mr_master_model::{DutyName, Phase};
-use mr_world::Input;
+use mr_world::{Input, Splits};
 use std::process::Abort;
 
 fn adds(rt: &impl Abort, events: &mut Vec<Event>, event: Event) {
@@ -31,6 +31,34 @@ fn runs_a_list(rt: HostRuntime) {
     assert!(rt; world.phase(1).is_none());
     assert!(rt; world.phase(2) == Some(Phase::Opening));
     assert!(rt; world.duty(2).expect(&rt, "no memory") == Some(DutyName::Marks));
+}
+
+// What a config tells of its job, and what its splits give.
+#[test]
+fn config_tells_its_job(rt: HostRuntime) {
+    let world = world(&rt, rt.alloc(), 2);
+    let config = world.config();
+    config.ranges();
+    assert!(rt; config.job_id() == task(TaskKind::Map, 0).job);
+    assert!(rt; config.reduce_count() == 1 && config.maps() == 1);
+    assert!(rt; config.split(0) == Some(b"a b a".as_slice()));
+    assert!(rt; config.split(1).is_none());
+}
+
+#[test]
+fn splits_are_in_order(rt: HostRuntime) {
+    let alloc = rt.alloc();
+    let mut items = Vec::new(alloc);
+    for bytes in [b"a b".as_slice(), b"".as_slice()] {
+        let split = Vec::from_slice(alloc, bytes).expect(&rt, "no memory");
+        assert!(rt; items.push(split).is_ok());
+    }
+    let splits = Splits::from_vec(items);
+    assert!(rt; splits.len() == 2 && splits.as_slice().len() == 2);
+    assert!(rt; splits.get(0) == Some(b"a b".as_slice()));
+    assert!(rt; splits.get(1) == Some(b"".as_slice()));
+    assert!(rt; splits.get(2).is_none());
+    assert!(rt; splits.into_vec().len() == 2);
 }
 
 // The first container of a job asks for its split.
