@@ -8,7 +8,7 @@ use Rattle.serde_json.specs.Read.{read}
 use Rattle.mr_sim.specs.declared.fault.JobTextFault.{JobTextFault}
 use Rattle.mr_sim.specs.declared.fault.JobTextFault.TheVariants as bad
 use Rattle.mr_sim.specs.declared.fault.SimFault.TheVariants.{NoMemory, Read, Write, TooLong, BadCommand, BadRecord, Job, Refused, Full}
-use Rattle.mr_sim.specs.declared.subcommand.Command.TheVariants.{Committer, Play, PlayShown, History, Seq}
+use Rattle.mr_sim.specs.declared.subcommand.Command.TheVariants.{Committer, Play, PlayShown, PlayDrawn, History, Seq}
 use Rattle.mr_sim.specs.declared.submission.Submission.{Submission}
 use Rattle.mr_sim.specs.JobText.{◌>>=◌, within, number_in, required, optional, text_at, job_named, kind_named, splits_of, faults_of, submission_in, submission_of}
 use Rattle.mr_sim.specs.Laws.{PrintedOrRefused}
@@ -99,25 +99,30 @@ printed_or_refused_law command input text TooLong short p h = omega (arith, shor
 printed_or_refused_law Committer input text (BadCommand n) short p h = read_or_bad_law input p.0 n p.1 h.1
 printed_or_refused_law Play input text (BadCommand n) short p h = one_play_text_law.not_bad_line limits.within input text n p h.1
 printed_or_refused_law (PlayShown shown) input text (BadCommand n) short p h = one_play_text_law.not_bad_line limits.within input p.printed n p.prints h.1
+printed_or_refused_law PlayDrawn input text (BadCommand n) short p h = one_play_text_law.not_bad_line limits.within input p.0 n p.1 h.1
 printed_or_refused_law History input text (BadCommand n) short p h = h.1
 printed_or_refused_law Seq input text (BadCommand n) short p h = h.1
 printed_or_refused_law Committer input text (BadRecord n) short p h = h.1
 printed_or_refused_law Play input text (BadRecord n) short p h = h.1
 printed_or_refused_law (PlayShown shown) input text (BadRecord n) short p h = h.1
+printed_or_refused_law PlayDrawn input text (BadRecord n) short p h = h.1
 printed_or_refused_law History input text (BadRecord n) short p h = let y : Some n ≡ None = sym h.1 ∙ p.good in absurd (cc)
 printed_or_refused_law Seq input text (BadRecord n) short p h = h.1
 printed_or_refused_law Committer input text (Job e) short p h = h.1
 printed_or_refused_law Play input text (Job e) short p h = one_play_text_law.not_bad_job limits.within input text e p h.1
 printed_or_refused_law (PlayShown shown) input text (Job e) short p h = one_play_text_law.not_bad_job limits.within input p.printed e p.prints h.1
+printed_or_refused_law PlayDrawn input text (Job e) short p h = one_play_text_law.not_bad_job limits.within input p.0 e p.1 h.1
 printed_or_refused_law History input text (Job e) short p h = h.1
 printed_or_refused_law Seq input text (Job e) short p h = let y : Ok p.job ≡ Err e = sym p.said ∙ h.1 in absurd (cc)
 printed_or_refused_law Committer input text Refused short p h = h.1
 printed_or_refused_law Play input text Refused short p h = h.1
 printed_or_refused_law (PlayShown shown) input text Refused short p h = h.1
+printed_or_refused_law PlayDrawn input text Refused short p h = h.1
 printed_or_refused_law History input text Refused short p h = h.1
 printed_or_refused_law Seq input text Refused short p h = seq_not_both input text p h.1
 printed_or_refused_law Committer input text Full short p h = h.1
 printed_or_refused_law Play input text Full short p h = one_play_text_law.not_full limits.within input text p h.1
 printed_or_refused_law (PlayShown shown) input text Full short p h = one_play_text_law.not_full limits.within input p.printed p.prints h.1
+printed_or_refused_law PlayDrawn input text Full short p h = one_play_text_law.not_full limits.within input p.0 p.1 h.1
 printed_or_refused_law History input text Full short p h = h.1
 printed_or_refused_law Seq input text Full short p h = h.1

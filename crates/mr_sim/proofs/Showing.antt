@@ -13,7 +13,7 @@ use Rattle.mr_sim.specs.JobText.{submission_of}
 use Rattle.mr_sim.specs.Play.{job_line, script_lines, world_text}
 use Rattle.mr_sim.specs.inner.Player.{state_in}
 use Rattle.mr_sim.specs.inner.PlaySteps.{HasPlayed, HasPrinted}
-use Rattle.mr_sim.specs.Shown.{AddsSegments, HasText, IsHistory, IsSegment, Shows, segment_text, text_in}
+use Rattle.mr_sim.specs.Shown.{AddsSegments, Draws, HasText, IsHistory, IsSegment, Shows, segment_text, text_in}
 
 -- one segment more was written
 pub adds-one : (w : World) (n k : ℕ) (old mid new bytes : List ℕ) → k ≡ suc n → AddsSegments w n old mid → records_of bytes ≡ (w.history k).stable → new ≡ mid ++ segment_text k bytes → AddsSegments w k old new
@@ -48,3 +48,6 @@ shows shown input text p is h = record {
   history = λ asked. subst (λ (w : World). IsHistory w h.behind) (sym is.cluster) (h.history asked);
   is = h.is;
 }
+
+pub draws : (input : List ℕ) (p : Player) → HasPrinted input p → Draws within input
+draws input p is = (text_in p, is.prints)

@@ -13,7 +13,7 @@ use Rattle.mr_sim.specs.declared.scene.Scene.{Scene}
 use Rattle.mr_sim.specs.declared.scene.Reply.{Reply}
 use Rattle.mr_sim.specs.declared.scene.Reply.TheVariants.{Silent, Yes, No}
 use Rattle.mr_sim.specs.declared.subcommand.Command.{Command}
-use Rattle.mr_sim.specs.declared.subcommand.Command.TheVariants.{Committer, Play, PlayShown, History, Seq}
+use Rattle.mr_sim.specs.declared.subcommand.Command.TheVariants.{Committer, Play, PlayShown, PlayDrawn, History, Seq}
 use Rattle.mr_history.specs.Reading.{bad_line}
 use Rattle.mr_world.specs.Limits.{within}
 use Rattle.mr_sim.specs.Effect.{out, start, outcome}
@@ -24,7 +24,7 @@ use Rattle.mr_sim.specs.Listing.{listing}
 use Rattle.mr_sim.specs.Play.{PrintsPlay, IsBadPlayJob, IsBadPlayLine, IsFullPlay}
 use Rattle.mr_sim.specs.Script.{AreCommands, IsFirstBad}
 use Rattle.mr_sim.specs.Seq.{PrintsSeq, RefusesSeq}
-use Rattle.mr_sim.specs.Shown.{Shows}
+use Rattle.mr_sim.specs.Shown.{Shows, Draws}
 
 -- ---- `committer`
 
@@ -81,6 +81,7 @@ abbrev pub Prints : Command → List ℕ → List ℕ → Type 0
 Prints Committer input text = (os : List (ℕ × Order)) × AreCommands 1 (lines_of input) os × (text ≡ committer_text os)
 Prints Play input text = PrintsPlay within input text
 Prints (PlayShown shown) input text = Shows within shown input text
+Prints PlayDrawn input text = Draws within input
 Prints History input text = PrintsHistory input text
 Prints Seq input text = PrintsSeq input text
 
@@ -89,6 +90,7 @@ abbrev pub IsBadLine : Command → List ℕ → ℕ → Type 0
 IsBadLine Committer input n = IsFirstBad 1 (lines_of input) n
 IsBadLine Play input n = IsBadPlayLine input n
 IsBadLine (PlayShown shown) input n = IsBadPlayLine input n
+IsBadLine PlayDrawn input n = IsBadPlayLine input n
 IsBadLine History input n = ⊥
 IsBadLine Seq input n = ⊥
 
@@ -97,6 +99,7 @@ abbrev pub IsBadRecord : Command → List ℕ → ℕ → Type 0
 IsBadRecord Committer input n = ⊥
 IsBadRecord Play input n = ⊥
 IsBadRecord (PlayShown shown) input n = ⊥
+IsBadRecord PlayDrawn input n = ⊥
 IsBadRecord History input n = bad_line input ≡ Some n
 IsBadRecord Seq input n = ⊥
 
@@ -105,6 +108,7 @@ abbrev pub IsBadJob : Command → List ℕ → JobTextFault → Type 0
 IsBadJob Committer input e = ⊥
 IsBadJob Play input e = IsBadPlayJob input e
 IsBadJob (PlayShown shown) input e = IsBadPlayJob input e
+IsBadJob PlayDrawn input e = IsBadPlayJob input e
 IsBadJob History input e = ⊥
 IsBadJob Seq input e = submission_of input ≡ Err e
 
@@ -113,6 +117,7 @@ abbrev pub IsRefused : Command → List ℕ → Type 0
 IsRefused Committer input = ⊥
 IsRefused Play input = ⊥
 IsRefused (PlayShown shown) input = ⊥
+IsRefused PlayDrawn input = ⊥
 IsRefused History input = ⊥
 IsRefused Seq input = RefusesSeq input
 
@@ -121,6 +126,7 @@ abbrev pub IsFull : Command → List ℕ → Type 0
 IsFull Committer input = ⊥
 IsFull Play input = IsFullPlay within input
 IsFull (PlayShown shown) input = IsFullPlay within input
+IsFull PlayDrawn input = IsFullPlay within input
 IsFull History input = ⊥
 IsFull Seq input = ⊥
 

@@ -56,3 +56,7 @@ pub record Shows (within : Config → Limits) (shown : Shown) (input text : List
   pub prints : PrintsPlay within input printed
   pub history : shown.history ≡ true → IsHistory (printed_world within input printed prints) behind
   pub is : text ≡ before ++ (printed ++ behind)
+
+-- there is a text that `play` prints: what a picture of the run shows is said nowhere
+abbrev pub Draws : (Config → Limits) → List ℕ → Type 0
+Draws within input = (printed : List ℕ) × PrintsPlay within input printed

@@ -39,6 +39,8 @@
 //! With a trace or the history shown (`Command::PlayShown`) the text has what is printed, with something before it only where a trace is asked
 //! for, and behind it only where the history is (`Shows`): for each generation that was started, in order, its head line `== history K LENGTH` and as many bytes,
 //! whose records are those that are stable in its segment. What a trace says no clause tells: it is tested by example.
+//! With a picture (`Command::PlayDrawn`) faults are those of `play`, and a picture is printed only where `play` has a text (`Draws`); what it shows is
+//! tested by example.
 //!
 //! Laws of these definitions: an input has at most one text, and none where its job text or a line
 //! is bad or a limit is passed (`one_play_text`). Whatever commands follow others, each winner stays, and once the marker is there all
@@ -54,26 +56,34 @@
 mod call_words;
 mod calm;
 mod committer;
+mod draw;
+mod drawing;
+mod drawn;
 mod event_names;
 mod fault;
 mod histories;
 mod history;
 mod input;
 mod job_text;
+mod lanes;
 mod laws;
 mod listing;
 mod order;
 mod part_files;
+mod picture;
 mod play;
 mod player;
 mod refused;
 mod reply;
+mod rows;
 mod scene;
 mod script;
 mod seq;
+mod signs;
 mod sources;
 mod subcommand;
 mod submission;
+mod svg;
 mod trace;
 mod trace_words;
 mod works;

@@ -104,7 +104,7 @@ fn shown_text(alloc: Global, player: &Player, shown: Shown) -> Result<Vec<u8>, S
 
 #[tactic(auto, using(crate::proofs::Showing::printed))]
 /// The player of a job text and a script, which has obeyed the script.
-fn played(alloc: Global, input: &[u8]) -> Result<Player, SimFault>
+pub fn played(alloc: Global, input: &[u8]) -> Result<Player, SimFault>
     ensures ok { IfOk result (HasPrinted input.now) }
     ensures fault { IfErr result (RefusesText Command.Play input.now) }
 {

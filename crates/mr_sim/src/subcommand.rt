@@ -4,6 +4,7 @@ ghost use Rattle.std.specs.Io.KnownBytes.{Keeps};
 ghost use Rattle.mr_sim.specs.Printed.{Prints, Refuses, RefusesText, Writes};
 
 use crate::committer::committer;
+use crate::drawn::play_drawn;
 use crate::fault::SimFault;
 use crate::history::history;
 use crate::input::read_input;
@@ -24,6 +25,8 @@ pub enum Command {
     Play,
     /// The same, and shows more of the run beside it.
     PlayShown(Shown),
+    /// The same, and prints a picture of the run in place of what came of it.
+    PlayDrawn,
     /// Prints the records of one segment of a job history, and how many bytes after the last whole line were dropped.
     History,
     /// Runs the job of a job text sequentially, and prints its part files.
@@ -39,6 +42,7 @@ fn answer(alloc: Global, command: Command, input: &[u8]) -> Result<Vec<u8>, SimF
         Command::Committer => committer(alloc, input),
         Command::Play => play(alloc, input),
         Command::PlayShown(shown) => play_shown(alloc, input, shown),
+        Command::PlayDrawn => play_drawn(alloc, input),
         Command::History => history(alloc, input),
         Command::Seq => seq(alloc, input),
     }

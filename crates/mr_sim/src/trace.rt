@@ -135,7 +135,8 @@ fn put_name(out: &mut Vec<u8>, world: &World, event: &Event) -> Result<(), Alloc
     }
 }
 
-fn name_of(world: &World, event: &Event) -> Result<Option<EventName>, AllocError> {
+/// What the duty of a master, or the wish of a container, is before the event.
+pub fn name_of(world: &World, event: &Event) -> Result<Option<EventName>, AllocError> {
     match event {
         Event::Duty(k, _) => match world.duty(*k) {
             Ok(duty) => Ok(duty.map(duty_event)),

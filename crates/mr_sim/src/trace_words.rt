@@ -13,7 +13,8 @@ pub fn put_number(out: &mut Vec<u8>, word: &[u8], number: u64) -> Result<(), All
     out.extend_from_slice(buffer.format(number).as_bytes())
 }
 
-fn put_small(out: &mut Vec<u8>, word: &[u8], number: u32) -> Result<(), AllocError> {
+/// A word and a small number behind it.
+pub fn put_small(out: &mut Vec<u8>, word: &[u8], number: u32) -> Result<(), AllocError> {
     put_number(out, word, u64::from(number))
 }
 
@@ -24,7 +25,7 @@ pub fn put_attempt(out: &mut Vec<u8>, word: &[u8], attempt: &AttemptId) -> Resul
 }
 
 /// A word and a container behind it, as scripts name it.
-fn put_container(out: &mut Vec<u8>, word: &[u8], c: &ContainerId) -> Result<(), AllocError> {
+pub fn put_container(out: &mut Vec<u8>, word: &[u8], c: &ContainerId) -> Result<(), AllocError> {
     put_small(out, word, c.app.number())?;
     put_small(out, b".", c.number)
 }
@@ -90,7 +91,8 @@ fn put_step(out: &mut Vec<u8>, event: &Event) -> Result<(), AllocError> {
     }
 }
 
-fn put_address(out: &mut Vec<u8>, to: &Address) -> Result<(), AllocError> {
+/// To whom a packet goes.
+pub fn put_address(out: &mut Vec<u8>, to: &Address) -> Result<(), AllocError> {
     match to {
         Address::Master(k) => put_small(out, b"master ", k.number()),
         Address::Container(c) => put_container(out, b"container ", c),
@@ -113,7 +115,8 @@ pub fn put_envelope(out: &mut Vec<u8>, place: usize, e: &Envelope) -> Result<(),
     put_packet(out, &e.body)
 }
 
-fn put_packet(out: &mut Vec<u8>, packet: &Packet) -> Result<(), AllocError> {
+/// A packet.
+pub fn put_packet(out: &mut Vec<u8>, packet: &Packet) -> Result<(), AllocError> {
     match packet {
         Packet::Launch { c, a, incarnation } => {
             put_container(out, b"Launch ", c)?;

@@ -66,6 +66,16 @@ fn shown_words(rt: HostRuntime) -> Result<(), Fail> {
 }
 
 #[test]
+fn picture_words(rt: HostRuntime) -> Result<(), Fail> {
+    let alloc = rt.alloc();
+    assert!(rt; named(alloc, &["mrsim", "play", "--diagram"])? == mr_sim::Command::PlayDrawn);
+    refuses(&rt, alloc, &["mrsim", "play", "--diagram", "--trace"]);
+    refuses(&rt, alloc, &["mrsim", "play", "--history", "--diagram"]);
+    refuses(&rt, alloc, &["mrsim", "seq", "--diagram"]);
+    Ok(())
+}
+
+#[test]
 fn help(rt: HostRuntime) -> Result<(), Fail> {
     let alloc = rt.alloc();
     helps(&rt, alloc, &["mrsim", "--help"], "Statuses:")?;

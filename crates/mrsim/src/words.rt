@@ -123,6 +123,8 @@ prints (with a tab between a word and its count)
 
 const HISTORY_SHOWN: &str = "Shows each master's history behind the rest";
 
+const DRAWN: &str = "Prints a picture of the run (SVG) in place of the rest";
+
 const TRACE_SHOWN: &str = "Shows each event, with the packets that it added, before the rest";
 
 // A word that asks for more.
@@ -145,6 +147,11 @@ pub fn command_line<'a>(alloc: Global) -> Result<Command<'a>, AllocError> {
     let play = Command::new(alloc, "play")
         .about(PLAY)
         .after_help(PLAY_HELP)
+        .arg(
+            shows(alloc, "diagram", DRAWN)
+                .conflicts_with("history")?
+                .conflicts_with("trace")?,
+        )?
         .arg(shows(alloc, "history", HISTORY_SHOWN))?
         .arg(shows(alloc, "trace", TRACE_SHOWN))?;
     Command::new(alloc, "mrsim")
@@ -170,6 +177,9 @@ pub fn command_of(matches: &ArgMatches<'_>) -> mr_sim::Command {
 
 // What of a run is shown.
 fn play_of(words: &ArgMatches<'_>) -> mr_sim::Command {
+    if words.get_flag("diagram") {
+        return mr_sim::Command::PlayDrawn;
+    }
     let shown = Shown {
         trace: words.get_flag("trace"),
         history: words.get_flag("history"),

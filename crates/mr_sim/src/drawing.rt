@@ -1,0 +1,144 @@
+//! A run as a drawing: its lanes, rows and arrows, apart from how they are written.
+use mr_ids::AppAttempt;
+use mr_packet::{Address, ContainerId};
+
+/// Most events that a drawing shows.
+pub const MOST_ROWS: usize = 400;
+
+/// How the life of a lane ends.
+#[derive(Clone, Copy, Debug, PartialEq, Eq)]
+pub enum End {
+    /// It came to its end by itself.
+    Over,
+    /// It was ended: by a crash, a death, a kill or a restart of its node.
+    Died,
+}
+
+/// A master, a node or a container, from the row in which it begins to the row in which it ends.
+#[derive(Drop)]
+pub struct Lane {
+    /// Who it is.
+    pub who: Address,
+    /// Its name, for the head of the lane.
+    pub name: Vec<u8>,
+    /// The attempt that a container runs, without its job; else nothing.
+    pub attempt: Vec<u8>,
+    /// The row in which it begins.
+    pub begins: Option<usize>,
+    /// The row in which it ends, and how.
+    pub ends: Option<(usize, End)>,
+}
+
+/// What an event shows of itself in its row.
+#[derive(Clone, Copy, Debug, PartialEq, Eq)]
+pub enum Sign {
+    /// An event as any other.
+    Dot,
+    /// A master starts.
+    Start,
+    /// A master crashes.
+    Crash,
+    /// A container dies.
+    Death,
+    /// A node restarts.
+    Restart,
+    /// A master gives a node up.
+    Expiry,
+    /// A container hears that its attempt may commit.
+    Permission,
+    /// An attempt's output becomes its task's.
+    TaskCommit,
+    /// A success is stable: a reduce has its winner.
+    Winner,
+    /// The job commit begins.
+    JobCommit,
+    /// The success marker is there.
+    Marker,
+    /// It is told that the job succeeded.
+    Success,
+    /// It is told that the job failed.
+    Failure,
+    /// A call of a container was refused, or not answered: its attempt aborts.
+    Refusal,
+    /// A master stops: a call of it was refused, or not answered.
+    Stop,
+}
+
+/// An event.
+#[derive(Drop)]
+pub struct Row {
+    /// The lane of the one who acts.
+    pub lane: Option<usize>,
+    /// The lane of the node that is given up.
+    pub other: Option<usize>,
+    /// The event in the words of a script, with the name of the duty or the wish.
+    pub words: Vec<u8>,
+    /// What stands beside its sign in the lane.
+    pub label: Vec<u8>,
+    /// Whether that stands on the left, since the packet came from the right.
+    pub leftwards: bool,
+    /// What stands out of it.
+    pub note: Vec<u8>,
+    /// The store call with its answer, or the packet that is delivered.
+    pub detail: Vec<u8>,
+    /// Its sign.
+    pub sign: Sign,
+}
+
+/// What an arrow shows of its packet.
+#[derive(Clone, Copy, Debug, PartialEq, Eq)]
+pub enum Tone {
+    /// A packet as any other.
+    Plain,
+    /// Permission to commit.
+    Yes,
+    /// No permission to commit.
+    No,
+}
+
+/// A packet, from the row and the lane that it was sent from to the lane that it goes to, and the row in which it was delivered.
+#[derive(Clone, Copy, Debug, PartialEq, Eq)]
+pub struct Arrow {
+    pub from: Option<usize>,
+    pub sent: usize,
+    pub to: Option<usize>,
+    pub delivered: Option<usize>,
+    pub tone: Tone,
+}
+
+/// A run as it is drawn.
+#[derive(Drop)]
+pub struct Drawing {
+    /// The job's text.
+    pub job: Vec<u8>,
+    /// Masters, then nodes, then containers.
+    pub lanes: Vec<Lane>,
+    /// The events, in order.
+    pub rows: Vec<Row>,
+    /// The packets, in the order of their sending.
+    pub arrows: Vec<Arrow>,
+    /// Deliveries of packets that had been delivered before.
+    pub repeats: Vec<Arrow>,
+    /// How many more events there were.
+    pub more: usize,
+    /// What came of the whole run, a line each.
+    pub ending: Vec<u8>,
+}
+
+/// The lane of a master, a node or a container.
+pub fn lane_of(lanes: &[Lane], who: &Address) -> Option<usize> {
+    lanes.iter().position(|lane| lane.who == *who)
+}
+
+/// The lane of the master of a generation.
+pub fn master_lane(lanes: &[Lane], k: u32) -> Option<usize> {
+    match AppAttempt::new(k) {
+        Some(app) => lane_of(lanes, &Address::Master(app)),
+        None => None,
+    }
+}
+
+/// The lane of a container.
+pub fn container_lane(lanes: &[Lane], c: &ContainerId) -> Option<usize> {
+    lane_of(lanes, &Address::Container(*c))
+}

@@ -1,0 +1,129 @@
+//! What the picture of a run has, and when there is none.
+use crate::committer::is_refused;
+use mr_sim::{Command, JobTextFault, SimFault, run};
+use std::process::Abort;
+use std::rt::Clock;
+use std::sync::Wait;
+use std::test::Fail;
+use std::thread::Threads;
+
+// One map and one reduce, on one node.
+const ONE: &str =
+    "{\"id\":\"job_200707121733_0003\",\"job\":\"wordcount\",\"reduces\":1,\"splits\":[\"a b a\"]}";
+
+/// The picture of the script for the one job.
+fn drawn<H: AllocGlobal + Clock + Threads + Wait + Sync + Abort>(
+    rt: &H,
+    script: &str,
+) -> Result<String, Fail> {
+    let input = format!(in rt.alloc(); "{ONE}\n{script}")?;
+    let mut reader = input.as_bytes();
+    let mut writer = Vec::new(rt.alloc());
+    if let Err(fault) = run(rt, &Command::PlayDrawn, &mut reader, &mut writer) {
+        panic!(rt; "{fault}");
+    }
+    match str::from_utf8(&writer) {
+        Ok(text) => Ok(String::from_str(rt.alloc(), text)?),
+        Err(_) => panic!(rt; "no text"),
+    }
+}
+
+// How often the words stand in a picture.
+fn count(picture: &str, words: &str) -> usize {
+    picture.split(words).count().saturating_sub(1)
+}
+
+// Lanes of the master, the node and a container, and the launch as an arrow from the master's to the node's: a row is 20 high and
+// the first is at 152; the lanes are 112 apart, the first behind 14 letters of 6.1 and 134 more.
+#[test]
+fn lanes_and_a_packet(rt: HostRuntime) -> Result<(), Fail> {
+    let setup = "start 1 0\nduty 1\nduty 1\nduty 1\nduty 1\nduty 1";
+    let script = format!(in rt.alloc(); "{setup}\nlaunch 1 m 0 0\ndeliver 0")?;
+    let picture = drawn(&rt, &script)?;
+    assert!(rt; picture.starts_with("<svg xmlns=\"http://www.w3.org/2000/svg\""));
+    assert!(rt; picture.ends_with("</svg>\n"));
+    assert!(rt;
+        picture.contains("<title>job_200707121733_0003: a run of 8 events, time goes down</title>")
+    );
+    assert_eq!(rt; count(&picture, "class=\"head\""), 6);
+    assert!(rt; picture.contains("<text class=\"head\" x=\"219\" y=\"116\">master 1</text>"));
+    assert!(rt; picture.contains("<text class=\"head\" x=\"331\" y=\"116\">node 0</text>"));
+    assert!(rt; picture.contains("<text class=\"head\" x=\"443\" y=\"116\">container 1.0</text>"));
+    assert_eq!(rt; count(&picture, "class=\"packet\" x"), 2);
+    assert!(rt;
+        picture.contains("<line class=\"packet\" x1=\"219\" y1=\"272\" x2=\"326\" y2=\"292\"/>")
+    );
+    assert!(rt; picture.contains(">launch 1 m 0 0</text>"));
+    Ok(())
+}
+
+// A run from its beginning to its end: one yes, one commit of a task, one winner, the start of the job commit and the marker.
+#[test]
+fn what_stands_out(rt: HostRuntime) -> Result<(), Fail> {
+    let picture = drawn(&rt, "start 1 0\ncalm 1")?;
+    for words in [
+        ">permission to commit<",
+        ">task commit<",
+        ">winner: r 0 attempt 0<",
+        ">the job commit starts<",
+        ">the success marker is there<",
+        ">the job succeeded, and this is told<",
+        ">outcome succeeded<",
+    ] {
+        assert!(rt; picture.contains(words), "{words}");
+    }
+    let halfway = drawn(&rt, "start 1 0\ncalm 1 before marker")?;
+    assert!(rt; halfway.contains(">the job commit starts<"));
+    assert!(rt; !halfway.contains(">the success marker is there<"));
+    assert!(rt; halfway.contains(">outcome none<"));
+    Ok(())
+}
+
+// A packet that comes again, one that never comes, a death, a crash, a restart, and a node that is given up.
+#[test]
+fn losses_and_deaths(rt: HostRuntime) -> Result<(), Fail> {
+    let script = "start 1 0\ncalm 1 before report\ndeliver 0\nexpire 1 0\nrestart 0\ncrash 1 0";
+    let picture = drawn(&rt, script)?;
+    assert_eq!(rt; count(&picture, "class=\"repeat\" x1=\"2"), 1);
+    for words in [
+        ">master 1 gives up node 0<",
+        ">node 0 restarts, its containers end<",
+        ">master 1 crashes<",
+        "not delivered to master 1: NodeUp 0 incarnation 2",
+    ] {
+        assert!(rt; picture.contains(words), "{words}");
+    }
+    Ok(())
+}
+
+#[test]
+fn long_runs_are_cut(rt: HostRuntime) -> Result<(), Fail> {
+    let mut script = String::new(rt.alloc());
+    for _ in 0..403 {
+        script.push_str("restart 0\n")?;
+    }
+    let picture = drawn(&rt, &script)?;
+    assert!(rt; picture.contains(">cut here: 3 more events are not drawn<"));
+    assert_eq!(rt; count(&picture, ">restart 0<"), 400);
+    let whole = drawn(&rt, "restart 0")?;
+    assert!(rt; !whole.contains("cut here"));
+    Ok(())
+}
+
+// Refused in the words of `play`, with no picture.
+#[test]
+fn refused_scripts_have_no_picture(rt: HostRuntime) -> Result<(), Fail> {
+    let script = format!(in rt.alloc(); "{ONE}\nstart 1 0\nbegin")?;
+    is_refused(
+        &rt,
+        Command::PlayDrawn,
+        script.as_bytes(),
+        SimFault::BadCommand(3),
+    )?;
+    is_refused(
+        &rt,
+        Command::PlayDrawn,
+        b"start 1 0",
+        SimFault::Job(JobTextFault::Text),
+    )
+}
