@@ -24,20 +24,20 @@ use Rattle.mr_world.specs.Applying.{CanHappen, IsRefused}
 use Rattle.mr_world.specs.inner.Asking.{IsForeseen, RefusesDuty}
 use Rattle.mr_world.specs.Asks.{asked_by, asked_in, by_container, by_master, Looks}
 use Rattle.mr_world.specs.inner.Calling.{ForeseesCall, answer_of}
-use Rattle.mr_world.specs.Journal.{Journal, world_in, fits}
-use Rattle.mr_world.specs.Limits.{within}
-use Rattle.mr_world.specs.Standing.{Standing, IsTaken, Refuses}
+use Rattle.mr_world.specs.Journal.{Journal, world_in, fits, fits_first}
+use Rattle.mr_world.specs.Limits.{within, fits_at_once}
+use Rattle.mr_world.specs.Standing.{Standing, IsTaken, Refuses, RefusesEvent}
 use Rattle.mr_world.proofs.Asking.{asks}
 
 -- ---- what would be taken is refused for want of memory alone
 
-wants : (o : Option Why) (b : Bool) (f : WorldFault) → o ≡ None → b ≡ true → Refuses o b f → f ≡ fault.NoMemory
-wants o b f now fits r = subst (λ c. Refuses None c f) fits (subst (λ x. Refuses x b f) now r)
+wants : (o : Option Why) (b at_once : Bool) (f : WorldFault) → o ≡ None → b ≡ true → Refuses o b at_once f → f ≡ fault.NoMemory
+wants o b at_once f now fits r = subst (λ c. Refuses None c at_once f) fits (subst (λ x. Refuses x b at_once f) now r)
 
-pub looks-refused : (p : Parts) (e : Event) (r : Result (Option Asked) WorldFault) (f : WorldFault) → ((w : World) → Standing p w → Refuses (not_now p.config w e) (within p.config w e) f)
+pub looks-refused : (p : Parts) (e : Event) (r : Result (Option Asked) WorldFault) (f : WorldFault) → ((w : World) → Standing p w → RefusesEvent p.config w e f)
     → IsErrAnd r (λ x. x ≡ f) → Looks p e r
 looks-refused p e r f why is = let q = err_from_is_err_and r is in
-    subst (Looks p e) (sym q.1) (λ w s t. q.2 ∙ wants (not_now p.config w e) (within p.config w e) f t.now t.fits (why w s))
+    subst (Looks p e) (sym q.1) (λ w s t. q.2 ∙ wants (not_now p.config w e) (within p.config w e) (fits_at_once p.config w e) f t.now t.fits (why w s))
 
 pub looks-in-vain : (p : Parts) (e : Event) (r : Result (Option Asked) WorldFault) → IsErrAnd r (λ x. x ≡ fault.NoMemory) → Looks p e r
 looks-in-vain p e r is = let q = err_from_is_err_and r is in subst (Looks p e) (sym q.1) (λ w s t. q.2)
@@ -47,10 +47,10 @@ looks-in-vain p e r is = let q = err_from_is_err_and r is in subst (Looks p e) (
 same-call : (a b : StoreCall) → Some a ≡ Some b → a ≡ b
 same-call a b e = cc
 
-pub by-master : (p : Parts) (app k : ℕ) (f : Weather) (c : StoreCall) (a : StoreAnswer) → app ≡ k → IsForeseen p k f c a → (w : World) → Standing p w → Some (Master app c a) ≡ by_master w k f (duty p.config w k)
-by-master p app k f c a is i w s = let m = asks p k f c a i w s in
+pub by-master : (p : Parts) (app k : ℕ) (f : Weather) (c called : StoreCall) (a : StoreAnswer) → app ≡ k → called ≡ c → IsForeseen p k f c a → (w : World) → Standing p w → Some (Master app called a) ≡ by_master w k f (duty p.config w k)
+by-master p app k f c called a is same i w s = let m = asks p k f c a i w s in
     let call : store_call m.call ≡ c = same-call _ c (sym (ap (option_map store_call) m.due) ∙ (i.due.due w s).due) in
-    ap (λ j. Some (Master j c a)) is ∙ (ap₂ (λ x y. Some (Master k x y)) (sym call) (i.told ∙ sym m.agrees.told) ∙ ap (by_master w k f) (sym m.due))
+    ap₂ (λ j x. Some (Master j x a)) is same ∙ (ap₂ (λ x y. Some (Master k x y)) (sym call) (i.told ∙ sym m.agrees.told) ∙ ap (by_master w k f) (sym m.due))
 
 -- ---- a container's
 
@@ -65,18 +65,30 @@ by-container p c f call r fore is w s = let g = fore w s in
 
 -- ---- of an event that is looked at
 
-away : (o : Option Why) (b : Bool) (why : Why) (x : Option Asked) → Refuses o b (fault.NotNow why) → None ≡ (if is_none o && b then x else None)
-away (Some y) b why x r = refl
-away None true why x r = cc
-away None false why x r = refl
+away : (o : Option Why) (b at_once : Bool) (why : Why) (x : Option Asked) → Refuses o b at_once (fault.NotNow why) → None ≡ (if is_none o && b then x else None)
+away (Some y) b at_once why x r = refl
+away None true at_once why x r = cc
+away None false at_once why x r = refl
 
 pub not-now : (j : Journal) (e : Event) (f : WorldFault) (why : Why) → f ≡ fault.NotNow why → IsRefused j e f → None ≡ asked_in j e
-not-now j e f why is r = away (not_now j.config (world_in j) e) (fits j e) why (asked_by j.config (world_in j) e) (subst (IsRefused j e) is r)
+not-now j e f why is r = away (not_now j.config (world_in j) e) (fits j e) (fits_first j e) why (asked_by j.config (world_in j) e) (subst (IsRefused j e) is r)
 
-too-much : (o : Option Why) (b : Bool) (x : Option Asked) → Refuses o b fault.Full → None ≡ (if is_none o && b then x else None)
-too-much (Some y) b x r = refl
-too-much None true x r = cc
-too-much None false x r = refl
+too-much : (o : Option Why) (b at_once : Bool) (x : Option Asked) → Refuses o b at_once fault.Full → None ≡ (if is_none o && b then x else None)
+too-much (Some y) b at_once x r = refl
+too-much None true at_once x r = cc
+too-much None false at_once x r = refl
 
 pub no-room : (j : Journal) (e : Event) (f : WorldFault) → f ≡ fault.Full → IsRefused j e f → None ≡ asked_in j e
-no-room j e f is r = too-much (not_now j.config (world_in j) e) (fits j e) (asked_by j.config (world_in j) e) (subst (IsRefused j e) is r)
+no-room j e f is r = too-much (not_now j.config (world_in j) e) (fits j e) (fits_first j e) (asked_by j.config (world_in j) e) (subst (IsRefused j e) is r)
+
+-- one that can happen
+pub is-asked : (j : Journal) (e : Event) (x : Option Asked) → CanHappen j e → x ≡ asked_by j.config (world_in j) e → x ≡ asked_in j e
+is-asked j e x can is = is ∙ sym (ap₂ (λ o b. if is_none o && b then asked_by j.config (world_in j) e else None) can.now can.fits)
+
+-- its limits, that of the journal left out
+both : (a b : Bool) → (a && b) ≡ true → b ≡ true
+both true b e = e
+both false b e = cc
+
+pub takes : (j : Journal) (e : Event) → CanHappen j e → IsTaken j.config (world_in j) e
+takes j e can = record { now = can.now; fits = both _ _ can.fits }

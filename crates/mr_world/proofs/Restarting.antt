@@ -29,7 +29,7 @@ use Rattle.mr_world.specs.declared.living.Living.{Living}
 use Rattle.mr_world.specs.declared.nodes.Nodes.{Nodes}
 use Rattle.mr_world.specs.declared.parts.Parts.{Parts}
 use Rattle.mr_world.specs.Living.{kept}
-use Rattle.mr_world.specs.Limits.{within, fits_bag}
+use Rattle.mr_world.specs.Limits.{within, fits_at_once, fits_bag}
 use Rattle.mr_world.specs.Machines.{node_of, node_stepped, master_of, ChangesNode}
 use Rattle.mr_world.specs.inner.Restarting.{unless_on}
 use Rattle.mr_world.specs.Standing.{Standing, IsTaken, LivingStand, RefusesEvent}
