@@ -1,5 +1,5 @@
 -- The store call of an event is what the definitions say.
-use Rattle.std.proofs.Common.{◌≡◌, ℕ, refl, sym, ◌∙◌, ap, ap₂, subst, Bool, true, false, ◌&&◌, Option, Some, None, Result, Ok, Err, IsErrAnd, if◌then◌else◌, is_none, absurd}
+use Rattle.std.proofs.Common.{◌≡◌, ℕ, refl, sym, ◌∙◌, ap, ap₂, subst, Bool, true, false, ◌&&◌, Option, Some, None, Result, Ok, Err, IsErrAnd, if◌then◌else◌, is_none}
 use Rattle.std.proofs.lemmas.Result.{err_from_is_err_and}
 use Rattle.std.specs.Option.{option_map}
 use Rattle.mr_event.specs.declared.why.Why.{Why}
