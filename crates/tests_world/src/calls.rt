@@ -13,27 +13,59 @@ fn asked(rt: &impl Abort, world: &World, event: &Event) -> Option<Asked> {
     world.asks(event).expect(rt, "no memory")
 }
 
-// Whether a master looks for a mark that is not there.
-fn finds_no_mark(asked: &Option<Asked>) -> bool {
-    matches!(
-        asked,
-        Some(Asked::Master {
-            call: StoreCall::Names(Op::Exists(_)),
-            answer: StoreAnswer::Names(Ok(Answer::Found(None))),
-            ..
-        })
-    )
+// The store call of a master's event, with what the master hears.
+fn by_master(rt: &impl Abort, world: &World, event: &Event) -> (StoreCall, StoreAnswer) {
+    match asked(rt, world, event) {
+        Some(Asked::Master { app, call, answer }) => {
+            assert!(rt; app.number() == 1);
+            (call, answer)
+        }
+        _ => panic!(rt; "no call of a master"),
+    }
 }
 
-// Whether a master reads, and hears that it is superseded by generation 2.
-fn is_superseded(asked: &Option<Asked>) -> bool {
-    matches!(
-        asked,
-        Some(Asked::Master {
-            answer: StoreAnswer::Names(Err(NameFault::Superseded(2))),
-            ..
-        })
-    )
+// Whether the call looks whether something is there.
+fn looks(call: &StoreCall) -> bool {
+    match call {
+        StoreCall::Names(op) => matches!(op, Op::Exists(_)),
+        _ => false,
+    }
+}
+
+fn finds_nothing(answer: &StoreAnswer) -> bool {
+    match answer {
+        StoreAnswer::Names(answer) => is_nothing(answer),
+        _ => false,
+    }
+}
+
+fn is_nothing(answer: &Result<Answer, NameFault>) -> bool {
+    match answer {
+        Ok(answer) => is_absent(answer),
+        Err(_) => false,
+    }
+}
+
+fn is_absent(answer: &Answer) -> bool {
+    match answer {
+        Answer::Found(found) => found.is_none(),
+        _ => false,
+    }
+}
+
+fn is_late(answer: &StoreAnswer) -> bool {
+    match answer {
+        StoreAnswer::Names(answer) => is_superseded(answer),
+        _ => false,
+    }
+}
+
+// Whether generation 2 has come.
+fn is_superseded(answer: &Result<Answer, NameFault>) -> bool {
+    match answer {
+        Ok(_) => false,
+        Err(fault) => *fault == NameFault::Superseded(2),
+    }
 }
 
 // The first call of a master that is not there, of one in good and in bad weather, and of one that another has superseded.
@@ -43,20 +75,13 @@ fn calls_of_a_master_are_told(rt: HostRuntime) {
     let calm = Event::Duty(1, Weather::Calm);
     assert!(rt; asked(&rt, &world, &calm).is_none());
     takes(&rt, &mut world, Event::Start(1, 0));
-    assert!(rt; finds_no_mark(&asked(&rt, &world, &calm)));
-    let lost = asked(&rt, &world, &Event::Duty(1, Weather::Unanswered));
-    assert!(rt;
-        matches!(
-            lost,
-            Some(Asked::Master {
-                call: StoreCall::Names(Op::Exists(_)),
-                answer: StoreAnswer::Fault,
-                ..
-            })
-        )
-    );
+    let (call, answer) = by_master(&rt, &world, &calm);
+    assert!(rt; looks(&call) && finds_nothing(&answer));
+    let (call, answer) = by_master(&rt, &world, &Event::Duty(1, Weather::Unanswered));
+    assert!(rt; looks(&call) && matches!(answer, StoreAnswer::Fault));
     takes(&rt, &mut world, Event::Start(2, 0));
-    assert!(rt; is_superseded(&asked(&rt, &world, &calm)));
+    let (_call, answer) = by_master(&rt, &world, &calm);
+    assert!(rt; is_late(&answer));
     assert!(rt; world.journal().len() == 2);
 }
 
@@ -71,6 +96,27 @@ fn hears(rt: &impl Abort, world: &World, weather: Weather) -> Reply {
     reply
 }
 
+fn is_done(reply: &Reply) -> bool {
+    match reply {
+        Reply::Answered(answer) => says_done(answer),
+        Reply::Fault => false,
+    }
+}
+
+fn says_done(answer: &Result<Answer, NameFault>) -> bool {
+    match answer {
+        Ok(answer) => matches!(answer, Answer::Done),
+        Err(_) => false,
+    }
+}
+
+fn hears_late(reply: &Reply) -> bool {
+    match reply {
+        Reply::Answered(answer) => is_superseded(answer),
+        Reply::Fault => false,
+    }
+}
+
 // The rename of a reduce's output, in good and in bad weather and below the fence. It is not made.
 #[test]
 fn calls_of_a_container_are_told(rt: HostRuntime) {
@@ -78,11 +124,11 @@ fn calls_of_a_container_are_told(rt: HostRuntime) {
     let mut run = started(&rt, alloc, 1);
     run.calms(&rt, alloc, 1, Stop::BeforeRename);
     let done = hears(&rt, &run.world, Weather::Calm);
-    assert!(rt; matches!(done, Reply::Answered(Ok(Answer::Done))));
+    assert!(rt; is_done(&done));
     let lost = hears(&rt, &run.world, Weather::Unavailable);
     assert!(rt; matches!(lost, Reply::Fault));
     takes(&rt, &mut run.world, Event::Start(2, 0));
     let late = hears(&rt, &run.world, Weather::Calm);
-    assert!(rt; matches!(late, Reply::Answered(Err(NameFault::Superseded(2)))));
+    assert!(rt; hears_late(&late));
     assert!(rt; asked(&rt, &run.world, &Event::Deliver(0)).is_none());
 }
