@@ -19,10 +19,15 @@ use std::alloc::{AllocError, Global};
 pub fn drawing_of(alloc: Global, world: &World, ending: Vec<u8>) -> Result<Drawing, SimFault>
     ensures { IfErr result (λ e. e ≡ SimFault.NoMemory) }
 {
+    let drawing = shown(alloc, world, ending)?;
+    Ok(drawing)
+}
+
+fn shown(alloc: Global, world: &World, ending: Vec<u8>) -> Result<Drawing, AllocError> {
     let journal = world.journal();
     let mut drawing = blank(alloc, &shown_part(alloc, world)?, ending)?;
     drawing.more = journal.len().saturating_sub(MOST_ROWS);
-    let mut again = opened(alloc, world.config())?;
+    let mut again = begun(alloc, world)?;
     live(&mut drawing.lanes, &again, 0, End::Over);
     for event in journal.iter().take(MOST_ROWS) {
         add(alloc, &mut drawing, &mut again, journal, event)?;
@@ -30,11 +35,17 @@ pub fn drawing_of(alloc: Global, world: &World, ending: Vec<u8>) -> Result<Drawi
     Ok(drawing)
 }
 
+// A world at its beginning, of the config of this one.
+fn begun(alloc: Global, world: &World) -> Result<World, AllocError> {
+    match opened(alloc, world.config()) {
+        Ok(world) => Ok(world),
+        Err(_) => Err(AllocError),
+    }
+}
+
 // A world in which the events that are shown have happened.
-fn shown_part(alloc: Global, world: &World) -> Result<World, SimFault>
-    ensures { IfErr result (λ e. e ≡ SimFault.NoMemory) }
-{
-    let mut part = opened(alloc, world.config())?;
+fn shown_part(alloc: Global, world: &World) -> Result<World, AllocError> {
+    let mut part = begun(alloc, world)?;
     for event in world.journal().iter().take(MOST_ROWS) {
         happen(alloc, &mut part, event)?;
     }
