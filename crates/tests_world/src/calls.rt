@@ -16,10 +16,7 @@ fn asked(rt: &impl Abort, world: &World, event: &Event) -> Option<Asked> {
 // The store call of a master's event, with what the master hears.
 fn by_master(rt: &impl Abort, world: &World, event: &Event) -> (StoreCall, StoreAnswer) {
     match asked(rt, world, event) {
-        Some(Asked::Master { app, call, answer }) => {
-            assert!(rt; app.number() == 1);
-            (call, answer)
-        }
+        Some(Asked::Master { call, answer, .. }) => (call, answer),
         _ => panic!(rt; "no call of a master"),
     }
 }
