@@ -7,3 +7,4 @@ pub mod Effects
 pub mod TaskLaws
 pub mod AbortLaws
 pub mod RecoveryLaws
+pub mod Halves

@@ -6,4 +6,5 @@ pub mod Settles
 pub mod Laws
 pub mod Recovery
 pub mod Recovered
+pub mod Halves
 pub mod inner

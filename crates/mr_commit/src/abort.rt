@@ -1,17 +1,19 @@
-ghost use Rattle.std.specs.Prelude.{◌≡◌, [], ◌∷◌, IfOk};
+ghost use Rattle.std.specs.Prelude.{◌≡◌, [], ◌∷◌, ◌++◌, drop, IfOk};
 ghost use Rattle.std.specs.Option.{option_copied};
 ghost use Rattle.mr_commit.specs.Steps.{next_call, Hears, Steps};
+ghost use Rattle.mr_commit.specs.Halves.{Follows, Fits};
 ghost use Rattle.mr_commit.specs.CommitterEffect.{Commits, HasEffect};
 ghost use Rattle.mr_commit.specs.Tables.{abort_task, abort_job};
 
 use crate::checks::heard_generation;
 use crate::fault::{CommitFault, StepDone};
 use crate::line::TableLine;
-use crate::lines::Lines;
+use crate::lines::{Following, Lines};
 use mr_ids::{AppAttempt, AttemptId};
 use mr_names::{Answer, Caller, NameFault, Namespace, Op};
 use mr_paths::Layout;
 use std::alloc::AllocError;
+use std::collections::LinkedList;
 use std::marker::Model;
 
 /// A task's abort, one call at a time: the attempt's output is deleted. Nothing there is well.
@@ -36,7 +38,7 @@ impl AbortTask {
     {
         let alloc = layout.dest.allocator();
         let path = layout.task_attempt(k, attempt)?;
-        let table = Vec::from_array(alloc, [TableLine::clears(path)])?;
+        let table = LinkedList::from_array(alloc, [TableLine::clears(path)])?;
         let lines = Lines::new(table);
         Ok(AbortTask { lines })
     }
@@ -56,6 +58,22 @@ impl AbortTask {
         ensures { Hears self.old answer result self.new }
     {
         self.lines.took(answer)
+    }
+
+    /// Makes ready for the answer of the next call, the lines that follow, and changes nothing. A fault is that of `took`,
+    /// and `NoMemory` too.
+    pub fn follow(&self, answer: &Result<Answer, NameFault>) -> Result<Following, CommitFault>
+        ensures { Follows self.now answer.now result }
+    {
+        self.lines.follow(answer)
+    }
+
+    /// Hears the answer that it was made ready for: the second half of `took`. It takes no memory.
+    pub fn go_on(&mut self, following: Following)
+        requires { Fits following.lines self.old }
+        ensures { self.new ≡ following.lines ++ drop 1 self.old }
+    {
+        self.lines.go_on(following);
     }
 
     /// Makes the next call and hears its answer: `call`, `Namespace::perform` and `took` in one.
@@ -115,7 +133,7 @@ impl AbortJob {
     {
         let alloc = layout.dest.allocator();
         let path = layout.temporary()?;
-        let table = Vec::from_array(alloc, [TableLine::clears(path)])?;
+        let table = LinkedList::from_array(alloc, [TableLine::clears(path)])?;
         let lines = Lines::new(table);
         Ok(AbortJob { lines })
     }
@@ -135,6 +153,22 @@ impl AbortJob {
         ensures { Hears self.old answer result self.new }
     {
         self.lines.took(answer)
+    }
+
+    /// Makes ready for the answer of the next call, the lines that follow, and changes nothing. A fault is that of `took`,
+    /// and `NoMemory` too.
+    pub fn follow(&self, answer: &Result<Answer, NameFault>) -> Result<Following, CommitFault>
+        ensures { Follows self.now answer.now result }
+    {
+        self.lines.follow(answer)
+    }
+
+    /// Hears the answer that it was made ready for: the second half of `took`. It takes no memory.
+    pub fn go_on(&mut self, following: Following)
+        requires { Fits following.lines self.old }
+        ensures { self.new ≡ following.lines ++ drop 1 self.old }
+    {
+        self.lines.go_on(following);
     }
 
     /// Makes the next call and hears its answer: `call`, `Namespace::perform` and `took` in one.

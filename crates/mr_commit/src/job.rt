@@ -1,17 +1,19 @@
-ghost use Rattle.std.specs.Prelude.{◌≡◌, [], ◌∷◌, IfOk};
+ghost use Rattle.std.specs.Prelude.{◌≡◌, [], ◌∷◌, ◌++◌, drop, IfOk};
 ghost use Rattle.std.specs.Option.{option_copied};
 ghost use Rattle.mr_commit.specs.Steps.{next_call, next_passes, Hears, Steps};
+ghost use Rattle.mr_commit.specs.Halves.{Follows, Fits};
 ghost use Rattle.mr_commit.specs.CommitterEffect.{Commits, HasEffect};
 ghost use Rattle.mr_commit.specs.Tables.{commit_job};
 
 use crate::checks::heard_generation;
 use crate::fault::{CommitFault, StepDone};
 use crate::line::TableLine;
-use crate::lines::Lines;
+use crate::lines::{Following, Lines};
 use mr_ids::AppAttempt;
 use mr_names::{Answer, Caller, NameFault, Namespace, Op};
 use mr_paths::Layout;
 use std::alloc::AllocError;
+use std::collections::LinkedList;
 use std::marker::Model;
 
 /// A job's commit, one call at a time: all committed output is merged onto the destination, then what was temporary
@@ -39,7 +41,7 @@ impl CommitJob {
     {
         let alloc = layout.dest.allocator();
         let tasks = layout.job_attempt(k)?;
-        let table = Vec::from_array(
+        let table = LinkedList::from_array(
             alloc,
             [
                 TableLine::merges_tasks(tasks, layout.dest.copy()?)?,
@@ -73,6 +75,22 @@ impl CommitJob {
         ensures { Hears self.old answer result self.new }
     {
         self.lines.took(answer)
+    }
+
+    /// Makes ready for the answer of the next call, the lines that follow, and changes nothing. A fault is that of `took`,
+    /// and `NoMemory` too.
+    pub fn follow(&self, answer: &Result<Answer, NameFault>) -> Result<Following, CommitFault>
+        ensures { Follows self.now answer.now result }
+    {
+        self.lines.follow(answer)
+    }
+
+    /// Hears the answer that it was made ready for: the second half of `took`. It takes no memory.
+    pub fn go_on(&mut self, following: Following)
+        requires { Fits following.lines self.old }
+        ensures { self.new ≡ following.lines ++ drop 1 self.old }
+    {
+        self.lines.go_on(following);
     }
 
     /// Makes the next call and hears its answer: `call`, `Namespace::perform` and `took` in one.

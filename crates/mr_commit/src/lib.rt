@@ -35,6 +35,10 @@
 //! - **The next call, and nothing else.** `next` (clause `Steps`), `call` (`next_call`) and `took` (`Hears`) are
 //!   one definition: a step value is the list of lines of its table that are left; the first line has a call; its
 //!   answer puts the lines that follow in its place. `next` is `call`, `Namespace::perform` and `took` in one.
+//! - **The same in two halves.** `follow` makes ready for an answer (the lines that follow, and whether calls are left
+//!   then, or the fault) and changes nothing; `go_on` puts these lines in the place of the first and takes no memory.
+//!   Together they are `took` (`Follows`, of a recovery `FollowsOf`). So whoever has to make ready for an answer before
+//!   its call is made copies no lines.
 //! - **Over is over.** After `Finished`, and after each fault but `NoMemory`, no line is left: the answer is `Over`
 //!   from then on and no call is made. After `NoMemory` the step value and the namespace are as before, and
 //!   `NoMemory` is answered only by a line that may want memory and whose call is not refused.
@@ -88,6 +92,7 @@ pub use checks::{check_output, needs_task_commit};
 pub use fault::{CommitFault, StepDone};
 pub use job::{CommitJob, commit_job};
 pub use laws::{aborts_leave, one_result, task_commits, task_recovers, whole_forms_end};
+pub use lines::Following;
 pub use recover::{RecoverTask, recover_task};
 pub use setup::{SetupJob, setup_job};
 pub use task::{CommitTask, commit_task};

@@ -8,6 +8,7 @@ use mr_ids::{AppAttempt, TaskId};
 use mr_names::{Answer, Entry, Kind, NameFault, Op};
 use mr_paths::{Layout, Path};
 use std::alloc::{AllocError, Global};
+use std::collections::LinkedList;
 use std::marker::Model;
 
 /// What follows once the call of a line was answered.
@@ -248,14 +249,14 @@ impl TableLine {
         &self,
         alloc: Global,
         answer: &Result<Answer, NameFault>,
-    ) -> Result<Vec<TableLine>, CommitFault>
-        ensures lines { IfOk result (λ lines. replaced self.now answer.now ≡ Ok lines.items) }
+    ) -> Result<LinkedList<TableLine>, CommitFault>
+        ensures lines { IfOk result (λ lines. replaced self.now answer.now ≡ Ok lines) }
         ensures fault { IfErr result (λ f. IsFault self.now answer.now f) }
     {
         match answer {
             Ok(answer) => self.answered(alloc, answer),
             Err(NameFault::Missing) if matches!(self.rule, Rule::MissingPasses) => {
-                Ok(Vec::new(alloc))
+                Ok(LinkedList::new(alloc))
             }
             Err(NameFault::Missing | NameFault::NotFile)
                 if matches!(self.rule, Rule::Measure(_bytes)) => { Err(CommitFault::OutputMissing) }
@@ -263,14 +264,14 @@ impl TableLine {
         }
     }
 
-    fn answered(&self, alloc: Global, answer: &Answer) -> Result<Vec<TableLine>, CommitFault>
-        ensures lines { IfOk result (λ lines. answered self.now answer.now ≡ Ok lines.items) }
+    fn answered(&self, alloc: Global, answer: &Answer) -> Result<LinkedList<TableLine>, CommitFault>
+        ensures lines { IfOk result (λ lines. answered self.now answer.now ≡ Ok lines) }
         ensures fault { IfErr result (λ f. IsFault self.now (Ok answer.now) f) }
     {
         match &self.rule {
-            Rule::Plain | Rule::MissingPasses => Ok(Vec::new(alloc)),
+            Rule::Plain | Rule::MissingPasses => Ok(LinkedList::new(alloc)),
             Rule::Needed => match found(answer) {
-                Some(_kind) => Ok(Vec::new(alloc)),
+                Some(_kind) => Ok(LinkedList::new(alloc)),
                 None => Err(CommitFault::OutputMissing),
             },
             Rule::Merge { taken, from, to } => {
@@ -323,12 +324,12 @@ fn bytes_read(answer: &Answer) -> &[u8]
 }
 
 /// Nothing follows where a file has the recorded length.
-fn measured(alloc: Global, bytes: u32, found: &[u8]) -> Result<Vec<TableLine>, CommitFault>
-    ensures lines { IfOk result (λ lines. measured bytes found.now ≡ Ok lines.items) }
+fn measured(alloc: Global, bytes: u32, found: &[u8]) -> Result<LinkedList<TableLine>, CommitFault>
+    ensures lines { IfOk result (λ lines. measured bytes found.now ≡ Ok lines) }
     ensures fault { IfErr result (λ f. (f ≡ CommitFault.WrongLength) × (measured bytes found.now ≡ Err CommitFault.WrongLength)) }
 {
     if found.len() == bytes as usize {
-        Ok(Vec::new(alloc))
+        Ok(LinkedList::new(alloc))
     } else {
         Err(CommitFault::WrongLength)
     }
@@ -354,8 +355,8 @@ fn sought(
     k: AppAttempt,
     j: AppAttempt,
     answer: &Answer,
-) -> Result<Vec<TableLine>, CommitFault>
-    ensures lines { IfOk result (λ lines. sought layout.now.dest task bytes k j (found answer.now) ≡ Ok lines.items) }
+) -> Result<LinkedList<TableLine>, CommitFault>
+    ensures lines { IfOk result (λ lines. sought layout.now.dest task bytes k j (found answer.now) ≡ Ok lines) }
     ensures fault { IfErr result (λ f. IsFault (Seeks layout.now.dest task bytes k j) (Ok answer.now) f) }
 {
     match found(answer) {
@@ -374,11 +375,11 @@ pub fn seeking(
     bytes: Option<u32>,
     k: AppAttempt,
     j: AppAttempt,
-) -> Result<Vec<TableLine>, AllocError>
-    ensures { IfOk result (λ lines. lines.items ≡ Seeks layout.now.dest task bytes k j ∷ []) }
+) -> Result<LinkedList<TableLine>, AllocError>
+    ensures { IfOk result (λ lines. lines ≡ Seeks layout.now.dest task bytes k j ∷ []) }
 {
     let line = TableLine::seeks(layout, task, bytes, k, j)?;
-    Ok(Vec::from_array(layout.dest.allocator(), [line])?)
+    Ok(LinkedList::from_array(layout.dest.allocator(), [line])?)
 }
 
 /// The lines by which what generation `j` committed of a task takes the place of what generation `k` committed.
@@ -389,18 +390,18 @@ fn taking_over(
     bytes: Option<u32>,
     k: AppAttempt,
     j: AppAttempt,
-) -> Result<Vec<TableLine>, AllocError>
-    ensures { IfOk result (λ lines. lines.items ≡ taking_over layout.now.dest task bytes k j) }
+) -> Result<LinkedList<TableLine>, AllocError>
+    ensures { IfOk result (λ lines. lines ≡ taking_over layout.now.dest task bytes k j) }
 {
     let from = layout.committed(j, task)?;
     let to = layout.committed(k, task)?;
-    let mut lines = Vec::new(alloc);
+    let mut lines = LinkedList::new(alloc);
     if let Some(bytes) = bytes {
         let part = from.child(layout.part(task.number)?)?;
-        lines.push(TableLine::measures(part, bytes))?;
+        lines.push_back(TableLine::measures(part, bytes))?;
     }
-    lines.push(TableLine::clears(to.copy()?))?;
-    lines.push(TableLine::does(Op::Rename(from, to)))?;
+    lines.push_back(TableLine::clears(to.copy()?))?;
+    lines.push_back(TableLine::does(Op::Rename(from, to)))?;
     Ok(lines)
 }
 
@@ -411,19 +412,19 @@ fn merging(
     from: &Path,
     to: &Path,
     there: Option<Kind>,
-) -> Result<Vec<TableLine>, AllocError>
-    ensures { IfOk result (λ lines. lines.items ≡ merging taken from.now to.now there) }
+) -> Result<LinkedList<TableLine>, AllocError>
+    ensures { IfOk result (λ lines. lines ≡ merging taken from.now to.now there) }
 {
-    let mut lines = Vec::new(alloc);
+    let mut lines = LinkedList::new(alloc);
     match (taken, there) {
         (_, None) => {}
         (Kind::Dir, Some(Kind::Dir)) => {
-            lines.push(TableLine::merges_each(from.copy()?, to.copy()?)?)?;
+            lines.push_back(TableLine::merges_each(from.copy()?, to.copy()?)?)?;
             return Ok(lines);
         }
-        (_, Some(_)) => lines.push(TableLine::does(Op::Delete(to.copy()?)))?,
+        (_, Some(_)) => lines.push_back(TableLine::does(Op::Delete(to.copy()?)))?,
     }
-    lines.push(TableLine::does(Op::Rename(from.copy()?, to.copy()?)))?;
+    lines.push_back(TableLine::does(Op::Rename(from.copy()?, to.copy()?)))?;
     Ok(lines)
 }
 
@@ -433,14 +434,14 @@ fn merging_children(
     from: &Path,
     to: &Path,
     entries: &[Entry],
-) -> Result<Vec<TableLine>, AllocError>
-    ensures { IfOk result (λ lines. lines.items ≡ map (merging_child from.now to.now) entries.now) }
+) -> Result<LinkedList<TableLine>, AllocError>
+    ensures { IfOk result (λ lines. lines ≡ map (merging_child from.now to.now) entries.now) }
 {
-    let mut lines = Vec::new(alloc);
+    let mut lines = LinkedList::new(alloc);
     for entry in entries {
         let child = from.child(entry.name.copy()?)?;
         let place = to.child(entry.name.copy()?)?;
-        lines.push(TableLine::merges(entry.kind, child, place)?)?;
+        lines.push_back(TableLine::merges(entry.kind, child, place)?)?;
     }
     Ok(lines)
 }
@@ -451,14 +452,14 @@ fn merging_tasks(
     from: &Path,
     to: &Path,
     entries: &[Entry],
-) -> Result<Vec<TableLine>, AllocError>
-    ensures { IfOk result (λ lines. lines.items ≡ map (merging_task from.now to.now) (filter is_task entries.now)) }
+) -> Result<LinkedList<TableLine>, AllocError>
+    ensures { IfOk result (λ lines. lines ≡ map (merging_task from.now to.now) (filter is_task entries.now)) }
 {
-    let mut lines = Vec::new(alloc);
+    let mut lines = LinkedList::new(alloc);
     for entry in entries {
         if entry.name.as_bytes() != "_temporary".as_bytes() {
             let task = from.child(entry.name.copy()?)?;
-            lines.push(TableLine::merges(Kind::Dir, task, to.copy()?)?)?;
+            lines.push_back(TableLine::merges(Kind::Dir, task, to.copy()?)?)?;
         }
     }
     Ok(lines)

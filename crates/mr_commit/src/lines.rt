@@ -1,60 +1,95 @@
-ghost use Rattle.std.specs.Prelude.{◌≡◌, [], ◌∷◌, ◌++◌, IfOk, OnOk, OnErr, length, drop, ◌<◌};
+ghost use Rattle.std.specs.Prelude.{◌≡◌, ◌<◌, [], ◌∷◌, ◌++◌, IfOk, OnOk, OnErr, length, drop};
 ghost use Rattle.std.specs.Option.{option_copied};
 ghost use Rattle.mr_commit.specs.Settles.{Settles};
 ghost use Rattle.mr_commit.specs.Steps.{next_call, next_passes, done_at, Hears, Steps};
+ghost use Rattle.mr_commit.specs.Halves.{Follows, Fits};
 ghost use Rattle.mr_commit.specs.CommitterEffect.{Finishes, HasEffect};
 
 use crate::fault::{CommitFault, StepDone};
 use crate::line::TableLine;
 use mr_names::{Answer, Caller, NameFault, Namespace, Op};
-use std::alloc::AllocError;
+use std::alloc::{AllocError, Global};
+use std::collections::LinkedList;
 use std::marker::Model;
+
+// One more than the most lines that there are.
+const LIMIT: usize = 1 << 63;
+
+/// The lines that follow from the answer of a step value's next call, ready to take the place of its line.
+#[derive(Drop)]
+pub struct Following {
+    lines: LinkedList<TableLine>,
+    done: StepDone,
+}
+
+impl Model for Following {
+    ghost use Rattle.mr_commit.specs.Halves.{Following};
+
+    ghost Value = { Following };
+
+    ghost view = { λ f. record { lines = f.lines; done = f.done } };
+}
+
+impl Following {
+    /// Whether calls are left once they took that place.
+    pub fn done(&self) -> StepDone
+        ensures { result ≡ self.now.done }
+    {
+        self.done
+    }
+}
 
 /// The lines of a table that are left.
 #[derive(Drop)]
 pub struct Lines {
-    /// The next line is the last.
-    stack: Vec<TableLine>,
+    left: LinkedList<TableLine>,
 }
 
 impl Model for Lines {
-    ghost use Rattle.std.specs.Prelude.{List, reverse};
+    ghost use Rattle.std.specs.Prelude.{List};
     ghost use Rattle.mr_commit.specs.Line.{Line};
 
     ghost Value = { List Line };
 
-    ghost view = { λ l. reverse l.stack.items };
+    ghost view = { λ l. l.left };
 }
 
 impl Lines {
     /// All lines of a table, in its order.
-    pub fn new(table: Vec<TableLine>) -> Lines
-        ensures { result ≡ table.items }
+    pub fn new(table: LinkedList<TableLine>) -> Lines
+        ensures { result ≡ table }
     {
-        let mut stack = table;
-        stack.reverse();
-        Lines { stack }
+        Lines { left: table }
+    }
+
+    /// No lines.
+    pub fn none(alloc: Global) -> Lines
+        ensures { result ≡ [] }
+    {
+        Lines {
+            left: LinkedList::new(alloc),
+        }
     }
 
     /// Takes all lines away.
     pub fn clear(&mut self)
         ensures { self.new ≡ [] }
     {
-        self.stack.clear();
+        self.left.clear();
     }
 
     /// The call that is next, or none where it is over.
     pub fn call(&self) -> Option<&Op>
         ensures { option_copied result ≡ next_call self.now }
     {
-        self.stack.last().map(|line| line.op())
+        self.left.front().map(|line| line.op())
     }
 
     /// Whether nothing at the path of the next call is well.
     pub fn next_passes(&self) -> bool
         ensures { result ≡ next_passes self.now }
     {
-        match self.stack.last() {
+        match self.left.front() {
             Some(line) => line.passes_missing(),
             None => false,
         }
@@ -64,60 +99,81 @@ impl Lines {
     pub fn copy(&self) -> Result<Lines, AllocError>
         ensures { IfOk result (λ lines. lines ≡ self.now) }
     {
-        let mut stack = Vec::with_capacity(*self.stack.allocator(), self.stack.len())?;
-        for line in &self.stack {
-            stack.push(line.copy()?)?;
+        let mut left = LinkedList::new(*self.left.allocator());
+        for line in &self.left {
+            left.push_back(line.copy()?)?;
         }
-        Ok(Lines { stack })
+        Ok(Lines { left })
+    }
+
+    /// Makes ready for the answer of the next call: the lines that follow. Nothing changes.
+    pub fn follow(&self, answer: &Result<Answer, NameFault>) -> Result<Following, CommitFault>
+        ensures { Follows self.now answer.now result }
+    {
+        let Some(line) = self.left.front() else {
+            return Err(CommitFault::Over);
+        };
+        let lines = line.replaced(*self.left.allocator(), answer)?;
+        let following = self.following(lines)?;
+        Ok(following)
+    }
+
+    /// These lines, ready to take the place of the first one.
+    fn following(&self, lines: LinkedList<TableLine>) -> Result<Following, AllocError>
+        requires { 0 < length self.now }
+        ensures ok { IfOk result (λ f. f ≡ record { lines = lines; done = done_at (lines ++ drop 1 self.now) }) }
+        ensures fits { IfOk result (λ f. Fits f.lines self.now) }
+        ensures memory { OnErr result (0 < length lines) }
+    {
+        if LIMIT - self.left.len() <= lines.len() {
+            return Err(AllocError);
+        }
+        let done = self.done_after(&lines);
+        Ok(Following { lines, done })
+    }
+
+    /// Whether lines are left once these take the place of the first one.
+    fn done_after(&self, lines: &LinkedList<TableLine>) -> StepDone
+        ensures { result ≡ done_at (lines.now ++ drop 1 self.now) }
+    {
+        if !lines.is_empty() {
+            return StepDone::More;
+        }
+        if 1 < self.left.len() {
+            StepDone::More
+        } else {
+            StepDone::Finished
+        }
+    }
+
+    /// Puts the lines that follow in the place of the first one. It takes no memory.
+    pub fn go_on(&mut self, following: Following)
+        requires { Fits following.lines self.old }
+        ensures { self.new ≡ following.lines ++ drop 1 self.old }
+    {
+        let Following { lines, .. } = following;
+        let mut left = lines;
+        let _first = self.left.pop_front();
+        let _joined = left.append(&mut self.left);
+        self.left = left;
     }
 
     /// Hears the answer of the next call. After want of memory all is as before.
     pub fn took(&mut self, answer: Result<Answer, NameFault>) -> Result<StepDone, CommitFault>
         ensures { Hears self.old answer result self.new }
     {
-        let alloc = *self.stack.allocator();
-        let Some(line) = self.stack.last() else {
-            return Err(CommitFault::Over);
-        };
-        match line.replaced(alloc, &answer) {
-            Ok(lines) => {
-                self.replace_first(lines)?;
-                Ok(self.done())
+        match self.follow(&answer) {
+            Ok(following) => {
+                let done = following.done();
+                self.go_on(following);
+                Ok(done)
             }
             Err(CommitFault::NoMemory) => Err(CommitFault::NoMemory),
             Err(fault) => {
-                self.stack.clear();
+                self.left.clear();
                 Err(fault)
             }
         }
-    }
-
-    /// Whether lines are left.
-    fn done(&self) -> StepDone
-        ensures { result ≡ done_at self.now }
-    {
-        if self.stack.is_empty() {
-            StepDone::Finished
-        } else {
-            StepDone::More
-        }
-    }
-
-    /// Puts lines in the place of the first one.
-    fn replace_first(&mut self, lines: Vec<TableLine>) -> Result<(), AllocError>
-        requires { 0 < length self.old }
-        ensures ok { OnOk result (self.new ≡ lines.items ++ drop 1 self.old) }
-        ensures err { OnErr result (self.new ≡ self.old) }
-        ensures memory { OnErr result (0 < length lines.items) }
-    {
-        let first = self.stack.len() - 1;
-        if !lines.is_empty() {
-            let mut added = lines;
-            added.reverse();
-            self.stack.append(&mut added)?;
-        }
-        self.stack.remove(first);
-        Ok(())
     }
 
     /// Makes the next call, and hears its answer. After want of memory all is as before.

@@ -2,12 +2,13 @@ ghost use Rattle.std.specs.Prelude.{◌≡◌, [], ◌∷◌, IfOk};
 ghost use Rattle.std.specs.Option.{option_copied};
 ghost use Rattle.mr_commit.specs.Line.Line.{Seeks};
 ghost use Rattle.mr_commit.specs.CommitterEffect.{Commits, HasEffect};
+ghost use Rattle.mr_commit.specs.Halves.{FollowsOf, FitsOf, gone_on};
 ghost use Rattle.mr_commit.specs.Recovery.{Left, recover_task, next_of, HearsOf, StepsOf, RecoveryHas, RecoveryMade};
 
 use crate::checks::heard_generation;
 use crate::fault::{CommitFault, StepDone};
 use crate::line::{before, seeking};
-use crate::lines::Lines;
+use crate::lines::{Following, Lines};
 use mr_ids::{AppAttempt, TaskId};
 use mr_names::{Answer, Caller, NameFault, Namespace, Op};
 use mr_paths::Layout;
@@ -47,7 +48,7 @@ impl RecoverTask {
     {
         match before(k) {
             None => Ok(RecoverTask {
-                lines: Lines::new(Vec::new(layout.dest.allocator())),
+                lines: Lines::none(layout.dest.allocator()),
                 has_earlier: false,
             }),
             Some(j) => {
@@ -82,6 +83,29 @@ impl RecoverTask {
             self.lines.took(answer)
         } else {
             Err(self.give_up())
+        }
+    }
+
+    /// Makes ready for the answer of the next call, the lines that follow, and changes nothing. A fault is that of `took`,
+    /// and `NoMemory` too.
+    pub fn follow(&self, answer: &Result<Answer, NameFault>) -> Result<Following, CommitFault>
+        ensures follows { FollowsOf self.now answer.now result }
+        ensures fits { IfOk result (λ f. FitsOf f.lines self.now) }
+    {
+        if self.has_earlier {
+            self.lines.follow(answer)
+        } else {
+            Err(CommitFault::OutputMissing)
+        }
+    }
+
+    /// Hears the answer that it was made ready for: the second half of `took`. It takes no memory.
+    pub fn go_on(&mut self, following: Following)
+        requires { FitsOf following.lines self.old }
+        ensures { self.new ≡ gone_on following.lines self.old }
+    {
+        if self.has_earlier {
+            self.lines.go_on(following);
         }
     }
 

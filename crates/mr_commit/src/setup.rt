@@ -1,17 +1,19 @@
-ghost use Rattle.std.specs.Prelude.{◌≡◌, [], ◌∷◌, IfOk};
+ghost use Rattle.std.specs.Prelude.{◌≡◌, [], ◌∷◌, ◌++◌, drop, IfOk};
 ghost use Rattle.std.specs.Option.{option_copied};
 ghost use Rattle.mr_commit.specs.Steps.{next_call, Hears, Steps};
+ghost use Rattle.mr_commit.specs.Halves.{Follows, Fits};
 ghost use Rattle.mr_commit.specs.CommitterEffect.{Commits, HasEffect};
 ghost use Rattle.mr_commit.specs.Tables.{setup_job};
 
 use crate::checks::heard_generation;
 use crate::fault::{CommitFault, StepDone};
 use crate::line::TableLine;
-use crate::lines::Lines;
+use crate::lines::{Following, Lines};
 use mr_ids::AppAttempt;
 use mr_names::{Answer, Caller, NameFault, Namespace, Op};
 use mr_paths::Layout;
 use std::alloc::AllocError;
+use std::collections::LinkedList;
 use std::marker::Model;
 
 /// The setup of a job, one call at a time: the job attempt path is made.
@@ -36,7 +38,7 @@ impl SetupJob {
     {
         let alloc = layout.dest.allocator();
         let path = layout.job_attempt(k)?;
-        let table = Vec::from_array(alloc, [TableLine::does(Op::Mkdirs(path))])?;
+        let table = LinkedList::from_array(alloc, [TableLine::does(Op::Mkdirs(path))])?;
         let lines = Lines::new(table);
         Ok(SetupJob { lines })
     }
@@ -56,6 +58,22 @@ impl SetupJob {
         ensures { Hears self.old answer result self.new }
     {
         self.lines.took(answer)
+    }
+
+    /// Makes ready for the answer of the next call, the lines that follow, and changes nothing. A fault is that of `took`,
+    /// and `NoMemory` too.
+    pub fn follow(&self, answer: &Result<Answer, NameFault>) -> Result<Following, CommitFault>
+        ensures { Follows self.now answer.now result }
+    {
+        self.lines.follow(answer)
+    }
+
+    /// Hears the answer that it was made ready for: the second half of `took`. It takes no memory.
+    pub fn go_on(&mut self, following: Following)
+        requires { Fits following.lines self.old }
+        ensures { self.new ≡ following.lines ++ drop 1 self.old }
+    {
+        self.lines.go_on(following);
     }
 
     /// Makes the next call and hears its answer: `call`, `Namespace::perform` and `took` in one.

@@ -1,17 +1,19 @@
-ghost use Rattle.std.specs.Prelude.{◌≡◌, [], ◌∷◌, IfOk};
+ghost use Rattle.std.specs.Prelude.{◌≡◌, [], ◌∷◌, ◌++◌, drop, IfOk};
 ghost use Rattle.std.specs.Option.{option_copied};
 ghost use Rattle.mr_commit.specs.Steps.{next_call, Hears, Steps};
+ghost use Rattle.mr_commit.specs.Halves.{Follows, Fits};
 ghost use Rattle.mr_commit.specs.CommitterEffect.{Commits, HasEffect};
 ghost use Rattle.mr_commit.specs.Tables.{commit_task};
 
 use crate::checks::heard_generation;
 use crate::fault::{CommitFault, StepDone};
 use crate::line::TableLine;
-use crate::lines::Lines;
+use crate::lines::{Following, Lines};
 use mr_ids::{AppAttempt, AttemptId};
 use mr_names::{Answer, Caller, NameFault, Namespace, Op};
 use mr_paths::Layout;
 use std::alloc::AllocError;
+use std::collections::LinkedList;
 use std::marker::Model;
 
 /// A task's commit, one call at a time: the attempt's output takes the place of what the task had committed.
@@ -37,7 +39,7 @@ impl CommitTask {
         let alloc = layout.dest.allocator();
         let from = layout.task_attempt(k, attempt)?;
         let to = layout.committed(k, attempt.task())?;
-        let table = Vec::from_array(
+        let table = LinkedList::from_array(
             alloc,
             [
                 TableLine::needs(from.copy()?),
@@ -64,6 +66,22 @@ impl CommitTask {
         ensures { Hears self.old answer result self.new }
     {
         self.lines.took(answer)
+    }
+
+    /// Makes ready for the answer of the next call, the lines that follow, and changes nothing. A fault is that of `took`,
+    /// and `NoMemory` too.
+    pub fn follow(&self, answer: &Result<Answer, NameFault>) -> Result<Following, CommitFault>
+        ensures { Follows self.now answer.now result }
+    {
+        self.lines.follow(answer)
+    }
+
+    /// Hears the answer that it was made ready for: the second half of `took`. It takes no memory.
+    pub fn go_on(&mut self, following: Following)
+        requires { Fits following.lines self.old }
+        ensures { self.new ≡ following.lines ++ drop 1 self.old }
+    {
+        self.lines.go_on(following);
     }
 
     /// Makes the next call and hears its answer: `call`, `Namespace::perform` and `took` in one.

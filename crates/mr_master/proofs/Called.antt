@@ -4,7 +4,7 @@ use Rattle.mr_master_model.specs.declared.setting.Setting.{Setting}
 use Rattle.mr_master_model.specs.Past.{Work, LooksForSuccess, LooksForFail, LooksForStarted, Reads, SetsUp, TakesOver, Runs, CommitsJob, TellsSuccess, TellsFail, AbortsCommit, Fails, Ends, Stops}
 use Rattle.mr_master_model.specs.Readings.{Seen, is_running}
 use Rattle.mr_master_model.specs.Duty.{duty_at}
-use Rattle.mr_master.specs.Kinds.{is_look, is_tell, is_read, is_step, fails_as}
+use Rattle.mr_master.specs.WorkKinds.{is_look, is_tell, is_read, is_step, fails_as}
 
 -- ---- in which work
 

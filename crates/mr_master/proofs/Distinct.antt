@@ -17,8 +17,8 @@ use Rattle.mr_master_model.specs.Job.{task_of, first_tasks, all_reduces}
 use Rattle.mr_master_model.specs.Readings.{Seen, of_task}
 use Rattle.mr_master_model.specs.Hearing.{given_up, new_bars}
 use Rattle.mr_master.specs.declared.gone.Gone.TheVariants.{GivenUp}
-use Rattle.mr_master.specs.Gone.{gone_of}
-use Rattle.mr_master.specs.Expiring.{all_added}
+use Rattle.mr_master.specs.inner.Gone.{gone_of}
+use Rattle.mr_master.specs.inner.Expiring.{all_added}
 use Rattle.mr_master.proofs.Telling.{Own}
 use Rattle.mr_master.proofs.Losing.{among-passing, gone-own}
 

@@ -17,7 +17,7 @@ use Rattle.mr_master_model.specs.Job.{all_reduces}
 use Rattle.mr_master_model.specs.Past.{Work, LooksForSuccess, LooksForFail, LooksForStarted, Reads, SetsUp, TakesOver, Runs, CommitsJob, TellsSuccess, TellsFail, AbortsCommit, Fails, Ends, Stops}
 use Rattle.mr_master_model.specs.Readings.{Seen, is_running, is_live, or_else, all_succeeded}
 use Rattle.mr_master_model.specs.Duty.{Duty, duty_at, record_duty, start_duty, abort_duty, creates, started_mark}
-use Rattle.mr_master.specs.Kinds.{is_own, fails_as}
+use Rattle.mr_master.specs.WorkKinds.{is_own, fails_as}
 
 -- ---- while Failing
 

@@ -26,7 +26,7 @@ use Rattle.mr_master_model.specs.Hearing.{is_spent, after_failure}
 use Rattle.mr_master_model.specs.Sends.{kill_at, kill_of, kill_all}
 use Rattle.mr_master.specs.declared.ending.Ending.{Ending}
 use Rattle.mr_master.specs.declared.ending.Ending.TheVariants.{Failure, Exit}
-use Rattle.mr_master.specs.Ends.{call_of, is_failure, is_last_of, fails_job, ended, end_sends, kills_but}
+use Rattle.mr_master.specs.inner.Ends.{call_of, is_failure, is_last_of, fails_job, ended, end_sends, kills_but}
 use Rattle.mr_master.proofs.Keeping.{told-it, told-elsewhere}
 use Rattle.mr_master.proofs.Gathering.{passing}
 use Rattle.mr_master.proofs.Telling.{filter-by}

@@ -30,7 +30,7 @@ use Rattle.mr_master.specs.Places.{place_of}
 use Rattle.mr_master.specs.Tasks.{Tasks, AnswersAt, Takes, told}
 use Rattle.mr_master.specs.Launches.{Launched, KeepsLaunches, SameLaunches}
 use Rattle.mr_master.specs.Records.{Writing, SameRecords}
-use Rattle.mr_master.specs.Launching.{IsNew, HasLaunched}
+use Rattle.mr_master.specs.inner.Launching.{IsNew, HasLaunched}
 use Rattle.mr_master.specs.State.{Master, Keeps, StandsFor, Stands}
 use Rattle.mr_master.proofs.Keeping.{read-at}
 use Rattle.mr_master.proofs.Opening.{front, seam}

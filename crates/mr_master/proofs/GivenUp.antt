@@ -8,7 +8,7 @@ use Rattle.mr_master_model.specs.Readings.{Seen, expire_refusal}
 use Rattle.mr_master_model.specs.Hearing.{expired}
 use Rattle.mr_master_model.specs.Sends.{expiry_sends}
 use Rattle.mr_master_model.specs.Next.{moved, sent_by, next_seen, seen, sent, with_kills}
-use Rattle.mr_master.specs.Expiring.{kills_on, Expired, HasExpired}
+use Rattle.mr_master.specs.inner.Expiring.{kills_on, Expired, HasExpired}
 use Rattle.mr_master.specs.State.{Master, Keeps, Reads, StandsFor, Stands}
 
 pub given-up : {m : Master} (w : Setting) (s : Seen) (n : ℕ) (packets : List Envelope) → expire_refusal w s n ≡ None → packets ≡ kills_on w s n → Keeps m w (with_kills (kills_on w s n) (expired w s n)) → Expired n packets m w s

@@ -32,3 +32,6 @@ pub mod GivenUp
 pub mod Prepared
 pub mod Marking
 pub mod Following
+pub mod Past_stays
+pub mod On_nodes
+pub mod Placing

@@ -1,11 +1,8 @@
 -- What records say, record by record and task by task.
 use Rattle.std.proofs.Common.{◌≡◌, ◌<◌, ◌≤◌, ◌+◌, ℕ, suc, List, [], ◌∷◌, ◌++◌, length, Option, Some, None, refl, sym, ap, ◌∙◌, arith, add-one}
-use Rattle.std.specs.Option.{option_map}
-use Rattle.mr_ids.specs.Attempt.{Attempt}
 use Rattle.mr_ids.specs.declared.id.TaskId.{TaskId}
 use Rattle.mr_ids.specs.declared.id.TaskKind.TheVariants.{Reduce}
 use Rattle.mr_history.specs.declared.record.Record.{Record}
-use Rattle.mr_history.specs.declared.record.Record.TheVariants.{AttemptStarted, MapSucceeded, ReduceSucceeded, AttemptFailed, JobUnsuccessful}
 use Rattle.mr_recover.specs.declared.winner.TaskWinner.{TaskWinner}
 use Rattle.mr_recover.specs.Plan.{winner_of, with_first, winners_among}
 use Rattle.mr_master_model.specs.declared.setting.Setting.{Setting}
@@ -13,8 +10,6 @@ use Rattle.mr_master_model.specs.Duty.{record_duty}
 use Rattle.mr_master_model.specs.Answered.{name_of}
 use Rattle.mr_master_model.specs.declared.phase.DutyName.TheVariants as name
 use Rattle.mr_master_model.specs.Job.{task_of, first_tasks}
-use Rattle.mr_master_model.specs.Readings.{Place, or_else, newest_in}
-use Rattle.mr_master.specs.Earlier.{told_place, newer}
 
 pub empty-due : (due tail : List Record) → length due ≤ 0 → record_duty [] tail ≡ record_duty due tail
 empty-due [] tail e = refl
@@ -42,33 +37,6 @@ pub among-more : (w : Setting) (rs : List Record) (n : ℕ) (o : Option TaskWinn
     → ws ++ with_first o [] ≡ winners_among rs (first_tasks w Reduce (n + 1))
 among-more w rs n o ws e q =
     (λ i. e i ++ with_first (q i) []) ∙ sym (among-suc w rs n) ∙ ap (λ k. winners_among rs (first_tasks w Reduce k)) (sym (add-one n))
-
--- ---- the newest success of a map
-
-later : {A : Type 0} (a b c : Option A) → or_else (or_else a b) c ≡ or_else a (or_else b c)
-later None b c = refl
-later (Some x) b c = refl
-
-pub newest-append : (rs : List Record) (r : Record) (t : TaskId) → newest_in (rs ++ r ∷ []) t ≡ or_else (newest_in (r ∷ []) t) (newest_in rs t)
-newest-append [] r t = sym (none-else (newest_in (r ∷ []) t))
-  where
-    none-else : {A : Type 0} (o : Option A) → or_else o None ≡ o
-    none-else None = refl
-    none-else (Some x) = refl
-newest-append (MapSucceeded b n i ∷ rs) r t = ap (λ o. or_else o (newest_in (MapSucceeded b n i ∷ []) t)) (newest-append rs r t) ∙ later (newest_in (r ∷ []) t) (newest_in rs t) (newest_in (MapSucceeded b n i ∷ []) t)
-newest-append (ReduceSucceeded b bytes ∷ rs) r t = newest-append rs r t
-newest-append (AttemptStarted b n ∷ rs) r t = newest-append rs r t
-newest-append (AttemptFailed b ∷ rs) r t = newest-append rs r t
-newest-append (JobUnsuccessful ∷ rs) r t = newest-append rs r t
-
-newer-is : (older last : Option (Attempt × Place)) → newer (option_map told_place older) (option_map told_place last) ≡ option_map told_place (or_else last older)
-newer-is older None = refl
-newer-is older (Some x) = refl
-
-pub newest-more : (rs : List Record) (r : Record) (t : TaskId) (older last : Option (Attempt × ℕ × ℕ)) → older ≡ option_map told_place (newest_in rs t) → last ≡ option_map told_place (newest_in (r ∷ []) t)
-    → newer older last ≡ option_map told_place (newest_in (rs ++ r ∷ []) t)
-newest-more rs r t older last e q =
-    (λ i. newer (e i) (q i)) ∙ newer-is (newest_in rs t) (newest_in (r ∷ []) t) ∙ ap (λ o. option_map told_place o) (sym (newest-append rs r t))
 
 pub some-due : (due tail : List Record) → 0 < length due → Some name.Append ≡ name_of (record_duty due tail)
 some-due [] tail e = absurd (omega (arith, e))

@@ -18,13 +18,13 @@ use Rattle.mr_master_model.specs.Hearing.{of_maps, dead_below, lost_below, after
 use Rattle.mr_master_model.specs.Sends.{kill_of, killed_by}
 use Rattle.mr_master_model.specs.Next.{with_kills}
 use Rattle.mr_packet.specs.declared.packet.Envelope.{Envelope}
-use Rattle.mr_master.specs.Expiring.{kills_on}
+use Rattle.mr_master.specs.inner.Expiring.{kills_on}
 use Rattle.mr_master.specs.Launches.{Launched, Notes}
 use Rattle.mr_master.specs.declared.gone.Gone.{Gone}
 use Rattle.mr_master.specs.declared.gone.Gone.TheVariants.{Restarted, GivenUp}
-use Rattle.mr_master.specs.Gone.{gone_of, lost_of, is_lost}
+use Rattle.mr_master.specs.inner.Gone.{gone_of, lost_of, is_lost}
 use Rattle.mr_master.specs.Told.{told_all}
-use Rattle.mr_master.specs.Leaving.{without}
+use Rattle.mr_master.specs.inner.Leaving.{without}
 use Rattle.mr_master.specs.State.{Master, Keeps}
 use Rattle.mr_master.proofs.Telling.{Own, told-all-is}
 

@@ -19,7 +19,7 @@ use Rattle.mr_master_model.specs.Duty.{Duty, duty, duty_at, record_duty, start_d
 use Rattle.mr_master_model.specs.Answered.{is_fine, changed, work_after, with_work, after_due, after_duty, running_after, failing_after, name_of, recorded, tell_recorded, success_in, moved_first, with_maps}
 use Rattle.mr_master_model.specs.Sends.{work_sends, outcome_of, due_sends, duty_sends}
 use Rattle.mr_master.specs.State.{Master, Keeps}
-use Rattle.mr_master.specs.Kinds.{is_look, is_tell}
+use Rattle.mr_master.specs.WorkKinds.{is_look, is_tell}
 use Rattle.mr_master.specs.Told.{with_deaths}
 use Rattle.mr_ids.specs.Same.{same_task}
 use Rattle.mr_master.proofs.Due.{dead-outside}

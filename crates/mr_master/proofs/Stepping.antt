@@ -9,10 +9,9 @@ use Rattle.mr_master_model.specs.declared.store.StoreAnswer.{StoreAnswer}
 use Rattle.mr_master_model.specs.Past.{Work, LooksForSuccess, LooksForFail, LooksForStarted, Reads, SetsUp, TakesOver, Runs, CommitsJob, TellsSuccess, TellsFail, AbortsCommit, Fails, Ends, Stops}
 use Rattle.mr_master_model.specs.Readings.{Seen}
 use Rattle.mr_master_model.specs.Answered.{heard_by, goes_on, is_superseded, work_after, next_winner, winners}
-use Rattle.mr_master.specs.declared.store.Heard.{Heard}
-use Rattle.mr_master.specs.declared.store.Heard.TheVariants as heard
-use Rattle.mr_master.specs.Heard.{heard_as}
-use Rattle.mr_master.specs.Kinds.{is_step, left_of, with_left, refused_by, refused_when, finished_by}
+use Rattle.mr_master.specs.inner.Heard as heard
+use Rattle.mr_master.specs.inner.Heard.{Heard, heard_as}
+use Rattle.mr_master.specs.WorkKinds.{is_step, left_of, with_left, refused_when, finished_by}
 
 abbrev pub by_heard : Heard → (more finished refused : Work) → Work
 by_heard heard.More more finished refused = more
@@ -56,7 +55,6 @@ pub when-finished : (w : Setting) (s : Seen) (a : StoreAnswer) (work new : Work)
     → new ≡ finished_by w s work → new ≡ work_after w s a work
 when-finished w s a work new is e n = n ∙ sym (steps w s a work heard.Finished is e)
 
-pub when-refused : (w : Setting) (s : Seen) (a : StoreAnswer) (work mid new : Work) (b : Bool) → is_step work ≡ true → heard.Refused ≡ heard_as (heard_by (left_of work) a).0
-    → b ≡ is_superseded a → refused_by mid ≡ refused_by work → new ≡ refused_when b mid → new ≡ work_after w s a work
-when-refused w s a work mid new b is e q m n =
-    n ∙ (λ i. if q i then (m i).superseded else (m i).refused) ∙ sym (steps w s a work heard.Refused is e)
+pub when-refused : (w : Setting) (s : Seen) (a : StoreAnswer) (work new : Work) → is_step work ≡ true → heard.Refused ≡ heard_as (heard_by (left_of work) a).0
+    → new ≡ refused_when (is_superseded a) work → new ≡ work_after w s a work
+when-refused w s a work new is e n = n ∙ sym (steps w s a work heard.Refused is e)

@@ -1,10 +1,10 @@
 -- What the answers of the reading and of a committer's calls change and send.
-use Rattle.std.proofs.Common.{◌≡◌, refl, sym, ap, ◌∙◌, Bool, true, false, ◌&&◌, not, append-nil, Result, Ok, Err, cond, List, [], ◌∷◌, ◌++◌, Option, Some, None, is_none, if◌then◌else◌, true≢false}
+use Rattle.std.proofs.Common.{◌≡◌, refl, sym, ap, ◌∙◌, Bool, true, false, ◌&&◌, not, append-nil, Result, Ok, Err, cond, List, [], ◌∷◌, ◌++◌, drop, Option, Some, None, is_none, if◌then◌else◌, true≢false}
 use Rattle.std.specs.List.{list_any}
-use Rattle.std.proofs.lemmas.Bool.{and_parts, not-true}
 use Rattle.mr_history.specs.declared.record.Record.{Record}
 use Rattle.mr_commit.specs.Tables.{setup_job}
 use Rattle.mr_commit.specs.Line.{Line}
+use Rattle.mr_commit.specs.Halves.{Following}
 use Rattle.mr_commit.specs.Recovery.{Recovery, recover_task}
 use Rattle.mr_commit.specs.Recovery.Recovery.{Nowhere, Left}
 use Rattle.mr_commit.specs.declared.fault.CommitFault.{CommitFault}
@@ -21,13 +21,14 @@ use Rattle.mr_master_model.specs.Past.{Work, LooksForSuccess, LooksForFail, Look
 use Rattle.mr_master_model.specs.Readings.{Seen, is_running, tell}
 use Rattle.mr_master_model.specs.Answered.{changed, work_after, with_work, with_earlier, read_by, is_unsuccessful, heard_by, goes_on, is_finished, is_superseded, takes_over, next_winner, winners, with_maps}
 use Rattle.mr_master_model.specs.Sends.{work_sends, outcome_of, to_all}
-use Rattle.mr_master.specs.Kinds.{is_read, records_in, is_step, left_of, finished_by}
-use Rattle.mr_master.specs.declared.store.Heard.{Heard}
-use Rattle.mr_master.specs.declared.store.Heard.TheVariants as heard
-use Rattle.mr_master.specs.Heard.{heard_as, has_finished}
+use Rattle.mr_master.specs.WorkKinds.{is_read, records_in, is_step, left_of, with_left, refused_when, finished_by}
+use Rattle.mr_master.specs.declared.store.Coming.TheVariants as coming
+use Rattle.mr_master.specs.inner.Coming.{IsComing}
+use Rattle.mr_master.specs.inner.Heard.{Heard, heard_as, has_finished}
 use Rattle.mr_master.specs.Taking.{winner_of, after_winner, won_of, after_table}
 use Rattle.mr_master.specs.Answering.{answered_sends, answered_seen}
 use Rattle.mr_master.proofs.Replies.{quiet}
+use Rattle.mr_master.proofs.Stepping.{when-more, when-finished, when-refused}
 
 -- ---- the reading
 
@@ -225,26 +226,36 @@ finished-tells w s (Fails b) is = absurd (true≢false (sym is))
 finished-tells w s (Ends b) is = absurd (true≢false (sym is))
 finished-tells w s Stops is = absurd (true≢false (sym is))
 
-none-is : {A : Type 0} (o : Option A) → is_none o ≡ true → o ≡ None
-none-is None e = refl
-none-is (Some x) e = absurd (true≢false (sym e))
+pub nobody-told : (w : Setting) (s : Seen) (new : Work) → is_step s.work ≡ true → None ≡ winner_of s.work → new ≡ finished_by w s s.work → outcome_of w new ≡ won_of w (winner_of s.work)
+nobody-told w s new is none n = ap (λ (x : Work). outcome_of w x) n ∙ sym (finished-tells w s s.work is) ∙ ap (λ (o : Option TaskWinner). won_of w o) none
 
-pub nobody-told : (w : Setting) (s : Seen) (new : Work) → is_step s.work ≡ true → (is_none (winner_of s.work) && not (is_running new)) ≡ true → new ≡ finished_by w s s.work → outcome_of w new ≡ won_of w (winner_of s.work)
-nobody-told w s new is e n =
-    ap (λ (x : Work). outcome_of w x) n ∙ sym (finished-tells w s s.work is) ∙ ap (λ (o : Option TaskWinner). won_of w o) (sym (none-is _ (and_parts _ _ e).0))
-
-pub nobody-enters : (w : Setting) (s : Seen) (new : Work) → (is_none (winner_of s.work) && not (is_running new)) ≡ true → new ≡ finished_by w s s.work
+pub nobody-enters : (w : Setting) (s : Seen) (new : Work) → None ≡ winner_of s.work → is_running new ≡ false → new ≡ finished_by w s s.work
     → record s { work = new } ≡ record s { calls = (after_table w s (winner_of s.work) (is_running (finished_by w s s.work))).calls; work = finished_by w s s.work }
-nobody-enters w s new e n =
-    let none = none-is (winner_of s.work) (and_parts _ _ e).0 in
-    let quiet' : false ≡ is_running (finished_by w s s.work) = sym (not-true _ (and_parts _ _ e).1) ∙ ap (λ (x : Work). is_running x) n in
-    λ i. record s { calls = (after_table w s (sym none i) (quiet' i)).calls; work = n i }
+nobody-enters w s new none rests n =
+    let quiet' : false ≡ is_running (finished_by w s s.work) = sym rests ∙ ap (λ (x : Work). is_running x) n in
+    λ i. record s { calls = (after_table w s (none i) (quiet' i)).calls; work = n i }
 
-pub was-last : (h : Heard) → has_finished h ≡ true → heard.Finished ≡ h
-was-last heard.Finished e = refl
-was-last heard.More e = absurd (true≢false (sym e))
-was-last heard.Refused e = absurd (true≢false (sym e))
+-- ---- the three ways in which a call goes
 
--- whether the call was the last one, as it was heard by a copy
-pub heard-so : (s : Seen) (a : StoreAnswer) (copy : Work) (h : Heard) (b : Bool) → copy ≡ s.work → h ≡ heard_as (heard_by (left_of copy) a).0 → b ≡ has_finished h → has_finished (heard_as (heard_by (left_of s.work) a).0) ≡ b
-heard-so s a copy h b e q r = ap (λ (x : Work). has_finished (heard_as (heard_by (left_of x) a).0)) (sym e) ∙ ap (λ (x : Heard). has_finished x) (sym q) ∙ sym r
+-- lines are left
+pub goes-on : (w : Setting) (s : Seen) (a : StoreAnswer) (f : Following) → is_step s.work ≡ true → IsComing (left_of s.work) a (coming.More f)
+    → (record s { work = with_left s.work (f.lines ++ drop 1 (left_of s.work)) } ≡ answered_seen w s a) × ([] ≡ answered_sends w s a)
+goes-on w s a f is x =
+    let u = unfinished w s a s.work is (ap (λ (h : Heard). has_finished h) (sym x.0)) in
+    (step-seen w s a _ u (when-more w s a s.work _ is x.0 (ap (λ (l : List Line). with_left s.work l) x.1)), step-sends w s a u)
+
+-- it was the last one
+pub goes-last : (w : Setting) (s : Seen) (a : StoreAnswer) → is_step s.work ≡ true → IsComing (left_of s.work) a coming.Finished
+    → (record s { calls = (after_table w s (winner_of s.work) (is_running (finished_by w s s.work))).calls; work = finished_by w s s.work } ≡ answered_seen w s a) × (won_of w (winner_of s.work) ≡ answered_sends w s a)
+goes-last w s a is x =
+    let f = finishing w s a s.work is (ap (λ (h : Heard). has_finished h) (sym x)) in
+    let next = when-finished w s a s.work (finished_by w s s.work) is x refl in
+    (finish-seen w s a (finished_by w s s.work) f next, finish-sends w s a (finished_by w s s.work) (won_of w (winner_of s.work)) f refl next refl)
+
+-- it was refused, or its answer was lost
+pub goes-wrong : (w : Setting) (s : Seen) (a : StoreAnswer) (new : Work) → is_step s.work ≡ true → IsComing (left_of s.work) a coming.Refused → new ≡ refused_when (is_superseded a) s.work
+    → (record s { work = new } ≡ answered_seen w s a) × (outcome_of w new ≡ answered_sends w s a)
+goes-wrong w s a new is x n =
+    let u = unfinished w s a s.work is (ap (λ (h : Heard). has_finished h) (sym x)) in
+    let after = when-refused w s a s.work new is x n in
+    (step-seen w s a new u after, ap (λ (v : Work). outcome_of w v) after ∙ sym u.tells ∙ step-sends w s a u)

@@ -1,6 +1,8 @@
 -- What succeeded under earlier masters is taken over.
-use Rattle.std.proofs.Common.{ℕ, zero, suc, ◌+◌, ◌<◌, ◌≡◌, refl, sym, ◌∙◌, ap, subst, Bool, true, false, ◌&&◌, ◌||◌, cond, List, [], ◌∷◌, ◌++◌, flat_map, length, take, get_or, add-one, append-nil, Option, Some, None, nat_lt, if◌then◌else◌, true≢false}
+use Rattle.std.proofs.Common.{ℕ, zero, suc, ◌+◌, ◌<◌, ◌≡◌, refl, sym, ◌∙◌, ap, subst, Bool, true, false, ◌&&◌, ◌||◌, cond, List, [], ◌∷◌, ◌++◌, flat_map, length, take, set, slice_get, get_or, add-one, append-nil, Option, Some, None, nat_lt, if◌then◌else◌, true≢false}
 use Rattle.std.proofs.Math.Seq.{take-suc}
+use Rattle.std.proofs.lemmas.List.{length-set, get_or-set_same}
+use Rattle.std.proofs.lemmas.Option.{slice_get-get_or}
 use Rattle.std.proofs.lemmas.Grind.{flat_map-append}
 use Rattle.mr_ids.specs.Attempt.{Attempt}
 use Rattle.mr_ids.specs.Same.{same_task}
@@ -25,9 +27,9 @@ use Rattle.mr_master_model.specs.Readings.{Seen, Place, or_else, newest_in}
 use Rattle.mr_master_model.specs.Hearing.{of_maps}
 use Rattle.mr_master_model.specs.Answered.{taken, taken_of, with_maps}
 use Rattle.mr_master.specs.Places.{place_of}
-use Rattle.mr_master.specs.Tasks.{Tasks, KeepsTasks, Takes}
+use Rattle.mr_master.specs.Tasks.{Tasks, KeepsTasks, Takes, TakesAt}
 use Rattle.mr_master.specs.Told.{told_one, told_all}
-use Rattle.mr_master.specs.Taking.{Enters, calls_with, after_winner, after_table}
+use Rattle.mr_master.specs.Taking.{Enters, IsTold, calls_with, after_winner, after_table}
 use Rattle.mr_master.proofs.Dying.{one-told, none-told, told-more}
 use Rattle.mr_master.proofs.Telling.{Own, told-all-is}
 
@@ -37,6 +39,29 @@ pub copy-step : {A : Type 0} (xs : List A) (i : ℕ) (x : A) (mid new : List A) 
 copy-step {A} xs i x mid new within is before now =
     now ∙ ap (λ (l : List A). l ++ x ∷ []) before
     ∙ sym (ap (λ (n : ℕ). take n xs) (add-one i) ∙ take-suc xs i x within ∙ ap (λ (y : A). take i xs ++ y ∷ []) (sym is))
+
+-- ---- one machine is put in the place of another
+
+some-is : {A : Type 0} (x y : A) → Some x ≡ Some y → x ≡ y
+some-is x y e = cc
+
+other-stays : {A : Type 0} (xs : List A) (i : ℕ) (y : A) (j : ℕ) → (j ≡ i → ⊥) → slice_get (set xs i y) j ≡ slice_get xs j
+other-stays [] i y j ne = refl
+other-stays (x ∷ xs) zero y zero ne = absurd (ne refl)
+other-stays (x ∷ xs) zero y (suc j) ne = refl
+other-stays (x ∷ xs) (suc i) y zero ne = refl
+other-stays (x ∷ xs) (suc i) y (suc j) ne = other-stays xs i y j (λ e. ne (ap suc e))
+
+pub told-at : (old : List Task) (i : ℕ) (call : TaskCall) (y : Task) → IsTold old i call y → TakesAt old i call (set old i y)
+told-at old i call y t = record { count = length-set old i y; there = there; others = λ j ne. other-stays old i y j ne }
+  where
+    here : slice_get (set old i y) i ≡ Some y
+    here = slice_get-get_or (set old i y) i y (subst (λ (n : ℕ). i < n) (sym (length-set old i y)) t.within) ∙ ap (λ (x : Task). Some x) (get_or-set_same old i y y t.within)
+
+    there : (z : Task) → slice_get (set old i y) i ≡ Some z → (x : Task) × (slice_get old i ≡ Some x) × state.Stands x call z
+    there z e =
+        let was = slice_get-get_or old i y t.within in
+        (get_or old i y, was, subst (λ (v : Task). state.Stands (get_or old i y) call v) (some-is y z (sym here ∙ e)) (t.stands (get_or old i y) was))
 
 -- ---- what may not be entered changes nothing
 
@@ -147,9 +172,6 @@ pub no-winner : (old : Tasks) (w : Setting) (o : Option TaskWinner) (calls : Tas
 no-winner old w o calls e k = subst (λ (r : Option TaskWinner). KeepsTasks old w (calls_with r calls)) e k
 
 -- ---- after the last call of a table
-
-pub stays-so : (new : Tasks) (w : Setting) (s : Seen) (o : Option TaskWinner) (runs : Bool) → runs ≡ false → KeepsTasks new w (calls_with o s.calls) → KeepsTasks new w (after_table w s o runs).calls
-stays-so new w s o runs e k = subst (λ (b : Bool). KeepsTasks new w (after_table w s o b).calls) (sym e) k
 
 pub begins-so : (new : Tasks) (w : Setting) (s : Seen) (o : Option TaskWinner) (runs : Bool) → runs ≡ true → KeepsTasks new w (with_maps w (after_winner s o)).calls → KeepsTasks new w (after_table w s o runs).calls
 begins-so new w s o runs e k = subst (λ (b : Bool). KeepsTasks new w (after_table w s o b).calls) (sym e) k

@@ -1,16 +1,20 @@
 -- Attempts that succeeded under earlier masters are taken over.
-use Rattle.std.specs.Prelude.{Bool, Option, Some, None, List, [], if◌then◌else◌}
+use Rattle.std.specs.Prelude.{◌≡◌, ◌<◌, ℕ, Bool, true, Option, Some, None, List, [], length, slice_get, if◌then◌else◌}
 use Rattle.mr_ids.specs.Attempt.{Attempt}
 use Rattle.mr_ids.specs.declared.id.TaskId.{TaskId}
 use Rattle.mr_task.specs.Calls.{TaskCall, Recovers}
+use Rattle.mr_task.specs.State as task
+use Rattle.mr_task.specs.Steps.{Task}
 use Rattle.mr_packet.specs.declared.packet.Envelope.{Envelope}
 use Rattle.mr_packet.specs.declared.packet.Packet.TheVariants as packet
 use Rattle.mr_recover.specs.declared.winner.TaskWinner.{TaskWinner}
 use Rattle.mr_master_model.specs.declared.setting.Setting.{Setting}
 use Rattle.mr_master_model.specs.Past.{Work, TakesOver}
+use Rattle.mr_master_model.specs.Job.{is_task}
 use Rattle.mr_master_model.specs.Readings.{Seen}
 use Rattle.mr_master_model.specs.Answered.{with_maps}
 use Rattle.mr_master_model.specs.Sends.{to_all}
+use Rattle.mr_master.specs.Places.{place_of}
 use Rattle.mr_master.specs.Tasks.{Tasks, KeepsTasks, told}
 use Rattle.mr_master.specs.Told.{told_all}
 use Rattle.mr_master.specs.State.{Master, Keeps}
@@ -44,3 +48,16 @@ Enters old w as' new = (calls : TaskId → List TaskCall) → KeepsTasks old w c
 -- the machines of the tasks after the last call of a table
 abbrev pub KeepsAfter : Master → Option TaskWinner → (runs : Bool) → Tasks → Type 0
 KeepsAfter m o runs tasks = (w : Setting) (s : Seen) → Keeps m w s → KeepsTasks tasks w (after_table w s o runs).calls
+
+-- the machine y is that of the task at place i once it is told this
+pub record IsTold (machines : List Task) (i : ℕ) (call : TaskCall) (y : Task) : Type 0 where
+  pub within : i < length machines
+  pub stands : (x : Task) → slice_get machines i ≡ Some x → task.Stands x call y
+
+-- the machine y is that of the reduce that is taken over, at place i, once its attempt is entered
+pub record EntersAt (m : Master) (i : ℕ) (y : Task) : Type 0 where
+  pub winner : TaskWinner
+  pub told : IsTold m.tasks.machines i (Recovers winner.attempt) y
+  pub is : Some winner ≡ winner_of m.work
+  pub own : is_task m.setting winner.task ≡ true
+  pub at : i ≡ place_of m.setting winner.task

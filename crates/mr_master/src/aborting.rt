@@ -1,7 +1,7 @@
 //! What is ready for the answers of the calls that are due while Failing.
 ghost use Rattle.std.specs.Prelude.{◌≡◌, ◌<◌, ◌||◌, IfOk};
 ghost use Rattle.mr_master_model.specs.Past.{Fails};
-ghost use Rattle.mr_master.specs.Kinds.{passes_abort, aborted};
+ghost use Rattle.mr_master.specs.WorkKinds.{passes_abort, aborted};
 ghost use Rattle.mr_master.specs.Answering.{IsDue};
 ghost use Rattle.mr_master.specs.Ready.{IsReadyDue};
 

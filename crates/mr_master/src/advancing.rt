@@ -1,61 +1,86 @@
 //! What is ready for the answers of a committer's calls: setup, recovery, job commit.
-ghost use Rattle.std.specs.Prelude.{◌≡◌, ◌&&◌, true, not, is_none, IfOk};
+ghost use Rattle.std.specs.Prelude.{◌≡◌, true, Some, IfOk};
 ghost use Rattle.mr_master_model.specs.Readings.{is_running};
-ghost use Rattle.mr_master.specs.Heard.{has_finished};
-ghost use Rattle.mr_master.specs.Kinds.{is_step, finished_by};
+ghost use Rattle.mr_master.specs.WorkKinds.{is_step, finished_by};
 ghost use Rattle.mr_master.specs.State.{Reads};
-ghost use Rattle.mr_master.specs.Taking.{winner_of, won_of, after_table};
+ghost use Rattle.mr_master.specs.Taking.{winner_of, won_of, after_winner, after_table};
 ghost use Rattle.mr_master.specs.Ready.{Prepares, IsReadyDue};
 
 use crate::change::Change;
 use crate::machine::Machine;
 use crate::packets::push_won;
+use crate::places::place_of;
 use crate::ready::Ready;
-use crate::store::Heard;
+use crate::store::Coming;
 use crate::work::Work;
 use mr_master_model::StoreAnswer;
 use mr_packet::Envelope;
+use mr_recover::TaskWinner;
 use std::alloc::AllocError;
 
 impl Machine {
-    // A call of a committer's table is answered. It is heard by a copy of what is left of the table.
+    // A call of a committer's table is answered. Where calls are left, what changes are the lines that follow alone.
     pub fn ready_step(&self, answer: StoreAnswer) -> Result<Ready, AllocError>
         requires { is_step self.now.work ≡ true }
         ensures { IfOk result (λ ready. IsReadyDue self.now answer ready) }
     {
-        let mut work = self.work.copy(self.alloc)?;
-        let heard = work.step(answer)?;
-        if !has_finished(heard) {
-            let ready = self.becoming(work)?;
-            return Ok(ready);
+        let coming = self.work.follow(&answer)?;
+        match coming {
+            Coming::More(following) => Ok(Ready::silent(self.alloc, Change::GoesOn(following))),
+            Coming::Finished => {
+                let finished = self.ready_finished()?;
+                Ok(finished)
+            }
+            Coming::Refused => {
+                let refused = self.becoming(self.work.refused(&answer))?;
+                Ok(refused)
+            }
         }
-        let ready = self.ready_finished()?;
-        Ok(ready)
     }
 
-    // The call was the last one: what is taken over will be entered, and told to every node. Where nothing is, the work alone changes.
+    // The call was the last one: what is taken over will be entered, and told to every node. Where nothing is, the work alone changes, and
+    // as long as the master does not run, a reduce changes the machine of its task alone.
     fn ready_finished(&self) -> Result<Ready, AllocError>
         requires { is_step self.now.work ≡ true }
         ensures { IfOk result (λ ready. Prepares self.now ready (λ w s. won_of w (winner_of s.work)) (λ w s. record s { calls = (after_table w s (winner_of s.work) (is_running (finished_by w s s.work))).calls; work = finished_by w s s.work })) }
     {
         let next = self.next_work()?;
-        if self.enters_nobody(&next) {
-            let ready = self.becoming(next)?;
+        if next.is_running() {
+            let ready = self.ready_start(next)?;
             return Ok(ready);
         }
-        let tasks = self.tasks_after(next.is_running())?;
+        let Some(winner) = self.work.winner() else {
+            let ready = self.becoming(next)?;
+            return Ok(ready);
+        };
+        let ready = self.ready_winner(&winner, next)?;
+        Ok(ready)
+    }
+
+    // The master will run: the reduce that was taken over last is entered, and the maps are.
+    fn ready_start(&self, next: Work) -> Result<Ready, AllocError>
+        requires { is_running next ≡ true }
+        ensures { IfOk result (λ ready. Prepares self.now ready (λ w s. won_of w (winner_of s.work)) (λ w s. record s { calls = (after_table w s (winner_of s.work) (is_running next)).calls; work = next })) }
+    {
+        let tasks = self.tasks_after()?;
         let packets = self.won_packets()?;
         Ok(Ready::new(packets, Change::Enters(tasks, next)))
     }
 
-    // Whether no attempt is taken over where this is next.
-    fn enters_nobody(&self, next: &Work) -> bool
-        ensures { result ≡ (is_none (winner_of self.now.work) && not (is_running next.now)) }
+    // The output of a reduce was taken over, and the master will not run yet.
+    fn ready_winner(&self, winner: &TaskWinner, next: Work) -> Result<Ready, AllocError>
+        requires { Some winner.now ≡ winner_of self.now.work }
+        ensures { IfOk result (λ ready. Prepares self.now ready (λ w s. won_of w (winner_of s.work)) (λ w s. record s { calls = (after_winner s (winner_of s.work)).calls; work = next })) }
     {
-        match self.work.winner() {
-            None => !next.is_running(),
-            Some(_winner) => false,
+        let Some(place) = place_of(&self.setting, winner.task) else {
+            return Err(AllocError);
+        };
+        if place >= self.tasks.len() {
+            return Err(AllocError);
         }
+        let machine = self.tasks.recovered(place, winner.attempt)?;
+        let packets = self.won_packets()?;
+        Ok(Ready::new(packets, Change::EntersOne(place, machine, next)))
     }
 
     // What is next after the last call of the table.
@@ -84,15 +109,5 @@ impl Machine {
             winner.attempt,
         )?;
         Ok(packets)
-    }
-}
-
-// Whether the call was the last one.
-fn has_finished(heard: Heard) -> bool
-    ensures { result ≡ has_finished heard }
-{
-    match heard {
-        Heard::Finished => true,
-        _ => false,
     }
 }

@@ -1,7 +1,7 @@
 //! What is ready for the answers of looks for marks, of marks that are created, and wherever the work alone changes.
 ghost use Rattle.std.specs.Prelude.{◌≡◌, true, IfOk};
 ghost use Rattle.mr_master_model.specs.Sends.{outcome_of};
-ghost use Rattle.mr_master.specs.Kinds.{is_look, is_tell};
+ghost use Rattle.mr_master.specs.WorkKinds.{is_look, is_tell};
 ghost use Rattle.mr_master.specs.State.{Reads};
 ghost use Rattle.mr_master.specs.Ready.{Prepares, IsReadyDue};
 

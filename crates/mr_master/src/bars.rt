@@ -1,7 +1,7 @@
 //! The attempts whose bar was ever due, in order. This is the only place that knows how they are kept.
 ghost use Rattle.std.specs.Prelude.{◌≡◌, ◌<◌, ◌++◌, [], ◌∷◌, length, slice_get, IfOk, OnOk, OnErr};
 ghost use Rattle.mr_grant.specs.Attempts.{has, with_last};
-ghost use Rattle.mr_master.specs.Expiring.{all_added};
+ghost use Rattle.mr_master.specs.inner.Expiring.{all_added};
 
 use indexmap::IndexSet;
 use mr_ids::AttemptId;

@@ -1,9 +1,11 @@
 //! What the answer of a store call changes, made ready before it is heard.
 
+use crate::earlier::Earlier;
 use crate::tasks::Tasks;
 use crate::work::Work;
-use mr_history::Records;
+use mr_commit::Following;
 use mr_ids::AttemptId;
+use mr_task::TaskMachine;
 
 /// What changes. To make it takes no memory.
 #[derive(Drop)]
@@ -11,9 +13,13 @@ pub enum Change {
     Nothing,
     /// The work alone.
     Becomes(Work),
+    /// The committer's table goes on with these lines.
+    GoesOn(Following),
     /// The earlier segments were read.
-    HasRead(Records, Work),
-    /// A committer's table is over: these are the machines of the tasks from then on.
+    HasRead(Earlier, Work),
+    /// A reduce is taken over: the machine at this place is this one from then on.
+    EntersOne(usize, TaskMachine, Work),
+    /// The master begins to run: these are the machines of the tasks from then on.
     Enters(Tasks, Work),
     /// An attempt was barred: it ends.
     Ends(AttemptId),

@@ -3,9 +3,8 @@ ghost use Rattle.std.specs.Prelude.{◌≡◌, IfOk};
 ghost use Rattle.mr_master.specs.State.{Moves};
 
 use crate::machine::Machine;
-use mr_history::Records;
 use mr_master_model::Setting;
-use std::alloc::{AllocError, Global};
+use std::alloc::AllocError;
 
 impl Machine {
     // A machine that keeps what this one keeps. Spare room is not copied.
@@ -19,7 +18,7 @@ impl Machine {
             tasks: self.tasks.copy(self.alloc)?,
             launches: self.launches.copy()?,
             nodes: self.nodes.copy()?,
-            earlier: copied_records(self.alloc, &self.earlier)?,
+            earlier: self.earlier.copy(self.alloc)?,
             writing: self.writing.copy()?,
             bars: self.bars.copy()?,
         })
@@ -38,12 +37,4 @@ fn copied(setting: &Setting) -> Result<Setting, AllocError>
         limit: setting.limit,
         layout: setting.layout.copy()?,
     })
-}
-
-fn copied_records(alloc: Global, records: &Records) -> Result<Records, AllocError>
-    ensures { IfOk result (λ copy. copy ≡ records.now) }
-{
-    let mut copy = Records::new(alloc);
-    copy.extend(records.as_slice())?;
-    Ok(copy)
 }

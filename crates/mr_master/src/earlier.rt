@@ -1,113 +1,111 @@
 //! What the records of earlier masters say.
-ghost use Rattle.std.specs.Prelude.{◌≡◌, [], ◌∷◌, ◌++◌, IfOk, OnOk, slice_get};
+ghost use Rattle.std.specs.Prelude.{◌≡◌, [], ◌++◌, IfOk, OnOk};
 ghost use Rattle.std.specs.Option.{option_map};
-ghost use Rattle.std.specs.List.{position, list_any};
-ghost use Rattle.mr_recover.specs.Plan.{AreWinners, listed, winners_among, with_first};
-ghost use Rattle.mr_recover.specs.declared.winner.TaskWinner.{TaskWinner};
-ghost use Rattle.mr_ids.specs.Same.{same_task};
+ghost use Rattle.std.specs.List.{list_any};
+ghost use Rattle.mr_recover.specs.Plan.{AreWinners, winners_among, with_first};
 ghost use Rattle.mr_master_model.specs.Job.{all_reduces};
 ghost use Rattle.mr_master_model.specs.Readings.{newest_in, place_in};
 ghost use Rattle.mr_master_model.specs.Answered.{is_unsuccessful, next_winner};
-ghost use Rattle.mr_master.specs.Earlier.{told_place, where_told, newer};
+ghost use Rattle.mr_master.specs.inner.Earlier.{told_place, where_told};
 
-use crate::failing::is_same;
 use crate::records::is_unsuccessful;
+use crate::successes::{Newest, Places, Success};
+use crate::winners::ByTask;
 use crate::work::Work;
-use mr_history::Record;
+use mr_history::{Record, Records};
 use mr_ids::{AttemptId, TaskId, TaskKind};
 use mr_master_model::Setting;
 use mr_recover::{Recovery, Staging, TaskWinner, Winners};
 use std::alloc::{AllocError, Global};
 use std::collections::VecDeque;
+use std::marker::Model;
 
-/// A map's success: the attempt, and the node and the incarnation where its output lies.
-pub type Success = (AttemptId, u32, u32);
+/// What was read of the earlier segments, with where the output of each map's attempt lies that they tell of, and which is its map's
+/// newest.
+#[derive(Drop)]
+pub struct Earlier {
+    records: Records,
+    places: Places,
+    newest: Newest,
+}
+
+impl Model for Earlier {
+    ghost use Rattle.std.specs.Prelude.{List};
+    ghost use Rattle.mr_history.specs.declared.record.Record.{Record};
+
+    ghost Value = { List Record };
+
+    ghost view = { λ e. e.records };
+
+    ghost use Rattle.mr_master.specs.inner.Earlier.{TellsPlaces, TellsNewest};
+
+    ghost invariant = { λ e. TellsPlaces e.places e.records × TellsNewest e.newest e.records };
+}
+
+impl Earlier {
+    // Nothing was read.
+    pub fn new(alloc: Global) -> Earlier
+        ensures { result ≡ [] }
+    {
+        Earlier {
+            records: Records::new(alloc),
+            places: Places::new(alloc),
+            newest: Newest::new(alloc),
+        }
+    }
+
+    // These records were read.
+    pub fn of(alloc: Global, records: Records) -> Result<Earlier, AllocError>
+        ensures { IfOk result (λ earlier. earlier ≡ records) }
+    {
+        let places = Places::of_records(alloc, records.as_slice())?;
+        let newest = Newest::of_records(alloc, records.as_slice())?;
+        Ok(Earlier {
+            records,
+            places,
+            newest,
+        })
+    }
+
+    pub fn copy(&self, alloc: Global) -> Result<Earlier, AllocError>
+        ensures { IfOk result (λ copy. copy ≡ self.now) }
+    {
+        let mut records = Records::new(alloc);
+        records.extend(self.records.as_slice())?;
+        Ok(Earlier {
+            records,
+            places: self.places.copy()?,
+            newest: self.newest.copy()?,
+        })
+    }
+
+    // The records, in order.
+    pub fn as_slice(&self) -> &[Record]
+        ensures { result.now ≡ self.now }
+    {
+        self.records.as_slice()
+    }
+
+    // Where they say that the output of a map's attempt lies, by the last record of its success: the node and its incarnation.
+    pub fn place(&self, attempt: &AttemptId) -> Option<(u32, u32)>
+        ensures { result ≡ option_map where_told (place_in self.now attempt.now) }
+    {
+        self.places.of(attempt)
+    }
+
+    // The newest success of a map: the last one that they tell.
+    pub fn newest(&self, task: &TaskId) -> Option<Success>
+        ensures { result ≡ option_map told_place (newest_in self.now task.now) }
+    {
+        self.newest.of(task)
+    }
+}
 
 // Whether an earlier master recorded that the job failed.
 pub fn tells_failure(records: &[Record]) -> bool
     ensures { result ≡ list_any is_unsuccessful records.now }
 {
     records.iter().any(|told| is_unsuccessful(told))
-}
-
-// The newest success of a map: the last one that the records tell.
-pub fn newest(records: &[Record], task: &TaskId) -> Option<Success>
-    ensures { result ≡ option_map told_place (newest_in records.now task.now) }
-{
-    let mut newest = None;
-    for told in records {
-        newest = newer(newest, success_in(told, task));
-    }
-    newest
-}
-
-// The success of the map that a record tells.
-fn success_in(told: &Record, task: &TaskId) -> Option<Success>
-    ensures { result ≡ option_map told_place (newest_in (told.now ∷ []) task.now) }
-{
-    match *told {
-        Record::MapSucceeded {
-            attempt,
-            node,
-            incarnation,
-        } => {
-            if attempt.task() == *task {
-                Some((attempt, node, incarnation))
-            } else {
-                None
-            }
-        }
-        _ => None,
-    }
-}
-
-fn newer(older: Option<Success>, last: Option<Success>) -> Option<Success>
-    ensures { result ≡ newer older last }
-{
-    match last {
-        Some(success) => Some(success),
-        None => older,
-    }
-}
-
-// Where the records say that the output of a map's attempt lies, by the last record of its success: the node and its incarnation.
-pub fn place_in(records: &[Record], attempt: &AttemptId) -> Option<(u32, u32)>
-    ensures { result ≡ option_map where_told (place_in records.now attempt.now) }
-{
-    let mut place = None;
-    for told in records {
-        place = later(place, told_in(told, attempt));
-    }
-    place
-}
-
-// Where one record says that it lies.
-fn told_in(told: &Record, attempt: &AttemptId) -> Option<(u32, u32)>
-    ensures { result ≡ option_map where_told (place_in (told.now ∷ []) attempt.now) }
-{
-    match *told {
-        Record::MapSucceeded {
-            attempt: succeeded,
-            node,
-            incarnation,
-        } => {
-            if is_same(attempt, &succeeded) {
-                Some((node, incarnation))
-            } else {
-                None
-            }
-        }
-        _ => None,
-    }
-}
-
-fn later(older: Option<(u32, u32)>, last: Option<(u32, u32)>) -> Option<(u32, u32)>
-    ensures { result ≡ newer older last }
-{
-    match last {
-        Some(place) => Some(place),
-        None => older,
-    }
 }
 
 // The winners of the records.
@@ -125,28 +123,6 @@ fn planned(alloc: Global, records: &[Record]) -> Result<Winners, AllocError>
     }
 }
 
-// What a list of winners says of a task.
-fn listed(winners: &[TaskWinner], task: &TaskId) -> Option<TaskWinner>
-    ensures { result ≡ listed winners.now task.now }
-{
-    match place_of(winners, task) {
-        Some(place) => winner_at(winners, place),
-        None => None,
-    }
-}
-
-fn winner_at(winners: &[TaskWinner], place: usize) -> Option<TaskWinner>
-    ensures { result ≡ slice_get winners.now place }
-{
-    winners.get(place).copied()
-}
-
-fn place_of(winners: &[TaskWinner], task: &TaskId) -> Option<usize>
-    ensures { result ≡ position (λ (w : TaskWinner). same_task w.task task.now) winners.now }
-{
-    winners.iter().position(|winner| winner.task == *task)
-}
-
 // The winners of the job's reduces, by rising number.
 pub fn winners(
     alloc: Global,
@@ -156,6 +132,7 @@ pub fn winners(
     ensures { IfOk result (λ winners. winners.items ≡ winners_among records.now (all_reduces setting.now)) }
 {
     let plan = planned(alloc, records)?;
+    let by_task = ByTask::of_list(alloc, plan.as_slice())?;
     let mut winners = VecDeque::new(alloc);
     for number in 0..setting.reduces {
         let task = TaskId {
@@ -163,8 +140,7 @@ pub fn winners(
             kind: TaskKind::Reduce,
             number,
         };
-        let winner = listed(plan.as_slice(), &task);
-        push(&mut winners, winner)?;
+        push(&mut winners, by_task.of(&task))?;
     }
     Ok(winners)
 }

@@ -1,6 +1,6 @@
 //! How attempts end.
 ghost use Rattle.std.specs.Prelude.{◌≡◌};
-ghost use Rattle.mr_master.specs.Ends.{is_failure};
+ghost use Rattle.mr_master.specs.inner.Ends.{is_failure};
 
 /// How an attempt ended.
 #[derive(Clone, Copy, Debug)]

@@ -7,8 +7,8 @@ ghost use Rattle.mr_master_model.specs.Hearing.{expired, new_bars};
 ghost use Rattle.mr_master_model.specs.Sends.{kill_of, expiry_sends};
 ghost use Rattle.mr_master_model.specs.Next.{with_kills};
 ghost use Rattle.mr_master.specs.declared.gone.Gone.TheVariants.{GivenUp};
-ghost use Rattle.mr_master.specs.Expiring.{kills_on, HasExpired};
-ghost use Rattle.mr_master.specs.Gone.{gone_of};
+ghost use Rattle.mr_master.specs.inner.Expiring.{kills_on, HasExpired};
+ghost use Rattle.mr_master.specs.inner.Gone.{gone_of};
 ghost use Rattle.mr_master.specs.State.{Reads, Moves, Adds};
 
 use crate::bars::Bars;

@@ -4,7 +4,7 @@ ghost use Rattle.mr_grant.specs.Attempts.{same_attempt};
 ghost use Rattle.mr_task.specs.Readings.{seen, is_live};
 ghost use Rattle.mr_task.specs.State.{Answers};
 ghost use Rattle.mr_master_model.specs.Job.{is_task, first_tasks, count_of};
-ghost use Rattle.mr_master.specs.Ends.{fails_job, kills_but, SendsAtEnd, MovesAtEnd};
+ghost use Rattle.mr_master.specs.inner.Ends.{fails_job, kills_but, SendsAtEnd, MovesAtEnd};
 ghost use Rattle.mr_master.specs.Places.{place_of};
 ghost use Rattle.mr_master.specs.State.{Keeps, Adds, Unchanged};
 ghost use Rattle.mr_master_model.specs.declared.setting.Setting.{Setting};

@@ -1,6 +1,7 @@
 //! Nodes that are gone, wholly or in their lower incarnations.
 ghost use Rattle.std.specs.Prelude.{◌≡◌, Some, ℕ};
-ghost use Rattle.mr_master.specs.Gone.{is_gone, is_lost};
+ghost use Rattle.mr_master.specs.inner.Gone.{is_gone, is_lost};
+ghost use Rattle.mr_master.specs.inner.Spots.{node_of};
 
 use mr_master_model::Launch;
 
@@ -14,6 +15,15 @@ pub enum Gone {
 }
 
 impl Gone {
+    // The node.
+    pub fn node(&self) -> u32
+        ensures { result ≡ node_of self.now }
+    {
+        match *self {
+            Gone::Restarted(node, _) | Gone::GivenUp(node) => node,
+        }
+    }
+
     // Whether what was launched so is gone.
     pub fn has(&self, launch: &Launch) -> bool
         ensures { result ≡ is_gone self.now (Some launch.now) }

@@ -7,7 +7,7 @@ ghost use Rattle.mr_master_model.specs.Sends.{replies};
 ghost use Rattle.mr_master_model.specs.Past.{Hears};
 ghost use Rattle.mr_master_model.specs.Next.{sent_by, with_kills};
 ghost use Rattle.mr_master.specs.State.{Keeps, Moves, Reads, Unchanged};
-ghost use Rattle.mr_master.specs.Ends.{kills_if_over};
+ghost use Rattle.mr_master.specs.inner.Ends.{kills_if_over};
 
 use crate::ending::Ending;
 use crate::machine::Machine;

@@ -1,11 +1,15 @@
 //! What attempts were launched as, by the numbers of their containers. This is the only place that knows the map.
-ghost use Rattle.std.specs.Prelude.{◌≡◌, ◌<◌, ◌++◌, [], ◌∷◌, None, OnOk, OnErr, IfOk, slice_get, length, get_or, false};
+ghost use Rattle.std.specs.Prelude.{◌≡◌, ◌<◌, ◌≤◌, ◌++◌, [], ◌∷◌, Some, None, OnOk, OnErr, IfOk, IfSome, IfNone, slice_get, length, get_or, false, if◌then◌else◌};
 ghost use Rattle.std.specs.Map.{lookup};
 ghost use Rattle.mr_grant.specs.Attempts.{same_attempt};
+ghost use Rattle.mr_ids.specs.Attempt.{Attempt};
 ghost use Rattle.mr_master.specs.Launches.{SameLaunches, Marks, NotesKills, Notes};
+ghost use Rattle.mr_master.specs.inner.Spots.{AreFree, FreeFrom};
 
+use crate::progress::both;
+use crate::spots::Spread;
 use indexmap::IndexMap;
-use mr_ids::AttemptId;
+use mr_ids::{AttemptId, TaskId, TaskKind};
 use mr_master_model::Launch;
 use mr_packet::{Envelope, Packet};
 use std::alloc::{AllocError, Global};
@@ -17,6 +21,9 @@ pub struct Launches {
     entries: Entries,
     // whether a Kill was sent to the container, by its number
     killed: Vec<bool>,
+    // the tasks by the nodes where attempts of theirs were launched, and whether those of all launches are there
+    spread: Spread,
+    is_spread: bool,
 }
 
 impl Model for Launches {
@@ -27,6 +34,11 @@ impl Model for Launches {
     ghost use Rattle.std.specs.Prelude.{◌-◌, vec_len, vec_capacity};
 
     ghost view = { λ l. record { entries = l.entries.entries; killed = l.killed.items; room = l.entries.spare; killed_room = vec_capacity l.killed - vec_len l.killed } };
+
+    ghost use Rattle.std.specs.Prelude.{◌≡◌, true};
+    ghost use Rattle.mr_master.specs.inner.Spots.{IsSpread};
+
+    ghost invariant = { λ l. l.is_spread ≡ true → IsSpread l.spread l.entries.entries };
 }
 
 impl Launches {
@@ -37,6 +49,8 @@ impl Launches {
         Launches {
             entries: Entries::new(alloc),
             killed: Vec::new(alloc),
+            spread: Spread::new(alloc),
+            is_spread: true,
         }
     }
 
@@ -47,6 +61,8 @@ impl Launches {
         Ok(Launches {
             entries: self.entries.copy()?,
             killed: self.killed.clone()?,
+            spread: self.spread.copy()?,
+            is_spread: self.is_spread,
         })
     }
 
@@ -81,12 +97,25 @@ impl Launches {
         }
     }
 
-    // Makes room: after it one more launch needs no memory.
-    pub fn reserve(&mut self) -> Result<(), AllocError>
+    // Of the tasks of a kind from this number on, the first of which an attempt may have been launched on the node.
+    pub fn next_on(&self, kind: TaskKind, node: u32, from: u32) -> Option<u32>
+        ensures from { IfSome result (λ number. from ≤ number) }
+        ensures first { IfSome result (λ number. AreFree self.now.entries kind node from number) }
+        ensures none { IfNone result (FreeFrom self.now.entries kind node from) }
+    {
+        if !self.is_spread {
+            return Some(from);
+        }
+        self.spread.next(kind, node, from)
+    }
+
+    // Makes room: after it one more launch, of an attempt of the task on the node, needs no memory.
+    pub fn reserve(&mut self, node: u32, task: TaskId) -> Result<(), AllocError>
         ensures same { SameLaunches self.old self.new }
         ensures room { OnOk result (0 < self.new.room) }
         ensures killed_room { OnOk result (0 < self.new.killed_room) }
     {
+        self.spread.add(node, task)?;
         self.killed.reserve(1)?;
         self.entries.reserve()
     }
@@ -98,6 +127,8 @@ impl Launches {
         ensures entries { lookup (same_attempt attempt) self.old.entries ≡ None → self.new.entries ≡ self.old.entries ++ (attempt, launch) ∷ [] }
         ensures killed { self.new.killed ≡ self.old.killed ++ false ∷ [] }
     {
+        let on_node = self.spread.has(launch.node, &attempt.task());
+        self.is_spread = both(self.is_spread, on_node);
         self.entries.push_reserved(attempt, launch);
         self.killed.push_reserved(false);
     }
@@ -199,7 +230,8 @@ impl Entries {
     // Adds a launch as the last.
     fn push_reserved(&mut self, attempt: AttemptId, launch: Launch)
         requires { 0 < self.old.spare }
-        ensures { lookup (same_attempt attempt) self.old.entries ≡ None → self.new.entries ≡ self.old.entries ++ (attempt, launch) ∷ [] }
+        ensures last { lookup (same_attempt attempt) self.old.entries ≡ None → self.new.entries ≡ self.old.entries ++ (attempt, launch) ∷ [] }
+        ensures looked { (a : Attempt) → lookup (same_attempt a) self.new.entries ≡ (if same_attempt attempt a then Some launch else lookup (same_attempt a) self.old.entries) }
     {
         self.map.insert(attempt, launch).unwrap();
     }

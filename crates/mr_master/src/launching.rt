@@ -3,7 +3,7 @@ ghost use Rattle.std.specs.Prelude.{◌≡◌, ◌<◌, Some, None, IfOk, IfErr,
 ghost use Rattle.mr_packet.specs.Sends.{to_node};
 ghost use Rattle.mr_master_model.specs.Job.{is_task};
 ghost use Rattle.mr_master_model.specs.Readings.{launch_refusal, by_task};
-ghost use Rattle.mr_master.specs.Launching.{HasLaunched};
+ghost use Rattle.mr_master.specs.inner.Launching.{HasLaunched};
 ghost use Rattle.mr_master.specs.Places.{place_of};
 ghost use Rattle.mr_master.specs.State.{Reads, Moves};
 
@@ -51,7 +51,7 @@ impl Machine {
         let Some(number) = number_after(self.launches.len()) else {
             return Err(no_memory());
         };
-        if self.writing.reserve(1).is_err() || self.launches.reserve().is_err() {
+        if self.writing.reserve(1).is_err() || self.launches.reserve(node, task).is_err() {
             return Err(no_memory());
         }
         let attempt = match self.tasks.launch(place) {

@@ -1,12 +1,13 @@
 //! What is gone with a node: its live attempts there, and the outputs that lay there.
-ghost use Rattle.std.specs.Prelude.{◌≡◌, flat_map, IfOk, OnOk, OnErr, if◌then◌else◌};
+ghost use Rattle.std.specs.Prelude.{◌≡◌, ◌≤◌, flat_map, IfOk, IfSome, IfNone, OnOk, OnErr, if◌then◌else◌};
 ghost use Rattle.mr_master_model.specs.Job.{first_tasks, count_of, all_maps, all_tasks};
 ghost use Rattle.std.specs.Prelude.{◌∷◌, []};
 ghost use Rattle.mr_master_model.specs.Readings as reading;
 ghost use Rattle.mr_master_model.specs.Readings.{succeeded_where, is_over};
 ghost use Rattle.mr_master_model.specs.Hearing.{with_known, after_restart, after_node_up};
-ghost use Rattle.mr_master.specs.Leaving.{without};
-ghost use Rattle.mr_master.specs.Gone.{gone_of, if_gone, of_job, is_lost, lost_of};
+ghost use Rattle.mr_master.specs.inner.Leaving.{without};
+ghost use Rattle.mr_master.specs.inner.Outputs.{NoneLost, NoneLostFrom};
+ghost use Rattle.mr_master.specs.inner.Gone.{gone_of, if_gone, of_job, is_lost, lost_of};
 ghost use Rattle.mr_master.specs.State.{Adds, Reads, Moves};
 ghost use Rattle.mr_master.specs.Told.{with_deaths, with_losses};
 
@@ -71,13 +72,21 @@ impl Machine {
         ensures { OnOk result (Adds self.now attempts.old.items (λ w s. flat_map (gone_of w s gone.now) (first_tasks w kind (count_of w kind))) attempts.new.items) }
     {
         let count = count_of(&self.setting, kind);
-        for number in 0..count {
+        let mut from = 0;
+        for _ in 0..count {
+            let Some(number) = self.launches.next_on(kind, gone.node(), from) else {
+                return Ok(());
+            };
+            if number >= count {
+                return Ok(());
+            }
             let task = TaskId {
                 job: self.setting.job,
                 kind,
                 number,
             };
             self.push_gone(attempts, task, gone)?;
+            from = number + 1;
         }
         Ok(())
     }
@@ -113,15 +122,36 @@ impl Machine {
     fn push_all_lost(&self, attempts: &mut Vec<AttemptId>, gone: &Gone) -> Result<(), AllocError>
         ensures { OnOk result (Adds self.now attempts.old.items (λ w s. flat_map (lost_of w s gone.now) (all_maps w)) attempts.new.items) }
     {
-        for number in 0..self.setting.maps {
+        let count = self.setting.maps;
+        let mut from = 0;
+        for _ in 0..count {
+            let Some(number) = self.next_output(gone, from) else {
+                return Ok(());
+            };
+            if number >= count {
+                return Ok(());
+            }
             let task = TaskId {
                 job: self.setting.job,
                 kind: TaskKind::Map,
                 number,
             };
             self.push_lost(attempts, task, gone)?;
+            from = number + 1;
         }
         Ok(())
+    }
+
+    // Of the maps from this number on, the first whose output may be lost: one that was taken over may lie anywhere.
+    fn next_output(&self, gone: &Gone, from: u32) -> Option<u32>
+        ensures from { IfSome result (λ number. from ≤ number) }
+        ensures first { IfSome result (λ number. NoneLost self.now gone.now from number) }
+        ensures none { IfNone result (NoneLostFrom self.now gone.now from) }
+    {
+        if !self.earlier.as_slice().is_empty() {
+            return Some(from);
+        }
+        self.launches.next_on(TaskKind::Map, gone.node(), from)
     }
 
     // A node is known in this incarnation from then on, if it is a greater one. While Running, the attempts that were launched there in a lower one end,

@@ -8,10 +8,9 @@ ghost use Rattle.mr_packet.specs.Sends.{to_container};
 ghost use Rattle.mr_master_model.specs.Readings as reading;
 ghost use Rattle.mr_task.specs.Calls.{Loses};
 ghost use Rattle.mr_master_model.specs.Job.{is_task};
-ghost use Rattle.mr_master.specs.Earlier.{where_told, listed};
+ghost use Rattle.mr_master.specs.inner.Earlier.{where_told, listed};
 ghost use Rattle.mr_master.specs.State.{Reads, Moves};
 
-use crate::earlier::place_in;
 use crate::failing::is_same;
 use crate::machine::Machine;
 use crate::packets::to_container;
@@ -41,7 +40,7 @@ impl Machine {
         if let Some((_place, launch)) = self.known(attempt) {
             return Some((launch.node, launch.incarnation));
         }
-        place_in(self.earlier.as_slice(), &attempt)
+        self.earlier.place(&attempt)
     }
 
     // The answer to a container that asks where the output of a map lies.

@@ -5,13 +5,13 @@ ghost use Rattle.mr_master.specs.Places.{place_of};
 ghost use Rattle.mr_master.specs.State.{StandsFor, Reads};
 
 use crate::bars::Bars;
+use crate::earlier::Earlier;
 use crate::launches::Launches;
 use crate::nodes::Nodes;
 use crate::places::place_of;
 use crate::records::Writing;
 use crate::tasks::Tasks;
 use crate::work::Work;
-use mr_history::Records;
 use mr_ids::AttemptId;
 use mr_master_model::{Launch, Setting};
 use mr_packet::ContainerId;
@@ -28,7 +28,7 @@ pub struct Machine {
     pub launches: Launches,
     pub nodes: Nodes,
     // what was read of the earlier segments
-    pub earlier: Records,
+    pub earlier: Earlier,
     pub writing: Writing,
     pub bars: Bars,
 }
@@ -53,7 +53,7 @@ impl Machine {
             tasks,
             launches: Launches::new(alloc),
             nodes: Nodes::new(alloc),
-            earlier: Records::new(alloc),
+            earlier: Earlier::new(alloc),
             writing: Writing::new(alloc),
             bars: Bars::new(alloc),
         })

@@ -1,6 +1,6 @@
 //! Places that are marked, and the first of them, each in time that grows with the logarithm of their number.
 ghost use Rattle.std.specs.Prelude.{◌≡◌, ℕ, ◌+◌, ◌*◌, ◌/◌, ◌^◌, ◌<◌, ◌≤◌, Bool, true, false, length, slice_index_or, IfOk, IfSome, IfNone, vec_len, if◌then◌else◌};
-ghost use Rattle.mr_master.specs.Marks.{is_marked, IsFirst, IsSet, NodesBut, IsTree, NoneBetween};
+ghost use Rattle.mr_master.specs.inner.Marks.{is_marked, IsFirst, IsSet, NodesBut, IsTree, NoneBetween};
 
 use std::alloc::{AllocError, Global};
 use std::marker::Model;
@@ -19,7 +19,7 @@ pub struct Marks {
 
 impl Model for Marks {
     ghost use Rattle.std.specs.Prelude.{◌^◌, Bool, List, drop};
-    ghost use Rattle.mr_master.specs.Marks.{IsTree};
+    ghost use Rattle.mr_master.specs.inner.Marks.{IsTree};
 
     ghost Value = { List Bool };
 

@@ -22,16 +22,19 @@ use std::marker::Model;
 #[derive(Drop)]
 pub struct MasterMachine {
     machine: Machine,
+    // so many of the first bars are past
+    passed: usize,
 }
 
 impl Model for MasterMachine {
-    ghost use Rattle.mr_master.specs.State.{Master, StandsForSome};
+    ghost use Rattle.mr_master.specs.inner.Passing.{HasPassed};
+    ghost use Rattle.mr_master.specs.State.{Master};
 
     ghost Value = { Master };
 
     ghost view = { λ m. m.machine };
 
-    ghost invariant = { λ m. StandsForSome m.machine };
+    ghost invariant = { λ m. HasPassed m.machine m.passed };
 }
 
 impl MasterMachine {
@@ -40,7 +43,7 @@ impl MasterMachine {
         ensures { IfOk result (λ machine. StandsFor machine setting []) }
     {
         let machine = Machine::new(alloc, setting)?;
-        Ok(MasterMachine { machine })
+        Ok(MasterMachine { machine, passed: 0 })
     }
 
     /// Another machine, which stands for whatever this one stands for. Spare room is not copied. Where memory is refused: an error.
@@ -48,7 +51,10 @@ impl MasterMachine {
         ensures { IfOk result (λ machine. StandsStill self.now machine) }
     {
         let machine = self.machine.copy()?;
-        Ok(MasterMachine { machine })
+        Ok(MasterMachine {
+            machine,
+            passed: self.passed,
+        })
     }
 
     /// Each machine stands for some past. This call does nothing: it tells the caller so.
@@ -66,7 +72,7 @@ impl MasterMachine {
         ensures due { IfOk result (λ due. Answers self.now (λ w past. duty w (seen w past)) due) }
         ensures due_on_memory { OnErr result (Answers self.now (λ w past. is_some (duty w (seen w past))) true) }
     {
-        let due = self.machine.duty()?;
+        let due = self.machine.duty(self.passed)?;
         Ok(due)
     }
 
@@ -131,6 +137,7 @@ impl MasterMachine {
         ensures unchanged { OnErr result (StandsStill self.old self.new) }
     {
         self.machine.hear(packet, packets)?;
+        self.passed = self.machine.passed(self.passed);
         Ok(())
     }
 
@@ -178,7 +185,7 @@ impl MasterMachine {
         ensures ready { IfOk result (λ ready. IsReady self.new answer ready) }
         ensures still { StandsStill self.old self.new }
     {
-        let ready = self.machine.ready_for(answer)?;
+        let ready = self.machine.ready_for(answer, self.passed)?;
         Ok(ready)
     }
 
@@ -193,6 +200,8 @@ impl MasterMachine {
         ensures packets { result.items ≡ ready.packets }
         ensures stands { (answer : StoreAnswer) → IsReady self.old answer ready → Stands self.old (Answered answer) self.new }
     {
-        self.machine.answer(ready)
+        let packets = self.machine.answer(ready);
+        self.passed = self.machine.passed(self.passed);
+        packets
     }
 }

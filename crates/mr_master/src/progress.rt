@@ -5,8 +5,8 @@ ghost use Rattle.mr_grant.specs.Attempts.{first_of};
 ghost use Rattle.mr_task.specs.Readings.{seen, live};
 ghost use Rattle.mr_task.specs.State.{Answers};
 ghost use Rattle.mr_master_model.specs.Readings.{wants_launch};
-ghost use Rattle.mr_master.specs.Marks.{is_marked, IsFirst};
-ghost use Rattle.mr_master.specs.Progress.{is_open, open_of, same_kind, HasRoom, NotesAll, IsProgress};
+ghost use Rattle.mr_master.specs.inner.Marks.{is_marked, IsFirst};
+ghost use Rattle.mr_master.specs.inner.Progress.{is_open, open_of, same_kind, HasRoom, NotesAll, IsProgress};
 
 use crate::marks::Marks;
 use crate::tasks::is_live;
@@ -24,7 +24,7 @@ pub struct Progress {
 }
 
 impl Model for Progress {
-    ghost use Rattle.mr_master.specs.Progress.{Progress};
+    ghost use Rattle.mr_master.specs.inner.Progress.{Progress};
 
     ghost Value = { Progress };
 
@@ -125,7 +125,7 @@ fn is_map(kind: TaskKind) -> bool
     }
 }
 
-fn both(a: bool, b: bool) -> bool
+pub fn both(a: bool, b: bool) -> bool
     ensures { result ≡ (a && b) }
 {
     a && b

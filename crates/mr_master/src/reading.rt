@@ -4,11 +4,11 @@ ghost use Rattle.std.specs.List.{list_any};
 ghost use Rattle.mr_commit.specs.Tables.{setup_job};
 ghost use Rattle.mr_master_model.specs.Past.{SetsUp, Fails};
 ghost use Rattle.mr_master_model.specs.Answered.{is_unsuccessful};
-ghost use Rattle.mr_master.specs.Kinds.{is_read, records_in};
+ghost use Rattle.mr_master.specs.WorkKinds.{is_read, records_in};
 ghost use Rattle.mr_master.specs.Ready.{IsReadyDue};
 
 use crate::change::Change;
-use crate::earlier::tells_failure;
+use crate::earlier::{Earlier, tells_failure};
 use crate::machine::Machine;
 use crate::ready::Ready;
 use crate::work::Work;
@@ -26,7 +26,8 @@ impl Machine {
             return Ok(Ready::silent(self.alloc, Change::Becomes(Work::stopped())));
         };
         let next = read_work(&self.setting, records.as_slice())?;
-        Ok(Ready::silent(self.alloc, Change::HasRead(records, next)))
+        let earlier = Earlier::of(self.alloc, records)?;
+        Ok(Ready::silent(self.alloc, Change::HasRead(earlier, next)))
     }
 }
 

@@ -1,18 +1,22 @@
 //! What is ready before the answer of a store call is heard.
-ghost use Rattle.std.specs.Prelude.{◌≡◌, []};
+ghost use Rattle.std.specs.Prelude.{◌≡◌, [], ◌++◌, drop};
+ghost use Rattle.mr_commit.specs.Halves.{Fits};
 ghost use Rattle.mr_master_model.specs.Answered.{flushed};
 ghost use Rattle.mr_master_model.specs.Next.{with_kills};
 ghost use Rattle.mr_master.specs.Ready.{changed_by, CanMake};
 ghost use Rattle.mr_master.specs.State.{Moves};
-ghost use Rattle.mr_master.specs.Taking.{winner_of, after_table, KeepsAfter};
+ghost use Rattle.mr_master.specs.WorkKinds.{left_of, with_left};
+ghost use Rattle.mr_master.specs.Taking.{winner_of, after_winner, after_table, EntersAt, KeepsAfter};
 ghost use Rattle.mr_master_model.specs.Readings.{is_running};
 
 use crate::change::Change;
+use crate::earlier::Earlier;
 use crate::machine::Machine;
 use crate::tasks::Tasks;
 use crate::work::Work;
-use mr_history::Records;
+use mr_commit::Following;
 use mr_packet::Envelope;
+use mr_task::TaskMachine;
 use std::alloc::Global;
 use std::marker::Model;
 
@@ -78,7 +82,9 @@ impl Machine {
         match change {
             Change::Nothing => {}
             Change::Becomes(work) => self.set_work(work),
+            Change::GoesOn(following) => self.goes_on(following),
             Change::HasRead(records, work) => self.has_read(records, work),
+            Change::EntersOne(place, machine, work) => self.enters_one(place, machine, work),
             Change::Enters(tasks, work) => self.enters(tasks, work),
             Change::Ends(attempt) => self.tell_death(attempt),
             Change::Appends => self.append_first(),
@@ -93,11 +99,28 @@ impl Machine {
         self.work.set(work);
     }
 
+    // The committer's table goes on with these lines.
+    fn goes_on(&mut self, following: Following)
+        requires { Fits following.lines (left_of self.old.work) }
+        ensures { Moves self.old (λ w s. record s { work = with_left s.work (following.lines ++ drop 1 (left_of s.work)) }) self.new }
+    {
+        self.work.go_on(following);
+    }
+
     // The earlier segments were read.
-    fn has_read(&mut self, records: Records, work: Work)
+    fn has_read(&mut self, records: Earlier, work: Work)
         ensures { Moves self.old (λ w s. record s { earlier = records; work = work }) self.new }
     {
         self.earlier = records;
+        self.work.set(work);
+    }
+
+    // The task at this place has this machine from then on: a reduce is taken over.
+    fn enters_one(&mut self, place: usize, machine: TaskMachine, work: Work)
+        requires { EntersAt self.old place machine }
+        ensures { Moves self.old (λ w s. record s { calls = (after_winner s (winner_of s.work)).calls; work = work }) self.new }
+    {
+        self.tasks.put(place, machine);
         self.work.set(work);
     }
 

@@ -6,6 +6,7 @@ ghost use Rattle.mr_master_model.specs.Next.{with_kills};
 ghost use Rattle.mr_master.specs.State.{Moves};
 ghost use Rattle.mr_master.specs.Answering.{IsDue};
 ghost use Rattle.mr_master.specs.Told.{with_deaths};
+ghost use Rattle.mr_master.specs.inner.Passing.{NoneLive};
 ghost use Rattle.mr_master.specs.Ready.{Prepares, IsReadyDue};
 
 use crate::change::Change;
@@ -20,17 +21,18 @@ use std::alloc::AllocError;
 
 impl Machine {
     // The call that is due while Running is answered: a bar, an append, a flush, or the creation of COMMIT_STARTED.
-    pub fn ready_running(&self, answer: &StoreAnswer) -> Result<Ready, AllocError>
+    pub fn ready_running(&self, answer: &StoreAnswer, passed: usize) -> Result<Ready, AllocError>
         requires runs { self.now.work ≡ Runs }
         requires due { IsDue self.now }
         requires room { 0 < self.now.writing.tail_room }
+        requires none_live { NoneLive self.now passed }
         ensures { IfOk result (λ ready. IsReadyDue self.now answer.now ready) }
     {
         if !is_fine(answer) {
             let ready = self.becoming(Work::stopped())?;
             return Ok(ready);
         }
-        if let Some(attempt) = self.first_bar() {
+        if let Some(attempt) = self.first_bar(passed) {
             let ready = self.ready_bar(attempt)?;
             return Ok(ready);
         }

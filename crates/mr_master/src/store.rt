@@ -1,11 +1,12 @@
 //! What the answer of a store call says.
-ghost use Rattle.std.specs.Prelude.{◌≡◌, List, IfSome, IfNone, IfOk, OnErr, Ok, Err};
+ghost use Rattle.std.specs.Prelude.{◌≡◌, List, IfSome, IfNone, IfOk, OnOk, OnErr, Ok, Err};
 ghost use Rattle.mr_commit.specs.Line.{Line};
 ghost use Rattle.mr_master_model.specs.Past.{Work};
 ghost use Rattle.mr_master_model.specs.Answered.{is_fine, is_superseded, looked, heard_by};
-ghost use Rattle.mr_master.specs.Heard.{chosen, heard_as};
+ghost use Rattle.mr_master.specs.inner.Heard.{chosen};
+ghost use Rattle.mr_master.specs.inner.Coming.{coming_by, IsComing};
 
-use mr_commit::{CommitFault, StepDone};
+use mr_commit::{CommitFault, Following, StepDone};
 use mr_master_model::StoreAnswer;
 use mr_names::{Answer, NameFault};
 use std::alloc::AllocError;
@@ -19,11 +20,11 @@ pub enum Look {
     Unclear,
 }
 
-/// What came of a committer's call.
-#[derive(Clone, Copy, Debug, PartialEq, Eq)]
-pub enum Heard {
-    /// Calls are left.
-    More,
+/// What comes of the answer of a committer's call.
+#[derive(Drop)]
+pub enum Coming {
+    /// Calls are left: these lines take the place of the one whose call was answered.
+    More(Following),
     /// It was the last one.
     Finished,
     /// A refusal or a fault.
@@ -72,10 +73,10 @@ fn found(told: &Answer) -> Look
 }
 
 // What a committer's table hears; none where it hears nothing, as after a fault, or where the namespace had no memory.
-pub fn named(answer: StoreAnswer) -> Option<Result<Answer, NameFault>>
-    ensures some { IfSome result (λ r. answer ≡ StoreAnswer.Names r) }
-    ensures wanting { IfSome result (λ r. r ≡ Err NameFault.NoMemory → ⊥) }
-    ensures none { IfNone result ((left : List Line) → heard_as (heard_by left answer).0 ≡ Heard.Refused) }
+pub fn named(answer: &StoreAnswer) -> Option<&Result<Answer, NameFault>>
+    ensures some { IfSome result (λ r. answer.now ≡ StoreAnswer.Names r.now) }
+    ensures wanting { IfSome result (λ r. r.now ≡ Err NameFault.NoMemory → ⊥) }
+    ensures none { IfNone result ((left : List Line) → IsComing left answer.now Coming.Refused) }
 {
     match answer {
         StoreAnswer::Names(Err(NameFault::NoMemory)) => None,
@@ -84,16 +85,24 @@ pub fn named(answer: StoreAnswer) -> Option<Result<Answer, NameFault>>
     }
 }
 
-// What came of it; an error where memory was wanted.
-pub fn outcome_of(done: Result<StepDone, CommitFault>) -> Result<Heard, AllocError>
-    ensures heard { IfOk result (λ h. h ≡ heard_as done) }
-    ensures done { IfOk result (λ h. done ≡ Err CommitFault.NoMemory → ⊥) }
-    ensures wanting { OnErr result (done ≡ Err CommitFault.NoMemory) }
+// What comes of it; an error where memory was wanted.
+pub fn coming_of(followed: Result<Following, CommitFault>) -> Result<Coming, AllocError>
+    ensures coming { IfOk result (λ coming. coming ≡ coming_by followed) }
+    ensures done { OnOk result (followed ≡ Err CommitFault.NoMemory → ⊥) }
+    ensures wanting { OnErr result (followed ≡ Err CommitFault.NoMemory) }
 {
-    match done {
-        Ok(StepDone::More) => Ok(Heard::More),
-        Ok(StepDone::Finished) => Ok(Heard::Finished),
+    match followed {
+        Ok(following) => Ok(more_or_finished(following)),
         Err(CommitFault::NoMemory) => Err(AllocError),
-        Err(_) => Ok(Heard::Refused),
+        Err(_) => Ok(Coming::Refused),
+    }
+}
+
+fn more_or_finished(following: Following) -> Coming
+    ensures { result ≡ coming_by (Ok following) }
+{
+    match following.done() {
+        StepDone::More => Coming::More(following),
+        StepDone::Finished => Coming::Finished,
     }
 }

@@ -10,10 +10,9 @@ ghost use Rattle.mr_master_model.specs.Readings.{Seen, newest_in};
 ghost use Rattle.mr_master_model.specs.declared.setting.Setting.{Setting};
 ghost use Rattle.mr_master_model.specs.Answered.{taken, taken_of, with_maps};
 ghost use Rattle.mr_master.specs.Tasks.{KeepsTasks, TakesAt, Takes};
-ghost use Rattle.mr_master.specs.Taking.{winner_of, calls_with, Enters, KeepsAfter};
+ghost use Rattle.mr_master.specs.Taking.{winner_of, calls_with, Enters, IsTold, KeepsAfter};
 ghost use Rattle.mr_master.specs.State.{Keeps, Reads, Adds};
 
-use crate::earlier::newest;
 use crate::machine::Machine;
 use crate::places::place_of;
 use crate::tasks::{Tasks, follow};
@@ -43,6 +42,15 @@ impl Tasks {
         recover_at(&mut self.machines, place, attempt)?;
         follow(&self.machines, &mut self.progress, place);
         Ok(())
+    }
+
+    // A machine as the one at the place would be once the attempt is entered.
+    pub fn recovered(&self, place: usize, attempt: AttemptId) -> Result<TaskMachine, AllocError>
+        requires { place < length self.now.machines }
+        ensures { IfOk result (λ machine. IsTold self.now.machines place (Recovers attempt) machine) }
+    {
+        let task = &self.machines[place];
+        recovered(task, attempt)
     }
 
     // The same, at the place of its task; of a task that is not the job's nothing changes.
@@ -111,6 +119,17 @@ fn recover(task: &mut TaskMachine, attempt: AttemptId) -> Result<(), AllocError>
     }
 }
 
+// An equal machine, into which the attempt is entered.
+fn recovered(task: &TaskMachine, attempt: AttemptId) -> Result<TaskMachine, AllocError>
+    ensures { IfOk result (λ machine. Stands task.now (Recovers attempt) machine) }
+{
+    let Ok(mut copy) = task.copy() else {
+        return Err(AllocError);
+    };
+    recover(&mut copy, attempt)?;
+    Ok(copy)
+}
+
 // Whether the attempt is the task's own, and the task has none.
 fn may_recover(task: &TaskMachine, attempt: AttemptId) -> bool
     ensures answer { Answers task.now (λ t k calls. may_recover t (seen t k calls) attempt) result }
@@ -129,7 +148,7 @@ impl Machine {
     fn push_taken(&self, attempts: &mut Vec<AttemptId>, task: &TaskId) -> Result<(), AllocError>
         ensures { OnOk result (Adds self.now attempts.old.items (λ w s. taken s (newest_in s.earlier task.now)) attempts.new.items) }
     {
-        let Some(success) = newest(self.earlier.as_slice(), task) else {
+        let Some(success) = self.earlier.newest(task) else {
             return Ok(());
         };
         if success.2 < self.nodes.incarnation(success.1) {
@@ -181,15 +200,12 @@ impl Machine {
         Ok(())
     }
 
-    // The machines of the tasks after the last call of a committer's table.
-    pub fn tasks_after(&self, runs: bool) -> Result<Tasks, AllocError>
-        ensures { IfOk result (λ tasks. KeepsAfter self.now (winner_of self.now.work) runs tasks) }
+    // The machines of the tasks after the last call of a committer's table, where the master begins to run.
+    pub fn tasks_after(&self) -> Result<Tasks, AllocError>
+        ensures { IfOk result (λ tasks. KeepsAfter self.now (winner_of self.now.work) true tasks) }
     {
         let mut tasks = self.tasks.copy(self.alloc)?;
         self.enter_winner(&mut tasks)?;
-        if !runs {
-            return Ok(tasks);
-        }
         self.enter_maps(&mut tasks)?;
         Ok(tasks)
     }

@@ -1,5 +1,5 @@
 //! The machines of a master's tasks, by place.
-ghost use Rattle.std.specs.Prelude.{◌≡◌, ◌<◌, ◌+◌, ◌&&◌, not, nat_le, length, true, [], ◌∷◌, Some, ℕ, slice_get, List, None, OnOk, OnErr, IfOk, IfErr, IfSome, IfNone, Ok, unwrap_or, vec_len};
+ghost use Rattle.std.specs.Prelude.{◌≡◌, ◌<◌, ◌+◌, ◌&&◌, not, nat_le, length, true, [], ◌∷◌, Some, ℕ, slice_get, List, None, OnOk, OnErr, IfOk, IfErr, IfSome, IfNone, Ok, unwrap_or, set, vec_len};
 ghost use Rattle.std.specs.List.{find, list_all};
 ghost use Rattle.std.specs.Option.{is_some, option_copied};
 ghost use Rattle.mr_grant.specs.Attempts.{has};
@@ -10,8 +10,9 @@ ghost use Rattle.mr_task.specs.Readings.{seen, is_named, is_live, is_won, failur
 ghost use Rattle.mr_task.specs.State.{done_answer, launch_answer, Answers};
 ghost use Rattle.mr_master_model.specs.declared.setting.Setting.{Setting};
 ghost use Rattle.mr_master_model.specs.Job.{first_tasks, count_of};
-ghost use Rattle.mr_master.specs.Ends.{call_of};
-ghost use Rattle.mr_master.specs.Progress.{waits, IsNextOf, IsProgress, HasTaken};
+ghost use Rattle.mr_master.specs.inner.Ends.{call_of};
+ghost use Rattle.mr_master.specs.inner.Progress.{waits, IsNextOf, IsProgress, HasTaken};
+ghost use Rattle.mr_master.specs.Taking.{IsTold};
 ghost use Rattle.mr_master.specs.Tasks.{KeepsTasks, TakesAt, AnswersAt, Takes, ReadsAt, reply_or, NewTasks};
 
 use crate::ending::Ending;
@@ -36,7 +37,7 @@ impl Model for Tasks {
 
     ghost view = { λ m. record { machines = m.machines.items } };
 
-    ghost use Rattle.mr_master.specs.Progress.{IsProgress};
+    ghost use Rattle.mr_master.specs.inner.Progress.{IsProgress};
 
     ghost invariant = { λ m. IsProgress m.progress m.machines.items };
 }
@@ -219,6 +220,15 @@ impl Tasks {
         follow(&self.machines, &mut self.progress, place);
     }
 
+    // The machine at the place is this one from then on: it is the old one once its task was told something.
+    pub fn put(&mut self, place: usize, machine: TaskMachine)
+        requires { (call : TaskCall) × IsTold self.old.machines place call machine }
+        ensures { (call : TaskCall) → IsTold self.old.machines place call machine → Takes self.old place call self.new }
+    {
+        put_at(&mut self.machines, place, machine);
+        follow(&self.machines, &mut self.progress, place);
+    }
+
     // The success of the attempt is recorded.
     pub fn record(&mut self, place: usize, attempt: AttemptId)
         requires { place < length self.old.machines }
@@ -262,6 +272,13 @@ pub fn follow(machines: &Vec<TaskMachine>, progress: &mut Progress, place: usize
 {
     let task = &machines[place];
     progress.note(place, task);
+}
+
+fn put_at(tasks: &mut Vec<TaskMachine>, place: usize, machine: TaskMachine)
+    requires { place < vec_len tasks.old }
+    ensures { tasks.new.items ≡ set tasks.old.items place machine }
+{
+    tasks[place] = machine;
 }
 
 fn is_arrived(tasks: &Vec<TaskMachine>, place: usize, attempt: AttemptId) -> bool

@@ -1,24 +1,24 @@
 //! What the master is at in its phase, with what is left of a committer's table.
-ghost use Rattle.std.specs.Prelude.{◌≡◌, true, false, Some, None, Err, IfOk, OnOk, OnErr, [], if◌then◌else◌};
+ghost use Rattle.std.specs.Prelude.{◌≡◌, ◌++◌, drop, true, false, Some, None, Err, IfOk, OnErr, [], if◌then◌else◌};
 ghost use Rattle.std.specs.Option.{is_some};
 ghost use Rattle.mr_master_model.specs.Past.{Work, LooksForSuccess, SetsUp, Runs, CommitsJob, Fails, Ends, Stops, phase_of};
 ghost use Rattle.mr_master_model.specs.Readings.{Seen, is_running, is_over};
 ghost use Rattle.mr_master_model.specs.Duty.{duty_at, does, commit_name, abort_duty};
-ghost use Rattle.mr_master.specs.Kinds.{is_own, fails_as, is_read, is_look, looked_on, found_by, ends_as, is_tell, left_of, with_left, refused_by, refused_when, is_step, finished_by, wants_more, lines_of};
-ghost use Rattle.mr_master.specs.Work.{is_left};
+ghost use Rattle.mr_master.specs.WorkKinds.{is_own, fails_as, is_read, is_look, looked_on, found_by, ends_as, is_tell, left_of, with_left, refused_when, is_step, finished_by, wants_more, lines_of};
 ghost use Rattle.mr_master.specs.Taking.{winner_of};
-ghost use Rattle.mr_master.specs.Heard.{heard_as, has_finished};
-ghost use Rattle.mr_commit.specs.Steps.{next_call, heard};
-ghost use Rattle.mr_commit.specs.Recovery.{Left, recover_task};
-ghost use Rattle.mr_master_model.specs.Answered.{work_after, heard_by, takes_over};
+ghost use Rattle.mr_master.specs.inner.Coming.{IsComing};
+ghost use Rattle.mr_commit.specs.Steps.{next_call};
+ghost use Rattle.mr_commit.specs.Halves.{Fits};
+ghost use Rattle.mr_commit.specs.Recovery.{recover_task};
+ghost use Rattle.mr_master_model.specs.Answered.{work_after, is_superseded, takes_over};
 ghost use Rattle.mr_master_model.specs.declared.setting.Setting.{Setting};
 ghost use Rattle.mr_commit.specs.Tables.{setup_job, commit_job};
 
 use crate::duty::{Duty, of_line, of_look, of_mark};
 use crate::earlier::{next_winner, winners};
 use crate::ops::{fail_mark, started_mark, success_mark};
-use crate::store::{Heard, Look, is_fine, is_superseded, looked, named, outcome_of};
-use mr_commit::{CommitJob, RecoverTask, SetupJob};
+use crate::store::{Coming, Look, coming_of, is_fine, is_superseded, looked, named};
+use mr_commit::{CommitJob, Following, RecoverTask, SetupJob};
 use mr_history::Record;
 use mr_master_model::{DutyName, Phase, Setting, StoreAnswer, StoreCall};
 use mr_names::{Answer, NameFault, Op};
@@ -59,7 +59,7 @@ enum At {
 impl Model for Work {
     ghost use Rattle.std.specs.Prelude.{◌≡◌, true};
     ghost use Rattle.mr_master_model.specs.Past.{Work};
-    ghost use Rattle.mr_master.specs.Work.{work_of, has_table};
+    ghost use Rattle.mr_master.specs.inner.Work.{work_of, has_table};
 
     ghost Value = { Work };
 
@@ -447,84 +447,73 @@ impl Work {
         }
     }
 
-    // A committer's call was answered. After the last one, what is left is not asked for any more. Where memory is refused, nothing has changed.
-    pub fn step(&mut self, answer: StoreAnswer) -> Result<Heard, AllocError>
-        ensures heard { IfOk result (λ h. h ≡ heard_as (heard_by (left_of self.old) answer).0) }
-        ensures moved { IfOk result (λ h. (w : Setting) (s : Seen) → is_step self.old ≡ true → has_finished h ≡ false → self.new ≡ work_after w s answer self.old) }
-        ensures err { OnErr result (self.new ≡ self.old) }
-        ensures memory { OnErr result (wants_more (left_of self.old) ≡ true) }
+    // What comes of the answer of a committer's call, made ready. Nothing changes.
+    pub fn follow(&self, answer: &StoreAnswer) -> Result<Coming, AllocError>
+        ensures coming { IfOk result (λ coming. IsComing (left_of self.now) answer.now coming) }
+        ensures memory { OnErr result (wants_more (left_of self.now) ≡ true) }
     {
-        let superseded = is_superseded(&answer);
-        let heard = self.hear(answer)?;
-        match heard {
-            Heard::More => {}
-            Heard::Finished => {}
-            Heard::Refused => self.refuse(superseded),
+        let Some(r) = named(answer) else {
+            return Ok(Coming::Refused);
+        };
+        match &self.at {
+            At::SetsUp(step) => follow_setup(step, r),
+            At::TakesOver { step, .. } => follow_recovery(step, r),
+            At::CommitsJob(step) => follow_commit(step, r),
+            _ => Ok(Coming::Refused),
         }
-        Ok(heard)
     }
 
-    // A call was refused, or its answer was lost.
-    fn refuse(&mut self, superseded: bool)
-        ensures { self.new ≡ refused_when superseded self.old }
+    // The lines that follow take the place of the one whose call was answered. It takes no memory.
+    pub fn go_on(&mut self, following: Following)
+        requires { Fits following.lines (left_of self.old) }
+        ensures { self.new ≡ with_left self.old (following.lines ++ drop 1 (left_of self.old)) }
     {
-        match self.at {
-            At::SetsUp(_) | At::TakesOver { .. } => self.at = At::Stops,
-            At::CommitsJob(_) if superseded => self.at = At::Stops,
-            At::CommitsJob(_) => self.at = At::TellsFail,
+        match &mut self.at {
+            At::SetsUp(step) => step.go_on(following),
+            At::TakesOver { step, .. } => step.go_on(following),
+            At::CommitsJob(step) => step.go_on(following),
             _ => {}
         }
     }
 
-    // A committer's call was answered: the lines that follow take its place. Where memory is refused, nothing has changed.
-    fn hear(&mut self, answer: StoreAnswer) -> Result<Heard, AllocError>
-        ensures heard { IfOk result (λ h. h ≡ heard_as (heard_by (left_of self.old) answer).0) }
-        ensures more { IfOk result (λ h. h ≡ Heard.More → self.new ≡ with_left self.old (heard_by (left_of self.old) answer).1) }
-        ensures kept { OnOk result (refused_by self.new ≡ refused_by self.old) }
-        ensures err { OnErr result (self.new ≡ self.old) }
-        ensures memory { OnErr result (wants_more (left_of self.old) ≡ true) }
+    // What is next after a call of a table was refused, or its answer was lost.
+    pub fn refused(&self, answer: &StoreAnswer) -> Work
+        requires { is_step self.now ≡ true }
+        ensures { result ≡ refused_when (is_superseded answer.now) self.now }
     {
-        let Some(r) = named(answer) else {
-            return Ok(Heard::Refused);
-        };
-        match &mut self.at {
-            At::SetsUp(step) => hear_setup(step, r),
-            At::TakesOver { step, .. } => hear_recovery(step, r),
-            At::CommitsJob(step) => hear_commit(step, r),
-            _ => Ok(Heard::Refused),
+        if is_superseded(answer) {
+            return Work::stopped();
+        }
+        match self.at {
+            At::CommitsJob(_) => Work { at: At::TellsFail },
+            _ => Work::stopped(),
         }
     }
 }
 
-fn hear_setup(step: &mut SetupJob, r: Result<Answer, NameFault>) -> Result<Heard, AllocError>
-    requires { r ≡ Err NameFault.NoMemory → ⊥ }
-    ensures heard { IfOk result (λ h. h ≡ heard_as (heard step.old r).0) }
-    ensures left { OnOk result (step.new ≡ (heard step.old r).1) }
-    ensures err { OnErr result (step.new ≡ step.old) }
-    ensures memory { OnErr result (wants_more step.old ≡ true) }
+fn follow_setup(step: &SetupJob, r: &Result<Answer, NameFault>) -> Result<Coming, AllocError>
+    requires { r.now ≡ Err NameFault.NoMemory → ⊥ }
+    ensures coming { IfOk result (λ coming. IsComing step.now (StoreAnswer.Names r.now) coming) }
+    ensures memory { OnErr result (wants_more step.now ≡ true) }
 {
-    let done = step.took(r);
-    outcome_of(done)
+    let followed = step.follow(r);
+    coming_of(followed)
 }
 
-fn hear_commit(step: &mut CommitJob, r: Result<Answer, NameFault>) -> Result<Heard, AllocError>
-    requires { r ≡ Err NameFault.NoMemory → ⊥ }
-    ensures heard { IfOk result (λ h. h ≡ heard_as (heard step.old r).0) }
-    ensures left { OnOk result (step.new ≡ (heard step.old r).1) }
-    ensures err { OnErr result (step.new ≡ step.old) }
-    ensures memory { OnErr result (wants_more step.old ≡ true) }
+fn follow_commit(step: &CommitJob, r: &Result<Answer, NameFault>) -> Result<Coming, AllocError>
+    requires { r.now ≡ Err NameFault.NoMemory → ⊥ }
+    ensures coming { IfOk result (λ coming. IsComing step.now (StoreAnswer.Names r.now) coming) }
+    ensures memory { OnErr result (wants_more step.now ≡ true) }
 {
-    let done = step.took(r);
-    outcome_of(done)
+    let followed = step.follow(r);
+    coming_of(followed)
 }
 
-fn hear_recovery(step: &mut RecoverTask, r: Result<Answer, NameFault>) -> Result<Heard, AllocError>
-    requires { r ≡ Err NameFault.NoMemory → ⊥ }
-    ensures heard { IfOk result (λ h. h ≡ heard_as (heard (lines_of step.old) r).0) }
-    ensures left { OnOk result (is_left step.old ≡ true → step.new ≡ Left (heard (lines_of step.old) r).1) }
-    ensures err { OnErr result (step.new ≡ step.old) }
-    ensures memory { OnErr result (wants_more (lines_of step.old) ≡ true) }
+fn follow_recovery(step: &RecoverTask, r: &Result<Answer, NameFault>) -> Result<Coming, AllocError>
+    requires { r.now ≡ Err NameFault.NoMemory → ⊥ }
+    ensures coming { IfOk result (λ coming. IsComing (lines_of step.now) (StoreAnswer.Names r.now) coming) }
+    ensures memory { OnErr result (wants_more (lines_of step.now) ≡ true) }
 {
-    let done = step.took(r);
-    outcome_of(done)
+    let followed = step.follow(r);
+    coming_of(followed)
 }

@@ -3,7 +3,7 @@ use mr_commit::{
     check_output, commit_job, commit_task, needs_task_commit, setup_job,
 };
 use mr_ids::{AppAttempt, AttemptId, JobId, TaskId, TaskKind};
-use mr_names::{Caller, Kind, NameFault, Namespace};
+use mr_names::{Answer, Caller, Kind, NameFault, Namespace};
 use mr_paths::{Layout, Path, PathFault};
 use std::alloc::{AllocError, Global};
 use std::process::Abort;
@@ -106,9 +106,24 @@ fn output_missing_then_over(rt: HostRuntime) {
     let layout = out(&rt, alloc);
     let mut names = new_namespace(&rt, alloc);
     let mut setup = made(&rt, SetupJob::new(&layout, app));
-    assert!(rt; told(&rt, setup.next(&mut names, *caller)) == Ok(StepDone::Finished));
+    let Some(call) = setup.call() else {
+        panic!(rt; "over");
+    };
+    let answer = names.perform(*caller, call);
+    let Ok(following) = setup.follow(&answer) else {
+        panic!(rt; "refused");
+    };
+    assert!(rt; following.done() == StepDone::Finished);
+    setup.go_on(following);
     assert!(rt; told(&rt, setup.next(&mut names, *caller)) == Err(CommitFault::Over));
     let mut step = made(&rt, CommitTask::new(&layout, app, attempt(&rt)));
+    let mut sure = made(&rt, step.copy());
+    let Ok(following) = sure.follow(&Ok(Answer::Found(Some(Kind::Dir)))) else {
+        panic!(rt; "refused");
+    };
+    assert!(rt; following.done() == StepDone::More);
+    sure.go_on(following);
+    assert!(rt; sure.call().is_some());
     assert!(rt; told(&rt, step.next(&mut names, *caller)) == Err(CommitFault::OutputMissing));
     let mut copy = made(&rt, step.copy());
     assert!(rt; copy.call().is_none());
@@ -154,8 +169,13 @@ fn two_level_merge(rt: HostRuntime) {
             panic!(rt; "over");
         };
         let answer = names.perform(*caller, call);
+        let Ok(following) = first.follow(&answer) else {
+            panic!(rt; "refused");
+        };
+        first.go_on(following);
         assert!(rt; told(&rt, step.took(answer)) == Ok(StepDone::More));
     }
+    assert!(rt; first.cleans_up() == step.cleans_up());
     assert!(rt; stands(&rt, alloc, &names, *caller, "/out/_temporary") == None);
     assert!(rt; stands(&rt, alloc, &names, *caller, "/out/_SUCCESS") == None);
     assert!(rt; told(&rt, step.next(&mut names, *caller)) == Ok(StepDone::Finished));
@@ -257,9 +277,13 @@ fn task_abort_by_steps(rt: HostRuntime) {
         panic!(rt; "over");
     };
     let answer = names.perform(*caller, call);
+    let Ok(following) = again.follow(&answer) else {
+        panic!(rt; "refused");
+    };
     assert!(rt; told(&rt, step.took(answer)) == Ok(StepDone::Finished));
     assert!(rt; stands(&rt, alloc, &names, *caller, written) == None);
-    assert!(rt; told(&rt, again.next(&mut names, *caller)) == Ok(StepDone::Finished));
+    assert!(rt; following.done() == StepDone::Finished);
+    again.go_on(following);
     assert!(rt; told(&rt, again.next(&mut names, *caller)) == Err(CommitFault::Over));
 }
 
@@ -276,9 +300,13 @@ fn job_abort_by_steps(rt: HostRuntime) {
         panic!(rt; "over");
     };
     let answer = names.perform(*caller, call);
+    let Ok(following) = again.follow(&answer) else {
+        panic!(rt; "refused");
+    };
     assert!(rt; told(&rt, step.took(answer)) == Ok(StepDone::Finished));
     assert!(rt; stands(&rt, alloc, &names, *caller, "/out/_temporary") == None);
-    assert!(rt; told(&rt, again.next(&mut names, *caller)) == Ok(StepDone::Finished));
+    again.go_on(following);
+    assert!(rt; told(&rt, again.next(&mut names, *caller)) == Err(CommitFault::Over));
 }
 
 #[test]
@@ -291,12 +319,17 @@ fn recovery_by_steps(rt: HostRuntime) {
     let mut names = job_set_up(&rt, alloc, caller, &layout);
     let committed = "/out/_temporary/1/task_200707121733_0003_r_000000";
     prepared(&rt, names.mkdirs(*caller, &path(&rt, alloc, committed)));
-    let recovery = made(&rt, RecoverTask::new(&layout, app, TASK, None));
+    let mut recovery = made(&rt, RecoverTask::new(&layout, app, TASK, None));
     let mut step = made(&rt, recovery.copy());
     let Some(call) = step.call() else {
         panic!(rt; "over");
     };
     let answer = names.perform(*caller, call);
+    let Ok(following) = recovery.follow(&answer) else {
+        panic!(rt; "refused");
+    };
+    recovery.go_on(following);
+    assert!(rt; recovery.call().is_some());
     assert!(rt; told(&rt, step.took(answer)) == Ok(StepDone::More));
     assert!(rt; told(&rt, step.next(&mut names, *caller)) == Ok(StepDone::More));
     assert!(rt; told(&rt, step.next(&mut names, *caller)) == Ok(StepDone::Finished));

@@ -2,6 +2,8 @@
 #![tactic(auto)]
 
 #[cfg(test)]
+mod committing;
+#[cfg(test)]
 mod fixtures;
 #[cfg(test)]
 mod hearing;
@@ -11,6 +13,8 @@ mod leaving;
 mod opening;
 #[cfg(test)]
 mod outcomes;
+#[cfg(test)]
+mod recovering;
 #[cfg(test)]
 mod refusals;
 #[cfg(test)]

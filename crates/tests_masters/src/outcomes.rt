@@ -49,7 +49,7 @@ fn job_is_committed(rt: HostRuntime) {
 }
 
 // The attempt of this number is launched and fails.
-fn fails(rt: &impl Abort, master: &mut MasterMachine, number: u32) {
+pub fn fails(rt: &impl Abort, master: &mut MasterMachine, number: u32) {
     if master.launch(reduce(), 0).is_err() {
         panic!(rt; "not launched");
     }

@@ -17,12 +17,12 @@ fn missing() -> StoreAnswer {
 }
 
 // A later master is there.
-fn superseded() -> StoreAnswer {
+pub fn superseded() -> StoreAnswer {
     StoreAnswer::Names(Err(NameFault::Superseded(2)))
 }
 
 // The answer of what is due stops the master: nothing is sent, nothing is due any more.
-fn stops(rt: &impl Abort, master: &mut MasterMachine, name: DutyName, answer: StoreAnswer) {
+pub fn stops(rt: &impl Abort, master: &mut MasterMachine, name: DutyName, answer: StoreAnswer) {
     assert!(rt; due(rt, master) == Some(name), "{name:?}");
     assert!(rt; answered(rt, master, answer).len() == 0, "{name:?}");
     assert!(rt;
@@ -169,7 +169,7 @@ fn lost_answer_stops_a_flush(rt: HostRuntime) {
 }
 
 // The same, and they are stable: the job commit is to start.
-fn won(rt: &impl Abort, alloc: Global) -> MasterMachine {
+pub fn won(rt: &impl Abort, alloc: Global) -> MasterMachine {
     let mut master = done(rt, alloc);
     assert!(rt; answered(rt, &mut master, StoreAnswer::Wrote(Ok(()))).len() == 1);
     master

@@ -14,4 +14,4 @@ loop-number-preserved c =
     let t = task_of c.args.setting.now Reduce c.loop-number.number in
     c.in_ok-push.ensures
     ∙ among-more c.args.setting.now c.args.records.now c.loop-number.number _ _ c.loop-number.invariant
-    (c.listed-winner.ensures ∙ ap (λ (ws : List TaskWinner). listed ws t) c.as_slice.ensures ∙ c.in_ok-plan.ensures.exact t)
+    (c.of.ensures ∙ c.in_ok-by_task.ensures t ∙ ap (λ (ws : List TaskWinner). listed ws t) c.as_slice.ensures ∙ c.in_ok-plan.ensures.exact t)

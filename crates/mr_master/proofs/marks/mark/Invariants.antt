@@ -1,5 +1,5 @@
 use Rattle.std.proofs.Common.{◌≡◌, ℕ, ◌+◌, ◌<◌, ◌≤◌, false, length, slice_index_or}
-use Rattle.mr_master.specs.Marks.{NodesBut}
+use Rattle.mr_master.specs.inner.Marks.{NodesBut}
 use Rattle.mr_master.proofs.marks.mark.Given as goal
 
 abbrev pub invariant-loop-node : goal.invariant-loop-node

@@ -3,7 +3,7 @@ use Rattle.std.specs.Option.{is_some}
 use Rattle.mr_ids.specs.Attempt.{Attempt}
 use Rattle.mr_ids.specs.declared.id.TaskId.{TaskId}
 use Rattle.mr_task.proofs.Telling.{winner-told}
-use Rattle.mr_master.specs.Progress.{same_kind}
+use Rattle.mr_master.specs.inner.Progress.{same_kind}
 use Rattle.mr_master.proofs.progress.is_open.Goals as goal
 
 none-by : {A : Type 0} (o : Option A) (b : Bool) → is_some o ≡ not b → b ≡ is_none o

@@ -1,7 +1,7 @@
 use Rattle.std.proofs.Common.{◌∙◌, ap, List}
 use Rattle.std.proofs.lemmas.List.{take_all}
 use Rattle.mr_ids.specs.Attempt.{Attempt}
-use Rattle.mr_master.specs.Expiring.{all_added}
+use Rattle.mr_master.specs.inner.Expiring.{all_added}
 use Rattle.mr_master.proofs.Distinct.{next-added}
 use Rattle.mr_master.proofs.bars.Bars.add_all.Goals as goal
 

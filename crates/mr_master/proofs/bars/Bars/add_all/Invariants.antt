@@ -1,5 +1,5 @@
 use Rattle.std.proofs.Common.{◌≡◌, take}
-use Rattle.mr_master.specs.Expiring.{all_added}
+use Rattle.mr_master.specs.inner.Expiring.{all_added}
 use Rattle.mr_master.proofs.bars.Bars.add_all.Given as goal
 
 abbrev pub invariant-loop-i : goal.invariant-loop-i

@@ -3,7 +3,7 @@ use Rattle.std.specs.List.{flat_map}
 use Rattle.std.proofs.lemmas.Grind.{flat_map-append}
 use Rattle.mr_packet.specs.declared.packet.Envelope.{Envelope}
 use Rattle.mr_master_model.specs.Job.{all_maps, all_reduces}
-use Rattle.mr_master.specs.Ends.{kills_but}
+use Rattle.mr_master.specs.inner.Ends.{kills_but}
 use Rattle.mr_master.proofs.Ends.{quiet-sends, loud-sends}
 use Rattle.mr_master.proofs.machine.Machine.end_packets.Goals as goal
 use Rattle.mr_master.proofs.machine.Machine.end_packets.Goals.{then-fails_job+in_ok-push_all_kills_but+in_ok-push_all_kills_but-2, else-fails_job}

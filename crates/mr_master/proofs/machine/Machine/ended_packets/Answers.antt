@@ -3,7 +3,7 @@ use Rattle.mr_master_model.specs.declared.setting.Setting.{Setting}
 use Rattle.mr_master_model.specs.Readings.{Seen, launched_in, is_running}
 use Rattle.mr_master_model.specs.Hearing.{after_ended}
 use Rattle.mr_master.specs.declared.ending.Ending.TheVariants.{Exit}
-use Rattle.mr_master.specs.Ends.{kills_if_over, ended, SendsAtEnd}
+use Rattle.mr_master.specs.inner.Ends.{kills_if_over, ended, SendsAtEnd}
 use Rattle.mr_master.specs.State.{Master, Keeps}
 use Rattle.mr_master.proofs.Containers.{launched-is, killed-is, if-ok}
 use Rattle.mr_master.proofs.machine.Machine.ended_packets.Goals as goal

@@ -2,7 +2,7 @@ use Rattle.std.proofs.Common.{sym, subst, ◌∙◌, ap, ◌&&◌, not, ◌+◌,
 use Rattle.mr_task.specs.Readings as task
 use Rattle.mr_master_model.specs.declared.setting.Setting.{Setting}
 use Rattle.mr_master_model.specs.Readings.{is_live, of_task}
-use Rattle.mr_master.specs.Ends.{is_last_of}
+use Rattle.mr_master.specs.inner.Ends.{is_last_of}
 use Rattle.mr_master.specs.State.{Master, Keeps}
 use Rattle.mr_master.proofs.Keeping.{read-at}
 use Rattle.mr_master.proofs.machine.Machine.fails_job.Goals as goal

@@ -1,7 +1,7 @@
 use Rattle.std.proofs.Common.{sym, subst, ◌∙◌, ap, List, flat_map}
 use Rattle.mr_ids.specs.Attempt.{Attempt}
 use Rattle.mr_master_model.specs.Sends.{kill_of}
-use Rattle.mr_master.specs.Leaving.{without}
+use Rattle.mr_master.specs.inner.Leaving.{without}
 use Rattle.mr_master.specs.State.{Master, Keeps}
 use Rattle.mr_master.proofs.Losing.{given-same, gives-up}
 use Rattle.mr_master.proofs.machine.Machine.give_up.Goals as goal

@@ -2,7 +2,7 @@ use Rattle.std.proofs.Common.{◌≡◌, sym, subst, ◌∙◌, ap, Bool, get_or
 use Rattle.mr_master_model.specs.Readings.{launched_in}
 use Rattle.mr_master_model.specs.Hearing.{after_ended}
 use Rattle.mr_master.specs.declared.ending.Ending.TheVariants.{Exit}
-use Rattle.mr_master.specs.Ends.{ended, MovesAtEnd}
+use Rattle.mr_master.specs.inner.Ends.{ended, MovesAtEnd}
 use Rattle.mr_master.specs.State.{Master, Moves}
 use Rattle.mr_master.proofs.Keeping.{by-launch, by-seen}
 use Rattle.mr_master.proofs.Containers.{launched-is, killed-is, on-ok}

@@ -3,7 +3,7 @@ use Rattle.mr_master_model.specs.declared.launch.Launch.{Launch}
 use Rattle.mr_master_model.specs.Readings.{launch_of}
 use Rattle.mr_master_model.specs.Hearing.{after_failed}
 use Rattle.mr_master.specs.declared.ending.Ending.TheVariants.{Failure}
-use Rattle.mr_master.specs.Ends.{MovesAtEnd}
+use Rattle.mr_master.specs.inner.Ends.{MovesAtEnd}
 use Rattle.mr_master.specs.State.{Moves}
 use Rattle.mr_master.proofs.Keeping.{none-mapped, known-is, by-launch}
 use Rattle.mr_master.proofs.Containers.{on-ok}

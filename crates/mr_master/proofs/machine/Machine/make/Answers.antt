@@ -7,6 +7,12 @@ use Rattle.mr_master.proofs.machine.Machine.make.Goals as goal
 pub returns-in-Becomes : goal.returns-in-Becomes
 returns-in-Becomes c = λ w s keeps. subst (λ (x : Change). Keeps c.set_work.new.self w (changed_by w s x)) (sym c.in-Becomes.is) (c.set_work.ensures w s keeps)
 
+pub returns-in-GoesOn : goal.returns-in-GoesOn
+returns-in-GoesOn c = λ w s keeps. subst (λ (x : Change). Keeps c.goes_on.new.self w (changed_by w s x)) (sym c.in-GoesOn.is) (c.goes_on.ensures w s keeps)
+
+pub returns-in-EntersOne : goal.returns-in-EntersOne
+returns-in-EntersOne c = λ w s keeps. subst (λ (x : Change). Keeps c.enters_one.new.self w (changed_by w s x)) (sym c.in-EntersOne.is) (c.enters_one.ensures w s keeps)
+
 pub returns-in-HasRead : goal.returns-in-HasRead
 returns-in-HasRead c = λ w s keeps. subst (λ (x : Change). Keeps c.has_read.new.self w (changed_by w s x)) (sym c.in-HasRead.is) (c.has_read.ensures w s keeps)
 

@@ -1,5 +1,5 @@
 use Rattle.std.proofs.Common.{sym, subst, ◌∙◌, ap}
-use Rattle.mr_master.specs.Kinds.{is_step, finished_by}
+use Rattle.mr_master.specs.WorkKinds.{is_step, finished_by}
 use Rattle.mr_master.specs.State.{Master, Keeps}
 use Rattle.mr_master.proofs.machine.Machine.next_work.Goals as goal
 

@@ -4,7 +4,7 @@ use Rattle.mr_ids.specs.declared.id.TaskId.{TaskId}
 use Rattle.mr_packet.specs.declared.packet.Envelope.{Envelope}
 use Rattle.mr_master_model.specs.declared.setting.Setting.{Setting}
 use Rattle.mr_master_model.specs.Job.{count_of, first_tasks, task_of}
-use Rattle.mr_master.specs.Ends.{kills_but}
+use Rattle.mr_master.specs.inner.Ends.{kills_but}
 use Rattle.mr_master.specs.State.{Master, Keeps}
 use Rattle.mr_master.proofs.Gathering.{next-task, no-task}
 use Rattle.mr_master.proofs.Ends.{of-job-once}

@@ -1,6 +1,6 @@
 use Rattle.std.specs.List.{flat_map}
 use Rattle.mr_master_model.specs.Job.{first_tasks}
-use Rattle.mr_master.specs.Ends.{kills_but}
+use Rattle.mr_master.specs.inner.Ends.{kills_but}
 use Rattle.mr_master.specs.State.{Adds}
 use Rattle.mr_master.proofs.machine.Machine.push_all_kills_but.Given as goal
 

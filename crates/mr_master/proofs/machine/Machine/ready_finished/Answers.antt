@@ -1,31 +1,40 @@
-use Rattle.std.proofs.Common.{◌≡◌, ◌∙◌, sym, ap, subst, Bool, true, ◌&&◌, not, is_none}
+use Rattle.std.proofs.Common.{◌≡◌, ◌∙◌, refl, sym, ap, subst, Bool, true, None}
 use Rattle.mr_master_model.specs.declared.setting.Setting.{Setting}
 use Rattle.mr_master_model.specs.Past.{Work}
 use Rattle.mr_master_model.specs.Readings.{Seen, is_running}
-use Rattle.mr_master.specs.declared.change.Change.TheVariants as change
-use Rattle.mr_master.specs.Taking.{winner_of, after_table, KeepsAfter}
-use Rattle.mr_master.specs.Kinds.{is_step}
-use Rattle.mr_master.specs.State.{Keeps}
-use Rattle.mr_master.proofs.Prepared.{ready-as, prepares-as}
+use Rattle.mr_master.specs.Taking.{winner_of, after_table}
+use Rattle.mr_master.specs.WorkKinds.{is_step}
+use Rattle.mr_master.specs.State.{Master, Keeps}
+use Rattle.mr_master.proofs.Prepared.{prepares-as}
 use Rattle.mr_master.proofs.Steps.{nobody-told, nobody-enters}
 use Rattle.mr_master.proofs.machine.Machine.ready_finished.Goals as goal
 
+pub returns-then-is_running : goal.returns-then-is_running
+returns-then-is_running c =
+    prepares-as
+    (λ w s keeps. refl)
+    (λ w s keeps. λ i. record s { calls = (after_table w s (winner_of s.work) (is_running (c.in_ok-next.ensures w s keeps i))).calls; work = c.in_ok-next.ensures w s keeps i })
+    c.in_ok-ready.ensures
+
 pub returns : goal.returns
 returns c =
-    ready-as c.in_ok-packets.packets.items (change.Enters c.in_ok-tasks.tasks c.in_ok-next.next) c.new.ensures
-    (subst (λ (b : Bool). KeepsAfter c.args.self.now (winner_of c.args.self.now.work) b c.in_ok-tasks.tasks) c.is_running.ensures c.in_ok-tasks.ensures)
-    c.in_ok-packets.ensures
-    (λ w s keeps. λ i. record s { calls = (after_table w s (winner_of s.work) (is_running (c.in_ok-next.ensures w s keeps i))).calls; work = c.in_ok-next.ensures w s keeps i })
-
-pub returns-then-enters_nobody : goal.returns-then-enters_nobody
-returns-then-enters_nobody c =
     prepares-as
-    (λ w s keeps. nobody-told w s c.in_ok-next.next (steps w s keeps) (nobody w s keeps) (c.in_ok-next.ensures w s keeps))
-    (λ w s keeps. nobody-enters w s c.in_ok-next.next (nobody w s keeps) (c.in_ok-next.ensures w s keeps))
-    c.in_ok-ready.ensures
+    (λ w s keeps. refl)
+    (λ w s keeps. λ i. record s {
+      calls = (after_table w s (winner_of s.work) ((sym c.if-is_running.false ∙ c.is_running.ensures ∙ ap (λ (x : Work). is_running x) (c.in_ok-next.ensures w s keeps)) i)).calls;
+      work = c.in_ok-next.ensures w s keeps i;
+    })
+    c.in_ok-ready-3.ensures
+
+pub returns-in_default : goal.returns-in_default
+returns-in_default c =
+    prepares-as
+    (λ w s keeps. nobody-told w s c.in_ok-next.next (steps w s keeps) (none w s keeps) (c.in_ok-next.ensures w s keeps))
+    (λ w s keeps. nobody-enters w s c.in_ok-next.next (none w s keeps) (sym c.is_running.ensures ∙ c.if-is_running.false) (c.in_ok-next.ensures w s keeps))
+    c.in_ok-ready-2.ensures
   where
     steps : (w : Setting) (s : Seen) → Keeps c.args.self.now w s → is_step s.work ≡ true
     steps w s keeps = ap (λ (x : Work). is_step x) (sym keeps.work) ∙ c.requires
 
-    nobody : (w : Setting) (s : Seen) → Keeps c.args.self.now w s → (is_none (winner_of s.work) && not (is_running c.in_ok-next.next)) ≡ true
-    nobody w s keeps = ap (λ (x : Work). is_none (winner_of x) && not (is_running c.in_ok-next.next)) (sym keeps.work) ∙ sym c.enters_nobody.ensures ∙ c.if-enters_nobody.true
+    none : (w : Setting) (s : Seen) → Keeps c.args.self.now w s → None ≡ winner_of s.work
+    none w s keeps = sym c.in_default.is ∙ c.winner.ensures ∙ ap (λ (x : Work). winner_of x) (subst (λ (x : Master). Keeps x w s) (sym c.self.view_is) keeps).work

@@ -4,7 +4,7 @@ use Rattle.mr_master_model.specs.Past.{Work}
 use Rattle.mr_master_model.specs.Readings.{Seen}
 use Rattle.mr_master_model.specs.Answered.{work_after}
 use Rattle.mr_master_model.specs.Sends.{outcome_of}
-use Rattle.mr_master.specs.Kinds.{is_look}
+use Rattle.mr_master.specs.WorkKinds.{is_look}
 use Rattle.mr_master.specs.State.{Master, Keeps}
 use Rattle.mr_master.proofs.Prepared.{prepares-as}
 use Rattle.mr_master.proofs.Replies.{quiet-seen, quiet-sends, look-changes}

@@ -13,7 +13,7 @@ use Rattle.mr_master.proofs.machine.Machine.ready_read.Goals as goal
 
 pub returns : goal.returns
 returns c =
-    ready-as [] (change.HasRead c.in-Some.records c.in_ok-next.next) c.silent-2.ensures tt
+    ready-as [] (change.HasRead c.in_ok-earlier.earlier c.in_ok-next.next) c.silent-2.ensures tt
     (λ w s keeps. read-sends w s c.args.answer (sym keeps.work ∙ read-is _ c.requires))
     (λ w s keeps.
     let k = subst (λ (x : Master). Keeps x w s) (sym c.self.view_is) keeps in
@@ -21,7 +21,7 @@ returns c =
     let e = sym keeps.work ∙ read-is _ c.requires in
     let a = told-is c.args.answer rs (sym c.in-Some.is ∙ c.records_in.ensures) in
     let next : c.in_ok-next.next ≡ read_by w (answer.Told rs) = c.in_ok-next.ensures ∙ (λ i. if list_any is_unsuccessful (c.as_slice.ensures i) then Fails true else SetsUp (setup_job (k.setting i).layout.dest (k.setting i).app)) in
-    (λ i. record s { earlier = rs; work = next i }) ∙ ap (λ (x : StoreAnswer). record (with_earlier s x) { work = read_by w x }) a ∙ read-seen w s c.args.answer e)
+    (λ i. record s { earlier = c.in_ok-earlier.ensures i; work = next i }) ∙ ap (λ (x : StoreAnswer). record (with_earlier s x) { work = read_by w x }) a ∙ read-seen w s c.args.answer e)
 
 pub returns-in_default : goal.returns-in_default
 returns-in_default c =

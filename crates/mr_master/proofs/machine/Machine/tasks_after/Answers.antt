@@ -1,19 +1,13 @@
-use Rattle.std.proofs.Common.{sym, subst}
+use Rattle.std.proofs.Common.{refl, sym, subst, true}
 use Rattle.mr_master.specs.Tasks.{Tasks, KeepsTasks}
 use Rattle.mr_master.specs.State.{Master, Keeps}
 use Rattle.mr_master.specs.Taking.{winner_of, calls_with}
-use Rattle.mr_master.proofs.Taken.{stays-so, begins-so}
+use Rattle.mr_master.proofs.Taken.{begins-so}
 use Rattle.mr_master.proofs.machine.Machine.tasks_after.Goals as goal
-
-pub returns-then-not-runs : goal.returns-then-not-runs
-returns-then-not-runs c = λ w s keeps.
-    let k = subst (λ (x : Master). Keeps x w s) (sym c.self.view_is) keeps in
-    stays-so _ w s (winner_of c.args.self.now.work) c.args.runs c.if-not-runs.true
-    (c.in_ok-enter_winner.ensures w s keeps (subst (λ (x : Tasks). KeepsTasks x w s.calls) (sym c.in_ok-tasks.ensures) k.tasks))
 
 pub returns : goal.returns
 returns c = λ w s keeps.
     let k = subst (λ (x : Master). Keeps x w s) (sym c.self.view_is) keeps in
-    begins-so _ w s (winner_of c.args.self.now.work) c.args.runs c.if-not-runs.false
+    begins-so _ w s (winner_of c.args.self.now.work) true refl
     (c.in_ok-enter_maps.ensures w s keeps (calls_with (winner_of c.args.self.now.work) s.calls)
     (c.in_ok-enter_winner.ensures w s keeps (subst (λ (x : Tasks). KeepsTasks x w s.calls) (sym c.in_ok-tasks.ensures) k.tasks)))

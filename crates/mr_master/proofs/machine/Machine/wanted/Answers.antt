@@ -3,7 +3,7 @@ use Rattle.mr_ids.specs.declared.id.TaskKind.{TaskKind}
 use Rattle.mr_ids.specs.declared.id.TaskKind.TheVariants.{Map, Reduce}
 use Rattle.mr_master_model.specs.Past.{Work}
 use Rattle.mr_master_model.specs.Readings.{is_running}
-use Rattle.mr_master.specs.Progress.{waits, IsNextOf}
+use Rattle.mr_master.specs.inner.Progress.{waits, IsNextOf}
 use Rattle.mr_master.specs.State.{Master, Keeps}
 use Rattle.mr_master.proofs.Following.{wants-none, wants-map, wants-reduce}
 use Rattle.mr_master.proofs.machine.Machine.wanted.Goals as goal

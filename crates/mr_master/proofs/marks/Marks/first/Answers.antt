@@ -1,7 +1,7 @@
 use Rattle.std.proofs.Common.{◌+◌, ◌^◌, ◌≡◌, ◌∙◌, sym, ap, Bool, false, List, slice_index_or, arith}
 use Rattle.std.proofs.lemmas.List.{get_or-drop, get_or_default}
 use Rattle.std.proofs.lemmas.Nat.{pow_pos}
-use Rattle.mr_master.specs.Marks.{is_marked}
+use Rattle.mr_master.specs.inner.Marks.{is_marked}
 use Rattle.mr_master.proofs.Marking.{all-dark}
 use Rattle.mr_master.proofs.marks.Marks.first.Goals as goal
 

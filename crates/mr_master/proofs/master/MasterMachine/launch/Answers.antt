@@ -1,14 +1,14 @@
 use Rattle.std.proofs.Common.{subst}
 use Rattle.mr_master_model.specs.Past.{Launches}
 use Rattle.mr_master.specs.State.{Master, Stands}
-use Rattle.mr_master.specs.Launching.{HasLaunched}
-use Rattle.mr_master.proofs.Standing.{stands-still}
+use Rattle.mr_master.specs.inner.Launching.{HasLaunched}
+use Rattle.mr_master.proofs.Past_stays.{passed-still}
 use Rattle.mr_master.proofs.Entering.{stands-launched, sent-launched}
 use Rattle.mr_master.proofs.master.MasterMachine.launch.Goals as goal
 
 pub invariant_of-self-2 : goal.invariant_of-self-2
 invariant_of-self-2 c =
-    stands-still c.self.inside.machine c.launch.new.self (Launches c.args.task c.args.node)
+    passed-still c.self.inside.machine c.launch.new.self (Launches c.args.task c.args.node) c.self.inside.passed
     (stands-launched c.self.inside.machine c.launch.new.self c.args.task c.args.node c.in_ok-packet.packet c.in_ok-packet.ensures.launched) c.self.invariant
 
 pub returns-clause-sent : goal.returns-clause-sent

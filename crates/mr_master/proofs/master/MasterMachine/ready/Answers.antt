@@ -2,6 +2,7 @@ use Rattle.std.proofs.Common.{subst}
 use Rattle.mr_master_model.specs.Past.{Answered}
 use Rattle.mr_master_model.specs.Next.{sent}
 use Rattle.mr_master.specs.State.{Master, Answers}
+use Rattle.mr_master.proofs.Past_stays.{none-live, passed-unchanged}
 use Rattle.mr_master.proofs.Prepared.{ready-sent}
 use Rattle.mr_master.proofs.master.MasterMachine.ready.Goals as goal
 
@@ -9,3 +10,9 @@ pub returns-clause-sent : goal.returns-clause-sent
 returns-clause-sent c =
     subst (λ (x : Master). Answers x (λ w past. sent w past (Answered c.args.answer)) c.in_ok-ready.ready.packets) c.self.view_is
     (ready-sent c.self.inside.machine c.ready_for.new.self c.args.answer c.in_ok-ready.ready c.ready_for.ensures.same c.in_ok-ready.ensures.ready)
+
+pub ready_for-requires : goal.ready_for-requires
+ready_for-requires c = none-live c.self.inside.machine c.self.inside.passed c.self.invariant
+
+pub invariant_of-self : goal.invariant_of-self
+invariant_of-self c = passed-unchanged c.self.inside.machine c.ready_for.new.self c.self.inside.passed c.ready_for.ensures.same c.self.invariant

@@ -1,6 +1,6 @@
 use Rattle.std.proofs.Common.{◌≡◌, ℕ, subst, length, arith}
 use Rattle.mr_ids.specs.declared.id.TaskKind.TheVariants.{Map, Reduce}
-use Rattle.mr_master.specs.Progress.{waits, is_open, HasRoom, FollowsAllTo}
+use Rattle.mr_master.specs.inner.Progress.{waits, is_open, HasRoom, FollowsAllTo}
 use Rattle.mr_master.proofs.Following.{follows-none, one-more-all, room-stays, room-below}
 use Rattle.mr_master.proofs.progress.Progress.of.Goals as goal
 

@@ -1,5 +1,5 @@
 use Rattle.std.proofs.Common.{length}
-use Rattle.mr_master.specs.Progress.{HasRoom, FollowsAllTo}
+use Rattle.mr_master.specs.inner.Progress.{HasRoom, FollowsAllTo}
 use Rattle.mr_master.proofs.progress.Progress.of.Given as goal
 
 abbrev pub invariant-loop-i : goal.invariant-loop-i

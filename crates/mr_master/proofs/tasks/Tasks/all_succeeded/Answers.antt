@@ -1,5 +1,5 @@
 use Rattle.std.proofs.Common.{subst, sym}
-use Rattle.mr_master.specs.Progress.{open_of}
+use Rattle.mr_master.specs.inner.Progress.{open_of}
 use Rattle.mr_master.specs.Tasks.{Tasks, KeepsTasks}
 use Rattle.mr_master.proofs.Following.{open-follows, all-are, not-all-are}
 use Rattle.mr_master.proofs.tasks.Tasks.all_succeeded.Goals as goal

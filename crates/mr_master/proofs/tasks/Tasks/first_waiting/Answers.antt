@@ -1,6 +1,6 @@
 use Rattle.std.proofs.Common.{slice_get, subst, sym, ◌∙◌, ap}
 use Rattle.mr_ids.specs.declared.id.TaskId.{TaskId}
-use Rattle.mr_master.specs.Progress.{waits, IsNextOf}
+use Rattle.mr_master.specs.inner.Progress.{waits, IsNextOf}
 use Rattle.mr_master.specs.Tasks.{Tasks, KeepsTasks}
 use Rattle.mr_master.proofs.Following.{next-is, none-waits, no-machine}
 use Rattle.mr_master.proofs.tasks.Tasks.first_waiting.Goals as goal

@@ -1,6 +1,6 @@
 use Rattle.std.proofs.Common.{subst, sym}
 use Rattle.mr_master.specs.declared.ending.Ending.{Ending}
-use Rattle.mr_master.specs.Ends.{call_of}
+use Rattle.mr_master.specs.inner.Ends.{call_of}
 use Rattle.mr_master.specs.Tasks.{Takes}
 use Rattle.mr_master.proofs.tasks.Tasks.tell_end.Goals as goal
 

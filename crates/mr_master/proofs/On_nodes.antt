@@ -1,0 +1,192 @@
+-- Tasks of which attempts were launched on a node: what is gone with the node is theirs.
+use Rattle.std.proofs.Common.{ℕ, zero, suc, ◌+◌, ◌<◌, ◌≤◌, ◌⊎◌, inl, inr, ◌≡◌, refl, sym, ◌∙◌, ap, subst, Bool, true, false, ◌&&◌, ◌||◌, cond, nat_eq, nat_lt, List, [], ◌∷◌, ◌++◌, filter, flat_map, length, Option, Some, None, IfSome, IfNone, append-nil, true≢false, add-one, if◌then◌else◌, arith}
+use Rattle.std.proofs.lemmas.Bool.Decides.{nat_tests}
+use Rattle.std.proofs.lemmas.Bool.{cases_eq}
+use Rattle.std.proofs.lemmas.Grind.{flat_map-append}
+use Rattle.std.specs.BTreeSet.{BTreeSet, contains}
+use Rattle.std.specs.BTreeMap.Range.{IsLeBy}
+use Rattle.std.specs.Map.{lookup}
+use Rattle.std.specs.Ordering.{is_gt, nat_cmp, ordering_then}
+use Rattle.std.specs.declared.cmp.Ordering.{Ordering}
+use Rattle.std.specs.declared.cmp.Ordering.TheVariants.{Less, Equal, Greater}
+use Rattle.mr_ids.specs.Attempt.{Attempt}
+use Rattle.mr_ids.specs.declared.id.TaskId.{TaskId}
+use Rattle.mr_ids.specs.declared.id.TaskKind.{TaskKind}
+use Rattle.mr_ids.specs.declared.id.TaskKind.TheVariants.{Map, Reduce}
+use Rattle.mr_grant.specs.Attempts.{same_attempt, has}
+use Rattle.mr_grant.proofs.Same.{same-is, same-itself}
+use Rattle.mr_task.specs.Readings as task
+use Rattle.mr_history.specs.declared.record.Record.{Record}
+use Rattle.mr_master_model.specs.declared.launch.Launch.{Launch}
+use Rattle.mr_master_model.specs.declared.setting.Setting.{Setting}
+use Rattle.mr_master_model.specs.Job.{task_of, first_tasks}
+use Rattle.mr_master_model.specs.Readings.{Seen, Place, of_task, is_known, launch_of, place_of, place_in, place_by, succeeded, if_passes, live_where}
+use Rattle.mr_master.specs.declared.gone.Gone.{Gone}
+use Rattle.mr_master.specs.declared.gone.Gone.TheVariants.{Restarted, GivenUp}
+use Rattle.mr_master.specs.State.{Master, Keeps}
+use Rattle.mr_master.specs.inner.Gone.{is_gone, is_lost, gone_of, lost_of}
+use Rattle.mr_master.specs.declared.spots.Spot.{Spot}
+use Rattle.mr_master.specs.inner.Spots.{Spread, spot_cmp, has_spot, IsSpread, IsFree, AreFree, FreeFrom, NoneBetween, NoneFrom, node_of}
+use Rattle.mr_master.proofs.Losing.{gone-own, lost-own}
+
+-- ---- the order of spots
+
+pub not-true : (b : Bool) → (b ≡ true → ⊥) → b ≡ false
+not-true true h = absurd (h refl)
+not-true false h = refl
+
+pub kept-true : (b c : Bool) → c ≡ true → cond b true c ≡ true
+kept-true true c e = refl
+kept-true false c e = e
+
+-- a spot that is not behind another lies on a lower node, or on the same with no greater number
+pub le-is : (a b : Spot) → IsLeBy spot_cmp a b → (a.node < b.node) ⊎ ((a.node ≡ b.node) × (a.number ≤ b.number))
+le-is a b le = by (nat_cmp a.node b.node) refl le
+  where
+    by : (o : Ordering) → nat_cmp a.node b.node ≡ o → is_gt (ordering_then o (nat_cmp a.number b.number)) ≡ false → (a.node < b.node) ⊎ ((a.node ≡ b.node) × (a.number ≤ b.number))
+    by Less q e = inl (grind (arith, nat_tests, q))
+    by Equal q e = inr (grind (arith, nat_tests, q), grind (arith, nat_tests, e))
+    by Greater q e = absurd (true≢false e)
+
+pub le-here : (n k j : ℕ) → k ≤ j → is_gt (ordering_then (nat_cmp n n) (nat_cmp k j)) ≡ false
+le-here n k j le = ap (λ o. is_gt (ordering_then o (nat_cmp k j))) same ∙ less
+  where
+    same : nat_cmp n n ≡ Equal
+    same = grind (arith, nat_tests)
+
+    less : is_gt (nat_cmp k j) ≡ false
+    less = grind (arith, nat_tests, le)
+
+-- ---- launches
+
+pub free-is : (s : Spread) (launched : List (Attempt × Launch)) (kind : TaskKind) (node number : ℕ) → IsSpread s launched → has_spot s kind node number ≡ false → IsFree launched kind node number
+free-is s launched kind node number spread none a l at k n = not-true (nat_eq l.node node) (λ e.
+    let same : l.node ≡ node = grind (arith, nat_tests, e) in
+    true≢false (sym (spread a l at) ∙ (λ i. has_spot s (k i) (same i) (n i)) ∙ none))
+
+pub spread-more : (old new : Spread) (launched : List (Attempt × Launch)) → ((kind : TaskKind) (node number : ℕ) → has_spot old kind node number ≡ true → has_spot new kind node number ≡ true) → IsSpread old launched → IsSpread new launched
+spread-more old new launched grows spread a l at = grows a.task.kind l.node a.task.number (spread a l at)
+
+pub spread-none : (s : Spread) → IsSpread s []
+spread-none s a l at = cc
+
+some-is : {A : Type 0} {x y : A} → Some x ≡ Some y → x ≡ y
+some-is e = cc
+
+-- one launch more, whose spot is there
+pub spread-one : (s : Spread) (old new : List (Attempt × Launch)) (attempt : Attempt) (launch : Launch) → IsSpread s old → has_spot s attempt.task.kind launch.node attempt.task.number ≡ true
+    → ((a : Attempt) → lookup (same_attempt a) new ≡ (if same_attempt attempt a then Some launch else lookup (same_attempt a) old)) → IsSpread s new
+spread-one s old new attempt launch spread there looked a l at = by (same_attempt attempt a) refl (sym (looked a) ∙ at)
+  where
+    by : (b : Bool) → same_attempt attempt a ≡ b → (if b then Some launch else lookup (same_attempt a) old) ≡ Some l → has_spot s a.task.kind l.node a.task.number ≡ true
+    by true q e =
+        let who : attempt ≡ a = same-is attempt a q in
+        let what : launch ≡ l = some-is e in
+        (λ i. has_spot s (sym who i).task.kind (sym what i).node (sym who i).task.number) ∙ there
+    by false q e = spread a l e
+
+-- ---- what is gone with a node was launched there
+
+no-launch : (g : Gone) → is_gone g None ≡ false
+no-launch (Restarted n i) = refl
+no-launch (GivenUp n) = refl
+
+not-gone : (g : Gone) (l : Launch) → nat_eq l.node (node_of g) ≡ false → is_gone g (Some l) ≡ false
+not-gone (Restarted n i) l e = ap (λ b. b && nat_lt l.incarnation i) e
+not-gone (GivenUp n) l e = e
+
+no-place : (g : Gone) → is_lost g None ≡ false
+no-place (Restarted n i) = refl
+no-place (GivenUp n) = refl
+
+not-lost : (g : Gone) (p : Place) → nat_eq p.node (node_of g) ≡ false → is_lost g (Some p) ≡ false
+not-lost (Restarted n i) p e = ap (λ b. b && nat_lt p.incarnation i) e
+not-lost (GivenUp n) p e = e
+
+-- the launch of an attempt of a free task
+launch-off : (w : Setting) (s : Seen) (node : ℕ) (a : Attempt) (kind : TaskKind) (number : ℕ) → IsFree s.launched kind node number → a.task.kind ≡ kind → a.task.number ≡ number
+    → (P : Option Launch → Type 0) → P None → ((l : Launch) → nat_eq l.node node ≡ false → P (Some l)) → P (launch_of w s a)
+launch-off w s node a kind number free k n P none some = known (is_known w s a)
+  where
+    found : (o : Option Launch) → lookup (same_attempt a) s.launched ≡ o → P o
+    found None at = none
+    found (Some l) at = some l (free a l at k n)
+
+    known : (b : Bool) → P (if b then lookup (same_attempt a) s.launched else None)
+    known true = found (lookup (same_attempt a) s.launched) refl
+    known false = none
+
+filter-none : (p : Attempt → Bool) (xs : List Attempt) → ((a : Attempt) → has (filter p xs) a ≡ true → p a ≡ false) → filter p xs ≡ []
+filter-none p [] h = refl
+filter-none p (x ∷ xs) h = by (p x) refl h (λ g. filter-none p xs g)
+  where
+    by : (b : Bool) → p x ≡ b → ((a : Attempt) → has (cond b (x ∷ filter p xs) (filter p xs)) a ≡ true → p a ≡ false)
+        → (((a : Attempt) → has (filter p xs) a ≡ true → p a ≡ false) → filter p xs ≡ []) → cond b (x ∷ filter p xs) (filter p xs) ≡ []
+    by true e g rest = absurd (true≢false (sym e ∙ g x (ap (λ b. b || has (filter p xs) x) (same-itself x))))
+    by false e g rest = rest g
+
+pub gone-none : (w : Setting) (s : Seen) (g : Gone) (kind : TaskKind) (number : ℕ) → IsFree s.launched kind (node_of g) number → gone_of w s g (task_of w kind number) ≡ []
+gone-none w s g kind number free = filter-none (λ a. is_gone g (launch_of w s a)) (task.live (of_task w s (task_of w kind number))) (λ a there.
+    let own : a.task ≡ task_of w kind number = gone-own w s g (task_of w kind number) a there in
+    launch-off w s (node_of g) a kind number free (ap (λ (t : TaskId). t.kind) own) (ap (λ (t : TaskId). t.number) own) (λ o. is_gone g o ≡ false) (no-launch g) (λ l off. not-gone g l off))
+
+passes-none : (p : Attempt → Bool) (o : Option Attempt) → ((a : Attempt) → has (if_passes p o) a ≡ true → p a ≡ false) → if_passes p o ≡ []
+passes-none p None h = refl
+passes-none p (Some x) h = by (p x) refl h
+  where
+    by : (b : Bool) → p x ≡ b → ((a : Attempt) → has (if b then x ∷ [] else []) a ≡ true → p a ≡ false) → (if b then x ∷ [] else []) ≡ []
+    by true e g = absurd (true≢false (sym e ∙ g x (ap (λ b. b || false) (same-itself x))))
+    by false e g = refl
+
+-- where nothing was read of earlier masters
+pub lost-none : (w : Setting) (s : Seen) (g : Gone) (number : ℕ) → s.earlier ≡ [] → IsFree s.launched Map (node_of g) number → lost_of w s g (task_of w Map number) ≡ []
+lost-none w s g number fresh free = passes-none (λ a. is_lost g (place_of w s a)) (succeeded w s (task_of w Map number)) (λ a there.
+    let own : a.task ≡ task_of w Map number = lost-own w s g (task_of w Map number) a there in
+    launch-off w s (node_of g) a Map number free (ap (λ (t : TaskId). t.kind) own) (ap (λ (t : TaskId). t.number) own) (λ o. is_lost g (place_by o (place_in s.earlier a)) ≡ false)
+    (ap (λ (rs : List Record). is_lost g (place_in rs a)) fresh ∙ no-place g) (λ l off. not-lost g (record { node = l.node; incarnation = l.incarnation }) off))
+
+-- ---- tasks that add nothing are passed over
+
+pub passed-over : {Y : Type 0} (w : Setting) (kind : TaskKind) (f : TaskId → List Y) (from n : ℕ) → from ≤ n → ((j : ℕ) → from ≤ j → j < n → f (task_of w kind j) ≡ []) → flat_map f (first_tasks w kind n) ≡ flat_map f (first_tasks w kind from)
+unfolding first_tasks
+passed-over {Y} w kind f from zero le none = let e : from ≡ 0 = omega arith in ap (λ (m : ℕ). flat_map f (first_tasks w kind m)) (sym e)
+passed-over {Y} w kind f from (suc n) le none = by (cases_eq from (suc n)) (λ below. passed-over w kind f from n below (λ j high low. none j high (omega arith)))
+  where
+    by : (from ≡ suc n) ⊎ (from ≡ suc n → ⊥) → (from ≤ n → flat_map f (first_tasks w kind n) ≡ flat_map f (first_tasks w kind from)) → flat_map f (first_tasks w kind (suc n)) ≡ flat_map f (first_tasks w kind from)
+    by (inl q) rest = ap (λ (m : ℕ). flat_map f (first_tasks w kind m)) (sym q)
+    by (inr ne) rest =
+        let below : from ≤ n = omega arith in
+        flat_map-append f (first_tasks w kind n) (task_of w kind n ∷ [])
+        ∙ ap (λ (l : List Y). flat_map f (first_tasks w kind n) ++ (l ++ [])) (none n below (omega arith))
+        ∙ append-nil (flat_map f (first_tasks w kind n))
+        ∙ rest below
+
+-- ---- answers
+
+pub if-some : {A : Type 0} (o : Option A) (P Q : A → Type 0) → ((x : A) → P x → Q x) → IfSome o P → IfSome o Q
+if-some None P Q f h = h
+if-some (Some x) P Q f h = f x h
+
+pub if-none : {A : Type 0} (o : Option A) (P Q : Type 0) → (P → Q) → IfNone o P → IfNone o Q
+if-none None P Q f h = f h
+if-none (Some x) P Q f h = h
+
+-- of what a machine keeps
+pub kept-gone : (m : Master) (w : Setting) (s : Seen) (g : Gone) (kind : TaskKind) (node number : ℕ) → Keeps m w s → node ≡ node_of g → IsFree m.launches.entries kind node number → gone_of w s g (task_of w kind number) ≡ []
+kept-gone m w s g kind node number k same free = gone-none w s g kind number (subst (λ (n : ℕ). IsFree s.launched kind n number) same (subst (λ (es : List (Attempt × Launch)). IsFree es kind node number) k.launches.entries free))
+
+pub kept-lost : (m : Master) (w : Setting) (s : Seen) (g : Gone) (node number : ℕ) → Keeps m w s → node ≡ node_of g → m.earlier ≡ [] → IsFree m.launches.entries Map node number → lost_of w s g (task_of w Map number) ≡ []
+kept-lost m w s g node number k same fresh free = lost-none w s g number (sym k.earlier ∙ fresh) (subst (λ (n : ℕ). IsFree s.launched Map n number) same (subst (λ (es : List (Attempt × Launch)). IsFree es Map node number) k.launches.entries free))
+
+-- ---- loops over the tasks that are not passed over
+
+pub up-to : {Y : Type 0} (w : Setting) (kind : TaskKind) (f : TaskId → List Y) (from n : ℕ) (old mid : List Y) → from ≤ n → mid ≡ old ++ flat_map f (first_tasks w kind from) → ((j : ℕ) → from ≤ j → j < n → f (task_of w kind j) ≡ [])
+    → mid ≡ old ++ flat_map f (first_tasks w kind n)
+up-to {Y} w kind f from n old mid le before none = before ∙ ap (λ (l : List Y). old ++ l) (sym (passed-over w kind f from n le none))
+
+no-length : {A : Type 0} (xs : List A) → length xs ≡ 0 → xs ≡ []
+no-length [] e = refl
+no-length (x ∷ xs) e = absurd (omega arith)
+
+pub empty-is : {A : Type 0} (xs : List A) → nat_eq (length xs) 0 ≡ true → xs ≡ []
+empty-is xs e = no-length xs (grind (arith, nat_tests, e))

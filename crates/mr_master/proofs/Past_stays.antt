@@ -1,0 +1,366 @@
+-- Bars only come last, and what is past stays so.
+use Rattle.std.proofs.Common.{ℕ, zero, suc, ◌+◌, ◌<◌, ◌≤◌, ◌⊎◌, inl, inr, ◌≡◌, refl, sym, ◌∙◌, ap, subst, Bool, true, false, not, ◌&&◌, ◌||◌, List, [], ◌∷◌, ◌++◌, length, slice_get, Option, Some, None, is_some, is_none, nat_lt, if◌then◌else◌, cond, append-nil, true≢false, arith}
+use Rattle.std.specs.List.{find}
+use Rattle.std.proofs.lemmas.Bool.{cases_eq}
+use Rattle.mr_ids.specs.Attempt.{Attempt}
+use Rattle.mr_ids.specs.declared.id.TaskId.{TaskId}
+use Rattle.mr_grant.specs.Attempts.{same_attempt, has}
+use Rattle.mr_attempt.specs.Table as table
+use Rattle.mr_attempt.specs.declared.state.AttemptState.{AttemptState}
+use Rattle.mr_attempt.specs.declared.state.AttemptState.TheVariants.{New, Assigned, Running, CommitPending, Recording, Succeeded, Failed, Killed}
+use Rattle.mr_task.specs.Calls.{TaskCall}
+use Rattle.mr_task.specs.Readings as task
+use Rattle.mr_task.specs.State as state
+use Rattle.mr_task.specs.Steps.{Task, entry_in}
+use Rattle.mr_task.specs.declared.attempts.Entry.{Entry}
+use Rattle.mr_task.proofs.Bits.{Bits, bits, bits_of, Fits}
+use Rattle.mr_task.proofs.States.{fits}
+use Rattle.mr_task.proofs.Telling.{live-told}
+use Rattle.mr_task.proofs.Growth.{grows}
+use Rattle.mr_task.proofs.Keeps.{entry-is}
+use Rattle.mr_packet.specs.declared.packet.ContainerId.{ContainerId}
+use Rattle.mr_packet.specs.declared.packet.Packet.{Packet}
+use Rattle.mr_packet.specs.declared.packet.Packet.TheVariants as packet
+use Rattle.mr_history.specs.declared.record.Record.{Record}
+use Rattle.mr_master_model.specs.declared.launch.Launch.{Launch}
+use Rattle.mr_master_model.specs.declared.phase.DutyName.{DutyName}
+use Rattle.mr_master_model.specs.declared.phase.DutyName.TheVariants as name
+use Rattle.mr_master_model.specs.declared.setting.Setting.{Setting}
+use Rattle.mr_master_model.specs.declared.store.StoreAnswer.{StoreAnswer}
+use Rattle.mr_master_model.specs.declared.store.StoreAnswer.TheVariants as answer
+use Rattle.mr_master_model.specs.Job.{is_task}
+use Rattle.mr_master_model.specs.Past.{Step, Hears, Launches, Expires, Answered, Work, Reads, TakesOver, Runs, Fails}
+use Rattle.mr_master_model.specs.Readings.{Seen, is_running, is_over, of_task, is_live, launch_of, launched_in, tell, launch_refusal, expire_refusal}
+use Rattle.mr_master_model.specs.Hearing.{after_ask, after_done, is_spent, after_failure, after_end, after_failed, after_ended, after_node_up, after_where, is_lost_map, after_fetch_lost, heard, delivered, new_bars, expired}
+use Rattle.mr_master_model.specs.Duty.{Duty, duty}
+use Rattle.mr_master_model.specs.Answered.{is_fine, is_finished, heard_by, with_earlier, with_maps, after_bar, moved_first, success_in, tell_recorded, recorded, after_duty, after_due, changed, work_after, with_work, after_answer}
+use Rattle.mr_master_model.specs.Next.{moved, next_seen, seen}
+use Rattle.mr_master_model.proofs.Growing.{Grew, step-grows}
+use Rattle.mr_master.specs.State.{Master, Keeps, StandsFor, StandsForSome, Stands, Unchanged}
+use Rattle.mr_master.specs.inner.Passing.{is_out_of, is_out, ArePast, HasPassed, NoneLive, Passes, IsPastAt}
+use Rattle.mr_master.proofs.Keeping.{machine-of}
+use Rattle.mr_master.proofs.Standing.{unchanged-keeps}
+
+-- ---- nothing but an expiry makes a bar due
+
+same-if : (b : Bool) (s x y : Seen) → x.bars ≡ s.bars → y.bars ≡ s.bars → (if b then x else y).bars ≡ s.bars
+same-if true s x y e f = e
+same-if false s x y e f = f
+
+asked : (s : Seen) (a : Attempt) (l : Option Launch) → (after_ask s a l).bars ≡ s.bars
+asked s a None = refl
+asked s a (Some l) = refl
+
+done : (w : Setting) (s : Seen) (a : Attempt) (bytes : Option ℕ) (l : Option Launch) → (after_done w s a bytes l).bars ≡ s.bars
+done w s a bytes None = refl
+done w s a bytes (Some l) = same-if (task.may_accept (of_task w s a.task) a) s _ _ refl refl
+
+failure : (w : Setting) (s : Seen) (a : Attempt) → (after_failure w s a).bars ≡ s.bars
+failure w s a = same-if (is_spent w s a.task) s _ _ refl refl
+
+ended : (w : Setting) (s : Seen) (a : Attempt) (call : TaskCall) (f : Bool) → (after_end w s a call f).bars ≡ s.bars
+ended w s a call f = same-if (f && is_live w s a) s (after_failure w (tell s a.task call) a) (tell s a.task call) (failure w (tell s a.task call) a) refl
+
+failed : (w : Setting) (s : Seen) (a : Attempt) (l : Option Launch) → (after_failed w s a l).bars ≡ s.bars
+failed w s a None = refl
+failed w s a (Some l) = ended w s a _ true
+
+exited : (w : Setting) (s : Seen) (c : ContainerId) (p : Option (Attempt × Launch)) → (after_ended w s c p).bars ≡ s.bars
+exited w s c None = refl
+exited w s c (Some p) = ended w s p.0 _ (not (s.killed c.number))
+
+looked : (s : Seen) (p : Option (Attempt × Launch)) → (after_where s p).bars ≡ s.bars
+looked s None = refl
+looked s (Some p) = refl
+
+lost : (w : Setting) (s : Seen) (a : Attempt) (p : Option (Attempt × Launch)) → (after_fetch_lost w s a p).bars ≡ s.bars
+lost w s a None = refl
+lost w s a (Some p) = same-if (is_lost_map w s a a.task.kind) s _ _ refl refl
+
+heard-same : (w : Setting) (s : Seen) (p : Packet) → (heard w s p).bars ≡ s.bars
+unfolding heard
+heard-same w s (packet.Pending a) = asked s a (launch_of w s a)
+heard-same w s (packet.Poll a) = asked s a (launch_of w s a)
+heard-same w s (packet.Done a bytes) = done w s a bytes (launch_of w s a)
+heard-same w s (packet.Failed a) = failed w s a (launch_of w s a)
+heard-same w s (packet.Ended c) = exited w s c (launched_in w s c)
+heard-same w s (packet.Where c m) = looked s (launched_in w s c)
+heard-same w s (packet.FetchLost c a) = lost w s a (launched_in w s c)
+heard-same w s _ = refl
+
+up-same : (w : Setting) (s : Seen) (n i : ℕ) → (after_node_up w s n i).bars ≡ s.bars
+up-same w s n i = same-if (not (nat_lt (s.known n) i)) s _ _ refl (same-if (is_running s.work) s _ _ refl refl)
+
+if-running : (w : Setting) (s : Seen) (p : Packet) → (if is_running s.work then heard w s p else s).bars ≡ s.bars
+if-running w s p = same-if (is_running s.work) s (heard w s p) s (heard-same w s p) refl
+
+delivered-same : (w : Setting) (s : Seen) (p : Packet) → (delivered w s p).bars ≡ s.bars
+unfolding delivered
+delivered-same w s (packet.NodeUp n i) = same-if (is_over s.work) s s (after_node_up w s n i) refl (up-same w s n i)
+delivered-same w s p = if-running w s p
+
+recorded-told : (w : Setting) (s : Seen) (a : Option Attempt) → (tell_recorded w s a).bars ≡ s.bars
+recorded-told w s None = refl
+recorded-told w s (Some a) = same-if (is_task w a.task) s _ _ refl refl
+
+recorded-same : (w : Setting) (rs : List Record) (s : Seen) → (recorded w s rs).bars ≡ s.bars
+unfolding recorded
+recorded-same w [] s = refl
+recorded-same w (r ∷ rs) s = recorded-same w rs (tell_recorded w s (success_in r)) ∙ recorded-told w s (success_in r)
+
+bar-same : (s : Seen) (a : Option Attempt) → (after_bar s a).bars ≡ s.bars
+bar-same s None = refl
+bar-same s (Some a) = refl
+
+first-same : (s : Seen) (due : List Record) → (moved_first s due).bars ≡ s.bars
+first-same s [] = refl
+first-same s (r ∷ due) = refl
+
+duty-same : (w : Setting) (s : Seen) (n : DutyName) → (after_duty w s n).bars ≡ s.bars
+duty-same w s name.Bar = bar-same s (find (is_live w s) s.bars)
+duty-same w s name.Append = first-same s s.due
+duty-same w s name.Flush = recorded-same w s.tail s
+duty-same w s _ = refl
+
+due-same : (w : Setting) (s : Seen) (d : Option Duty) → (after_due w s d).bars ≡ s.bars
+due-same w s None = refl
+due-same w s (Some d) = duty-same w s d.name
+
+earlier-same : (s : Seen) (a : StoreAnswer) → (with_earlier s a).bars ≡ s.bars
+earlier-same s (answer.Told rs) = refl
+earlier-same s _ = refl
+
+changed-same : (w : Setting) (s : Seen) (a : StoreAnswer) (x : Work) → (changed w s a x).bars ≡ s.bars
+unfolding changed
+changed-same w s a Reads = earlier-same s a
+changed-same w s a (TakesOver x left others) = same-if (is_finished (heard_by left a).0) s _ _ refl refl
+changed-same w s a Runs = same-if (is_fine a) s (after_due w s (duty w s)) s (due-same w s (duty w s)) refl
+changed-same w s a (Fails is_stable) = same-if (is_fine a) s (after_due w s (duty w s)) s (due-same w s (duty w s)) refl
+changed-same w s a _ = refl
+
+work-same : (w : Setting) (s : Seen) (x : Work) → (with_work w s x).bars ≡ s.bars
+work-same w s x = by (is_running x && not (is_running s.work))
+  where
+    by : (b : Bool) → (if b then with_maps w s else s).bars ≡ s.bars
+    by true = refl
+    by false = refl
+
+answer-same : (w : Setting) (s : Seen) (a : StoreAnswer) → (after_answer w s a).bars ≡ s.bars
+answer-same w s a =
+    let r = changed w s a s.work in
+    same-if (is_some (duty w s)) s (with_work w r (work_after w s a s.work)) s (work-same w r (work_after w s a s.work) ∙ changed-same w s a s.work) refl
+
+-- ---- so bars only come last
+
+abbrev pub More : Seen → Seen → Type 0
+More s r = (more : List Attempt) × (r.bars ≡ s.bars ++ more)
+
+no-more : (s r : Seen) → r.bars ≡ s.bars → More s r
+no-more s r e = ([], e ∙ sym (append-nil s.bars))
+
+pub step-bars : (w : Setting) (s : Seen) (step : Step) → More s (next_seen w s step)
+unfolding next_seen moved
+step-bars w s (Hears p) = no-more s (next_seen w s (Hears p)) (delivered-same w s p)
+step-bars w s (Launches t n) = no-more s (next_seen w s (Launches t n)) (same-if (is_none (launch_refusal w s t n)) s _ _ refl refl)
+step-bars w s (Expires n) = by (is_none (expire_refusal w s n))
+  where
+    by : (b : Bool) → (more : List Attempt) × ((if b then expired w s n else s).bars ≡ s.bars ++ more)
+    by true = (new_bars w s n, refl)
+    by false = ([], sym (append-nil s.bars))
+step-bars w s (Answered a) = no-more s (next_seen w s (Answered a)) (answer-same w s a)
+
+-- ---- who is out stays out, and is not live
+
+or-left : (b c : Bool) → b ≡ true → (b || c) ≡ true
+or-left b c e = ap (λ d. d || c) e
+
+or-right : (b c : Bool) → c ≡ true → (b || c) ≡ true
+or-right true c e = refl
+or-right false c e = e
+
+out-grows : (t : TaskId) (k : ℕ) (h more : List TaskCall) (a : Attempt) → is_out_of (task.seen t k h) a ≡ true → is_out_of (task.seen t k (more ++ h)) a ≡ true
+out-grows t k h more a e = by (has (task.seen t k h).accepted a) refl e
+  where
+    by : (b : Bool) → has (task.seen t k h).accepted a ≡ b → (b || task.is_over (task.seen t k h).ended a) ≡ true → is_out_of (task.seen t k (more ++ h)) a ≡ true
+    by true q f = or-left _ _ ((grows t k h more).accepted a q)
+    by false q f = or-right _ _ ((grows t k h more).over a f)
+
+pub out-stays : (w : Setting) (s r : Seen) (a : Attempt) → Grew s r → is_out w s a ≡ true → is_out w r a ≡ true
+out-stays w s r a g e =
+    let x = g a.task in
+    subst (λ (l : List TaskCall). is_out_of (task.seen a.task w.app l) a ≡ true) (sym x.1) (out-grows a.task w.app (s.calls a.task) x.0 a e)
+
+pub out-is-not-live : (w : Setting) (s : Seen) (a : Attempt) → is_out w s a ≡ true → is_live w s a ≡ false
+out-is-not-live w s a e = by (has (of_task w s a.task).arrived a) (has (of_task w s a.task).accepted a) (task.is_over (of_task w s a.task).ended a) e
+  where
+    by : (arrived accepted over : Bool) → (accepted || over) ≡ true → (arrived && (not accepted && not over)) ≡ false
+    by false accepted over f = refl
+    by true true over f = refl
+    by true false true f = refl
+    by true false false f = absurd (true≢false (sym f))
+
+-- ---- what is past stays so
+
+slice_get-front : {A : Type 0} (xs more : List A) (i : ℕ) → i < length xs → slice_get (xs ++ more) i ≡ slice_get xs i
+slice_get-front [] more i below = absurd (omega arith)
+slice_get-front (x ∷ xs) more zero below = refl
+slice_get-front (x ∷ xs) more (suc i) below = slice_get-front xs more i (omega arith)
+
+length-front : {A : Type 0} (xs more : List A) → length xs ≤ length (xs ++ more)
+length-front [] more = omega arith
+length-front (x ∷ xs) more = let e = length-front xs more in omega arith
+
+pub past-stays : (w : Setting) (s r : Seen) (n : ℕ) → Grew s r → More s r → ArePast n w s → ArePast n w r
+past-stays w s r n g m past = record {
+  within = let e = past.within in let f = length-front s.bars m.0 in let h = ap (λ (l : List Attempt). length l) m.1 in omega arith;
+  out = λ i a below at.
+      let e = past.within in
+      out-stays w s r a g (past.out i a below (sym (slice_get-front s.bars m.0 i (omega arith)) ∙ ap (λ (l : List Attempt). slice_get l i) (sym m.1) ∙ at));
+}
+
+-- ---- of a machine
+
+pub passed-none : (m : Master) → StandsForSome m → HasPassed m 0
+passed-none m some = (some.0, some.1, record { within = omega arith; out = λ i a below at. absurd (omega arith) })
+
+-- at another machine that stands for the same past
+pub passed-by : (m : Master) (w : Setting) (past : List Step) (n : ℕ) → StandsFor m w past → ArePast n w (seen w past) → HasPassed m n
+passed-by m w past n k p =
+    let P : Setting → Type 0 = λ v. StandsFor m v past × ArePast n v (seen v past) in
+    let both : P m.setting = subst P (sym k.setting) (k, p) in
+    (past, both.0, both.1)
+
+pub passed-still : (old new : Master) (step : Step) (n : ℕ) → Stands old step new → HasPassed old n → HasPassed new n
+unfolding seen
+passed-still old new step n moves p =
+    let w = old.setting in
+    let s = seen w p.0 in
+    passed-by new w (step ∷ p.0) n (moves w p.0 p.1) (past-stays w s (next_seen w s step) n (step-grows w s step) (step-bars w s step) p.2)
+
+pub passed-same : (old new : Master) (n : ℕ) → ((w : Setting) (s : Seen) → Keeps old w s → Keeps new w s) → HasPassed old n → HasPassed new n
+passed-same old new n keeps p = passed-by new old.setting p.0 n (keeps old.setting (seen old.setting p.0) p.1) p.2
+
+pub passed-unchanged : (old new : Master) (n : ℕ) → Unchanged old new → HasPassed old n → HasPassed new n
+passed-unchanged old new n u p = passed-same old new n (λ w s k. unchanged-keeps old new w s u k) p
+
+pub passed-more : (m : Master) (n more : ℕ) → Passes m n more → HasPassed m n → HasPassed m more
+passed-more m n more passes p = (p.0, p.1, passes m.setting (seen m.setting p.0) p.1 p.2)
+
+-- ---- whatever a machine keeps, the same attempts are live
+
+abbrev live_entry : Option Entry → Bool
+live_entry None = false
+live_entry (Some e) = table.is_live e.machine.state
+
+live-in : (x : Task) (t : TaskId) (k : ℕ) (h : List TaskCall) (a : Attempt) → state.StandsFor x t k h → task.is_live (task.seen t k h) a ≡ live_entry (entry_in x.attempts a)
+live-in x t k h a st = by (has (task.seen t k h).arrived a) refl ∙ sym (ap live_entry (entry-is x t k h a st))
+  where
+    by : (b : Bool) → has (task.seen t k h).arrived a ≡ b → task.is_live (task.seen t k h) a ≡ live_entry (cond b (Some (state.entry_of t k h a)) None)
+    by true q = live-told t k h a
+    by false q = ap (λ b. b && (not (has (task.seen t k h).accepted a) && not (task.is_over (task.seen t k h).ended a))) q
+
+same-live : (m : Master) (w : Setting) (s r : Seen) (a : Attempt) → Keeps m w s → Keeps m w r → is_live w s a ≡ is_live w r a
+same-live m w s r a k l = by (is_task w a.task) refl
+  where
+    by : (b : Bool) → is_task w a.task ≡ b → is_live w s a ≡ is_live w r a
+    by true e =
+        let x = machine-of m.tasks w s.calls a.task k.tasks e in
+        live-in x.0 a.task w.app (s.calls a.task) a x.2 ∙ sym (live-in x.0 a.task w.app (r.calls a.task) a (l.tasks.stand a.task x.0 e x.1))
+    by false e = ap (λ (h : List TaskCall). task.is_live (task.seen a.task w.app h) a) (k.tasks.outside a.task e ∙ sym (l.tasks.outside a.task e))
+
+pub none-live : (m : Master) (n : ℕ) → HasPassed m n → NoneLive m n
+none-live m n p w s i a k below at = subst P k.setting (λ l. here l) k
+  where
+    P : Setting → Type 0
+    P v = Keeps m v s → is_live v s a ≡ false
+
+    here : Keeps m m.setting s → is_live m.setting s a ≡ false
+    here l =
+        let r = seen m.setting p.0 in
+        same-live m m.setting s r a l p.1
+        ∙ out-is-not-live m.setting r a (p.2.out i a below (ap (λ (as' : List Attempt). slice_get as' i) (sym p.1.bars ∙ l.bars) ∙ at))
+
+keeps-back : (old new : Master) (w : Setting) (s : Seen) → Unchanged old new → Keeps new w s → Keeps old w s
+keeps-back old new w s u k =
+    let l = subst (λ (m : Master). Keeps m w s) u.0 k in
+    record {
+      setting = l.setting;
+      work = l.work;
+      tasks = l.tasks;
+      launches = l.launches;
+      nodes = l.nodes;
+      earlier = l.earlier;
+      writing = record { due = sym u.1.due ∙ k.writing.due; tail = sym u.1.tail ∙ k.writing.tail; is_flush_wanted = sym u.1.is_flush_wanted ∙ k.writing.is_flush_wanted };
+      bars = l.bars;
+    }
+
+pub none-unchanged : (old new : Master) (n : ℕ) → Unchanged old new → NoneLive old n → NoneLive new n
+none-unchanged old new n u none = λ w s i a k below at. none w s i a (keeps-back old new w s u k) below at
+
+-- ---- the first that is live
+
+pub none-found : {A : Type 0} (p : A → Bool) (xs : List A) → ((i : ℕ) (x : A) → slice_get xs i ≡ Some x → p x ≡ false) → find p xs ≡ None
+none-found p [] none = refl
+none-found p (x ∷ xs) none = ap (λ b. cond b (Some x) (find p xs)) (none 0 x refl) ∙ none-found p xs (λ i y at. none (suc i) y at)
+
+pub found-at : {A : Type 0} (p : A → Bool) (xs : List A) (i : ℕ) (x : A) → slice_get xs i ≡ Some x → p x ≡ true → ((j : ℕ) (y : A) → j < i → slice_get xs j ≡ Some y → p y ≡ false) → find p xs ≡ Some x
+found-at {A} p [] i x at e none = cc
+found-at {A} p (y ∷ xs) zero x at e none = let same : y ≡ x = cc in ap (λ b. cond b (Some y) (find p xs)) (ap p same ∙ e) ∙ ap (λ (z : A). Some z) same
+found-at {A} p (y ∷ xs) (suc i) x at e none = ap (λ b. cond b (Some y) (find p xs)) (none 0 y (omega arith) refl) ∙ found-at p xs i x at e (λ j z below q. none (suc j) z (omega arith) q)
+
+-- one place further
+pub one-further : (m : Master) (i : ℕ) → NoneLive m i → ((w : Setting) (s : Seen) (a : Attempt) → Keeps m w s → slice_get m.bars i ≡ Some a → is_live w s a ≡ false) → NoneLive m (i + 1)
+one-further m i none here = λ w s j a k below at. by w s j a k below at (cases_eq j i)
+  where
+    by : (w : Setting) (s : Seen) (j : ℕ) (a : Attempt) → Keeps m w s → j < i + 1 → slice_get s.bars j ≡ Some a → (j ≡ i) ⊎ (j ≡ i → ⊥) → is_live w s a ≡ false
+    by w s j a k below at (inl q) = here w s a k (ap (λ (as' : List Attempt). slice_get as' i) k.bars ∙ ap (λ n. slice_get s.bars n) (sym q) ∙ at)
+    by w s j a k below at (inr ne) = none w s j a k (omega arith) at
+
+pub past-further : (m : Master) (first i : ℕ) → Passes m first i → IsPastAt m i → Passes m first (i + 1)
+past-further m first i passes here w s k p = record {
+  within = within-get s.bars i h.0 h.1;
+  out = λ j a below at. by j a below at (cases_eq j i);
+}
+  where
+    h : (a : Attempt) × (slice_get s.bars i ≡ Some a) × (is_out w s a ≡ true)
+    h = here w s k
+
+    old : ArePast i w s
+    old = passes w s k p
+
+    within-get : {A : Type 0} (xs : List A) (n : ℕ) (x : A) → slice_get xs n ≡ Some x → n + 1 ≤ length xs
+    within-get [] n x at = cc
+    within-get (y ∷ xs) zero x at = omega arith
+    within-get (y ∷ xs) (suc n) x at = let e = within-get xs n x at in omega arith
+
+    some-is : {A : Type 0} {x y : A} → Some x ≡ Some y → x ≡ y
+    some-is e = cc
+
+    by : (j : ℕ) (a : Attempt) → j < i + 1 → slice_get s.bars j ≡ Some a → (j ≡ i) ⊎ (j ≡ i → ⊥) → is_out w s a ≡ true
+    by j a below at (inl q) =
+        let same : h.0 ≡ a = some-is (sym h.1 ∙ ap (λ n. slice_get s.bars n) (sym q) ∙ at) in
+        subst (λ (x : Attempt). is_out w s x ≡ true) same h.2
+    by j a below at (inr ne) = old.out j a (omega arith) at
+
+-- ---- what a task's machine tells
+
+out_of : (st : AttemptState) (l : Bool) → ((bits_of st l).accepted || (bits_of st l).over) ≡ ((bits_of st l).arrived && not (table.is_live st))
+out_of New l = refl
+out_of Assigned l = refl
+out_of Running l = refl
+out_of CommitPending l = refl
+out_of Recording l = refl
+out_of Succeeded l = refl
+out_of Failed l = refl
+out_of Killed false = refl
+out_of Killed true = refl
+
+pub out-told : (t : TaskId) (k : ℕ) (h : List TaskCall) (a : Attempt) → is_out_of (task.seen t k h) a ≡ (has (task.seen t k h).arrived a && not (table.is_live (task.state_of t k h a)))
+out-told t k h a =
+    let st = task.state_of t k h a in
+    let f = fits t k h a in
+    ap (λ (b : Bits). b.accepted || b.over) f.is ∙ out_of st f.l ∙ ap (λ (b : Bits). b.arrived && not (table.is_live st)) (sym f.is)
+
+pub out-outside : (t : TaskId) (k : ℕ) (calls : List TaskCall) (a : Attempt) → calls ≡ [] → false ≡ is_out_of (task.seen t k calls) a
+unfolding task.seen
+out-outside t k calls a e = ap (λ (l : List TaskCall). is_out_of (task.seen t k l) a) (sym e)

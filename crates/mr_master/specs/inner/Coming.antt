@@ -1,0 +1,26 @@
+-- What comes of the answer of a committer's call.
+use Rattle.std.specs.Prelude.{◌≡◌, List, ◌++◌, drop, Result, Ok, Err}
+use Rattle.mr_commit.specs.Line.{Line}
+use Rattle.mr_commit.specs.Halves.{Following, Fits}
+use Rattle.mr_commit.specs.declared.fault.CommitFault.{CommitFault}
+use Rattle.mr_commit.specs.declared.fault.StepDone.{StepDone}
+use Rattle.mr_commit.specs.declared.fault.StepDone.TheVariants as done
+use Rattle.mr_master_model.specs.declared.store.StoreAnswer.{StoreAnswer}
+use Rattle.mr_master_model.specs.Answered.{heard_by}
+use Rattle.mr_master.specs.declared.store.Coming.{Coming}
+use Rattle.mr_master.specs.declared.store.Coming.TheVariants as coming
+use Rattle.mr_master.specs.inner.Heard.{Heard, More, Finished, Refused, heard_as}
+
+abbrev pub coming_so : StepDone → Following → Coming
+coming_so done.More f = coming.More f
+coming_so done.Finished f = coming.Finished
+
+abbrev pub coming_by : Result Following CommitFault → Coming
+coming_by (Ok f) = coming_so f.done f
+coming_by (Err f) = coming.Refused
+
+-- it is what comes of this answer where these lines are left
+abbrev pub IsComing : List Line → StoreAnswer → Coming → Type 0
+IsComing left a (coming.More f) = (More ≡ heard_as (heard_by left a).0) × (f.lines ++ drop 1 left ≡ (heard_by left a).1) × Fits f.lines left
+IsComing left a coming.Finished = Finished ≡ heard_as (heard_by left a).0
+IsComing left a coming.Refused = Refused ≡ heard_as (heard_by left a).0

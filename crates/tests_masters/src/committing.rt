@@ -1,0 +1,95 @@
+//! What is refused while a master commits its job, and while its job fails.
+
+use crate::fixtures::{answered, does, due};
+use crate::outcomes::fails;
+use crate::running::{reduce, running};
+use crate::stopping::{stops, superseded, won};
+use mr_history::HistoryFault;
+use mr_master::MasterMachine;
+use mr_master_model::{DutyName, LaunchFault, Phase, StoreAnswer};
+use mr_names::NameFault;
+use mr_task::TaskFault;
+use std::alloc::Global;
+use std::process::Abort;
+
+// Something is at the path already.
+fn exists() -> StoreAnswer {
+    StoreAnswer::Names(Err(NameFault::Exists))
+}
+
+// The creation of COMMIT_STARTED is refused: that stops the master.
+#[test]
+fn refusal_stops_the_start(rt: HostRuntime) {
+    let mut master = won(&rt, rt.alloc());
+    stops(&rt, &mut master, DutyName::Started, exists());
+}
+
+// A copy of the master is answered so: the job fails, and the mark of that is next.
+fn fails_by(rt: &impl Abort, master: &MasterMachine, name: DutyName, answer: StoreAnswer) {
+    let mut copy = master.copy().expect(rt, "no memory");
+    assert!(rt; due(rt, &copy) == Some(name), "{name:?}");
+    assert!(rt; answered(rt, &mut copy, answer).len() == 0, "{name:?}");
+    assert!(rt;
+        copy.phase() == Phase::Committing && due(rt, &copy) == Some(DutyName::Fail),
+        "{name:?}"
+    );
+}
+
+// The job commit has started, and there is nothing to merge.
+fn merged(rt: &impl Abort, alloc: Global) -> MasterMachine {
+    let mut master = won(rt, alloc);
+    for _ in 0..2 {
+        assert!(rt; does(rt, &mut master).len() == 0);
+    }
+    master
+}
+
+// A refusal or a fault at the cleanup or the marker fails the job; at the mark of its success a refusal stops the master.
+#[test]
+fn refused_marker_fails_the_job(rt: HostRuntime) {
+    let mut master = merged(&rt, rt.alloc());
+    fails_by(&rt, &master, DutyName::Cleanup, StoreAnswer::Fault);
+    assert!(rt; does(&rt, &mut master).len() == 0);
+    fails_by(&rt, &master, DutyName::Marker, exists());
+    assert!(rt; does(&rt, &mut master).len() == 0);
+    stops(&rt, &mut master, DutyName::Success, exists());
+}
+
+// A later master stops the job commit at its cleanup.
+#[test]
+fn later_master_stops_the_cleanup(rt: HostRuntime) {
+    let mut master = merged(&rt, rt.alloc());
+    stops(&rt, &mut master, DutyName::Cleanup, superseded());
+}
+
+// The job fails: nine records are due.
+fn failing(rt: &impl Abort, alloc: Global) -> MasterMachine {
+    let mut master = running(rt, alloc);
+    for number in 0..4 {
+        fails(rt, &mut master, number);
+    }
+    assert!(rt; master.phase() == Phase::Failing);
+    master
+}
+
+// Also where the job fails, a refused append stops the master, and a refused flush.
+#[test]
+fn refused_record_stops_a_failing_master(rt: HostRuntime) {
+    let mut master = failing(&rt, rt.alloc());
+    let full = StoreAnswer::Wrote(Err(HistoryFault::Full));
+    let mut copy = master.copy().expect(&rt, "no memory");
+    stops(&rt, &mut copy, DutyName::Append, full);
+    for _ in 0..9 {
+        assert!(rt; answered(&rt, &mut master, StoreAnswer::Wrote(Ok(()))).len() == 0);
+    }
+    let later = StoreAnswer::Wrote(Err(HistoryFault::Superseded(2)));
+    stops(&rt, &mut master, DutyName::Flush, later);
+}
+
+// Where its reduce is won, nothing more of it is launched.
+#[test]
+fn won_task_is_not_launched(rt: HostRuntime) {
+    let master = won(&rt, rt.alloc());
+    let is_won = Some(LaunchFault::Task(TaskFault::AlreadyWon));
+    assert!(rt; master.launch_refusal(reduce(), 0) == is_won);
+}
