@@ -1,60 +1,11 @@
--- The order of tasks, and a place in it.
-use Rattle.std.proofs.Common.{◌≡◌, ◌≤◌, ◌+◌, ℕ, zero, suc, Bool, true, false, ◌&&◌, not, cond, nat_eq, nat_lt, List, [], ◌∷◌, length, insert, Some, None, refl, sym, ap, ◌∙◌, true≢false, arith}
-use Rattle.std.specs.List.{position, position_or_len}
+-- The order of tasks: of two one comes before the other, or they are one.
+use Rattle.std.proofs.Common.{◌≡◌, ℕ, Bool, true, false, ◌&&◌, nat_eq, nat_lt, refl, ap, ◌∙◌, sym, true≢false, arith}
 use Rattle.std.proofs.lemmas.Bool.{eqb-true, eqb-false, ltb-false}
 use Rattle.mr_ids.specs.Same.{same_task, same_kind}
 use Rattle.mr_ids.specs.declared.id.TaskId.{TaskId}
 use Rattle.mr_ids.specs.declared.id.TaskKind.{TaskKind}
 use Rattle.mr_ids.specs.declared.id.TaskKind.TheVariants.{Map, Reduce}
-use Rattle.mr_recover.specs.declared.winner.TaskWinner.{TaskWinner}
-use Rattle.mr_recover.specs.Plan.{before, kind_before, then_by, place_of, placed}
-
-place-is : (ws : List TaskWinner) (t : TaskId) → place_of ws t ≡ position_or_len (λ (w : TaskWinner). before t w.task) ws
-place-is [] t = refl
-place-is (w ∷ ws) t = by (before t w.task) (place-is ws t)
-  where
-    by : (b : Bool) → place_of ws t ≡ position_or_len (λ (x : TaskWinner). before t x.task) ws
-        → cond b zero (suc (place_of ws t)) ≡ cond (not b) (1 + position_or_len (λ (x : TaskWinner). before t x.task) ws) 0
-    by true e = refl
-    by false e = omega (arith, e)
-
-within : (ws : List TaskWinner) (t : TaskId) → place_of ws t ≤ length ws
-within [] t = omega arith
-within (w ∷ ws) t = by (before t w.task) (within ws t)
-  where
-    by : (b : Bool) → place_of ws t ≤ length ws → cond b zero (suc (place_of ws t)) ≤ suc (length ws)
-    by true e = omega arith
-    by false e = omega (arith, e)
-
--- the place that is found is the place, and where none is found it is the end
-pub found : (ws : List TaskWinner) (t : TaskId) (n : ℕ) → position (λ (w : TaskWinner). before t w.task) ws ≡ Some n → n ≡ place_of ws t
-found ws t n e = by (nat_lt (position_or_len (λ (w : TaskWinner). before t w.task) ws) (length ws)) e
-  where
-    by : (b : Bool) → cond b (Some (position_or_len (λ (w : TaskWinner). before t w.task) ws)) None ≡ Some n → n ≡ place_of ws t
-    by true q = let r : position_or_len (λ (w : TaskWinner). before t w.task) ws ≡ n = cc in sym (place-is ws t ∙ r)
-    by false q = absurd (true≢false cc)
-
-pub at-end : (ws : List TaskWinner) (t : TaskId) → position (λ (w : TaskWinner). before t w.task) ws ≡ None → length ws ≡ place_of ws t
-at-end ws t e = by (nat_lt (position_or_len (λ (w : TaskWinner). before t w.task) ws) (length ws)) refl e
-  where
-    by : (b : Bool) → nat_lt (position_or_len (λ (w : TaskWinner). before t w.task) ws) (length ws) ≡ b
-        → cond b (Some (position_or_len (λ (w : TaskWinner). before t w.task) ws)) None ≡ None → length ws ≡ place_of ws t
-    by true p q = absurd (true≢false cc)
-    by false p q = let x = place-is ws t in let y = within ws t in let z = ltb-false _ _ p in omega (arith, x, y, z)
-
-pub is-within : (ws : List TaskWinner) (t : TaskId) (n : ℕ) → n ≡ place_of ws t → n ≤ length ws
-is-within ws t n e = let w = within ws t in omega (arith, e, w)
-
--- what is inserted at the place is placed
-pub insert-places : (ws : List TaskWinner) (w : TaskWinner) → insert ws (place_of ws w.task) w ≡ placed ws w
-insert-places [] w = refl
-insert-places (x ∷ xs) w = by (before w.task x.task) (insert-places xs w)
-  where
-    by : (b : Bool) → insert xs (place_of xs w.task) w ≡ placed xs w → insert (x ∷ xs) (cond b zero (suc (place_of xs w.task))) w ≡ cond b (w ∷ x ∷ xs) (x ∷ placed xs w)
-    by true e = refl
-    by false e = ap (λ l. x ∷ l) e
-
--- ---- of two tasks one comes before the other, or they are one
+use Rattle.mr_recover.specs.Plan.{before, kind_before, then_by}
 
 parts : (a b c : Bool) → then_by a b c ≡ false → (a ≡ false) × (b ≡ true → c ≡ false)
 parts true b c e = absurd (true≢false e)
