@@ -6,8 +6,9 @@
 //! The cluster as definitions (`crates/mr_model/specs/`, 3,000 lines, in a reader's order), and what holds over
 //! **every list of events**: deliveries, losses, repeats and reorderings of packets, containers that die,
 //! nodes that restart or are given up, masters that crash and start, store calls that are lost or whose answers are
-//! lost. There is no code in these crates: each law is the contract of a function that does nothing. **It is a
-//! theorem about the definitions, not yet about running code.** Its premises are none, but for sequential files.
+//! lost. There is no code in this crate: each law is the contract of a function that does nothing. **These are
+//! theorems about the definitions; of running code the headline is `HeadlineHolds` of `mr_world`**, which rests on
+//! them. They have no premises, but for sequential files.
 //! Proved:
 //!
 //! - the headline: `the_winner_stays`, `nodes_are_told_the_winner`, `a_marker_means_whole_files`,
@@ -45,8 +46,8 @@
 //!   container begins twice (`begins_once`), or is placed elsewhere than on one of the cluster's nodes (`places_are_nodes`).
 //!
 //! What each word means: [docs/MODEL.md](../../../docs/MODEL.md). Why it holds:
-//! [docs/INVARIANT.md](../../../docs/INVARIANT.md). Neither proved nor claimed here: that a master of this
-//! repository is one of these (`mr_agree` says how far it is), or that a cluster of machines is run.
+//! [docs/INVARIANT.md](../../../docs/INVARIANT.md). That a master's machine acts as these masters do is said in
+//! `mr_agree` (`masters_agree`), that a world of machines which is run is one of these in `mr_world`.
 #![tactic(auto)]
 
 mod actors;

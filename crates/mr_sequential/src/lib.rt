@@ -1,4 +1,16 @@
 //! The sequential files of each job of the crates of the user functions, of the map side and of the shuffle.
+//!
+//! # What is proved
+//!
+//! There is no code in this crate: each law is the contract of a function that does nothing. Of each type that is a job (`mr_user::Job`, which asks for the job laws), over
+//! splits within their limits (at most 1,000, each of at most 2^24 bytes):
+//!
+//! - `jobs_have_their_laws`: it has the two laws that the cluster's definitions (`mr_model`) ask of a job. A map's output is its blocks, and the part of all blocks is the sequential text.
+//!   So `sequential` of `mr_world`'s `HeadlineHolds`, which asks for these laws, is promised of it;
+//! - `files_of_jobs_are_sequential`: over every list of events in which each result that is taken is what the job's functions give, and under limits that let no map's output of more than 2^24
+//!   bytes pass, the whole output of each reduce's attempt is the text of the sequential execution, and where the success marker is, so are the files.
+//!
+//! Both are laws alone: there is nothing to be tested.
 #![tactic(auto)]
 
 ghost use Rattle.mr_user.specs.Computation.{computation};
