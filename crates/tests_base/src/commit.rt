@@ -99,13 +99,12 @@ fn prints(rt: &impl Abort, alloc: Global, fault: CommitFault, text: &str) -> boo
 }
 
 #[test]
-fn output_missing_then_over(rt: HostRuntime) {
+fn setup_by_halves(rt: HostRuntime) {
     let alloc = rt.alloc();
     let app = generation(&rt, 1);
     let caller = &Caller { app, attempt: None };
-    let layout = out(&rt, alloc);
     let mut names = new_namespace(&rt, alloc);
-    let mut setup = made(&rt, SetupJob::new(&layout, app));
+    let mut setup = made(&rt, SetupJob::new(&out(&rt, alloc), app));
     let Some(call) = setup.call() else {
         panic!(rt; "over");
     };
@@ -116,19 +115,92 @@ fn output_missing_then_over(rt: HostRuntime) {
     assert!(rt; following.done() == StepDone::Finished);
     setup.go_on(following);
     assert!(rt; told(&rt, setup.next(&mut names, *caller)) == Err(CommitFault::Over));
-    let mut step = made(&rt, CommitTask::new(&layout, app, attempt(&rt)));
-    let mut sure = made(&rt, step.copy());
+}
+
+// A task's commit goes on where it hears, in two halves, that its attempt's directory is there.
+fn goes_on_by_halves(rt: &impl Abort, step: &CommitTask) {
+    let mut sure = made(rt, step.copy());
     let Ok(following) = sure.follow(&Ok(Answer::Found(Some(Kind::Dir)))) else {
         panic!(rt; "refused");
     };
     assert!(rt; following.done() == StepDone::More);
     sure.go_on(following);
     assert!(rt; sure.call().is_some());
+}
+
+#[test]
+fn output_missing_then_over(rt: HostRuntime) {
+    let alloc = rt.alloc();
+    let app = generation(&rt, 1);
+    let caller = &Caller { app, attempt: None };
+    let layout = out(&rt, alloc);
+    let mut names = new_namespace(&rt, alloc);
+    assert!(rt; told(&rt, setup_job(&mut names, *caller, &layout)) == Ok(()));
+    let mut step = made(&rt, CommitTask::new(&layout, app, attempt(&rt)));
+    goes_on_by_halves(&rt, &step);
     assert!(rt; told(&rt, step.next(&mut names, *caller)) == Err(CommitFault::OutputMissing));
     let mut copy = made(&rt, step.copy());
     assert!(rt; copy.call().is_none());
     assert!(rt; told(&rt, copy.next(&mut names, *caller)) == Err(CommitFault::Over));
     assert!(rt; told(&rt, step.next(&mut names, *caller)) == Err(CommitFault::Over));
+}
+
+// A namespace in which a committed task left two directories with a file each, and the destination has other things of their names.
+fn two_levels(rt: &impl Abort, alloc: Global, caller: &Caller) -> Namespace {
+    let mut names = new_namespace(rt, alloc);
+    for text in [
+        "/out/_temporary/1/task_200707121733_0003_r_000000/a",
+        "/out/_temporary/1/task_200707121733_0003_r_000000/b",
+        "/out/_temporary/1/_temporary",
+        "/out/b",
+    ] {
+        prepared(rt, names.mkdirs(*caller, &path(rt, alloc, text)));
+    }
+    for text in [
+        "/out/_temporary/1/task_200707121733_0003_r_000000/a/f",
+        "/out/_temporary/1/task_200707121733_0003_r_000000/b/g",
+        "/out/a",
+        "/out/b/old",
+    ] {
+        prepared(rt, names.create(*caller, &path(rt, alloc, text), true));
+    }
+    names
+}
+
+// The next call is made, and its answer is heard by one in two halves and by the other at once.
+fn is_heard_alike(
+    rt: &impl Abort,
+    names: &mut Namespace,
+    caller: &Caller,
+    halves: &mut CommitJob,
+    step: &mut CommitJob,
+) {
+    let Some(call) = step.call() else {
+        panic!(rt; "over");
+    };
+    let answer = names.perform(*caller, call);
+    let Ok(following) = halves.follow(&answer) else {
+        panic!(rt; "refused");
+    };
+    halves.go_on(following);
+    assert!(rt; told(rt, step.took(answer)) == Ok(StepDone::More));
+    assert!(rt; halves.cleans_up() == step.cleans_up());
+}
+
+// The marker is made, and the job commit is over.
+fn marker_is_last(
+    rt: &impl Abort,
+    alloc: Global,
+    names: &mut Namespace,
+    caller: &Caller,
+    step: &mut CommitJob,
+) {
+    assert!(rt; stands(rt, alloc, names, *caller, "/out/_temporary") == None);
+    assert!(rt; stands(rt, alloc, names, *caller, "/out/_SUCCESS") == None);
+    assert!(rt; told(rt, step.next(names, *caller)) == Ok(StepDone::Finished));
+    assert!(rt; step.call().is_none());
+    assert!(rt; told(rt, step.next(names, *caller)) == Err(CommitFault::Over));
+    assert!(rt; stands(rt, alloc, names, *caller, "/out/_SUCCESS") == Some(Kind::File));
 }
 
 #[test]
@@ -137,55 +209,22 @@ fn two_level_merge(rt: HostRuntime) {
     let app = generation(&rt, 1);
     let caller = &Caller { app, attempt: None };
     let layout = out(&rt, alloc);
-    let mut names = new_namespace(&rt, alloc);
-    let task = "/out/_temporary/1/task_200707121733_0003_r_000000";
-    let committed = path(&rt, alloc, task);
-    for text in [
-        "/out/_temporary/1/task_200707121733_0003_r_000000/a",
-        "/out/_temporary/1/task_200707121733_0003_r_000000/b",
-        "/out/_temporary/1/_temporary",
-        "/out/b",
-    ] {
-        prepared(&rt, names.mkdirs(*caller, &path(&rt, alloc, text)));
-    }
-    for text in [
-        "/out/_temporary/1/task_200707121733_0003_r_000000/a/f",
-        "/out/_temporary/1/task_200707121733_0003_r_000000/b/g",
-        "/out/a",
-        "/out/b/old",
-    ] {
-        prepared(&rt, names.create(*caller, &path(&rt, alloc, text), true));
-    }
-    let mut first = made(&rt, CommitJob::new(&layout, app));
+    let mut names = two_levels(&rt, alloc, caller);
+    let mut halves = made(&rt, CommitJob::new(&layout, app));
     // list, exists /out, list, exists /out/a, delete, rename
     for _ in 0..6 {
-        assert!(rt; told(&rt, first.next(&mut names, *caller)) == Ok(StepDone::More));
+        assert!(rt; told(&rt, halves.next(&mut names, *caller)) == Ok(StepDone::More));
     }
     assert!(rt; stands(&rt, alloc, &names, *caller, "/out/a/f") == Some(Kind::File));
     // exists /out/b, list, exists /out/b/g, rename, delete /out/_temporary
-    let mut step = made(&rt, first.copy());
+    let mut step = made(&rt, halves.copy());
     for _ in 0..5 {
-        let Some(call) = step.call() else {
-            panic!(rt; "over");
-        };
-        let answer = names.perform(*caller, call);
-        let Ok(following) = first.follow(&answer) else {
-            panic!(rt; "refused");
-        };
-        first.go_on(following);
-        assert!(rt; told(&rt, step.took(answer)) == Ok(StepDone::More));
+        is_heard_alike(&rt, &mut names, caller, &mut halves, &mut step);
     }
-    assert!(rt; first.cleans_up() == step.cleans_up());
-    assert!(rt; stands(&rt, alloc, &names, *caller, "/out/_temporary") == None);
-    assert!(rt; stands(&rt, alloc, &names, *caller, "/out/_SUCCESS") == None);
-    assert!(rt; told(&rt, step.next(&mut names, *caller)) == Ok(StepDone::Finished));
-    assert!(rt; step.call().is_none());
-    assert!(rt; told(&rt, step.next(&mut names, *caller)) == Err(CommitFault::Over));
+    marker_is_last(&rt, alloc, &mut names, caller, &mut step);
     assert!(rt; stands(&rt, alloc, &names, *caller, "/out/a") == Some(Kind::Dir));
     assert!(rt; stands(&rt, alloc, &names, *caller, "/out/b/g") == Some(Kind::File));
     assert!(rt; stands(&rt, alloc, &names, *caller, "/out/b/old") == Some(Kind::File));
-    assert!(rt; stands(&rt, alloc, &names, *caller, "/out/_SUCCESS") == Some(Kind::File));
-    assert!(rt; names.exists(*caller, &committed) == Ok(None));
 }
 
 #[test]
@@ -309,34 +348,52 @@ fn job_abort_by_steps(rt: HostRuntime) {
     assert!(rt; told(&rt, again.next(&mut names, *caller)) == Err(CommitFault::Over));
 }
 
+// The first call of a recovery is made, and its answer is heard by one in two halves and by the other at once.
+fn recovery_begins_alike(
+    rt: &impl Abort,
+    names: &mut Namespace,
+    caller: &Caller,
+    halves: &mut RecoverTask,
+    step: &mut RecoverTask,
+) {
+    let Some(call) = step.call() else {
+        panic!(rt; "over");
+    };
+    let answer = names.perform(*caller, call);
+    let Ok(following) = halves.follow(&answer) else {
+        panic!(rt; "refused");
+    };
+    halves.go_on(following);
+    assert!(rt; halves.call().is_some());
+    assert!(rt; told(rt, step.took(answer)) == Ok(StepDone::More));
+}
+
 #[test]
 fn recovery_by_steps(rt: HostRuntime) {
     let alloc = rt.alloc();
-    let first = generation(&rt, 1);
     let app = generation(&rt, 2);
     let caller = &Caller { app, attempt: None };
     let layout = out(&rt, alloc);
     let mut names = job_set_up(&rt, alloc, caller, &layout);
     let committed = "/out/_temporary/1/task_200707121733_0003_r_000000";
     prepared(&rt, names.mkdirs(*caller, &path(&rt, alloc, committed)));
-    let mut recovery = made(&rt, RecoverTask::new(&layout, app, TASK, None));
-    let mut step = made(&rt, recovery.copy());
-    let Some(call) = step.call() else {
-        panic!(rt; "over");
-    };
-    let answer = names.perform(*caller, call);
-    let Ok(following) = recovery.follow(&answer) else {
-        panic!(rt; "refused");
-    };
-    recovery.go_on(following);
-    assert!(rt; recovery.call().is_some());
-    assert!(rt; told(&rt, step.took(answer)) == Ok(StepDone::More));
+    let mut halves = made(&rt, RecoverTask::new(&layout, app, TASK, None));
+    let mut step = made(&rt, halves.copy());
+    recovery_begins_alike(&rt, &mut names, caller, &mut halves, &mut step);
     assert!(rt; told(&rt, step.next(&mut names, *caller)) == Ok(StepDone::More));
     assert!(rt; told(&rt, step.next(&mut names, *caller)) == Ok(StepDone::Finished));
     assert!(rt; stands(&rt, alloc, &names, *caller, committed) == None);
     let recovered = "/out/_temporary/2/task_200707121733_0003_r_000000";
     assert!(rt; stands(&rt, alloc, &names, *caller, recovered) == Some(Kind::Dir));
-    let mut nothing = made(&rt, RecoverTask::new(&layout, first, TASK, None));
+}
+
+#[test]
+fn first_master_recovers_nothing(rt: HostRuntime) {
+    let alloc = rt.alloc();
+    let app = generation(&rt, 1);
+    let caller = &Caller { app, attempt: None };
+    let mut names = new_namespace(&rt, alloc);
+    let mut nothing = made(&rt, RecoverTask::new(&out(&rt, alloc), app, TASK, None));
     assert!(rt; nothing.call().is_none());
     assert!(rt; told(&rt, nothing.next(&mut names, *caller)) == Err(CommitFault::OutputMissing));
 }
