@@ -1,9 +1,8 @@
 -- Tasks of which attempts were launched on a node: what is gone with the node is theirs.
-use Rattle.std.proofs.Common.{ℕ, zero, suc, ◌+◌, ◌<◌, ◌≤◌, ◌⊎◌, inl, inr, ◌≡◌, refl, sym, ◌∙◌, ap, subst, Bool, true, false, ◌&&◌, ◌||◌, cond, nat_eq, nat_lt, List, [], ◌∷◌, ◌++◌, filter, flat_map, length, Option, Some, None, Result, Ok, Err, IfSome, IfNone, OnOk, append-nil, true≢false, add-one, if◌then◌else◌, arith}
+use Rattle.std.proofs.Common.{ℕ, zero, suc, ◌<◌, ◌≤◌, ◌⊎◌, inl, inr, ◌≡◌, refl, sym, ◌∙◌, ap, subst, Bool, true, false, ◌&&◌, ◌||◌, cond, nat_eq, nat_lt, List, [], ◌∷◌, ◌++◌, filter, flat_map, Option, Some, None, Result, Ok, Err, IfSome, IfNone, OnOk, append-nil, true≢false, if◌then◌else◌, arith}
 use Rattle.std.proofs.lemmas.Bool.Decides.{nat_tests}
 use Rattle.std.proofs.lemmas.Bool.{cases_eq}
 use Rattle.std.proofs.lemmas.Grind.{flat_map-append}
-use Rattle.std.specs.BTreeSet.{BTreeSet, contains}
 use Rattle.std.specs.BTreeMap.Range.{IsLeBy}
 use Rattle.std.specs.Map.{lookup}
 use Rattle.std.specs.Ordering.{is_gt, nat_cmp, ordering_then}
@@ -12,7 +11,7 @@ use Rattle.std.specs.declared.cmp.Ordering.TheVariants.{Less, Equal, Greater}
 use Rattle.mr_ids.specs.Attempt.{Attempt}
 use Rattle.mr_ids.specs.declared.id.TaskId.{TaskId}
 use Rattle.mr_ids.specs.declared.id.TaskKind.{TaskKind}
-use Rattle.mr_ids.specs.declared.id.TaskKind.TheVariants.{Map, Reduce}
+use Rattle.mr_ids.specs.declared.id.TaskKind.TheVariants.{Map}
 use Rattle.mr_grant.specs.Attempts.{same_attempt, has}
 use Rattle.mr_grant.proofs.Same.{same-is, same-itself}
 use Rattle.mr_task.specs.Readings as task
@@ -20,14 +19,14 @@ use Rattle.mr_history.specs.declared.record.Record.{Record}
 use Rattle.mr_master_model.specs.declared.launch.Launch.{Launch}
 use Rattle.mr_master_model.specs.declared.setting.Setting.{Setting}
 use Rattle.mr_master_model.specs.Job.{task_of, first_tasks}
-use Rattle.mr_master_model.specs.Readings.{Seen, Place, of_task, is_known, launch_of, place_of, place_in, place_by, succeeded, if_passes, live_where}
+use Rattle.mr_master_model.specs.Readings.{Seen, Place, of_task, is_known, launch_of, place_of, place_in, place_by, succeeded, if_passes}
 use Rattle.mr_master.specs.declared.gone.Gone.{Gone}
 use Rattle.mr_master.specs.declared.gone.Gone.TheVariants.{Restarted, GivenUp}
 use Rattle.mr_master.specs.State.{Master, Keeps}
 use Rattle.mr_master.specs.inner.Gone.{is_gone, is_lost, gone_of, lost_of}
 use Rattle.mr_master.specs.declared.spots.Spot.{Spot}
 use Rattle.mr_master.specs.inner.Earlier.{TellsSpots, IsUntold}
-use Rattle.mr_master.specs.inner.Spots.{Spread, spot_cmp, has_spot, lower, IsSpread, IsFree, AreFree, FreeFrom, NoneBetween, NoneFrom, node_of}
+use Rattle.mr_master.specs.inner.Spots.{Spread, spot_cmp, has_spot, lower, IsSpread, IsFree, node_of}
 use Rattle.mr_master.proofs.Losing.{gone-own, lost-own}
 
 -- ---- the order of spots
