@@ -1,7 +1,8 @@
 //! What is ready for the answers of a committer's calls: setup, recovery, job commit.
-ghost use Rattle.std.specs.Prelude.{◌≡◌, true, Some, IfOk};
+ghost use Rattle.std.specs.Prelude.{◌≡◌, true, drop, Some, IfOk};
 ghost use Rattle.mr_master_model.specs.Readings.{is_running};
-ghost use Rattle.mr_master.specs.WorkKinds.{is_step, finished_by};
+ghost use Rattle.mr_master.specs.WorkKinds.{is_step, finished_by, others_of, with_others};
+ghost use Rattle.mr_master.specs.inner.Coming.{begun_by};
 ghost use Rattle.mr_master.specs.State.{Reads};
 ghost use Rattle.mr_master.specs.Taking.{winner_of, won_of, after_winner, after_table};
 ghost use Rattle.mr_master.specs.Ready.{Prepares, IsReadyDue};
@@ -67,10 +68,10 @@ impl Machine {
         Ok(Ready::new(packets, Change::Enters(tasks, next)))
     }
 
-    // The output of a reduce was taken over, and the master will not run yet.
+    // The output of a reduce was taken over, and the master will not run yet: to the next work will be moved the reduces that are left.
     fn ready_winner(&self, winner: &TaskWinner, next: Work) -> Result<Ready, AllocError>
         requires { Some winner.now ≡ winner_of self.now.work }
-        ensures { IfOk result (λ ready. Prepares self.now ready (λ w s. won_of w (winner_of s.work)) (λ w s. record s { calls = (after_winner s (winner_of s.work)).calls; work = next })) }
+        ensures { IfOk result (λ ready. Prepares self.now ready (λ w s. won_of w (winner_of s.work)) (λ w s. record s { calls = (after_winner s (winner_of s.work)).calls; work = with_others next (drop 1 (others_of s.work)) })) }
     {
         let Some(place) = place_of(&self.setting, winner.task) else {
             return Err(AllocError);
@@ -83,10 +84,10 @@ impl Machine {
         Ok(Ready::new(packets, Change::EntersOne(place, machine, next)))
     }
 
-    // What is next after the last call of the table.
+    // What is next after the last call of the table. Where a reduce was taken over, those that are left after the next one are not in it yet.
     fn next_work(&self) -> Result<Work, AllocError>
         requires { is_step self.now.work ≡ true }
-        ensures { IfOk result (λ next. Reads self.now (λ w s. finished_by w s s.work) next) }
+        ensures { IfOk result (λ next. Reads self.now (λ w s. begun_by w s s.work) next) }
     {
         let next = self
             .work

@@ -3,7 +3,6 @@ use Rattle.mr_commit.specs.Halves.{Fits}
 use Rattle.mr_master_model.specs.declared.setting.Setting.{Setting}
 use Rattle.mr_master_model.specs.Past.{Work}
 use Rattle.mr_master_model.specs.Readings.{Seen}
-use Rattle.mr_master.specs.declared.store.Coming.{Coming}
 use Rattle.mr_master.specs.declared.store.Coming.TheVariants as coming
 use Rattle.mr_master.specs.declared.change.Change.TheVariants as change
 use Rattle.mr_master.specs.inner.Coming.{IsComing}
