@@ -45,7 +45,7 @@ returns-in_default c =
     c.in_ok-ready-2.ensures
   where
     steps : (w : Setting) (s : Seen) → Keeps c.args.self.now w s → is_step s.work ≡ true
-    steps w s keeps = ap (λ (x : Work). is_step x) (sym keeps.work) ∙ c.requires
+    steps w s keeps = ap (λ (x : Work). is_step x) (sym keeps.work) ∙ c.requires.step
 
     none : (w : Setting) (s : Seen) → Keeps c.args.self.now w s → None ≡ winner_of s.work
     none w s keeps = sym c.in_default.is ∙ c.winner.ensures ∙ ap (λ (x : Work). winner_of x) (subst (λ (x : Master). Keeps x w s) (sym c.self.view_is) keeps).work
