@@ -1,5 +1,5 @@
 //! What the records of earlier masters say.
-ghost use Rattle.std.specs.Prelude.{◌≡◌, ◌≤◌, [], ◌++◌, IfOk, IfSome, IfNone, OnOk};
+ghost use Rattle.std.specs.Prelude.{◌≡◌, ◌≤◌, [], ◌++◌, take, IfOk, IfSome, IfNone, OnOk};
 ghost use Rattle.std.specs.Option.{option_map};
 ghost use Rattle.std.specs.List.{list_any};
 ghost use Rattle.mr_recover.specs.Plan.{AreWinners, winners_among, with_first};
@@ -179,4 +179,19 @@ pub fn next_winner(setting: &Setting, others: VecDeque<TaskWinner>) -> Result<Wo
         None => Ok(Work::running()),
         Some(winner) => Work::takes_over(setting, winner, others),
     }
+}
+
+// The same where the list stays where it is: the next reduce is taken over, and no other after it yet.
+pub fn first_winner(
+    alloc: Global,
+    setting: &Setting,
+    others: &VecDeque<TaskWinner>,
+) -> Result<Work, AllocError>
+    ensures { IfOk result (λ work. work ≡ next_winner setting.now (take 1 others.now.items)) }
+{
+    let Some(winner) = others.front() else {
+        return Ok(Work::running());
+    };
+    let work = Work::takes_over(setting, *winner, VecDeque::new(alloc))?;
+    Ok(work)
 }
