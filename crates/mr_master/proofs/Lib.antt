@@ -35,3 +35,4 @@ pub mod Following
 pub mod Past_stays
 pub mod On_nodes
 pub mod Placing
+pub mod Owning

@@ -18,7 +18,7 @@ use Rattle.mr_master_model.specs.Hearing.{of_maps, dead_below, lost_below, after
 use Rattle.mr_master_model.specs.Sends.{kill_of, killed_by}
 use Rattle.mr_master_model.specs.Next.{with_kills}
 use Rattle.mr_packet.specs.declared.packet.Envelope.{Envelope}
-use Rattle.mr_master.specs.inner.Expiring.{kills_on}
+use Rattle.mr_master.specs.inner.Expiring.{kills_on, with_bars}
 use Rattle.mr_master.specs.Launches.{Launched, Notes}
 use Rattle.mr_master.specs.declared.gone.Gone.{Gone}
 use Rattle.mr_master.specs.declared.gone.Gone.TheVariants.{Restarted, GivenUp}
@@ -152,13 +152,13 @@ pub given-up-is : (w : Setting) (s : Seen) (n : ℕ) (dead lost : List Attempt) 
 given-up-is w s n dead lost e f =
     left-is w s dead lost (given_up_of_maps w s n) (lost_on w s n) (given-own w s n) (lost-own w s (GivenUp n)) (e ∙ given-all w s n) (f ∙ lost-of-all w s (GivenUp n))
 
-pub gives-up : {m : Master} (w : Setting) (s : Seen) (n : ℕ) (dead lost bars : List Attempt) (packets : List Envelope) (launches : Launched) → dead ≡ flat_map (gone_of w s (GivenUp n)) (all_maps w) → lost ≡ flat_map (lost_of w s (GivenUp n)) (all_maps w)
-    → bars ≡ s.bars ++ new_bars w s n → packets ≡ flat_map (kill_of w s) dead → Notes m.launches packets launches
-    → Keeps m w (without w s dead lost) → Keeps (record m { bars = bars; launches = launches }) w (with_kills (kills_on w s n) (expired w s n))
-gives-up {m} w s n dead lost bars packets launches e f g h notes k =
+pub gives-up : {m : Master} (w : Setting) (s : Seen) (n : ℕ) (dead lost : List Attempt) (packets : List Envelope) (launches : Launched) → dead ≡ flat_map (gone_of w s (GivenUp n)) (all_maps w) → lost ≡ flat_map (lost_of w s (GivenUp n)) (all_maps w)
+    → packets ≡ flat_map (kill_of w s) dead → Notes m.launches packets launches
+    → Keeps m w (without w (with_bars w s n) dead lost) → Keeps (record m { launches = launches }) w (with_kills (kills_on w s n) (expired w s n))
+gives-up {m} w s n dead lost packets launches e f h notes k =
     let sent : packets ≡ kills_on w s n = h ∙ ap (λ (l : List Attempt). flat_map (kill_of w s) l) (e ∙ given-same w s n w.maps) in
     let noted = notes s.launched s.killed k.launches in
-    let kept : Keeps (record m { bars = bars; launches = launches }) w (record (without w s dead lost) { bars = s.bars ++ new_bars w s n; killed = killed_by packets s.killed }) =
-    record { setting = k.setting; work = k.work; tasks = k.tasks; launches = noted; nodes = k.nodes; earlier = k.earlier; writing = k.writing; bars = g } in
-    subst (λ (es : List Envelope). Keeps (record m { bars = bars; launches = launches }) w (record (expired w s n) { killed = killed_by es s.killed })) sent
-    (subst (λ (r : Seen). Keeps (record m { bars = bars; launches = launches }) w (record r { bars = s.bars ++ new_bars w s n; killed = killed_by packets s.killed })) (given-up-is w s n dead lost e f) kept)
+    let kept : Keeps (record m { launches = launches }) w (record (without w s dead lost) { bars = s.bars ++ new_bars w s n; killed = killed_by packets s.killed }) =
+    record { setting = k.setting; work = k.work; tasks = k.tasks; launches = noted; nodes = k.nodes; earlier = k.earlier; writing = k.writing; bars = k.bars } in
+    subst (λ (es : List Envelope). Keeps (record m { launches = launches }) w (record (expired w s n) { killed = killed_by es s.killed })) sent
+    (subst (λ (r : Seen). Keeps (record m { launches = launches }) w (record r { bars = s.bars ++ new_bars w s n; killed = killed_by packets s.killed })) (given-up-is w s n dead lost e f) kept)

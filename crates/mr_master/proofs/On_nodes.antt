@@ -1,9 +1,8 @@
 -- Tasks of which attempts were launched on a node: what is gone with the node is theirs.
-use Rattle.std.proofs.Common.{ℕ, zero, suc, ◌+◌, ◌<◌, ◌≤◌, ◌⊎◌, inl, inr, ◌≡◌, refl, sym, ◌∙◌, ap, subst, Bool, true, false, ◌&&◌, ◌||◌, cond, nat_eq, nat_lt, List, [], ◌∷◌, ◌++◌, filter, flat_map, length, Option, Some, None, IfSome, IfNone, append-nil, true≢false, add-one, if◌then◌else◌, arith}
+use Rattle.std.proofs.Common.{ℕ, zero, suc, ◌<◌, ◌≤◌, ◌⊎◌, inl, inr, ◌≡◌, refl, sym, ◌∙◌, ap, subst, Bool, true, false, ◌&&◌, ◌||◌, cond, nat_eq, nat_lt, List, [], ◌∷◌, ◌++◌, filter, flat_map, Option, Some, None, Result, Ok, Err, IfSome, IfNone, OnOk, append-nil, true≢false, if◌then◌else◌, arith}
 use Rattle.std.proofs.lemmas.Bool.Decides.{nat_tests}
 use Rattle.std.proofs.lemmas.Bool.{cases_eq}
 use Rattle.std.proofs.lemmas.Grind.{flat_map-append}
-use Rattle.std.specs.BTreeSet.{BTreeSet, contains}
 use Rattle.std.specs.BTreeMap.Range.{IsLeBy}
 use Rattle.std.specs.Map.{lookup}
 use Rattle.std.specs.Ordering.{is_gt, nat_cmp, ordering_then}
@@ -12,7 +11,7 @@ use Rattle.std.specs.declared.cmp.Ordering.TheVariants.{Less, Equal, Greater}
 use Rattle.mr_ids.specs.Attempt.{Attempt}
 use Rattle.mr_ids.specs.declared.id.TaskId.{TaskId}
 use Rattle.mr_ids.specs.declared.id.TaskKind.{TaskKind}
-use Rattle.mr_ids.specs.declared.id.TaskKind.TheVariants.{Map, Reduce}
+use Rattle.mr_ids.specs.declared.id.TaskKind.TheVariants.{Map}
 use Rattle.mr_grant.specs.Attempts.{same_attempt, has}
 use Rattle.mr_grant.proofs.Same.{same-is, same-itself}
 use Rattle.mr_task.specs.Readings as task
@@ -20,13 +19,14 @@ use Rattle.mr_history.specs.declared.record.Record.{Record}
 use Rattle.mr_master_model.specs.declared.launch.Launch.{Launch}
 use Rattle.mr_master_model.specs.declared.setting.Setting.{Setting}
 use Rattle.mr_master_model.specs.Job.{task_of, first_tasks}
-use Rattle.mr_master_model.specs.Readings.{Seen, Place, of_task, is_known, launch_of, place_of, place_in, place_by, succeeded, if_passes, live_where}
+use Rattle.mr_master_model.specs.Readings.{Seen, Place, of_task, is_known, launch_of, place_of, place_in, place_by, succeeded, if_passes}
 use Rattle.mr_master.specs.declared.gone.Gone.{Gone}
 use Rattle.mr_master.specs.declared.gone.Gone.TheVariants.{Restarted, GivenUp}
 use Rattle.mr_master.specs.State.{Master, Keeps}
 use Rattle.mr_master.specs.inner.Gone.{is_gone, is_lost, gone_of, lost_of}
 use Rattle.mr_master.specs.declared.spots.Spot.{Spot}
-use Rattle.mr_master.specs.inner.Spots.{Spread, spot_cmp, has_spot, IsSpread, IsFree, AreFree, FreeFrom, NoneBetween, NoneFrom, node_of}
+use Rattle.mr_master.specs.inner.Earlier.{TellsSpots, IsUntold}
+use Rattle.mr_master.specs.inner.Spots.{Spread, spot_cmp, has_spot, lower, IsSpread, IsFree, node_of}
 use Rattle.mr_master.proofs.Losing.{gone-own, lost-own}
 
 -- ---- the order of spots
@@ -63,6 +63,12 @@ pub free-is : (s : Spread) (launched : List (Attempt × Launch)) (kind : TaskKin
 free-is s launched kind node number spread none a l at k n = not-true (nat_eq l.node node) (λ e.
     let same : l.node ≡ node = grind (arith, nat_tests, e) in
     true≢false (sym (spread a l at) ∙ (λ i. has_spot s (k i) (same i) (n i)) ∙ none))
+
+-- the same of what the records tell
+pub untold-is : (s : Spread) (rs : List Record) (node number : ℕ) → TellsSpots s rs → has_spot s Map node number ≡ false → IsUntold rs node number
+untold-is s rs node number tells none a p at k n = not-true (nat_eq p.node node) (λ e.
+    let same : p.node ≡ node = grind (arith, nat_tests, e) in
+    true≢false (sym (tells a p at) ∙ (λ i. has_spot s (k i) (same i) (n i)) ∙ none))
 
 pub spread-more : (old new : Spread) (launched : List (Attempt × Launch)) → ((kind : TaskKind) (node number : ℕ) → has_spot old kind node number ≡ true → has_spot new kind node number ≡ true) → IsSpread old launched → IsSpread new launched
 spread-more old new launched grows spread a l at = grows a.task.kind l.node a.task.number (spread a l at)
@@ -138,12 +144,22 @@ passes-none p (Some x) h = by (p x) refl h
     by true e g = absurd (true≢false (sym e ∙ g x (ap (λ b. b || false) (same-itself x))))
     by false e g = refl
 
--- where nothing was read of earlier masters
-pub lost-none : (w : Setting) (s : Seen) (g : Gone) (number : ℕ) → s.earlier ≡ [] → IsFree s.launched Map (node_of g) number → lost_of w s g (task_of w Map number) ≡ []
-lost-none w s g number fresh free = passes-none (λ a. is_lost g (place_of w s a)) (succeeded w s (task_of w Map number)) (λ a there.
+-- where the records say that the output of an attempt at an untold map lies
+place-off : (g : Gone) (rs : List Record) (a : Attempt) (number : ℕ) → IsUntold rs (node_of g) number → a.task.kind ≡ Map → a.task.number ≡ number → is_lost g (place_in rs a) ≡ false
+place-off g rs a number untold k n = found (place_in rs a) refl
+  where
+    found : (o : Option Place) → place_in rs a ≡ o → is_lost g o ≡ false
+    found None at = no-place g
+    found (Some p) at = not-lost g p (untold a p at k n)
+
+-- a map whose attempts were not launched on the node, and of none of which it is told that its output lies there
+pub lost-none : (w : Setting) (s : Seen) (g : Gone) (number : ℕ) → IsUntold s.earlier (node_of g) number → IsFree s.launched Map (node_of g) number → lost_of w s g (task_of w Map number) ≡ []
+lost-none w s g number untold free = passes-none (λ a. is_lost g (place_of w s a)) (succeeded w s (task_of w Map number)) (λ a there.
     let own : a.task ≡ task_of w Map number = lost-own w s g (task_of w Map number) a there in
-    launch-off w s (node_of g) a Map number free (ap (λ (t : TaskId). t.kind) own) (ap (λ (t : TaskId). t.number) own) (λ o. is_lost g (place_by o (place_in s.earlier a)) ≡ false)
-    (ap (λ (rs : List Record). is_lost g (place_in rs a)) fresh ∙ no-place g) (λ l off. not-lost g (record { node = l.node; incarnation = l.incarnation }) off))
+    let k : a.task.kind ≡ Map = ap (λ (t : TaskId). t.kind) own in
+    let n : a.task.number ≡ number = ap (λ (t : TaskId). t.number) own in
+    launch-off w s (node_of g) a Map number free k n (λ o. is_lost g (place_by o (place_in s.earlier a)) ≡ false)
+    (place-off g s.earlier a number untold k n) (λ l off. not-lost g (record { node = l.node; incarnation = l.incarnation }) off))
 
 -- ---- tasks that add nothing are passed over
 
@@ -171,22 +187,45 @@ pub if-none : {A : Type 0} (o : Option A) (P Q : Type 0) → (P → Q) → IfNon
 if-none None P Q f h = f h
 if-none (Some x) P Q f h = h
 
+pub on-ok : {A E : Type 0} (r : Result A E) (P Q : Type 0) → (P → Q) → OnOk r P → OnOk r Q
+on-ok (Ok x) P Q f h = f h
+on-ok (Err e) P Q f h = h
+
+-- ---- the lower of two numbers
+
+pub lower-from : (a b : Option ℕ) (from : ℕ) → IfSome a (λ n. from ≤ n) → IfSome b (λ n. from ≤ n) → IfSome (lower a b) (λ n. from ≤ n)
+lower-from None b from h g = g
+lower-from (Some x) None from h g = h
+lower-from (Some x) (Some y) from h g = let one : from ≤ x = h in let other : from ≤ y = g in omega arith
+
+-- what holds before each holds before the lower one
+pub lower-first : (a b : Option ℕ) (from : ℕ) (P Q R : ℕ → Type 0) → ((j : ℕ) → P j → Q j → R j)
+    → IfSome a (λ n. (j : ℕ) → from ≤ j → j < n → P j) → IfNone a ((j : ℕ) → from ≤ j → P j)
+    → IfSome b (λ n. (j : ℕ) → from ≤ j → j < n → Q j) → IfNone b ((j : ℕ) → from ≤ j → Q j)
+    → IfSome (lower a b) (λ n. (j : ℕ) → from ≤ j → j < n → R j)
+lower-first None None from P Q R both first none other-first other-none = tt
+lower-first None (Some y) from P Q R both first none other-first other-none = λ j high low. both j (none j high) (other-first j high low)
+lower-first (Some x) None from P Q R both first none other-first other-none = λ j high low. both j (first j high low) (other-none j high)
+lower-first (Some x) (Some y) from P Q R both first none other-first other-none = λ j high low. both j (first j high (omega arith)) (other-first j high (omega arith))
+
+pub lower-none : (a b : Option ℕ) (from : ℕ) (P Q R : ℕ → Type 0) → ((j : ℕ) → P j → Q j → R j) → IfNone a ((j : ℕ) → from ≤ j → P j) → IfNone b ((j : ℕ) → from ≤ j → Q j)
+    → IfNone (lower a b) ((j : ℕ) → from ≤ j → R j)
+lower-none None None from P Q R both none other-none = λ j high. both j (none j high) (other-none j high)
+lower-none None (Some y) from P Q R both none other-none = tt
+lower-none (Some x) None from P Q R both none other-none = tt
+lower-none (Some x) (Some y) from P Q R both none other-none = tt
+
 -- of what a machine keeps
 pub kept-gone : (m : Master) (w : Setting) (s : Seen) (g : Gone) (kind : TaskKind) (node number : ℕ) → Keeps m w s → node ≡ node_of g → IsFree m.launches.entries kind node number → gone_of w s g (task_of w kind number) ≡ []
 kept-gone m w s g kind node number k same free = gone-none w s g kind number (subst (λ (n : ℕ). IsFree s.launched kind n number) same (subst (λ (es : List (Attempt × Launch)). IsFree es kind node number) k.launches.entries free))
 
-pub kept-lost : (m : Master) (w : Setting) (s : Seen) (g : Gone) (node number : ℕ) → Keeps m w s → node ≡ node_of g → m.earlier ≡ [] → IsFree m.launches.entries Map node number → lost_of w s g (task_of w Map number) ≡ []
-kept-lost m w s g node number k same fresh free = lost-none w s g number (sym k.earlier ∙ fresh) (subst (λ (n : ℕ). IsFree s.launched Map n number) same (subst (λ (es : List (Attempt × Launch)). IsFree es Map node number) k.launches.entries free))
+pub kept-lost : (m : Master) (w : Setting) (s : Seen) (g : Gone) (node number : ℕ) → Keeps m w s → node ≡ node_of g → IsFree m.launches.entries Map node number → IsUntold m.earlier node number → lost_of w s g (task_of w Map number) ≡ []
+kept-lost m w s g node number k same free untold = lost-none w s g number
+    (subst (λ (n : ℕ). IsUntold s.earlier n number) same (subst (λ (rs : List Record). IsUntold rs node number) k.earlier untold))
+    (subst (λ (n : ℕ). IsFree s.launched Map n number) same (subst (λ (es : List (Attempt × Launch)). IsFree es Map node number) k.launches.entries free))
 
 -- ---- loops over the tasks that are not passed over
 
 pub up-to : {Y : Type 0} (w : Setting) (kind : TaskKind) (f : TaskId → List Y) (from n : ℕ) (old mid : List Y) → from ≤ n → mid ≡ old ++ flat_map f (first_tasks w kind from) → ((j : ℕ) → from ≤ j → j < n → f (task_of w kind j) ≡ [])
     → mid ≡ old ++ flat_map f (first_tasks w kind n)
 up-to {Y} w kind f from n old mid le before none = before ∙ ap (λ (l : List Y). old ++ l) (sym (passed-over w kind f from n le none))
-
-no-length : {A : Type 0} (xs : List A) → length xs ≡ 0 → xs ≡ []
-no-length [] e = refl
-no-length (x ∷ xs) e = absurd (omega arith)
-
-pub empty-is : {A : Type 0} (xs : List A) → nat_eq (length xs) 0 ≡ true → xs ≡ []
-empty-is xs e = no-length xs (grind (arith, nat_tests, e))

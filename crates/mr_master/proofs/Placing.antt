@@ -17,7 +17,8 @@ use Rattle.mr_grant.proofs.Same.{eq-same, the_same, same-is, same-itself}
 use Rattle.mr_history.specs.declared.record.Record.{Record}
 use Rattle.mr_history.specs.declared.record.Record.TheVariants.{AttemptStarted, MapSucceeded, ReduceSucceeded, AttemptFailed, JobUnsuccessful}
 use Rattle.mr_master_model.specs.Readings.{Place, place_in, newest_in, or_else}
-use Rattle.mr_master.specs.inner.Earlier.{told_place, where_told, success_told, TellsPlaces, TellsNewest, SaysListed}
+use Rattle.mr_master.specs.inner.Earlier.{told_place, where_told, success_told, TellsPlaces, TellsNewest, TellsSpots, SaysListed}
+use Rattle.mr_master.specs.inner.Spots.{Spread, has_spot, Grows}
 
 -- ---- a record as the last
 
@@ -80,16 +81,17 @@ places-more old new b n i updates rs tells = λ a.
     ∙ replaced where_told (same_attempt a b) (record { node = n; incarnation = i }) (place_in rs a)
     ∙ ap (λ (o : Option Place). option_map where_told o) (sym (place-append rs (MapSucceeded b n i) a))
 
+-- a record that tells no success says no place
+no-place : (r : Record) (a : Attempt) → None ≡ success_told r → place_in (r ∷ []) a ≡ None
+no-place (MapSucceeded c m j) a f = absurd (cc)
+no-place (ReduceSucceeded c bytes) a f = refl
+no-place (AttemptStarted c m) a f = refl
+no-place (AttemptFailed c) a f = refl
+no-place JobUnsuccessful a f = refl
+
 pub places-same : (places : List (Attempt × (ℕ × ℕ))) (r : Record) → None ≡ success_told r → (rs : List Record) → TellsPlaces places rs → TellsPlaces places (rs ++ r ∷ [])
 places-same places r e rs tells = λ a.
-    tells a ∙ ap (λ (o : Option Place). option_map where_told o) (ap (λ (o : Option Place). or_else o (place_in rs a)) (sym (nothing r a e)) ∙ sym (place-append rs r a))
-  where
-    nothing : (x : Record) (a : Attempt) → None ≡ success_told x → place_in (x ∷ []) a ≡ None
-    nothing (MapSucceeded c m j) a f = absurd (cc)
-    nothing (ReduceSucceeded c bytes) a f = refl
-    nothing (AttemptStarted c m) a f = refl
-    nothing (AttemptFailed c) a f = refl
-    nothing JobUnsuccessful a f = refl
+    tells a ∙ ap (λ (o : Option Place). option_map where_told o) (ap (λ (o : Option Place). or_else o (place_in rs a)) (sym (no-place r a e)) ∙ sym (place-append rs r a))
 
 -- ---- the same of the newest of each task
 
@@ -138,6 +140,26 @@ newest-same newest r e rs tells = λ t.
     nothing (AttemptStarted c m) t f = refl
     nothing (AttemptFailed c) t f = refl
     nothing JobUnsuccessful t f = refl
+
+-- ---- the nodes of the places
+
+pub spots-more : (old new : Spread) (b : Attempt) (n i : ℕ) → Grows old new → has_spot new b.task.kind n b.task.number ≡ true
+    → (rs : List Record) → TellsSpots old rs → TellsSpots new (rs ++ MapSucceeded b n i ∷ [])
+spots-more old new b n i grows there rs tells a p at = by (same_attempt a b) refl (sym (place-append rs (MapSucceeded b n i) a) ∙ at)
+  where
+    place : Option Place → Place
+    place None = p
+    place (Some q) = q
+
+    by : (c : Bool) → same_attempt a b ≡ c → or_else (cond c (Some (record { node = n; incarnation = i })) None) (place_in rs a) ≡ Some p → has_spot new a.task.kind p.node a.task.number ≡ true
+    by true e f =
+        let who : a ≡ b = same-is a b e in
+        let what : ◌≡◌ {A = Place} (record { node = n; incarnation = i }) p = ap place f in
+        (λ k. has_spot new (who k).task.kind (sym what k).node (who k).task.number) ∙ there
+    by false e f = grows a.task.kind p.node a.task.number (tells a p f)
+
+pub spots-same : (spread : Spread) (r : Record) → None ≡ success_told r → (rs : List Record) → TellsSpots spread rs → TellsSpots spread (rs ++ r ∷ [])
+spots-same spread r e rs tells a p at = tells a p (ap (λ (o : Option Place). or_else o (place_in rs a)) (sym (no-place r a e)) ∙ sym (place-append rs r a) ∙ at)
 
 -- ---- winners by task: the first of each
 

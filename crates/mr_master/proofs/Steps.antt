@@ -1,5 +1,5 @@
 -- What the answers of the reading and of a committer's calls change and send.
-use Rattle.std.proofs.Common.{◌≡◌, refl, sym, ap, ◌∙◌, Bool, true, false, ◌&&◌, not, append-nil, Result, Ok, Err, cond, List, [], ◌∷◌, ◌++◌, drop, Option, Some, None, is_none, if◌then◌else◌, true≢false}
+use Rattle.std.proofs.Common.{◌≡◌, refl, sym, ap, ◌∙◌, Bool, true, false, ◌&&◌, not, append-nil, Result, Ok, Err, cond, List, [], ◌∷◌, ◌++◌, drop, Option, Some, None, if◌then◌else◌, true≢false}
 use Rattle.std.specs.List.{list_any}
 use Rattle.mr_history.specs.declared.record.Record.{Record}
 use Rattle.mr_commit.specs.Tables.{setup_job}
@@ -21,9 +21,9 @@ use Rattle.mr_master_model.specs.Past.{Work, LooksForSuccess, LooksForFail, Look
 use Rattle.mr_master_model.specs.Readings.{Seen, is_running, tell}
 use Rattle.mr_master_model.specs.Answered.{changed, work_after, with_work, with_earlier, read_by, is_unsuccessful, heard_by, goes_on, is_finished, is_superseded, takes_over, next_winner, winners, with_maps}
 use Rattle.mr_master_model.specs.Sends.{work_sends, outcome_of, to_all}
-use Rattle.mr_master.specs.WorkKinds.{is_read, records_in, is_step, left_of, with_left, refused_when, finished_by}
+use Rattle.mr_master.specs.WorkKinds.{is_read, records_in, is_step, left_of, with_left, refused_when, finished_by, others_of, with_others}
 use Rattle.mr_master.specs.declared.store.Coming.TheVariants as coming
-use Rattle.mr_master.specs.inner.Coming.{IsComing}
+use Rattle.mr_master.specs.inner.Coming.{IsComing, begun_by}
 use Rattle.mr_master.specs.inner.Heard.{Heard, heard_as, has_finished}
 use Rattle.mr_master.specs.Taking.{winner_of, after_winner, won_of, after_table}
 use Rattle.mr_master.specs.Answering.{answered_sends, answered_seen}
@@ -234,6 +234,78 @@ pub nobody-enters : (w : Setting) (s : Seen) (new : Work) → None ≡ winner_of
 nobody-enters w s new none rests n =
     let quiet' : false ≡ is_running (finished_by w s s.work) = sym rests ∙ ap (λ (x : Work). is_running x) n in
     λ i. record s { calls = (after_table w s (none i) (quiet' i)).calls; work = n i }
+
+-- ---- the next work, where the reduces that are left after the next one are not in it yet
+
+-- no reduce was taken over: nothing is left out
+pub nobody-left : (w : Setting) (s : Seen) (work : Work) → None ≡ winner_of work → begun_by w s work ≡ finished_by w s work
+nobody-left w s (TakesOver x left others) none = cc
+nobody-left w s (SetsUp left) none = refl
+nobody-left w s (CommitsJob left) none = refl
+nobody-left w s LooksForSuccess none = refl
+nobody-left w s LooksForFail none = refl
+nobody-left w s LooksForStarted none = refl
+nobody-left w s Reads none = refl
+nobody-left w s Runs none = refl
+nobody-left w s TellsSuccess none = refl
+nobody-left w s TellsFail none = refl
+nobody-left w s AbortsCommit none = refl
+nobody-left w s (Fails b) none = refl
+nobody-left w s (Ends b) none = refl
+nobody-left w s Stops none = refl
+
+-- one of them is taken over: the master does not run
+taking-rests : (x : TaskWinner) (r : Recovery) (others : List TaskWinner) → is_running (takes_over x r others) ≡ false
+taking-rests x Nowhere others = refl
+taking-rests x (Left left) others = refl
+
+first-rests : (w : Setting) (x : TaskWinner) (others : List TaskWinner) → is_running (next_winner w (x ∷ others)) ≡ false
+first-rests w x others = taking-rests x (recover_task w.layout.dest w.app x.task x.bytes) others
+
+-- the master runs: none is left
+pub runs-whole : (w : Setting) (s : Seen) (work : Work) → is_running (begun_by w s work) ≡ true → begun_by w s work ≡ finished_by w s work
+runs-whole w s (TakesOver x left []) runs = refl
+runs-whole w s (TakesOver x left (y ∷ others)) runs = absurd (true≢false (sym runs ∙ first-rests w y []))
+runs-whole w s (SetsUp left) runs = refl
+runs-whole w s (CommitsJob left) runs = refl
+runs-whole w s LooksForSuccess runs = refl
+runs-whole w s LooksForFail runs = refl
+runs-whole w s LooksForStarted runs = refl
+runs-whole w s Reads runs = refl
+runs-whole w s Runs runs = refl
+runs-whole w s TellsSuccess runs = refl
+runs-whole w s TellsFail runs = refl
+runs-whole w s AbortsCommit runs = refl
+runs-whole w s (Fails b) runs = refl
+runs-whole w s (Ends b) runs = refl
+runs-whole w s Stops runs = refl
+
+-- those that are left are moved to it
+moved-to : (x : TaskWinner) (r : Recovery) (others : List TaskWinner) → with_others (takes_over x r []) others ≡ takes_over x r others
+moved-to x Nowhere others = refl
+moved-to x (Left left) others = refl
+
+-- a reduce was taken over, and the master does not run yet
+pub record Joined (w : Setting) (s : Seen) (work : Work) : Type 0 where
+  pub whole : with_others (begun_by w s work) (drop 1 (others_of work)) ≡ finished_by w s work
+  pub rests : false ≡ is_running (finished_by w s work)
+
+pub joined : (w : Setting) (s : Seen) (x : TaskWinner) (work : Work) → Some x ≡ winner_of work → is_running (begun_by w s work) ≡ false → Joined w s work
+joined w s x (TakesOver y left []) is rests = absurd (true≢false rests)
+joined w s x (TakesOver y left (z ∷ others)) is rests = record { whole = moved-to z (recover_task w.layout.dest w.app z.task z.bytes) others; rests = sym (first-rests w z others) }
+joined w s x (SetsUp left) is rests = cc
+joined w s x (CommitsJob left) is rests = cc
+joined w s x LooksForSuccess is rests = cc
+joined w s x LooksForFail is rests = cc
+joined w s x LooksForStarted is rests = cc
+joined w s x Reads is rests = cc
+joined w s x Runs is rests = cc
+joined w s x TellsSuccess is rests = cc
+joined w s x TellsFail is rests = cc
+joined w s x AbortsCommit is rests = cc
+joined w s x (Fails b) is rests = cc
+joined w s x (Ends b) is rests = cc
+joined w s x Stops is rests = cc
 
 -- ---- the three ways in which a call goes
 

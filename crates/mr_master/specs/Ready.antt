@@ -9,7 +9,7 @@ use Rattle.mr_master_model.specs.Sends.{answer_sends}
 use Rattle.mr_master.specs.declared.change.Change.{Change}
 use Rattle.mr_master.specs.declared.change.Change.TheVariants as change
 use Rattle.mr_master.specs.Taking.{winner_of, after_winner, after_table, EntersAt, KeepsAfter}
-use Rattle.mr_master.specs.WorkKinds.{left_of, with_left}
+use Rattle.mr_master.specs.WorkKinds.{left_of, with_left, others_of, with_others}
 use Rattle.mr_commit.specs.Halves.{Fits}
 use Rattle.mr_master.specs.Told.{with_deaths}
 use Rattle.mr_master.specs.State.{Master, Keeps, Reads}
@@ -25,7 +25,7 @@ changed_by w s change.Nothing = s
 changed_by w s (change.Becomes work) = record s { work = work }
 changed_by w s (change.GoesOn following) = record s { work = with_left s.work (following.lines ++ drop 1 (left_of s.work)) }
 changed_by w s (change.HasRead records work) = record s { earlier = records; work = work }
-changed_by w s (change.EntersOne place machine work) = record s { calls = (after_winner s (winner_of s.work)).calls; work = work }
+changed_by w s (change.EntersOne place machine work) = record s { calls = (after_winner s (winner_of s.work)).calls; work = with_others work (drop 1 (others_of s.work)) }
 changed_by w s (change.Enters tasks work) = record s { calls = (after_table w s (winner_of s.work) (is_running work)).calls; work = work }
 changed_by w s (change.Ends attempt) = with_deaths w s (attempt ∷ [])
 changed_by w s change.Appends = moved_first s s.due

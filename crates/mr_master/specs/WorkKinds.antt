@@ -4,6 +4,7 @@ use Rattle.mr_commit.specs.Line.{Line, more_follow}
 use Rattle.mr_commit.specs.Recovery.{Recovery}
 use Rattle.mr_commit.specs.Recovery.Recovery.{Nowhere, Left}
 use Rattle.mr_history.specs.declared.record.Record.{Record}
+use Rattle.mr_recover.specs.declared.winner.TaskWinner.{TaskWinner}
 use Rattle.mr_names.specs.declared.fault.NameFault.TheVariants as names
 use Rattle.mr_master_model.specs.declared.store.StoreAnswer.{StoreAnswer}
 use Rattle.mr_master_model.specs.declared.store.StoreAnswer.TheVariants as answer
@@ -87,6 +88,15 @@ finished_by w s (SetsUp left) = next_winner w (winners w s)
 finished_by w s (TakesOver winner left others) = next_winner w others
 finished_by w s (CommitsJob left) = TellsSuccess
 finished_by w s work = work
+
+-- the reduces that are taken over after the one that is
+abbrev pub others_of : Work → List TaskWinner
+others_of (TakesOver winner left others) = others
+others_of _ = []
+
+abbrev pub with_others : Work → List TaskWinner → Work
+with_others (TakesOver winner left old) others = TakesOver winner left others
+with_others work others = work
 
 -- the lines that are left
 abbrev pub left_of : Work → List Line

@@ -13,3 +13,4 @@ pub mod Progress
 pub mod Passing
 pub mod Spots
 pub mod Outputs
+pub mod Placed

@@ -1,7 +1,9 @@
 //! What is ready for the answers of a committer's calls: setup, recovery, job commit.
-ghost use Rattle.std.specs.Prelude.{◌≡◌, true, Some, IfOk};
+ghost use Rattle.std.specs.Prelude.{◌≡◌, true, drop, Some, IfOk};
 ghost use Rattle.mr_master_model.specs.Readings.{is_running};
-ghost use Rattle.mr_master.specs.WorkKinds.{is_step, finished_by};
+ghost use Rattle.mr_master.specs.WorkKinds.{is_step, finished_by, others_of, with_others};
+ghost use Rattle.mr_master.specs.inner.Coming.{begun_by};
+ghost use Rattle.mr_master.specs.inner.Placed.{IsPlaced};
 ghost use Rattle.mr_master.specs.State.{Reads};
 ghost use Rattle.mr_master.specs.Taking.{winner_of, won_of, after_winner, after_table};
 ghost use Rattle.mr_master.specs.Ready.{Prepares, IsReadyDue};
@@ -9,7 +11,7 @@ ghost use Rattle.mr_master.specs.Ready.{Prepares, IsReadyDue};
 use crate::change::Change;
 use crate::machine::Machine;
 use crate::packets::push_won;
-use crate::places::place_of;
+use crate::places::place_in_job;
 use crate::ready::Ready;
 use crate::store::Coming;
 use crate::work::Work;
@@ -21,7 +23,8 @@ use std::alloc::AllocError;
 impl Machine {
     // A call of a committer's table is answered. Where calls are left, what changes are the lines that follow alone.
     pub fn ready_step(&self, answer: StoreAnswer) -> Result<Ready, AllocError>
-        requires { is_step self.now.work ≡ true }
+        requires step { is_step self.now.work ≡ true }
+        requires placed { IsPlaced self.now }
         ensures { IfOk result (λ ready. IsReadyDue self.now answer ready) }
     {
         let coming = self.work.follow(&answer)?;
@@ -41,7 +44,8 @@ impl Machine {
     // The call was the last one: what is taken over will be entered, and told to every node. Where nothing is, the work alone changes, and
     // as long as the master does not run, a reduce changes the machine of its task alone.
     fn ready_finished(&self) -> Result<Ready, AllocError>
-        requires { is_step self.now.work ≡ true }
+        requires step { is_step self.now.work ≡ true }
+        requires placed { IsPlaced self.now }
         ensures { IfOk result (λ ready. Prepares self.now ready (λ w s. won_of w (winner_of s.work)) (λ w s. record s { calls = (after_table w s (winner_of s.work) (is_running (finished_by w s s.work))).calls; work = finished_by w s s.work })) }
     {
         let next = self.next_work()?;
@@ -59,7 +63,8 @@ impl Machine {
 
     // The master will run: the reduce that was taken over last is entered, and the maps are.
     fn ready_start(&self, next: Work) -> Result<Ready, AllocError>
-        requires { is_running next ≡ true }
+        requires runs { is_running next ≡ true }
+        requires placed { IsPlaced self.now }
         ensures { IfOk result (λ ready. Prepares self.now ready (λ w s. won_of w (winner_of s.work)) (λ w s. record s { calls = (after_table w s (winner_of s.work) (is_running next)).calls; work = next })) }
     {
         let tasks = self.tasks_after()?;
@@ -67,26 +72,22 @@ impl Machine {
         Ok(Ready::new(packets, Change::Enters(tasks, next)))
     }
 
-    // The output of a reduce was taken over, and the master will not run yet.
+    // The output of a reduce was taken over, and the master will not run yet: to the next work will be moved the reduces that are left.
     fn ready_winner(&self, winner: &TaskWinner, next: Work) -> Result<Ready, AllocError>
-        requires { Some winner.now ≡ winner_of self.now.work }
-        ensures { IfOk result (λ ready. Prepares self.now ready (λ w s. won_of w (winner_of s.work)) (λ w s. record s { calls = (after_winner s (winner_of s.work)).calls; work = next })) }
+        requires winner { Some winner.now ≡ winner_of self.now.work }
+        requires placed { IsPlaced self.now }
+        ensures { IfOk result (λ ready. Prepares self.now ready (λ w s. won_of w (winner_of s.work)) (λ w s. record s { calls = (after_winner s (winner_of s.work)).calls; work = with_others next (drop 1 (others_of s.work)) })) }
     {
-        let Some(place) = place_of(&self.setting, winner.task) else {
-            return Err(AllocError);
-        };
-        if place >= self.tasks.len() {
-            return Err(AllocError);
-        }
+        let place = place_in_job(&self.setting, winner.task);
         let machine = self.tasks.recovered(place, winner.attempt)?;
         let packets = self.won_packets()?;
         Ok(Ready::new(packets, Change::EntersOne(place, machine, next)))
     }
 
-    // What is next after the last call of the table.
+    // What is next after the last call of the table. Where a reduce was taken over, those that are left after the next one are not in it yet.
     fn next_work(&self) -> Result<Work, AllocError>
         requires { is_step self.now.work ≡ true }
-        ensures { IfOk result (λ next. Reads self.now (λ w s. finished_by w s s.work) next) }
+        ensures { IfOk result (λ next. Reads self.now (λ w s. begun_by w s s.work) next) }
     {
         let next = self
             .work

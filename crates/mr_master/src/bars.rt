@@ -1,6 +1,7 @@
 //! The attempts whose bar was ever due, in order. This is the only place that knows how they are kept.
-ghost use Rattle.std.specs.Prelude.{◌≡◌, ◌<◌, ◌++◌, [], ◌∷◌, length, slice_get, IfOk, OnOk, OnErr};
-ghost use Rattle.mr_grant.specs.Attempts.{has, with_last};
+ghost use Rattle.std.specs.Prelude.{◌≡◌, ◌<◌, ◌≤◌, ◌+◌, [], length, slice_get, IfOk, OnOk, OnErr};
+ghost use Rattle.indexmap.specs.IndexSet.{spare};
+ghost use Rattle.mr_grant.specs.Attempts.{with_last};
 ghost use Rattle.mr_master.specs.inner.Expiring.{all_added};
 
 use indexmap::IndexSet;
@@ -60,22 +61,30 @@ impl Bars {
         self.due.get_index(place).copied()
     }
 
-    // Adds an attempt as the last, if it is not there.
-    pub fn add(&mut self, attempt: AttemptId) -> Result<(), AllocError>
-        ensures added { OnOk result (self.new ≡ with_last self.old attempt) }
+    // Adds attempts as the last, one after another, if they are not there: all of them, or none where memory is refused.
+    pub fn add_all(&mut self, attempts: &[AttemptId]) -> Result<(), AllocError>
+        ensures added { OnOk result (self.new ≡ all_added self.old attempts.now) }
         ensures err { OnErr result (self.new ≡ self.old) }
     {
-        self.due.insert(attempt)?;
+        self.due.reserve(attempts.len())?;
+        add_each(&mut self.due, attempts);
         Ok(())
     }
+}
 
-    // Adds attempts as the last, one after another, if they are not there.
-    pub fn add_all(&mut self, attempts: &[AttemptId]) -> Result<(), AllocError>
-        ensures { OnOk result (self.new ≡ all_added self.old attempts.now) }
-    {
-        for i in 0..attempts.len() {
-            self.add(attempts[i])?;
-        }
-        Ok(())
+fn add_each(due: &mut IndexSet<AttemptId>, attempts: &[AttemptId])
+    requires { length attempts.now ≤ spare due.old }
+    ensures { due.new.keys ≡ all_added due.old.keys attempts.now }
+{
+    for i in 0..attempts.len() {
+        add(due, attempts[i]);
     }
+}
+
+fn add(due: &mut IndexSet<AttemptId>, attempt: AttemptId)
+    requires { 0 < spare due.old }
+    ensures added { due.new.keys ≡ with_last due.old.keys attempt }
+    ensures room { spare due.old ≤ spare due.new + 1 }
+{
+    due.insert(attempt).unwrap();
 }

@@ -17,7 +17,8 @@ pub enum Change {
     GoesOn(Following),
     /// The earlier segments were read.
     HasRead(Earlier, Work),
-    /// A reduce is taken over: the machine at this place is this one from then on.
+    /// A reduce was taken over: the machine at this place is this one from then on. To the work that is next are moved the reduces that are
+    /// left after its own.
     EntersOne(usize, TaskMachine, Work),
     /// The master begins to run: these are the machines of the tasks from then on.
     Enters(Tasks, Work),

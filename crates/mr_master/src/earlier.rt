@@ -1,15 +1,16 @@
 //! What the records of earlier masters say.
-ghost use Rattle.std.specs.Prelude.{◌≡◌, [], ◌++◌, IfOk, OnOk};
+ghost use Rattle.std.specs.Prelude.{◌≡◌, ◌≤◌, [], ◌++◌, take, IfOk, IfSome, IfNone, OnOk};
 ghost use Rattle.std.specs.Option.{option_map};
 ghost use Rattle.std.specs.List.{list_any};
 ghost use Rattle.mr_recover.specs.Plan.{AreWinners, winners_among, with_first};
 ghost use Rattle.mr_master_model.specs.Job.{all_reduces};
 ghost use Rattle.mr_master_model.specs.Readings.{newest_in, place_in};
 ghost use Rattle.mr_master_model.specs.Answered.{is_unsuccessful, next_winner};
-ghost use Rattle.mr_master.specs.inner.Earlier.{told_place, where_told};
+ghost use Rattle.mr_master.specs.inner.Earlier.{told_place, where_told, AreUntold, UntoldFrom};
 
 use crate::records::is_unsuccessful;
-use crate::successes::{Newest, Places, Success};
+use crate::spots::Spread;
+use crate::successes::{Newest, Places, Success, spread_of};
 use crate::winners::ByTask;
 use crate::work::Work;
 use mr_history::{Record, Records};
@@ -20,13 +21,14 @@ use std::alloc::{AllocError, Global};
 use std::collections::VecDeque;
 use std::marker::Model;
 
-/// What was read of the earlier segments, with where the output of each map's attempt lies that they tell of, and which is its map's
-/// newest.
+/// What was read of the earlier segments, with where the output of each map's attempt lies that they tell of, which is its map's newest,
+/// and the maps by the nodes where those outputs lie.
 #[derive(Drop)]
 pub struct Earlier {
     records: Records,
     places: Places,
     newest: Newest,
+    spread: Spread,
 }
 
 impl Model for Earlier {
@@ -37,9 +39,9 @@ impl Model for Earlier {
 
     ghost view = { λ e. e.records };
 
-    ghost use Rattle.mr_master.specs.inner.Earlier.{TellsPlaces, TellsNewest};
+    ghost use Rattle.mr_master.specs.inner.Earlier.{TellsPlaces, TellsNewest, TellsSpots};
 
-    ghost invariant = { λ e. TellsPlaces e.places e.records × TellsNewest e.newest e.records };
+    ghost invariant = { λ e. TellsPlaces e.places e.records × TellsNewest e.newest e.records × TellsSpots e.spread e.records };
 }
 
 impl Earlier {
@@ -51,6 +53,7 @@ impl Earlier {
             records: Records::new(alloc),
             places: Places::new(alloc),
             newest: Newest::new(alloc),
+            spread: Spread::new(alloc),
         }
     }
 
@@ -60,10 +63,12 @@ impl Earlier {
     {
         let places = Places::of_records(alloc, records.as_slice())?;
         let newest = Newest::of_records(alloc, records.as_slice())?;
+        let spread = spread_of(alloc, records.as_slice())?;
         Ok(Earlier {
             records,
             places,
             newest,
+            spread,
         })
     }
 
@@ -76,6 +81,7 @@ impl Earlier {
             records,
             places: self.places.copy()?,
             newest: self.newest.copy()?,
+            spread: self.spread.copy()?,
         })
     }
 
@@ -98,6 +104,15 @@ impl Earlier {
         ensures { result ≡ option_map told_place (newest_in self.now task.now) }
     {
         self.newest.of(task)
+    }
+
+    // Of the maps from this number on, the first of which an output may lie on the node, as they say.
+    pub fn next_on(&self, node: u32, from: u32) -> Option<u32>
+        ensures from { IfSome result (λ number. from ≤ number) }
+        ensures first { IfSome result (λ number. AreUntold self.now node from number) }
+        ensures none { IfNone result (UntoldFrom self.now node from) }
+    {
+        self.spread.next(TaskKind::Map, node, from)
     }
 }
 
@@ -164,4 +179,19 @@ pub fn next_winner(setting: &Setting, others: VecDeque<TaskWinner>) -> Result<Wo
         None => Ok(Work::running()),
         Some(winner) => Work::takes_over(setting, winner, others),
     }
+}
+
+// The same where the list stays where it is: the next reduce is taken over, and no other after it yet.
+pub fn first_winner(
+    alloc: Global,
+    setting: &Setting,
+    others: &VecDeque<TaskWinner>,
+) -> Result<Work, AllocError>
+    ensures { IfOk result (λ work. work ≡ next_winner setting.now (take 1 others.now.items)) }
+{
+    let Some(winner) = others.front() else {
+        return Ok(Work::running());
+    };
+    let work = Work::takes_over(setting, *winner, VecDeque::new(alloc))?;
+    Ok(work)
 }

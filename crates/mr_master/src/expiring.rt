@@ -1,17 +1,16 @@
 //! A node is given up.
-ghost use Rattle.std.specs.Prelude.{◌≡◌, ◌++◌, flat_map, None, IfOk, IfErr, OnOk, OnErr, unwrap_or};
+ghost use Rattle.std.specs.Prelude.{◌≡◌, flat_map, None, IfOk, IfErr, OnOk, OnErr, unwrap_or};
 ghost use Rattle.mr_ids.specs.declared.id.TaskKind.TheVariants.{Map, Reduce};
 ghost use Rattle.mr_master_model.specs.Job.{first_tasks, count_of};
 ghost use Rattle.mr_master_model.specs.Readings.{expire_refusal};
-ghost use Rattle.mr_master_model.specs.Hearing.{expired, new_bars};
+ghost use Rattle.mr_master_model.specs.Hearing.{expired};
 ghost use Rattle.mr_master_model.specs.Sends.{kill_of, expiry_sends};
 ghost use Rattle.mr_master_model.specs.Next.{with_kills};
 ghost use Rattle.mr_master.specs.declared.gone.Gone.TheVariants.{GivenUp};
-ghost use Rattle.mr_master.specs.inner.Expiring.{kills_on, HasExpired};
+ghost use Rattle.mr_master.specs.inner.Expiring.{kills_on, with_bars, HasExpired};
 ghost use Rattle.mr_master.specs.inner.Gone.{gone_of};
 ghost use Rattle.mr_master.specs.State.{Reads, Moves, Adds};
 
-use crate::bars::Bars;
 use crate::gone::Gone;
 use crate::launching::no_memory;
 use crate::machine::Machine;
@@ -72,9 +71,8 @@ impl Machine {
         let dead = self.gone_of_kind(TaskKind::Map, &gone)?;
         let lost = self.all_lost(&gone)?;
         let packets = self.kills(&dead)?;
-        let bars = self.bars_after(node)?;
+        self.add_bars(node)?;
         self.leave(&dead, &lost);
-        self.bars = bars;
         self.launches.note(&packets);
         Ok(packets)
     }
@@ -111,14 +109,12 @@ impl Machine {
         Ok(())
     }
 
-    // The bars that are due then: those of the reduces' live attempts on the node come last.
-    fn bars_after(&self, node: u32) -> Result<Bars, AllocError>
-        ensures { IfOk result (λ bars. Reads self.now (λ w s. s.bars ++ new_bars w s node) bars) }
+    // The bars of the reduces' live attempts on the node are due from then on.
+    fn add_bars(&mut self, node: u32) -> Result<(), AllocError>
+        ensures moves { OnOk result (Moves self.old (λ w s. with_bars w s node) self.new) }
+        ensures err { OnErr result (self.new ≡ self.old) }
     {
-        let gone = Gone::GivenUp(node);
-        let late = self.gone_of_kind(TaskKind::Reduce, &gone)?;
-        let mut bars = self.bars.copy()?;
-        bars.add_all(&late)?;
-        Ok(bars)
+        let late = self.gone_of_kind(TaskKind::Reduce, &Gone::GivenUp(node))?;
+        self.bars.add_all(&late)
     }
 }

@@ -14,6 +14,7 @@ ghost use Rattle.mr_master.specs.Told.{with_deaths, with_losses};
 use crate::gone::Gone;
 use crate::machine::Machine;
 use crate::places::place_of;
+use crate::spots::lower;
 use crate::tasks::is_live;
 use mr_ids::{AttemptId, TaskId, TaskKind};
 use mr_master_model::Setting;
@@ -142,16 +143,17 @@ impl Machine {
         Ok(())
     }
 
-    // Of the maps from this number on, the first whose output may be lost: one that was taken over may lie anywhere.
+    // Of the maps from this number on, the first whose output may be lost: an attempt was launched on the node, or it is told that the
+    // output of one lies there.
     fn next_output(&self, gone: &Gone, from: u32) -> Option<u32>
         ensures from { IfSome result (λ number. from ≤ number) }
         ensures first { IfSome result (λ number. NoneLost self.now gone.now from number) }
         ensures none { IfNone result (NoneLostFrom self.now gone.now from) }
     {
-        if !self.earlier.as_slice().is_empty() {
-            return Some(from);
-        }
-        self.launches.next_on(TaskKind::Map, gone.node(), from)
+        let node = gone.node();
+        let launched = self.launches.next_on(TaskKind::Map, node, from);
+        let told = self.earlier.next_on(node, from);
+        lower(launched, told)
     }
 
     // A node is known in this incarnation from then on, if it is a greater one. While Running, the attempts that were launched there in a lower one end,

@@ -6,6 +6,16 @@ ghost use Rattle.mr_master.specs.Places.{place_of};
 use mr_ids::{TaskId, TaskKind};
 use mr_master_model::Setting;
 
+// Where a task of the job stands among all.
+pub fn place_in_job(setting: &Setting, task: TaskId) -> usize
+    ensures { result ≡ place_of setting.now task }
+{
+    match task.kind {
+        TaskKind::Map => task.number as usize,
+        TaskKind::Reduce => setting.maps as usize + task.number as usize,
+    }
+}
+
 // Where a task stands among all: maps first.
 pub fn place_of(setting: &Setting, task: TaskId) -> Option<usize>
     ensures { result ≡ (if is_task setting.now task then Some (place_of setting.now task) else None) }

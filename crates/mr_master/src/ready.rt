@@ -5,7 +5,7 @@ ghost use Rattle.mr_master_model.specs.Answered.{flushed};
 ghost use Rattle.mr_master_model.specs.Next.{with_kills};
 ghost use Rattle.mr_master.specs.Ready.{changed_by, CanMake};
 ghost use Rattle.mr_master.specs.State.{Moves};
-ghost use Rattle.mr_master.specs.WorkKinds.{left_of, with_left};
+ghost use Rattle.mr_master.specs.WorkKinds.{left_of, with_left, others_of, with_others};
 ghost use Rattle.mr_master.specs.Taking.{winner_of, after_winner, after_table, EntersAt, KeepsAfter};
 ghost use Rattle.mr_master_model.specs.Readings.{is_running};
 
@@ -115,13 +115,14 @@ impl Machine {
         self.work.set(work);
     }
 
-    // The task at this place has this machine from then on: a reduce is taken over.
+    // The task at this place has this machine from then on: a reduce was taken over, and others are left.
     fn enters_one(&mut self, place: usize, machine: TaskMachine, work: Work)
         requires { EntersAt self.old place machine }
-        ensures { Moves self.old (λ w s. record s { calls = (after_winner s (winner_of s.work)).calls; work = work }) self.new }
+        ensures { Moves self.old (λ w s. record s { calls = (after_winner s (winner_of s.work)).calls; work = with_others work (drop 1 (others_of s.work)) }) self.new }
     {
+        let alloc = self.alloc;
         self.tasks.put(place, machine);
-        self.work.set(work);
+        self.work.move_on(alloc, work);
     }
 
     // The tasks have these machines from then on.

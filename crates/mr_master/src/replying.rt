@@ -5,6 +5,7 @@ ghost use Rattle.mr_master_model.specs.Duty.{duty};
 ghost use Rattle.mr_master.specs.State.{Reads, Unchanged};
 ghost use Rattle.mr_master.specs.Answering.{IsDue};
 ghost use Rattle.mr_master.specs.inner.Passing.{NoneLive};
+ghost use Rattle.mr_master.specs.inner.Placed.{IsPlaced};
 ghost use Rattle.mr_master.specs.Ready.{IsReady, IsReadyDue};
 
 use crate::change::Change;
@@ -14,9 +15,11 @@ use mr_master_model::StoreAnswer;
 use std::alloc::AllocError;
 
 impl Machine {
-    // Makes ready for the answer of the call that is due. Nothing changes but spare room. None of the first bars, so many, is of a live attempt.
+    // Makes ready for the answer of the call that is due. Nothing changes but spare room. None of the first bars, so many, is of a live
+    // attempt, and what is taken over is of a task of the job.
     pub fn ready_for(&mut self, answer: StoreAnswer, passed: usize) -> Result<Ready, AllocError>
-        requires { NoneLive self.old passed }
+        requires none_live { NoneLive self.old passed }
+        requires placed { IsPlaced self.old }
         ensures ready { IfOk result (λ ready. IsReady self.new answer ready) }
         ensures same { Unchanged self.old self.new }
     {
@@ -29,6 +32,7 @@ impl Machine {
     fn ready_with_room(&self, answer: StoreAnswer, passed: usize) -> Result<Ready, AllocError>
         requires room { 0 < self.now.writing.tail_room }
         requires none_live { NoneLive self.now passed }
+        requires placed { IsPlaced self.now }
         ensures { IfOk result (λ ready. IsReady self.now answer ready) }
     {
         if !self.is_due(passed)? {
@@ -51,6 +55,7 @@ impl Machine {
         requires due { IsDue self.now }
         requires room { 0 < self.now.writing.tail_room }
         requires none_live { NoneLive self.now passed }
+        requires placed { IsPlaced self.now }
         ensures { IfOk result (λ ready. IsReadyDue self.now answer ready) }
     {
         if self.work.is_look() {

@@ -1,8 +1,9 @@
-//! The tasks of which attempts were launched on a node, by node. This is the only place that knows how they are kept.
+//! The tasks that are on a node, by node: attempts of theirs were launched there, or outputs of theirs lay there. This is the only place
+//! that knows how they are kept.
 ghost use Rattle.std.specs.Prelude.{◌≡◌, ◌<◌, ◌≤◌, ℕ, true, false, IfOk, IfSome, IfNone, OnOk, OnErr};
 ghost use Rattle.std.specs.BTreeSet.{contains};
 ghost use Rattle.mr_master.specs.declared.spots.Spot.{Spot};
-ghost use Rattle.mr_master.specs.inner.Spots.{has_spot, spot_cmp, Grows, NoneBetween, NoneFrom};
+ghost use Rattle.mr_master.specs.inner.Spots.{has_spot, spot_cmp, lower, Grows, NoneBetween, NoneFrom};
 
 use mr_ids::{TaskId, TaskKind};
 use std::alloc::{AllocError, Global};
@@ -10,7 +11,7 @@ use std::collections::BTreeSet;
 use std::marker::Model;
 use std::ops::Bound;
 
-/// A node, and the number of a task of which an attempt was launched there.
+/// A node, and the number of a task that is on it.
 #[derive(Clone, Copy, Debug, PartialEq, Eq, PartialOrd, Ord)]
 pub struct Spot {
     pub node: u32,
@@ -116,5 +117,16 @@ fn next_of(spots: &BTreeSet<Spot>, node: u32, from: u32) -> Option<u32>
             }
         }
         None => None,
+    }
+}
+
+// The lower of two numbers, where there are both.
+pub fn lower(one: Option<u32>, other: Option<u32>) -> Option<u32>
+    ensures { result ≡ lower one other }
+{
+    match (one, other) {
+        (Some(n), Some(m)) => Some(n.min(m)),
+        (Some(n), None) => Some(n),
+        (None, _) => other,
     }
 }

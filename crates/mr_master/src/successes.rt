@@ -1,12 +1,13 @@
-//! The successes of maps that records tell: where the output of each attempt lies, and the newest of each map. This is the only place
-//! that knows the maps in which they are kept.
+//! The successes of maps that records tell: where the output of each attempt lies, the newest of each map, and the maps by the nodes where
+//! outputs of theirs lie. This is the only place that knows the maps in which the first two are kept.
 ghost use Rattle.std.specs.Prelude.{◌≡◌, [], ◌∷◌, ◌++◌, List, IfOk, OnOk};
 ghost use Rattle.std.specs.Map.{lookup};
 ghost use Rattle.mr_grant.specs.Attempts.{same_attempt};
 ghost use Rattle.mr_history.specs.declared.record.Record.{Record};
 ghost use Rattle.mr_ids.specs.Same.{same_task};
-ghost use Rattle.mr_master.specs.inner.Earlier.{success_told, TellsPlaces, TellsNewest};
+ghost use Rattle.mr_master.specs.inner.Earlier.{success_told, TellsPlaces, TellsNewest, TellsSpots};
 
+use crate::spots::Spread;
 use indexmap::IndexMap;
 use mr_history::Record;
 use mr_ids::{AttemptId, TaskId};
@@ -137,6 +138,27 @@ impl Newest {
         self.map.insert(success.0.task(), success)?;
         Ok(())
     }
+}
+
+// The maps by the nodes where the records say that outputs of theirs lie.
+pub fn spread_of(alloc: Global, records: &[Record]) -> Result<Spread, AllocError>
+    ensures { IfOk result (λ spread. TellsSpots spread records.now) }
+{
+    let mut spread = Spread::new(alloc);
+    for told in records {
+        note_spot(&mut spread, told)?;
+    }
+    Ok(spread)
+}
+
+// One more record is told.
+fn note_spot(spread: &mut Spread, told: &Record) -> Result<(), AllocError>
+    ensures { OnOk result ((rs : List Record) → TellsSpots spread.old rs → TellsSpots spread.new (rs ++ told.now ∷ [])) }
+{
+    let Some(success) = success_told(told) else {
+        return Ok(());
+    };
+    spread.add(success.1, success.0.task())
 }
 
 // The success of a map's attempt that a record tells.

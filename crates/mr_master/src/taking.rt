@@ -12,9 +12,10 @@ ghost use Rattle.mr_master_model.specs.Answered.{taken, taken_of, with_maps};
 ghost use Rattle.mr_master.specs.Tasks.{KeepsTasks, TakesAt, Takes};
 ghost use Rattle.mr_master.specs.Taking.{winner_of, calls_with, Enters, IsTold, KeepsAfter};
 ghost use Rattle.mr_master.specs.State.{Keeps, Reads, Adds};
+ghost use Rattle.mr_master.specs.inner.Placed.{IsPlaced};
 
 use crate::machine::Machine;
-use crate::places::place_of;
+use crate::places::{place_in_job, place_of};
 use crate::tasks::{Tasks, follow};
 use mr_ids::{AttemptId, TaskId, TaskKind};
 use mr_master_model::Setting;
@@ -183,25 +184,23 @@ impl Machine {
         Ok(())
     }
 
-    // The attempt of the reduce that is taken over is entered. (A task that is not the job's is never taken over.)
+    // The attempt of the reduce that is taken over is entered.
     fn enter_winner(&self, tasks: &mut Tasks) -> Result<(), AllocError>
+        requires placed { IsPlaced self.now }
+        requires tasks { length tasks.old.machines ≡ length self.now.tasks.machines }
         ensures { OnOk result ((w : Setting) (s : Seen) → Keeps self.now w s → KeepsTasks tasks.old w s.calls → KeepsTasks tasks.new w (calls_with (winner_of self.now.work) s.calls)) }
     {
         let Some(winner) = self.work.winner() else {
             return Ok(());
         };
-        let Some(place) = place_of(&self.setting, winner.task) else {
-            return Err(AllocError);
-        };
-        if place >= tasks.len() {
-            return Err(AllocError);
-        }
+        let place = place_in_job(&self.setting, winner.task);
         tasks.recover(place, winner.attempt)?;
         Ok(())
     }
 
     // The machines of the tasks after the last call of a committer's table, where the master begins to run.
     pub fn tasks_after(&self) -> Result<Tasks, AllocError>
+        requires { IsPlaced self.now }
         ensures { IfOk result (λ tasks. KeepsAfter self.now (winner_of self.now.work) true tasks) }
     {
         let mut tasks = self.tasks.copy(self.alloc)?;

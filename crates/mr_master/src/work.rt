@@ -4,9 +4,9 @@ ghost use Rattle.std.specs.Option.{is_some};
 ghost use Rattle.mr_master_model.specs.Past.{Work, LooksForSuccess, SetsUp, Runs, CommitsJob, Fails, Ends, Stops, phase_of};
 ghost use Rattle.mr_master_model.specs.Readings.{Seen, is_running, is_over};
 ghost use Rattle.mr_master_model.specs.Duty.{duty_at, does, commit_name, abort_duty};
-ghost use Rattle.mr_master.specs.WorkKinds.{is_own, fails_as, is_read, is_look, looked_on, found_by, ends_as, is_tell, left_of, with_left, refused_when, is_step, finished_by, wants_more, lines_of};
+ghost use Rattle.mr_master.specs.WorkKinds.{is_own, fails_as, is_read, is_look, looked_on, found_by, ends_as, is_tell, left_of, with_left, refused_when, is_step, others_of, with_others, wants_more, lines_of};
 ghost use Rattle.mr_master.specs.Taking.{winner_of};
-ghost use Rattle.mr_master.specs.inner.Coming.{IsComing};
+ghost use Rattle.mr_master.specs.inner.Coming.{IsComing, begun_by};
 ghost use Rattle.mr_commit.specs.Steps.{next_call};
 ghost use Rattle.mr_commit.specs.Halves.{Fits};
 ghost use Rattle.mr_commit.specs.Recovery.{recover_task};
@@ -15,7 +15,7 @@ ghost use Rattle.mr_master_model.specs.declared.setting.Setting.{Setting};
 ghost use Rattle.mr_commit.specs.Tables.{setup_job, commit_job};
 
 use crate::duty::{Duty, of_line, of_look, of_mark};
-use crate::earlier::{next_winner, winners};
+use crate::earlier::{first_winner, next_winner, winners};
 use crate::ops::{fail_mark, started_mark, success_mark};
 use crate::store::{Coming, Look, coming_of, is_fine, is_superseded, looked, named};
 use mr_commit::{CommitJob, Following, RecoverTask, SetupJob};
@@ -26,6 +26,7 @@ use mr_recover::TaskWinner;
 use std::alloc::{AllocError, Global};
 use std::collections::VecDeque;
 use std::marker::Model;
+use std::mem;
 
 /// What the master is at.
 #[derive(Drop)]
@@ -341,28 +342,57 @@ impl Work {
         }
     }
 
-    // What is next after the last call of a table, by the records of earlier masters.
+    // What is next after the last call of a table, by the records of earlier masters. Where a reduce was taken over, those that are left
+    // after the next one are not in it yet: `move_on` moves them.
     pub fn finished(
         &self,
         alloc: Global,
         setting: &Setting,
         earlier: &[Record],
     ) -> Result<Work, AllocError>
-        ensures { IfOk result (λ next. (s : Seen) → is_step self.now ≡ true → next ≡ finished_by setting.now (record s { earlier = earlier.now }) self.now) }
+        ensures { IfOk result (λ next. (s : Seen) → is_step self.now ≡ true → next ≡ begun_by setting.now (record s { earlier = earlier.now }) self.now) }
     {
         match &self.at {
             At::SetsUp(_) => {
                 let winners = winners(alloc, earlier, setting)?;
                 next_winner(setting, winners)
             }
-            At::TakesOver { others, .. } => {
-                let others = copied(alloc, others)?;
-                next_winner(setting, others)
-            }
+            At::TakesOver { others, .. } => first_winner(alloc, setting, others),
             At::CommitsJob(_) => Ok(Work {
                 at: At::TellsSuccess,
             }),
             _ => Ok(Work::stopped()),
+        }
+    }
+
+    // The next work is gone on with: what it takes over next is the first of the reduces that are left, and the others are moved to it. It
+    // takes no memory.
+    pub fn move_on(&mut self, alloc: Global, next: Work)
+        ensures { self.new ≡ with_others next (drop 1 (others_of self.old)) }
+    {
+        let mut others = self.take_others(alloc);
+        let _ = others.pop_front();
+        self.set(next);
+        self.put_others(others);
+    }
+
+    // The reduces that are taken over after the one that is.
+    fn take_others(&mut self, alloc: Global) -> VecDeque<TaskWinner>
+        ensures { result.items ≡ others_of self.old }
+    {
+        match &mut self.at {
+            At::TakesOver { others, .. } => mem::replace(others, VecDeque::new(alloc)),
+            _ => VecDeque::new(alloc),
+        }
+    }
+
+    // After the reduce that is taken over these are.
+    fn put_others(&mut self, list: VecDeque<TaskWinner>)
+        ensures { self.new ≡ with_others self.old list.items }
+    {
+        match &mut self.at {
+            At::TakesOver { others, .. } => *others = list,
+            _ => {}
         }
     }
 

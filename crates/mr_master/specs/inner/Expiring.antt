@@ -1,12 +1,12 @@
 -- What is sent where a node is given up, and whose bar is due then.
-use Rattle.std.specs.Prelude.{◌≡◌, ℕ, None, List, [], ◌∷◌, flat_map}
+use Rattle.std.specs.Prelude.{◌≡◌, ℕ, None, List, [], ◌∷◌, ◌++◌, flat_map}
 use Rattle.mr_ids.specs.Attempt.{Attempt}
 use Rattle.mr_grant.specs.Attempts.{with_last}
 use Rattle.mr_packet.specs.declared.packet.Envelope.{Envelope}
 use Rattle.mr_master_model.specs.declared.setting.Setting.{Setting}
 use Rattle.mr_master_model.specs.Job.{all_maps}
 use Rattle.mr_master_model.specs.Readings.{Seen, expire_refusal}
-use Rattle.mr_master_model.specs.Hearing.{given_up_of_maps, after_expiry}
+use Rattle.mr_master_model.specs.Hearing.{given_up_of_maps, new_bars, after_expiry}
 use Rattle.mr_master_model.specs.Sends.{kill_of, expiry_sends}
 use Rattle.mr_master_model.specs.Next.{with_kills}
 use Rattle.mr_master.specs.State.{Master, Keeps}
@@ -14,6 +14,10 @@ use Rattle.mr_master.specs.State.{Master, Keeps}
 -- Kills to the maps' live attempts on the node
 abbrev pub kills_on : Setting → Seen → ℕ → List Envelope
 kills_on w s n = flat_map (kill_of w s) (flat_map (given_up_of_maps w s n) (all_maps w))
+
+-- the bars of the reduces' live attempts on the node are due as well
+abbrev pub with_bars : Setting → Seen → ℕ → Seen
+with_bars w s n = record s { bars = s.bars ++ new_bars w s n }
 
 -- each is added as the last, if it is not there
 abbrev pub all_added : (bars more : List Attempt) → List Attempt

@@ -8,9 +8,13 @@ use Rattle.mr_master.specs.declared.gone.Gone.{Gone}
 use Rattle.mr_master.specs.inner.Gone.{lost_of}
 use Rattle.mr_master.specs.State.{Master, Keeps}
 
--- what is gone loses the outputs of none of the maps whose numbers are from one on, up to another
+-- of the map of this number what is gone loses no output
+abbrev pub IsKept : Master → Gone → ℕ → Type 0
+IsKept m g number = (w : Setting) (s : Seen) → Keeps m w s → lost_of w s g (task_of w Map number) ≡ []
+
+-- of none of the maps whose numbers are from one on, up to another
 abbrev pub NoneLost : Master → Gone → ℕ → ℕ → Type 0
-NoneLost m g from to = (w : Setting) (s : Seen) (number : ℕ) → Keeps m w s → from ≤ number → number < to → lost_of w s g (task_of w Map number) ≡ []
+NoneLost m g from to = (number : ℕ) → from ≤ number → number < to → IsKept m g number
 
 abbrev pub NoneLostFrom : Master → Gone → ℕ → Type 0
-NoneLostFrom m g from = (w : Setting) (s : Seen) (number : ℕ) → Keeps m w s → from ≤ number → lost_of w s g (task_of w Map number) ≡ []
+NoneLostFrom m g from = (number : ℕ) → from ≤ number → IsKept m g number

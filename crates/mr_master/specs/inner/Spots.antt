@@ -1,5 +1,5 @@
 -- The tasks of which attempts were launched on a node: at least these, by node and number.
-use Rattle.std.specs.Prelude.{◌≡◌, ◌<◌, ◌≤◌, ℕ, Bool, true, false, nat_eq, List, Some}
+use Rattle.std.specs.Prelude.{◌≡◌, ◌<◌, ◌≤◌, ℕ, min, Bool, true, false, nat_eq, List, Option, Some, None}
 use Rattle.std.specs.BTreeSet.{BTreeSet, contains}
 use Rattle.std.specs.Map.{lookup}
 use Rattle.std.specs.Ordering.{nat_cmp, ordering_then}
@@ -55,6 +55,12 @@ AreFree launched kind node from to = (number : ℕ) → from ≤ number → numb
 
 abbrev pub FreeFrom : List (Attempt × Launch) → TaskKind → ℕ → ℕ → Type 0
 FreeFrom launched kind node from = (number : ℕ) → from ≤ number → IsFree launched kind node number
+
+-- the lower of two numbers, where there are both
+abbrev pub lower : Option ℕ → Option ℕ → Option ℕ
+lower None other = other
+lower (Some n) None = Some n
+lower (Some n) (Some m) = Some (min n m)
 
 -- the node that it is about
 abbrev pub node_of : Gone → ℕ

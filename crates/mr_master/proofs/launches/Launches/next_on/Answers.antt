@@ -1,4 +1,4 @@
-use Rattle.std.proofs.Common.{ℕ, ◌≤◌, ◌<◌, subst}
+use Rattle.std.proofs.Common.{subst}
 use Rattle.mr_master.specs.Launches.{Launched}
 use Rattle.mr_master.specs.inner.Spots.{AreFree, FreeFrom}
 use Rattle.mr_master.proofs.On_nodes.{free-is, if-some, if-none}

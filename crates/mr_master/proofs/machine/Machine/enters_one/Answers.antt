@@ -1,9 +1,10 @@
-use Rattle.std.proofs.Common.{◌≡◌, ℕ, true, sym, ap, subst, ◌∙◌}
+use Rattle.std.proofs.Common.{◌≡◌, true, drop, sym, ap, subst, ◌∙◌}
 use Rattle.mr_task.specs.Calls.{Recovers}
 use Rattle.mr_master_model.specs.declared.setting.Setting.{Setting}
 use Rattle.mr_master_model.specs.Job.{is_task}
 use Rattle.mr_master_model.specs.Past.{Work}
 use Rattle.mr_master.specs.Places.{place_of}
+use Rattle.mr_master.specs.WorkKinds.{others_of, with_others}
 use Rattle.mr_master.specs.Taking.{winner_of, calls_with, EntersAt}
 use Rattle.mr_master.specs.State.{Master, Keeps}
 use Rattle.mr_master.proofs.Parts.{with-work, with-tasks}
@@ -21,6 +22,7 @@ returns c = λ w s keeps.
     let e = subst (λ (x : Master). EntersAt x c.args.place c.args.machine) (sym c.self.view_is) c.requires in
     let own : is_task w e.winner.task ≡ true = subst (λ (v : Setting). is_task v e.winner.task ≡ true) k.setting e.own in
     let at : c.args.place ≡ place_of w e.winner.task = e.at ∙ ap (λ (v : Setting). place_of v e.winner.task) k.setting in
-    with-work c.set.new.self c.args.work c.set.ensures
+    with-work c.move_on.new.self (with_others c.args.work (drop 1 (others_of s.work)))
+    (c.move_on.ensures ∙ ap (λ (x : Work). with_others c.args.work (drop 1 (others_of x))) k.work)
     (with-tasks c.put.new.self (calls_with (winner_of s.work) s.calls)
     (winner-enters _ c.put.new.self w e.winner (winner_of s.work) c.args.place s.calls (e.is ∙ ap (λ (x : Work). winner_of x) k.work) (own, at) (c.put.ensures (Recovers e.winner.attempt) e.told) k.tasks) k)

@@ -1,4 +1,4 @@
-use Rattle.std.proofs.Common.{◌≡◌, ◌≤◌, ◌<◌, ◌+◌, ℕ, sym, subst, ◌∙◌, ap, ◌++◌, arith}
+use Rattle.std.proofs.Common.{◌<◌, sym, subst, ◌∙◌, ap, ◌++◌, arith}
 use Rattle.mr_ids.specs.declared.id.TaskId.{TaskId}
 use Rattle.mr_master_model.specs.declared.setting.Setting.{Setting}
 use Rattle.mr_master_model.specs.Job.{count_of}

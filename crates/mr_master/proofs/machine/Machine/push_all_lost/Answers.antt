@@ -1,4 +1,4 @@
-use Rattle.std.proofs.Common.{◌≡◌, ◌≤◌, ◌<◌, ◌+◌, ℕ, sym, subst, ◌∙◌, ap, ◌++◌, arith}
+use Rattle.std.proofs.Common.{sym, subst, ◌∙◌, ap, ◌++◌, arith}
 use Rattle.mr_ids.specs.declared.id.TaskId.{TaskId}
 use Rattle.mr_ids.specs.declared.id.TaskKind.TheVariants.{Map}
 use Rattle.mr_master_model.specs.declared.setting.Setting.{Setting}
@@ -22,7 +22,7 @@ returns-in_default c = λ w s keeps.
     let total = ap (λ (v : Setting). v.maps) k.setting in
     let within = c.loop.invariant.within in
     up-to w Map (lost_of w s c.args.gone.now) c.loop.from w.maps c.args.attempts.now.items c.loop.attempts.items (omega arith) (c.loop.invariant.adds w s keeps)
-    (λ j high low. c.in_default.ensures.none w s j keeps high)
+    (λ j high low. c.in_default.ensures.none j high w s keeps)
 
 pub returns-then-number-count : goal.returns-then-number-count
 returns-then-number-count c = λ w s keeps.
@@ -31,7 +31,7 @@ returns-then-number-count c = λ w s keeps.
     let within = c.loop.invariant.within in
     let past = c.if-number-count.true in
     up-to w Map (lost_of w s c.args.gone.now) c.loop.from w.maps c.args.attempts.now.items c.loop.attempts.items (omega arith) (c.loop.invariant.adds w s keeps)
-    (λ j high low. c.in-Some.ensures.first w s j keeps high (omega arith))
+    (λ j high low. c.in-Some.ensures.first j high (omega arith) w s keeps)
 
 pub loop-preserved : goal.loop-preserved
 loop-preserved c =
@@ -46,7 +46,7 @@ loop-preserved c =
           let k = subst (λ (x : Master). Keeps x w s) (sym c.self.view_is) keeps in
           let g = c.args.gone.now in
           next-map w (lost_of w s g) n c.args.attempts.now.items c.loop.attempts.items c.push_lost.new.attempts.items
-          (up-to w Map (lost_of w s g) c.loop.from n c.args.attempts.now.items c.loop.attempts.items behind (c.loop.invariant.adds w s keeps) (λ j high low. c.in-Some.ensures.first w s j keeps high low))
+          (up-to w Map (lost_of w s g) c.loop.from n c.args.attempts.now.items c.loop.attempts.items behind (c.loop.invariant.adds w s keeps) (λ j high low. c.in-Some.ensures.first j high low w s keeps))
           (c.in_ok-push_lost.ensures w s keeps
           ∙ ap (λ (v : Setting). let t : TaskId = record { job = v.job; kind = Map; number = n } in c.loop.attempts.items ++ lost_of w s g t) k.setting);
     }

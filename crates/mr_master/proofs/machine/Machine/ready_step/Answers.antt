@@ -3,7 +3,6 @@ use Rattle.mr_commit.specs.Halves.{Fits}
 use Rattle.mr_master_model.specs.declared.setting.Setting.{Setting}
 use Rattle.mr_master_model.specs.Past.{Work}
 use Rattle.mr_master_model.specs.Readings.{Seen}
-use Rattle.mr_master.specs.declared.store.Coming.{Coming}
 use Rattle.mr_master.specs.declared.store.Coming.TheVariants as coming
 use Rattle.mr_master.specs.declared.change.Change.TheVariants as change
 use Rattle.mr_master.specs.inner.Coming.{IsComing}
@@ -25,7 +24,7 @@ returns-in-More c =
     now = subst (IsComing (left_of c.self.inside.work) c.args.answer) c.in-More.is c.in_ok-coming.ensures.coming
 
     steps : (w : Setting) (s : Seen) → Keeps c.args.self.now w s → is_step s.work ≡ true
-    steps w s keeps = ap (λ (x : Work). is_step x) (sym keeps.work) ∙ c.requires
+    steps w s keeps = ap (λ (x : Work). is_step x) (sym keeps.work) ∙ c.requires.step
 
     then : (w : Setting) (s : Seen) → Keeps c.args.self.now w s → IsComing (left_of s.work) c.args.answer (coming.More c.in-More.following)
     then w s keeps =
@@ -42,7 +41,7 @@ returns-in-Finished c =
     now = subst (IsComing (left_of c.self.inside.work) c.args.answer) c.in-Finished.is c.in_ok-coming.ensures.coming
 
     steps : (w : Setting) (s : Seen) → Keeps c.args.self.now w s → is_step s.work ≡ true
-    steps w s keeps = ap (λ (x : Work). is_step x) (sym keeps.work) ∙ c.requires
+    steps w s keeps = ap (λ (x : Work). is_step x) (sym keeps.work) ∙ c.requires.step
 
     then : (w : Setting) (s : Seen) → Keeps c.args.self.now w s → IsComing (left_of s.work) c.args.answer coming.Finished
     then w s keeps =
@@ -59,7 +58,7 @@ returns c =
     now = subst (IsComing (left_of c.self.inside.work) c.args.answer) c.in-Refused.is c.in_ok-coming.ensures.coming
 
     steps : (w : Setting) (s : Seen) → Keeps c.args.self.now w s → is_step s.work ≡ true
-    steps w s keeps = ap (λ (x : Work). is_step x) (sym keeps.work) ∙ c.requires
+    steps w s keeps = ap (λ (x : Work). is_step x) (sym keeps.work) ∙ c.requires.step
 
     work : (w : Setting) (s : Seen) → Keeps c.args.self.now w s → c.self.inside.work ≡ s.work
     work w s keeps = (subst (λ (x : Master). Keeps x w s) (sym c.self.view_is) keeps).work
