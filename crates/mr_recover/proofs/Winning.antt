@@ -9,7 +9,8 @@ use Rattle.mr_history.specs.declared.record.Record.{Record}
 use Rattle.mr_history.specs.declared.record.Record.TheVariants.{AttemptStarted, MapSucceeded, ReduceSucceeded, AttemptFailed, JobUnsuccessful}
 use Rattle.mr_history.specs.Winner.{winner_in, length_in}
 use Rattle.mr_recover.specs.declared.winner.TaskWinner.{TaskWinner}
-use Rattle.mr_recover.specs.Plan.{winner_of, listed, before, ComesBefore, IsRising, is_there, placed, put, put_record, put_all, AreWinners}
+use Rattle.mr_recover.specs.Plan.{winner_of, listed, before, ComesBefore, IsRising, AreWinners}
+use Rattle.mr_recover.specs.inner.Placing.{is_there, placed, put, put_record, put_all}
 use Rattle.mr_recover.proofs.Order.{total}
 
 abbrev or_that : Option TaskWinner → Option TaskWinner → Option TaskWinner
@@ -88,7 +89,7 @@ first-after t (x ∷ xs) w o e = by (before w.task x.task)
     by true = e
     by false = o
 
-placed-rising : (ws : List TaskWinner) (w : TaskWinner) → is_there ws w.task ≡ false → IsRising ws → IsRising (placed ws w)
+pub placed-rising : (ws : List TaskWinner) (w : TaskWinner) → is_there ws w.task ≡ false → IsRising ws → IsRising (placed ws w)
 placed-rising [] w e o = (tt, tt)
 placed-rising (x ∷ xs) w e o = by (before w.task x.task) refl (same_task x.task w.task) refl e (λ f. placed-rising xs w f o.1)
   where

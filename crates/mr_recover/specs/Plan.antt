@@ -2,15 +2,14 @@
 -- the records of the history. That a job commit which began and left no outcome failed, and is not resumed, is what Hadoop's
 -- application master does (a committer whose job commit is not repeatable); that a later master reports the outcome of an earlier
 -- one's mark, and that a reduce's winner is taken over with its length, is our own profile.
-use Rattle.std.specs.Prelude.{◌≡◌, ℕ, Bool, true, false, ◌||◌, zero, suc, nat_eq, nat_lt, List, [], ◌∷◌, Option, Some, None, if◌then◌else◌}
-use Rattle.std.specs.List.{find, list_any}
+use Rattle.std.specs.Prelude.{◌≡◌, Bool, true, false, ◌||◌, nat_eq, nat_lt, List, [], ◌∷◌, Option, Some, None, if◌then◌else◌}
+use Rattle.std.specs.List.{find}
 use Rattle.std.specs.Option.{option_map}
 use Rattle.mr_ids.specs.Same.{same_task, same_kind}
 use Rattle.mr_ids.specs.declared.id.TaskId.{TaskId}
 use Rattle.mr_ids.specs.declared.id.TaskKind.{TaskKind}
 use Rattle.mr_ids.specs.declared.id.TaskKind.TheVariants.{Map, Reduce}
 use Rattle.mr_history.specs.declared.record.Record.{Record}
-use Rattle.mr_history.specs.declared.record.Record.TheVariants.{AttemptStarted, MapSucceeded, ReduceSucceeded, AttemptFailed, JobUnsuccessful}
 use Rattle.mr_history.specs.Winner.{winner_in, length_in}
 use Rattle.mr_recover.specs.declared.winner.TaskWinner.{TaskWinner}
 use Rattle.mr_recover.specs.declared.plan.Staging.{Staging}
@@ -63,34 +62,6 @@ ComesBefore t (w ∷ ws) = before t w.task ≡ true
 abbrev pub IsRising : List TaskWinner → Type 0
 IsRising [] = Unit {0}
 IsRising (w ∷ ws) = ComesBefore w.task ws × IsRising ws
-
--- ---- how the code gets there: each record of a success is put into its place, if its task is not there yet
-
-abbrev pub is_there : List TaskWinner → TaskId → Bool
-is_there ws t = list_any (λ (w : TaskWinner). same_task w.task t) ws
-
--- the place of task t: before the first that it comes before
-abbrev pub place_of : List TaskWinner → TaskId → ℕ
-place_of [] t = zero
-place_of (w ∷ ws) t = if before t w.task then zero else suc (place_of ws t)
-
-abbrev pub placed : List TaskWinner → TaskWinner → List TaskWinner
-placed [] w = w ∷ []
-placed (x ∷ xs) w = if before w.task x.task then w ∷ x ∷ xs else x ∷ placed xs w
-
-abbrev pub put : List TaskWinner → TaskWinner → List TaskWinner
-put ws w = if is_there ws w.task then ws else placed ws w
-
-abbrev pub put_record : List TaskWinner → Record → List TaskWinner
-put_record ws (ReduceSucceeded a bytes) = put ws (record { task = a.task; attempt = a; bytes = bytes })
-put_record ws (AttemptStarted a node) = ws
-put_record ws (MapSucceeded a node incarnation) = ws
-put_record ws (AttemptFailed a) = ws
-put_record ws JobUnsuccessful = ws
-
-abbrev pub put_all : List TaskWinner → List Record → List TaskWinner
-put_all ws [] = ws
-put_all ws (r ∷ rs) = put_all (put_record ws r) rs
 
 -- ---- the plan
 

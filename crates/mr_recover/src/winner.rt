@@ -1,11 +1,11 @@
-ghost use Rattle.std.specs.Prelude.{◌≡◌, ◌-◌, ◌≤◌, [], length, OnOk, IfOk, Some, None, insert, drop, if◌then◌else◌};
-ghost use Rattle.std.specs.List.{position};
-ghost use Rattle.mr_recover.specs.declared.winner.TaskWinner.{TaskWinner};
-ghost use Rattle.mr_recover.specs.Plan.{AreWinners, before, then_by, kind_before, put, put_record, put_all, place_of, is_there};
+ghost use Rattle.std.specs.Prelude.{◌≡◌, true, length, OnOk, IfOk, IfErr};
+ghost use Rattle.mr_recover.specs.Plan.{AreWinners, IsRising};
+ghost use Rattle.mr_recover.specs.inner.Placing.{task_cmp, is_there, IsGapFor, put, put_record};
 
 use mr_history::Record;
-use mr_ids::{AttemptId, TaskId, TaskKind};
+use mr_ids::{AttemptId, TaskId};
 use std::alloc::{AllocError, Global};
+use std::cmp::Ordering;
 use std::marker::Model;
 
 /// A reduce and its winner.
@@ -31,6 +31,10 @@ impl Model for Winners {
     ghost Value = { List TaskWinner };
 
     ghost view = { λ w. w.items.items };
+
+    ghost use Rattle.mr_recover.specs.Plan.{IsRising};
+
+    ghost invariant = { λ w. IsRising w.items.items };
 }
 
 impl Winners {
@@ -61,14 +65,13 @@ impl Winners {
         }
     }
 
+    // Where its task is not there yet, the winner is put into its place.
     fn put(&mut self, winner: TaskWinner) -> Result<(), AllocError>
         ensures { OnOk result (self.new ≡ put self.old winner) }
     {
-        if is_there(&self.items, &winner.task) {
-            return Ok(());
+        if let Err(place) = search(&self.items, &winner.task) {
+            self.items.insert(place, winner)?;
         }
-        let place = place_of(&self.items, &winner.task);
-        self.items.insert(place, winner)?;
         Ok(())
     }
 
@@ -94,72 +97,15 @@ impl Winners {
     }
 }
 
-// Whether the task is among them.
-fn is_there(winners: &[TaskWinner], task: &TaskId) -> bool
-    ensures { result ≡ is_there winners.now task.now }
+// Where the task is among winners that rise, or else where it would go.
+fn search(winners: &[TaskWinner], task: &TaskId) -> Result<usize, usize>
+    requires { IsRising winners.now }
+    ensures found { IfOk result (λ _. is_there winners.now task.now ≡ true) }
+    ensures absent { IfErr result (λ place. IsGapFor winners.now task.now place) }
 {
-    winners.iter().any(|winner| winner.task == *task)
-}
-
-// The place of the task among them.
-fn place_of(winners: &[TaskWinner], task: &TaskId) -> usize
-    ensures place { result ≡ place_of winners.now task.now }
-    ensures within { result ≤ length winners.now }
-{
-    match first_after(winners, task) {
-        Some(place) => place,
-        None => winners.len(),
-    }
-}
-
-fn first_after(winners: &[TaskWinner], task: &TaskId) -> Option<usize>
-    ensures { result ≡ position (λ (w : TaskWinner). before task.now w.task) winners.now }
-{
-    winners
-        .iter()
-        .position(|winner| is_before(task, &winner.task))
-}
-
-// Whether one task comes before another: by job, maps first, by number.
-fn is_before(one: &TaskId, other: &TaskId) -> bool
-    ensures { result ≡ before one.now other.now }
-{
-    let by_number = one.number < other.number;
-    let by_kind = then_by(
-        kind_before(one.kind, other.kind),
-        one.kind == other.kind,
-        by_number,
-    );
-    let by_job = then_by(
-        one.job.number < other.job.number,
-        one.job.number == other.job.number,
-        by_kind,
-    );
-    then_by(
-        one.job.start < other.job.start,
-        one.job.start == other.job.start,
-        by_job,
+    winners.binary_search_by(
+        |winner: &TaskWinner| -> Ordering
+            ensures { result ≡ task_cmp winner.now.task task.entry.now }
+        { winner.task.cmp(task) },
     )
-}
-
-// By the first of two, then by the next.
-fn then_by(is_before: bool, is_same: bool, next: bool) -> bool
-    ensures { result ≡ then_by is_before is_same next }
-{
-    if is_before {
-        true
-    } else if is_same {
-        next
-    } else {
-        false
-    }
-}
-
-fn kind_before(one: TaskKind, other: TaskKind) -> bool
-    ensures { result ≡ kind_before one other }
-{
-    match (one, other) {
-        (TaskKind::Map, TaskKind::Reduce) => true,
-        _ => false,
-    }
 }

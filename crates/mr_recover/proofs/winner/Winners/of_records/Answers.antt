@@ -3,7 +3,8 @@ use Rattle.std.proofs.lemmas.List.{at_drop_more}
 use Rattle.std.proofs.Math.ListN.{drop_of_length-le}
 use Rattle.mr_history.specs.declared.record.Record.{Record}
 use Rattle.mr_recover.specs.declared.winner.TaskWinner.{TaskWinner}
-use Rattle.mr_recover.specs.Plan.{AreWinners, put_record, put_all}
+use Rattle.mr_recover.specs.Plan.{AreWinners}
+use Rattle.mr_recover.specs.inner.Placing.{put_record, put_all}
 use Rattle.mr_recover.proofs.Winning.{are_winners}
 use Rattle.mr_recover.proofs.winner.Winners.of_records.Goals as goal
 

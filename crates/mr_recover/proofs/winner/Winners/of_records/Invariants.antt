@@ -1,5 +1,5 @@
 use Rattle.std.proofs.Common.{◌≡◌, [], drop}
-use Rattle.mr_recover.specs.Plan.{put_all}
+use Rattle.mr_recover.specs.inner.Placing.{put_all}
 use Rattle.mr_recover.proofs.winner.Winners.of_records.Given as goal
 
 -- the records so far and then what is left give all winners

@@ -1,13 +1,23 @@
-use Rattle.std.proofs.Common.{◌≡◌, false, List, sym, ap, ◌∙◌, insert, if◌then◌else◌}
+use Rattle.std.proofs.Common.{List, sym, ap, subst, ◌∙◌, if◌then◌else◌}
 use Rattle.mr_recover.specs.declared.winner.TaskWinner.{TaskWinner}
-use Rattle.mr_recover.specs.Plan.{is_there, place_of, placed, put}
-use Rattle.mr_recover.proofs.Order.{insert-places}
+use Rattle.mr_recover.specs.Plan.{IsRising}
+use Rattle.mr_recover.specs.inner.Placing.{IsGapFor, placed, put}
+use Rattle.mr_recover.proofs.Searching.{absent, inserted}
+use Rattle.mr_recover.proofs.Winning.{placed-rising}
 use Rattle.mr_recover.proofs.winner.Winners.put.Goals as goal
 
-pub returns : goal.returns
-returns c =
+pub invariant_of-self : goal.invariant_of-self
+invariant_of-self c =
     let ws = c.self.inside.items.items in
     let w = c.args.winner in
-    let absent : is_there ws w.task ≡ false = ap (λ (xs : List TaskWinner). is_there xs w.task) (sym c.deref.ensures.value) ∙ sym c.is_there.ensures ∙ c.if-is_there.false in
-    let place : c.place_of-place.result ≡ place_of ws w.task = c.place_of-place.ensures.place ∙ ap (λ (xs : List TaskWinner). place_of xs w.task) c.deref-2.ensures.value in
-    c.in_ok-insert.ensures.items ∙ ap (λ n. insert ws n w) place ∙ insert-places ws w ∙ sym (ap (λ b. if b then ws else placed ws w) absent) ∙ ap (λ (xs : List TaskWinner). put xs w) c.self.view_is
+    let gap : IsGapFor ws w.task c.in-Err.place = subst (λ (xs : List TaskWinner). IsGapFor xs w.task c.in-Err.place) c.deref.ensures.value c.in-Err.ensures.absent in
+    subst IsRising (sym (c.in_ok-insert.ensures.items ∙ inserted ws w c.in-Err.place gap)) (placed-rising ws w (absent ws w.task c.in-Err.place gap) c.self.invariant)
+
+pub returns-in_ok-insert : goal.returns-in_ok-insert
+returns-in_ok-insert c =
+    let ws = c.self.inside.items.items in
+    let w = c.args.winner in
+    let gap : IsGapFor ws w.task c.in-Err.place = subst (λ (xs : List TaskWinner). IsGapFor xs w.task c.in-Err.place) c.deref.ensures.value c.in-Err.ensures.absent in
+    c.in_ok-insert.ensures.items ∙ inserted ws w c.in-Err.place gap
+    ∙ sym (ap (λ b. if b then ws else placed ws w) (absent ws w.task c.in-Err.place gap))
+    ∙ ap (λ (xs : List TaskWinner). put xs w) c.self.view_is
