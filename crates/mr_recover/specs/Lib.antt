@@ -1,3 +1,3 @@
--- What a master that starts does with the work of those before it: one file has all of it.
+-- What a master that starts does with the work of those before it: public clauses cite Plan alone.
 pub mod Plan
 pub mod inner
