@@ -1,3 +1,4 @@
+//! The machine of one task attempt: the attempt, its state, and what an event does to them. For `mr_task`, which keeps one for each attempt at a task.
 ghost use Rattle.std.specs.Prelude.{◌≡◌};
 ghost use Rattle.mr_attempt.specs.Table.{is_live};
 ghost use Rattle.mr_attempt.specs.Machine.{new_machine, machine_after, reaction_to};

@@ -1,3 +1,4 @@
+//! The states of a task attempt, the events that move it, and the table of which event leads from which state to which.
 ghost use Rattle.std.specs.Prelude.{◌≡◌, Some};
 ghost use Rattle.mr_attempt.specs.Names.{name_of};
 ghost use Rattle.mr_attempt.specs.Table.{next, is_live, is_won, is_over};

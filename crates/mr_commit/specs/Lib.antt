@@ -1,3 +1,5 @@
+-- The output committer as tables of lines, each line a namespace call and what follows from its answer. The files stand in the order in which to read them:
+-- from one line to the effect of a whole operation, then recovery, and an answer in two halves.
 pub mod Line
 pub mod Steps
 pub mod Tables

@@ -1,3 +1,4 @@
+//! The aborts of a task attempt and of a job (Hadoop's `abortTask` and `abortJob`): each call by call, as a step value, and whole.
 ghost use Rattle.std.specs.Prelude.{◌≡◌, [], ◌∷◌, ◌++◌, drop, IfOk};
 ghost use Rattle.std.specs.Option.{option_copied};
 ghost use Rattle.mr_commit.specs.Steps.{next_call, Hears, Steps};

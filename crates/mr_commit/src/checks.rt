@@ -1,3 +1,5 @@
+//! Two questions of a committer (Hadoop's `needsTaskCommit` and `checkOutputSpecs`): whether an attempt has output, and whether the destination is free.
+//! And for the whole operations the test that a caller is neither superseded nor barred.
 ghost use Rattle.std.specs.Prelude.{◌≡◌, OnOk, IfOk, IfErr, None, Some};
 ghost use Rattle.mr_names.specs.Calls.{unheard};
 ghost use Rattle.mr_commit.specs.CommitterEffect.{NeedsTaskCommit, checked};

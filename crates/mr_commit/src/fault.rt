@@ -1,3 +1,4 @@
+//! Why the committer refuses a step, and whether a step value has calls left.
 ghost use Rattle.std.specs.Prelude.{◌≡◌};
 ghost use Rattle.mr_commit.specs.Line.{fault_of};
 ghost use Rattle.mr_commit.specs.declared.fault.CommitFault.TheVariants.{NoMemory};

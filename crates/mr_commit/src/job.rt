@@ -1,3 +1,4 @@
+//! The commit of a job (Hadoop's `commitJob`): the merge onto the destination, the cleanup, and the marker last; call by call, as a step value, and whole.
 ghost use Rattle.std.specs.Prelude.{◌≡◌, [], ◌∷◌, ◌++◌, drop, IfOk};
 ghost use Rattle.std.specs.Option.{option_copied};
 ghost use Rattle.mr_commit.specs.Steps.{next_call, next_passes, Hears, Steps};

@@ -1,3 +1,5 @@
+//! One line of a committer's table: its namespace call, and the lines that take its place once that was answered. Here are the merge of directories and the
+//! search through earlier generations; `lines` keeps such lines for each operation.
 ghost use Rattle.std.specs.Prelude.{◌≡◌, [], ◌∷◌, ◌++◌, IfOk, IfErr, Ok, Err, map, filter};
 ghost use Rattle.mr_commit.specs.Line.{replaced, answered, found, listed, bytes_read, op_of, merging, merging_child, merging_task, is_task, passes_missing, before, older, sought, taking_over, measuring, measured, fault_at};
 ghost use Rattle.mr_commit.specs.Line.Line.{Does, Clears, Needs, Merges, MergesEach, MergesTasks, Seeks, Measures};

@@ -1,3 +1,4 @@
+//! The lines of a committer's table that are left: which call is next, and what its answer puts in the place of the first line. Each step value is made of them.
 ghost use Rattle.std.specs.Prelude.{◌≡◌, ◌<◌, [], ◌∷◌, ◌++◌, IfOk, OnOk, OnErr, length, drop};
 ghost use Rattle.std.specs.Option.{option_copied};
 ghost use Rattle.mr_commit.specs.Settles.{Settles};

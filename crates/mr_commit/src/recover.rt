@@ -1,3 +1,4 @@
+//! The recovery of a task (Hadoop's `recoverTask`): what the newest earlier generation committed of it is taken over; call by call, as a step value, and whole.
 ghost use Rattle.std.specs.Prelude.{◌≡◌, [], ◌∷◌, IfOk};
 ghost use Rattle.std.specs.Option.{option_copied};
 ghost use Rattle.mr_commit.specs.Line.Line.{Seeks};

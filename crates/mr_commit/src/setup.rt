@@ -1,3 +1,4 @@
+//! The setup of a job (Hadoop's `setupJob`): the job attempt path is made; call by call, as a step value, and whole.
 ghost use Rattle.std.specs.Prelude.{◌≡◌, [], ◌∷◌, ◌++◌, drop, IfOk};
 ghost use Rattle.std.specs.Option.{option_copied};
 ghost use Rattle.mr_commit.specs.Steps.{next_call, Hears, Steps};

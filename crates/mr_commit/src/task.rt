@@ -1,3 +1,4 @@
+//! The commit of a task attempt (Hadoop's `commitTask`): its output takes the place of what the task had committed; call by call, as a step value, and whole.
 ghost use Rattle.std.specs.Prelude.{◌≡◌, [], ◌∷◌, ◌++◌, drop, IfOk};
 ghost use Rattle.std.specs.Option.{option_copied};
 ghost use Rattle.mr_commit.specs.Steps.{next_call, Hears, Steps};

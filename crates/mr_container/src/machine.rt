@@ -1,3 +1,4 @@
+//! The machine of a container: what it wishes to do next, as a packet or a namespace call, and where each answer leads it. For whoever runs containers.
 ghost use Rattle.std.specs.Prelude.{◌≡◌, ◌<◌, ◌+◌, ◌++◌, [], ◌∷◌, Some, None, IfOk, OnOk, OnErr, length, List, ℕ};
 ghost use Rattle.mr_ids.specs.declared.id.TaskKind.TheVariants.{Map};
 ghost use Rattle.mr_packet.specs.declared.packet.Packet.{Packet};

@@ -1,3 +1,4 @@
+//! All that can happen in a cluster, one step each, and the weather of a store call: whether it is made, and whether its answer arrives.
 use mr_ids::TaskId;
 use mr_packet::{Bytes, ContainerId};
 

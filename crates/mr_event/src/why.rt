@@ -1,3 +1,4 @@
+//! The reasons why an event is not permitted now: a world answers them, and `mrsim play` prints them.
 use mr_task::TaskFault;
 use thiserror::Error;
 

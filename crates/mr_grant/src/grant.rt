@@ -1,3 +1,4 @@
+//! Permission to commit one task (Hadoop's `canCommit`): which attempts asked, in order of arrival, of whom the first has it. For the machine of a task.
 ghost use Rattle.std.specs.Prelude.{◌≡◌, false, OnOk, OnErr, IfOk};
 ghost use Rattle.std.specs.List.{IsDistinct};
 ghost use Rattle.mr_grant.specs.Attempts.{has, first_of, is_first, same_attempt, without};

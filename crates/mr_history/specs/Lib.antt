@@ -1,3 +1,4 @@
+-- The job history, from the line of a record to what survives a crash. The files stand in the order in which to read them.
 pub mod Line
 pub mod Json
 pub mod Reading

@@ -1,3 +1,4 @@
+//! Why a call of the job history is refused, or why bytes are no segment of one.
 ghost use Rattle.std.specs.Prelude.{◌≡◌};
 ghost use Rattle.mr_history.specs.declared.fault.HistoryFault.TheVariants.{NoMemory};
 

@@ -1,3 +1,4 @@
+//! The job history: a segment for each generation of the master, and the fence below which no master is heard.
 ghost use Rattle.std.specs.Prelude.{◌≡◌, ◌≤◌, ◌<◌, ◌-◌, ℕ, [], length, replicate, IfOk, IsOkUnless, true, Option, if◌then◌else◌, nat_le, Some, None, take};
 ghost use Rattle.mr_history.specs.Line.{fits, suits, IsVersion};
 ghost use Rattle.mr_history.specs.State.{State};

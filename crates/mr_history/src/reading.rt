@@ -1,3 +1,4 @@
+//! The bytes of a segment, read again: its version, the records of its whole lines, and how many bytes of a torn line stand behind them.
 ghost use Rattle.std.specs.Prelude.{◌≡◌, ◌++◌, ◌∷◌, IfSome, IfNone, if◌then◌else◌, nat_eq};
 ghost use Rattle.mr_history.specs.Line.{head, IsVersion};
 ghost use Rattle.mr_history.specs.Reading.{Replays, HasNoFeed, version_of};

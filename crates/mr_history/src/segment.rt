@@ -1,3 +1,4 @@
+//! The segment of one generation: the bytes that are stable, the tail that a crash may cut, and whether it is sealed.
 ghost use Rattle.std.specs.Prelude.{◌≡◌, ◌+◌, ◌≤◌, ℕ, [], length, take, drop, IfOk, IsOkUnless, true, string_bytes, ◌++◌};
 ghost use Rattle.mr_history.specs.Line.{fits, suits, whole_line, width, InRange, IsVersion};
 ghost use Rattle.mr_history.specs.State.{SegmentState};

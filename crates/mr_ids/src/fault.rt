@@ -1,3 +1,4 @@
+//! Why a text is no identifier: the first fault from the left, for whoever reads one.
 use thiserror::Error;
 
 /// Why a text is no identifier of the kind that was asked for: the first fault from the left.

@@ -1,3 +1,4 @@
+//! The identifiers as values: a job, a task, a task attempt, and an application attempt (the generation of a master), with their ranges and their texts.
 ghost use Rattle.std.specs.Prelude.{◌≡◌, ◌<◌, ◌≤◌, ◌/◌, ◌+◌, ◌++◌, ◌∷◌, codes, SomeIff, IfOk, IfErr, OnOk, OnErr};
 ghost use Rattle.std.specs.List.{slice_split};
 ghost use Rattle.mr_ids.specs.Attempt.{Attempt};

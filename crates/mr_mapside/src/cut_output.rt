@@ -1,4 +1,5 @@
 //! A map's output whose blocks have been found.
+//! It lies on a node's shelf, from where each reduce gets its block without a search.
 ghost use Rattle.std.specs.Prelude.{◌≡◌, ◌≤◌, length, IfOk};
 ghost use Rattle.std.specs.Option.{option_map, option_and_then};
 ghost use Rattle.std.specs.List.{slice_get};

@@ -1,4 +1,5 @@
 //! The blocks of a map's output.
+//! Bytes are cut into one block for each reduce, and no memory is taken.
 ghost use Rattle.std.specs.Prelude.{◌≡◌, ℕ, List, length, IfSome, Some};
 ghost use Rattle.std.specs.Option.{option_map, IfNone};
 ghost use Rattle.std.specs.List.{slice_get};

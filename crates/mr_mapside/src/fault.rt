@@ -1,3 +1,4 @@
+//! Why a map work or a reduce work gives no bytes, and why pieces can't be merged: for this crate and for `mr_shuffle`.
 ghost use Rattle.std.specs.Prelude.{◌≡◌};
 ghost use Rattle.mr_mapside.specs.declared.fault.ShuffleFault.TheVariants as shuffle;
 ghost use Rattle.mr_mapside.specs.declared.fault.WorkFault.TheVariants as work;

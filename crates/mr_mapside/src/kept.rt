@@ -1,4 +1,5 @@
 //! The runs that a map keeps of its pairs.
+//! So many pairs at a time are sorted, shared out among the reduces and kept as bytes, which `work` merges at the end.
 ghost use Rattle.std.specs.Prelude.{◌≡◌, ◌≤◌, ◌<◌, ◌++◌, ◌∷◌, [], List, length, map, Some, None, IfOk, IfErr, OnOk};
 ghost use Rattle.std.specs.List.{AllByRecursion};
 ghost use Rattle.mr_user.specs.Computation.{computation};

@@ -1,4 +1,5 @@
 -- Where the machines of a master's tasks stand, in order: maps first.
+-- A place is an index in the list of these machines.
 use Rattle.std.specs.Prelude.{ℕ, ◌+◌}
 use Rattle.mr_ids.specs.declared.id.TaskId.{TaskId}
 use Rattle.mr_ids.specs.declared.id.TaskKind.{TaskKind}

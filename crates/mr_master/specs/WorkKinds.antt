@@ -1,4 +1,5 @@
 -- Kinds of work, and what the answer of a committer's call changes of one.
+-- Work is what a master is at in its phase.
 use Rattle.std.specs.Prelude.{Bool, true, false, Option, Some, None, Ok, Err, List, [], ◌∷◌, if◌then◌else◌}
 use Rattle.mr_commit.specs.Line.{Line, more_follow}
 use Rattle.mr_commit.specs.Recovery.{Recovery}

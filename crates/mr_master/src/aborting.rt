@@ -1,4 +1,5 @@
 //! What is ready for the answers of the calls that are due while Failing.
+//! These are an append, a flush, and the abort of the job.
 ghost use Rattle.std.specs.Prelude.{◌≡◌, ◌<◌, ◌||◌, IfOk};
 ghost use Rattle.mr_master_model.specs.Past.{Fails};
 ghost use Rattle.mr_master.specs.WorkKinds.{passes_abort, aborted};

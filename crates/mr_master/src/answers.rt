@@ -1,4 +1,5 @@
 //! What is ready for the answers of looks for marks, of marks that are created, and wherever the work alone changes.
+//! The marks are the files COMMIT_STARTED, COMMIT_SUCCESS and COMMIT_FAIL in the staging folder.
 ghost use Rattle.std.specs.Prelude.{◌≡◌, true, IfOk};
 ghost use Rattle.mr_master_model.specs.Sends.{outcome_of};
 ghost use Rattle.mr_master.specs.WorkKinds.{is_look, is_tell};

@@ -1,4 +1,5 @@
 //! The next store call of a master.
+//! While Running it is a bar, else an append or a flush, else COMMIT_STARTED once all reduces are Succeeded; in most other phases it follows from `work`.
 ghost use Rattle.std.specs.Prelude.{◌≡◌, true, Some, None, IfOk, OnErr};
 ghost use Rattle.std.specs.Option.{is_some};
 ghost use Rattle.mr_master_model.specs.Past.{Runs, Fails};

@@ -1,4 +1,5 @@
 //! What a master's next store call is for, and the call.
+//! It is what `duties` finds, for whoever makes the call.
 ghost use Rattle.std.specs.Prelude.{◌≡◌, true, Some, None, IfOk, OnErr};
 ghost use Rattle.std.specs.Option.{is_some, option_map, option_copied};
 ghost use Rattle.mr_names.specs.declared.op.Op.TheVariants as op;

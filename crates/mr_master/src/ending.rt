@@ -1,4 +1,5 @@
 //! How attempts end.
+//! An attempt says that it failed, or its container ended; and whether that counts as a failure.
 ghost use Rattle.std.specs.Prelude.{◌≡◌};
 ghost use Rattle.mr_master.specs.inner.Ends.{is_failure};
 

@@ -1,4 +1,5 @@
 //! What is told, and what changes, once all that was appended is stable.
+//! An attempt whose success was appended is Succeeded then, and a reduce's is told to every node as the winner.
 ghost use Rattle.std.specs.Prelude.{◌≡◌, ◌<◌, ◌++◌, Some, IfOk, OnOk};
 ghost use Rattle.mr_master_model.specs.Answered.{tell_recorded, recorded, success_in, flushed, moved_first};
 ghost use Rattle.mr_master_model.specs.Sends.{wins, kills_beside, flush_sends};

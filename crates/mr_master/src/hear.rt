@@ -1,4 +1,5 @@
 //! What is heard, packet by packet: first what is sent for it, which changes nothing, then what it changes.
+//! Each packet is handed on by its kind, to `hearing`, `failing` and others.
 ghost use Rattle.std.specs.Prelude.{◌≡◌, true, [], IfOk, OnOk, OnErr, if◌then◌else◌};
 ghost use Rattle.mr_master_model.specs.declared.setting.Setting.{Setting};
 ghost use Rattle.mr_master_model.specs.Readings.{Seen, is_running, launch_of, launched_in};

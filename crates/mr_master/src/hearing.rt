@@ -1,4 +1,5 @@
 //! What a master that is Running hears of attempts, and what it answers: first what is sent, which changes nothing, then what changes.
+//! These are attempts that ask to commit or report Done, and the container that asks where a map's output lies.
 ghost use Rattle.std.specs.Prelude.{◌≡◌, IfOk, OnOk, OnErr};
 ghost use Rattle.mr_master_model.specs.Readings.{launch_of, launched_in};
 ghost use Rattle.mr_master_model.specs.Hearing.{after_ask, after_done, after_where, after_fetch_lost, success_of};

@@ -1,4 +1,5 @@
 //! Launches of attempts.
+//! Why one is refused, and what it leaves: the task's next attempt, its container, the record of its start, and the packet to the node.
 ghost use Rattle.std.specs.Prelude.{◌≡◌, ◌<◌, Some, None, IfOk, IfErr, IfSome, OnErr, unwrap_or, length, if◌then◌else◌};
 ghost use Rattle.mr_packet.specs.Sends.{to_node};
 ghost use Rattle.mr_master_model.specs.Job.{is_task};

@@ -1,4 +1,5 @@
 //! Places that are marked, and the first of them, each in time that grows with the logarithm of their number.
+//! `progress` finds the first task that waits by them; the marks of a job commit are another thing.
 ghost use Rattle.std.specs.Prelude.{◌≡◌, ℕ, ◌+◌, ◌*◌, ◌/◌, ◌^◌, ◌<◌, ◌≤◌, Bool, true, false, length, slice_index_or, IfOk, IfSome, IfNone, vec_len, if◌then◌else◌};
 ghost use Rattle.mr_master.specs.inner.Marks.{is_marked, IsFirst, IsSet, NodesBut, IsTree, NoneBetween};
 

@@ -1,3 +1,4 @@
+//! The application master as whoever runs it sees it: `MasterMachine`, whose calls are handed on to the `Machine` of `machine` and its parts.
 ghost use Rattle.std.specs.Prelude.{◌≡◌, true, [], ◌∷◌, None, IfOk, IfErr, OnOk, OnErr, unwrap_or};
 ghost use Rattle.std.specs.Option.{is_some};
 ghost use Rattle.mr_master.specs.State.{StandsFor, StandsForSome, Stands, StandsStill, Answers};

@@ -1,4 +1,5 @@
 //! Where the machines of tasks stand: maps first.
+//! A place is the index of a task's machine in the list that `tasks` keeps.
 ghost use Rattle.std.specs.Prelude.{◌≡◌, Some, None, if◌then◌else◌};
 ghost use Rattle.mr_master_model.specs.Job.{is_task};
 ghost use Rattle.mr_master.specs.Places.{place_of};

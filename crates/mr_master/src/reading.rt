@@ -1,4 +1,5 @@
 //! What is ready for the answer of the reading of the earlier segments.
+//! By what the records tell the master sets the job up, or goes on failing; where the reading is refused, it stops.
 ghost use Rattle.std.specs.Prelude.{◌≡◌, true, IfOk, if◌then◌else◌};
 ghost use Rattle.std.specs.List.{list_any};
 ghost use Rattle.mr_commit.specs.Tables.{setup_job};

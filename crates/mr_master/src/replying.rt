@@ -1,4 +1,5 @@
 //! What is ready for the answer of the store call that is due, in each phase.
+//! Each kind of call has its file: `answers`, `reading`, `advancing`, `aborting` and `running`.
 ghost use Rattle.std.specs.Prelude.{◌≡◌, ◌<◌, IfOk};
 ghost use Rattle.std.specs.Option.{is_some};
 ghost use Rattle.mr_master_model.specs.Duty.{duty};

@@ -1,4 +1,5 @@
 //! What is ready for the answers of the calls that are due while Running.
+//! These are a bar, an append, a flush, and the creation of COMMIT_STARTED.
 ghost use Rattle.std.specs.Prelude.{◌≡◌, ◌<◌, ◌∷◌, [], Some, IfOk};
 ghost use Rattle.mr_master_model.specs.Past.{Runs};
 ghost use Rattle.mr_master_model.specs.Sends.{kill_of};

@@ -1,4 +1,5 @@
 //! What the answer of a store call says.
+//! Whether nothing was refused, whether something is at a path, and whether calls of a committer's table are left.
 ghost use Rattle.std.specs.Prelude.{◌≡◌, List, IfSome, IfNone, IfOk, OnOk, OnErr, Ok, Err};
 ghost use Rattle.mr_commit.specs.Line.{Line};
 ghost use Rattle.mr_master_model.specs.Past.{Work};

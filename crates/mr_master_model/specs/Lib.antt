@@ -1,3 +1,4 @@
+-- What a master has seen, does next and sends, each read off its past. The files stand in the order in which to read them; Rows works a small job out.
 pub mod Job
 pub mod Past
 pub mod Readings

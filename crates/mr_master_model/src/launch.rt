@@ -1,3 +1,4 @@
+//! What an attempt was launched as: its container, the node, and the node's incarnation that its master knew then.
 use mr_packet::ContainerId;
 
 /// What an attempt was launched as.

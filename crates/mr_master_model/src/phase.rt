@@ -1,3 +1,4 @@
+//! The phases of a master, what each of its store calls is for, and why it launches nothing on a node or does not give it up.
 use mr_task::TaskFault;
 
 /// The phase of a master.

@@ -1,3 +1,4 @@
+//! The store calls of a master, of the namespace or of the job history, as values, and their answers.
 use mr_history::{HistoryFault, Record, Records};
 use mr_names::{Answer, NameFault, Op};
 

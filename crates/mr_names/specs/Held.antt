@@ -1,4 +1,5 @@
 -- What a path holds.
+-- A directory, a file or nothing: the words in which calls and their refusals are defined.
 use Rattle.std.specs.Prelude.{ℕ, Bool, true, false, List, [], length, filter, Option, Some, None, is_some, is_none, if◌then◌else◌}
 use Rattle.std.specs.List.{list_any}
 use Rattle.std.specs.FinMap as finite

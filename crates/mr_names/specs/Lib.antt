@@ -1,3 +1,4 @@
+-- The namespace: what it holds, and what each call answers and leaves. Read Node, Content, Held, Listing and Barred first, then Calls, then Laws, Rows and Walk.
 pub mod Calls
 pub mod Content
 pub mod Held

@@ -1,4 +1,5 @@
 -- Runs of calls on a new namespace, with what each is answered.
+-- A few are worked out: what the definitions of Calls come to.
 use Rattle.std.specs.Prelude.{◌≡◌, ℕ, true, false, List, [], ◌∷◌, Some, None, Result, Ok, Err, codes}
 use Rattle.std.specs.FinMap as finite
 use Rattle.std.specs.FinSet as set

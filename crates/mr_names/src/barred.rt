@@ -1,3 +1,4 @@
+//! The attempts that are barred, as the namespace keeps them: every call of theirs is refused.
 ghost use Rattle.std.specs.Prelude.{◌≡◌, OnOk, OnErr, ◌<◌, ◌^◌, false};
 ghost use Rattle.std.specs.FinSet as set;
 ghost use Rattle.mr_names.specs.Barred.{bars};

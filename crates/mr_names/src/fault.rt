@@ -1,3 +1,4 @@
+//! Why the namespace refuses a call.
 ghost use Rattle.std.specs.Prelude.{◌≡◌};
 ghost use Rattle.mr_names.specs.declared.fault.NameFault.TheVariants.{NoMemory};
 

@@ -1,4 +1,5 @@
 //! The nodes as a graph: edges by name.
+//! These are the steps of `tree`: edges are followed, added, moved and taken out, and with them the nodes behind them.
 ghost use Rattle.std.specs.Prelude.{◌≡◌, Some, None, true, is_some, OnOk, OnErr, IfOk, IfSome, [], ℕ, List, MatchOption, length, take, ◌≤◌, ◌<◌, ◌+◌, ◌++◌, reverse};
 ghost use Rattle.mr_names.specs.inner.Tree.{edges_of, nodes_of, steps, IsTold, EdgeSet, SameGraph, NodeAdded, EdgeMoved, NodeChanged, NodeCut, CutBeneath, first_edge, DirsAdded, SomeAdded, links_of, line_at, ahead_of};
 ghost use Rattle.std.specs.Prelude.{map as list_map};

@@ -1,3 +1,4 @@
+//! The namespace as its callers see it: each call, and its refusals in their order, with the fence and the barred attempts. What stands where is kept in `tree`.
 ghost use Rattle.std.specs.Prelude.{IsOkUnless, ◌≡◌, ◌+◌, ℕ, [], ◌∷◌, ◌++◌, IfOk, OnOk, OnErr, length, nat_lt, ◌<◌, ◌^◌, if◌then◌else◌, Some, None, true, false};
 ghost use Rattle.mr_names.specs.Walk.{walk};
 ghost use Rattle.mr_names.specs.Barred.{is_barred};

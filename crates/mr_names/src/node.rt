@@ -1,3 +1,4 @@
+//! What stands at a path, a directory or a file with its bytes, and the entries that a directory lists.
 ghost use Rattle.std.specs.Prelude.{◌≡◌, ◌↔◌, ◌++◌, ◌∷◌, [], IfOk, OnOk, OnErr, length, IsTrue};
 ghost use Rattle.mr_names.specs.Walk.{length_of};
 ghost use Rattle.mr_names.specs.Node.{appended, closed_of, kind_of};

@@ -1,3 +1,4 @@
+//! A call of the namespace as a value, who makes it, and its answer: for committers and machines, whose next call is told before it is made.
 use crate::node::{Bytes, Entries, Kind};
 use mr_ids::{AppAttempt, AttemptId};
 use mr_paths::Path;

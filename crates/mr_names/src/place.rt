@@ -1,3 +1,4 @@
+//! What `tree` stores of each directory or file: what it is, and the keys of its entries. And what a walk through the tree has still to visit.
 use crate::node::Node;
 use mr_paths::{Name, Path};
 use std::collections::BTreeMap;

@@ -1,3 +1,4 @@
+//! All that a namespace holds, path by path: for programs that print it.
 ghost use Rattle.std.specs.Prelude.{◌≡◌, ◌++◌, ◌∷◌, [], OnOk, OnErr};
 
 use mr_paths::Path;

@@ -1,3 +1,4 @@
+//! The machine of a node: which containers it launched or was asked to kill, the map outputs on its shelf, and what it does for a packet. For whoever runs nodes.
 ghost use Rattle.std.specs.Prelude.{◌≡◌, ◌<◌, ◌+◌, [], ◌∷◌, IfOk, OnOk, OnErr, take, Bool, false};
 ghost use Rattle.mr_node.specs.Past.{Hears, Shelves, Ends, Restarts};
 ghost use Rattle.mr_ids.specs.Attempt.{Attempt};

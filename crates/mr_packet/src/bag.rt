@@ -1,3 +1,4 @@
+//! The bag: all packets that were ever sent, which stands for a network that loses, repeats and reorders them.
 ghost use Rattle.std.specs.Prelude.{◌≡◌, ◌≤◌, ◌<◌, ◌+◌, ◌++◌, [], ◌∷◌, length, OnOk, OnErr, IfErr, IsOkUnless, slice_get};
 ghost use Rattle.std.specs.Option.{option_copied};
 

@@ -1,3 +1,4 @@
+//! Bytes as packets carry them and machines keep them.
 ghost use Rattle.std.specs.Prelude.{◌≡◌, ◌++◌, [], length, IfOk, OnOk, OnErr};
 
 use std::alloc::{AllocError, Global};

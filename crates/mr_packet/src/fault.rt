@@ -1,3 +1,4 @@
+//! Why a packet finds no room in the bag.
 ghost use Rattle.std.specs.Prelude.{◌≡◌};
 ghost use Rattle.mr_packet.specs.declared.fault.BagFault.TheVariants.{NoMemory};
 

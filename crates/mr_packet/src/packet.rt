@@ -1,3 +1,4 @@
+//! The packets that masters, nodes and containers send one another, to whom they go, and how a container is named.
 use crate::bytes::Bytes;
 use mr_ids::{AppAttempt, AttemptId, TaskId};
 

@@ -1,3 +1,4 @@
+-- Paths, their texts, and where a job's files stand. The files stand in the order in which to read them.
 pub mod Path
 pub mod Text
 pub mod Layout

@@ -1,3 +1,4 @@
+//! Why a text is not read as a path or as a name.
 ghost use Rattle.std.specs.Prelude.{◌≡◌};
 ghost use Rattle.mr_paths.specs.declared.fault.PathFault.TheVariants.{NoMemory};
 

@@ -1,3 +1,5 @@
+//! Where a job's committer keeps what it makes, as Hadoop does: the temporary directories, the part files and the marker. And the staging folder, in which masters
+//! leave marks for later ones.
 ghost use Rattle.std.specs.Prelude.{◌≡◌, IfOk};
 ghost use Rattle.mr_ids.specs.Text.{numeral, task_text, attempt_text};
 ghost use Rattle.mr_paths.specs.Layout.{temporary_name, marker_name, temporary, job_attempt, task_attempt, committed, marker, part, staging, is_hidden};

@@ -1,3 +1,4 @@
+//! One name of a path: which bytes it may have, and the order of names.
 ghost use Rattle.std.specs.Prelude.{◌≡◌, ◌↔◌, Some, refl, IfOk, IsTrue};
 ghost use Rattle.std.specs.Cmp.Lexicographic.{slice_cmp, pointwise};
 ghost use Rattle.std.specs.Ordering.{nat_cmp};

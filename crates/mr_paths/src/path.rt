@@ -1,3 +1,4 @@
+//! A path of the namespace as the list of its names: how it is read from a text, extended, ordered, and compared with paths above it.
 ghost use Rattle.std.specs.Prelude.{◌≡◌, ◌≤◌, ◌↔◌, ℕ, Some, refl, IfOk, OnOk, OnErr, [], ◌∷◌, ◌++◌, length, take, drop, is_some, IsTrue, All, nat_eq};
 ghost use Rattle.std.specs.List.{slice_split};
 ghost use Rattle.std.specs.Cmp.Lexicographic.{slice_cmp, pointwise};

@@ -1,3 +1,4 @@
+//! Why a master that starts gets no recovery plan.
 ghost use Rattle.std.specs.Prelude.{◌≡◌};
 ghost use Rattle.mr_recover.specs.declared.fault.RecoverFault.TheVariants.{NoMemory};
 

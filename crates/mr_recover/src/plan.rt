@@ -1,3 +1,4 @@
+//! The recovery plan of a master that starts: from the marks in the staging folder and the records of the job history, what it does with the work of earlier ones.
 ghost use Rattle.std.specs.Prelude.{◌≡◌, IfOk, IsOkUnless};
 ghost use Rattle.mr_recover.specs.Plan.{IsPlan};
 

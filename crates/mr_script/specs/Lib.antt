@@ -1,3 +1,4 @@
+-- Scripts of a run, and how they are read. Read Lines, Verb, Names and Script in this order, then ScriptFault and Laws.
 pub mod Laws
 pub mod Lines
 pub mod Names

@@ -1,3 +1,4 @@
+//! What a line of a script says: that an event happens, that a container computes, or that a calm begins.
 use crate::event_name::EventName;
 use mr_event::Event;
 use mr_packet::ContainerId;

@@ -1,3 +1,4 @@
+//! The names of events that a script's `calm` can stop before: a master's duties, a container's wishes, `launch` and `step`.
 ghost use Rattle.std.specs.Prelude.{◌≡◌, IfSome, IfNone};
 ghost use Rattle.mr_script.specs.Names.{name_text, group_of, OfMaster, OfTask, OfCommit};
 

@@ -1,4 +1,5 @@
 //! Scripts of a run.
+//! All lines are read as commands for one job before any of them is obeyed.
 ghost use Rattle.std.specs.Prelude.{◌≡◌, ◌<◌, ◌+◌, ◌^◌, length, IfSome, IfNone, IfOk, IfErr, Ok};
 ghost use Rattle.mr_script.specs.Lines.{lines_of, IsNoLine};
 ghost use Rattle.mr_script.specs.ScriptFault.{IsScriptFault};

@@ -1,4 +1,5 @@
 //! A whole script, in any language.
+//! Both scripts of a run and scripts of committer calls are read by it, to the first line that is no command.
 ghost use Rattle.std.specs.Prelude.{◌≡◌, ◌<◌, ◌≤◌, ◌+◌, ◌^◌, [], ◌∷◌, ℕ, List, length, IfSome, IfNone, IfOk, IfErr};
 ghost use Rattle.mr_script.specs.Lines.{lines_of, AreLines, IsNoLine};
 ghost use Rattle.mr_script.specs.ScriptFault.{IsScriptFault};

@@ -1,3 +1,4 @@
+//! Pieces: what each map handed to a reduce, and whether all of them are there for it.
 ghost use Rattle.std.specs.Prelude.{◌≡◌, ◌↔◌, IsTrue};
 ghost use Rattle.mr_shuffle.specs.Work.{ArePiecesOf};
 

@@ -1,3 +1,4 @@
+//! The work of a reduce task: the pieces of all maps, read through, merged by key, and reduced to the text of its part file.
 ghost use Rattle.std.specs.Prelude.{◌≡◌, ◌≤◌, length, map, None, Ok, IfOk, IfErr, OnOk};
 ghost use Rattle.std.specs.List.{flat_map};
 ghost use Rattle.std.specs.Result.{result_err};

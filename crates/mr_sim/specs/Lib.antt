@@ -1,3 +1,5 @@
+-- What each subcommand of `mrsim` prints: Printed has all of it, and leads on to `committer` (Script, Effect, Listing), to `play` (JobText, EventNames, Played, Play,
+-- Shown), to `history` (History) and to `seq` (Seq, PartFiles). Laws, PlayLaws and PlayRows say what follows.
 pub mod Effect
 pub mod EventNames
 pub mod Fault

@@ -1,3 +1,4 @@
+//! Why a subcommand gives no output, with the exit status of each fault, and what is wrong with a job text.
 ghost use Rattle.std.specs.Prelude.{◌≡◌};
 ghost use Rattle.mr_sim.specs.declared.fault.SimFault.TheVariants.{NoMemory};
 ghost use Rattle.mr_sim.specs.Fault.{status_of};

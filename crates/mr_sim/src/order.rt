@@ -1,4 +1,5 @@
 //! One line of a script.
+//! Of a script of committer calls: which command it is, of which task or attempt.
 ghost use Rattle.std.specs.Prelude.{◌≡◌, ℕ, List, ◌∷◌, ◌++◌, IfSome, IfNone, IfOk, Option, Some, None};
 ghost use Rattle.mr_ids.specs.Attempt.{Attempt};
 ghost use Rattle.mr_ids.specs.Text.{IsTask, IsAttempt};

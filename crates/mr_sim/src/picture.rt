@@ -1,4 +1,5 @@
 //! The picture of a drawing: where its parts stand, and how they are written.
+//! It is written as SVG, for `drawn`.
 use crate::drawing::{Arrow, Drawing, End, Lane, Row, Sign, Tone};
 use crate::signs::{put_begin, put_dead, put_given_up, put_key, put_over, put_sign};
 use crate::svg::{Point, close, line, noted, open, rectangle, text};

@@ -1,4 +1,5 @@
 //! The subcommand `play`.
+//! A job text and a script behind it are played in a world, and what came of it is printed.
 ghost use Rattle.std.specs.Prelude.{◌≡◌, ◌++◌, None, IfOk, IfErr};
 ghost use Rattle.mr_script.specs.Lines.{after, lines_of};
 ghost use Rattle.mr_script.specs.Script.{AreCommands};

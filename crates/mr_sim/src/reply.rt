@@ -1,4 +1,5 @@
 //! What a command prints.
+//! In a script of committer calls: nothing, or `yes`, `no` or the name of the refusal behind the number of its line.
 ghost use Rattle.std.specs.Prelude.{◌≡◌, ◌++◌, IfOk, OnOk, string_bytes};
 ghost use Rattle.mr_sim.specs.Printed.{fault_text, name_fault_text, reply_text, said};
 

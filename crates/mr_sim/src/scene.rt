@@ -1,4 +1,5 @@
 //! What a script's commands act on.
+//! Of scripts of committer calls: a namespace and the one who calls it, and what each command does there.
 ghost use Rattle.std.specs.Prelude.{◌≡◌, ◌++◌, ◌∷◌, [], ℕ, List, IfOk};
 ghost use Rattle.mr_sim.specs.Effect.{InTurn, Obeys, done, part_file, puts, silent, start, told, writes};
 

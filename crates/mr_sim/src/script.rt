@@ -1,4 +1,5 @@
 //! Scripts of committer calls.
+//! Their language, for the reader of scripts in `mr_script`.
 ghost use Rattle.std.specs.Prelude.{◌≡◌, IfSome, IfNone, IfOk, IfErr};
 ghost use Rattle.mr_script.specs.Lines.{lines_of, IsNoLine};
 ghost use Rattle.mr_script.specs.ScriptFault.{IsScriptFault};

@@ -1,4 +1,5 @@
 //! The signs of a picture, and what they mean.
+//! `picture` puts one at each event, and their key at the top.
 use crate::drawing::Sign;
 use crate::svg::{Point, line, shape, text};
 use std::alloc::AllocError;

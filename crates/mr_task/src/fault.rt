@@ -1,3 +1,4 @@
+//! Why the machine of a task refuses a call.
 ghost use Rattle.std.specs.Prelude.{◌≡◌};
 ghost use Rattle.mr_task.specs.declared.fault.TaskFault.TheVariants.{NoMemory};
 

@@ -1,3 +1,5 @@
+//! What comes of an attempt's report that it is done.
+
 /// What `Done` of an attempt came to.
 #[derive(Clone, Copy, Debug, PartialEq, Eq)]
 pub enum DoneReply {

@@ -1,3 +1,5 @@
+-- What a job computes, and which output a cluster is measured against. Read Computation, Laws, Groups, Sequential and Meaning in this order, then Codecs, and Words
+-- with the three jobs WordCount, MaxByKey and LineIndex.
 pub mod Codecs
 pub mod Computation
 pub mod Faults

@@ -1,3 +1,4 @@
+//! The sequential execution of a job, against which a cluster's output is measured. And for map and reduce works the share of each reduce and the lines of a key.
 ghost use Rattle.std.specs.Prelude.{◌≡◌, ◌≤◌, ◌<◌, ◌++◌, ℕ, List, length, map, Some, None, IfOk, IfErr, OnOk, All, slice_get};
 ghost use Rattle.std.specs.Option.{option_map};
 ghost use Rattle.mr_user.specs.Computation.{computation};

@@ -1,3 +1,4 @@
+//! Why a function of a job, or a reading of bytes, gives no answer, and why a gate lets no work pass.
 ghost use Rattle.std.specs.Prelude.{◌≡◌};
 ghost use Rattle.mr_user.specs.declared.fault.UserFault.TheVariants.{NoMemory};
 

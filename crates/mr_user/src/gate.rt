@@ -1,3 +1,4 @@
+//! What a map work or a reduce work has to pass before it begins: for callers who hold works back or refuse them. `OpenGate` is for all others.
 ghost use Rattle.std.specs.Prelude.{◌≡◌, Ok, IfErr, ⊤};
 ghost use Rattle.mr_ids.specs.declared.id.TaskKind.{TaskKind};
 

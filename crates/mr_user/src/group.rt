@@ -1,3 +1,4 @@
+//! Pairs put in order by their keys, and all values of one key gathered behind it.
 ghost use Rattle.std.specs.Prelude.{◌≡◌, map, fold, [], IfOk, OnOk};
 ghost use Rattle.std.specs.List.Sorted.{IsPermutation, IsSortedByKey, IsStableByKey};
 ghost use Rattle.std.specs.FinMap.{IsAntisymmetric};

@@ -1,3 +1,4 @@
+//! What a job is: its map, partition, combine and reduce functions, and the laws that they keep. For whoever writes a job of their own.
 ghost use Rattle.std.specs.Prelude.{◌≡◌, ◌≢◌, ◌<◌, ◌≤◌, ◌^◌, [], length, map, Some, None, IfOk, IfErr};
 ghost use Rattle.mr_user.specs.Computation.{Functions, computation};
 ghost use Rattle.mr_user.specs.Laws.{JobLaws};

@@ -1,3 +1,4 @@
+//! A job: the index of lines, with all positions at which each word stands.
 ghost use Rattle.std.specs.Prelude.{◌≡◌, ◌≤◌, ◌^◌, ◌++◌, length, map, IfOk, OnOk};
 ghost use Rattle.std.specs.List.{join_with_byte};
 ghost use Rattle.mr_user.specs.Words.{words_of};

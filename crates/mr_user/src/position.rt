@@ -1,3 +1,4 @@
+//! Where a line stands, and how that is written as bytes: the values of the index of lines.
 ghost use Rattle.std.specs.Prelude.{◌≡◌, ◌++◌, ◌≤◌, ◌<◌, length, Some, None, IfOk, IfErr, OnOk, IsTrue};
 ghost use Rattle.mr_user.specs.Codecs.{position_codec};
 ghost use Rattle.mr_user.specs.inner.CodecProofs.{position_laws};

@@ -1,3 +1,4 @@
+//! Texts, how they are ordered, and how they are written as bytes: the keys of the three jobs.
 ghost use Rattle.std.specs.Prelude.{◌≡◌, ◌<◌, ◌^◌, length, IfOk, List, ℕ, nat_eq, Some, refl, slice_index};
 ghost use Rattle.std.specs.Int.{w64, from_be_bytes};
 ghost use Rattle.std.specs.Cmp.{partial_equiv_from_equiv};

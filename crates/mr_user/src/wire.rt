@@ -1,3 +1,4 @@
+//! How keys and values are written as bytes between maps and reduces, and read again: the trait, and numbers as the first that have it.
 ghost use Rattle.std.specs.Prelude.{◌≡◌, ◌++◌, ◌≤◌, ◌<◌, length, Some, None, IfOk, IfErr, OnOk, OnErr, IsTrue};
 ghost use Rattle.mr_user.specs.Computation.{Codec};
 ghost use Rattle.mr_user.specs.Laws.{CodecLaws};

@@ -1,3 +1,4 @@
+//! A job: how often each word stands.
 ghost use Rattle.std.specs.Prelude.{◌≡◌, ◌≤◌, ◌^◌, length, map, IfOk};
 ghost use Rattle.mr_user.specs.Words.{words_of};
 ghost use Rattle.mr_user.specs.WordCount.{word_count, held_sum};

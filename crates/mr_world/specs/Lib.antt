@@ -1,3 +1,5 @@
+-- What a world's contracts say. Read Ranges, Limits, Journal, Applying and Headline for what its calls promise, and Readings, VisibleFiles and Asks for what is read;
+-- Living, Machines and Standing say how its parts stand for the world of mr_model.
 pub mod Ranges
 pub mod Living
 pub mod Limits

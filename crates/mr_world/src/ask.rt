@@ -1,3 +1,4 @@
+//! A master's store call is made, with what it leaves of both stores. What the master hears of it is foretold in `foretell`.
 ghost use Rattle.std.specs.Prelude.{◌≡◌, ◌≤◌, OnOk, OnErr};
 ghost use Rattle.mr_names.specs.Calls.{call_of};
 ghost use Rattle.mr_history.specs.Calls as segments;

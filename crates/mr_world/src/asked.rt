@@ -1,4 +1,5 @@
 //! Store calls that are looked at before they are made.
+//! For `World::asks`: the call that an event would make, by whom, and what its caller would hear.
 ghost use Rattle.std.specs.Prelude.{◌≡◌, IfOk};
 ghost use Rattle.mr_model.specs.Stored.{heard_in};
 ghost use Rattle.mr_model.specs.World.{ContainerStep, Duty};

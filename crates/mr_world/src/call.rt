@@ -1,3 +1,4 @@
+//! The store call of a container's step: whether it can be made now, and what the container hears of it.
 ghost use Rattle.std.specs.Prelude.{◌≡◌, ◌&&◌, OnOk, OnErr, IfOk, is_some, true};
 ghost use Rattle.mr_names.specs.Calls.{refused};
 ghost use Rattle.mr_model.specs.Effect.{is_calm};

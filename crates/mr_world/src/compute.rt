@@ -1,3 +1,4 @@
+//! The event by which a container's bytes are handed in: a map's lie on its node's shelf from then on, a reduce's are kept, to be written.
 ghost use Rattle.std.specs.Prelude.{◌≡◌, IfOk, OnOk, None, ℕ};
 ghost use Rattle.mr_ids.specs.declared.id.TaskKind.TheVariants.{Map, Reduce};
 ghost use Rattle.mr_model.specs.World.{Compute};

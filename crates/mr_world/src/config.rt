@@ -1,3 +1,4 @@
+//! What a world is made for: the job with its splits and reduces, the nodes, the limit of failures, and from which generation on the history has version 2.
 ghost use Rattle.std.specs.Prelude.{◌≡◌, length, option_map, slice_get};
 ghost use Rattle.mr_world.specs.Ranges.{IsInRange};
 

@@ -1,3 +1,4 @@
+//! The event by which a master crashes: so many bytes that it had not flushed stay, and its segment is sealed.
 ghost use Rattle.mr_model.specs.World.{Crash};
 ghost use Rattle.mr_world.specs.Machines.{master_of};
 ghost use Rattle.mr_world.specs.Standing.{Foresees, Tries};

@@ -1,3 +1,4 @@
+//! The event by which a container ends before it is done, and the packet that tells its master of an end.
 ghost use Rattle.std.specs.Prelude.{◌≡◌, ◌<◌, length, OnOk};
 ghost use Rattle.mr_packet.specs.Sends.{ended};
 ghost use Rattle.mr_model.specs.World.{Die};

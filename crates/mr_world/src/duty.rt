@@ -1,3 +1,4 @@
+//! The event by which a master makes the store call that is due, hears the answer, and sends what follows.
 ghost use Rattle.std.specs.Prelude.{◌≡◌, ◌≤◌, IfOk, OnOk, true, is_some};
 ghost use Rattle.mr_model.specs.World.{Duty};
 ghost use Rattle.mr_world.specs.inner.Asking.{ForeseesDuty, SendsThen};

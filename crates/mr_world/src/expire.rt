@@ -1,3 +1,4 @@
+//! The event by which a master gives a node up, with the Kills that it sends.
 ghost use Rattle.std.specs.Prelude.{◌≡◌, ◌≤◌, ◌+◌, length, is_some, true, Some, IfOk, OnOk};
 ghost use Rattle.mr_master.specs.State.{Master, Answers};
 ghost use Rattle.mr_master_model.specs.Next.{sent};

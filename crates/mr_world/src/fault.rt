@@ -1,3 +1,4 @@
+//! Why a world does not take an event.
 ghost use Rattle.std.specs.Prelude.{◌≡◌};
 ghost use Rattle.mr_world.specs.declared.fault.WorldFault.TheVariants.{NoMemory};
 

@@ -1,3 +1,4 @@
+//! What a master will hear of its store call, found out before the call is made, so that the master can be made ready for it.
 ghost use Rattle.std.specs.Prelude.{◌≡◌, ◌≤◌, ◌<◌, ◌^◌, ◌&&◌, true, false, not, None, IfOk, IfErr, OnOk};
 ghost use Rattle.mr_names.specs.Calls.{call_of, refused, answer};
 ghost use Rattle.mr_history.specs.Calls as segments;

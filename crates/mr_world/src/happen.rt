@@ -1,3 +1,4 @@
+//! Any event, handed on to the file of its kind: whether it can happen now, and that it happens. And whether the journal has room for it.
 ghost use Rattle.std.specs.Prelude.{◌≡◌, ◌<◌, IfErr, IfOk, OnOk, length, vec_capacity, vec_len};
 ghost use Rattle.mr_model.specs.World.{World, Compute};
 ghost use Rattle.mr_world.specs.Applying.{Counts, ForetellsAt, RefusesAt};

@@ -1,3 +1,4 @@
+//! A packet is delivered to a container, which may come to its end by it.
 ghost use Rattle.std.specs.Prelude.{◌≡◌, ◌≤◌, ◌+◌, length, slice_get, is_some, true, Some, IfOk, OnOk, OnErr};
 ghost use Rattle.mr_packet.specs.declared.packet.Address.TheVariants.{Container};
 ghost use Rattle.mr_packet.specs.declared.packet.Envelope.{Envelope};

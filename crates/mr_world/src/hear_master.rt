@@ -1,3 +1,4 @@
+//! A packet is delivered to a master, with the packets that it sends for it.
 ghost use Rattle.std.specs.Prelude.{◌≡◌, ◌≤◌, ◌+◌, length, slice_get, is_some, true, Some, IfOk, OnOk, OnErr};
 ghost use Rattle.mr_packet.specs.declared.packet.Address.TheVariants.{Master};
 ghost use Rattle.mr_packet.specs.declared.packet.Envelope.{Envelope};

@@ -1,3 +1,4 @@
+//! A packet is delivered to a node: a launch may begin a container, a `Kill` ends one, and the node may answer.
 ghost use Rattle.std.specs.Prelude.{◌≡◌, ◌≤◌, ◌+◌, length, slice_get, Some, IfOk, OnOk, OnErr};
 ghost use Rattle.std.specs.Option.{option_map};
 ghost use Rattle.mr_packet.specs.declared.packet.Address.TheVariants.{Node};

@@ -1,4 +1,5 @@
 //! What is read of a container that lives.
+//! Its wish, and what it is to compute from: for programs that run a world.
 ghost use Rattle.std.specs.Prelude.{◌≡◌};
 ghost use Rattle.std.specs.Option.{option_map};
 ghost use Rattle.mr_model.specs.World.{World};

@@ -1,3 +1,4 @@
+//! The event by which a master launches an attempt on a node, and a master's refusals as reasons of the world.
 ghost use Rattle.std.specs.Prelude.{◌≡◌, ◌<◌, length, is_some, true, OnOk};
 ghost use Rattle.mr_model.specs.World.{LaunchOn};
 ghost use Rattle.mr_world.specs.Machines.{master_of};

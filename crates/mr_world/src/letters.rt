@@ -1,3 +1,4 @@
+//! The packets of a container's step: none, one, or its last one, behind which its master is told of its end.
 ghost use Rattle.std.specs.Prelude.{◌≡◌};
 ghost use Rattle.mr_world.specs.inner.Letters.{count_of};
 

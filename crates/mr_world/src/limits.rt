@@ -1,3 +1,5 @@
+//! Three limits of a world: how many events and containers, and how many bytes of a map's output.
+
 /// Most events of a journal.
 pub const MAX_EVENTS: usize = 1_000_000;
 

@@ -1,3 +1,4 @@
+//! The machines of the containers that are alive, in order of the containers, and what each of them hears, sends or computes.
 ghost use Rattle.std.specs.Prelude.{◌≡◌, None, Some, is_some, IfOk, IfSome, OnOk, OnErr, List, ℕ, filter, slice_get};
 ghost use Rattle.std.specs.List.Sorted.{IsStrictlySortedBy};
 ghost use Rattle.std.specs.Option.{option_copied};

@@ -1,4 +1,5 @@
 //! Who lives.
+//! All containers that are alive, or the next one after another: for programs that run a world.
 ghost use Rattle.std.specs.Prelude.{◌≡◌, IfOk, IfErr};
 ghost use Rattle.mr_model.specs.World.{World};
 ghost use Rattle.mr_world.specs.declared.fault.WorldFault.TheVariants.{NoMemory};

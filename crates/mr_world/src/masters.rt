@@ -1,3 +1,4 @@
+//! The machines of the masters that are alive, by generation.
 ghost use Rattle.std.specs.Prelude.{◌≡◌, ◌≤◌, ℕ, None, is_some, OnOk, OnErr};
 ghost use Rattle.std.specs.Option.{option_copied};
 ghost use Rattle.mr_world.specs.Machines.{master_of, master_count};

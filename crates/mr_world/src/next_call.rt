@@ -1,3 +1,4 @@
+//! The store call that a living master makes next, and what it is for; the reason, where there is none.
 ghost use Rattle.std.specs.Prelude.{◌≡◌, true, is_some, IfOk, IfErr};
 ghost use Rattle.mr_model.specs.World.{Weather};
 ghost use Rattle.mr_world.specs.inner.Asking.{RefusesDuty};

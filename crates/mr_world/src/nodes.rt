@@ -1,3 +1,4 @@
+//! The machines of all nodes, by number.
 ghost use Rattle.std.specs.Prelude.{◌≡◌, ℕ, None, Some, is_some, IfOk, IfSome, OnOk, OnErr, ◌<◌, ◌-◌, ◌^◌, nat_lt, if◌then◌else◌};
 ghost use Rattle.std.specs.Option.{option_copied};
 ghost use Rattle.mr_node.specs.Readings.{opening, reaction};

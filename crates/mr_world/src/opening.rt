@@ -1,3 +1,4 @@
+//! What stands before the first event: the staging folder, an empty history, nodes in their first incarnation, and no master.
 ghost use Rattle.std.specs.Prelude.{◌≡◌, replicate, IfOk};
 ghost use Rattle.mr_history.specs.Segment.{fresh};
 ghost use Rattle.mr_names.specs.Calls as names;

@@ -1,3 +1,5 @@
+//! All that a world stores: both stores, the bag, and the machines of masters, containers and nodes. Most other files give it the calls of one kind of
+//! event, or of what is read.
 ghost use Rattle.std.specs.Prelude.{◌≡◌, ◌<◌, ◌≤◌, ◌+◌, length, OnOk, IfErr};
 ghost use Rattle.mr_world.specs.declared.fault.WorldFault.TheVariants.{Full};
 

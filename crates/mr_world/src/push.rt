@@ -1,3 +1,4 @@
+//! Packets are sent: put into the bag, where `room` was made for them.
 ghost use Rattle.std.specs.Prelude.{◌≡◌, ◌≤◌, ◌+◌, ◌++◌, length};
 
 use mr_packet::{Bag, Envelope, MAX_PACKETS};

@@ -1,4 +1,5 @@
 //! What is read of masters, of their history and of the bag.
+//! For programs that run or show a world.
 ghost use Rattle.std.specs.Prelude.{◌≡◌, ◌≤◌, ◌<◌, IfOk, IfErr, [], slice_get};
 ghost use Rattle.std.specs.Option.{option_map};
 ghost use Rattle.mr_history.specs.Reading.{records_of};

@@ -1,3 +1,4 @@
+//! A master and the bag are made ready for the answer of a store call; then, once the call is made, the master hears the answer, and nothing can be refused any more.
 ghost use Rattle.std.specs.Prelude.{◌≡◌, true, is_some, IfOk, OnErr};
 ghost use Rattle.mr_master_model.specs.declared.store.StoreAnswer.{StoreAnswer};
 ghost use Rattle.mr_world.specs.inner.Duties.{IsKept, IsMadeReady, IsReadyAt, HasHeard, MakesReady, IsSet, HasTold};

@@ -1,3 +1,4 @@
+//! The event by which a node restarts: its containers end, its shelf is empty, and the living masters are told of its next incarnation.
 ghost use Rattle.std.specs.Prelude.{◌≡◌, ◌<◌, ◌≤◌, ◌+◌, ◌-◌, ◌^◌, length, is_some, IfOk, IfSome, if◌then◌else◌, Some, None};
 ghost use Rattle.mr_packet.specs.declared.packet.Packet.TheVariants.{NodeUp};
 ghost use Rattle.mr_model.specs.Sending.{sent, to_app, to_masters};

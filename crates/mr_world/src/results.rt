@@ -1,4 +1,5 @@
 //! What comes of a world for those outside.
+//! The outcome of the job, the success marker, and the files that a reader of the destination sees.
 ghost use Rattle.std.specs.Prelude.{◌≡◌, IfOk, IfErr, OnOk, None, map};
 ghost use Rattle.std.specs.List.{flat_map};
 ghost use Rattle.std.specs.Option.{option_map, option_to_list};

@@ -1,3 +1,4 @@
+//! Room in the bag, made before anything changes: so that packets are sent later without memory.
 ghost use Rattle.std.specs.Prelude.{◌≡◌, ◌≤◌, OnOk, length};
 
 use mr_packet::{Bag, MAX_PACKETS};

@@ -1,3 +1,4 @@
+//! A container's step that is no store call: the packet that it sends, and its end where that was its last.
 ghost use Rattle.std.specs.Prelude.{◌≡◌, ◌≤◌, ◌+◌, length, IfOk, OnOk};
 ghost use Rattle.mr_model.specs.World.{ContainerStep};
 ghost use Rattle.mr_world.specs.inner.Letters.{IsAlone, letters_of, count_of};

@@ -1,3 +1,4 @@
+//! The splits of the job that a world runs, in order.
 ghost use Rattle.std.specs.Prelude.{◌≡◌, length, map, option_map, slice_get};
 
 use std::marker::Model;

@@ -1,3 +1,4 @@
+//! The event by which a master starts as the next generation, and both stores are fenced against older ones.
 ghost use Rattle.std.specs.Prelude.{◌≡◌, IfOk};
 ghost use Rattle.mr_model.specs.World.{Start};
 ghost use Rattle.mr_model.specs.Effect.{version_of};

@@ -1,3 +1,4 @@
+//! The event by which a container takes its next step: the store call of `call`, or what `send` sends.
 ghost use Rattle.std.specs.Prelude.{◌≡◌};
 ghost use Rattle.mr_model.specs.World.{ContainerStep};
 ghost use Rattle.mr_world.specs.Standing.{Foresees, Tries};

@@ -1,3 +1,4 @@
+//! The world as programs see it: events are applied to it, its journal keeps them, and all that it tells is read here.
 ghost use Rattle.std.specs.Prelude.{◌≡◌, ◌≤◌, ◌<◌, [], IfOk, IfErr, map, slice_get};
 ghost use Rattle.std.specs.List.{range_with_len};
 ghost use Rattle.std.specs.Option.{option_map};

@@ -1,3 +1,5 @@
+//! The output committer: merges, commits, aborts and recoveries, whole or by steps, and what is refused.
+
 use mr_commit::{
     AbortJob, AbortTask, CommitFault, CommitJob, CommitTask, RecoverTask, SetupJob, StepDone,
     check_output, commit_job, commit_task, needs_task_commit, setup_job,

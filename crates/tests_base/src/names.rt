@@ -1,3 +1,5 @@
+//! The namespace: each call by name and as a value, what is refused, and the rename of a large directory.
+
 use mr_ids::AppAttempt;
 use mr_names::{Answer, Bytes, Caller, Entries, Kind, MAX_ENTRIES, NameFault, Namespace, Op};
 use mr_paths::{Path, PathFault};

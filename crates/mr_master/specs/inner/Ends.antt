@@ -1,4 +1,5 @@
 -- The end of an attempt, as it says itself or as its container's end tells.
+-- Whether it is a failure, whether it fails the job, and which Kills are sent then.
 use Rattle.std.specs.Prelude.{◌≡◌, ◌+◌, ℕ, Bool, true, ◌&&◌, not, nat_le, List, [], flat_map, filter, if◌then◌else◌}
 use Rattle.mr_ids.specs.Attempt.{Attempt}
 use Rattle.mr_ids.specs.declared.id.TaskId.{TaskId}

@@ -1,4 +1,5 @@
 -- What comes of an answer: of a look at a path, and of a committer's call.
+-- By this the work of a master goes on, or the master stops.
 use Rattle.std.specs.Prelude.{Bool, true, false, Result, Ok, Err}
 use Rattle.mr_commit.specs.declared.fault.CommitFault.{CommitFault}
 use Rattle.mr_commit.specs.declared.fault.StepDone.{StepDone}

@@ -1,4 +1,5 @@
 -- What is stored of what a master is at.
+-- `work_of` gives the work of mr_master_model for what `src/work.rt` stores.
 use Rattle.std.specs.Prelude.{Bool, true, false}
 use Rattle.mr_commit.specs.Recovery.{Recovery}
 use Rattle.mr_commit.specs.Recovery.Recovery.{Nowhere, Left}

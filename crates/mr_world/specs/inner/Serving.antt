@@ -1,4 +1,5 @@
 -- What a packet to a node makes of the living.
+-- A launch that the node obeys begins a container, and a Kill ends one.
 use Rattle.std.specs.Prelude.{◌≡◌, ℕ, true, Option, Some, None, if◌then◌else◌}
 use Rattle.mr_packet.specs.declared.packet.Envelope.{Envelope}
 use Rattle.mr_packet.specs.declared.packet.Packet.{Packet}
