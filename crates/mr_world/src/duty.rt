@@ -1,7 +1,7 @@
 //! The event by which a master makes the store call that is due, hears the answer, and sends what follows.
 ghost use Rattle.std.specs.Prelude.{◌≡◌, ◌≤◌, IfOk, OnOk, true, is_some};
 ghost use Rattle.mr_model.specs.World.{Duty};
-ghost use Rattle.mr_world.specs.inner.Asking.{ForeseesDuty, SendsThen};
+ghost use Rattle.mr_world.specs.inner.Asking.{ForeseesDuty, SendsThen, Counts};
 ghost use Rattle.mr_world.specs.Machines.{master_of};
 ghost use Rattle.mr_world.specs.Standing.{Foresees, Tries};
 
@@ -10,7 +10,7 @@ use crate::masters::Masters;
 use crate::parts::Parts;
 use mr_event::Weather;
 use mr_ids::AppAttempt;
-use mr_master::Duty as StoreDuty;
+use mr_master::{Duty as StoreDuty, MasterMachine};
 use mr_master_model::StoreAnswer;
 use std::alloc::AllocError;
 
@@ -32,9 +32,18 @@ impl Masters {
             return Err(AllocError);
         };
         let mut machine = machine.copy()?;
-        let ready = machine.ready(answer)?;
-        Ok(ready.packets().len())
+        let count = count_of(&mut machine, answer);
+        drop(machine);
+        count
     }
+}
+
+// How many packets a master sends once it hears this answer.
+fn count_of(machine: &mut MasterMachine, answer: StoreAnswer) -> Result<usize, AllocError>
+    ensures { IfOk result (λ count. Counts machine.old answer count) }
+{
+    let ready = machine.ready(answer)?;
+    Ok(ready.packets().len())
 }
 
 impl Parts {

@@ -1,5 +1,5 @@
 //! The machines of the masters that are alive, by generation.
-ghost use Rattle.std.specs.Prelude.{◌≡◌, ◌≤◌, ℕ, None, is_some, OnOk, OnErr};
+ghost use Rattle.std.specs.Prelude.{◌≡◌, ◌≤◌, ◌<◌, ℕ, None, Some, is_some, length, slice_set, OnOk, OnErr};
 ghost use Rattle.std.specs.Option.{option_copied};
 ghost use Rattle.mr_world.specs.Machines.{master_of, master_count};
 ghost use Rattle.mr_world.specs.inner.Masters.{SameMasters, Begins, Ceases, Returns};
@@ -80,8 +80,14 @@ impl Masters {
         requires started { (1 ≤ k) × (k ≤ master_count self.old) }
         ensures { Returns self.old k machine self.new }
     {
-        if let Some(slot) = self.machines.get_mut(k as usize - 1) {
-            *slot = Some(machine);
-        }
+        put_at(&mut self.machines, k as usize - 1, machine);
     }
+}
+
+// The machine is at its place. (Apart, and with no branch: each way out on which a machine is dropped costs a check a minute.)
+fn put_at(machines: &mut Vec<Option<MasterMachine>>, place: usize, machine: MasterMachine)
+    requires { place < length machines.old.items }
+    ensures { machines.new.items ≡ slice_set machines.old.items place (Some machine) }
+{
+    machines[place] = Some(machine);
 }

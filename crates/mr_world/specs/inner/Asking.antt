@@ -104,6 +104,10 @@ abbrev pub ForeseesDuty : Parts → ℕ → Weather → Result Due WorldFault �
 ForeseesDuty p k f (Ok due) = (due.app ≡ k) × IsForeseen p k f due.duty.call due.answer
 ForeseesDuty p k f (Err fault) = RefusesDuty p k f fault
 
+-- the machine of a master sends so many packets once it hears this answer
+abbrev pub Counts : Master → StoreAnswer → ℕ → Type 0
+Counts m a n = Answers m (λ w past. length (next.sent w past (Answered a))) n
+
 -- its machine sends so many packets once it hears this answer
 abbrev pub SendsThen : Masters → ℕ → StoreAnswer → ℕ → Type 0
-SendsThen masters k a n = (m : Master) → master_of masters k ≡ Some m → Answers m (λ w past. length (next.sent w past (Answered a))) n
+SendsThen masters k a n = (m : Master) → master_of masters k ≡ Some m → Counts m a n
