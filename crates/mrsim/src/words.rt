@@ -109,8 +109,10 @@ Reads a job text from standard input, one JSON object with these keys:
   nodes     how many nodes there are, 1 to 64 (1 where there is no such key)
   limit     how many failed attempts of a task fail the job, 1 to 100 (4 where there is no such key)
   faults    a list of at most 100 faults (none where there is no such key): {\"after\":E,\"node\":N} restarts node N
-            after E events, {\"after\":E,\"master\":B} crashes the master and keeps B bytes of its unflushed history
-All keys are tested in this order, and the first bad one is told; `seq` uses the first four.
+            after E events, {\"after\":E,\"master\":B} crashes the master and keeps B bytes of its unflushed history,
+            {\"after\":E,\"expire\":N} has the newest master give node N up
+  v2from    from which generation of the master on history is of version 2, 1 to 1000 (1 where there is no such key)
+All keys are tested in this order, and the first bad one is told; `seq` uses the first four, `play` all but `faults`.
 Writes for each reduce a line with the name and the length of its part file, and then the file.
 
 Example:
