@@ -88,7 +88,8 @@ impl MasterMachine {
     /// so, which is to be sent.
     ///
     /// Refusals in order: `NotRunning`, `NoTask` where the task is not the job's, `NoNode`, `Task` with the task's own refusal (it is won,
-    /// has two live attempts, or no numbers are left), and `Task(NoMemory)` where memory is refused. A refusal changes nothing.
+    /// has two live attempts, or no numbers are left), and `Task(NoMemory)` where memory is refused, or it launched 2^32 containers. A
+    /// refusal changes nothing.
     pub fn launch(&mut self, task: TaskId, node: u32) -> Result<Envelope, LaunchFault>
         ensures sent { IfOk result (λ packet. Answers self.old (λ w past. sent w past (Launches task node)) (packet ∷ [])) }
         ensures stands { OnOk result (Stands self.old (Launches task node) self.new) }
