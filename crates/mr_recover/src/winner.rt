@@ -1,3 +1,4 @@
+//! The winners of the reduces that records tell of, by rising task: each record of a success is put into its place.
 ghost use Rattle.std.specs.Prelude.{◌≡◌, true, length, OnOk, IfOk, IfErr};
 ghost use Rattle.mr_recover.specs.Plan.{AreWinners, IsRising};
 ghost use Rattle.mr_recover.specs.inner.Placing.{task_cmp, is_there, IsGapFor, put, put_record};
