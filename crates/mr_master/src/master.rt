@@ -20,11 +20,20 @@ use std::alloc::{AllocError, Global};
 use std::marker::Model;
 
 /// The master of one generation.
-#[derive(Drop)]
 pub struct MasterMachine {
     machine: Machine,
     // so many of the first bars are past
     passed: usize,
+}
+
+// By hand, so that a master is dropped by this call: a derived drop is taken apart by the check at each place where one is dropped.
+impl Drop for MasterMachine {
+    fn drop(self) {
+        let MasterMachine {
+            machine: _,
+            passed: _,
+        } = self;
+    }
 }
 
 impl Model for MasterMachine {

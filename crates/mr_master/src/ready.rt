@@ -22,10 +22,19 @@ use std::marker::Model;
 
 /// The packets that a master will send once it hears the answer of its store call, and what will change then. As long as it has not
 /// heard it, nothing has changed.
-#[derive(Drop)]
 pub struct Ready {
     packets: Vec<Envelope>,
     change: Change,
+}
+
+// By hand, as a master's.
+impl Drop for Ready {
+    fn drop(self) {
+        let Ready {
+            packets: _,
+            change: _,
+        } = self;
+    }
 }
 
 impl Model for Ready {
@@ -53,6 +62,15 @@ impl Ready {
         }
     }
 
+    // The packets, and what changes.
+    fn into_parts(self) -> (Vec<Envelope>, Change)
+        ensures packets { result.0.items ≡ self.packets }
+        ensures change { result.1 ≡ self.change }
+    {
+        let Ready { packets, change } = self;
+        (packets, change)
+    }
+
     /// The packets that will be sent, in order.
     pub fn packets(&self) -> &[Envelope]
         ensures { result.now ≡ self.now.packets }
@@ -68,7 +86,7 @@ impl Machine {
         ensures packets { result.items ≡ ready.packets }
         ensures moves { Moves self.old (λ w s. with_kills ready.packets (changed_by w s ready.change)) self.new }
     {
-        let Ready { packets, change } = ready;
+        let (packets, change) = ready.into_parts();
         self.make(change);
         self.note(&packets);
         packets

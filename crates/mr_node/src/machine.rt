@@ -28,13 +28,25 @@ pub const MAX_PIECE_LEN: usize = 65_536;
 ///
 /// That a node launches, kills and serves map outputs to reduces is Hadoop's node manager with its shuffle handler, and Dean and Ghemawat 2004,
 /// section 3.3, in that a lost node's map outputs are lost; incarnations and what is remembered over restarts are own profile.
-#[derive(Drop)]
 pub struct NodeMachine {
     alloc: Global,
     number: u32,
     incarnation: u32,
     known: Known,
     shelf: ShelfOfNode,
+}
+
+// By hand, so that a node is dropped by this call: a derived drop is taken apart by the check at each place where one is dropped.
+impl Drop for NodeMachine {
+    fn drop(self) {
+        let NodeMachine {
+            alloc: _,
+            number: _,
+            incarnation: _,
+            known: _,
+            shelf: _,
+        } = self;
+    }
 }
 
 impl Model for NodeMachine {

@@ -34,10 +34,19 @@ use std::marker::Model;
 
 /// A cluster that is run, event by event. Contracts see its config and its journal, the events that were taken, in order: the world is at each
 /// point the run of its journal.
-#[derive(Drop)]
 pub struct World {
     parts: Parts,
     journal: Vec<Event>,
+}
+
+// By hand, so that a world is dropped by this call: a derived drop is taken apart by the check at each place where one is dropped.
+impl Drop for World {
+    fn drop(self) {
+        let World {
+            parts: _,
+            journal: _,
+        } = self;
+    }
 }
 
 impl Model for World {
