@@ -84,7 +84,7 @@ impl Masters {
     }
 }
 
-// The machine is at its place. (Apart, and with no branch: each way out on which a machine is dropped costs a check a minute.)
+// The machine is at its place. (Apart, and with no branch: the machine that was there is dropped on one way alone.)
 fn put_at(machines: &mut Vec<Option<MasterMachine>>, place: usize, machine: MasterMachine)
     requires { place < length machines.old.items }
     ensures { machines.new.items ≡ slice_set machines.old.items place (Some machine) }
