@@ -6,7 +6,7 @@ use Rattle.mr_user.specs.Computation.{Computation}
 use Rattle.mr_user.specs.Groups.{groups_of}
 use Rattle.mr_mapside.specs.declared.fault.ShuffleFault.{ShuffleFault}
 use Rattle.mr_mapside.specs.declared.fault.ShuffleFault.TheVariants.{NoMemory}
-use Rattle.mr_shuffle.specs.Part.{pairs_of_piece, pairs_of_all}
+use Rattle.mr_shuffle.specs.Part.{pairs_of_all}
 
 -- what a merge gives, one after the other: a key with its values, or a fault
 abbrev pub Item : Type 0 → Type 0 → Type 0
@@ -17,16 +17,12 @@ abbrev pub items_of : {K V : Type 0} → List (K × List V) → Option ShuffleFa
 items_of groups fault = map Ok groups ++ map Err (option_to_list fault)
 
 module _ {K V : Type 0} (job : Computation K V) where
-  -- one of the pieces has the fault
-  abbrev pub HasFault : List (List ℕ) → ShuffleFault → Type 0
-  HasFault [] fault = ⊥
-  HasFault (piece ∷ pieces) fault = (pairs_of_piece job piece ≡ Err fault) ⊎ HasFault pieces fault
-
   -- The items of the merge of pieces: the keys in any piece, rising, each with its values by piece and then by place, where
-  -- all pieces can be read and are in order; else, after some groups or none, a fault that one of the pieces has, and nothing more.
+  -- all pieces can be read and are in order; else the first fault in the order of the pieces and then of the bytes, alone:
+  -- no group comes before it.
   pub record IsMergeOf (pieces : List (List ℕ)) (items : List (Item K V)) : Type 0 where
     pub whole : (ps : List (K × V)) → pairs_of_all job pieces ≡ Ok ps → items ≡ items_of (groups_of job.cmp ps) None
-    pub broken : (first : ShuffleFault) → pairs_of_all job pieces ≡ Err first → (groups : List (K × List V)) × (fault : ShuffleFault) × (items ≡ items_of groups (Some fault)) × HasFault pieces fault
+    pub broken : (first : ShuffleFault) → pairs_of_all job pieces ≡ Err first → items ≡ items_of [] (Some first)
 
 -- What a call answers, where the items of the first list were to come and those of the second are left: the first of
 -- them; or want of memory, after which nothing comes; or nothing, where nothing was to come.

@@ -41,11 +41,10 @@
 //!   followed by a rest, not empty, that does not begin with a pair that fits; `Disorder` exactly where they are
 //!   followed by a pair whose key is less than the last, and any rest.
 //! - `Merge`, an iterator: where all pieces can be read and are in order its items are exactly the groups of all
-//!   pairs, and then nothing; else, after some groups or none, one fault that one of the pieces has, and then
-//!   nothing. Each `next` gives the first of what is to come, or `NoMemory` (only where something is to come),
-//!   after which nothing comes. `new` reads the pieces through once, so no group comes before a fault. Read in the
-//!   code, not proved: it holds one decoded pair of each piece, beside the values of the group that it gives, and so
-//!   does `reduce_work`.
+//!   pairs, and then nothing; else the first fault in the order of the pieces and then of the bytes, once, with no
+//!   group before it, and then nothing (`new` reads the pieces through). Each `next` gives the first of what is to
+//!   come, or `NoMemory` (only where something is to come), after which nothing comes. Read in the code, not proved:
+//!   it holds one decoded pair of each piece, beside the values of the group that it gives, and so does `reduce_work`.
 //! - `ShelfOfNode`: a finite map from attempts to bytes. `put` is an insert, and where memory is refused nothing
 //!   has changed; `drop_all` empties it; `get(a, r)` lends the block at place r of what was put of a, and is none
 //!   where nothing was put, where it is not that many blocks, or where there is no such reduce. `put` finds the

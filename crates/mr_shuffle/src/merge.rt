@@ -13,8 +13,8 @@ use std::alloc::{AllocError, Global};
 use std::marker::Model;
 
 /// The groups of pieces: the keys in any piece, rising, each with all its values by piece and then by place. Where a
-/// piece can't be read or is not in order, a fault comes after some groups or none, and nothing after it. It holds one
-/// pair of each piece at a time, beside the values of the group that it gives.
+/// piece can't be read or is not in order, the first fault comes alone: no group before it, and nothing after it. It
+/// holds one pair of each piece at a time, beside the values of the group that it gives.
 /// Contracts see the items that are still to come.
 #[derive(Drop)]
 pub struct Merge<'a, J: Job> {

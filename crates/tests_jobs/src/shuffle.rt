@@ -196,8 +196,10 @@ fn merge_gives_groups(rt: HostRuntime) {
     assert!(rt; same(&seen, b"...."));
     let seen = merged(&rt, alloc, &pieces(&rt, alloc, 0, 0, &[SHORT]));
     assert!(rt; same(&seen, b"Truncated|..."));
-    let seen = merged(&rt, alloc, &pieces(&rt, alloc, 0, 0, &[FALLING]));
-    assert!(rt; seen.ends_with(b"."));
+    for bad in [[FALLING].as_slice(), [BLOCK, FALLING].as_slice()] {
+        let seen = merged(&rt, alloc, &pieces(&rt, alloc, 0, 0, bad));
+        assert!(rt; same(&seen, b"Disorder|..."));
+    }
 }
 
 // An output of such bytes.
