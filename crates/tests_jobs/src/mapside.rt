@@ -10,16 +10,19 @@ use mr_user::{
     WordCount,
 };
 use std::alloc::Global;
+use std::cell::Cell;
 use std::process::Abort;
 
-// The gate that lets works of one kind pass.
+// The gate that lets works of one kind pass, and counts who enters.
 #[derive(Drop)]
 struct GateFor {
     kind: TaskKind,
+    entered: Cell<u32>,
 }
 
 impl Gate for GateFor {
     fn enter(&self, kind: TaskKind) -> Result<(), GateFault> {
+        self.entered.set(self.entered.get().saturating_add(1));
         if kind == self.kind {
             Ok(())
         } else {
@@ -99,16 +102,19 @@ fn map_work_is_refused(rt: HostRuntime) {
     let alloc = rt.alloc();
     let maps = GateFor {
         kind: TaskKind::Map,
+        entered: Cell::new(0),
     };
     let reduces = GateFor {
         kind: TaskKind::Reduce,
+        entered: Cell::new(0),
     };
     let output = output_of(&rt, alloc, &MaxByKey, &maps, b"x 3", 1);
-    assert!(rt; matches!(&output, Ok(bytes) if bytes.len() == 17));
+    assert!(rt; matches!(&output, Ok(bytes) if bytes.len() == 17) && maps.entered.get() == 1);
     let output = output_of(&rt, alloc, &MaxByKey, &maps, b"x 3\nx", 1);
     assert!(rt; matches!(&output, Err(WorkFault::User(UserFault::Refused))));
     let output = output_of(&rt, alloc, &MaxByKey, &reduces, b"x", 1);
     assert!(rt; matches!(&output, Err(WorkFault::Gate(GateFault::Spent))));
+    assert!(rt; maps.entered.get() == 2 && reduces.entered.get() == 1);
 }
 
 #[test]

@@ -10,6 +10,7 @@ use mr_user::{
     Gate, GateFault, Job, LineIndex, MAX_SPLIT_LEN, MaxByKey, OpenGate, Text, Wire, WordCount,
 };
 use std::alloc::Global;
+use std::cell::Cell;
 use std::process::Abort;
 
 // The block of wordcount for the line `a b a`: a twice, b once.
@@ -32,6 +33,35 @@ impl Gate for MapsOnly {
             TaskKind::Reduce => Err(GateFault::Spent),
         }
     }
+}
+
+// The gate that counts who enters, and lets all pass or none.
+#[derive(Drop)]
+struct Counting {
+    entered: Cell<u32>,
+    is_open: bool,
+}
+
+impl Gate for Counting {
+    fn enter(&self, _kind: TaskKind) -> Result<(), GateFault> {
+        self.entered.set(self.entered.get().saturating_add(1));
+        if self.is_open {
+            Ok(())
+        } else {
+            Err(GateFault::Spent)
+        }
+    }
+}
+
+// How often a reduce work of reduce 3 enters, and whether its gate's refusal is what it answers.
+fn entered(alloc: Global, parts: &[Piece], is_open: bool) -> (u32, bool) {
+    let gate = Counting {
+        entered: Cell::new(0),
+        is_open,
+    };
+    let answer = reduce_work(alloc, &WordCount, &gate, 3, parts);
+    let spent = matches!(answer, Err(WorkFault::Gate(GateFault::Spent)));
+    (gate.entered.get(), spent)
 }
 
 // What an answer holds that only want of memory can fail.
@@ -94,6 +124,20 @@ fn reduce_faults(rt: HostRuntime) {
     assert!(rt; matches!(&answer, Ok(text) if text.is_empty()));
     let answer = reduce_work(alloc, &WordCount, &MapsOnly, 3, &parts);
     assert!(rt; matches!(answer, Err(WorkFault::Gate(GateFault::Spent))));
+}
+
+// A reduce work enters once, with pieces and without, and before it looks at a piece: where the gate refuses, a bad piece
+// and one of another map are not seen.
+#[test]
+fn reduce_enters_once(rt: HostRuntime) {
+    let alloc = rt.alloc();
+    for all in [[].as_slice(), [BLOCK].as_slice(), [BLOCK, MORE].as_slice()] {
+        let parts = pieces(&rt, alloc, 0, 3, all);
+        assert!(rt; entered(alloc, &parts, true) == (1, false));
+        assert!(rt; entered(alloc, &parts, false) == (1, true));
+    }
+    assert!(rt; entered(alloc, &pieces(&rt, alloc, 0, 3, &[SHORT]), false) == (1, true));
+    assert!(rt; entered(alloc, &pieces(&rt, alloc, 1, 3, &[BLOCK]), false) == (1, true));
 }
 
 // A piece of one pair, whose key has so many bytes and whose value is 1.
