@@ -68,7 +68,10 @@ fn attempt_events(rt: HostRuntime) {
             ),
         ] {
             assert!(rt; machine.on(event) == reaction, "{event:?}");
-            assert!(rt; machine.state() == state, "{event:?}");
+            assert!(rt;
+                machine.state() == state && machine.copy().state() == state,
+                "{event:?}"
+            );
         }
         assert!(rt; machine.is_live() && machine.state().is_live());
         let mut copy = machine.copy();
@@ -95,7 +98,10 @@ fn attempt_events(rt: HostRuntime) {
             (AttemptEvent::Lost, moved, last),
         ] {
             assert!(rt; copy.on(event) == reaction, "{event:?}");
-            assert!(rt; copy.state() == state, "{event:?}");
+            assert!(rt;
+                copy.state() == state && copy.copy().state() == state,
+                "{event:?}"
+            );
         }
         assert!(rt; copy.state().is_won() == (kind == TaskKind::Reduce) && !copy.is_live());
         assert!(rt; last.next(kind, AttemptEvent::Kill).is_none());

@@ -33,3 +33,42 @@ fn grant_is_fixed(rt: HostRuntime) {
     second_is_fixed(&rt, copy, a0, a1);
     assert!(rt; grant.first() == Some(a0) && !grant.is_fixed());
 }
+
+// Its copy, which has the same attempts in the same order, and is fixed where it is.
+fn copied(rt: &impl Abort, grant: &Grant) -> Grant {
+    let copy = grant.copy().expect(rt, "no memory");
+    assert!(rt; copy.attempts() == grant.attempts() && copy.is_fixed() == grant.is_fixed());
+    copy
+}
+
+// A grant is copied before anyone asked, with one that asked, with two, and fixed.
+#[test]
+fn grant_is_copied(rt: HostRuntime) {
+    let a0 = attempt(&rt, TaskKind::Reduce, 0);
+    let a1 = attempt(&rt, TaskKind::Reduce, 1);
+    let mut grant = copied(&rt, &Grant::new(rt.alloc()));
+    for a in [a0, a1] {
+        grant.pending(a).expect(&rt, "no memory");
+        grant = copied(&rt, &grant);
+    }
+    assert!(rt; grant.fix(a0));
+    let copy = copied(&rt, &grant);
+    assert!(rt; copy.can_commit(a0) && !copy.can_commit(a1));
+}
+
+// A thousand attempts ask: the first has the permission, the last waits, and a copy has them all.
+#[test]
+fn thousand_ask(rt: HostRuntime) {
+    let mut grant = Grant::new(rt.alloc());
+    for number in 0..1000 {
+        grant
+            .pending(attempt(&rt, TaskKind::Reduce, number))
+            .expect(&rt, "no memory");
+    }
+    assert!(rt; grant.attempts().len() == 1000);
+    let copy = copied(&rt, &grant);
+    for all in [&grant, &copy] {
+        assert!(rt; all.can_commit(attempt(&rt, TaskKind::Reduce, 0)));
+        assert!(rt; !all.can_commit(attempt(&rt, TaskKind::Reduce, 999)));
+    }
+}

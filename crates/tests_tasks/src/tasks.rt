@@ -70,15 +70,19 @@ fn accepted_then_ended(rt: HostRuntime) {
     second_wins(&rt, copy, a0, a1);
 }
 
+// Each attempt that a generation can number is launched, asks and ends; and then there is no further one.
 #[test]
 fn attempt_numbers_run_out(rt: HostRuntime) {
     let mut task = machine(&rt, rt.alloc(), TaskKind::Reduce);
     for number in 0..1000 {
         let a = launched(&rt, &mut task);
         assert!(rt; a.number() == number);
+        assert!(rt; told(&rt, task.pending(a)) == Ok(()));
         assert!(rt; task.ended(a, true) == Ok(()));
     }
     assert!(rt; task.numbered() == 1000 && task.arrived().len() == 1000);
+    let copy = told(&rt, task.copy()).expect(&rt, "a fault");
+    assert!(rt; copy.numbered() == 1000 && copy.arrived() == task.arrived());
     assert!(rt; told(&rt, task.launch()) == Err(TaskFault::TooManyAttempts));
     assert!(rt; task.numbered() == 1000 && task.arrived().len() == 1000);
     assert!(rt; task.failures() == 0);
@@ -141,6 +145,58 @@ fn map_is_done(rt: HostRuntime) {
     assert!(rt; task.done(a1) == Ok(DoneReply::Accepted));
     assert!(rt; task.recorded(a1) == Ok(()) && task.winner() == Some(a1));
     assert!(rt; task.numbered() == 3 && task.arrived() == [a0, a1, a2].as_slice());
+}
+
+// A map's Done is accepted though another attempt is named. That one's is ignored, and once it is over nobody is named.
+#[test]
+fn named_map_ends(rt: HostRuntime) {
+    let mut task = machine(&rt, rt.alloc(), TaskKind::Map);
+    let a0 = launched(&rt, &mut task);
+    let a1 = launched(&rt, &mut task);
+    assert!(rt; told(&rt, task.pending(a1)) == Ok(()) && task.can_commit(a1));
+    assert!(rt; task.done(a0) == Ok(DoneReply::Accepted));
+    assert!(rt; task.done(a1) == Ok(DoneReply::Ignored) && task.can_commit(a1));
+    assert!(rt; task.ended(a1, true) == Ok(()));
+    assert!(rt; !task.can_commit(a1) && !task.can_commit(a0));
+}
+
+// Whether a copy of the machine tells what it tells.
+fn is_copied(rt: &impl Abort, task: &TaskMachine) -> bool {
+    let copy = told(rt, task.copy()).expect(rt, "a fault");
+    let mut is_same = copy.arrived() == task.arrived()
+        && copy.numbered() == task.numbered()
+        && copy.failures() == task.failures()
+        && copy.winner() == task.winner()
+        && copy.is_won() == task.is_won();
+    for a in task.arrived() {
+        is_same = is_same
+            && copy.state(*a) == task.state(*a)
+            && copy.can_commit(*a) == task.can_commit(*a)
+            && copy.done_reply(*a) == task.done_reply(*a);
+    }
+    is_same
+}
+
+// A machine is copied at each stage of a task: before a launch, and after each kind of call.
+#[test]
+fn task_is_copied(rt: HostRuntime) {
+    let mut task = machine(&rt, rt.alloc(), TaskKind::Map);
+    assert!(rt; is_copied(&rt, &task));
+    let a0 = launched(&rt, &mut task);
+    assert!(rt; is_copied(&rt, &task));
+    assert!(rt; task.heard(a0) == Ok(()) && is_copied(&rt, &task));
+    let a1 = launched(&rt, &mut task);
+    for a in [a1, a0] {
+        assert!(rt; told(&rt, task.pending(a)) == Ok(()) && is_copied(&rt, &task));
+    }
+    assert!(rt; task.failed(a1) == Ok(()) && is_copied(&rt, &task));
+    let a2 = launched(&rt, &mut task);
+    assert!(rt; task.killed(a2) == Ok(()) && is_copied(&rt, &task));
+    assert!(rt; task.done(a0) == Ok(DoneReply::Accepted) && is_copied(&rt, &task));
+    assert!(rt; task.recorded(a0) == Ok(()) && is_copied(&rt, &task));
+    assert!(rt; task.lost(a0) == Ok(()) && is_copied(&rt, &task));
+    let a3 = launched(&rt, &mut task);
+    assert!(rt; task.ended(a3, true) == Ok(()) && is_copied(&rt, &task));
 }
 
 // What the next launch would give is told without a launch.
