@@ -7,7 +7,7 @@ use Rattle.std.proofs.lemmas.List.{take_all, take-append-le}
 use Rattle.std.proofs.Math.Seq.{take-append-add}
 use Rattle.mr_history.specs.declared.record.Record.{Record}
 use Rattle.mr_history.specs.Line.{line_of, version_line, whole_line, lines, head, text, width, whole_in, IsVersion, IsRecord, IsRecordOf}
-use Rattle.mr_history.specs.Reading.{HasNoFeed, whole_lines, torn_of, version_in, version_of, record_of, records_as, records_of, bad_among, bad_in, bad_line}
+use Rattle.mr_history.specs.Reading.{HasNoFeed, whole_lines, torn_of, version_in, version_of, record_of, records_as, records_of, bad_among, bad_in, bad_line, record_lines}
 use Rattle.mr_history.proofs.Told.{record_of-line_of, record_of-is, not_version, version_line-none}
 use Rattle.mr_history.proofs.Splits.{clean, is_clean, no_feed, clean-take, line_clean, line_first, torn_first, no_line, all_torn, lines-append}
 
@@ -100,6 +100,9 @@ head_version rest = ap version_in (head_first rest)
 pub head_bad : (rest : List ℕ) → bad_line (head 2 ++ rest) ≡ option_map (λ n. n + 1) (bad_among 2 (whole_lines rest))
 unfolding bad_line
 head_bad rest = ap bad_in (head_first rest)
+
+pub head_left : (rest : List ℕ) → record_lines (whole_lines (head 2 ++ rest)) ≡ whole_lines rest
+head_left rest = ap record_lines (head_first rest)
 
 -- bytes whose first line is a record's, or that have no line
 one_version : (version : ℕ) (rs : List Record) (rest : List ℕ) → AllByRecursion (IsRecordOf version) rs → clean rest ≡ true → (version_of (lines rs ++ rest) ≡ 1) × (bad_line (lines rs ++ rest) ≡ bad_among 1 (whole_lines (lines rs ++ rest)))

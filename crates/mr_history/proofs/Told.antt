@@ -1,5 +1,5 @@
 -- A line is read as the record whose line it is, and as nothing else.
-use Rattle.std.proofs.Common.{◌≡◌, ◌^◌, ℕ, Bool, true, false, ◌&&◌, cond, nat_lt, List, Option, Some, None, sym, ap, ◌∙◌, refl, option_and_then, ltb-true, true≢false}
+use Rattle.std.proofs.Common.{◌≡◌, ◌<◌, ◌≤◌, ◌^◌, ℕ, Bool, true, false, ◌&&◌, cond, nat_lt, List, Option, Some, None, sym, ap, ◌∙◌, refl, option_and_then, ltb-true, true≢false, length, subst, arith}
 use Rattle.std.specs.Cmp.Lexicographic.{same_text, bytes_decides}
 use Rattle.std.proofs.lemmas.Bool.{and_parts, lt-ltb}
 use Rattle.serde_json.specs.Read.{read}
@@ -11,6 +11,8 @@ use Rattle.mr_history.specs.Line.{line_of, version_line, fits, is_of, IsRecordOf
 use Rattle.mr_history.specs.Json.{value_of}
 use Rattle.mr_history.specs.Reading.{record_in, record_of, if_written, is_id, in_range, is_text}
 use Rattle.mr_history.proofs.Texts.{attempt-text}
+use Rattle.mr_history.specs.declared.line.TheConstants.{MAX_LINE_LEN}
+use Rattle.mr_history.proofs.Widths.{line_short}
 use Rattle.mr_history.proofs.Lines.{read-line_of}
 
 -- ---- the ranges, tested
@@ -120,3 +122,15 @@ not_version JobUnsuccessful = refl
 
 pub version_line-none : (version : ℕ) → record_of version version_line ≡ None
 version_line-none version = no_record version version_line (λ r h e. true≢false (sym (text-refl version_line) ∙ ap (λ l. is_text l version_line) e ∙ not_version r))
+
+-- a record's line is not a long one
+
+pub told_short : (version : ℕ) (line : List ℕ) (r : Record) → record_of version line ≡ Some r → length line ≤ MAX_LINE_LEN
+told_short version line r e = let is = record_of-is version line r e in subst (λ l. length l ≤ MAX_LINE_LEN) (sym is.1) (line_short r is.0.0)
+
+pub long_none : (version : ℕ) (line : List ℕ) → MAX_LINE_LEN < length line → record_of version line ≡ None
+long_none version line long = by (record_of version line) refl
+  where
+    by : (o : Option Record) → record_of version line ≡ o → o ≡ None
+    by None e = refl
+    by (Some r) e = absurd (let short = told_short version line r e in omega arith)

@@ -1,5 +1,5 @@
 -- What bytes tell: a version, the records of the whole lines, and what is torn. Our own profile.
-use Rattle.std.specs.Prelude.{◌≡◌, ◌==◌, ◌^◌, ◌+◌, ℕ, Bool, true, false, ◌&&◌, nat_lt, nat_eq, List, [], ◌∷◌, length, codes, if◌then◌else◌, Option, Some, None, is_none, option_map, option_and_then, Result, Ok, Err, All}
+use Rattle.std.specs.Prelude.{◌≡◌, ◌≤◌, ◌==◌, ◌^◌, ◌+◌, ℕ, Bool, true, false, ◌&&◌, nat_lt, nat_eq, List, [], ◌∷◌, ◌++◌, length, codes, if◌then◌else◌, Option, Some, None, is_none, option_map, option_and_then, Result, Ok, Err, All}
 use Rattle.std.specs.List.{slice_split, filter_map}
 use Rattle.std.specs.Cmp.Lexicographic.{pointwise}
 use Rattle.std.specs.Str.Parse.{digits_value}
@@ -13,6 +13,7 @@ use Rattle.mr_ids.specs.declared.id.TaskKind.TheVariants.{Map, Reduce}
 use Rattle.mr_history.specs.declared.record.Record.{Record}
 use Rattle.mr_history.specs.declared.record.Record.TheVariants.{AttemptStarted, MapSucceeded, ReduceSucceeded, AttemptFailed, JobUnsuccessful}
 use Rattle.mr_history.specs.declared.reading.Replayed.{Replayed}
+use Rattle.mr_history.specs.declared.line.TheConstants.{MAX_LINE_LEN}
 use Rattle.mr_history.specs.declared.fault.HistoryFault.{HistoryFault}
 use Rattle.mr_history.specs.declared.fault.HistoryFault.TheVariants.{Superseded, Sealed, BadLine, Full, NoMemory}
 use Rattle.mr_history.specs.Line.{line_of, version_line, fits, is_of}
@@ -131,12 +132,27 @@ bad_in (line ∷ more) = if is_text line version_line then option_map (λ n. n +
 unfoldable pub bad_line : List ℕ → Option ℕ
 bad_line bytes = bad_in (whole_lines bytes)
 
+-- the whole lines that are to be records: all but the version line at the head
+abbrev pub record_lines : List (List ℕ) → List (List ℕ)
+record_lines [] = []
+record_lines (line ∷ more) = if is_text line version_line then more else line ∷ more
+
+-- A line among these, no longer than a record's longest, behind lines that are records of the version: it is read in
+-- memory. A longer one is no record, and the version line is compared where it lies.
+pub record TakesMemory (version : ℕ) (lines : List (List ℕ)) : Type 0 where
+  pub before : List (List ℕ)
+  pub line : List ℕ
+  pub after : List (List ℕ)
+  pub are : lines ≡ before ++ line ∷ after
+  pub good : bad_among version before ≡ None
+  pub short : length line ≤ MAX_LINE_LEN
+
 -- What replaying bytes gives: the version, all records and how many bytes are torn, unless a whole line is bad.
--- A line is read in memory, so want of memory may come at any bytes.
+-- Memory may be refused for a line that is read in memory, which the bytes then hold.
 abbrev pub Replays : List ℕ → Result Replayed HistoryFault → Type 0
 Replays bytes (Ok p) = (bad_line bytes ≡ None) × (p.version ≡ version_of bytes) × (p.records ≡ records_of bytes) × (p.torn ≡ length (torn_of bytes))
 Replays bytes (Err (BadLine n)) = bad_line bytes ≡ Some n
-Replays bytes (Err NoMemory) = Unit {0}
+Replays bytes (Err NoMemory) = TakesMemory (version_of bytes) (record_lines (whole_lines bytes))
 Replays bytes (Err (Superseded fence)) = ⊥
 Replays bytes (Err Sealed) = ⊥
 Replays bytes (Err Full) = ⊥

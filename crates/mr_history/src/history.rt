@@ -1,9 +1,9 @@
 //! The job history: a segment for each generation of the master, and the fence below which no master is heard.
-ghost use Rattle.std.specs.Prelude.{◌≡◌, ◌≤◌, ◌<◌, ◌-◌, ℕ, [], length, replicate, IfOk, IsOkUnless, true, Option, if◌then◌else◌, nat_le, Some, None, take};
+ghost use Rattle.std.specs.Prelude.{◌≡◌, ◌≤◌, ◌<◌, ◌-◌, ℕ, [], length, replicate, IfOk, IsOk, IsOkUnless, true, Option, if◌then◌else◌, nat_le, Some, None, take};
 ghost use Rattle.mr_history.specs.Line.{fits, suits, IsVersion};
 ghost use Rattle.mr_history.specs.State.{State};
 ghost use Rattle.mr_history.specs.Segment.{fresh};
-ghost use Rattle.mr_history.specs.Calls.{Append, Flush, Read, Done, Told, Makes, MakesAlways, segment, sealed_at, raised, superseded, refused, records, records_in};
+ghost use Rattle.mr_history.specs.Calls.{Append, Flush, Read, Done, Told, Makes, MakesAlways, segment, sealed_at, raised, superseded, refused, records, records_in, records_before};
 
 use crate::fault::HistoryFault;
 use crate::record::{Record, Records};
@@ -182,7 +182,9 @@ impl History {
     /// Refusals in order: `Superseded` where `k` is below the fence, `NoMemory`.
     pub fn read(&self, k: AppAttempt) -> Result<Records, HistoryFault>
         requires { k ≤ self.now.fence }
-        ensures { Makes (λ records. Told records) self.now k Read result self.now }
+        ensures made { Makes (λ records. Told records) self.now k Read result self.now }
+        // To tell of no record takes no memory.
+        ensures nothing { records_before self.now k ≡ [] → MakesAlways (λ records. Told records) self.now k Read result self.now }
     {
         if let Some(fault) = self.superseded(k) {
             return Err(fault);
@@ -191,10 +193,11 @@ impl History {
     }
 
     /// The records of the segments of all application attempts up to the fence, from stable bytes alone. It answers no
-    /// fault but `NoMemory`.
+    /// fault but `NoMemory`, and that only where there is a record.
     pub fn records(&self) -> Result<Records, HistoryFault>
         ensures told { IfOk result (λ told. told ≡ records self.now) }
         ensures memory { IsOkUnless result HistoryFault.NoMemory }
+        ensures nothing { records self.now ≡ [] → IsOk result }
     {
         self.first_records(self.fence as usize)
     }
@@ -204,6 +207,7 @@ impl History {
         requires { count ≤ 1000 }
         ensures told { IfOk result (λ told. told ≡ records_in (take count self.now.segments)) }
         ensures memory { IsOkUnless result HistoryFault.NoMemory }
+        ensures nothing { records_in (take count self.now.segments) ≡ [] → IsOk result }
     {
         let mut records = Records::new(self.alloc);
         for i in 0..count {

@@ -15,6 +15,9 @@ use mr_ids::AttemptId;
 use serde_json::{Value, json};
 use std::alloc::{AllocError, Global};
 
+/// Most bytes of a record's line, its line feed aside: those of a map's with the longest numbers.
+pub const MAX_LINE_LEN: usize = 130;
+
 // The record as a JSON value.
 fn value(alloc: Global, record: &Record) -> Result<Value, AllocError>
     ensures { IfOk result (λ v. view v ≡ value_of «record».now) }

@@ -171,11 +171,15 @@ impl Records {
         Ok(())
     }
 
-    /// Adds records at the end.
+    /// Adds records at the end. To add none takes no memory.
     pub fn extend(&mut self, more: &[Record]) -> Result<(), AllocError>
         ensures ok { OnOk result (self.new ≡ self.old ++ more.now) }
         ensures err { OnErr result (self.new ≡ self.old) }
+        ensures nothing { more.now ≡ [] → IsOk result }
     {
+        if more.is_empty() {
+            return Ok(());
+        }
         self.items.extend_from_slice(more)
     }
 }

@@ -1,5 +1,5 @@
 //! The segment of one generation: the bytes that are stable, the tail that a crash may cut, and whether it is sealed.
-ghost use Rattle.std.specs.Prelude.{◌≡◌, ◌+◌, ◌≤◌, ℕ, [], length, take, drop, IfOk, IsOkUnless, true, string_bytes, ◌++◌};
+ghost use Rattle.std.specs.Prelude.{◌≡◌, ◌+◌, ◌≤◌, ℕ, [], length, take, drop, IfOk, IsOk, IsOkUnless, true, string_bytes, ◌++◌};
 ghost use Rattle.mr_history.specs.Line.{fits, suits, whole_line, width, InRange, IsVersion};
 ghost use Rattle.mr_history.specs.State.{SegmentState};
 ghost use Rattle.mr_history.specs.Segment.{fresh, opening, appended, flushed, sealed, append_refusal, growth_refusal, flush_refusal, Changes, ChangesAlways};
@@ -192,10 +192,11 @@ impl Segment {
         self.bytes.len() - self.mark
     }
 
-    /// The records of the stable bytes. It answers no fault but `NoMemory`.
+    /// The records of the stable bytes. It answers no fault but `NoMemory`, and that only where there is a record.
     pub fn records(&self) -> Result<Records, HistoryFault>
         ensures told { IfOk result (λ records. records ≡ records_of self.now.stable) }
         ensures memory { IsOkUnless result HistoryFault.NoMemory }
+        ensures nothing { records_of self.now.stable ≡ [] → IsOk result }
     {
         match replay(self.alloc, self.stable()) {
             Ok(replayed) => Ok(replayed.records),
