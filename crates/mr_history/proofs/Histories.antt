@@ -29,6 +29,17 @@ read (x ∷ xs) (suc i) d h = ap (λ l. records_of x.stable ++ l) (read xs i d (
 pub read_more : (xs : List SegmentState) (i : ℕ) (d : SegmentState) → i < length xs → records_in (take (i + 1) xs) ≡ records_in (take i xs) ++ records_of (get_or xs i d).stable
 read_more xs i d h = ap (λ n. records_in (take n xs)) (add-one i) ∙ read xs i d h
 
+-- where some segments tell no record, none of them does
+both_nothing : {A : Type 0} (xs ys : List A) → xs ++ ys ≡ [] → (xs ≡ []) × (ys ≡ [])
+both_nothing [] ys e = (refl, e)
+both_nothing (x ∷ xs) ys e = absurd (cc)
+
+pub own_nothing : (xs : List SegmentState) (n i : ℕ) (d : SegmentState) → i < n → i < length xs → records_in (take n xs) ≡ [] → records_of (get_or xs i d).stable ≡ []
+own_nothing [] n i d low inside e = absurd (omega arith)
+own_nothing (x ∷ xs) zero i d low inside e = absurd (omega arith)
+own_nothing (x ∷ xs) (suc n) zero d low inside e = (both_nothing (records_of x.stable) (records_in (take n xs)) e).0
+own_nothing (x ∷ xs) (suc n) (suc i) d low inside e = own_nothing xs n i d (omega arith) (omega arith) (both_nothing (records_of x.stable) (records_in (take n xs)) e).1
+
 -- ---- one segment is changed
 
 pub named : (h : State) (k : ℕ) (s : SegmentState) → 1 ≤ k → k ≤ length h.segments → segment (with_segment h k s) k ≡ s

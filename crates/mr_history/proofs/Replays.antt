@@ -1,9 +1,10 @@
 -- What has been read of bytes, line by line.
-use Rattle.std.proofs.Common.{◌≡◌, ◌≤◌, ◌+◌, ℕ, Bool, true, false, cond, nat_eq, List, [], ◌∷◌, ◌++◌, length, Option, Some, None, option_map, is_none, refl, sym, ap, ◌∙◌, arith, append_assoc, append-nil, length-append, subst}
+use Rattle.std.proofs.Common.{◌≡◌, ◌≤◌, ◌+◌, ℕ, Bool, true, false, cond, nat_eq, List, [], ◌∷◌, ◌++◌, length, Option, Some, None, option_map, is_none, Err, refl, sym, ap, ◌∙◌, arith, append_assoc, append-nil, length-append, subst}
 use Rattle.std.specs.List.{filter_map, cons_option}
 use Rattle.mr_history.specs.declared.record.Record.{Record}
 use Rattle.mr_history.specs.Line.{head, version_line, IsVersion}
-use Rattle.mr_history.specs.Reading.{HasNoFeed, is_text, whole_lines, torn_of, version_in, version_of, record_of, records_as, records_of, bad_among, bad_in, bad_line, record_lines, TakesMemory}
+use Rattle.mr_history.specs.Reading.{HasNoFeed, is_text, whole_lines, torn_of, version_in, version_of, record_of, records_as, records_of, bad_among, bad_in, bad_line, record_lines, TakesMemory, Replays}
+use Rattle.mr_history.specs.declared.fault.HistoryFault.TheVariants.{NoMemory}
 use Rattle.mr_history.specs.declared.line.TheConstants.{MAX_LINE_LEN}
 use Rattle.mr_history.proofs.Told.{not_text}
 use Rattle.mr_history.proofs.Splits.{line_first, torn_first, no_line, all_torn}
@@ -157,3 +158,38 @@ ends version bytes lines rest rs is shows from so h =
       sym (b.records ∙ so.so_far ∙ ap (λ l. rs ++ l) none.0 ∙ append-nil rs),
       ap length (sym (b.torn ∙ so.torn_left ∙ all_torn rest h)),
     )
+
+-- ---- bytes without a bad line that tell no record are read without memory
+
+not_nothing : (before after : List (List ℕ)) (line : List ℕ) → [] ≡ before ++ line ∷ after → ⊥
+not_nothing [] after line e = cc
+not_nothing (l ∷ before) after line e = cc
+
+-- the first of some good lines is a record's
+tell_some : (version : ℕ) (ls : List (List ℕ)) → TakesMemory version ls → bad_among version ls ≡ None → filter_map (record_of version) ls ≡ [] → ⊥
+tell_some version [] t good none = not_nothing t.before t.after t.line t.are
+tell_some version (l ∷ ls) t good none = by (record_of version l) good none
+  where
+    by : (o : Option Record) → cond (is_none o) (Some 1) (option_map (λ n. n + 1) (bad_among version ls)) ≡ None → cons_option o (filter_map (record_of version) ls) ≡ [] → ⊥
+    by None e f = cc
+    by (Some r) e f = cc
+
+unmapped : (o : Option ℕ) → option_map (λ n. n + 1) o ≡ None → o ≡ None
+unmapped None e = refl
+unmapped (Some n) e = absurd (cc)
+
+later_none : (o : Option Record) (rs : List Record) → cons_option o rs ≡ [] → rs ≡ []
+later_none None rs e = e
+later_none (Some r) rs e = absurd (cc)
+
+lines_tell : (ls : List (List ℕ)) → bad_in ls ≡ None → TakesMemory (version_in ls) (record_lines ls) → filter_map (record_of (version_in ls)) ls ≡ [] → ⊥
+lines_tell [] good t none = not_nothing t.before t.after t.line t.are
+lines_tell (l ∷ ls) good t none = by (is_text l version_line) good t none
+  where
+    by : (b : Bool) → cond b (option_map (λ n. n + 1) (bad_among 2 ls)) (bad_among 1 (l ∷ ls)) ≡ None → TakesMemory (cond b 2 1) (cond b ls (l ∷ ls)) → filter_map (record_of (cond b 2 1)) (l ∷ ls) ≡ [] → ⊥
+    by true g t n = tell_some 2 ls t (unmapped (bad_among 2 ls) g) (later_none (record_of 2 l) (filter_map (record_of 2) ls) n)
+    by false g t n = tell_some 1 (l ∷ ls) t g n
+
+pub takes_some : (bytes : List ℕ) → bad_line bytes ≡ None → Replays bytes (Err NoMemory) → records_of bytes ≡ [] → ⊥
+unfolding bad_line version_of records_as
+takes_some bytes good t none = lines_tell (whole_lines bytes) good t none

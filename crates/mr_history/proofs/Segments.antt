@@ -17,6 +17,7 @@ use Rattle.mr_history.specs.declared.fault.HistoryFault.{HistoryFault}
 use Rattle.mr_history.specs.declared.fault.HistoryFault.TheVariants.{Superseded, Sealed, BadLine, Full, NoMemory}
 use Rattle.mr_history.specs.Reading.{records_of, records_as, bad_line, Replays}
 use Rattle.mr_history.specs.Segment.{fresh, opening, addition, appended, flushed, sealed, first_of, growth_refusal, IsOpen, IsFront, IsSound}
+use Rattle.mr_history.proofs.Replays.{takes_some}
 use Rattle.mr_history.proofs.Tellings.{told_lines, torn_tells, head_records, tells, tells_torn, tells_front, in_version, front, whole_are, all_append, lines_both}
 
 -- ---- a record as it is told
@@ -339,6 +340,12 @@ only_memory bytes Full none h = absurd h
 
 pub read_fault : (s : SegmentState) (bytes : List ℕ) (f : HistoryFault) → IsSound s → bytes ≡ s.stable → Replays bytes (Err f) → f ≡ NoMemory
 read_fault s bytes f h is told = only_memory bytes f (ap bad_line is ∙ sound_good s h) told
+
+-- and that only where they tell a record
+pub read_some : (s : SegmentState) (bytes : List ℕ) (f : HistoryFault) → IsSound s → bytes ≡ s.stable → Replays bytes (Err f) → records_of s.stable ≡ [] → ⊥
+read_some s bytes f h is told none =
+    let good = ap bad_line is ∙ sound_good s h in
+    takes_some bytes good (subst (λ g. Replays bytes (Err g)) (only_memory bytes f good told) told) (ap records_of is ∙ none)
 
 -- what is not refused is open
 pub not_sealed : (s : SegmentState) (more : ℕ) → growth_refusal more s ≡ None → s.is_sealed ≡ false

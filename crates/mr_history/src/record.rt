@@ -1,5 +1,5 @@
 //! The records of the job history: what a master writes down of attempts and of its job, each of them a line.
-ghost use Rattle.std.specs.Prelude.{◌≡◌, ◌++◌, ◌∷◌, [], OnOk, OnErr, IfOk, length};
+ghost use Rattle.std.specs.Prelude.{◌≡◌, ◌++◌, ◌∷◌, [], OnOk, OnErr, IfOk, IsOk, length};
 ghost use Rattle.mr_history.specs.Line.{fits, is_map, is_length, suits, is_of, as_written};
 
 use mr_ids::{AttemptId, TaskKind};
