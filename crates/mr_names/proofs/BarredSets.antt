@@ -1,5 +1,5 @@
 -- The code's set of attempts, seen as a finite set.
-use Rattle.std.proofs.Common.{◌≡◌, ℕ, ◌+◌, Bool, true, false, cond, ◌||◌, List, [], ◌∷◌, length, refl, sym, ap, ◌∙◌, true≢false, arith}
+use Rattle.std.proofs.Common.{◌≡◌, ◌+◌, Bool, true, false, cond, ◌||◌, List, [], ◌∷◌, length, refl, sym, ap, ◌∙◌, arith}
 use Rattle.std.specs.List.{list_any, IsDistinct, AllByRecursion}
 use Rattle.std.specs.Ordering.{eq_by_cmp, is_eq}
 use Rattle.std.specs.Cmp.{Equal-is, tied_itself, both_ways}
@@ -8,7 +8,6 @@ use Rattle.mr_ids.specs.Attempt.{Attempt}
 use Rattle.mr_ids.specs.contracts.id.AttemptIdPartialEq.TheImpl.{eq-value}
 use Rattle.mr_ids.proofs.Same.{attempt-is, attempt-itself}
 use Rattle.mr_names.specs.Attempts.{attempt_cmp, attempt_total, attempt_exact}
-use Rattle.mr_names.specs.Barred.{Barred}
 
 -- `==` of attempts holds where their order ties them
 pub eq-tied : (a b : Attempt) → eq-value.it a b ≡ eq_by_cmp attempt_cmp a b

@@ -1,8 +1,7 @@
 -- The laws of who makes a call: the fence, the bars, and what a call answers and leaves.
-use Rattle.std.proofs.Common.{◌≡◌, ℕ, ◌+◌, ◌≤◌, Bool, true, false, cond, not, ◌&&◌, ◌||◌, refl, sym, ap, ◌∙◌, subst, Option, Some, None, true≢false, arith, nat_lt, inl, inr, ◌⊎◌, ⊎_elim}
+use Rattle.std.proofs.Common.{◌≡◌, ◌+◌, ◌≤◌, Bool, true, false, not, ◌&&◌, ◌||◌, refl, sym, ap, ◌∙◌, subst, Option, Some, None, true≢false, arith, nat_lt, inl, inr, ◌⊎◌}
 use Rattle.std.proofs.lemmas.Bool.{ltb-false, lt-ltb, le-ltb}
 use Rattle.std.specs.Prelude.{Result, Ok, Err, is_ok}
-use Rattle.std.specs.Option.{option_or}
 use Rattle.std.specs.Ordering.{eq_by_cmp, is_eq}
 use Rattle.std.specs.Cmp.{Equal-is, tied_itself}
 use Rattle.std.specs.FinSet as set
@@ -17,7 +16,7 @@ use Rattle.mr_names.specs.declared.namespace.TheConstants.{MAX_BARRED}
 use Rattle.mr_names.specs.Attempts.{attempt_cmp, attempt_total, attempt_exact}
 use Rattle.mr_names.specs.Barred.{Barred, bars, is_barred, has_no_room}
 use Rattle.mr_names.specs.Content.{IsTree}
-use Rattle.mr_names.specs.Calls.{State, IsSound, raised, refusal, own_refusal, passes_limit, unheard, refused, effect, barred_after, settled, call_of}
+use Rattle.mr_names.specs.Calls.{State, own_refusal, unheard, refused, barred_after, settled, call_of}
 use Rattle.mr_names.specs.Laws.{BelowTheFence, BarredIsRefused, IsHeard, HeardHasItsOwn, HeardIs, AnsweredIsHeard, HeardAlike, RefusedStays, AnsweredIsMade, AnsweredMayBeMade, FenceStays, TreeStays, SoundStays, bar_of, BarredGrow, OnlyBarBars, OthersBarNone, BarKeepsContent, BarBars, Becomes, at_once, by_call, by_raise, BarredForGood}
 use Rattle.mr_names.proofs.TreeLaws.{row_passes, tree_effect, neither, past_caller}
 use Rattle.mr_names.proofs.Callers.{unheard-low, unheard-barred, unheard-none, unheard-is}

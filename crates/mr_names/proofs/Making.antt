@@ -1,6 +1,6 @@
 -- Directories made on the way down to a path, each from the node of the one before.
 use Rattle.std.proofs.Common.{◌≡◌, ℕ, ◌+◌, ◌-◌, ◌<◌, ◌≤◌, Bool, true, false, cond, List, [], ◌∷◌, ◌++◌, append_assoc, append-nil, take, drop, filter, length, length-drop, get_or, refl, sym, ap, ◌∙◌, subst, Option, Some, None, is_some, is_none, true≢false, zero, suc, arith, add-one}
-use Rattle.std.proofs.Math.Seq.{take-suc, drop-cons}
+use Rattle.std.proofs.Math.Seq.{take-suc, take-length, drop-cons}
 use Rattle.std.specs.FinMap as finite
 use Rattle.slab.specs.Slab.{Slab}
 use Rattle.mr_paths.specs.Path.{path_total, path_exact, prefixes}
@@ -160,6 +160,10 @@ module _ (s : Slab Place) (root : ℕ) (c : Content) (told : IsTold (edges_of s)
 
   none_down : (n : ℕ) → there < n → n ≤ length path → finite.get c (take n path) ≡ None
   none_down n lt h = holds_at n ∙ ap (standing (nodes_of s)) (missed (edges_of s) root path (n - suc there) n (suc there) (omega arith) h (ends_next (omega arith)))
+
+  -- where the way ends above a path, nothing is at the path
+  pub none_there : there < length path → is_absent c path ≡ true
+  none_there lt = absent_is c path (ap (finite.get c) (sym (take-length path)) ∙ none_down (length path) lt (omega arith))
 
   -- those that are absent are those further down
   skipped : (d n : ℕ) → n + d ≡ suc there → with_dirs c (filter (is_absent c) (drop n (prefixes path))) ≡ with_dirs c (filter (is_absent c) (drop (suc there) (prefixes path)))

@@ -1,6 +1,6 @@
 -- What a node lists, by its edges.
 use Rattle.std.proofs.Common.{◌≡◌, ℕ, Bool, true, false, cond, ◌&&◌, List, [], ◌∷◌, ◌++◌, map, refl, sym, ap, ◌∙◌, subst, Option, Some, None, Ordering, Less, Equal, Greater, nat_eq}
-use Rattle.std.specs.Prelude.{T, Result, Ok, Err, IfOk}
+use Rattle.std.specs.Prelude.{T}
 use Rattle.std.specs.Ordering.{is_eq, is_lt, nat_cmp}
 use Rattle.std.specs.Cmp.{tied_itself}
 use Rattle.std.specs.Cmp.Lexicographic.{pointwise, slice_cmp, nat_list_cmp_total, texts_ties}
@@ -156,8 +156,3 @@ children_none s root c top told none =
     same_listing [] (children c top) empty_sorted (lists_in_order c top) (λ q.
     sym (ap (option_map kind_of) (told.holds (top ++ q ∷ []) ∙ ap (standing (nodes_of s)) (steps-append (edges_of s) (Some root) top (q ∷ []) ∙ ap (λ o. along (edges_of s) o q) none)))
     ∙ sym (lists_children c top q))
-
--- two facts of what a call answered, if it did
-pub if_both : {A E : Type 0} (r : Result A E) (P Q : A → Type 0) (X : Type 0) → IfOk r P → IfOk r (λ _. X) → ((a : A) → P a → X → Q a) → IfOk r Q
-if_both (Ok a) P Q X p x f = f a p x
-if_both (Err e) P Q X p x f = tt

@@ -1,6 +1,6 @@
 -- The attempts that are barred, as a finite set: our own profile. The container of a barred attempt may still run, and whatever
 -- it asks of the namespace is refused.
-use Rattle.std.specs.Prelude.{ℕ, ◌+◌, Bool, false, not, ◌&&◌, Option, Some, None, nat_lt}
+use Rattle.std.specs.Prelude.{◌+◌, Bool, false, not, ◌&&◌, Option, Some, None, nat_lt}
 use Rattle.std.specs.Coded.{Coded}
 use Rattle.std.specs.FinSet as set
 use Rattle.mr_ids.specs.Attempt.{Attempt}

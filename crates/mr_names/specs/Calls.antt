@@ -2,7 +2,7 @@
 -- Of these the Hadoop MapReduce committer architecture document and the Hadoop OutputCommitter API assume mkdirs with its parents, a delete
 -- with all beneath, and a rename of a directory in one step, on which section 3.3 of Dean and Ghemawat (2004) rests too. The fence, the
 -- bars, the limits, the faults and their order are our own profile.
-use Rattle.std.specs.Prelude.{◌≡◌, ◌≤◌, ℕ, ◌+◌, ◌-◌, Bool, true, false, ◌||◌, List, [], ◌∷◌, length, filter, Option, Some, None, Result, Ok, Err, is_some, unwrap_or, nat_lt, ◌==◌, max, refl, if◌then◌else◌}
+use Rattle.std.specs.Prelude.{◌≡◌, ◌≤◌, ℕ, ◌+◌, ◌-◌, Bool, true, false, not, ◌||◌, List, [], ◌∷◌, length, filter, Option, Some, None, Result, Ok, Err, is_some, unwrap_or, nat_lt, ◌==◌, max, refl, if◌then◌else◌}
 use Rattle.std.specs.List.{list_any}
 use Rattle.std.specs.Option.{option_map, option_or}
 use Rattle.std.specs.Coded.{Coded, code_by, coded×, coded_ℕ}
@@ -22,7 +22,7 @@ use Rattle.mr_names.specs.Node.{appended, closed_of, kind_of}
 use Rattle.mr_names.specs.Content.{Content, content_code, IsTree, without, with_dirs, renamed, changed_at}
 use Rattle.mr_names.specs.Held.{is_dir, is_file, is_closed, bytes_of, node_at, is_absent, is_present}
 use Rattle.mr_names.specs.Listing.{children}
-use Rattle.mr_names.specs.Barred.{Barred, barred_code, bars, has_no_room}
+use Rattle.mr_names.specs.Barred.{Barred, barred_code, bars, is_barred, has_no_room}
 
 -- the namespace: its content, its fence, and the attempts that are barred
 pub record State : Type 0 where
@@ -188,18 +188,18 @@ abbrev pub MakesAlways : {A : Type 0} → (A → Answer) → State → Caller �
 MakesAlways shows old caller call (Ok a) new = call_of old caller call ≡ (Ok (shows a), new)
 MakesAlways shows old caller call (Err f) new = call_of old caller call ≡ (Err f, new)
 
--- whether a call may want memory
-abbrev pub may_want_memory : Op → Bool
-may_want_memory (op.Mkdirs path) = true
-may_want_memory (op.Create path closed) = true
-may_want_memory (op.Append path bytes) = true
-may_want_memory (op.Close path) = false
-may_want_memory (op.Delete path) = false
-may_want_memory (op.Rename from to) = true
-may_want_memory (op.List path) = true
-may_want_memory (op.Exists path) = false
-may_want_memory (op.Read path) = true
-may_want_memory (op.Bar a) = true
+-- whether a call may want memory: where it adds an entry, bytes, a name or a bar, or hands out entries or bytes
+abbrev pub may_want_memory : State → Op → Bool
+may_want_memory s (op.Mkdirs path) = is_absent s.content path
+may_want_memory s (op.Create path closed) = true
+may_want_memory s (op.Append path bytes) = nat_lt 0 (length bytes)
+may_want_memory s (op.Close path) = false
+may_want_memory s (op.Delete path) = false
+may_want_memory s (op.Rename from to) = true
+may_want_memory s (op.List path) = nat_lt 0 (length (children s.content path))
+may_want_memory s (op.Exists path) = false
+may_want_memory s (op.Read path) = nat_lt 0 (length (bytes_of (node_at s.content path)))
+may_want_memory s (op.Bar a) = not (is_barred s.barred a)
 
 -- a function told whether a call is refused: with this fault, or not
 abbrev pub Refuses : Option NameFault → Result (Unit {0}) NameFault → Type 0

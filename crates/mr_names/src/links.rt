@@ -1,6 +1,6 @@
 //! The nodes as a graph: edges by name.
 //! These are the steps of `tree`: edges are followed, added, moved and taken out, and with them the nodes behind them.
-ghost use Rattle.std.specs.Prelude.{◌≡◌, Some, None, true, is_some, OnOk, OnErr, IfOk, IfSome, [], ℕ, List, MatchOption, length, take, ◌≤◌, ◌<◌, ◌+◌, ◌++◌, reverse};
+ghost use Rattle.std.specs.Prelude.{◌≡◌, Some, None, true, is_some, OnOk, OnErr, IfOk, IfSome, [], ℕ, List, MatchOption, length, nat_lt, take, ◌≤◌, ◌<◌, ◌+◌, ◌++◌, reverse};
 ghost use Rattle.mr_names.specs.inner.Tree.{edges_of, nodes_of, steps, IsTold, EdgeSet, SameGraph, NodeAdded, EdgeMoved, NodeChanged, NodeCut, CutBeneath, first_edge, DirsAdded, SomeAdded, links_of, line_at, ahead_of};
 ghost use Rattle.std.specs.Prelude.{map as list_map};
 ghost use Rattle.std.specs.List.{filter_map};
@@ -160,6 +160,7 @@ pub fn move_edge(
 pub fn append_at(nodes: &mut Slab<Place>, key: usize, more: &[u8]) -> Result<(), AllocError>
     ensures ok { OnOk result (NodeChanged nodes.old nodes.new key (appended more.now)) }
     ensures err { OnErr result (SameGraph nodes.old nodes.new) }
+    ensures some { OnErr result (nat_lt 0 (length more.now) ≡ true) }
 {
     match nodes.get_mut(key) {
         Some(place) => {
@@ -266,7 +267,8 @@ pub fn cut_on(nodes: &mut Slab<Place>, top: usize, start: usize)
 /// The entries of a node, by the bytes of their names.
 pub fn list(nodes: &Slab<Place>, alloc: Global, at: usize) -> Result<Entries, AllocError>
     ensures lines { IfOk result (λ entries. entries ≡ filter_map (line_at nodes.now) (links_of nodes.now at)) }
-    ensures rising { IfOk result (λ _. IsStrictlySortedBy (slice_cmp nat_cmp) (list_map (λ e. e.0) (links_of nodes.now at))) }
+    ensures rising { IsStrictlySortedBy (slice_cmp nat_cmp) (list_map (λ e. e.0) (links_of nodes.now at)) }
+    ensures some { OnErr result (nat_lt 0 (length (filter_map (line_at nodes.now) (links_of nodes.now at))) ≡ true) }
 {
     let mut entries = Entries::new(alloc);
     if let Some(place) = nodes.get(at) {

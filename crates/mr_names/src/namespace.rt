@@ -117,7 +117,9 @@ impl Namespace {
     /// Makes a directory, and each directory that is missing on the way, all or none. Nothing happens where it is
     /// there. Refused `NotDir` where the path or one above it is a file, `Full`.
     pub fn mkdirs(&mut self, caller: Caller, path: &Path) -> Result<(), NameFault>
-        ensures { Makes (λ _. Answer.Done) self.old caller (Op.Mkdirs path.now) result self.new }
+        ensures made { Makes (λ _. Answer.Done) self.old caller (Op.Mkdirs path.now) result self.new }
+        // One that is there wants no memory.
+        ensures always { may_want_memory self.old (Op.Mkdirs path.now) ≡ false → MakesAlways (λ _. Answer.Done) self.old caller (Op.Mkdirs path.now) result self.new }
     {
         self.check_mkdirs(caller, path)?;
         self.tree.make_dirs(self.alloc, path.names())?;
@@ -137,7 +139,9 @@ impl Namespace {
 
     /// Adds bytes at the end of a file. Refused `Missing`, `NotFile`, `Closed`, `Full`.
     pub fn append(&mut self, caller: Caller, path: &Path, more: &[u8]) -> Result<(), NameFault>
-        ensures { Makes (λ _. Answer.Done) self.old caller (Op.Append path.now more.now) result self.new }
+        ensures made { Makes (λ _. Answer.Done) self.old caller (Op.Append path.now more.now) result self.new }
+        // No bytes want no memory.
+        ensures always { may_want_memory self.old (Op.Append path.now more.now) ≡ false → MakesAlways (λ _. Answer.Done) self.old caller (Op.Append path.now more.now) result self.new }
     {
         self.check_append(caller, path, more)?;
         self.tree.append(path.names(), more)?;
@@ -176,7 +180,9 @@ impl Namespace {
 
     /// The entries of a directory, by the bytes of their names. Refused `Missing`, `NotDir`.
     pub fn list(&self, caller: Caller, path: &Path) -> Result<Entries, NameFault>
-        ensures { Makes Answer.Listed self.now caller (Op.List path.now) result self.now }
+        ensures made { Makes Answer.Listed self.now caller (Op.List path.now) result self.now }
+        // A directory without entries wants no memory.
+        ensures always { may_want_memory self.now (Op.List path.now) ≡ false → MakesAlways Answer.Listed self.now caller (Op.List path.now) result self.now }
     {
         self.check_list(caller, path)?;
         Ok(self.tree.children(self.alloc, path.names())?)
@@ -186,13 +192,15 @@ impl Namespace {
     pub fn exists(&self, caller: Caller, path: &Path) -> Result<Option<Kind>, NameFault>
         ensures { MakesAlways Answer.Found self.now caller (Op.Exists path.now) result self.now }
     {
-        let found = self.tree.get(path.names()).map(|node| node.kind());
-        self.check_caller(caller).map(|()| found)
+        self.check_caller(caller)?;
+        Ok(self.tree.get(path.names()).map(|node| node.kind()))
     }
 
     /// The bytes of a file so far. Refused `Missing`, `NotFile`.
     pub fn read(&self, caller: Caller, path: &Path) -> Result<Bytes, NameFault>
-        ensures { Makes Answer.Contents self.now caller (Op.Read path.now) result self.now }
+        ensures made { Makes Answer.Contents self.now caller (Op.Read path.now) result self.now }
+        // A file without bytes wants no memory.
+        ensures always { may_want_memory self.now (Op.Read path.now) ≡ false → MakesAlways Answer.Contents self.now caller (Op.Read path.now) result self.now }
     {
         self.check_caller(caller)?;
         match self.tree.get(path.names()) {
@@ -207,7 +215,7 @@ impl Namespace {
     pub fn bar(&mut self, caller: Caller, attempt: AttemptId) -> Result<(), NameFault>
         ensures made { Makes (λ _. Answer.Done) self.old caller (Op.Bar attempt) result self.new }
         // One that is barred wants no memory.
-        ensures there { is_barred self.old.barred attempt ≡ true → MakesAlways (λ _. Answer.Done) self.old caller (Op.Bar attempt) result self.new }
+        ensures always { may_want_memory self.old (Op.Bar attempt) ≡ false → MakesAlways (λ _. Answer.Done) self.old caller (Op.Bar attempt) result self.new }
     {
         self.check_bar(caller, attempt)?;
         self.barred.insert(attempt)?;
@@ -217,8 +225,8 @@ impl Namespace {
     /// Makes a call that is given as a value, and gives its answer as one.
     pub fn perform(&mut self, caller: Caller, op: &Op) -> Result<Answer, NameFault>
         ensures made { Makes (λ answer. answer) self.old caller op.now result self.new }
-        // Any other call never wants memory.
-        ensures always { may_want_memory op.now ≡ false → MakesAlways (λ answer. answer) self.old caller op.now result self.new }
+        // Where it adds nothing and hands nothing out it wants no memory.
+        ensures always { may_want_memory self.old op.now ≡ false → MakesAlways (λ answer. answer) self.old caller op.now result self.new }
     {
         match op {
             Op::Mkdirs(path) => self.mkdirs(caller, path)?,

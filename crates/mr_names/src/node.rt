@@ -1,5 +1,5 @@
 //! What stands at a path, a directory or a file with its bytes, and the entries that a directory lists.
-ghost use Rattle.std.specs.Prelude.{◌≡◌, ◌↔◌, ◌++◌, ◌∷◌, [], IfOk, OnOk, OnErr, length, IsTrue};
+ghost use Rattle.std.specs.Prelude.{◌≡◌, ◌↔◌, ◌++◌, ◌∷◌, [], IfOk, OnOk, OnErr, length, nat_lt, true, IsTrue};
 ghost use Rattle.mr_names.specs.Walk.{length_of};
 ghost use Rattle.mr_names.specs.Node.{appended, closed_of, kind_of};
 
@@ -66,15 +66,24 @@ impl Bytes {
     pub fn extend(&mut self, more: &[u8]) -> Result<(), AllocError>
         ensures ok { OnOk result (self.new ≡ self.old ++ more.now) }
         ensures err { OnErr result (self.new ≡ self.old) }
+        ensures some { OnErr result (nat_lt 0 (length more.now) ≡ true) }
     {
+        if more.is_empty() {
+            return Ok(());
+        }
         self.items.extend_from_slice(more)
     }
 
     pub fn copy(&self) -> Result<Bytes, AllocError>
-        ensures { IfOk result (λ bytes. bytes ≡ self.now) }
+        ensures ok { IfOk result (λ bytes. bytes ≡ self.now) }
+        ensures some { OnErr result (nat_lt 0 (length self.now) ≡ true) }
     {
+        let alloc = *self.items.allocator();
+        if self.items.is_empty() {
+            return Ok(Bytes::new(alloc));
+        }
         Ok(Bytes {
-            items: Vec::from_slice(*self.items.allocator(), &self.items)?,
+            items: Vec::from_slice(alloc, &self.items)?,
         })
     }
 }
@@ -91,6 +100,7 @@ impl Node {
     pub fn append(&mut self, more: &[u8]) -> Result<(), AllocError>
         ensures ok { OnOk result (self.new ≡ appended more.now self.old) }
         ensures err { OnErr result (self.new ≡ self.old) }
+        ensures some { OnErr result (nat_lt 0 (length more.now) ≡ true) }
     {
         match self {
             Node::Dir => Ok(()),

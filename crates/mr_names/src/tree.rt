@@ -1,5 +1,5 @@
 //! The directories and files of a namespace by their paths, as a tree in memory. It knows no callers, and refuses for want of memory alone.
-ghost use Rattle.std.specs.Prelude.{◌≡◌, ◌+◌, ℕ, [], ◌∷◌, ◌++◌, IfOk, OnOk, OnErr, length, ◌<◌, ◌≤◌, ◌^◌, Some, None, is_some, true, false, IsTrue, take, drop, filter};
+ghost use Rattle.std.specs.Prelude.{◌≡◌, ◌+◌, ℕ, [], ◌∷◌, ◌++◌, IfOk, OnOk, OnErr, length, nat_lt, ◌<◌, ◌≤◌, ◌^◌, Some, None, is_some, true, false, IsTrue, take, drop, filter};
 ghost use Rattle.std.specs.Prelude.{map as list_map};
 ghost use Rattle.std.specs.FinMap as map;
 ghost use Rattle.std.specs.Option.{option_copied};
@@ -98,6 +98,7 @@ impl Tree {
     pub fn make_dirs(&mut self, alloc: Global, names: &[Name]) -> Result<(), AllocError>
         ensures ok { OnOk result (self.new ≡ with_dirs self.old (filter (is_absent self.old) (prefixes names.now))) }
         ensures err { OnErr result (self.new ≡ self.old) }
+        ensures absent { OnErr result (is_absent self.old names.now ≡ true) }
     {
         let (at, there) = reach(&self.nodes, self.root, names);
         if names.len() <= there {
@@ -140,7 +141,8 @@ impl Tree {
 
     /// The entries directly beneath a path, by the bytes of their names.
     pub fn children(&self, alloc: Global, top: &[Name]) -> Result<Entries, AllocError>
-        ensures { IfOk result (λ entries. entries ≡ children self.now top.now) }
+        ensures entries { IfOk result (λ entries. entries ≡ children self.now top.now) }
+        ensures some { OnErr result (nat_lt 0 (length (children self.now top.now)) ≡ true) }
     {
         match find(&self.nodes, self.root, top) {
             Some(key) => list(&self.nodes, alloc, key),
@@ -184,6 +186,7 @@ impl Tree {
     pub fn append(&mut self, names: &[Name], more: &[u8]) -> Result<(), AllocError>
         ensures ok { OnOk result (self.new ≡ changed_at self.old names.now (appended more.now)) }
         ensures err { OnErr result (self.new ≡ self.old) }
+        ensures some { OnErr result (nat_lt 0 (length more.now) ≡ true) }
     {
         let Some(key) = find(&self.nodes, self.root, names) else {
             return Ok(());

@@ -1,4 +1,4 @@
-use Rattle.std.proofs.Common.{◌≡◌, ℕ, sym, ◌∙◌, Some, None}
+use Rattle.std.proofs.Common.{sym}
 use Rattle.mr_names.specs.inner.Tree.{first_edge}
 use Rattle.mr_names.proofs.Deleting.{opt_none, cutting_down, cutting_up, cutting_done}
 use Rattle.mr_names.proofs.links.cut_on.Goals as goal

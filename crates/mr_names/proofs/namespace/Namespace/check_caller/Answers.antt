@@ -1,4 +1,4 @@
-use Rattle.std.proofs.Common.{◌≡◌, true, false, nat_lt, subst, sym, ap, ◌∙◌, Some, None, rules}
+use Rattle.std.proofs.Common.{◌≡◌, true, false, nat_lt, subst, sym, ◌∙◌, Some, None, rules}
 use Rattle.mr_names.specs.declared.fault.NameFault.TheVariants.{Superseded, Barred}
 use Rattle.mr_names.specs.Calls.{unheard}
 use Rattle.mr_names.proofs.Callers.{unheard-low, unheard-barred, unheard-none}

@@ -1,11 +1,11 @@
-use Rattle.std.proofs.Common.{◌≡◌, ◌∙◌, ◌+◌, ◌++◌, ◌-◌, length, List, ℕ, ap, sym, subst, take, drop, filter}
+use Rattle.std.proofs.Common.{◌≡◌, ◌∙◌, ◌+◌, ◌++◌, ◌-◌, length, List, ℕ, true, ap, sym, subst, take, drop, filter}
 use Rattle.mr_paths.specs.Path.{prefixes}
 use Rattle.mr_names.specs.Content.{without, with_dirs}
 use Rattle.mr_names.specs.Held.{is_absent}
 use Rattle.mr_names.specs.inner.Tree.{paths_down, HasRoom}
 use Rattle.mr_names.specs.inner.TreeProofs.{held_prop}
 use Rattle.mr_names.proofs.Graph.{content_is, either}
-use Rattle.mr_names.proofs.Making.{has_room, made_is, made_none, first_made, left_is}
+use Rattle.mr_names.proofs.Making.{has_room, made_is, made_none, first_made, left_is, none_there}
 use Rattle.mr_names.proofs.tree.Tree.make_dirs.Goals as goal
 
 pub same-self : goal.same-self
@@ -53,3 +53,8 @@ returns-in-Err-clause-err c =
     ∙ ap (without (take (there + 1) c.args.names.now)) (content_is c.add_dirs.new.nodes c.self.inside.root c.self-2-1.given.0 v.0 v.1)
     ∙ ap (λ p. without p v.0) (first_made c.self.inside.nodes c.self.inside.root c.self.inside.held.0 c.self.inside.held.1 c.args.names.now c.reach-at.result.0 c.reach-at.result.1 c.reach-at.ensures.within c.reach-at.ensures.leads c.reach-at.ensures.ends c.if-names-there.false ∙ ap (λ xs. take there c.args.names.now ++ take 1 xs) (sym (left_is c.args.names.now there)))
     ∙ v.2 ∙ c.self.view_is
+
+pub returns-in-Err-clause-absent : goal.returns-in-Err-clause-absent
+returns-in-Err-clause-absent c =
+    subst (λ m. is_absent m c.args.names.now ≡ true) c.self.view_is
+    (none_there c.self.inside.nodes c.self.inside.root c.self.inside.held.0 c.self.inside.held.1 c.args.names.now c.reach-at.result.0 c.reach-at.result.1 c.reach-at.ensures.within c.reach-at.ensures.leads c.reach-at.ensures.ends c.if-names-there.false)
