@@ -7,7 +7,8 @@ pub mod ContentLaws
 pub mod Counting
 pub mod Deleting
 pub mod Graph
-pub mod ListingLaws
+pub mod Limits
+mod ListingLaws
 pub mod NodeLines
 pub mod Making
 pub mod RowLaws

@@ -37,9 +37,15 @@ state_code =
     (λ p. record { content = p.0.0; fence = p.0.1; barred = p.1 })
     (λ _. refl)
 
--- what holds of each namespace: its content is a tree, its fence was raised to generations alone, and it keeps its limit
+-- each file keeps its limit
+abbrev pub FilesFit : Content → Type 0
+FilesFit c = (path : List (List ℕ)) → length (bytes_of (node_at c path)) ≤ MAX_FILE_LEN
+
+-- what holds of each namespace: its content is a tree, its fence was raised to generations alone, and its files and its barred attempts keep
+-- their limits
 pub record IsSound (s : State) : Type 0 where
   pub tree : IsTree s.content
+  pub files : FilesFit s.content
   pub fence : s.fence ≤ 1000
   pub barred : set.len s.barred ≤ MAX_BARRED
 

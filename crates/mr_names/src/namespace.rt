@@ -324,7 +324,7 @@ impl Namespace {
             Some(Node::File(bytes, closed)) => {
                 if *closed {
                     Err(NameFault::Closed)
-                } else if MAX_FILE_LEN < bytes.len() || MAX_FILE_LEN - bytes.len() < more.len() {
+                } else if MAX_FILE_LEN - bytes.len() < more.len() {
                     Err(NameFault::Full)
                 } else {
                     Ok(())

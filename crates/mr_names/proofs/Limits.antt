@@ -1,0 +1,66 @@
+-- Each file keeps its limit.
+use Rattle.std.proofs.Common.{◌≡◌, ◌≤◌, ◌+◌, ℕ, Bool, true, false, cond, List, [], ◌++◌, length, length-append, refl, sym, ap, ◌∙◌, subst, Option, Some, None, arith}
+use Rattle.std.specs.Option.{option_map}
+use Rattle.std.specs.FinMap as finite
+use Rattle.mr_paths.specs.Path.{path_cmp, strip}
+use Rattle.mr_names.specs.declared.node.Node.{Node}
+use Rattle.mr_names.specs.declared.node.Node.TheVariants.{Dir, File}
+use Rattle.mr_names.specs.declared.op.Caller.{Caller}
+use Rattle.mr_names.specs.declared.op.Op.{Op}
+use Rattle.mr_names.specs.declared.op.Op.TheVariants as op
+use Rattle.mr_names.specs.declared.namespace.TheConstants.{MAX_FILE_LEN}
+use Rattle.mr_names.specs.Node.{appended, closed_of}
+use Rattle.mr_names.specs.Content.{Content, IsTree, is_path, within, renamed_at_by}
+use Rattle.mr_names.specs.Held.{node_at, bytes_of}
+use Rattle.mr_names.specs.Calls.{State, FilesFit, refusal, refused, effect}
+use Rattle.mr_names.specs.Laws.{node_after}
+use Rattle.mr_names.proofs.CallLaws.{each_path, answered_only, get-written, is_path-same}
+use Rattle.mr_names.proofs.TreeLaws.{past_caller}
+
+abbrev Fits : Option Node → Type 0
+Fits o = length (bytes_of o) ≤ MAX_FILE_LEN
+
+pick : (b : Bool) (x y : Option Node) → Fits x → Fits y → Fits (cond b x y)
+pick true x y fx fy = fx
+pick false x y fx fy = fy
+
+fits_more : (more : List ℕ) (o : Option Node) → length (bytes_of o) + length more ≤ MAX_FILE_LEN → Fits (option_map (appended more) o)
+fits_more more None h = omega arith
+fits_more more (Some Dir) h = omega arith
+fits_more more (Some (File bytes closed)) h = omega (arith, length-append bytes more)
+
+fits_closed : (o : Option Node) → Fits o → Fits (option_map closed_of o)
+fits_closed None h = h
+fits_closed (Some Dir) h = h
+fits_closed (Some (File bytes closed)) h = h
+
+fits_after : (c : Content) (call : Op) (q : List (List ℕ)) → refusal c call ≡ None → FilesFit c → Fits (node_after c call q)
+fits_after c (op.Mkdirs path) q none fit = pick _ (Some Dir) (node_at c q) (omega arith) (fit q)
+fits_after c (op.Create path closed) q none fit = pick (is_path q path) (Some (File [] closed)) (node_at c q) (omega arith) (fit q)
+fits_after c (op.Append path bytes) q none fit = by (is_path q path) refl
+  where
+    by : (b : Bool) → is_path q path ≡ b → Fits (cond b (option_map (appended bytes) (node_at c q)) (node_at c q))
+    by true is = fits_more bytes (node_at c q) (subst (λ p. length (bytes_of (node_at c p)) + length bytes ≤ MAX_FILE_LEN) (sym (is_path-same q path is)) (answered_only c (op.Append path bytes) none).fits)
+    by false is = fit q
+fits_after c (op.Close path) q none fit = pick (is_path q path) (option_map closed_of (node_at c q)) (node_at c q) (fits_closed (node_at c q) (fit q)) (fit q)
+fits_after c (op.Delete path) q none fit = pick (within path q) None (node_at c q) (omega arith) (fit q)
+fits_after c (op.Rename from to) q none fit = by (strip to q)
+  where
+    by : (o : Option (List (List ℕ))) → Fits (renamed_at_by from c q o)
+    by (Some rest) = fit (from ++ rest)
+    by None = pick (within from q) None (node_at c q) (omega arith) (fit q)
+fits_after c (op.List path) q none fit = fit q
+fits_after c (op.Exists path) q none fit = fit q
+fits_after c (op.Read path) q none fit = fit q
+fits_after c (op.Bar a) q none fit = fit q
+
+pub files_effect : (c : Content) (call : Op) → IsTree c → refusal c call ≡ None → FilesFit c → FilesFit (effect c call)
+files_effect c call tree none fit q = subst Fits (sym (each_path c call q tree none)) (fits_after c call q none fit)
+
+-- what a call that is not refused leaves, seen at the content alone
+pub files_after : (s : State) (caller : Caller) (call : Op) (new : Content) → refused s caller call ≡ None → IsTree s.content → FilesFit s.content → new ≡ effect s.content call → FilesFit new
+files_after s caller call new none tree fit is = subst FilesFit (sym is) (files_effect s.content call tree (past_caller s caller call none) fit)
+
+-- the root alone
+pub files_root : FilesFit (finite.insert finite.empty [] Dir)
+files_root q = subst Fits (sym (get-written finite.empty [] Dir q ∙ ap (cond (is_path q []) (Some Dir)) (finite.get-empty path_cmp q))) (pick (is_path q []) (Some Dir) None (omega arith) (omega arith))
