@@ -136,15 +136,6 @@ impl Node {
             Node::File(bytes, _closed) => Some(bytes.len()),
         }
     }
-
-    pub fn copy(&self) -> Result<Node, AllocError>
-        ensures { IfOk result (λ node. node ≡ self.now) }
-    {
-        match self {
-            Node::Dir => Ok(Node::Dir),
-            Node::File(bytes, closed) => Ok(Node::File(bytes.copy()?, *closed)),
-        }
-    }
 }
 
 /// Which of the two is at a path.
