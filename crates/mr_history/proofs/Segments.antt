@@ -1,6 +1,6 @@
 -- Each call on a segment keeps it sound, and what it does to the segment's records.
 use Rattle.std.proofs.Common.{◌≡◌, ◌≤◌, ◌+◌, ◌-◌, ℕ, Bool, true, false, cond, nat_eq, nat_lt, List, [], ◌∷◌, ◌++◌, length, take, drop, min, refl, sym, ap, ap₂, ◌∙◌, arith, append_assoc, append-nil, length-append, sum_by, true≢false, subst, inl, inr, Option, Some, None, is_some, is_none, Err}
-use Rattle.std.proofs.lemmas.List.{take_all, take-append-drop, take-append-le, drop-append-le, length-drop, length-take-le}
+use Rattle.std.proofs.lemmas.List.{take_all, take-append-drop, take-append-le, drop-append-le, length-drop, length-take, length-take-le}
 use Rattle.std.proofs.Math.Seq.{take-add, take-append-add}
 use Rattle.std.proofs.Math.ListN.{drop_of_length-le}
 use Rattle.std.proofs.lemmas.Bool.{cases_lt, and_parts}
@@ -16,7 +16,7 @@ use Rattle.mr_history.specs.Recorded.{SegmentRecords, recorded, unwritten, added
 use Rattle.mr_history.specs.declared.fault.HistoryFault.{HistoryFault}
 use Rattle.mr_history.specs.declared.fault.HistoryFault.TheVariants.{Superseded, Sealed, BadLine, Full, NoMemory}
 use Rattle.mr_history.specs.Reading.{records_of, records_as, bad_line, Replays}
-use Rattle.mr_history.specs.Segment.{fresh, opening, addition, appended, flushed, sealed, first_of, growth_refusal, IsOpen, IsFront, IsSound}
+use Rattle.mr_history.specs.Segment.{fresh, opening, addition, appended, flushed, sealed, first_of, growth_refusal, append_refusal, IsOpen, IsFront, IsSound}
 use Rattle.mr_history.proofs.Replays.{takes_some}
 use Rattle.mr_history.proofs.Tellings.{told_lines, torn_tells, head_records, tells, tells_torn, tells_front, in_version, front, whole_are, all_append, lines_both}
 
@@ -78,22 +78,41 @@ opens version (q ∷ rs) n r is =
 
 -- ---- each call keeps a segment sound
 
-opened : (v : ℕ) (stable tail : List ℕ) (shut : Bool) → shut ≡ false → IsVersion v → IsOpen v stable tail → IsSound (record { version = v; stable = stable; tail = tail; is_sealed = shut })
-opened v stable tail shut free is o = record {
+-- what is not refused is open
+pub not_sealed : (s : SegmentState) (more : ℕ) → growth_refusal more s ≡ None → s.is_sealed ≡ false
+not_sealed s more e = by s.is_sealed e
+  where
+    by : (b : Bool) → first_of ((b, Sealed) ∷ (nat_lt MAX_SEGMENT_LEN (length s.stable + length s.tail + length (opening s) + more), Full) ∷ []) ≡ None → b ≡ false
+    by false e = refl
+    by true e = absurd (cc)
+
+-- and there is room for it
+room : (s : SegmentState) (more : ℕ) → growth_refusal more s ≡ None → length s.stable + length s.tail + length (opening s) + more ≤ MAX_SEGMENT_LEN
+room s more e = by s.is_sealed (nat_lt MAX_SEGMENT_LEN (length s.stable + length s.tail + length (opening s) + more)) refl e
+  where
+    by : (b t : Bool) → nat_lt MAX_SEGMENT_LEN (length s.stable + length s.tail + length (opening s) + more) ≡ t → first_of ((b, Sealed) ∷ (t, Full) ∷ []) ≡ None → length s.stable + length s.tail + length (opening s) + more ≤ MAX_SEGMENT_LEN
+    by true t h e = absurd (cc)
+    by false true h e = absurd (cc)
+    by false false h e = grind (arith, nat_tests)
+
+opened : (v : ℕ) (stable tail : List ℕ) (shut : Bool) → shut ≡ false → IsVersion v → length stable + length tail ≤ MAX_SEGMENT_LEN → IsOpen v stable tail → IsSound (record { version = v; stable = stable; tail = tail; is_sealed = shut })
+opened v stable tail shut free is few o = record {
   when_open = λ e. o;
   when_sealed = λ e. absurd (true≢false (sym e ∙ free));
   version = is;
+  short = few;
 }
 
-closed : (v : ℕ) (stable : List ℕ) → IsVersion v → IsFront v stable → IsSound (record { version = v; stable = stable; tail = []; is_sealed = true })
-closed v stable is f = record {
+closed : (v : ℕ) (stable : List ℕ) → IsVersion v → length stable ≤ MAX_SEGMENT_LEN → IsFront v stable → IsSound (record { version = v; stable = stable; tail = []; is_sealed = true })
+closed v stable is few f = record {
   when_open = λ e. absurd (true≢false e);
   when_sealed = λ e. (f, refl);
   version = is;
+  short = omega (arith, few);
 }
 
 pub sound_fresh : (version : ℕ) → IsVersion version → IsSound (fresh version)
-sound_fresh version is = opened version [] [] false refl is (record { first = []; second = []; are_first = tt; are_second = tt; stable_is = refl; tail_is = refl })
+sound_fresh version is = opened version [] [] false refl is (omega arith) (record { first = []; second = []; are_first = tt; are_second = tt; stable_is = refl; tail_is = refl })
 
 open_appended : (s : SegmentState) (r : Record) → IsOpen s.version s.stable s.tail → IsRecordOf s.version (as_written s.version r) → IsOpen s.version s.stable (s.tail ++ opening s ++ whole_line (as_written s.version r))
 open_appended s r o k =
@@ -112,11 +131,19 @@ open_appended s r o k =
           ∙ sym (more_addition s.version o.first o.second (w ∷ []));
     }
 
-sound_told : (s : SegmentState) (r : Record) → IsSound s → s.is_sealed ≡ false → IsRecordOf s.version (as_written s.version r) → IsSound (appended r s)
-sound_told s r h free k = opened s.version s.stable (s.tail ++ opening s ++ whole_line (as_written s.version r)) s.is_sealed free h.version (open_appended s r (h.when_open free) k)
+sound_told : (s : SegmentState) (r : Record) → IsSound s → append_refusal r s ≡ None → IsRecordOf s.version (as_written s.version r) → IsSound (appended r s)
+unfolding width
+sound_told s r h may k =
+    let w = as_written s.version r in
+    let free = not_sealed s (width w) may in
+    let fits = room s (width w) may in
+    let line = length-append (line_of w) (10 ∷ []) in
+    let more = length-append (s.tail ++ opening s) (whole_line w) in
+    let before = length-append s.tail (opening s) in
+    opened s.version s.stable (s.tail ++ opening s ++ whole_line w) s.is_sealed free h.version (omega arith) (open_appended s r (h.when_open free) k)
 
-pub sound_appended : (s : SegmentState) (r : Record) → IsSound s → s.is_sealed ≡ false → IsRecord r → suits s.version r ≡ true → IsSound (appended r s)
-sound_appended s r h free k fit = sound_told s r h free (written_is s.version r k fit)
+pub sound_appended : (s : SegmentState) (r : Record) → IsSound s → append_refusal r s ≡ None → IsRecord r → suits s.version r ≡ true → IsSound (appended r s)
+sound_appended s r h may k fit = sound_told s r h may (written_is s.version r k fit)
 
 open_flushed : (v : ℕ) (stable tail : List ℕ) → IsOpen v stable tail → IsOpen v (stable ++ tail) []
 open_flushed v stable tail o = record {
@@ -129,7 +156,7 @@ open_flushed v stable tail o = record {
 }
 
 pub sound_flushed : (s : SegmentState) → IsSound s → s.is_sealed ≡ false → IsSound (flushed s)
-sound_flushed s h free = opened s.version (s.stable ++ s.tail) [] s.is_sealed free h.version (open_flushed s.version s.stable s.tail (h.when_open free))
+sound_flushed s h free = opened s.version (s.stable ++ s.tail) [] s.is_sealed free h.version (let e = length-append s.stable s.tail in let few = h.short in omega arith) (open_flushed s.version s.stable s.tail (h.when_open free))
 
 front_cut : (v : ℕ) (stable tail : List ℕ) (kept : ℕ) → IsOpen v stable tail → IsFront v (stable ++ take kept tail)
 front_cut v stable tail kept o = record {
@@ -143,7 +170,7 @@ front_cut v stable tail kept o = record {
 }
 
 pub sound_cut : (s : SegmentState) (kept : ℕ) → IsSound s → s.is_sealed ≡ false → IsSound (record { version = s.version; stable = s.stable ++ take kept s.tail; tail = []; is_sealed = true })
-sound_cut s kept h free = closed s.version (s.stable ++ take kept s.tail) h.version (front_cut s.version s.stable s.tail kept (h.when_open free))
+sound_cut s kept h free = closed s.version (s.stable ++ take kept s.tail) h.version (let e = length-append s.stable (take kept s.tail) in let cut = length-take kept s.tail in let few = h.short in omega arith) (front_cut s.version s.stable s.tail kept (h.when_open free))
 
 pub sound_sealed : (s : SegmentState) (kept : ℕ) → IsSound s → IsSound (sealed kept s)
 sound_sealed s kept h = by s.is_sealed refl
@@ -166,15 +193,15 @@ flushed_inside v bytes mark n shut free is h =
     (take-append-drop mark bytes ∙ sym (take_all n bytes (omega arith))) (sym (drop_of_length-le bytes (omega arith)))
     (sound_flushed (record { version = v; stable = take mark bytes; tail = drop mark bytes; is_sealed = shut }) h free)
 
-pub appended_inside : (v : ℕ) (bytes line new : List ℕ) (mark : ℕ) (r : Record) (shut : Bool) → mark ≤ length bytes → new ≡ bytes ++ line → shut ≡ false →
+pub appended_inside : (v : ℕ) (bytes line new : List ℕ) (mark : ℕ) (r : Record) (shut : Bool) → mark ≤ length bytes → new ≡ bytes ++ line → append_refusal r (record { version = v; stable = take mark bytes; tail = drop mark bytes; is_sealed = shut }) ≡ None →
     line ≡ opening (record { version = v; stable = take mark bytes; tail = drop mark bytes; is_sealed = shut }) ++ whole_line (as_written v r) →
     IsRecordOf v (as_written v r) → IsSound (record { version = v; stable = take mark bytes; tail = drop mark bytes; is_sealed = shut }) → IsSound (record { version = v; stable = take mark new; tail = drop mark new; is_sealed = shut })
-appended_inside v bytes line new mark r shut le added free is k h =
+appended_inside v bytes line new mark r shut le added may is k h =
     let s : SegmentState = record { version = v; stable = take mark bytes; tail = drop mark bytes; is_sealed = shut } in
     same v (take mark bytes) (drop mark bytes ++ opening s ++ whole_line (as_written v r)) (take mark new) (drop mark new) shut
     (sym (take-append-le mark bytes line le) ∙ ap (take mark) (sym added))
     (append_assoc (drop mark bytes) (opening s) (whole_line (as_written v r)) ∙ ap (λ l. drop mark bytes ++ l) (sym is) ∙ sym (drop-append-le mark bytes line le) ∙ ap (drop mark) (sym added))
-    (sound_told s r h free k)
+    (sound_told s r h may k)
 
 take_min : (k : ℕ) (xs : List ℕ) → take (min k (length xs)) xs ≡ take k xs
 take_min k xs = elim (cases_lt k (length xs)) [
@@ -347,17 +374,17 @@ read_some s bytes f h is told none =
     let good = ap bad_line is ∙ sound_good s h in
     takes_some bytes good (subst (λ g. Replays bytes (Err g)) (only_memory bytes f good told) told) (ap records_of is ∙ none)
 
--- what is not refused is open
-pub not_sealed : (s : SegmentState) (more : ℕ) → growth_refusal more s ≡ None → s.is_sealed ≡ false
-not_sealed s more e = by s.is_sealed e
-  where
-    by : (b : Bool) → first_of ((b, Sealed) ∷ (nat_lt MAX_SEGMENT_LEN (length s.stable + length s.tail + length (opening s) + more), Full) ∷ []) ≡ None → b ≡ false
-    by false e = refl
-    by true e = absurd (cc)
-
 -- the mark that a seal leaves stands at the end of the bytes that it leaves
 pub cut_mark : (bytes new : List ℕ) (mark kept k len : ℕ) → mark ≤ length bytes → len ≡ length bytes → k ≡ min kept (len - mark) → new ≡ take (mark + k) bytes → (new ≡ take (mark + min kept (length bytes - mark)) bytes) × (mark + k ≡ length new)
 cut_mark bytes new mark kept k len low is few cut =
     let own : k ≡ min kept (length bytes - mark) = few ∙ ap (λ n. min kept (n - mark)) is in
     let end : mark + k ≤ length bytes = omega arith in
     (cut ∙ ap (λ n. take (mark + n) bytes) own, sym (ap length cut ∙ length-take-le (mark + k) bytes end))
+
+-- the bytes of a sound segment are within the limit
+pub bytes_short : (v : ℕ) (bytes : List ℕ) (mark : ℕ) (shut : Bool) → IsSound (record { version = v; stable = take mark bytes; tail = drop mark bytes; is_sealed = shut }) → length bytes ≤ MAX_SEGMENT_LEN
+bytes_short v bytes mark shut h =
+    let e = ap length (take-append-drop mark bytes) in
+    let f = length-append (take mark bytes) (drop mark bytes) in
+    let few = h.short in
+    omega arith

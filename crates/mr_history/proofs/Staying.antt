@@ -102,7 +102,7 @@ not_refused h k call e = not_below (nat_lt k h.fence) (Superseded h.fence) (refu
 effect_history : (h : State) (k : ℕ) (call : Call) → IsHistory h → 1 ≤ k → k ≤ h.fence → IsCall (segment h k) call → nat_lt k h.fence ≡ false → refusal (segment h k) call ≡ None → IsHistory (effect h k call)
 effect_history h k (Append r) is low high may newest e =
     let s = segment h k in
-    changed_one h k (appended r s) is low high (sound_appended s r (segment_sound h k is) (not_sealed s (width (as_written s.version r)) e) may.0 may.1) (λ below. absurd (let f : nat_lt k h.fence ≡ true = grind (arith, nat_tests) in true≢false (sym f ∙ newest)))
+    changed_one h k (appended r s) is low high (sound_appended s r (segment_sound h k is) e may.0 may.1) (λ below. absurd (let f : nat_lt k h.fence ≡ true = grind (arith, nat_tests) in true≢false (sym f ∙ newest)))
 effect_history h k Flush is low high may newest e =
     let s = segment h k in
     changed_one h k (flushed s) is low high (sound_flushed s (segment_sound h k is) (flush_open s e)) (λ below. absurd (let f : nat_lt k h.fence ≡ true = grind (arith, nat_tests) in true≢false (sym f ∙ newest)))

@@ -11,7 +11,7 @@ use Rattle.mr_history.specs.State.{SegmentState, State}
 use Rattle.mr_history.specs.Line.{line_of, version_line, head, text, lines, width, whole_in, suits, IsVersion, IsRecord, IsRecordOf}
 use Rattle.mr_history.specs.Json.{value_of}
 use Rattle.mr_history.specs.Reading.{record_of, records_as, records_of, version_of, torn_of, bad_line, HasNoFeed}
-use Rattle.mr_history.specs.Segment.{fresh, appended, flushed, sealed, IsSound}
+use Rattle.mr_history.specs.Segment.{fresh, appended, flushed, sealed, append_refusal, IsSound}
 use Rattle.mr_history.specs.Calls.{Call, Append, Flush, Read, Done, Makes, MakesAlways, refused, effect, segment, with_segment, with_version, sealed_at, raised, call_of, records_in, records_before, AreUnraised}
 use Rattle.mr_history.specs.Recorded.{recorded, unwritten, added, settled, cut, tail_width}
 use Rattle.mr_history.specs.Winner.{winner_in, length_in}
@@ -52,10 +52,11 @@ pub record SegmentsRecord : Type 0 where
   pub stays : (s : SegmentState) (kept : ℕ) → s.is_sealed ≡ true → sealed kept s ≡ s
   pub tail_len : (s : SegmentState) → IsSound s → length s.tail ≡ tail_width (recorded s)
 
--- Each change keeps a segment sound, and each record of a sound segment is one that its version can tell.
+-- Each change keeps a segment sound, an append where it is not refused: so no segment passes the limit. Each record of a
+-- sound segment is one that its version can tell.
 pub record SegmentsStaySound : Type 0 where
   pub of_fresh : (version : ℕ) → IsVersion version → IsSound (fresh version)
-  pub of_appended : (s : SegmentState) (r : Record) → IsSound s → s.is_sealed ≡ false → IsRecord r → suits s.version r ≡ true → IsSound (appended r s)
+  pub of_appended : (s : SegmentState) (r : Record) → IsSound s → append_refusal r s ≡ None → IsRecord r → suits s.version r ≡ true → IsSound (appended r s)
   pub of_flushed : (s : SegmentState) → IsSound s → s.is_sealed ≡ false → IsSound (flushed s)
   pub of_sealed : (s : SegmentState) (kept : ℕ) → IsSound s → IsSound (sealed kept s)
   pub no_bad_line : (s : SegmentState) → IsSound s → bad_line s.stable ≡ None

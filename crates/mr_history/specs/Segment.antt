@@ -1,6 +1,6 @@
 -- One segment of the history. That a flush makes bytes stable, that a crash keeps a front of the rest and that a
 -- sealed segment takes nothing more is our own profile.
-use Rattle.std.specs.Prelude.{◌≡◌, ◌+◌, ℕ, Bool, true, false, nat_lt, nat_eq, List, [], ◌∷◌, ◌++◌, length, take, Option, Some, None, unwrap_or, Result, Ok, Err, if◌then◌else◌}
+use Rattle.std.specs.Prelude.{◌≡◌, ◌≤◌, ◌+◌, ℕ, Bool, true, false, nat_lt, nat_eq, List, [], ◌∷◌, ◌++◌, length, take, Option, Some, None, unwrap_or, Result, Ok, Err, if◌then◌else◌}
 use Rattle.mr_history.specs.declared.record.Record.{Record}
 use Rattle.mr_history.specs.declared.fault.HistoryFault.{HistoryFault}
 use Rattle.mr_history.specs.declared.fault.HistoryFault.TheVariants as fault
@@ -57,7 +57,8 @@ abbrev pub ChangesAlways : Option HistoryFault → SegmentState → SegmentState
 ChangesAlways refusal old wanted (Ok u) new = (refusal ≡ None) × (new ≡ wanted)
 ChangesAlways refusal old wanted (Err f) new = (refusal ≡ Some f) × (new ≡ old)
 
--- ---- what holds of each segment: its bytes are those of records, and only a seal leaves a torn end
+-- ---- what holds of each segment: its bytes are those of records and within the limit, and only a seal leaves a torn
+-- end
 
 -- what is added to a segment with the first records by the second ones
 abbrev pub addition : ℕ → List Record → List Record → List ℕ
@@ -84,3 +85,4 @@ pub record IsSound (s : SegmentState) : Type 0 where
   pub when_open : s.is_sealed ≡ false → IsOpen s.version s.stable s.tail
   pub when_sealed : s.is_sealed ≡ true → IsFront s.version s.stable × (s.tail ≡ [])
   pub version : IsVersion s.version
+  pub short : length s.stable + length s.tail ≤ MAX_SEGMENT_LEN

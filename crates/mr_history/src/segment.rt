@@ -109,7 +109,7 @@ impl Segment {
             return Some(HistoryFault::Sealed);
         }
         let len = self.bytes.len();
-        if MAX_SEGMENT_LEN < len || MAX_SEGMENT_LEN - len < more {
+        if MAX_SEGMENT_LEN - len < more {
             Some(HistoryFault::Full)
         } else {
             None
