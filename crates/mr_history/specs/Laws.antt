@@ -6,6 +6,7 @@ use Rattle.mr_ids.specs.Attempt.{Attempt}
 use Rattle.mr_ids.specs.declared.id.TaskId.{TaskId}
 use Rattle.mr_history.specs.declared.record.Record.{Record}
 use Rattle.mr_history.specs.declared.fault.HistoryFault.{HistoryFault}
+use Rattle.mr_history.specs.declared.line.TheConstants.{MAX_LINE_LEN}
 use Rattle.mr_history.specs.declared.fault.HistoryFault.TheVariants.{NoMemory}
 use Rattle.mr_history.specs.State.{SegmentState, State}
 use Rattle.mr_history.specs.Line.{line_of, version_line, head, text, lines, width, whole_in, suits, IsVersion, IsRecord, IsRecordOf}
@@ -17,12 +18,13 @@ use Rattle.mr_history.specs.Recorded.{recorded, unwritten, added, settled, cut, 
 use Rattle.mr_history.specs.Winner.{winner_in, length_in}
 
 -- A line is read back as its record, in the versions that can tell it, and whatever is read as a record is that
--- record's line. It is JSON. The version line is no record.
+-- record's line. It is JSON, and not longer than the longest. The version line is no record.
 pub record LinesReadBack : Type 0 where
   pub there : (version : ℕ) (r : Record) → IsRecordOf version r → record_of version (line_of r) ≡ Some r
   pub back : (version : ℕ) (line : List ℕ) (r : Record) → record_of version line ≡ Some r → IsRecordOf version r × (line ≡ line_of r)
   pub is_json : (r : Record) → IsRecord r → read (line_of r) ≡ Some (value_of r)
   pub has_no_feed : (r : Record) → IsRecord r → HasNoFeed (line_of r)
+  pub is_short : (r : Record) → IsRecord r → length (line_of r) ≤ MAX_LINE_LEN
   pub of_version : (version : ℕ) → record_of version version_line ≡ None
 
 -- Whole lines, and what follows them.

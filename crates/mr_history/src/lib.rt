@@ -28,8 +28,9 @@
 //!   are no record.
 //! - `replay` gives the version that the bytes show, the records of all whole lines and how many bytes stand after
 //!   the last line feed, or `BadLine` with the number of the first whole line that is neither a record of that
-//!   version nor the version line at the head: its one contract, `Replays`. Nothing else is answered but want of
-//!   memory.
+//!   version nor the version line at the head: its one contract, `Replays`. Nothing else is answered but `NoMemory`,
+//!   and that only for a line that is read in memory: one of at most `MAX_LINE_LEN` bytes behind lines of records. A
+//!   longer line is bad without memory, and the version line takes none.
 //! - `Segment::append` adds exactly the line of the record, as the segment's version tells it, to the tail, and in
 //!   version 2 the version line before the first one (its 14 bytes count for `Full`, `tail` and `seal`), `flush`
 //!   makes the tail stable, `seal(kept)` keeps exactly the first `kept` bytes of the tail and is without effect on
@@ -45,8 +46,9 @@
 //! - `History::records` gives the records of all segments up to the fence, `stable` the stable bytes of one.
 //! - `History::read` gives the records of all segments before the caller's, from stable bytes alone, and never
 //!   answers `BadLine`: each segment keeps as an invariant that its bytes are those of records that its version can
-//!   tell, the version line before them in version 2, and that only a seal leaves a torn end (also one within the
-//!   version line). The history keeps as an invariant that no segment above the fence was written to.
+//!   tell, the version line before them in version 2, that they are at most 2^24, and that only a seal leaves a torn
+//!   end (also one within the version line). Where there is no record before the caller's segment it takes no memory
+//!   (clause `nothing`); so does `History::records` where there is none. The history keeps as an invariant that no segment above the fence was written to.
 //! - Laws for the layers above, each on a public function with an empty body: `lines_replay`, `fronts_replay` (a
 //!   front of a segment's bytes tells the records of its whole lines, for every number of bytes, in both versions),
 //!   `segments_record` (what each change does to a segment's records), `segments_stay_sound`, `others_stay`,
@@ -88,6 +90,7 @@ pub use laws::{
     fronts_replay, histories_stay, lines_read_back, lines_replay, others_stay, refusals_are_heard,
     segments_record, segments_stay_sound, stable_stays, winners_have_lengths, winners_stay,
 };
+pub use line::MAX_LINE_LEN;
 pub use reading::{Replayed, replay};
 pub use record::{MAX_PART_LEN, Record, Records};
 pub use segment::{MAX_SEGMENT_LEN, Segment};

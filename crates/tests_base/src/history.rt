@@ -223,6 +223,40 @@ fn history_segments(rt: HostRuntime) {
     assert!(rt; done(&rt, below) == Some(HistoryFault::Superseded(4)));
 }
 
+// The last generation that there is writes, flushes and reads.
+#[test]
+fn last_generation(rt: HostRuntime) {
+    let alloc = rt.alloc();
+    let (one, last) = (generation(&rt, 1), generation(&rt, 1000));
+    let mut history = answered(&rt, History::new(alloc)).expect(&rt, "a fault");
+    history.raise(one, 0, 1);
+    assert!(rt; write(&rt, &mut history, one, started(&rt)).is_none());
+    history.raise(last, 1000, 1);
+    assert!(rt; write(&rt, &mut history, last, reduced(&rt)).is_none());
+    assert!(rt; history.is_raised(last));
+    let flushed = history.flush(last);
+    assert!(rt; done(&rt, flushed).is_none());
+    assert!(rt; history.is_raised(last));
+    assert!(rt; history.stable(last) == REDUCED.as_bytes());
+    assert!(rt; records_before(&rt, &history, last).as_slice() == [started(&rt)].as_slice());
+}
+
+// The text of each fault.
+#[test]
+fn fault_texts(rt: HostRuntime) {
+    let alloc = rt.alloc();
+    for (fault, told) in [
+        (HistoryFault::Superseded(4), "Superseded 4"),
+        (HistoryFault::Sealed, "Sealed"),
+        (HistoryFault::BadLine(12), "BadLine 12"),
+        (HistoryFault::Full, "Full"),
+        (HistoryFault::NoMemory, "NoMemory"),
+    ] {
+        let text = format!(in alloc; "{fault}").expect(&rt, "no memory");
+        assert!(rt; text.as_str() == told, "{text}");
+    }
+}
+
 // The refusals are told before the calls are made, and the records of all segments are read.
 #[test]
 fn history_refusals(rt: HostRuntime) {
@@ -292,6 +326,22 @@ fn bad_lines(rt: HostRuntime) {
         );
         let fault = answered(&rt, replay(alloc, text.as_bytes())).err();
         assert!(rt; fault == Some(HistoryFault::BadLine(2)), "{line}");
+    }
+}
+
+// The longest line that a record has, and a line of a byte more, which is bad.
+#[test]
+fn longest_line(rt: HostRuntime) {
+    let alloc = rt.alloc();
+    let job = "{\"attempt\":\"attempt_18446744073709551615_4294967295_m_4294967295_999999\"";
+    let more = ",\"event\":\"map\",\"incarnation\":4294967295,\"node\":4294967295";
+    let line = format!(in alloc; "{job}{more}}}\n").expect(&rt, "no memory");
+    assert!(rt; line.len() == 131);
+    assert!(rt; replayed(&rt, alloc, line.as_bytes()).records.len() == 1);
+    for ending in ["0}", " }", "}{\"event\":\"unsuccessful\"}"] {
+        let line = format!(in alloc; "{line}{job}{more}{ending}\n").expect(&rt, "no memory");
+        let fault = answered(&rt, replay(alloc, line.as_bytes())).err();
+        assert!(rt; fault == Some(HistoryFault::BadLine(2)));
     }
 }
 
