@@ -74,6 +74,7 @@ err-goes-on line rest (fault.Names f) = refl
 err-goes-on line rest fault.OutputMissing = refl
 err-goes-on line rest fault.WrongLength = refl
 err-goes-on line rest fault.DestinationExists = refl
+err-goes-on line rest fault.WrongAnswer = refl
 err-goes-on line rest fault.Over = refl
 
 refused-goes-on : (line : Line) (rest : List Line) (f : NameFault) → (is_missing f && passes_missing line) ≡ false → is_finished (heard_by (line ∷ rest) (answer.Names (Err f))).0 ≡ false

@@ -8,7 +8,8 @@ use Rattle.mr_names.specs.declared.node.Kind.{Kind}
 use Rattle.mr_names.specs.declared.node.Kind.TheVariants as kind
 use Rattle.mr_names.specs.declared.op.Answer.TheVariants as found
 use Rattle.mr_paths.specs.Layout as layout
-use Rattle.mr_commit.specs.Line.{Line, older, deletes, moves, is_missing, passes_missing, fault_at, merging_child, merging_task, is_task}
+use Rattle.mr_names.specs.declared.op.Answer.TheVariants as told
+use Rattle.mr_commit.specs.Line.{Line, is_answer_to, older, deletes, moves, is_missing, passes_missing, fault_at, merging_child, merging_task, is_task}
 use Rattle.mr_commit.specs.Line.Line.{Does, Clears, Merges, MergesEach, MergesTasks, Seeks, Measures}
 use Rattle.mr_commit.specs.Steps.{after, done_at}
 use Rattle.mr_commit.specs.Tables.{setup_job}
@@ -55,6 +56,7 @@ err-line line rest (fault.Names f) more fin ref = refl
 err-line line rest fault.OutputMissing more fin ref = refl
 err-line line rest fault.WrongLength more fin ref = refl
 err-line line rest fault.DestinationExists more fin ref = refl
+err-line line rest fault.WrongAnswer more fin ref = refl
 err-line line rest fault.Over more fin ref = refl
 
 refused-line : (line : Line) (rest : List Line) (f : NameFault) (more : List Line → Work) (fin ref : Work) → (is_missing f && passes_missing line) ≡ false →
@@ -108,12 +110,12 @@ clears-line p rest (Refused f) more fin ref = by (is_missing f) refl
 clears-line p rest _ more fin ref = refl
 
 -- a call of its own is answered
-does-line : (o : Op) (rest : List Line) (r : Reply) (more : List Line → Work) (fin ref : Work) → answer_of (Names o) r ≡ plain r →
+does-line : (o : Op) (rest : List Line) (r : Reply) (more : List Line → Work) (fin ref : Work) → answer_of (Names o) r ≡ plain r → is_answer_to o told.Done ≡ true →
     stepped (Does o ∷ rest) (answer_of (Names o) r) more fin ref ≡ (if is_fine r then goes_on (Ok (done_at rest)) rest more fin ref else ref)
-does-line o rest r more fin ref e = ap (λ a. stepped (Does o ∷ rest) a more fin ref) e ∙ by r
+does-line o rest r more fin ref e own = ap (λ a. stepped (Does o ∷ rest) a more fin ref) e ∙ by r
   where
     by : (r : Reply) → stepped (Does o ∷ rest) (plain r) more fin ref ≡ (if is_fine r then goes_on (Ok (done_at rest)) rest more fin ref else ref)
-    by Fine = refl
+    by Fine = rw own refl
     by (Refused f) = refused-line (Does o) rest f more fin ref (and-false (is_missing f))
     by _ = refl
 
@@ -177,7 +179,7 @@ module _ (cfg : Config) (k : ℕ) where
   pub setup-turn : (m : read.Seen) (ws : List Todo_winner) (r : Reply) → after.winners W m ≡ map winner_of ws →
       work_after W m (answer_of (Names (MkDirs (job_attempt k))) r) (work_at k Setting_up) ≡ work_at k (if is_fine r then recover_rest k ws else Stopped)
   unfolding work_at work_after layout.job_attempt generation_name
-  setup-turn m ws r e = does-line (MkDirs (job_attempt k)) [] r SetsUp (next_winner W (after.winners W m)) Stops (plain-is r) ∙ by (is_fine r)
+  setup-turn m ws r e = does-line (MkDirs (job_attempt k)) [] r SetsUp (next_winner W (after.winners W m)) Stops (plain-is r) refl ∙ by (is_fine r)
     where
       plain-is : (r : Reply) → answer_of (Names (MkDirs (job_attempt k))) r ≡ plain r
       plain-is r = refl
@@ -239,7 +241,7 @@ module _ (cfg : Config) (k : ℕ) where
     pub move-turn : (z : Option ℕ) (j : ℕ) (r : Reply) → work_after W m (answer_of (Names (Rename (committed j t) (committed k t))) r) (work_at k (Recovering (X z ∷ todo) (Move_from j)))
         ≡ work_at k (recovering k (X z ∷ todo) (Move_from j) r)
     unfolding work_at work_after layout.committed generation_name task_name
-    move-turn z j r = does-line (Rename (committed j t) (committed k t)) [] r (λ l. TakesOver (winner_of (X z)) l (map winner_of todo)) (next_winner W (map winner_of todo)) Stops refl ∙ by (is_fine r)
+    move-turn z j r = does-line (Rename (committed j t) (committed k t)) [] r (λ l. TakesOver (winner_of (X z)) l (map winner_of todo)) (next_winner W (map winner_of todo)) Stops refl refl ∙ by (is_fine r)
       where
         by : (b : Bool) → (if b then next_winner W (map winner_of todo) else Stops) ≡ work_at k (if b then recover_rest k todo else Stopped)
         by true = next-is todo

@@ -10,6 +10,20 @@ use Rattle.std.specs.Option.{option_or}
 use Rattle.mr_names.proofs.Callers.{unheard-is}
 use Rattle.mr_names.specs.Calls.{State, first_of, refusal, own_refusal, passes_limit, unheard, refused, settled, call_of, answer, Makes, MakesAlways, may_want_memory}
 use Rattle.mr_names.specs.Content.{Content}
+use Rattle.mr_commit.specs.Line.{is_answer_to}
+
+-- what a call answers is an answer of this call
+pub answers_own_call : (c : Content) (call : Op) → is_answer_to call (answer c call) ≡ true
+answers_own_call c (op.Mkdirs path) = refl
+answers_own_call c (op.Create path closed) = refl
+answers_own_call c (op.Append path bytes) = refl
+answers_own_call c (op.Close path) = refl
+answers_own_call c (op.Delete path) = refl
+answers_own_call c (op.Rename from to) = refl
+answers_own_call c (op.List path) = refl
+answers_own_call c (op.Exists path) = refl
+answers_own_call c (op.Read path) = refl
+answers_own_call c (op.Bar a) = refl
 
 abbrev pub is_memory : NameFault → Bool
 is_memory names.NoMemory = true

@@ -1,5 +1,5 @@
 -- Each step that is not the last leaves fewer calls to be made.
-use Rattle.std.proofs.Common.{◌≡◌, ◌≤◌, ◌<◌, ℕ, suc, ◌+◌, ◌-◌, ◌*◌, Bool, true, false, cond, List, [], ◌∷◌, ◌++◌, length, map, filter, refl, sym, ap, subst, ◌∙◌, Option, Some, None, is_some, is_none, Result, Ok, Err, ◌&&◌, nat_lt, if◌then◌else◌, arith, length-append, ◌⊎◌, inl, inr}
+use Rattle.std.proofs.Common.{◌≡◌, ◌≤◌, ◌<◌, ℕ, suc, ◌+◌, ◌-◌, ◌*◌, Bool, true, false, cond, List, [], ◌∷◌, ◌++◌, length, map, filter, refl, sym, ap, subst, ◌∙◌, Option, Some, None, is_some, is_none, Result, Ok, Err, ◌&&◌, nat_lt, ◌==◌, if◌then◌else◌, arith, length-append, ◌⊎◌, inl, inr}
 use Rattle.std.proofs.lemmas.Nat.{mul-le}
 use Rattle.std.proofs.Math.Nat.{suc-mul, zero-mul}
 use Rattle.std.proofs.lemmas.Bool.{ltb-true}
@@ -25,7 +25,7 @@ use Rattle.mr_commit.specs.declared.fault.CommitFault.{CommitFault}
 use Rattle.mr_commit.specs.declared.fault.CommitFault.TheVariants as fault
 use Rattle.mr_commit.specs.declared.fault.StepDone.{StepDone}
 use Rattle.mr_commit.specs.declared.fault.StepDone.TheVariants as done
-use Rattle.mr_commit.specs.Line.{Line, op_of, replaced, found, listed, merging, merging_child, merging_task, is_task, needed, fault_of, fault_at, before, older, taking_over, sought}
+use Rattle.mr_commit.specs.Line.{Line, op_of, is_answer_to, replaced, measured, bytes_read, found, listed, merging, merging_child, merging_task, is_task, needed, fault_of, fault_at, before, older, taking_over, sought}
 use Rattle.mr_commit.specs.Line.Line.{Does, Clears, Needs, Merges, MergesEach, MergesTasks, Seeks, Measures}
 use Rattle.mr_commit.specs.Steps.{after, step_of}
 use Rattle.mr_commit.specs.Settles.{is_single, AllSingle, RaisesBy, Raises, Settles}
@@ -72,14 +72,19 @@ none_needed : (o : Option Kind) (new : List Line) → needed o ≡ Ok new → ne
 none_needed None new e = err_not _ new e
 none_needed (Some k) new e = sym (ok_is [] new e)
 
+-- an answer that is believed is one of its call
+on_kind : {B : Type 0} (b : Bool) (lines : Result (List Line) CommitFault) (new : List Line) → (if b then lines else Err fault.WrongAnswer) ≡ lines_ok new → (lines ≡ lines_ok new → B) → B
+on_kind true lines new e on = on e
+on_kind false lines new e on = err_not fault.WrongAnswer new e
+
 pub single : (line : Line) (r : Result Answer NameFault) (new : List Line) → is_single line ≡ true → replaced line r ≡ Ok new → new ≡ []
-single (Does call) (Ok a) new k e = sym (ok_is [] new e)
-single (Clears path) (Ok a) new k e = sym (ok_is [] new e)
-single (Needs path) (Ok a) new k e = none_needed (found a) new e
+single (Does call) (Ok a) new k e = on_kind _ _ new e (λ e. sym (ok_is [] new e))
+single (Clears path) (Ok a) new k e = on_kind _ _ new e (λ e. sym (ok_is [] new e))
+single (Needs path) (Ok a) new k e = on_kind _ _ new e (λ e. none_needed (found a) new e)
 single (Does call) (Err f) new k e = no_lines (fault_of f) _ new e
 single (Clears path) (Err f) new k e = no_lines (fault_of f) _ new e
 single (Needs path) (Err f) new k e = no_lines (fault_of f) _ new e
-single (Measures path n) (Ok a) new k e = none_measured _ new e
+single (Measures path n) (Ok a) new k e = on_kind (is_answer_to (op.Read path) a) (measured n (bytes_read a)) new e (λ e. none_measured (length (bytes_read a) == n) new e)
 single (Measures path n) (Err f) new k e = no_lines (fault_at (Measures path n) f) _ new e
 single (Seeks dest task bytes to j) r new k e = absurd cc
 single (Merges taken from to) r new k e = absurd cc
@@ -161,7 +166,7 @@ each_follows entries depth from to s caller (Ok a) t new h b e k =
     let there = listed_there s caller from a t e in
     let short = b.shallow.within from there.0 in
     let few = few_children s.content from in
-    let is : new ≡ map (merging_child from to) (children s.content from) = sym (ok_is _ new k) ∙ ap (λ x. map (merging_child from to) (listed x)) there.1 in
+    let is : new ≡ map (merging_child from to) (children s.content from) = on_kind (is_answer_to (op.List from) a) (lines_ok (map (merging_child from to) (listed a))) new k (λ k. sym (ok_is (map (merging_child from to) (listed a)) new k)) ∙ ap (λ x. map (merging_child from to) (listed x)) there.1 in
     rw is (record {
       raise = children_raise from to (children s.content from) h;
       fewer = rw (children_calls entries depth from to (children s.content from)) (fewer_below entries depth (length (children s.content from)) from short (omega (arith, b.few)));
@@ -178,14 +183,16 @@ tasks_follow entries depth from to s caller (Ok a) t new h b e k =
     let short = b.shallow.within from there.0 in
     let few = few_children s.content from in
     let fewer_tasks = length_kept is_task (children s.content from) in
-    let is : new ≡ map (merging_task from to) (filter is_task (children s.content from)) = sym (ok_is _ new k) ∙ ap (λ x. map (merging_task from to) (filter is_task (listed x))) there.1 in
+    let is : new ≡ map (merging_task from to) (filter is_task (children s.content from)) = on_kind (is_answer_to (op.List from) a) (lines_ok (map (merging_task from to) (filter is_task (listed a)))) new k (λ k. sym (ok_is (map (merging_task from to) (filter is_task (listed a))) new k)) ∙ ap (λ x. map (merging_task from to) (filter is_task (listed x))) there.1 in
     rw is (record {
       raise = tasks_raise from to (filter is_task (children s.content from)) h;
       fewer = rw (tasks_calls entries depth from to (filter is_task (children s.content from))) (fewer_below entries depth (length (filter is_task (children s.content from))) from short (omega (arith, b.few)));
     })
 
 merge_follows : (entries depth : ℕ) (taken : Kind) (from to : List (List ℕ)) (r : Result Answer NameFault) (new : List Line) → length to ≤ length from → replaced (Merges taken from to) r ≡ Ok new → Follow entries depth (Merges taken from to) new
-merge_follows entries depth taken from to (Ok a) new h k = rw (sym (ok_is _ new k)) (merging_follows entries depth taken from to (found a) h)
+merge_follows entries depth taken from to (Ok a) new h k =
+    let is : merging taken from to (found a) ≡ new = on_kind (is_answer_to (op.Exists to) a) (lines_ok (merging taken from to (found a))) new k (λ k. ok_is _ new k) in
+    rw (sym is) (merging_follows entries depth taken from to (found a) h)
 merge_follows entries depth taken from to (Err f) new h k = no_lines_left f _ new k
   where
     no_lines_left : (f : NameFault) (b : Bool) (new : List Line) → (if b && false then Ok [] else Err (fault_of f)) ≡ Ok new → Follow entries depth (Merges taken from to) new
@@ -225,7 +232,7 @@ unfolding most_calls
 older_follow entries depth dest task bytes k j i less = record { raise = (tt, tt); fewer = omega arith }
 
 seek_follows : (entries depth : ℕ) (dest : List (List ℕ)) (task : TaskId) (bytes : Option ℕ) (k j : ℕ) (r : Result Answer NameFault) (new : List Line) → replaced (Seeks dest task bytes k j) r ≡ Ok new → Follow entries depth (Seeks dest task bytes k j) new
-seek_follows entries depth dest task bytes k j (Ok a) new e = by (found a) e
+seek_follows entries depth dest task bytes k j (Ok a) new e = on_kind _ _ new e (λ e. by (found a) e)
   where
     on : (o : Option ℕ) → before j ≡ o → older dest task bytes k o ≡ Ok new → Follow entries depth (Seeks dest task bytes k j) new
     on None is h = err_not _ new h
@@ -295,6 +302,7 @@ left_by line rest left (Err (fault.Names f)) e = let y : ends_of (fault.Names f)
 left_by line rest left (Err fault.OutputMissing) e = let y : ends_of fault.OutputMissing ≡ more_of done.More = ap (λ p. p.0) e in absurd cc
 left_by line rest left (Err fault.WrongLength) e = let y : ends_of fault.WrongLength ≡ more_of done.More = ap (λ p. p.0) e in absurd cc
 left_by line rest left (Err fault.DestinationExists) e = let y : ends_of fault.DestinationExists ≡ more_of done.More = ap (λ p. p.0) e in absurd cc
+left_by line rest left (Err fault.WrongAnswer) e = let y : ends_of fault.WrongAnswer ≡ more_of done.More = ap (λ p. p.0) e in absurd cc
 left_by line rest left (Err fault.Over) e = let y : ends_of fault.Over ≡ more_of done.More = ap (λ p. p.0) e in absurd cc
 left_by line rest left (Err fault.NoMemory) e = let y : ends_of fault.NoMemory ≡ more_of done.More = ap (λ p. p.0) e in absurd cc
 

@@ -8,3 +8,4 @@ pub mod TaskLaws
 pub mod AbortLaws
 pub mod RecoveryLaws
 pub mod Halves
+pub mod Merging

@@ -30,6 +30,7 @@ use Rattle.mr_names.proofs.CallerLaws.{tree_stays, fence_stays, others_bar_none,
 use Rattle.mr_names.proofs.TreeLaws.{past_caller}
 use Rattle.mr_commit.specs.declared.fault.CommitFault.{CommitFault}
 use Rattle.mr_commit.specs.declared.fault.CommitFault.TheVariants as fault
+use Rattle.mr_commit.proofs.Calls.{answers_own_call}
 use Rattle.mr_commit.specs.Line.{Line, op_of, replaced, older, moves, fault_of, sought, before, taking_over, is_missing}
 use Rattle.mr_commit.specs.Line.Line.{Does, Clears, Seeks, Measures}
 use Rattle.mr_commit.specs.Steps.{after}
@@ -232,6 +233,7 @@ after_fault line rest (fault.Names f) s on = refl
 after_fault line rest fault.OutputMissing s on = refl
 after_fault line rest fault.WrongLength s on = refl
 after_fault line rest fault.DestinationExists s on = refl
+after_fault line rest fault.WrongAnswer s on = refl
 after_fault line rest fault.Over s on = refl
 
 above : (p : List (List ℕ)) (name : List ℕ) → within (p ++ name ∷ []) p ≡ false
@@ -288,7 +290,7 @@ not_moved n call s t caller f e = by (refused s caller call) refl
   where
     by : (o : Option NameFault) → refused s caller call ≡ o → Untouched s f t
     by None is =
-        let ok : replaced (Does call) (call_of s caller call).0 ≡ Ok [] = rw is refl in
+        let ok : replaced (Does call) (call_of s caller call).0 ≡ Ok [] = rw (is, answers_own_call s.content call) refl in
         clash f t _ (sym e ∙ run_end n (Does call) s caller ok)
     by (Some g) is =
         let made : call_of s caller call ≡ (Err g, s) = rw is refl in
@@ -324,6 +326,7 @@ is_named fault.NoMemory = true
 is_named fault.OutputMissing = false
 is_named fault.WrongLength = false
 is_named fault.DestinationExists = false
+is_named fault.WrongAnswer = false
 is_named fault.Over = false
 
 named : (g : NameFault) → is_named (fault_of g) ≡ true

@@ -1,15 +1,16 @@
 -- The step of a step value, from its call and from what was heard.
-use Rattle.std.proofs.Common.{◌≡◌, ℕ, Bool, true, false, List, [], ◌∷◌, refl, sym, ap, ◌∙◌, Option, Some, None, Result, Ok, Err, ◌||◌}
+use Rattle.std.proofs.Common.{◌≡◌, ℕ, Bool, true, false, List, [], ◌∷◌, refl, sym, ap, ◌∙◌, Option, Some, None, Result, Ok, Err, ◌||◌, if◌then◌else◌}
 use Rattle.mr_names.specs.declared.op.Caller.{Caller}
 use Rattle.mr_names.specs.declared.fault.NameFault.{NameFault}
 use Rattle.mr_names.specs.declared.fault.NameFault.TheVariants as names
 use Rattle.mr_names.specs.declared.op.Op.{Op}
 use Rattle.mr_names.specs.declared.op.Answer.{Answer}
-use Rattle.mr_names.specs.Calls.{State, call_of, refused, settled, may_want_memory}
+use Rattle.mr_names.specs.declared.node.Kind.{Kind}
+use Rattle.mr_names.specs.Calls.{State, call_of, refused, settled, answer, effect, barred_after, may_want_memory}
 use Rattle.mr_commit.specs.declared.fault.CommitFault.{CommitFault}
 use Rattle.mr_commit.specs.declared.fault.CommitFault.TheVariants as fault
 use Rattle.mr_commit.specs.declared.fault.StepDone.{StepDone}
-use Rattle.mr_commit.specs.Line.{Line, op_of, more_follow, is_no_file, fault_at, fault_of}
+use Rattle.mr_commit.specs.Line.{Line, op_of, answered, is_answer_to, lines_follow, replaced, needed, measured, is_no_file, fault_at, fault_of}
 use Rattle.mr_commit.specs.Line.Line.{Does, Clears, Needs, Merges, MergesEach, MergesTasks, Seeks, Measures}
 use Rattle.mr_commit.specs.Steps.{next_call, heard, step_of, Hears, Steps}
 use Rattle.mr_commit.proofs.Calls.{Made, made, as_call, no_memory, is_want}
@@ -29,32 +30,76 @@ or_right : (a : Bool) → (a || true) ≡ true
 or_right true = refl
 or_right false = refl
 
+-- whether lines may follow a line at all
+abbrev may_bring : Line → Bool
+may_bring (Does call) = false
+may_bring (Clears path) = false
+may_bring (Needs path) = false
+may_bring (Merges taken from to) = true
+may_bring (MergesEach from to) = true
+may_bring (MergesTasks from to) = true
+may_bring (Seeks dest task bytes k j) = true
+may_bring (Measures path bytes) = false
+
+abbrev taken_on : Bool → Result (List Line) CommitFault → Result (List Line) CommitFault
+taken_on b lines = if b then lines else Err fault.WrongAnswer
+
+abbrev no_lines : Result (List Line) CommitFault
+no_lines = Ok []
+
+abbrev no_match : CommitFault → Result (List Line) CommitFault
+no_match f = Err f
+
+nothing : (b : Bool) → lines_follow (taken_on b no_lines) ≡ true → false ≡ true
+nothing true e = e
+nothing false e = e
+
+needs_nothing : (b : Bool) (there : Option Kind) → lines_follow (taken_on b (needed there)) ≡ true → false ≡ true
+needs_nothing true None e = e
+needs_nothing true (Some there) e = e
+needs_nothing false there e = e
+
+measures_nothing : (b c : Bool) → lines_follow (taken_on b (if c then no_lines else no_match fault.WrongLength)) ≡ true → false ≡ true
+measures_nothing true true e = e
+measures_nothing true false e = e
+measures_nothing false c e = e
+
+brings : (line : Line) (a : Answer) → lines_follow (replaced line (Ok a)) ≡ true → may_bring line ≡ true
+brings (Does call) a e = nothing (is_answer_to call a) e
+brings (Clears path) a e = nothing _ e
+brings (Needs path) a e = needs_nothing _ _ e
+brings (Merges taken from to) a e = refl
+brings (MergesEach from to) a e = refl
+brings (MergesTasks from to) a e = refl
+brings (Seeks dest task bytes k j) a e = refl
+brings (Measures path bytes) a e = measures_nothing _ _ e
+
+-- a call that changes nothing leaves the namespace, and its answer is the one that stands there
+record Looked (s : State) (caller : Caller) (call : Op) (a : Answer) (t : State) : Type 0 where
+  same : t ≡ s
+  passes : refused s caller call ≡ None
+  told : a ≡ answer s.content call
+
+abbrev call_ok : Answer → Result Answer NameFault
+call_ok a = Ok a
+
+looks : (call : Op) (s : State) (caller : Caller) (a : Answer) (t : State) → effect s.content call ≡ s.content → barred_after s.barred call ≡ s.barred → call_of s caller call ≡ (Ok a, t) → Looked s caller call a t
+looks call s caller a t c b e = by (refused s caller call) refl e
+  where
+    by : (o : Option NameFault) → refused s caller call ≡ o → settled o s call ≡ (Ok a, t) → Looked s caller call a t
+    by None r h = record { same = sym (ap (λ p. p.1) h) ∙ rw (c, b) refl; passes = r; told = let y : call_ok (answer s.content call) ≡ call_ok a = ap (λ p. p.0) h in cc }
+    by (Some f) r h = let y : Err f ≡ Ok a = ap (λ p. p.0) h in absurd cc
+
 -- a line whose answer may bring more lines changes nothing
-unchanged : (line : Line) (s : State) (caller : Caller) (a : Answer) (t : State) → more_follow line ≡ true → call_of s caller (op_of line) ≡ (Ok a, t) → (t ≡ s) × (refused s caller (op_of line) ≡ None)
+unchanged : (line : Line) (s : State) (caller : Caller) (a : Answer) (t : State) → may_bring line ≡ true → call_of s caller (op_of line) ≡ (Ok a, t) → Looked s caller (op_of line) a t
 unchanged (Does call) s caller a t k e = absurd cc
 unchanged (Clears path) s caller a t k e = absurd cc
 unchanged (Needs path) s caller a t k e = absurd cc
-unchanged (Merges taken from to) s caller a t k e = reading (refused s caller (op_of (Merges taken from to))) refl e
-  where
-    reading : (o : Option NameFault) → refused s caller (op_of (Merges taken from to)) ≡ o → settled o s (op_of (Merges taken from to)) ≡ (Ok a, t) → (t ≡ s) × (refused s caller (op_of (Merges taken from to)) ≡ None)
-    reading None r h = (sym (ap (λ p. p.1) h), r)
-    reading (Some f) r h = let y : Err f ≡ Ok a = ap (λ p. p.0) h in absurd cc
 unchanged (Measures path n) s caller a t k e = absurd cc
-unchanged (Seeks dest task bytes to j) s caller a t k e = reading (refused s caller (op_of (Seeks dest task bytes to j))) refl e
-  where
-    reading : (o : Option NameFault) → refused s caller (op_of (Seeks dest task bytes to j)) ≡ o → settled o s (op_of (Seeks dest task bytes to j)) ≡ (Ok a, t) → (t ≡ s) × (refused s caller (op_of (Seeks dest task bytes to j)) ≡ None)
-    reading None r h = (sym (ap (λ p. p.1) h), r)
-    reading (Some f) r h = let y : Err f ≡ Ok a = ap (λ p. p.0) h in absurd cc
-unchanged (MergesEach from to) s caller a t k e = reading (refused s caller (op_of (MergesEach from to))) refl e
-  where
-    reading : (o : Option NameFault) → refused s caller (op_of (MergesEach from to)) ≡ o → settled o s (op_of (MergesEach from to)) ≡ (Ok a, t) → (t ≡ s) × (refused s caller (op_of (MergesEach from to)) ≡ None)
-    reading None r h = (sym (ap (λ p. p.1) h), r)
-    reading (Some f) r h = let y : Err f ≡ Ok a = ap (λ p. p.0) h in absurd cc
-unchanged (MergesTasks from to) s caller a t k e = reading (refused s caller (op_of (MergesTasks from to))) refl e
-  where
-    reading : (o : Option NameFault) → refused s caller (op_of (MergesTasks from to)) ≡ o → settled o s (op_of (MergesTasks from to)) ≡ (Ok a, t) → (t ≡ s) × (refused s caller (op_of (MergesTasks from to)) ≡ None)
-    reading None r h = (sym (ap (λ p. p.1) h), r)
-    reading (Some f) r h = let y : Err f ≡ Ok a = ap (λ p. p.0) h in absurd cc
+unchanged (Merges taken from to) s caller a t k e = looks _ s caller a t refl refl e
+unchanged (MergesEach from to) s caller a t k e = looks _ s caller a t refl refl e
+unchanged (MergesTasks from to) s caller a t k e = looks _ s caller a t refl refl e
+unchanged (Seeks dest task bytes to j) s caller a t k e = looks _ s caller a t refl refl e
 
 heard_step : (line : Line) (rest left : List Line) (s t : State) (caller : Caller) (answer : Result Answer NameFault) (r : Result StepDone CommitFault) → call_of s caller (op_of line) ≡ (answer, t) → heard (line ∷ rest) answer ≡ (r, left) → step_of (line ∷ rest) s caller ≡ ((r, left), t)
 heard_step line rest left s t caller answer r e h = rw e (ap (λ x. (x, t)) h)
@@ -66,8 +111,11 @@ as_called line rest s caller answer (Err (fault.Names f)) left t e own h = heard
 as_called line rest s caller answer (Err fault.OutputMissing) left t e own h = heard_step line rest left s t caller answer _ e h
 as_called line rest s caller answer (Err fault.WrongLength) left t e own h = heard_step line rest left s t caller answer _ e h
 as_called line rest s caller answer (Err fault.DestinationExists) left t e own h = heard_step line rest left s t caller answer _ e h
+as_called line rest s caller answer (Err fault.WrongAnswer) left t e own h = heard_step line rest left s t caller answer _ e h
 as_called line rest s caller answer (Err fault.Over) left t e own h = heard_step line rest left s t caller answer _ e h
-as_called line rest s caller (Ok a) (Err fault.NoMemory) left t e own h = let u = unchanged line s caller a t h.1 e in (h.0, u.0, (u.1, rw h.1 (or_right (may_want_memory (op_of line)))))
+as_called line rest s caller (Ok a) (Err fault.NoMemory) left t e own h =
+    let u = unchanged line s caller a t (brings line a h.1) e in
+    (h.0, u.same, (u.passes, ap (λ b. may_want_memory (op_of line) || b) (ap (λ a. lines_follow (replaced line (Ok a))) (sym u.told) ∙ h.1) ∙ or_right (may_want_memory (op_of line))))
 as_called line rest s caller (Err f) (Err fault.NoMemory) left t e own h = let own2 : is_want (Err names.NoMemory) ≡ false = rw h.1 at own in absurd cc
 
 abbrev told : CommitFault → Result StepDone CommitFault
@@ -84,6 +132,7 @@ had_none line rest s caller (Err (fault.Names f)) left t same none takes h = let
 had_none line rest s caller (Err fault.OutputMissing) left t same none takes h = let y : told fault.NoMemory ≡ told fault.OutputMissing = sym (no_memory_heard line rest) ∙ ap (λ p. p.0) h in absurd cc
 had_none line rest s caller (Err fault.WrongLength) left t same none takes h = let y : told fault.NoMemory ≡ told fault.WrongLength = sym (no_memory_heard line rest) ∙ ap (λ p. p.0) h in absurd cc
 had_none line rest s caller (Err fault.DestinationExists) left t same none takes h = let y : told fault.NoMemory ≡ told fault.DestinationExists = sym (no_memory_heard line rest) ∙ ap (λ p. p.0) h in absurd cc
+had_none line rest s caller (Err fault.WrongAnswer) left t same none takes h = let y : told fault.NoMemory ≡ told fault.WrongAnswer = sym (no_memory_heard line rest) ∙ ap (λ p. p.0) h in absurd cc
 had_none line rest s caller (Err fault.Over) left t same none takes h = let y : told fault.NoMemory ≡ told fault.Over = sym (no_memory_heard line rest) ∙ ap (λ p. p.0) h in absurd cc
 
 pub step_from_took : (lines : List Line) (s : State) (caller : Caller) (call : Op) (answer : Result Answer NameFault) (r : Result StepDone CommitFault) (left : List Line) (t : State) → next_call lines ≡ Some call → Made s caller call answer t → Hears lines answer r left → Steps lines s caller r left t

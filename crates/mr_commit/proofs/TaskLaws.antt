@@ -57,6 +57,7 @@ passed n line rest s t caller one e = by (replaced line (call_of s caller (op_of
     by (Err fault.OutputMissing) k h = clash fault.OutputMissing _ t h
     by (Err fault.WrongLength) k h = clash fault.WrongLength _ t h
     by (Err fault.DestinationExists) k h = clash fault.DestinationExists _ t h
+    by (Err fault.WrongAnswer) k h = clash fault.WrongAnswer _ t h
     by (Err fault.Over) k h = clash fault.Over _ t h
     by (Err fault.NoMemory) k h = clash fault.NoMemory _ t h
 

@@ -135,6 +135,7 @@ effect_by first lines left begin s t caller (fault.Names f) g e = effect_fault f
 effect_by first lines left begin s t caller fault.OutputMissing g e = effect_fault first lines left begin s t caller _ g e
 effect_by first lines left begin s t caller fault.WrongLength g e = effect_fault first lines left begin s t caller _ g e
 effect_by first lines left begin s t caller fault.DestinationExists g e = effect_fault first lines left begin s t caller _ g e
+effect_by first lines left begin s t caller fault.WrongAnswer g e = effect_fault first lines left begin s t caller _ g e
 effect_by first lines left begin s t caller fault.Over g e = effect_fault first lines left begin s t caller _ g e
 
 pub made_by : (first lines left : List Line) (begin s t : State) (caller : Caller) (f : CommitFault) → Going first begin caller lines s → Steps lines s caller (Err f) left t → Finishes first begin caller (Err f) t
@@ -143,6 +144,7 @@ made_by first lines left begin s t caller (fault.Names f) g e = (lines, s, g.rea
 made_by first lines left begin s t caller fault.OutputMissing g e = (lines, s, g.reached, (left, e))
 made_by first lines left begin s t caller fault.WrongLength g e = (lines, s, g.reached, (left, e))
 made_by first lines left begin s t caller fault.DestinationExists g e = (lines, s, g.reached, (left, e))
+made_by first lines left begin s t caller fault.WrongAnswer g e = (lines, s, g.reached, (left, e))
 made_by first lines left begin s t caller fault.Over g e = (lines, s, g.reached, (left, e))
 
 -- ---- callers that are not heard, and want of memory before the first step

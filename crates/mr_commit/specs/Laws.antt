@@ -1,19 +1,24 @@
 -- Laws of the committer effect.
-use Rattle.std.specs.Prelude.{◌≡◌, ℕ, false, List, [], ◌∷◌, ◌++◌, Option, None, Result, Ok, Err}
+use Rattle.std.specs.Prelude.{◌≡◌, ℕ, true, false, List, [], ◌∷◌, ◌++◌, Option, None, Result, Ok, Err}
 use Rattle.mr_ids.specs.Attempt.{Attempt}
 use Rattle.mr_ids.specs.declared.id.TaskId.{TaskId}
 use Rattle.mr_paths.specs.Layout.{temporary, task_attempt, committed}
 use Rattle.mr_names.specs.declared.op.Caller.{Caller}
 use Rattle.mr_names.specs.Content.{Content, IsTree, within}
 use Rattle.mr_names.specs.Held.{node_at}
-use Rattle.mr_names.specs.Calls.{State}
+use Rattle.mr_names.specs.declared.op.Op.{Op}
+use Rattle.mr_names.specs.Calls.{State, answer}
 use Rattle.mr_commit.specs.declared.fault.CommitFault.{CommitFault}
-use Rattle.mr_commit.specs.Line.{Line}
+use Rattle.mr_commit.specs.Line.{Line, is_answer_to}
 use Rattle.mr_commit.specs.Settles.{Settles}
 use Rattle.mr_commit.specs.Line.Line.{Seeks}
 use Rattle.mr_commit.specs.Tables as tables
 use Rattle.mr_commit.specs.Tables.{setup_job, commit_task, commit_job}
 use Rattle.mr_commit.specs.CommitterEffect.{LeadsTo, whole}
+
+-- what a call answers is an answer of this call: so no step of a table that is made gives `WrongAnswer`
+abbrev pub AnswersOwnCalls : Type 0
+AnswersOwnCalls = (c : Content) (call : Op) → is_answer_to call (answer c call) ≡ true
 
 -- steps lead to one answer and one namespace
 abbrev pub OneResult : Type 0

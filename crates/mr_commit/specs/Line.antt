@@ -15,7 +15,8 @@ use Rattle.mr_names.specs.declared.op.Op.{Op}
 use Rattle.mr_names.specs.declared.op.Op.TheVariants as op
 use Rattle.mr_names.specs.declared.op.Answer.{Answer}
 use Rattle.mr_names.specs.declared.op.Answer.TheVariants as answers
-use Rattle.mr_names.specs.Calls.{may_want_memory}
+use Rattle.mr_names.specs.Content.{Content}
+use Rattle.mr_names.specs.Calls.{answer, may_want_memory}
 use Rattle.mr_commit.specs.declared.fault.CommitFault.{CommitFault}
 use Rattle.mr_commit.specs.declared.fault.CommitFault.TheVariants as fault
 
@@ -46,23 +47,63 @@ op_of (MergesTasks from to) = op.List from
 op_of (Seeks dest task bytes k j) = op.Exists (committed dest j task)
 op_of (Measures path bytes) = op.Read path
 
+-- ---- which answers a call has
+
+abbrev pub is_done : Answer → Bool
+is_done answers.Done = true
+is_done (answers.Listed entries) = false
+is_done (answers.Found there) = false
+is_done (answers.Contents bytes) = false
+
+abbrev pub is_listing : Answer → Bool
+is_listing (answers.Listed entries) = true
+is_listing answers.Done = false
+is_listing (answers.Found there) = false
+is_listing (answers.Contents bytes) = false
+
+abbrev pub is_look : Answer → Bool
+is_look (answers.Found there) = true
+is_look answers.Done = false
+is_look (answers.Listed entries) = false
+is_look (answers.Contents bytes) = false
+
+abbrev pub is_reading : Answer → Bool
+is_reading (answers.Contents bytes) = true
+is_reading answers.Done = false
+is_reading (answers.Listed entries) = false
+is_reading (answers.Found there) = false
+
+-- whether an answer is one of a call: a `list` lists, an `exists` finds, a `read` gives bytes, and of each other call it is
+-- told that it was made
+abbrev pub is_answer_to : Op → Answer → Bool
+is_answer_to (op.Mkdirs path) a = is_done a
+is_answer_to (op.Create path closed) a = is_done a
+is_answer_to (op.Append path bytes) a = is_done a
+is_answer_to (op.Close path) a = is_done a
+is_answer_to (op.Delete path) a = is_done a
+is_answer_to (op.Rename from to) a = is_done a
+is_answer_to (op.List path) a = is_listing a
+is_answer_to (op.Exists path) a = is_look a
+is_answer_to (op.Read path) a = is_reading a
+is_answer_to (op.Bar attempt) a = is_done a
+
 -- ---- what follows from an answer
 
--- what an answer says is there. The answer of another call says that nothing is
+-- what the answer of an `exists` says is there. No other answer is asked
 abbrev pub found : Answer → Option Kind
 found (answers.Found there) = there
 found answers.Done = None
 found (answers.Listed entries) = None
 found (answers.Contents bytes) = None
 
--- what an answer lists. The answer of another call lists nothing
+-- what the answer of a `list` lists. No other answer is asked
 abbrev pub listed : Answer → List Entry
 listed (answers.Listed entries) = entries
 listed answers.Done = []
 listed (answers.Found there) = []
 listed (answers.Contents bytes) = []
 
--- what an answer reads. The answer of another call reads nothing
+-- what the answer of a `read` reads. No other answer is asked
 abbrev pub bytes_read : Answer → List ℕ
 bytes_read (answers.Contents bytes) = bytes
 bytes_read answers.Done = []
@@ -118,7 +159,7 @@ sought dest task bytes k j (Some there) = Ok (taking_over dest task bytes k j)
 abbrev pub measured : ℕ → List ℕ → Result (List Line) CommitFault
 measured bytes found = if length found == bytes then Ok [] else Err fault.WrongLength
 
--- the lines that take the place of a line whose call was answered
+-- the lines that take the place of a line whose call was answered, by an answer of this call
 abbrev pub answered : Line → Answer → Result (List Line) CommitFault
 answered (Does call) a = Ok []
 answered (Clears path) a = Ok []
@@ -173,22 +214,17 @@ fault_at (MergesTasks from to) f = fault_of f
 fault_at (Seeks dest task bytes k j) f = fault_of f
 fault_at (Measures path bytes) f = if is_no_file f then fault.OutputMissing else fault_of f
 
--- the lines that take the place of a line, or the fault that ends all
+-- The lines that take the place of a line, or the fault that ends all: an answer that the line's call does not have is one.
 abbrev pub replaced : Line → Result Answer NameFault → Result (List Line) CommitFault
-replaced line (Ok a) = answered line a
+replaced line (Ok a) = if is_answer_to (op_of line) a then answered line a else Err fault.WrongAnswer
 replaced line (Err f) = if is_missing f && passes_missing line then Ok [] else Err (fault_at line f)
 
--- whether lines may follow, for which memory is wanted
-abbrev pub more_follow : Line → Bool
-more_follow (Does call) = false
-more_follow (Clears path) = false
-more_follow (Needs path) = false
-more_follow (Merges taken from to) = true
-more_follow (MergesEach from to) = true
-more_follow (MergesTasks from to) = true
-more_follow (Seeks dest task bytes k j) = true
-more_follow (Measures path bytes) = false
+-- whether there are lines that take the place of a line, for which memory is wanted
+abbrev pub lines_follow : Result (List Line) CommitFault → Bool
+lines_follow (Ok []) = false
+lines_follow (Ok (line ∷ rest)) = true
+lines_follow (Err f) = false
 
--- whether a line may want memory: for its call, or for the lines that follow
-abbrev pub wants_memory : Line → Bool
-wants_memory line = may_want_memory (op_of line) || more_follow line
+-- whether a line may want memory over a content: for its call, or for the lines that follow from what the call answers
+abbrev pub wants_memory : Content → Line → Bool
+wants_memory c line = may_want_memory (op_of line) || lines_follow (replaced line (Ok (answer c (op_of line))))

@@ -10,7 +10,7 @@ use Rattle.mr_commit.specs.declared.fault.CommitFault.{CommitFault}
 use Rattle.mr_commit.specs.declared.fault.CommitFault.TheVariants as fault
 use Rattle.mr_commit.specs.declared.fault.StepDone.{StepDone}
 use Rattle.mr_commit.specs.declared.fault.StepDone.TheVariants as done
-use Rattle.mr_commit.specs.Line.{Line, op_of, replaced, passes_missing, more_follow, wants_memory}
+use Rattle.mr_commit.specs.Line.{Line, op_of, replaced, passes_missing, lines_follow, wants_memory}
 
 -- the call that is next
 abbrev pub next_call : List Line → Option Op
@@ -45,10 +45,10 @@ step_of (line ∷ rest) s caller = (heard (line ∷ rest) (call_of s caller (op_
 
 -- ---- what a function does
 
--- there may be want of memory at a line once its answer came
+-- there may be want of memory at a line once its answer came: only where lines follow from it
 abbrev pub WantsOn : Line → Result Answer NameFault → Type 0
 WantsOn line (Err f) = f ≡ names.NoMemory
-WantsOn line (Ok a) = more_follow line ≡ true
+WantsOn line (Ok a) = lines_follow (replaced line (Ok a)) ≡ true
 
 -- the fault that follows from an answer, or want of memory for the lines that follow
 abbrev pub IsFault : Line → Result Answer NameFault → CommitFault → Type 0
@@ -64,10 +64,10 @@ abbrev pub Hears : List Line → Result Answer NameFault → Result StepDone Com
 Hears lines answer (Err fault.NoMemory) left = (left ≡ lines) × MayWantOn lines answer
 Hears lines answer r left = heard lines answer ≡ (r, left)
 
--- there may be want of memory at the next line: its call is not refused
+-- there may be want of memory at the next line: its call is not refused, and may want memory itself, or lines follow from what it answers
 abbrev pub MayWant : List Line → State → Caller → Type 0
 MayWant [] s caller = ⊥
-MayWant (line ∷ rest) s caller = (refused s caller (op_of line) ≡ None) × (wants_memory line ≡ true)
+MayWant (line ∷ rest) s caller = (refused s caller (op_of line) ≡ None) × (wants_memory s.content line ≡ true)
 
 -- a function made the step, or there was no memory for it, and all is as it was
 abbrev pub Steps : List Line → State → Caller → Result StepDone CommitFault → List Line → State → Type 0

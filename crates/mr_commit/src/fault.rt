@@ -31,6 +31,9 @@ pub enum CommitFault {
     /// A job's destination is there already.
     #[error("DestinationExists")]
     DestinationExists,
+    /// The answer is not one of the call that was made: another call has such an answer.
+    #[error("WrongAnswer")]
+    WrongAnswer,
     /// The step value had answered that it is finished, or a fault.
     #[error("Over")]
     Over,

@@ -1,6 +1,12 @@
 //! Laws of the definitions: these functions do nothing.
-ghost use Rattle.mr_commit.specs.Laws.{OneResult, WholeFormsEnd, TablesSettle, TaskCommits, AbortsLeave};
+ghost use Rattle.mr_commit.specs.Laws.{AnswersOwnCalls, OneResult, WholeFormsEnd, TablesSettle, TaskCommits, AbortsLeave};
 ghost use Rattle.mr_commit.specs.Recovered.{TasksRecover};
+
+/// What the namespace answers to a call is an answer of this call: so no step value that makes its calls meets
+/// `WrongAnswer`.
+pub fn answers_own_calls()
+    ensures { AnswersOwnCalls }
+{}
 
 /// The steps of a table lead to one answer and one namespace.
 pub fn one_result()

@@ -1,9 +1,10 @@
 //! One line of a committer's table: its namespace call, and the lines that take its place once that was answered. Here are the merge of directories and the
 //! search through earlier generations; `lines` keeps such lines for each operation.
-ghost use Rattle.std.specs.Prelude.{◌≡◌, [], ◌∷◌, ◌++◌, IfOk, IfErr, Ok, Err, map, filter};
-ghost use Rattle.mr_commit.specs.Line.{replaced, answered, found, listed, bytes_read, op_of, merging, merging_child, merging_task, is_task, passes_missing, before, older, sought, taking_over, measuring, measured, fault_at};
+ghost use Rattle.std.specs.Prelude.{◌≡◌, ◌<◌, [], ◌∷◌, ◌++◌, IfOk, IfErr, OnErr, Ok, Err, map, filter, length};
+ghost use Rattle.mr_commit.specs.Line.{replaced, is_answer_to, found, listed, bytes_read, op_of, merging, merging_child, merging_task, is_task, passes_missing, before, older, sought, taking_over, measuring, measured, fault_at};
 ghost use Rattle.mr_commit.specs.Line.Line.{Does, Clears, Needs, Merges, MergesEach, MergesTasks, Seeks, Measures};
 ghost use Rattle.mr_commit.specs.Steps.{IsFault};
+ghost use Rattle.mr_commit.specs.inner.TableLine.{IsWhy};
 
 use crate::fault::CommitFault;
 use mr_ids::{AppAttempt, TaskId};
@@ -266,10 +267,14 @@ impl TableLine {
         }
     }
 
+    // The same of an answer, which has to be one of its call.
     fn answered(&self, alloc: Global, answer: &Answer) -> Result<LinkedList<TableLine>, CommitFault>
-        ensures lines { IfOk result (λ lines. answered self.now answer.now ≡ Ok lines) }
+        ensures lines { IfOk result (λ lines. replaced self.now (Ok answer.now) ≡ Ok lines) }
         ensures fault { IfErr result (λ f. IsFault self.now (Ok answer.now) f) }
     {
+        if !is_answer_to(&self.op, answer) {
+            return Err(CommitFault::WrongAnswer);
+        }
         match &self.rule {
             Rule::Plain | Rule::MissingPasses => Ok(LinkedList::new(alloc)),
             Rule::Needed => match found(answer) {
@@ -289,9 +294,21 @@ impl TableLine {
                 bytes,
                 k,
                 j,
-            } => sought(alloc, layout, *task, *bytes, *k, *j, answer),
+            } => sought(alloc, layout, *task, *bytes, *k, *j, found(answer)),
             Rule::Measure(bytes) => measured(alloc, *bytes, bytes_read(answer)),
         }
+    }
+}
+
+/// Whether an answer is one of a call.
+fn is_answer_to(op: &Op, answer: &Answer) -> bool
+    ensures { result ≡ is_answer_to op.now answer.now }
+{
+    match op {
+        Op::List(_path) => matches!(answer, Answer::Listed(_entries)),
+        Op::Exists(_path) => matches!(answer, Answer::Found(_there)),
+        Op::Read(_path) => matches!(answer, Answer::Contents(_bytes)),
+        _ => matches!(answer, Answer::Done),
     }
 }
 
@@ -356,12 +373,12 @@ fn sought(
     bytes: Option<u32>,
     k: AppAttempt,
     j: AppAttempt,
-    answer: &Answer,
+    there: Option<Kind>,
 ) -> Result<LinkedList<TableLine>, CommitFault>
-    ensures lines { IfOk result (λ lines. sought layout.now.dest task bytes k j (found answer.now) ≡ Ok lines) }
-    ensures fault { IfErr result (λ f. IsFault (Seeks layout.now.dest task bytes k j) (Ok answer.now) f) }
+    ensures lines { IfOk result (λ lines. sought layout.now.dest task bytes k j there ≡ Ok lines) }
+    ensures fault { IfErr result (λ f. IsWhy (sought layout.now.dest task bytes k j there) f) }
 {
-    match found(answer) {
+    match there {
         Some(_kind) => Ok(taking_over(alloc, layout, task, bytes, k, j)?),
         None => match before(j) {
             Some(older) => Ok(seeking(layout, task, bytes, k, older)?),
@@ -437,7 +454,8 @@ fn merging_children(
     to: &Path,
     entries: &[Entry],
 ) -> Result<LinkedList<TableLine>, AllocError>
-    ensures { IfOk result (λ lines. lines ≡ map (merging_child from.now to.now) entries.now) }
+    ensures lines { IfOk result (λ lines. lines ≡ map (merging_child from.now to.now) entries.now) }
+    ensures memory { OnErr result (0 < length entries.now) }
 {
     let mut lines = LinkedList::new(alloc);
     for entry in entries {
@@ -455,14 +473,29 @@ fn merging_tasks(
     to: &Path,
     entries: &[Entry],
 ) -> Result<LinkedList<TableLine>, AllocError>
-    ensures { IfOk result (λ lines. lines ≡ map (merging_task from.now to.now) (filter is_task entries.now)) }
+    ensures lines { IfOk result (λ lines. lines ≡ map (merging_task from.now to.now) (filter is_task entries.now)) }
+    ensures memory { OnErr result (0 < length (filter is_task entries.now)) }
 {
     let mut lines = LinkedList::new(alloc);
     for entry in entries {
-        if entry.name.as_bytes() != "_temporary".as_bytes() {
-            let task = from.child(entry.name.copy()?)?;
-            lines.push_back(TableLine::merges(Kind::Dir, task, to.copy()?)?)?;
+        if is_task(entry) {
+            lines.push_back(merging_task(from, to, entry)?)?;
         }
     }
     Ok(lines)
+}
+
+/// Whether an entry of a job attempt path is a task's: the attempts that were not committed stand in `_temporary`.
+fn is_task(entry: &Entry) -> bool
+    ensures { result ≡ is_task entry.now }
+{
+    entry.name.as_bytes() != "_temporary".as_bytes()
+}
+
+/// The line that merges an entry of `from` as a directory onto `to`.
+fn merging_task(from: &Path, to: &Path, entry: &Entry) -> Result<TableLine, AllocError>
+    ensures { IfOk result (λ line. line ≡ merging_task from.now to.now entry.now) }
+{
+    let task = from.child(entry.name.copy()?)?;
+    Ok(TableLine::merges(Kind::Dir, task, to.copy()?)?)
 }

@@ -1,7 +1,8 @@
 -- Kinds of work, and what the answer of a committer's call changes of one.
 -- Work is what a master is at in its phase.
 use Rattle.std.specs.Prelude.{Bool, true, false, Option, Some, None, Ok, Err, List, [], ◌∷◌, if◌then◌else◌}
-use Rattle.mr_commit.specs.Line.{Line, more_follow}
+use Rattle.mr_commit.specs.Line.{Line}
+use Rattle.mr_commit.specs.Steps.{MayWantOn}
 use Rattle.mr_commit.specs.Recovery.{Recovery}
 use Rattle.mr_commit.specs.Recovery.Recovery.{Nowhere, Left}
 use Rattle.mr_history.specs.declared.record.Record.{Record}
@@ -126,10 +127,10 @@ refused_by work = record { refused = work; superseded = work }
 abbrev pub refused_when : Bool → Work → Work
 refused_when b work = if b then (refused_by work).superseded else (refused_by work).refused
 
--- whether lines may follow the one that is next, for which memory is wanted
-abbrev pub wants_more : List Line → Bool
-wants_more [] = false
-wants_more (line ∷ left) = more_follow line
+-- there may be want of memory for an answer: lines follow from it
+abbrev pub WantsMore : List Line → StoreAnswer → Type 0
+WantsMore left (answer.Names r) = MayWantOn left r
+WantsMore left _ = ⊥
 
 abbrev pub lines_of : Recovery → List Line
 lines_of Nowhere = []

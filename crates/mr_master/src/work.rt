@@ -4,10 +4,10 @@ ghost use Rattle.std.specs.Option.{is_some};
 ghost use Rattle.mr_master_model.specs.Past.{Work, LooksForSuccess, SetsUp, Runs, CommitsJob, Fails, Ends, Stops, phase_of};
 ghost use Rattle.mr_master_model.specs.Readings.{Seen, is_running, is_over};
 ghost use Rattle.mr_master_model.specs.Duty.{duty_at, does, commit_name, abort_duty};
-ghost use Rattle.mr_master.specs.WorkKinds.{is_own, fails_as, is_read, is_look, looked_on, found_by, ends_as, is_tell, left_of, with_left, refused_when, is_step, others_of, with_others, wants_more, lines_of};
+ghost use Rattle.mr_master.specs.WorkKinds.{is_own, fails_as, is_read, is_look, looked_on, found_by, ends_as, is_tell, left_of, with_left, refused_when, is_step, others_of, with_others, WantsMore, lines_of};
 ghost use Rattle.mr_master.specs.Taking.{winner_of};
 ghost use Rattle.mr_master.specs.inner.Coming.{IsComing, begun_by};
-ghost use Rattle.mr_commit.specs.Steps.{next_call};
+ghost use Rattle.mr_commit.specs.Steps.{next_call, MayWantOn};
 ghost use Rattle.mr_commit.specs.Halves.{Fits};
 ghost use Rattle.mr_commit.specs.Recovery.{recover_task};
 ghost use Rattle.mr_master_model.specs.Answered.{work_after, is_superseded, takes_over};
@@ -480,7 +480,7 @@ impl Work {
     // What comes of the answer of a committer's call, made ready. Nothing changes.
     pub fn follow(&self, answer: &StoreAnswer) -> Result<Coming, AllocError>
         ensures coming { IfOk result (λ coming. IsComing (left_of self.now) answer.now coming) }
-        ensures memory { OnErr result (wants_more (left_of self.now) ≡ true) }
+        ensures memory { OnErr result (WantsMore (left_of self.now) answer.now) }
     {
         let Some(r) = named(answer) else {
             return Ok(Coming::Refused);
@@ -524,7 +524,7 @@ impl Work {
 fn follow_setup(step: &SetupJob, r: &Result<Answer, NameFault>) -> Result<Coming, AllocError>
     requires { r.now ≡ Err NameFault.NoMemory → ⊥ }
     ensures coming { IfOk result (λ coming. IsComing step.now (StoreAnswer.Names r.now) coming) }
-    ensures memory { OnErr result (wants_more step.now ≡ true) }
+    ensures memory { OnErr result (MayWantOn step.now r.now) }
 {
     let followed = step.follow(r);
     coming_of(followed)
@@ -533,7 +533,7 @@ fn follow_setup(step: &SetupJob, r: &Result<Answer, NameFault>) -> Result<Coming
 fn follow_commit(step: &CommitJob, r: &Result<Answer, NameFault>) -> Result<Coming, AllocError>
     requires { r.now ≡ Err NameFault.NoMemory → ⊥ }
     ensures coming { IfOk result (λ coming. IsComing step.now (StoreAnswer.Names r.now) coming) }
-    ensures memory { OnErr result (wants_more step.now ≡ true) }
+    ensures memory { OnErr result (MayWantOn step.now r.now) }
 {
     let followed = step.follow(r);
     coming_of(followed)
@@ -542,7 +542,7 @@ fn follow_commit(step: &CommitJob, r: &Result<Answer, NameFault>) -> Result<Comi
 fn follow_recovery(step: &RecoverTask, r: &Result<Answer, NameFault>) -> Result<Coming, AllocError>
     requires { r.now ≡ Err NameFault.NoMemory → ⊥ }
     ensures coming { IfOk result (λ coming. IsComing (lines_of step.now) (StoreAnswer.Names r.now) coming) }
-    ensures memory { OnErr result (wants_more (lines_of step.now) ≡ true) }
+    ensures memory { OnErr result (MayWantOn (lines_of step.now) r.now) }
 {
     let followed = step.follow(r);
     coming_of(followed)

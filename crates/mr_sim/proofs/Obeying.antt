@@ -24,6 +24,7 @@ Has p (Err (fault.Names f)) t = p ≡ (Err (fault.Names f), t)
 Has p (Err fault.OutputMissing) t = p ≡ (Err fault.OutputMissing, t)
 Has p (Err fault.WrongLength) t = p ≡ (Err fault.WrongLength, t)
 Has p (Err fault.DestinationExists) t = p ≡ (Err fault.DestinationExists, t)
+Has p (Err fault.WrongAnswer) t = p ≡ (Err fault.WrongAnswer, t)
 Has p (Err fault.Over) t = p ≡ (Err fault.Over, t)
 
 pub obeyed : (dest : List (List ℕ)) (o : Order) (s : Scene) (p : Result (Unit {0}) CommitFault × State) (r : Result (Unit {0}) CommitFault) (t : State) → outcome dest o s ≡ by_calls s p → Has p r t → Obeys dest o s (silent r) (at_names s t)
@@ -32,6 +33,7 @@ obeyed dest o s p (Err (fault.Names f)) t is h = is ∙ ap (by_calls s) h
 obeyed dest o s p (Err fault.OutputMissing) t is h = is ∙ ap (by_calls s) h
 obeyed dest o s p (Err fault.WrongLength) t is h = is ∙ ap (by_calls s) h
 obeyed dest o s p (Err fault.DestinationExists) t is h = is ∙ ap (by_calls s) h
+obeyed dest o s p (Err fault.WrongAnswer) t is h = is ∙ ap (by_calls s) h
 obeyed dest o s p (Err fault.Over) t is h = is ∙ ap (by_calls s) h
 obeyed dest o s p (Err fault.NoMemory) t is h = tt
 
@@ -41,6 +43,7 @@ obeyed_from dest o s (Err (fault.Names f)) t h = h
 obeyed_from dest o s (Err fault.OutputMissing) t h = h
 obeyed_from dest o s (Err fault.WrongLength) t h = h
 obeyed_from dest o s (Err fault.DestinationExists) t h = h
+obeyed_from dest o s (Err fault.WrongAnswer) t h = h
 obeyed_from dest o s (Err fault.Over) t h = h
 obeyed_from dest o s (Err fault.NoMemory) t h = tt
 
@@ -50,6 +53,7 @@ form_has lines s caller (Err (fault.Names f)) t h = h
 form_has lines s caller (Err fault.OutputMissing) t h = h
 form_has lines s caller (Err fault.WrongLength) t h = h
 form_has lines s caller (Err fault.DestinationExists) t h = h
+form_has lines s caller (Err fault.WrongAnswer) t h = h
 form_has lines s caller (Err fault.Over) t h = h
 form_has lines s caller (Err fault.NoMemory) t h = tt
 
@@ -59,6 +63,7 @@ turn_has calls s caller (Err (fault.Names f)) t h = h
 turn_has calls s caller (Err fault.OutputMissing) t h = h
 turn_has calls s caller (Err fault.WrongLength) t h = h
 turn_has calls s caller (Err fault.DestinationExists) t h = h
+turn_has calls s caller (Err fault.WrongAnswer) t h = h
 turn_has calls s caller (Err fault.Over) t h = h
 turn_has calls s caller (Err fault.NoMemory) t h = tt
 
@@ -69,6 +74,7 @@ obeyed_needs dest o a s (Err (fault.Names f)) is h = is ∙ ap (λ q. (told q, s
 obeyed_needs dest o a s (Err fault.OutputMissing) is h = is ∙ ap (λ q. (told q, s)) (sym h)
 obeyed_needs dest o a s (Err fault.WrongLength) is h = is ∙ ap (λ q. (told q, s)) (sym h)
 obeyed_needs dest o a s (Err fault.DestinationExists) is h = is ∙ ap (λ q. (told q, s)) (sym h)
+obeyed_needs dest o a s (Err fault.WrongAnswer) is h = is ∙ ap (λ q. (told q, s)) (sym h)
 obeyed_needs dest o a s (Err fault.Over) is h = is ∙ ap (λ q. (told q, s)) (sym h)
 obeyed_needs dest o a s (Err fault.NoMemory) is h = tt
 

@@ -47,6 +47,7 @@ fault_text (commits.Names f) = name_fault_text f
 fault_text commits.OutputMissing = codes "OutputMissing"
 fault_text commits.WrongLength = codes "WrongLength"
 fault_text commits.DestinationExists = codes "DestinationExists"
+fault_text commits.WrongAnswer = codes "WrongAnswer"
 fault_text commits.Over = codes "Over"
 fault_text commits.NoMemory = codes "NoMemory"
 

@@ -37,6 +37,7 @@ fn fault_text(alloc: Global, fault: CommitFault) -> Result<String, AllocError>
         CommitFault::OutputMissing => format!(in alloc; "OutputMissing"),
         CommitFault::WrongLength => format!(in alloc; "WrongLength"),
         CommitFault::DestinationExists => format!(in alloc; "DestinationExists"),
+        CommitFault::WrongAnswer => format!(in alloc; "WrongAnswer"),
         CommitFault::Over => format!(in alloc; "Over"),
         CommitFault::NoMemory => format!(in alloc; "NoMemory"),
     }

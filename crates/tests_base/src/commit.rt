@@ -5,7 +5,7 @@ use mr_commit::{
     check_output, commit_job, commit_task, needs_task_commit, setup_job,
 };
 use mr_ids::{AppAttempt, AttemptId, JobId, TaskId, TaskKind};
-use mr_names::{Answer, Caller, Kind, NameFault, Namespace};
+use mr_names::{Answer, Caller, Kind, NameFault, Namespace, Op};
 use mr_paths::{Layout, Path, PathFault};
 use std::alloc::{AllocError, Global};
 use std::process::Abort;
@@ -115,8 +115,11 @@ fn setup_by_halves(rt: HostRuntime) {
         panic!(rt; "refused");
     };
     assert!(rt; following.done() == StepDone::Finished);
+    let mut copy = made(&rt, setup.copy());
     setup.go_on(following);
     assert!(rt; told(&rt, setup.next(&mut names, *caller)) == Err(CommitFault::Over));
+    assert!(rt; copy.call().is_some());
+    assert!(rt; told(&rt, copy.took(answer)) == Ok(StepDone::Finished));
 }
 
 // A task's commit goes on where it hears, in two halves, that its attempt's directory is there.
@@ -145,6 +148,19 @@ fn output_missing_then_over(rt: HostRuntime) {
     assert!(rt; copy.call().is_none());
     assert!(rt; told(&rt, copy.next(&mut names, *caller)) == Err(CommitFault::Over));
     assert!(rt; told(&rt, step.next(&mut names, *caller)) == Err(CommitFault::Over));
+}
+
+// An answer of another call is no answer: the step ends there, deletes nothing and creates no marker.
+#[test]
+fn answer_of_another_kind(rt: HostRuntime) {
+    let alloc = rt.alloc();
+    let mut step = made(&rt, CommitJob::new(&out(&rt, alloc), generation(&rt, 1)));
+    assert!(rt; matches!(step.follow(&Ok(Answer::Found(None))), Err(CommitFault::WrongAnswer)));
+    assert!(rt; matches!(step.call(), Some(Op::List(_path))));
+    assert!(rt; told(&rt, step.took(Ok(Answer::Done))) == Err(CommitFault::WrongAnswer));
+    assert!(rt; step.call().is_none());
+    assert!(rt; told(&rt, step.took(Ok(Answer::Done))) == Err(CommitFault::Over));
+    assert!(rt; prints(&rt, alloc, CommitFault::WrongAnswer, "WrongAnswer"));
 }
 
 // A namespace in which a committed task left two directories with a file each, and the destination has other things of their names.
@@ -213,8 +229,9 @@ fn two_level_merge(rt: HostRuntime) {
     let layout = out(&rt, alloc);
     let mut names = two_levels(&rt, alloc, caller);
     let mut halves = made(&rt, CommitJob::new(&layout, app));
-    // list, exists /out, list, exists /out/a, delete, rename
+    // list, exists /out, list, exists /out/a, delete, rename; each by a copy, of up to five lines
     for _ in 0..6 {
+        halves = made(&rt, halves.copy());
         assert!(rt; told(&rt, halves.next(&mut names, *caller)) == Ok(StepDone::More));
     }
     assert!(rt; stands(&rt, alloc, &names, *caller, "/out/a/f") == Some(Kind::File));
@@ -294,6 +311,23 @@ fn committed_and_checked(rt: HostRuntime) {
     assert!(rt; commit_task(&mut names, *caller, &layout, a) == Err(late));
     assert!(rt; prints(&rt, alloc, late, "Superseded 2"));
     assert!(rt; prints(&rt, alloc, CommitFault::OutputMissing, "OutputMissing"));
+}
+
+// The last generation that there is sets a job up and commits it.
+#[test]
+fn last_generation_commits(rt: HostRuntime) {
+    let alloc = rt.alloc();
+    let caller = &Caller {
+        app: generation(&rt, 1000),
+        attempt: None,
+    };
+    let layout = out(&rt, alloc);
+    let mut names = new_namespace(&rt, alloc);
+    names.raise(generation(&rt, 1000));
+    assert!(rt; told(&rt, setup_job(&mut names, *caller, &layout)) == Ok(()));
+    assert!(rt; stands(&rt, alloc, &names, *caller, "/out/_temporary/1000") == Some(Kind::Dir));
+    assert!(rt; told(&rt, commit_job(&mut names, *caller, &layout)) == Ok(()));
+    assert!(rt; stands(&rt, alloc, &names, *caller, "/out/_SUCCESS") == Some(Kind::File));
 }
 
 // A namespace in which the job of generation 1 was set up.

@@ -1,11 +1,13 @@
 -- The line that a line of the code is.
-use Rattle.std.specs.Prelude.{ℕ, List, []}
+use Rattle.std.specs.Prelude.{◌≡◌, ℕ, true, List, [], Result, Err}
 use Rattle.mr_names.specs.declared.op.Op.{Op}
 use Rattle.mr_names.specs.declared.op.Op.TheVariants as op
 use Rattle.mr_commit.specs.declared.line.TableLine.TheInside.{Inside}
 use Rattle.mr_commit.specs.declared.line.Rule.{Rule}
 use Rattle.mr_commit.specs.declared.line.Rule.TheVariants as rule
-use Rattle.mr_commit.specs.Line.{Line}
+use Rattle.mr_commit.specs.declared.fault.CommitFault.{CommitFault}
+use Rattle.mr_commit.specs.declared.fault.CommitFault.TheVariants as fault
+use Rattle.mr_commit.specs.Line.{Line, lines_follow}
 use Rattle.mr_commit.specs.Line.Line.{Does, Clears, Needs, Merges, MergesEach, MergesTasks, Seeks, Measures}
 
 -- the path of a call. A bar has none
@@ -33,3 +35,8 @@ line_by call (rule.Measure bytes) = Measures (path_of call) bytes
 
 abbrev pub line_of : Inside → Line
 line_of l = line_by l.op l.rule
+
+-- why these lines are not given: the fault that stands in their place, or want of memory, where there are some
+abbrev pub IsWhy : Result (List Line) CommitFault → CommitFault → Type 0
+IsWhy lines fault.NoMemory = lines_follow lines ≡ true
+IsWhy lines f = lines ≡ Err f
