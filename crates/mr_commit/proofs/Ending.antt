@@ -20,7 +20,7 @@ use Rattle.mr_names.specs.Content.{Content}
 use Rattle.mr_names.proofs.TreeLaws.{past_caller}
 use Rattle.mr_names.specs.Held.{node_at, is_file}
 use Rattle.mr_names.specs.Listing.{children}
-use Rattle.mr_names.specs.Calls.{State, refused, refusal, settled, call_of, answer}
+use Rattle.mr_names.specs.Calls.{State, refused, settled, call_of, answer}
 use Rattle.mr_commit.specs.declared.fault.CommitFault.{CommitFault}
 use Rattle.mr_commit.specs.declared.fault.CommitFault.TheVariants as fault
 use Rattle.mr_commit.specs.declared.fault.StepDone.{StepDone}

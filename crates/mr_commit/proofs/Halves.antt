@@ -1,5 +1,5 @@
 -- Whether lines are left once some take the place of the first one.
-use Rattle.std.proofs.Common.{◌≡◌, refl, true, false, List, [], ◌∷◌, ◌++◌, length, ◌==◌, true≢false}
+use Rattle.std.proofs.Common.{◌≡◌, refl, false, List, [], ◌∷◌, ◌++◌, length, ◌==◌, true≢false}
 use Rattle.mr_commit.specs.declared.fault.StepDone.TheVariants as done
 use Rattle.mr_commit.specs.Line.{Line}
 use Rattle.mr_commit.specs.Steps.{done_at}

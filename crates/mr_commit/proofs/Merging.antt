@@ -1,5 +1,5 @@
 -- The lines of a merge: where some follow.
-use Rattle.std.proofs.Common.{◌≡◌, ◌<◌, ℕ, zero, suc, Bool, true, false, cond, List, [], ◌∷◌, filter, length, map, get_or, refl, sym, ap, ◌∙◌, Option, None, Some, Ok, Err, Result, arith}
+use Rattle.std.proofs.Common.{◌≡◌, ◌<◌, ℕ, zero, suc, Bool, true, false, cond, List, [], ◌∷◌, filter, length, map, get_or, refl, sym, ap, ◌∙◌, Option, None, Some, Ok, Result, arith}
 use Rattle.mr_ids.specs.declared.id.TaskId.{TaskId}
 use Rattle.mr_names.specs.declared.node.Entry.{Entry}
 use Rattle.mr_names.specs.declared.node.Kind.{Kind}

@@ -1,5 +1,5 @@
 -- The step of a step value, from its call and from what was heard.
-use Rattle.std.proofs.Common.{◌≡◌, ℕ, Bool, true, false, List, [], ◌∷◌, refl, sym, ap, ◌∙◌, Option, Some, None, Result, Ok, Err, ◌||◌, if◌then◌else◌}
+use Rattle.std.proofs.Common.{◌≡◌, Bool, true, false, List, [], ◌∷◌, refl, sym, ap, ◌∙◌, Option, Some, None, Result, Ok, Err, ◌||◌, if◌then◌else◌}
 use Rattle.mr_names.specs.declared.op.Caller.{Caller}
 use Rattle.mr_names.specs.declared.fault.NameFault.{NameFault}
 use Rattle.mr_names.specs.declared.fault.NameFault.TheVariants as names
@@ -10,7 +10,7 @@ use Rattle.mr_names.specs.Calls.{State, call_of, refused, settled, answer, effec
 use Rattle.mr_commit.specs.declared.fault.CommitFault.{CommitFault}
 use Rattle.mr_commit.specs.declared.fault.CommitFault.TheVariants as fault
 use Rattle.mr_commit.specs.declared.fault.StepDone.{StepDone}
-use Rattle.mr_commit.specs.Line.{Line, op_of, answered, is_answer_to, lines_follow, replaced, needed, measured, is_no_file, fault_at, fault_of}
+use Rattle.mr_commit.specs.Line.{Line, op_of, is_answer_to, lines_follow, replaced, needed, is_no_file, fault_at, fault_of}
 use Rattle.mr_commit.specs.Line.Line.{Does, Clears, Needs, Merges, MergesEach, MergesTasks, Seeks, Measures}
 use Rattle.mr_commit.specs.Steps.{next_call, heard, step_of, Hears, Steps}
 use Rattle.mr_commit.proofs.Calls.{Made, made, as_call, no_memory, is_want}

@@ -1,5 +1,5 @@
 -- All steps of a whole form.
-use Rattle.std.proofs.Common.{◌≡◌, ◌≤◌, ◌<◌, ℕ, zero, suc, ◌-◌, length, true, false, List, [], ◌∷◌, refl, sym, ap, ◌∙◌, Result, Ok, Err, Option, Some, None, ◌⊎◌, ⊎_elim, arith, inl, inr, length-append}
+use Rattle.std.proofs.Common.{◌≡◌, ◌≤◌, ◌<◌, ℕ, zero, suc, ◌-◌, length, List, [], ◌∷◌, refl, sym, ap, ◌∙◌, Result, Ok, Err, Option, Some, None, ⊎_elim, arith, inl, inr, length-append}
 use Rattle.std.specs.FinMap as finite
 use Rattle.mr_names.specs.declared.op.Caller.{Caller}
 use Rattle.mr_names.specs.declared.fault.NameFault.{NameFault}

@@ -91,7 +91,9 @@ pub use abort::{AbortJob, AbortTask, abort_job, abort_task};
 pub use checks::{check_output, needs_task_commit};
 pub use fault::{CommitFault, StepDone};
 pub use job::{CommitJob, commit_job};
-pub use laws::{aborts_leave, one_result, task_commits, task_recovers, whole_forms_end};
+pub use laws::{
+    aborts_leave, answers_own_calls, one_result, task_commits, task_recovers, whole_forms_end,
+};
 pub use lines::Following;
 pub use recover::{RecoverTask, recover_task};
 pub use setup::{SetupJob, setup_job};

@@ -1,7 +1,5 @@
-use Rattle.std.proofs.Common.{[], ◌∷◌}
 use Rattle.std.proofs.lemmas.Result.{err_from_is_err_and}
-use Rattle.mr_commit.specs.Line.Line.{Seeks}
-use Rattle.mr_commit.proofs.Wholes.{effect_unheard, made_unheard, made_nothing}
+use Rattle.mr_commit.proofs.Wholes.{effect_unheard, made_unheard}
 use Rattle.mr_commit.proofs.recover.recover_from.Goals as goal
 
 pub returns-in_err-k-clause-effect : goal.returns-in_err-k-clause-effect
