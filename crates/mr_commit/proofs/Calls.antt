@@ -79,16 +79,16 @@ is_want (Err f) = is_memory f
 -- what a function that makes a call answered: the call's answer, or want of memory
 pub data Made (s : State) (caller : Caller) (call : Op) (r : Result Answer NameFault) (t : State) : Type 0 where
   as_call : call_of s caller call ≡ (r, t) → is_want r ≡ false → Made s caller call r t
-  no_memory : r ≡ Err names.NoMemory → t ≡ s → refused s caller call ≡ None → may_want_memory call ≡ true → Made s caller call r t
+  no_memory : r ≡ Err names.NoMemory → t ≡ s → refused s caller call ≡ None → may_want_memory s call ≡ true → Made s caller call r t
 
-pub made : (s : State) (caller : Caller) (call : Op) (r : Result Answer NameFault) (t : State) → Makes (λ a. a) s caller call r t → (may_want_memory call ≡ false → MakesAlways (λ a. a) s caller call r t) → Made s caller call r t
+pub made : (s : State) (caller : Caller) (call : Op) (r : Result Answer NameFault) (t : State) → Makes (λ a. a) s caller call r t → (may_want_memory s call ≡ false → MakesAlways (λ a. a) s caller call r t) → Made s caller call r t
 made s caller call (Ok a) t m always = as_call m refl
 made s caller call (Err f) t m always = by (refused s caller call) refl (refused_own s caller call) m always
   where
-    by : (o : Option NameFault) → refused s caller call ≡ o → wants o ≡ false → (f ≡ unwrap_or o names.NoMemory) × (t ≡ s) → (may_want_memory call ≡ false → settled o s call ≡ (Err f, t)) → Made s caller call (Err f) t
+    by : (o : Option NameFault) → refused s caller call ≡ o → wants o ≡ false → (f ≡ unwrap_or o names.NoMemory) × (t ≡ s) → (may_want_memory s call ≡ false → settled o s call ≡ (Err f, t)) → Made s caller call (Err f) t
     by (Some g) e own h always = as_call (rw e cc) (rw h.0 own)
-    by None e own h always = memory (may_want_memory call) refl
+    by None e own h always = memory (may_want_memory s call) refl
       where
-        memory : (b : Bool) → may_want_memory call ≡ b → Made s caller call (Err f) t
+        memory : (b : Bool) → may_want_memory s call ≡ b → Made s caller call (Err f) t
         memory true k = no_memory (ap (λ g. Err g) h.0) h.1 e k
         memory false k = let z : settled None s call ≡ (Err f, t) = always k in let y : Ok (answer s.content call) ≡ Err f = ap (λ p. p.0) z in absurd cc

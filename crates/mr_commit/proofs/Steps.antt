@@ -115,7 +115,7 @@ as_called line rest s caller answer (Err fault.WrongAnswer) left t e own h = hea
 as_called line rest s caller answer (Err fault.Over) left t e own h = heard_step line rest left s t caller answer _ e h
 as_called line rest s caller (Ok a) (Err fault.NoMemory) left t e own h =
     let u = unchanged line s caller a t (brings line a h.1) e in
-    (h.0, u.same, (u.passes, ap (λ b. may_want_memory (op_of line) || b) (ap (λ a. lines_follow (replaced line (Ok a))) (sym u.told) ∙ h.1) ∙ or_right (may_want_memory (op_of line))))
+    (h.0, u.same, (u.passes, ap (λ b. may_want_memory s (op_of line) || b) (ap (λ a. lines_follow (replaced line (Ok a))) (sym u.told) ∙ h.1) ∙ or_right (may_want_memory s (op_of line))))
 as_called line rest s caller (Err f) (Err fault.NoMemory) left t e own h = let own2 : is_want (Err names.NoMemory) ≡ false = rw h.1 at own in absurd cc
 
 abbrev told : CommitFault → Result StepDone CommitFault
@@ -125,7 +125,7 @@ no_memory_heard : (line : Line) (rest : List Line) → (heard (line ∷ rest) (E
 no_memory_heard line rest = rw (fault_at-own line names.NoMemory refl) refl
 
 -- a function that had no memory for the call
-had_none : (line : Line) (rest : List Line) (s : State) (caller : Caller) (r : Result StepDone CommitFault) (left : List Line) (t : State) → t ≡ s → refused s caller (op_of line) ≡ None → may_want_memory (op_of line) ≡ true → Hears (line ∷ rest) (Err names.NoMemory) r left → Steps (line ∷ rest) s caller r left t
+had_none : (line : Line) (rest : List Line) (s : State) (caller : Caller) (r : Result StepDone CommitFault) (left : List Line) (t : State) → t ≡ s → refused s caller (op_of line) ≡ None → may_want_memory s (op_of line) ≡ true → Hears (line ∷ rest) (Err names.NoMemory) r left → Steps (line ∷ rest) s caller r left t
 had_none line rest s caller (Err fault.NoMemory) left t same none takes h = (h.0, same, (none, rw takes refl))
 had_none line rest s caller (Ok d) left t same none takes h = let y : told fault.NoMemory ≡ Ok d = sym (no_memory_heard line rest) ∙ ap (λ p. p.0) h in absurd cc
 had_none line rest s caller (Err (fault.Names f)) left t same none takes h = let y : told fault.NoMemory ≡ told (fault.Names f) = sym (no_memory_heard line rest) ∙ ap (λ p. p.0) h in absurd cc

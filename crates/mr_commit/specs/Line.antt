@@ -15,8 +15,7 @@ use Rattle.mr_names.specs.declared.op.Op.{Op}
 use Rattle.mr_names.specs.declared.op.Op.TheVariants as op
 use Rattle.mr_names.specs.declared.op.Answer.{Answer}
 use Rattle.mr_names.specs.declared.op.Answer.TheVariants as answers
-use Rattle.mr_names.specs.Content.{Content}
-use Rattle.mr_names.specs.Calls.{answer, may_want_memory}
+use Rattle.mr_names.specs.Calls.{State, answer, may_want_memory}
 use Rattle.mr_commit.specs.declared.fault.CommitFault.{CommitFault}
 use Rattle.mr_commit.specs.declared.fault.CommitFault.TheVariants as fault
 
@@ -225,6 +224,6 @@ lines_follow (Ok []) = false
 lines_follow (Ok (line ∷ rest)) = true
 lines_follow (Err f) = false
 
--- whether a line may want memory over a content: for its call, or for the lines that follow from what the call answers
-abbrev pub wants_memory : Content → Line → Bool
-wants_memory c line = may_want_memory (op_of line) || lines_follow (replaced line (Ok (answer c (op_of line))))
+-- whether a line may want memory in a namespace: for its call, or for the lines that follow from what the call answers
+abbrev pub wants_memory : State → Line → Bool
+wants_memory s line = may_want_memory s (op_of line) || lines_follow (replaced line (Ok (answer s.content (op_of line))))

@@ -67,7 +67,7 @@ Hears lines answer r left = heard lines answer ≡ (r, left)
 -- there may be want of memory at the next line: its call is not refused, and may want memory itself, or lines follow from what it answers
 abbrev pub MayWant : List Line → State → Caller → Type 0
 MayWant [] s caller = ⊥
-MayWant (line ∷ rest) s caller = (refused s caller (op_of line) ≡ None) × (wants_memory s.content line ≡ true)
+MayWant (line ∷ rest) s caller = (refused s caller (op_of line) ≡ None) × (wants_memory s line ≡ true)
 
 -- a function made the step, or there was no memory for it, and all is as it was
 abbrev pub Steps : List Line → State → Caller → Result StepDone CommitFault → List Line → State → Type 0
