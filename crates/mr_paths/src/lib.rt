@@ -60,4 +60,4 @@ pub use laws::{
 };
 pub use layout::{Layout, is_hidden, staging};
 pub use name::{Name, is_name};
-pub use path::{Path, child_of, copy_names, is_path, is_within, parent, rebase};
+pub use path::{Path, child_of, copy_names, is_within, parent, rebase};

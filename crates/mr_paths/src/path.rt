@@ -149,13 +149,6 @@ pub fn parent(names: &[Name]) -> &[Name]
     &names[..names.len().saturating_sub(1)]
 }
 
-/// Whether two lists of names are one path.
-pub fn is_path(names: &[Name], other: &[Name]) -> bool
-    ensures { result ≡ pointwise (pointwise nat_eq) names.now other.now }
-{
-    names == other
-}
-
 /// Whether the names lead to `top`, or beneath it.
 pub fn is_within(names: &[Name], top: &[Name]) -> bool
     ensures { result ≡ is_some (strip top.now names.now) }
