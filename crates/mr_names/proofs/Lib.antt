@@ -8,7 +8,7 @@ pub mod Counting
 pub mod Deleting
 pub mod Graph
 pub mod Limits
-mod ListingLaws
+pub mod ListingLaws
 pub mod NodeLines
 pub mod Making
 pub mod RowLaws
