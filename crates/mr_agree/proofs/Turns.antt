@@ -8,7 +8,6 @@ use Rattle.mr_names.specs.declared.node.Kind.{Kind}
 use Rattle.mr_names.specs.declared.node.Kind.TheVariants as kind
 use Rattle.mr_names.specs.declared.op.Answer.TheVariants as found
 use Rattle.mr_paths.specs.Layout as layout
-use Rattle.mr_names.specs.declared.op.Answer.TheVariants as told
 use Rattle.mr_commit.specs.Line.{Line, is_answer_to, older, deletes, moves, is_missing, passes_missing, fault_at, merging_child, merging_task, is_task}
 use Rattle.mr_commit.specs.Line.Line.{Does, Clears, Merges, MergesEach, MergesTasks, Seeks, Measures}
 use Rattle.mr_commit.specs.Steps.{after, done_at}
@@ -110,7 +109,7 @@ clears-line p rest (Refused f) more fin ref = by (is_missing f) refl
 clears-line p rest _ more fin ref = refl
 
 -- a call of its own is answered
-does-line : (o : Op) (rest : List Line) (r : Reply) (more : List Line → Work) (fin ref : Work) → answer_of (Names o) r ≡ plain r → is_answer_to o told.Done ≡ true →
+does-line : (o : Op) (rest : List Line) (r : Reply) (more : List Line → Work) (fin ref : Work) → answer_of (Names o) r ≡ plain r → is_answer_to o found.Done ≡ true →
     stepped (Does o ∷ rest) (answer_of (Names o) r) more fin ref ≡ (if is_fine r then goes_on (Ok (done_at rest)) rest more fin ref else ref)
 does-line o rest r more fin ref e own = ap (λ a. stepped (Does o ∷ rest) a more fin ref) e ∙ by r
   where
