@@ -58,6 +58,8 @@
 //!   is as it was (no memory for the table's lines), or where the line that is next may want memory and its call is
 //!   not refused (`Commits`).
 //! - `needs_task_commit` and `check_output` are their one `exists`; `check_output` takes no memory.
+//! - **An answer of another call is a fault**: `took` and `follow` answer `WrongAnswer` to it, and nothing goes on. What
+//!   the namespace answers is always of its call (law `answers_own_calls`).
 //! - `copy` of each step value is an equal value.
 //! - **Laws**: steps lead to one answer and one namespace (`one_result`); whole forms end, and the tables meet the
 //!   condition for it (`whole_forms_end`); after a task commit that was answered the committed path holds what the
