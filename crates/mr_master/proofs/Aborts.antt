@@ -3,6 +3,7 @@ use Rattle.std.proofs.Common.{◌≡◌, refl, sym, ap, ◌∙◌, Bool, true, f
 use Rattle.std.specs.List.{list_any}
 use Rattle.std.specs.Option.{is_some}
 use Rattle.mr_names.specs.declared.fault.NameFault.TheVariants as names
+use Rattle.mr_names.specs.declared.op.Answer.TheVariants as said
 use Rattle.mr_master_model.specs.declared.phase.DutyName.{DutyName}
 use Rattle.mr_master_model.specs.declared.phase.DutyName.TheVariants as name
 use Rattle.mr_master_model.specs.declared.setting.Setting.{Setting}
@@ -19,7 +20,10 @@ use Rattle.mr_master.specs.Answering.{answered_sends, answered_seen}
 use Rattle.mr_master.proofs.Replies.{quiet, after_named, named_sends, due-named, sends-named}
 
 pub abort-after : (w : Setting) (s : Seen) (a : StoreAnswer) (b : Bool) → aborted a ≡ failing_after w s a b (Some name.Abort)
-abort-after w s (answer.Names (Ok x)) b = refl
+abort-after w s (answer.Names (Ok said.Done)) b = refl
+abort-after w s (answer.Names (Ok (said.Listed es))) b = refl
+abort-after w s (answer.Names (Ok (said.Found there))) b = refl
+abort-after w s (answer.Names (Ok (said.Contents bytes))) b = refl
 abort-after w s (answer.Names (Err names.Missing)) b = refl
 abort-after w s (answer.Names (Err (names.Superseded f))) b = refl
 abort-after w s (answer.Names (Err names.Barred)) b = refl

@@ -1,5 +1,5 @@
 -- Of a task that is not the job's no attempt is Succeeded.
-use Rattle.std.proofs.Common.{Bool, true, false, ◌&&◌, true≢false, ◌≡◌, refl, sym, ap, List, [], None}
+use Rattle.std.proofs.Common.{Bool, true, false, ◌&&◌, true≢false, ◌≡◌, refl, sym, ap, List, None}
 use Rattle.mr_ids.specs.Attempt.{Attempt}
 use Rattle.std.specs.List.{find}
 use Rattle.std.proofs.lemmas.Bool.{and_parts}

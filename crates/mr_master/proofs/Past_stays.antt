@@ -4,7 +4,7 @@ use Rattle.std.specs.List.{find}
 use Rattle.std.proofs.lemmas.Bool.{cases_eq}
 use Rattle.mr_ids.specs.Attempt.{Attempt}
 use Rattle.mr_ids.specs.declared.id.TaskId.{TaskId}
-use Rattle.mr_grant.specs.Attempts.{same_attempt, has}
+use Rattle.mr_grant.specs.Attempts.{has}
 use Rattle.mr_attempt.specs.Table as table
 use Rattle.mr_attempt.specs.declared.state.AttemptState.{AttemptState}
 use Rattle.mr_attempt.specs.declared.state.AttemptState.TheVariants.{New, Assigned, Running, CommitPending, Recording, Succeeded, Failed, Killed}
@@ -13,7 +13,7 @@ use Rattle.mr_task.specs.Readings as task
 use Rattle.mr_task.specs.State as state
 use Rattle.mr_task.specs.Steps.{Task, entry_in}
 use Rattle.mr_task.specs.declared.attempts.Entry.{Entry}
-use Rattle.mr_task.proofs.Bits.{Bits, bits, bits_of, Fits}
+use Rattle.mr_task.proofs.Bits.{Bits, bits_of}
 use Rattle.mr_task.proofs.States.{fits}
 use Rattle.mr_task.proofs.Telling.{live-told}
 use Rattle.mr_task.proofs.Growth.{grows}

@@ -1,7 +1,7 @@
 -- Kinds of work, and what the answer of a committer's call changes of one.
 -- Work is what a master is at in its phase.
-use Rattle.std.specs.Prelude.{Bool, true, false, Option, Some, None, Ok, Err, List, [], ◌∷◌, if◌then◌else◌}
-use Rattle.mr_commit.specs.Line.{Line}
+use Rattle.std.specs.Prelude.{Bool, true, false, Option, Some, None, Ok, Err, List, [], if◌then◌else◌}
+use Rattle.mr_commit.specs.Line.{Line, is_done}
 use Rattle.mr_commit.specs.Steps.{MayWantOn}
 use Rattle.mr_commit.specs.Recovery.{Recovery}
 use Rattle.mr_commit.specs.Recovery.Recovery.{Nowhere, Left}
@@ -66,10 +66,10 @@ abbrev pub ends_as : Work → Option Bool
 ends_as (Ends succeeded) = Some succeeded
 ends_as _ = None
 
--- ---- the abort of a job that failed: nothing to delete is well
+-- ---- the abort of a job that failed: the delete was made, or there was nothing to delete
 
 abbrev pub passes_abort : StoreAnswer → Bool
-passes_abort (answer.Names (Ok a)) = true
+passes_abort (answer.Names (Ok a)) = is_done a
 passes_abort (answer.Names (Err names.Missing)) = true
 passes_abort _ = false
 

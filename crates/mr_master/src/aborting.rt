@@ -12,7 +12,7 @@ use crate::ready::Ready;
 use crate::store::is_fine;
 use crate::work::Work;
 use mr_master_model::StoreAnswer;
-use mr_names::NameFault;
+use mr_names::{Answer, NameFault};
 use std::alloc::AllocError;
 
 impl Machine {
@@ -52,12 +52,12 @@ fn aborted(answer: &StoreAnswer) -> Work
     }
 }
 
-// Whether the abort is done: also where there was nothing to delete.
+// Whether the abort is done: its delete was made, or there was nothing to delete.
 fn passes_abort(answer: &StoreAnswer) -> bool
     ensures { result ≡ passes_abort answer.now }
 {
     match answer {
-        StoreAnswer::Names(Ok(_)) | StoreAnswer::Names(Err(NameFault::Missing)) => true,
+        StoreAnswer::Names(Ok(Answer::Done)) | StoreAnswer::Names(Err(NameFault::Missing)) => true,
         _ => false,
     }
 }

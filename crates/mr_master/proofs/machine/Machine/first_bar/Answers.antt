@@ -1,4 +1,4 @@
-use Rattle.std.proofs.Common.{◌≡◌, ◌<◌, ◌∙◌, sym, subst, ap, List, length, slice_get, Some, arith}
+use Rattle.std.proofs.Common.{◌∙◌, sym, subst, ap, List, length, slice_get, arith}
 use Rattle.std.proofs.lemmas.Option.{slice_get_within}
 use Rattle.mr_ids.specs.Attempt.{Attempt}
 use Rattle.mr_master_model.specs.Readings.{is_live}

@@ -1,5 +1,4 @@
 use Rattle.std.proofs.Common.{sym, subst}
-use Rattle.mr_task.specs.Calls.{TaskCall}
 use Rattle.mr_master.specs.Taking.{IsTold}
 use Rattle.mr_master.specs.Tasks.{Tasks, Takes, TakesAt}
 use Rattle.mr_master.proofs.Keeping.{takes_keeps}
