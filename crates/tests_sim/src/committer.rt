@@ -38,16 +38,40 @@ impl Read for FaultyReader<'_> {
     }
 }
 
-/// Gives one byte again and again, so many times.
+/// Gives one byte a read, and is interrupted once, at the read of this number.
+#[derive(Drop)]
+struct OnceInterrupted<'a> {
+    bytes: &'a [u8],
+    reads: u32,
+    interrupted: u32,
+}
+
+impl Read for OnceInterrupted<'_> {
+    fn read(&mut self, buf: &mut [u8]) -> io::Result<usize> {
+        let number = self.reads;
+        self.reads = number.saturating_add(1);
+        if number == self.interrupted {
+            return Err(Error::from(ErrorKind::Interrupted));
+        }
+        let room = buf.len().min(1);
+        let mut bytes = self.bytes;
+        let n = bytes.read(&mut buf[..room])?;
+        self.bytes = bytes;
+        Ok(n)
+    }
+}
+
+/// Gives one byte again and again, so many times, at most so many a read.
 #[derive(Drop)]
 struct SameBytes {
     byte: u8,
     left: usize,
+    piece: usize,
 }
 
 impl Read for SameBytes {
     fn read(&mut self, buf: &mut [u8]) -> io::Result<usize> {
-        let n = buf.len().min(self.left);
+        let n = buf.len().min(self.left).min(self.piece);
         for place in &mut buf[..n] {
             *place = self.byte;
         }
@@ -56,13 +80,16 @@ impl Read for SameBytes {
     }
 }
 
-/// Takes a few bytes at a time into a fixed place, and answers an error at one of the writes.
+/// Takes a few bytes at a time into a fixed place, and answers an error at one of the writes: from there on, or once. Its
+/// flush may fail.
 #[derive(Drop)]
 struct FaultyWriter {
     taken: [u8; 512],
     len: usize,
     piece: usize,
     good: u32,
+    fails_once: bool,
+    flushes: bool,
 }
 
 impl FaultyWriter {
@@ -72,6 +99,8 @@ impl FaultyWriter {
             len: 0,
             piece,
             good,
+            fails_once: false,
+            flushes: true,
         }
     }
 
@@ -96,6 +125,9 @@ impl FaultyWriter {
 impl Write for FaultyWriter {
     fn write(&mut self, buf: &[u8]) -> io::Result<usize> {
         if self.good == 0 {
+            if self.fails_once {
+                self.good = 1000;
+            }
             return Err(Error::from(ErrorKind::Other));
         }
         self.good -= 1;
@@ -105,7 +137,11 @@ impl Write for FaultyWriter {
     }
 
     fn flush(&mut self) -> io::Result<()> {
-        Ok(())
+        if self.flushes {
+            Ok(())
+        } else {
+            Err(Error::from(ErrorKind::Other))
+        }
     }
 }
 
@@ -431,6 +467,63 @@ fn always_interrupted(rt: HostRuntime) -> Result<(), Fail> {
     Ok(())
 }
 
+// A reader that is interrupted once goes on: at the first read, amid the bytes, and before the end.
+#[test]
+fn once_interrupted(rt: HostRuntime) -> Result<(), Fail> {
+    for interrupted in [0, 50, 109] {
+        let mut input = OnceInterrupted {
+            bytes: HELLO,
+            reads: 0,
+            interrupted,
+        };
+        let mut output = FaultyWriter::new(512, 1000);
+        match run(&rt, &Command::Committer, &mut input, &mut output) {
+            Ok(()) => assert!(rt; output.took(HELLO_TEXT)),
+            Err(fault) => panic!(rt; "{fault}"),
+        }
+    }
+    Ok(())
+}
+
+// As many reads as there are bytes, 2^20, are not too many.
+#[test]
+fn one_byte_a_read(rt: HostRuntime) -> Result<(), Fail> {
+    let mut input = SameBytes {
+        byte: b'\n',
+        left: 1 << 20,
+        piece: 1,
+    };
+    let mut output = FaultyWriter::new(512, 1000);
+    match run(&rt, &Command::Committer, &mut input, &mut output) {
+        Ok(()) => assert_eq!(rt; output.len, 0),
+        Err(fault) => panic!(rt; "{fault}"),
+    }
+    Ok(())
+}
+
+// A write that fails once is answered at once, and a flush that fails is a failed write.
+#[test]
+fn one_failure_is_answered(rt: HostRuntime) {
+    for good in 0..13 {
+        let mut input = HELLO;
+        let mut output = FaultyWriter::new(3, good);
+        output.fails_once = true;
+        match run(&rt, &Command::Committer, &mut input, &mut output) {
+            Err(SimFault::Write) => {}
+            _ => panic!(rt; "not answered"),
+        }
+        let taken = output.len.min(HELLO_TEXT.len());
+        assert!(rt; taken < HELLO_TEXT.len() && output.took(&HELLO_TEXT[..taken]));
+    }
+    let mut input = HELLO;
+    let mut output = FaultyWriter::new(512, 1000);
+    output.flushes = false;
+    match run(&rt, &Command::Committer, &mut input, &mut output) {
+        Err(SimFault::Write) => assert!(rt; output.took(HELLO_TEXT)),
+        _ => panic!(rt; "not answered"),
+    }
+}
+
 // 2^24 bytes are read, one more is too many.
 #[test]
 fn input_too_long(rt: HostRuntime) -> Result<(), Fail> {
@@ -438,7 +531,11 @@ fn input_too_long(rt: HostRuntime) -> Result<(), Fail> {
         (1usize << 24, Ok(())),
         ((1 << 24) + 1, Err(SimFault::TooLong)),
     ] {
-        let mut input = SameBytes { byte: b'\n', left };
+        let mut input = SameBytes {
+            byte: b'\n',
+            left,
+            piece: 4096,
+        };
         let mut output = FaultyWriter::new(3, 1000);
         let answer = run(&rt, &Command::Committer, &mut input, &mut output);
         if answer == Err(SimFault::NoMemory) {
@@ -454,6 +551,7 @@ fn input_too_long(rt: HostRuntime) -> Result<(), Fail> {
 fn statuses(rt: HostRuntime) -> Result<(), Fail> {
     let faults = [
         (SimFault::BadCommand(2), 3, "mrsim: line 2: bad command"),
+        (SimFault::BadRecord(2), 3, "mrsim: history: bad line 2"),
         (SimFault::TooLong, 3, "mrsim: input too long"),
         (SimFault::Read, 4, "mrsim: read"),
         (SimFault::Write, 4, "mrsim: write"),
