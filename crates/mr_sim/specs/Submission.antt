@@ -1,6 +1,20 @@
 -- The limits of a job that is submitted: our own profile.
-use Rattle.std.specs.Prelude.{◌≤◌, ◌^◌, length, All}
+use Rattle.std.specs.Prelude.{◌≤◌, ◌<◌, ◌^◌, ℕ, length, All}
+use Rattle.mr_sim.specs.declared.submission.PlanAct.{PlanAct}
+use Rattle.mr_sim.specs.declared.submission.PlanAct.TheVariants.{Node, Master, Expire}
+use Rattle.mr_sim.specs.declared.submission.PlanFault.{PlanFault}
 use Rattle.mr_sim.specs.declared.submission.Submission.{Submission}
+
+-- the node that restarts or is given up is one of so many
+abbrev pub IsOfNodes : ℕ → PlanAct → Type 0
+IsOfNodes nodes (Node node) = node < nodes
+IsOfNodes nodes (Master kept) = Unit {0}
+IsOfNodes nodes (Expire node) = node < nodes
+
+-- a fault comes after at most so many events, and its node is there
+pub record IsPlanned (nodes : ℕ) (f : PlanFault) : Type 0 where
+  pub after : f.after ≤ 1000000
+  pub of_nodes : IsOfNodes nodes f.act
 
 pub record IsWithinLimits (s : Submission) : Type 0 where
   pub some_reduces : 1 ≤ s.reduces
@@ -12,5 +26,6 @@ pub record IsWithinLimits (s : Submission) : Type 0 where
   pub some_limit : 1 ≤ s.limit
   pub most_limit : s.limit ≤ 100
   pub few_faults : length s.faults ≤ 100
+  pub planned_faults : All (IsPlanned s.nodes) s.faults
   pub some_v2_from : 1 ≤ s.v2_from
   pub most_v2_from : s.v2_from ≤ 1000

@@ -3,7 +3,7 @@ ghost use Rattle.std.specs.Prelude.{◌≡◌, ◌≤◌, ◌^◌, [], codes, If
 ghost use Rattle.serde_json.specs.Find.{get};
 ghost use Rattle.serde_json.specs.View.{view, items_view};
 ghost use Rattle.mr_sim.specs.JobText.{Gives, each, act_of, fault_of, faults_of, job_named, kind_named, number_in, optional, required, split_of, splits_of, submission_in, submission_of, text_at};
-ghost use Rattle.mr_sim.specs.Submission.{IsWithinLimits};
+ghost use Rattle.mr_sim.specs.Submission.{IsOfNodes, IsPlanned, IsWithinLimits};
 
 use crate::fault::{JobTextFault, SimFault};
 use crate::submission::{JobKind, PlanAct, PlanFault, PlanFaults, Splits, Submission};
@@ -178,7 +178,8 @@ fn limit_in(value: &Value) -> Result<u32, SimFault>
 #[tactic(auto, unfolding(crate::specs::JobText::act_of))]
 fn act_of(value: &Value, nodes: u32) -> Option<PlanAct>
     requires { 1 ≤ nodes }
-    ensures { result ≡ act_of nodes (view value.now) }
+    ensures said { result ≡ act_of nodes (view value.now) }
+    ensures of_nodes { IfSome result (IsOfNodes nodes) }
 {
     match (value.get("node"), value.get("master"), value.get("expire")) {
         (Some(node), None, None) => Some(PlanAct::Node(small_in(node, 0, nodes - 1)?)),
@@ -192,7 +193,8 @@ fn act_of(value: &Value, nodes: u32) -> Option<PlanAct>
 #[tactic(auto, unfolding(crate::specs::JobText::fault_of))]
 fn fault_of(value: &Value, nodes: u32) -> Option<PlanFault>
     requires { 1 ≤ nodes }
-    ensures { result ≡ fault_of nodes (view value.now) }
+    ensures said { result ≡ fault_of nodes (view value.now) }
+    ensures planned { IfSome result (IsPlanned nodes) }
 {
     let after = small_in(value.get("after")?, 0, MAX_AFTER)?;
     let act = act_of(value, nodes)?;
@@ -204,6 +206,7 @@ fn each_fault(alloc: Global, values: &[Value], nodes: u32) -> Result<PlanFaults,
     requires { 1 ≤ nodes }
     ensures said { Gives result (required JobTextFault.Faults (each (fault_of nodes) (items_view values.now))) }
     ensures count { IfOk result (λ faults. length faults ≡ length values.now) }
+    ensures planned { IfOk result (All (IsPlanned nodes)) }
 {
     let mut faults = Vec::new(alloc);
     for value in values {
@@ -220,6 +223,7 @@ fn faults_of(alloc: Global, value: &Value, nodes: u32) -> Result<PlanFaults, Sim
     requires { 1 ≤ nodes }
     ensures said { Gives result (required JobTextFault.Faults (faults_of nodes (view value.now))) }
     ensures few { IfOk result (λ faults. length faults ≤ 100) }
+    ensures planned { IfOk result (All (IsPlanned nodes)) }
 {
     let Some(values) = value.as_array() else {
         return Err(SimFault::Job(JobTextFault::Faults));
@@ -234,6 +238,7 @@ fn faults_in(alloc: Global, value: &Value, nodes: u32) -> Result<PlanFaults, Sim
     requires { 1 ≤ nodes }
     ensures said { Gives result (required JobTextFault.Faults (optional [] (faults_of nodes) (get (codes "faults") (view value.now)))) }
     ensures few { IfOk result (λ faults. length faults ≤ 100) }
+    ensures planned { IfOk result (All (IsPlanned nodes)) }
 {
     match value.get("faults") {
         Some(list) => faults_of(alloc, list, nodes),
