@@ -3,6 +3,7 @@ pub mod Calming
 pub mod Calmly
 pub mod Coming
 pub mod JobTexts
+pub mod Joined
 pub mod Obeying
 pub mod PartFiles
 pub mod PlayRows

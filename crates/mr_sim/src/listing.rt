@@ -8,17 +8,26 @@ use mr_names::{Found, Namespace};
 use mr_paths::Name;
 use std::alloc::AllocError;
 
+/// Each of these names behind a slash.
+fn print_beneath(names: &[Name], out: &mut Vec<u8>) -> Result<(), AllocError>
+    ensures { OnOk result (out.new.items ≡ out.old.items ++ flat_map (λ name. 47 ∷ name) names.now) }
+{
+    for name in names {
+        out.extend_from_slice(b"/")?;
+        out.extend_from_slice(name.as_bytes())?;
+    }
+    Ok(())
+}
+
 /// Names with slashes between them.
 pub fn print_names(names: &[Name], out: &mut Vec<u8>) -> Result<(), AllocError>
     ensures { OnOk result (out.new.items ≡ out.old.items ++ join_with_byte 47 names.now) }
 {
     match names {
         [] => Ok(()),
-        [name] => out.extend_from_slice(name.as_bytes()),
-        [name, rest @ ..] => {
-            out.extend_from_slice(name.as_bytes())?;
-            out.extend_from_slice(b"/")?;
-            print_names(rest, out)
+        [first, rest @ ..] => {
+            out.extend_from_slice(first.as_bytes())?;
+            print_beneath(rest, out)
         }
     }
 }
