@@ -1,7 +1,8 @@
-//! Why a subcommand gives no output, with the exit status of each fault, and what is wrong with a job text.
+//! Why a subcommand gives no output, with the exit status of each fault and of each way in which the program ends, and what is
+//! wrong with a job text.
 ghost use Rattle.std.specs.Prelude.{◌≡◌};
 ghost use Rattle.mr_sim.specs.declared.fault.SimFault.TheVariants.{NoMemory};
-ghost use Rattle.mr_sim.specs.Fault.{status_of};
+ghost use Rattle.mr_sim.specs.Fault.{exit_status_of, status_of};
 
 use std::alloc::{AllocError, AllocFailed};
 use thiserror::Error;
@@ -86,6 +87,31 @@ impl SimFault {
             SimFault::NoMemory => 5,
             SimFault::Full => 7,
         }
+    }
+}
+
+/// How the program ended.
+#[derive(Clone, Copy, Debug, PartialEq, Eq)]
+pub enum Ending {
+    /// The subcommand read, ran and wrote.
+    Done,
+    /// The command line asked for help, which was printed.
+    Helped,
+    /// The command line was refused.
+    RefusedWords,
+    /// There is this fault, of a subcommand or of the program's streams.
+    Failed(SimFault),
+}
+
+/// The exit status of the program: 0 where the subcommand was done or help that was asked for was printed, 2 where the
+/// command line was refused, the status of the fault where there is one.
+pub fn exit_status(ending: Ending) -> u8
+    ensures { result ≡ exit_status_of ending }
+{
+    match ending {
+        Ending::Done | Ending::Helped => 0,
+        Ending::RefusedWords => 2,
+        Ending::Failed(fault) => fault.status(),
     }
 }
 

@@ -33,9 +33,15 @@ pub enum Command {
     Seq,
 }
 
-/// What a subcommand prints for its input.
-fn answer(alloc: Global, command: Command, input: &[u8]) -> Result<Vec<u8>, SimFault>
+/// What a subcommand prints for its input: bytes to bytes, with no stream and no handle. It returns for every input.
+///
+/// `BadCommand`, `BadRecord`, `Job`, `Refused` and `Full` come exactly where the input has that fault; `NoMemory` may come at
+/// any input. The faults of streams, `Read`, `Write` and `TooLong`, never come: what is too long is for whoever reads.
+pub fn answer(alloc: Global, command: Command, input: &[u8]) -> Result<Vec<u8>, SimFault>
+    // Ok: the text is what is printed for the input.
     ensures ok { IfOk result (λ v. Prints command input.now v.items) }
+
+    // A fault is one that the input has, or there was no memory.
     ensures fault { IfErr result (RefusesText command input.now) }
 {
     match command {
@@ -48,16 +54,27 @@ fn answer(alloc: Global, command: Command, input: &[u8]) -> Result<Vec<u8>, SimF
     }
 }
 
-/// Reads all there is, forms the whole output, and then writes it.
-fn run_alone<R: Read, W: Write>(
+/// Runs a subcommand over streams: reads the input to its end, forms the whole output (`answer`), and then writes and
+/// flushes it.
+///
+/// At most 16,777,216 bytes are read, by at most 33,554,432 reads; an interrupted read is tried again. It returns for every
+/// reader and writer whose calls return. `Read`: a read failed, or the input did not end within the most reads. `TooLong`: the
+/// input has more bytes. `Write`: a write or the flush failed. `NoMemory` may come at any input. Every other fault is that of
+/// `answer` for what was read. But for `Write`, nothing was written then.
+pub fn run_streams<R: Read, W: Write>(
     alloc: Global,
     command: Command,
     reader: &mut R,
     writer: &mut W,
 ) -> Result<(), SimFault>
+    // Ok: the writer has what it had, then what is printed for what was read, and nothing else.
     ensures ok { OnOk result (IfSome (R.remaining reader.old) (λ input.
         Writes command input (W.contents writer.old) (W.contents writer.new))) }
+
+    // A fault about the input is one that the input has.
     ensures fault { IfErr result (λ e. IfSome (R.remaining reader.old) (λ input. Refuses command input e)) }
+
+    // Only a failed write leaves anything in the writer.
     ensures nothing { IfErr result (λ e. e ≢ SimFault.Write → Keeps (W.contents writer.old) (W.contents writer.new)) }
 {
     let input = read_input(alloc, reader)?;
@@ -71,11 +88,9 @@ fn run_alone<R: Read, W: Write>(
     }
 }
 
-/// Runs a subcommand: reads the input to its end, forms the whole output, and then writes it.
+/// Runs a subcommand, with a handle that may start threads and wait: hands on to `run_streams`, with the same faults.
 ///
-/// At most 16,777,216 bytes are read, by at most 33,554,432 reads; an interrupted read is tried again. Where the reader
-/// and the writer tell their bytes, what is written is what the subcommand prints for what was read. A fault about
-/// the input comes exactly where it is named, but for want of memory and a failed read, and then nothing is written.
+/// A function with a handle that may wait owes no return by its contract; that `run_streams` returns is proved.
 pub fn run<H: AllocGlobal + Clock + Threads + Wait + Sync, R: Read, W: Write>(
     rt: &H,
     command: &Command,
@@ -92,5 +107,5 @@ pub fn run<H: AllocGlobal + Clock + Threads + Wait + Sync, R: Read, W: Write>(
     // Only a failed write leaves anything in the writer.
     ensures nothing { IfErr result (λ e. e ≢ SimFault.Write → Keeps (W.contents writer.old) (W.contents writer.new)) }
 {
-    run_alone(rt.alloc(), *command, reader, writer)
+    run_streams(rt.alloc(), *command, reader, writer)
 }

@@ -1,7 +1,7 @@
 //! What the command line takes, what it refuses, and its help.
-use crate::words::{command_line, command_of};
+use crate::words::{command_line, command_of, ending_of};
 use clap::error::ErrorKind;
-use mr_sim::Shown;
+use mr_sim::{Ending, Shown, exit_status};
 use std::alloc::Global;
 use std::process::Abort;
 use std::test::Fail;
@@ -13,24 +13,30 @@ fn named(alloc: Global, words: &[&str]) -> Result<mr_sim::Command, clap::Error> 
     Ok(command_of(&matches))
 }
 
-/// The words ask for help: it goes to standard output, and holds this text.
+/// The words ask for help: it goes to standard output with status 0, and holds this text.
 fn helps(rt: &impl Abort, alloc: Global, words: &[&str], text: &str) -> Result<(), Fail> {
     match named(alloc, words) {
         Ok(_) => panic!(rt; "no help"),
         Err(error) => {
             assert!(rt; error.kind() == ErrorKind::DisplayHelp);
             assert!(rt; !error.use_stderr());
+            assert!(rt; ending_of(&error) == Ending::Helped);
+            assert_eq!(rt; exit_status(ending_of(&error)), 0);
             assert!(rt; error.to_string(alloc)?.contains(text));
         }
     }
     Ok(())
 }
 
-/// The words are refused, and the refusal goes to standard error.
+/// The words are refused, and the refusal goes to standard error with status 2.
 fn refuses(rt: &impl Abort, alloc: Global, words: &[&str]) {
     match named(alloc, words) {
         Ok(_) => panic!(rt; "not refused"),
-        Err(error) => assert!(rt; error.use_stderr()),
+        Err(error) => {
+            assert!(rt; error.use_stderr());
+            assert!(rt; ending_of(&error) == Ending::RefusedWords);
+            assert_eq!(rt; exit_status(ending_of(&error)), 2);
+        }
     }
 }
 

@@ -1,6 +1,10 @@
 //! The words of the command line.
-use clap::{Arg, ArgAction, ArgMatches, Command};
-use mr_sim::Shown;
+ghost use Rattle.std.specs.Prelude.{◌≡◌, ◌≢◌};
+ghost use Rattle.clap.specs.Words.{kind_of};
+
+use clap::error::ErrorKind;
+use clap::{Arg, ArgAction, ArgMatches, Command, Error};
+use mr_sim::{Ending, Shown, SimFault};
 use std::alloc::{AllocError, Global};
 
 const ABOUT: &str =
@@ -174,6 +178,22 @@ pub fn command_of(matches: &ArgMatches<'_>) -> mr_sim::Command {
         Some(("history", _)) => mr_sim::Command::History,
         Some(("seq", _)) => mr_sim::Command::Seq,
         _ => mr_sim::Command::Committer,
+    }
+}
+
+/// How the program ends at words that name no subcommand to be run: they ask for help, or are refused, or there was no memory to
+/// read them.
+pub fn ending_of(error: &Error) -> Ending
+    ensures help { kind_of error.now ≡ ErrorKind.DisplayHelp → result ≡ Ending.Helped }
+    ensures memory { kind_of error.now ≡ ErrorKind.OutOfMemory → result ≡ Ending.Failed SimFault.NoMemory }
+    // All else is a refusal. (There is no version to be shown.)
+    ensures refused { kind_of error.now ≢ ErrorKind.DisplayHelp → kind_of error.now ≢ ErrorKind.DisplayVersion
+        → kind_of error.now ≢ ErrorKind.OutOfMemory → result ≡ Ending.RefusedWords }
+{
+    match error.kind() {
+        ErrorKind::DisplayHelp | ErrorKind::DisplayVersion => Ending::Helped,
+        ErrorKind::OutOfMemory => Ending::Failed(SimFault::NoMemory),
+        _ => Ending::RefusedWords,
     }
 }
 

@@ -1,5 +1,5 @@
 //! What `committer` prints, and what it does of streams that fail.
-use mr_sim::{Command, SimFault, run};
+use mr_sim::{Command, Ending, SimFault, answer, exit_status, run, run_streams};
 use std::io;
 use std::io::{Error, ErrorKind, Read, Write};
 use std::process::Abort;
@@ -547,6 +547,35 @@ fn input_too_long(rt: HostRuntime) -> Result<(), Fail> {
     Ok(())
 }
 
+// The parts without a handle: bytes to bytes, and over streams.
+#[test]
+fn parts_of_a_run(rt: HostRuntime) -> Result<(), Fail> {
+    let text = answer(rt.alloc(), Command::Committer, HELLO);
+    match text {
+        Ok(text) => assert!(rt; text.as_slice() == HELLO_TEXT),
+        Err(fault) => panic!(rt; "{fault}"),
+    }
+    match answer(rt.alloc(), Command::Committer, b"setup\nset\n") {
+        Ok(_) => panic!(rt; "not refused"),
+        Err(fault) => assert_eq!(rt; fault, SimFault::BadCommand(2)),
+    }
+    let mut input = HELLO;
+    let mut output = FaultyWriter::new(512, 1000);
+    match run_streams(rt.alloc(), Command::Committer, &mut input, &mut output) {
+        Ok(()) => assert!(rt; output.took(HELLO_TEXT)),
+        Err(fault) => panic!(rt; "{fault}"),
+    }
+    Ok(())
+}
+
+// The program's exit status where there is no fault.
+#[test]
+fn endings(rt: HostRuntime) {
+    assert_eq!(rt; exit_status(Ending::Done), 0);
+    assert_eq!(rt; exit_status(Ending::Helped), 0);
+    assert_eq!(rt; exit_status(Ending::RefusedWords), 2);
+}
+
 #[test]
 fn statuses(rt: HostRuntime) -> Result<(), Fail> {
     let faults = [
@@ -560,6 +589,7 @@ fn statuses(rt: HostRuntime) -> Result<(), Fail> {
     ];
     for (fault, status, text) in faults {
         assert_eq!(rt; fault.status(), status);
+        assert_eq!(rt; exit_status(Ending::Failed(fault)), status);
         match format!(in rt.alloc(); "{fault}") {
             Ok(shown) => assert!(rt; shown.as_str() == text),
             Err(_) => panic!(rt; "no memory"),

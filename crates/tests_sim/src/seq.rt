@@ -1,7 +1,9 @@
 //! What `seq` prints for job texts, and which it refuses.
 use crate::committer::{gives, is_refused};
 use mr_ids::JobId;
-use mr_sim::{Command, JobKind, JobTextFault, PlanAct, PlanFault, SimFault, read_job_text};
+use mr_sim::{
+    Command, Ending, JobKind, JobTextFault, PlanAct, PlanFault, SimFault, exit_status, read_job_text,
+};
 use std::process::Abort;
 use std::rt::Clock;
 use std::sync::Wait;
@@ -304,6 +306,7 @@ fn seq_statuses(rt: HostRuntime) -> Result<(), Fail> {
         (SimFault::Refused, "mrsim: refused"),
     ] {
         assert_eq!(rt; fault.status(), 3);
+        assert_eq!(rt; exit_status(Ending::Failed(fault)), 3);
         assert!(rt; format!(in rt.alloc(); "{fault}")?.as_str() == text);
     }
     Ok(())
