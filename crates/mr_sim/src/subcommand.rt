@@ -35,7 +35,7 @@ pub enum Command {
 
 /// What a subcommand prints for its input: bytes to bytes, with no stream and no handle. It returns for every input.
 ///
-/// `BadCommand`, `BadRecord`, `Job`, `Refused` and `Full` come exactly where the input has that fault; `NoMemory` may come at
+/// `BadCommand`, `BadRecord`, `Job`, `Refused` and `Full` come only where the input has that fault; `NoMemory` may come at
 /// any input. The faults of streams, `Read`, `Write` and `TooLong`, never come: what is too long is for whoever reads.
 pub fn answer(alloc: Global, command: Command, input: &[u8]) -> Result<Vec<u8>, SimFault>
     // Ok: the text is what is printed for the input.
