@@ -7,5 +7,6 @@ pub mod Effects
 pub mod TaskLaws
 pub mod AbortLaws
 pub mod RecoveryLaws
+pub mod JobLaws
 pub mod Halves
 pub mod Merging

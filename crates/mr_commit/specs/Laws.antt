@@ -1,11 +1,12 @@
 -- Laws of the committer effect.
-use Rattle.std.specs.Prelude.{◌≡◌, ℕ, true, false, List, [], ◌∷◌, ◌++◌, Option, None, Result, Ok, Err}
+use Rattle.std.specs.Prelude.{◌≡◌, ◌≢◌, ℕ, true, false, List, [], ◌∷◌, ◌++◌, Option, Some, None, Result, Ok, Err}
 use Rattle.mr_ids.specs.Attempt.{Attempt}
 use Rattle.mr_ids.specs.declared.id.TaskId.{TaskId}
-use Rattle.mr_paths.specs.Layout.{temporary, task_attempt, committed}
+use Rattle.mr_paths.specs.Layout.{temporary_name, temporary, job_attempt, task_attempt, committed, marker}
+use Rattle.mr_names.specs.declared.node.Node.TheVariants.{File}
 use Rattle.mr_names.specs.declared.op.Caller.{Caller}
 use Rattle.mr_names.specs.Content.{Content, IsTree, within}
-use Rattle.mr_names.specs.Held.{node_at}
+use Rattle.mr_names.specs.Held.{node_at, is_present}
 use Rattle.mr_names.specs.declared.op.Op.{Op}
 use Rattle.mr_names.specs.Calls.{State, answer}
 use Rattle.mr_commit.specs.declared.fault.CommitFault.{CommitFault}
@@ -46,6 +47,42 @@ pub record IsCommitted (dest : List (List ℕ)) (k : ℕ) (attempt : Attempt) (b
 abbrev pub TaskCommits : Type 0
 TaskCommits = (dest : List (List ℕ)) (k : ℕ) (attempt : Attempt) (s t : State) (caller : Caller) → IsTree s.content
     → whole (commit_task dest k attempt) s caller ≡ (Ok tt, t) → IsCommitted dest k attempt s.content t.content × (t.fence ≡ s.fence)
+
+-- where an entry of the job attempt path has a name
+abbrev pub beneath_entry : List (List ℕ) → ℕ → List ℕ → List ℕ → List (List ℕ)
+beneath_entry dest k entry name = job_attempt dest k ++ entry ∷ name ∷ []
+
+-- an entry of the job attempt path beside `_temporary`: a task's committed path
+abbrev pub IsTaskEntry : List (List ℕ) → ℕ → Content → List ℕ → Type 0
+IsTaskEntry dest k c entry = (entry ≢ temporary_name) × (is_present c (job_attempt dest k ++ entry ∷ []) ≡ true)
+
+-- a closed file that stands in a task's committed path
+pub record IsTaskFile (dest : List (List ℕ)) (k : ℕ) (c : Content) (entry name bytes : List ℕ) : Type 0 where
+  pub beside : entry ≢ temporary_name
+  pub file : node_at c (beneath_entry dest k entry name) ≡ Some (File bytes true)
+
+-- each task committed one file and nothing else, no two a file of one name, and at the destination nothing has such a name
+pub record AreTaskFiles (dest : List (List ℕ)) (k : ℕ) (c : Content) : Type 0 where
+  pub some : (entry : List ℕ) → IsTaskEntry dest k c entry → (name : List ℕ) × (bytes : List ℕ) × IsTaskFile dest k c entry name bytes
+  pub alone : (entry name bytes other : List ℕ) → IsTaskFile dest k c entry name bytes → is_present c (beneath_entry dest k entry other) ≡ true → other ≡ name
+  pub apart : (one other name bytes more : List ℕ) → IsTaskFile dest k c one name bytes → IsTaskFile dest k c other name more → one ≡ other
+  pub free : (entry name bytes : List ℕ) → IsTaskFile dest k c entry name bytes → node_at c (dest ++ name ∷ []) ≡ None
+
+-- Each task's file stands in the destination, nothing is at or beneath `_temporary`, the marker is an empty closed file, and
+-- nothing else changed.
+pub record IsPublished (dest : List (List ℕ)) (k : ℕ) (before after : Content) : Type 0 where
+  pub files : (entry name bytes : List ℕ) → IsTaskFile dest k before entry name bytes → node_at after (dest ++ name ∷ []) ≡ Some (File bytes true)
+  pub gone : (rest : List (List ℕ)) → node_at after (temporary dest ++ rest) ≡ None
+  pub marked : node_at after (marker dest) ≡ Some (File [] true)
+  pub others : (path : List (List ℕ)) → within (temporary dest) path ≡ false → path ≢ marker dest
+      → ((entry name bytes : List ℕ) → IsTaskFile dest k before entry name bytes → path ≢ dest ++ name ∷ []) → node_at after path ≡ node_at before path
+
+-- A job commit that was answered: commitJob of algorithm version 1 of the Hadoop MapReduce committer architecture document, which
+-- merges each task's committed path into the destination, deletes `_temporary` and creates the marker. That the destination is a
+-- directory, that it had no marker, and that no task's file is called `_SUCCESS` or `_temporary` is not asked: it follows.
+abbrev pub JobCommits : Type 0
+JobCommits = (dest : List (List ℕ)) (k : ℕ) (s t : State) (caller : Caller) → IsTree s.content → AreTaskFiles dest k s.content
+    → whole (commit_job dest k) s caller ≡ (Ok tt, t) → IsPublished dest k s.content t.content × (t.fence ≡ s.fence) × (t.barred ≡ s.barred)
 
 -- nothing is left at a path or beneath it, and nothing else changed
 pub record IsTakenOut (top : List (List ℕ)) (before after : Content) : Type 0 where

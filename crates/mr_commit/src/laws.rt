@@ -1,5 +1,5 @@
 //! Laws of the definitions: these functions do nothing.
-ghost use Rattle.mr_commit.specs.Laws.{AnswersOwnCalls, OneResult, WholeFormsEnd, TablesSettle, TaskCommits, AbortsLeave};
+ghost use Rattle.mr_commit.specs.Laws.{AnswersOwnCalls, OneResult, WholeFormsEnd, TablesSettle, TaskCommits, JobCommits, AbortsLeave};
 ghost use Rattle.mr_commit.specs.Recovered.{TasksRecover};
 
 /// What the namespace answers to a call is an answer of this call: so no step value that makes its calls meets
@@ -23,6 +23,13 @@ pub fn whole_forms_end()
 /// changed.
 pub fn task_commits()
     ensures { TaskCommits }
+{}
+
+/// After a job commit that was answered, where each task had committed one file and nothing at the destination had its
+/// name: each of these files stands in the destination with its bytes, nothing is at `_temporary` or beneath it, the marker
+/// is an empty closed file, and nothing else changed.
+pub fn job_commits()
+    ensures { JobCommits }
 {}
 
 /// After a task's abort that was answered nothing is at the attempt path or beneath it, after a job's abort nothing at

@@ -64,16 +64,19 @@
 //! - **Laws**: steps lead to one answer and one namespace (`one_result`); whole forms end, and the tables meet the
 //!   condition for it (`whole_forms_end`); after a task commit that was answered the committed path holds what the
 //!   attempt path held, the attempt path holds nothing, nothing else changed, and the fence is as before
-//!   (`task_commits`). After a task's abort that was answered nothing is at the attempt path or beneath it, after a
-//!   job's abort nothing at `$dest/_temporary` or beneath it; no other path differs, fence and barred attempts are
-//!   as before; an abort that was not answered changes nothing (`aborts_leave`). After a recovery that was answered
-//!   the committed path of this generation and every path beneath it hold what the newest earlier generation with
-//!   committed output held there, that one holds nothing of the task any more, no other path differs, fence and
-//!   barred attempts are as before, and where a length was recorded the part file has it; `OutputMissing` says that
-//!   no earlier generation committed output, or that a length is recorded and the newest one has no part file;
-//!   `WrongLength` that its part file has another length; a superseded or barred caller is refused, but in
-//!   generation 1; and each fault leaves the namespace as it was (`task_recovers`, of the committer effect, so want
-//!   of memory aside).
+//!   (`task_commits`). After a job commit that was answered, where each task had committed one closed file and
+//!   nothing else, no two of one name, and nothing in the destination had such a name: each of these files stands in
+//!   the destination with its bytes, closed; nothing is at `$dest/_temporary` or beneath it; the marker is an empty
+//!   closed file; no other path differs, fence and barred attempts are as before (`job_commits`). After a task's
+//!   abort that was answered nothing is at the attempt path or beneath it, after a job's abort nothing at
+//!   `$dest/_temporary` or beneath it; no other path differs, fence and barred attempts are as before; an abort that
+//!   was not answered changes nothing (`aborts_leave`). After a recovery that was answered the committed path of this
+//!   generation and every path beneath it hold what the newest earlier generation with committed output held there,
+//!   that one holds nothing of the task any more, no other path differs, fence and barred attempts are as before, and
+//!   where a length was recorded the part file has it; `OutputMissing` says that no earlier generation committed
+//!   output, or that a length is recorded and the newest one has no part file; `WrongLength` that its part file has
+//!   another length; a superseded or barred caller is refused, but in generation 1; and each fault leaves the
+//!   namespace as it was (`task_recovers`, of the committer effect, so want of memory aside).
 //!
 //! Only tested: that memory suffices where there is plenty; the printed text of two faults.
 #![tactic(auto)]
@@ -94,7 +97,8 @@ pub use checks::{check_output, needs_task_commit};
 pub use fault::{CommitFault, StepDone};
 pub use job::{CommitJob, commit_job};
 pub use laws::{
-    aborts_leave, answers_own_calls, one_result, task_commits, task_recovers, whole_forms_end,
+    aborts_leave, answers_own_calls, job_commits, one_result, task_commits, task_recovers,
+    whole_forms_end,
 };
 pub use lines::Following;
 pub use recover::{RecoverTask, recover_task};
