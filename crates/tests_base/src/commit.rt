@@ -155,7 +155,12 @@ fn output_missing_then_over(rt: HostRuntime) {
 fn answer_of_another_kind(rt: HostRuntime) {
     let alloc = rt.alloc();
     let mut step = made(&rt, CommitJob::new(&out(&rt, alloc), generation(&rt, 1)));
-    assert!(rt; matches!(step.follow(&Ok(Answer::Found(None))), Err(CommitFault::WrongAnswer)));
+    assert!(rt;
+        matches!(
+            step.follow(&Ok(Answer::Found(None))),
+            Err(CommitFault::WrongAnswer)
+        )
+    );
     assert!(rt; matches!(step.call(), Some(Op::List(_path))));
     assert!(rt; told(&rt, step.took(Ok(Answer::Done))) == Err(CommitFault::WrongAnswer));
     assert!(rt; step.call().is_none());

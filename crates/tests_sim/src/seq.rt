@@ -2,7 +2,8 @@
 use crate::committer::{gives, is_refused};
 use mr_ids::JobId;
 use mr_sim::{
-    Command, Ending, JobKind, JobTextFault, PlanAct, PlanFault, SimFault, exit_status, read_job_text,
+    Command, Ending, JobKind, JobTextFault, PlanAct, PlanFault, SimFault, exit_status,
+    read_job_text,
 };
 use std::process::Abort;
 use std::rt::Clock;

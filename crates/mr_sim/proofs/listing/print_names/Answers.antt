@@ -14,5 +14,5 @@ returns-in_ok-extend_from_slice-in-len1-up c =
     let names : join_with_byte 47 c.args.names.now ≡ first ++ beneath = ap (join_with_byte 47) cut ∙ first_and_rest 47 first rest in
     let front : c.extend_from_slice.new.self.items ≡ c.args.out.now.items ++ first = search rules in
     let whole : c.args.out.now.items ++ join_with_byte 47 c.args.names.now ≡ c.extend_from_slice.new.self.items ++ beneath =
-      ap (λ text. c.args.out.now.items ++ text) names ∙ sym (append_assoc c.args.out.now.items first beneath) ∙ ap (λ text. text ++ beneath) (sym front) in
+    ap (λ text. c.args.out.now.items ++ text) names ∙ sym (append_assoc c.args.out.now.items first beneath) ∙ ap (λ text. text ++ beneath) (sym front) in
     rw whole c.print_beneath.ensures
