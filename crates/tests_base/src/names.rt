@@ -193,6 +193,28 @@ fn namespace_calls_as_values(rt: HostRuntime) {
     }
 }
 
+// A million bytes at once, and calls that have nothing to add or to make.
+#[test]
+fn long_appends_and_empty_ones(rt: HostRuntime) {
+    let alloc = rt.alloc();
+    let one = &Caller {
+        app: generation(&rt, 1),
+        attempt: None,
+    };
+    let mut names = new_namespace(&rt, alloc);
+    let f = path(&rt, alloc, "/f");
+    let mut million = Vec::new(alloc);
+    for _ in 0..1_000_000 {
+        million.push(b'x').expect(&rt, "no memory");
+    }
+    assert!(rt; told(&rt, names.mkdirs(*one, &path(&rt, alloc, "/"))) == Ok(()));
+    assert!(rt; told(&rt, names.create(*one, &f, false)) == Ok(()));
+    assert!(rt; told(&rt, names.append(*one, &f, b"")) == Ok(()));
+    assert!(rt; matches!(told(&rt, names.read(*one, &f)), Ok(bytes) if bytes.is_empty()));
+    assert!(rt; told(&rt, names.append(*one, &f, &million)) == Ok(()));
+    assert!(rt; matches!(told(&rt, names.read(*one, &f)), Ok(bytes) if bytes.len() == 1_000_000));
+}
+
 // The requests for memory between two of this size are those that `tools/refuse_rename` counts.
 const MARK: usize = 1_000_003;
 

@@ -126,16 +126,19 @@ fn reduce_faults(rt: HostRuntime) {
     assert!(rt; matches!(answer, Err(WorkFault::Gate(GateFault::Spent))));
 }
 
+// Whether a reduce work of these pieces enters once, and answers with its gate's refusal where the gate refuses.
+fn enters_once(alloc: Global, parts: &[Piece]) -> bool {
+    entered(alloc, parts, true) == (1, false) && entered(alloc, parts, false) == (1, true)
+}
+
 // A reduce work enters once, with pieces and without, and before it looks at a piece: where the gate refuses, a bad piece
 // and one of another map are not seen.
 #[test]
 fn reduce_enters_once(rt: HostRuntime) {
     let alloc = rt.alloc();
-    for all in [[].as_slice(), [BLOCK].as_slice(), [BLOCK, MORE].as_slice()] {
-        let parts = pieces(&rt, alloc, 0, 3, all);
-        assert!(rt; entered(alloc, &parts, true) == (1, false));
-        assert!(rt; entered(alloc, &parts, false) == (1, true));
-    }
+    assert!(rt; enters_once(alloc, &pieces(&rt, alloc, 0, 3, &[])));
+    assert!(rt; enters_once(alloc, &pieces(&rt, alloc, 0, 3, &[BLOCK])));
+    assert!(rt; enters_once(alloc, &pieces(&rt, alloc, 0, 3, &[BLOCK, MORE])));
     assert!(rt; entered(alloc, &pieces(&rt, alloc, 0, 3, &[SHORT]), false) == (1, true));
     assert!(rt; entered(alloc, &pieces(&rt, alloc, 1, 3, &[BLOCK]), false) == (1, true));
 }
