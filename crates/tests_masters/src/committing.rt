@@ -1,13 +1,13 @@
 //! What is refused while a master commits its job, and while its job fails.
 
-use crate::fixtures::{answered, does, due};
+use crate::fixtures::{answered, does, due, lists_nothing};
 use crate::outcomes::fails;
 use crate::running::{reduce, running};
 use crate::stopping::{stops, superseded, won};
 use mr_history::HistoryFault;
 use mr_master::MasterMachine;
 use mr_master_model::{DutyName, LaunchFault, Phase, StoreAnswer};
-use mr_names::NameFault;
+use mr_names::{Answer, NameFault};
 use mr_task::TaskFault;
 use std::alloc::Global;
 use std::process::Abort;
@@ -38,10 +38,18 @@ fn fails_by(rt: &impl Abort, master: &MasterMachine, name: DutyName, answer: Sto
 // The job commit has started, and there is nothing to merge.
 fn merged(rt: &impl Abort, alloc: Global) -> MasterMachine {
     let mut master = won(rt, alloc);
-    for _ in 0..2 {
-        assert!(rt; does(rt, &mut master).len() == 0);
-    }
+    assert!(rt; does(rt, &mut master).len() == 0);
+    lists_nothing(rt, alloc, &mut master);
     master
+}
+
+// An answer of another call than the listing that is due fails the job.
+#[test]
+fn mixed_up_answer_fails_the_job(rt: HostRuntime) {
+    let mut master = won(&rt, rt.alloc());
+    assert!(rt; does(&rt, &mut master).len() == 0);
+    let mixed_up = StoreAnswer::Names(Ok(Answer::Done));
+    fails_by(&rt, &master, DutyName::Merge, mixed_up);
 }
 
 // A refusal or a fault at the cleanup or the marker fails the job; at the mark of its success a refusal stops the master.

@@ -4,7 +4,7 @@ use mr_history::Records;
 use mr_ids::{AppAttempt, AttemptId, JobId, TaskId, TaskKind};
 use mr_master::MasterMachine;
 use mr_master_model::{DutyName, Setting, StoreAnswer};
-use mr_names::Answer;
+use mr_names::{Answer, Entries};
 use mr_packet::{ContainerId, Envelope, Packet};
 use mr_paths::{Layout, Path, PathFault};
 use std::alloc::Global;
@@ -114,6 +114,12 @@ pub fn opens(rt: &impl Abort, master: &mut MasterMachine, records: Records) {
 /// The call of the namespace that is due is made. Gives the packets that are sent.
 pub fn does(rt: &impl Abort, master: &mut MasterMachine) -> Vec<Envelope> {
     answered(rt, master, StoreAnswer::Names(Ok(Answer::Done)))
+}
+
+/// What is due is a listing, and there is nothing to list. Nothing is sent.
+pub fn lists_nothing(rt: &impl Abort, alloc: Global, master: &mut MasterMachine) {
+    let nothing = StoreAnswer::Names(Ok(Answer::Listed(Entries::new(alloc))));
+    assert!(rt; answered(rt, master, nothing).len() == 0);
 }
 
 /// The name of what is due, if anything is.

@@ -1,6 +1,6 @@
 //! A master that comes to the end of its job, and one that goes on with what an earlier one did.
 
-use crate::fixtures::{answered, does, due, generation_of, hears, opens};
+use crate::fixtures::{answered, does, due, generation_of, hears, lists_nothing, opens};
 use crate::running::{finishes, first_attempt, is_started, is_win, launches, reduce, running};
 use mr_history::{Record, Records};
 use mr_ids::{AppAttempt, AttemptId};
@@ -34,12 +34,10 @@ fn job_is_committed(rt: HostRuntime) {
     for _ in 0..3 {
         let _ = answered(&rt, &mut master, StoreAnswer::Wrote(Ok(())));
     }
-    for name in [
-        DutyName::Started,
-        DutyName::Merge,
-        DutyName::Cleanup,
-        DutyName::Marker,
-    ] {
+    goes_on(&rt, &mut master, DutyName::Started);
+    assert!(rt; due(&rt, &master) == Some(DutyName::Merge));
+    lists_nothing(&rt, rt.alloc(), &mut master);
+    for name in [DutyName::Cleanup, DutyName::Marker] {
         goes_on(&rt, &mut master, name);
     }
     assert!(rt; due(&rt, &master) == Some(DutyName::Success));
