@@ -1,4 +1,5 @@
 pub mod Fields
+pub mod Generations
 pub mod Numerals
 pub mod Readers
 pub mod Same

@@ -2,7 +2,7 @@
 use Rattle.std.proofs.Common.{ℕ, ◌≡◌, ◌==◌, ◌&&◌, Bool, true, false, refl, sym, ◌∙◌}
 use Rattle.std.proofs.lemmas.Bool.{eqb-true, eq-eqb}
 use Rattle.mr_ids.specs.Attempt.{Attempt}
-use Rattle.mr_ids.specs.Same.{same_kind, same_task}
+use Rattle.mr_ids.specs.Same.{same_kind, same_task, same_attempt}
 use Rattle.mr_ids.specs.declared.id.TaskKind.{TaskKind}
 use Rattle.mr_ids.specs.declared.id.TaskKind.TheVariants.{Map, Reduce}
 use Rattle.mr_ids.specs.declared.id.TaskId.{TaskId}
@@ -71,3 +71,19 @@ attempt-is a b e =
 
 pub attempt-itself : (a : Attempt) → eq-value.it a a ≡ true
 attempt-itself a = attempt-eq a a ∙ rw (task-itself a.task, eqb-itself a.number) refl
+
+-- the test for one attempt is equality, and is the code's `==`
+
+pub attempt-same : (a b : Attempt) → eq-value.it a b ≡ same_attempt a b
+unfolding same_attempt
+attempt-same a b = attempt-eq a b
+
+-- the same, of the two tests as functions
+pub attempts-same : eq-value.it ≡ same_attempt
+attempts-same = λ i a b. attempt-same a b i
+
+pub same_attempt-is : (a b : Attempt) → same_attempt a b ≡ true → a ≡ b
+same_attempt-is a b e = attempt-is a b (attempt-same a b ∙ e)
+
+pub same_attempt-itself : (a : Attempt) → same_attempt a a ≡ true
+same_attempt-itself a = sym (attempt-same a a) ∙ attempt-itself a

@@ -2,6 +2,8 @@
 ghost use Rattle.std.specs.Prelude.{◌≡◌, ◌<◌, ◌≤◌, ◌/◌, ◌+◌, ◌++◌, ◌∷◌, codes, SomeIff, IfOk, IfErr, OnOk, OnErr};
 ghost use Rattle.std.specs.List.{slice_split};
 ghost use Rattle.mr_ids.specs.Attempt.{Attempt};
+ghost use Rattle.mr_ids.specs.Generations.{first_attempt_number, generation_of};
+ghost use Rattle.mr_ids.specs.Kind.{is_map, is_reduce};
 ghost use Rattle.mr_ids.specs.Text.{is_bar, numeral, job_fields, task_fields, attempt_fields, job_text, task_text, attempt_text, IsJob, IsTask, IsAttempt, IsPlain};
 ghost use Rattle.mr_ids.specs.Faults.{first_fault, job_places, task_places, attempt_places};
 ghost use Rattle.mr_ids.specs.Reading.{TakesAll};
@@ -73,6 +75,22 @@ impl JobId {
 pub enum TaskKind {
     Map,
     Reduce,
+}
+
+impl TaskKind {
+    /// Whether a task of this kind is a map.
+    pub fn is_map(self) -> bool
+        ensures { result ≡ is_map self }
+    {
+        matches!(self, TaskKind::Map)
+    }
+
+    /// Whether a task of this kind is a reduce.
+    pub fn is_reduce(self) -> bool
+        ensures { result ≡ is_reduce self }
+    {
+        matches!(self, TaskKind::Reduce)
+    }
 }
 
 /// A task: its job, its kind, and its number among the job's tasks of that kind.
@@ -182,10 +200,10 @@ impl AttemptId {
         self.number
     }
 
-    /// The generation of the master that numbered this attempt: generation k numbers the attempts
-    /// at a task from `1000 * (k - 1)`.
+    /// The generation of the master that numbered this attempt: that whose numbers, a thousand from
+    /// `AppAttempt::first_attempt_number` on, this number is among.
     pub fn generation(&self) -> AppAttempt
-        ensures { result ≡ self.now.number / 1000 + 1 }
+        ensures { result ≡ generation_of self.now.number }
     {
         AppAttempt {
             number: self.number / 1000 + 1,
@@ -239,7 +257,12 @@ impl AttemptId {
     }
 }
 
-/// An application attempt, or generation of the master: a number from 1 to 1,000.
+/// How many application attempts (generations of the master) a job has at most, which is the
+/// greatest number of one. YARN has its limit (`yarn.resourcemanager.am.max-attempts`) for each
+/// cluster; this one is our own.
+pub const MAX_APP_ATTEMPTS: u32 = 1000;
+
+/// An application attempt, or generation of the master: a number from 1 to `MAX_APP_ATTEMPTS`.
 ///
 /// Its text is the number in decimal. A later generation is greater.
 #[derive(Clone, Copy, Debug, PartialEq, Eq, PartialOrd, Ord, Hash)]
@@ -260,11 +283,11 @@ impl Model for AppAttempt {
 }
 
 impl AppAttempt {
-    /// The generation with a number, if it is from 1 to 1,000.
+    /// The generation with a number, if it is from 1 to `MAX_APP_ATTEMPTS`.
     pub fn new(number: u32) -> Option<AppAttempt>
         ensures { SomeIff result ((1 ≤ number) × (number ≤ 1000)) number }
     {
-        if 1 <= number && number <= 1000 {
+        if 1 <= number && number <= MAX_APP_ATTEMPTS {
             Some(AppAttempt { number })
         } else {
             None
@@ -277,6 +300,14 @@ impl AppAttempt {
         ensures range { (1 ≤ self.now) × (self.now ≤ 1000) }
     {
         self.number
+    }
+
+    /// The first number that this generation gives to an attempt at each task: `1000 * (k - 1)`.
+    pub fn first_attempt_number(&self) -> u32
+        ensures value { result ≡ first_attempt_number self.now }
+        ensures range { result < 1000000 }
+    {
+        1000 * (self.number - 1)
     }
 
     /// Appends the number in decimal. Where memory is refused, nothing is appended.

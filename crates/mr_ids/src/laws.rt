@@ -1,4 +1,5 @@
 //! Laws of the texts, for whoever reasons about identifiers: these functions do nothing.
+ghost use Rattle.mr_ids.specs.Generations.{NumbersTellGenerations};
 ghost use Rattle.mr_ids.specs.Laws.{TextsAreDistinct, TextsArePlain, NumeralsAreDistinct, NumeralsAreDigits};
 
 /// No two identifiers have one text, of one kind or of different kinds.
@@ -19,4 +20,10 @@ pub fn numerals_are_distinct()
 /// A numeral is of digits alone, at least as many as its width and no more than its number needs.
 pub fn numerals_are_digits()
     ensures { NumeralsAreDigits }
+{}
+
+/// `AppAttempt::first_attempt_number` and `AttemptId::generation` are inverse: a number is a generation's exactly
+/// where it is from the generation's first on and below that of the next.
+pub fn numbers_tell_generations()
+    ensures { NumbersTellGenerations }
 {}

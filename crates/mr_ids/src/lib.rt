@@ -26,7 +26,8 @@
 //!   memory is refused appends nothing; `{}` prints exactly it; `parse` and `text.parse()` answer v exactly where
 //!   the text is v's text, and else the first fault from the left, which is a function of the fields between the
 //!   bars. `parse` takes no memory.
-//! - Proved: `generation` is number / 1000 + 1; `new`, `task` and `number` are what they say; `==`, the order and
+//! - Proved: `generation` is number / 1000 + 1 and `first_attempt_number` of generation k is 1000 * (k - 1), and the
+//!   two are inverse (`numbers_tell_generations`); `is_map`, `is_reduce`, `new`, `task` and `number` are what they say; `==`, the order and
 //!   the hash are those of the parts (derived).
 //! - Proved laws, on functions that do nothing, for the layers above: no two identifiers have one text, of one kind
 //!   or of different kinds (`texts_are_distinct`); a numeral is of one number alone (`numerals_are_distinct`); a
@@ -44,5 +45,5 @@ mod laws;
 mod reading;
 
 pub use fault::IdFault;
-pub use id::{AppAttempt, AttemptId, JobId, TaskId, TaskKind};
-pub use laws::{numerals_are_digits, numerals_are_distinct, texts_are_distinct, texts_are_plain};
+pub use id::{AppAttempt, AttemptId, JobId, MAX_APP_ATTEMPTS, TaskId, TaskKind};
+pub use laws::{numbers_tell_generations, numerals_are_digits, numerals_are_distinct, texts_are_distinct, texts_are_plain};
