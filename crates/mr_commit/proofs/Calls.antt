@@ -57,7 +57,7 @@ refusal_own c (op.Exists path) = refl
 refusal_own c (op.Read path) = first_own ((_, names.Missing) ∷ (_, names.NotFile) ∷ []) (refl, (refl, tt))
 refusal_own c (op.Bar a) = refl
 
--- no call is refused for want of memory
+-- no call is refused by an allocation failure
 pub refused_own : (s : State) (caller : Caller) (call : Op) → wants (refused s caller call) ≡ false
 refused_own s caller call = by (unheard s caller) (λ why is. unheard-is s caller why is)
   where
@@ -76,7 +76,7 @@ abbrev pub is_want : Result Answer NameFault → Bool
 is_want (Ok a) = false
 is_want (Err f) = is_memory f
 
--- what a function that makes a call answered: the call's answer, or want of memory
+-- what a function that makes a call answered: the call's answer, or an allocation failure
 pub data Made (s : State) (caller : Caller) (call : Op) (r : Result Answer NameFault) (t : State) : Type 0 where
   as_call : call_of s caller call ≡ (r, t) → is_want r ≡ false → Made s caller call r t
   no_memory : r ≡ Err names.NoMemory → t ≡ s → refused s caller call ≡ None → may_want_memory s call ≡ true → Made s caller call r t

@@ -147,7 +147,7 @@ made_by first lines left begin s t caller fault.DestinationExists g e = (lines, 
 made_by first lines left begin s t caller fault.WrongAnswer g e = (lines, s, g.reached, (left, e))
 made_by first lines left begin s t caller fault.Over g e = (lines, s, g.reached, (left, e))
 
--- ---- callers that are not heard, and want of memory before the first step
+-- ---- callers that are not heard, and an allocation failure before the first step
 
 unheard_call : (s : State) (caller : Caller) (call : Op) (why : NameFault) → unheard s caller ≡ Some why → call_of s caller call ≡ (Err why, s)
 unheard_call s caller call why e = rw e refl

@@ -34,7 +34,7 @@ Ends mid u caller (Err f) t = (left : List Line) × (step_of mid u caller ≡ ((
 abbrev pub LeadsTo : List Line → State → Caller → Result (Unit {0}) CommitFault → State → Type 0
 LeadsTo lines s caller r t = (mid : List Line) × (u : State) × Reaches caller lines s mid u × Ends mid u caller r t
 
--- Some steps were made, and the line that is next may want memory: for its call, which is not refused, or for the
+-- Some steps were made, and the line that is next may allocate: for its call, which is not refused, or for the
 -- lines that follow.
 abbrev pub WantsAmid : List Line → State → Caller → State → Type 0
 WantsAmid lines s caller t = (mid : List Line) × Reaches caller lines s mid t × MayWant mid t caller
@@ -96,7 +96,7 @@ run (suc n) lines s caller = going_on (step_of lines s caller).0.0 (step_of line
 abbrev pub whole : List Line → State → Caller → Result (Unit {0}) CommitFault × State
 whole lines s caller = run (most_calls (finite.len s.content) (deepest s.content) lines) lines s caller
 
--- A whole form has its effect, but for want of memory.
+-- A whole form has its effect, but for an allocation failure.
 abbrev pub HasEffect : List Line → State → Caller → Result (Unit {0}) CommitFault → State → Type 0
 HasEffect lines s caller (Err fault.NoMemory) t = Unit {0}
 HasEffect lines s caller r t = whole lines s caller ≡ (r, t)

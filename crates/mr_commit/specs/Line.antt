@@ -21,7 +21,7 @@ use Rattle.mr_commit.specs.declared.fault.CommitFault.TheVariants as fault
 
 pub data Line : Type 0 where
   Does : (call : Op) → Line  -- one call
-  Clears : (path : List (List ℕ)) → Line  -- what is there is deleted, and nothing there is well
+  Clears : (path : List (List ℕ)) → Line  -- what is there is deleted, and a missing path is accepted
   Needs : (path : List (List ℕ)) → Line  -- something has to be there
   Merges : (taken : Kind) → (from to : List (List ℕ)) → Line  -- merging from, taken as a file or a directory, onto to
   MergesEach : (from to : List (List ℕ)) → Line  -- merging each child of from onto the same name in to
@@ -224,6 +224,6 @@ lines_follow (Ok []) = false
 lines_follow (Ok (line ∷ rest)) = true
 lines_follow (Err f) = false
 
--- whether a line may want memory in a namespace: for its call, or for the lines that follow from what the call answers
+-- whether a line may allocate in a namespace: for its call, or for the lines that follow from what the call answers
 abbrev pub wants_memory : State → Line → Bool
 wants_memory s line = may_want_memory s (op_of line) || lines_follow (replaced line (Ok (answer s.content (op_of line))))

@@ -52,7 +52,7 @@ abbrev pub recovered : Recovery → State → Caller → Result (Unit {0}) Commi
 recovered Nowhere s caller = (Err fault.OutputMissing, s)
 recovered (Left lines) s caller = whole lines s caller
 
--- A whole form has its effect, but for want of memory.
+-- A whole form has its effect, but for an allocation failure.
 abbrev pub RecoveryHas : Recovery → State → Caller → Result (Unit {0}) CommitFault → State → Type 0
 RecoveryHas Nowhere s caller r t = (r ≡ Err fault.OutputMissing) × (t ≡ s)
 RecoveryHas (Left lines) s caller r t = HasEffect lines s caller r t

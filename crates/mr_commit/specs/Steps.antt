@@ -27,7 +27,7 @@ done_at [] = done.Finished
 done_at (line ∷ rest) = done.More
 
 -- The answer, and the lines that are left: those that follow stand in the place of the first. A fault leaves none,
--- but for want of memory, which leaves all.
+-- but for an allocation failure, which leaves all.
 abbrev pub after : Line → List Line → Result (List Line) CommitFault → Result StepDone CommitFault × List Line
 after line rest (Ok lines) = (Ok (done_at (lines ++ rest)), lines ++ rest)
 after line rest (Err fault.NoMemory) = (Err fault.NoMemory, line ∷ rest)
@@ -45,12 +45,12 @@ step_of (line ∷ rest) s caller = (heard (line ∷ rest) (call_of s caller (op_
 
 -- ---- what a function does
 
--- there may be want of memory at a line once its answer came: only where lines follow from it
+-- there may be an allocation failure at a line once its answer came: only where lines follow from it
 abbrev pub WantsOn : Line → Result Answer NameFault → Type 0
 WantsOn line (Err f) = f ≡ names.NoMemory
 WantsOn line (Ok a) = lines_follow (replaced line (Ok a)) ≡ true
 
--- the fault that follows from an answer, or want of memory for the lines that follow
+-- the fault that follows from an answer, or an allocation failure for the lines that follow
 abbrev pub IsFault : Line → Result Answer NameFault → CommitFault → Type 0
 IsFault line answer fault.NoMemory = WantsOn line answer
 IsFault line answer f = replaced line answer ≡ Err f
@@ -64,7 +64,7 @@ abbrev pub Hears : List Line → Result Answer NameFault → Result StepDone Com
 Hears lines answer (Err fault.NoMemory) left = (left ≡ lines) × MayWantOn lines answer
 Hears lines answer r left = heard lines answer ≡ (r, left)
 
--- there may be want of memory at the next line: its call is not refused, and may want memory itself, or lines follow from what it answers
+-- there may be an allocation failure at the next line: its call is not refused, and may allocate itself, or lines follow from what it answers
 abbrev pub MayWant : List Line → State → Caller → Type 0
 MayWant [] s caller = ⊥
 MayWant (line ∷ rest) s caller = (refused s caller (op_of line) ≡ None) × (wants_memory s line ≡ true)

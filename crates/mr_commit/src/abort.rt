@@ -17,7 +17,7 @@ use std::alloc::AllocError;
 use std::collections::LinkedList;
 use std::marker::Model;
 
-/// A task's abort, one call at a time: the attempt's output is deleted. Nothing there is well.
+/// A task's abort, one call at a time: the attempt's output is deleted. A missing path is accepted.
 #[derive(Drop)]
 pub struct AbortTask {
     lines: Lines,
@@ -112,7 +112,7 @@ pub fn abort_task(
     step.lines.finish(names, caller)
 }
 
-/// A job's abort, one call at a time: what was temporary is deleted. Nothing there is well.
+/// A job's abort, one call at a time: what was temporary is deleted. A missing path is accepted.
 #[derive(Drop)]
 pub struct AbortJob {
     lines: Lines,

@@ -115,7 +115,7 @@ impl CommitJob {
 /// Commits a job in the caller's generation: all calls of `CommitJob`.
 ///
 /// A fault, `NoMemory` too, leaves what the earlier calls did.
-/// `NoMemory` comes before the first call, or where the line that is next may want memory.
+/// `NoMemory` comes before the first call, or where the line that is next may allocate.
 pub fn commit_job(names: &mut Namespace, caller: Caller, layout: &Layout) -> Result<(), CommitFault>
     ensures effect { HasEffect (commit_job layout.now.dest caller.app) names.old caller result names.new }
     ensures made { Commits (commit_job layout.now.dest caller.app) names.old caller result names.new }

@@ -41,7 +41,7 @@
 //!   its call is made copies no lines.
 //! - **Over is over.** After `Finished`, and after each fault but `NoMemory`, no line is left: the answer is `Over`
 //!   from then on and no call is made. After `NoMemory` the step value and the namespace are as before, and
-//!   `NoMemory` is answered only by a line that may want memory and whose call is not refused.
+//!   `NoMemory` is answered only by a line that may allocate and whose call is not refused.
 //! - **`call` lends the operation and takes no memory.** Each line holds its call ready made. So `took` wants
 //!   memory only after `list` or `exists`, which change nothing; after a `delete`, `rename`, `mkdirs` or `create`
 //!   it only drops the line.
@@ -55,7 +55,7 @@
 //!   have the committer effect: for every answer but `NoMemory`, `whole table before caller ≡ (answer, after)`
 //!   (clause `effect`), and the same said as a path of steps (clause `made`); `NoMemory` leaves what the earlier
 //!   calls did, and comes in two places only: where the caller is neither superseded nor barred and the namespace
-//!   is as it was (no memory for the table's lines), or where the line that is next may want memory and its call is
+//!   is as it was (no memory for the table's lines), or where the line that is next may allocate and its call is
 //!   not refused (`Commits`).
 //! - `needs_task_commit` and `check_output` are their one `exists`; `check_output` takes no memory.
 //! - **An answer of another call is a fault**: `took` and `follow` answer `WrongAnswer` to it, and nothing goes on. What
@@ -76,7 +76,7 @@
 //!   where a length was recorded the part file has it; `OutputMissing` says that no earlier generation committed
 //!   output, or that a length is recorded and the newest one has no part file; `WrongLength` that its part file has
 //!   another length; a superseded or barred caller is refused, but in generation 1; and each fault leaves the
-//!   namespace as it was (`task_recovers`, of the committer effect, so want of memory aside).
+//!   namespace as it was (`task_recovers`, of the committer effect, so an allocation failure aside).
 //!
 //! Only tested: that memory suffices where there is plenty; the printed text of two faults.
 #![tactic(auto)]

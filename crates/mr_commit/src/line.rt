@@ -139,7 +139,7 @@ impl TableLine {
         }
     }
 
-    /// What is at the path is deleted, and nothing there is well.
+    /// What is at the path is deleted, and a missing path is accepted.
     pub fn clears(path: Path) -> TableLine
         ensures { result ≡ Clears path }
     {

@@ -159,7 +159,7 @@ impl Lines {
         self.left = left;
     }
 
-    /// Hears the answer of the next call. After want of memory all is as before.
+    /// Hears the answer of the next call. After an allocation failure all is as before.
     pub fn took(&mut self, answer: Result<Answer, NameFault>) -> Result<StepDone, CommitFault>
         ensures { Hears self.old answer result self.new }
     {
@@ -177,7 +177,7 @@ impl Lines {
         }
     }
 
-    /// Makes the next call, and hears its answer. After want of memory all is as before.
+    /// Makes the next call, and hears its answer. After an allocation failure all is as before.
     pub fn next(&mut self, names: &mut Namespace, caller: Caller) -> Result<StepDone, CommitFault>
         ensures { Steps self.old names.old caller result self.new names.new }
     {
@@ -188,8 +188,8 @@ impl Lines {
         self.took(answer)
     }
 
-    /// Makes all calls that are left. Want of memory leaves what the earlier ones did, and comes only where the line
-    /// that is next may want memory.
+    /// Makes all calls that are left. An allocation failure leaves what the earlier ones did, and comes only where the line
+    /// that is next may allocate.
     pub fn finish(&mut self, names: &mut Namespace, caller: Caller) -> Result<(), CommitFault>
         requires settles { Settles self.old }
         ensures effect { HasEffect self.old names.old caller result names.new }

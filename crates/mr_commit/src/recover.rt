@@ -149,7 +149,7 @@ impl RecoverTask {
 /// Recovers a task in the caller's generation: all calls of `RecoverTask`.
 ///
 /// A fault, `NoMemory` too, leaves what the earlier calls did. `NoMemory` comes before the first call, or where the line
-/// that is next may want memory. In generation 1 no call is made and the answer is `OutputMissing`, also to a caller that
+/// that is next may allocate. In generation 1 no call is made and the answer is `OutputMissing`, also to a caller that
 /// is superseded or barred.
 pub fn recover_task(
     names: &mut Namespace,

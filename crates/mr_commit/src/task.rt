@@ -106,7 +106,7 @@ impl CommitTask {
 /// Commits an attempt's output in the caller's generation: all calls of `CommitTask`.
 ///
 /// A fault, `NoMemory` too, leaves what the earlier calls did.
-/// `NoMemory` comes before the first call, or where the line that is next may want memory.
+/// `NoMemory` comes before the first call, or where the line that is next may allocate.
 pub fn commit_task(
     names: &mut Namespace,
     caller: Caller,

@@ -20,7 +20,7 @@ abbrev pub calling_attempt : TaskKind → Attempt → Option Attempt
 calling_attempt Map x = None
 calling_attempt Reduce x = Some x
 
--- who calls: the application attempt of the master that launched the container, and a reduce's attempt
+-- who calls: the generation of the master that launched the container, and a reduce's attempt
 abbrev pub caller_of : ContainerId → Attempt → Caller
 caller_of c x = record { app = c.app; attempt = calling_attempt x.task.kind x }
 

@@ -39,8 +39,8 @@
 //! - `send` adds to the bag exactly the packet of the wish, and `Ended` behind it if it was the last; `tell_end`
 //!   adds `Ended` exactly where the container is over;
 //! - `blocks` lends the whole blocks, in the order of the maps, without a copy;
-//! - a packet that the wish does not wait for changes nothing; `hear` and `copy` may want memory, and then the
-//!   machine is as it was; `call` may want memory and changes nothing; all others take none, so nothing can be
+//! - a packet that the wish does not wait for changes nothing; `hear` and `copy` may allocate, and then the
+//!   machine is as it was; `call` may allocate and changes nothing; all others take none, so nothing can be
 //!   refused after a store was changed.
 //!
 //! Laws, on functions that do nothing, over every past: who looks, clears, renames, or reports as a reduce was told

@@ -31,7 +31,7 @@ use std::marker::Model;
 /// to make the three calls of the task's commit, and to report. Any refusal or fault of a call leads to the task's abort and then to `Failed`
 /// (Hadoop's `YarnChild` and task runs over an output committer).
 ///
-/// `call`, `hear` and `copy` may want memory, and then nothing has changed. All others take none, so that nothing can be
+/// `call`, `hear` and `copy` may allocate, and then nothing has changed. All others take none, so that nothing can be
 /// refused after a store was changed.
 pub struct ContainerMachine {
     id: ContainerId,
@@ -115,7 +115,7 @@ impl ContainerMachine {
         self.pieces.blocks()
     }
 
-    /// Who calls when it makes its calls: the application attempt of the master that launched it, below whose fence no call is heard, and for a
+    /// Who calls when it makes its calls: the generation of the master that launched it, below whose fence no call is heard, and for a
     /// reduce its own attempt, so that it is refused once that is barred. It takes no memory.
     pub fn caller(&self) -> Caller
         ensures { result ≡ caller_of self.now.id self.now.place.attempt }
@@ -137,7 +137,7 @@ impl ContainerMachine {
 
     /// The namespace call that it wishes to make, if its wish is one, with the layout of the job's destination.
     ///
-    /// It may want memory for paths and for the bytes to write, and refuses nothing else.
+    /// It may allocate for paths and for the bytes to write, and refuses nothing else.
     pub fn call(&self, layout: &Layout) -> Result<Option<Op>, AllocError>
         ensures { IfOk result (λ op. op ≡ wished_op layout.now.dest self.now.id.app self.now.place.attempt self.now.seen.result self.now.seen.wish) }
     {
@@ -217,7 +217,7 @@ impl ContainerMachine {
 
     /// Hears a packet. One that its wish does not wait for does nothing.
     ///
-    /// It may want memory where a `Piece` comes that is waited for; where that is refused nothing changes, and nothing else is refused.
+    /// It may allocate where a `Piece` comes that is waited for; where that is refused nothing changes, and nothing else is refused.
     #[tactic(auto, unfolding(crate::specs::Readings::next_seen))]
     pub fn hear(&mut self, packet: &Packet) -> Result<(), AllocError>
         ensures stands { OnOk result (Stands self.old (Hears packet.now) self.new) }
@@ -371,7 +371,7 @@ impl ContainerMachine {
 
     /// The namespace call that it wished to make was answered so. It takes no memory.
     ///
-    /// Want of memory, or a limit of the namespace that refuses a whole event, is no answer of a call and is not handed in: it would be taken for
+    /// An allocation failure, or a limit of the namespace that refuses a whole event, is no answer of a call and is not handed in: it would be taken for
     /// a refusal, and the attempt be aborted.
     #[tactic(auto, unfolding(crate::specs::Readings::next_seen))]
     pub fn on(&mut self, reply: Reply)
@@ -413,7 +413,7 @@ impl ContainerMachine {
         }
     }
 
-    /// An equal machine. It may want memory, and refuses nothing else.
+    /// An equal machine. It may allocate, and refuses nothing else.
     pub fn copy(&self) -> Result<ContainerMachine, AllocError>
         ensures { IfOk result (λ machine. machine ≡ self.now) }
     {

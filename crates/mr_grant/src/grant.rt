@@ -50,7 +50,7 @@ impl Grant {
 
     /// The attempt asks for permission: it waits as the last, if it is not there. One that is there keeps its place.
     ///
-    /// Only an attempt that is not there may want memory; where it is refused, nothing changes.
+    /// Only an attempt that is not there may allocate; where it is refused, nothing changes.
     pub fn pending(&mut self, a: AttemptId) -> Result<(), AllocError>
         ensures ok { OnOk result (self.new ≡ after_pending self.old a) }
         ensures err { OnErr result (self.new ≡ self.old) }

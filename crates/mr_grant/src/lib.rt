@@ -19,7 +19,7 @@
 //!
 //! - **`Grant`** is the attempts that are kept, in order of arrival, and whether it is fixed; each call is an
 //!   equation on that. `can_commit` is yes exactly for the first of those kept; `pending` adds an attempt as the
-//!   last if it is not there, wants memory only then, and where it is refused has changed nothing; `release` takes
+//!   last if it is not there, allocates only then, and where it is refused has changed nothing; `release` takes
 //!   an attempt out exactly where the grant is not fixed; `fix` tells whether the attempt is the first, and if so
 //!   the grant is fixed from then on. `can_commit`, `release`, `fix`, `first`, `attempts`, `is_fixed` and `new`
 //!   take no memory. Each attempt is kept once; `copy` is equal.

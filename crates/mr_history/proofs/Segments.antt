@@ -354,7 +354,7 @@ stable_tells s h = by s.is_sealed refl
 pub sound_stable : (s : SegmentState) → IsSound s → AllByRecursion (IsRecordOf s.version) (records_of s.stable)
 sound_stable s h = (stable_tells s h).0
 
--- a sound segment's stable bytes hold no bad line, so reading them can only want memory
+-- a sound segment's stable bytes hold no bad line, so reading them can only fail to allocate
 pub sound_good : (s : SegmentState) → IsSound s → bad_line s.stable ≡ None
 sound_good s h = (stable_tells s h).1
 

@@ -1,4 +1,4 @@
--- The calls of the history: when each is refused, what it answers and what it leaves. That an application attempt
+-- The calls of the history: when each is refused, what it answers and what it leaves. That a generation
 -- recovers from the history of those before it restates the Hadoop MapReduce application master as the committer
 -- architecture document describes it; segments, seals and the fence are our own profile.
 use Rattle.std.specs.Prelude.{◌≡◌, ◌<◌, ◌-◌, ℕ, nat_lt, List, ◌++◌, take, drop, map, set, get_or, flat_map, Option, Some, None, unwrap_or, Result, Ok, Err, if◌then◌else◌}
@@ -9,7 +9,7 @@ use Rattle.mr_history.specs.State.{SegmentState, State}
 use Rattle.mr_history.specs.Segment.{fresh, appended, flushed, sealed, append_refusal, flush_refusal}
 use Rattle.mr_history.specs.Reading.{records_of}
 
--- the segment of an application attempt
+-- the segment of a generation
 abbrev pub segment : State → ℕ → SegmentState
 segment h k = get_or h.segments (k - 1) (fresh 1)
 
@@ -28,7 +28,7 @@ records h = records_in (take h.fence h.segments)
 abbrev pub records_before : State → ℕ → List Record
 records_before h k = records_in (take (k - 1) h.segments)
 
--- a call of an application attempt
+-- a call of a generation
 pub data Call : Type 0 where
   Append : Record → Call
   Flush : Call
@@ -73,7 +73,7 @@ settled (Some f) h k call = (Err f, h)
 abbrev pub call_of : State → ℕ → Call → Result Answer HistoryFault × State
 call_of h k call = settled (refused h k call) h k call
 
--- A function made the call: where it answered, as the call does. Its fault is the call's, or want of memory
+-- A function made the call: where it answered, as the call does. Its fault is the call's, or an allocation failure
 -- where the call has none, and changed nothing.
 abbrev pub Makes : {A : Type 0} → (A → Answer) → State → ℕ → Call → Result A HistoryFault → State → Type 0
 Makes shows old k call (Ok a) new = call_of old k call ≡ (Ok (shows a), new)
@@ -94,7 +94,7 @@ sealed_at k kept h = with_segment h k (sealed kept (segment h k))
 abbrev pub with_version : ℕ → SegmentState → SegmentState
 with_version version s = record s { version = version }
 
--- A greater application attempt raises the fence, seals every older segment, and its own is of this version.
+-- A greater generation raises the fence, seals every older segment, and its own is of this version.
 abbrev pub raised : ℕ → ℕ → ℕ → State → State
 raised k kept version h = if nat_lt h.fence k then with_segment (record { segments = map (sealed kept) (take (k - 1) h.segments) ++ drop (k - 1) h.segments; fence = k }) k (with_version version (segment h k)) else h
 

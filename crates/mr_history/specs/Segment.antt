@@ -46,7 +46,7 @@ append_refusal r s = growth_refusal (width (as_written s.version r)) s
 abbrev pub flush_refusal : SegmentState → Option HistoryFault
 flush_refusal s = first_of ((s.is_sealed, fault.Sealed) ∷ [])
 
--- A function made a change that has this refusal. Its fault is that refusal, or want of memory where there is none,
+-- A function made a change that has this refusal. Its fault is that refusal, or an allocation failure where there is none,
 -- and changed nothing.
 abbrev pub Changes : Option HistoryFault → SegmentState → SegmentState → Result (Unit {0}) HistoryFault → SegmentState → Type 0
 Changes refusal old wanted (Ok u) new = (refusal ≡ None) × (new ≡ wanted)

@@ -8,7 +8,7 @@ pub record SegmentState : Type 0 where
   pub tail : List ℕ
   pub is_sealed : Bool
 
--- the segments of all application attempts by rising number, from 1, and the fence
+-- the segments of all generations by rising number, from 1, and the fence
 pub record State : Type 0 where
   pub segments : List SegmentState
   pub fence : ℕ

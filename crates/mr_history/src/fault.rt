@@ -8,7 +8,7 @@ use thiserror::Error;
 /// Why a call of the history was refused, or why bytes are no segment.
 #[derive(Clone, Copy, Debug, PartialEq, Eq, Error)]
 pub enum HistoryFault {
-    /// The caller's application attempt is below the fence, which is told.
+    /// The caller's generation is below the fence, which is told.
     #[error("Superseded {0}")]
     Superseded(u32),
     /// The segment takes nothing more.

@@ -12,10 +12,10 @@ use mr_ids::AppAttempt;
 use std::alloc::Global;
 use std::marker::Model;
 
-/// Most application attempts, each of which has a segment.
+/// Most generations, each of which has a segment.
 pub const MAX_APP_ATTEMPTS: usize = 1000;
 
-/// The segments of all application attempts, and the fence below which no master is heard.
+/// The segments of all generations, and the fence below which no master is heard.
 pub struct History {
     segments: Vec<Segment>,
     fence: u32,
@@ -62,7 +62,7 @@ impl History {
         })
     }
 
-    /// The application attempt below which calls are refused, 0 at first.
+    /// The generation below which calls are refused, 0 at first.
     pub fn fence(&self) -> u32
         ensures value { result ≡ self.now.fence }
         ensures range { result ≤ 1000 }
@@ -70,7 +70,7 @@ impl History {
         self.fence
     }
 
-    /// Whether an application attempt has been raised to, which the other calls ask for.
+    /// Whether a generation has been raised to, which the other calls ask for.
     pub fn is_raised(&self, k: AppAttempt) -> bool
         ensures { result ≡ nat_le k self.now.fence }
     {
@@ -192,7 +192,7 @@ impl History {
         self.first_records(place(k))
     }
 
-    /// The records of the segments of all application attempts up to the fence, from stable bytes alone. It answers no
+    /// The records of the segments of all generations up to the fence, from stable bytes alone. It answers no
     /// fault but `NoMemory`, and that only where there is a record.
     pub fn records(&self) -> Result<Records, HistoryFault>
         ensures told { IfOk result (λ told. told ≡ records self.now) }
@@ -229,7 +229,7 @@ impl History {
     }
 }
 
-// Where the segment of an application attempt stands.
+// Where the segment of a generation stands.
 fn place(k: AppAttempt) -> usize
     ensures place { result ≡ k - 1 }
     ensures bound { result < 1000 }

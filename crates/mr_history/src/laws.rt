@@ -41,7 +41,7 @@ pub fn winners_have_lengths()
     ensures { WinnersHaveLengths }
 {}
 
-/// A call that has a refusal answers it and changes nothing; one that has none is made, want of memory aside.
+/// A call that has a refusal answers it and changes nothing; one that has none is made, an allocation failure aside.
 pub fn refusals_are_heard()
     ensures { RefusalsAreHeard }
 {}

@@ -72,7 +72,7 @@
 //! of the kind that the record speaks of, the incarnation is not 0, a length is at most 2^24; all other ranges are
 //! those of the types), that a reduce's length is there where the segment is of version 2 (`Record::suits`, with
 //! `Segment::version`, `History::version`), `Segment::new` and `History::raise` that a version is 1 or 2, and
-//! `append`, `flush`, `append_refusal`, `flush_refusal`, `seal`, `stable`, `tail`, `read` that the application attempt is not above the fence
+//! `append`, `flush`, `append_refusal`, `flush_refusal`, `seal`, `stable`, `tail`, `read` that the generation is not above the fence
 //! (`History::is_raised`).
 #![tactic(auto)]
 

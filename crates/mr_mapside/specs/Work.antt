@@ -17,7 +17,7 @@ RefusedWhere user.Refused p = p
 RefusedWhere user.BadWire p = ⊥
 RefusedWhere user.NoMemory p = ⊥
 
--- bytes that pass what an output may have, or want of memory
+-- bytes that pass what an output may have, or an allocation failure
 abbrev pub FullIf : WorkFault → List ℕ → Type 0
 FullIf (User fault) bytes = ⊥
 FullIf (Gate fault) bytes = ⊥
@@ -26,7 +26,7 @@ FullIf Full bytes = 2 ^ 24 < length bytes
 FullIf NoMemory bytes = Unit {0}
 
 -- a map work's fault, where the output is none or some bytes: the gate's, where the gate may refuse; a refused line, where
--- one is refused; bytes that pass what an output may have; or want of memory
+-- one is refused; bytes that pass what an output may have; or an allocation failure
 abbrev pub MapFaultIs : (GateRefuses : Type 0) → WorkFault → Option (List ℕ) → Type 0
 MapFaultIs GateRefuses (User fault) output = RefusedWhere fault (output ≡ None)
 MapFaultIs GateRefuses (Gate fault) output = GateRefuses

@@ -39,7 +39,7 @@ impl Model for CutOutput {
 }
 
 impl CutOutput {
-    /// The output, its blocks found: one walk over it. Answers no fault but want of memory.
+    /// The output, its blocks found: one walk over it. Answers no fault but an allocation failure.
     pub fn new(alloc: Global, output: MapOutput) -> Result<CutOutput, AllocError>
         ensures { IfOk result (λ cut. cut ≡ output) }
     {

@@ -28,7 +28,7 @@
 //!   (the merge holds a pair of each run: more than 4,096 where a split has more than 16,777,216 pairs).
 //! - **`RunGroups`** merges lists of written pairs, each by rising keys: `next_group` gives the groups of all their pairs, by
 //!   rising keys, each key's values by list and then by place. Its condition asks that each list is pairs to its end,
-//!   so nothing but want of memory is answered, and that only where a growth was refused; after it nothing comes. It
+//!   so nothing but an allocation failure is answered, and that only where a growth was refused; after it nothing comes. It
 //!   holds one pair of each list, beside the group that it gives. `read_pair` is the pair that bytes begin with.
 //! - **`blocks`** cuts bytes into so many blocks and takes no memory: some exactly where the bytes are so many
 //!   blocks behind their lengths and nothing else, and then it is those. `OutputBlocks::get` is the block at a

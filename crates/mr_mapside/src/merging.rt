@@ -174,7 +174,7 @@ impl<'a, J: Job> RunGroups<'a, J> {
         Ok(RunGroups { lists, fronts })
     }
 
-    /// The next group. Answers no fault but want of memory, and that only where a group was to come; then nothing comes after it.
+    /// The next group. Answers no fault but an allocation failure, and that only where a group was to come; then nothing comes after it.
     pub fn next_group(
         &mut self,
         alloc: Global,

@@ -49,7 +49,7 @@ runs-start w s b o e q r t =
     t ∙ ap (λ c. if c then creates name.Started started_mark else None) r
     ∙ ap (λ x. or_else x (start_duty w s)) q ∙ ap (λ x. or_else (barred x) (or_else (record_duty s.due s.tail) (start_duty w s))) e
 
--- ---- where memory is wanted for it, a call is due
+-- ---- where memory is allocated for it, a call is due
 
 pub on-err : {T E P : Type 0} (r : Result T E) → P → OnErr r P
 on-err (Ok x) p = tt

@@ -127,7 +127,7 @@ refused_by work = record { refused = work; superseded = work }
 abbrev pub refused_when : Bool → Work → Work
 refused_when b work = if b then (refused_by work).superseded else (refused_by work).refused
 
--- there may be want of memory for an answer: lines follow from it
+-- there may be an allocation failure for an answer: lines follow from it
 abbrev pub WantsMore : List Line → StoreAnswer → Type 0
 WantsMore left (answer.Names r) = MayWantOn left r
 WantsMore left _ = ⊥

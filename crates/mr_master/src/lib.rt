@@ -7,10 +7,10 @@
 //! Whoever runs a master keeps the bag, and makes room in it before anything changes that can't be taken back:
 //!
 //! - Of a packet: `hear_packets`, which gives exactly the packets that will be sent; room for them; `hear` with those packets, whose only
-//!   fault is want of memory; then the packets are pushed, which takes no memory.
+//!   fault is an allocation failure; then the packets are pushed, which takes no memory.
 //! - Of a store call: `duty` tells which is due. Its answer is known beforehand (`Namespace::foresee`), or the call changes nothing and is
 //!   made first. `ready` with that answer; room for the packets that it lends; the call; `answer`, which takes no memory and refuses nothing;
-//!   then the packets are pushed. Where the call is refused for want of memory, what was made ready is let go.
+//!   then the packets are pushed. Where the call is refused by an allocation failure, what was made ready is let go.
 //! - Of a launch: room for one packet; `launch`. Of an expiry: `expire_packets`; room; `expire`.
 //!
 //! # What is proved

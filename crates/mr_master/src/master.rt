@@ -190,7 +190,7 @@ impl MasterMachine {
     /// nothing. Nothing changes but spare room, also where memory is refused: the master stands for what it stood for.
     ///
     /// Then whoever runs the master makes room in the bag for the packets (`Ready::packets`), has the call made, and if that is not refused
-    /// for want of memory has its answer heard (`answer`), and pushes the packets; these two take no memory. Else what was made ready is let go.
+    /// for an allocation failure has its answer heard (`answer`), and pushes the packets; these two take no memory. Else what was made ready is let go.
     pub fn ready(&mut self, answer: StoreAnswer) -> Result<Ready, AllocError>
         ensures sent { IfOk result (λ ready. Answers self.old (λ w past. sent w past (Answered answer)) ready.packets) }
         ensures ready { IfOk result (λ ready. IsReady self.new answer ready) }

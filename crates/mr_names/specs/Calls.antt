@@ -167,7 +167,7 @@ answer c (op.Bar a) = answers.Done
 
 -- ---- the call
 
--- Why a caller is not heard, whatever it asks: its application attempt is below the fence, or else its own attempt is barred.
+-- Why a caller is not heard, whatever it asks: its generation is below the fence, or else its own attempt is barred.
 unfoldable pub unheard : State → Caller → Option NameFault
 unheard s caller = first_of ((nat_lt caller.app s.fence, fault.Superseded s.fence) ∷ (bars s.barred caller.attempt, fault.Barred) ∷ [])
 
@@ -183,18 +183,18 @@ settled (Some f) s call = (Err f, s)
 abbrev pub call_of : State → Caller → Op → Result Answer NameFault × State
 call_of s caller call = settled (refused s caller call) s call
 
--- A function made the call: where it answered, as the call does. Its fault is the call's, or want of memory
+-- A function made the call: where it answered, as the call does. Its fault is the call's, or an allocation failure
 -- where the call has none, and changed nothing.
 abbrev pub Makes : {A : Type 0} → (A → Answer) → State → Caller → Op → Result A NameFault → State → Type 0
 Makes shows old caller call (Ok a) new = call_of old caller call ≡ (Ok (shows a), new)
 Makes shows old caller call (Err f) new = (f ≡ unwrap_or (refused old caller call) fault.NoMemory) × (new ≡ old)
 
--- the same of a function that never wants memory
+-- the same of a function that never allocates
 abbrev pub MakesAlways : {A : Type 0} → (A → Answer) → State → Caller → Op → Result A NameFault → State → Type 0
 MakesAlways shows old caller call (Ok a) new = call_of old caller call ≡ (Ok (shows a), new)
 MakesAlways shows old caller call (Err f) new = call_of old caller call ≡ (Err f, new)
 
--- whether a call may want memory: where it adds an entry, bytes, a name or a bar, or hands out entries or bytes
+-- whether a call may allocate: where it adds an entry, bytes, a name or a bar, or hands out entries or bytes
 abbrev pub may_want_memory : State → Op → Bool
 may_want_memory s (op.Mkdirs path) = is_absent s.content path
 may_want_memory s (op.Create path closed) = true

@@ -26,13 +26,13 @@
 //! `rename`, `list`, `exists`, `read`, `bar`) and as a value (`perform`):
 //!
 //! - it answers and leaves exactly what the definition `call_of` says (contracts `Makes`, and `MakesAlways` for
-//!   calls that never want memory): the fence first (`Superseded`), then whether the caller's attempt is barred
+//!   calls that never allocate): the fence first (`Superseded`), then whether the caller's attempt is barred
 //!   (`Barred`), reads and bars too, then the call's own refusals in the written order, then `Full` exactly where
 //!   the call would pass 65,536 entries without the root, 2^24 bytes of a file or 100,000 barred attempts, and
 //!   `NoMemory` last;
-//! - a refusal changes nothing, want of memory included; `mkdirs` makes all that is missing or nothing, `rename`
+//! - a refusal changes nothing, an allocation failure included; `mkdirs` makes all that is missing or nothing, `rename`
 //!   moves the whole subtree or nothing;
-//! - `foresee` tells exactly the refusal that the call would meet, want of memory aside; `raise` makes the fence
+//! - `foresee` tells exactly the refusal that the call would meet, an allocation failure aside; `raise` makes the fence
 //!   the greater of the two and keeps the content and the barred attempts;
 //! - the barred attempts are a finite set, kept for good: `bar` adds one and changes no content, nothing takes one
 //!   out, and of one that is there a `bar` wants no memory and does nothing (clause `there`); looking a caller up

@@ -243,7 +243,7 @@ impl Namespace {
         Ok(Answer::Done)
     }
 
-    /// The refusal that a call would meet now, want of memory aside. It changes nothing.
+    /// The refusal that a call would meet now, an allocation failure aside. It changes nothing.
     pub fn foresee(&self, caller: Caller, op: &Op) -> Option<NameFault>
         ensures { result ≡ refused self.now caller op.now }
     {

@@ -6,7 +6,7 @@ use mr_paths::Path;
 /// Who makes a call: a master, or a container.
 #[derive(Clone, Copy, Debug, PartialEq, Eq)]
 pub struct Caller {
-    /// The application attempt: the master's generation, or that of the master that launched the container.
+    /// The generation of the master, or that of the master that launched the container.
     pub app: AppAttempt,
     /// The task attempt that a container runs. A master has none.
     pub attempt: Option<AttemptId>,

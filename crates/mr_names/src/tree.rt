@@ -1,4 +1,4 @@
-//! The directories and files of a namespace by their paths, as a tree in memory. It knows no callers, and refuses for want of memory alone.
+//! The directories and files of a namespace by their paths, as a tree in memory. It knows no callers, and fails by an allocation failure alone.
 ghost use Rattle.std.specs.Prelude.{◌≡◌, ◌+◌, ℕ, [], ◌∷◌, ◌++◌, IfOk, OnOk, OnErr, length, nat_lt, ◌<◌, ◌≤◌, ◌^◌, Some, None, is_some, true, false, IsTrue, take, drop, filter};
 ghost use Rattle.std.specs.Prelude.{map as list_map};
 ghost use Rattle.std.specs.FinMap as map;

@@ -97,7 +97,7 @@ impl NodeMachine {
     /// It is asked to launch a container for an attempt, in this incarnation. A container that it knows is not launched, and one for another
     /// incarnation is not either: then the container's master is told of the node's.
     ///
-    /// It may want memory where the launch is obeyed; where that is refused nothing changes, and nothing else is refused.
+    /// It may allocate where the launch is obeyed; where that is refused nothing changes, and nothing else is refused.
     #[tactic(auto, unfolding(crate::specs::Readings::next_seen))]
     pub fn launch(
         &mut self,
@@ -139,7 +139,7 @@ impl NodeMachine {
 
     /// It is asked to end a container. Whether it lived or not, or never was launched, one `Ended` is added, and it is known.
     ///
-    /// It may want memory where it does not know the container; where that is refused nothing changes, and nothing else is refused.
+    /// It may allocate where it does not know the container; where that is refused nothing changes, and nothing else is refused.
     #[tactic(auto, unfolding(crate::specs::Readings::next_seen))]
     pub fn kill(&mut self, c: ContainerId) -> Result<Envelope, AllocError>
         ensures added { IfOk result (λ envelope. envelope ≡ ended c) }
@@ -194,7 +194,7 @@ impl NodeMachine {
     /// `MAX_PIECE_LEN` bytes of it, with the block's length. `FetchLost` where the incarnation is not the node's own, the output
     /// is not on its shelf, or the offset is above the block's length.
     ///
-    /// It may want memory for the bytes, and refuses nothing else. It changes nothing. The bytes are copied once.
+    /// It may allocate for the bytes, and refuses nothing else. It changes nothing. The bytes are copied once.
     pub fn fetch(
         &self,
         c: ContainerId,
@@ -231,7 +231,7 @@ impl NodeMachine {
     /// Hears a packet that is addressed to the node: what it makes the node do, by `launch`, `kill` or `fetch`. All others, `Won`
     /// and `Outcome` among them, make it do nothing.
     ///
-    /// It may want memory; where that is refused nothing changes, and nothing else is refused.
+    /// It may allocate; where that is refused nothing changes, and nothing else is refused.
     #[tactic(auto, unfolding(crate::specs::Readings::next_seen))]
     pub fn hear(&mut self, packet: &Packet) -> Result<Reaction, AllocError>
         ensures reaction { IfOk result (λ r. r ≡ reaction self.old.number self.old.seen packet.now) }
@@ -265,7 +265,7 @@ impl NodeMachine {
 
     /// The output of a map attempt that ran here is put on the shelf.
     ///
-    /// It may want memory; where that is refused nothing changes, and nothing else is refused. The output is dropped then.
+    /// It may allocate; where that is refused nothing changes, and nothing else is refused. The output is dropped then.
     #[tactic(auto, unfolding(crate::specs::Readings::next_seen))]
     pub fn put(&mut self, a: AttemptId, output: MapOutput) -> Result<(), AllocError>
         ensures stands { OnOk result (Stands self.old (Shelves a output) self.new) }
@@ -303,7 +303,7 @@ impl NodeMachine {
         self.shelf.drop_all();
     }
 
-    /// An equal machine. It may want memory, and refuses nothing else.
+    /// An equal machine. It may allocate, and refuses nothing else.
     pub fn copy(&self) -> Result<NodeMachine, AllocError>
         ensures { IfOk result (λ machine. machine ≡ self.now) }
     {

@@ -42,7 +42,7 @@ impl Bag {
         }
     }
 
-    /// Makes room: after it, `additional` pushes need no memory. It may want memory; the list stays, and nothing else is refused (`Full`
+    /// Makes room: after it, `additional` pushes need no memory. It may allocate; the list stays, and nothing else is refused (`Full`
     /// is `push`'s).
     pub fn reserve(&mut self, additional: usize) -> Result<(), BagFault>
         ensures kept { self.new.packets ≡ self.old.packets }

@@ -56,7 +56,7 @@ impl Bytes {
         self.items.len()
     }
 
-    /// Adds bytes at the end. It may want memory; where that is refused nothing changes, and nothing else is refused.
+    /// Adds bytes at the end. It may allocate; where that is refused nothing changes, and nothing else is refused.
     pub fn extend(&mut self, more: &[u8]) -> Result<(), AllocError>
         ensures ok { OnOk result (self.new ≡ self.old ++ more.now) }
         ensures err { OnErr result (self.new ≡ self.old) }
@@ -64,7 +64,7 @@ impl Bytes {
         self.items.extend_from_slice(more)
     }
 
-    /// Equal bytes. It may want memory, and refuses nothing else.
+    /// Equal bytes. It may allocate, and refuses nothing else.
     pub fn copy(&self) -> Result<Bytes, AllocError>
         ensures { IfOk result (λ bytes. bytes ≡ self.now) }
     {

@@ -2,7 +2,7 @@
 use crate::bytes::Bytes;
 use mr_ids::{AppAttempt, AttemptId, TaskId};
 
-/// A container, by the application attempt of the master that launched it and its number under that master, counted from 0.
+/// A container, by the generation of the master that launched it and its number under that master, counted from 0.
 /// No two launches have one.
 #[derive(Clone, Copy, Debug, PartialEq, Eq, PartialOrd, Ord, Hash)]
 pub struct ContainerId {
@@ -13,7 +13,7 @@ pub struct ContainerId {
 /// To whom a packet goes.
 #[derive(Clone, Copy, Debug, PartialEq, Eq)]
 pub enum Address {
-    /// The master of an application attempt.
+    /// The master of a generation.
     Master(AppAttempt),
     /// A container.
     Container(ContainerId),

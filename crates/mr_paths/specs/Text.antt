@@ -24,7 +24,7 @@ pub record IsPath (text : List ℕ) : Type 0 where
   pub names : All IsName path
   pub spelled : text ≡ path_text path
 
--- what reading a text answers: the path of which it is the text, or that there is none; want of memory only where there is one
+-- what reading a text answers: the path of which it is the text, or that there is none; an allocation failure only where there is one
 abbrev pub ReadsPath : List ℕ → Result (List (List ℕ)) PathFault → Type 0
 ReadsPath text (Ok path) = All IsName path × (text ≡ path_text path)
 ReadsPath text (Err BadName) = ¬ IsPath text

@@ -33,7 +33,7 @@
 //!   `Path`).
 //! - `Layout { dest }`: `temporary`, `job_attempt`, `task_attempt`, `committed`, `marker`, `part` and the free
 //!   `staging` give exactly the table of docs/MODEL.md; `is_hidden` is exactly whether the first byte is `_` or
-//!   `.`. They take no other fault than want of memory.
+//!   `.`. They take no other fault than an allocation failure.
 //! - Proved laws, on functions that do nothing, for the layers above: no two paths have one text
 //!   (`texts_are_distinct`); what it is to stand at or beneath a path, and on what a path stands
 //!   (`paths_are_nested`); what stands at or beneath paths that part ways stays apart (`parted_stay_apart`); which

@@ -25,7 +25,7 @@ module _ {K V : Type 0} (job : Computation K V) where
     pub broken : (first : ShuffleFault) → pairs_of_all job pieces ≡ Err first → items ≡ items_of [] (Some first)
 
 -- What a call answers, where the items of the first list were to come and those of the second are left: the first of
--- them; or want of memory, after which nothing comes; or nothing, where nothing was to come.
+-- them; or an allocation failure, after which nothing comes; or nothing, where nothing was to come.
 abbrev pub Gives : {K V W : Type 0} → (W → List V) → List (Item K V) → Option (Result (K × W) ShuffleFault) → List (Item K V) → Type 0
 Gives values before None after = (before ≡ []) × (after ≡ [])
 Gives values before (Some (Ok group)) after = before ≡ Ok (group.0, values group.1) ∷ after

@@ -34,7 +34,7 @@ impl<'a, J: Job> Model for Merge<'a, J> {
 
 impl<'a, J: Job> Merge<'a, J> {
     /// The merge of pieces, in their order: they are read through once, and each pair is read again when it comes. It reads
-    /// what they hold and not of which map and reduce they are. Answers no fault but want of memory.
+    /// what they hold and not of which map and reduce they are. Answers no fault but an allocation failure.
     pub fn new(alloc: Global, parts: &'a [Piece]) -> Result<Merge<'a, J>, AllocError>
         ensures { IfOk result (IsMergeOf (computation J.Key.cmp J.Key.codec J.Value.codec J.functions) (bytes_of parts.now)) }
     {
@@ -63,7 +63,7 @@ impl<'a, J: Job> Iterator for Merge<'a, J> {
 
     ghost remaining = { item_count (λ items. items) };
 
-    /// The next group or the fault. Want of memory is answered as a fault, after which nothing comes either; it is answered only
+    /// The next group or the fault. An allocation failure is answered as a fault, after which nothing comes either; it is answered only
     /// where something was to come.
     fn next(&mut self) -> Option<Result<(J::Key, Vec<J::Value>), ShuffleFault>> {
         match self.groups.next_group(self.alloc) {

@@ -40,7 +40,7 @@ impl ShelfOfNode {
     }
 
     /// Puts the output of an attempt, in place of one that was put of it before, and finds its blocks: one walk over it.
-    /// Answers no fault but want of memory, and then nothing has changed.
+    /// Answers no fault but an allocation failure, and then nothing has changed.
     pub fn put(&mut self, a: AttemptId, output: MapOutput) -> Result<(), AllocError>
         ensures ok { OnOk result (self.new ≡ with_output self.old a output) }
         ensures err { OnErr result (self.new ≡ self.old) }

@@ -16,7 +16,7 @@ use Rattle.mr_sim.specs.declared.scene.Scene.{Scene}
 use Rattle.mr_sim.specs.declared.scene.Reply.{Reply}
 use Rattle.mr_sim.specs.Effect.{outcome, Obeys, by_calls, at_names, silent, told, in_turn, InTurn}
 
--- an effect p, but for want of memory
+-- an effect p, but for an allocation failure
 abbrev pub Has : Result (Unit {0}) CommitFault × State → Result (Unit {0}) CommitFault → State → Type 0
 Has p (Err fault.NoMemory) t = Unit {0}
 Has p (Ok x) t = p ≡ (Ok x, t)

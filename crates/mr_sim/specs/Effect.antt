@@ -96,12 +96,12 @@ outcome dest AbortJob s = by_calls s (whole (abort_job dest) s.names s.caller)
 outcome dest (Bar a) s = by_calls s (in_turn (op.Bar a ∷ []) s.names s.caller)
 outcome dest (By who) s = (Ok Silent, record s { caller = record s.caller { attempt = who } })
 
--- A function did what the command says, but for want of memory.
+-- A function did what the command says, but for an allocation failure.
 abbrev pub Obeys : List (List ℕ) → Order → Scene → Result Reply CommitFault → Scene → Type 0
 Obeys dest o s (Err fault.NoMemory) t = Unit {0}
 Obeys dest o s r t = outcome dest o s ≡ (r, t)
 
--- Calls in turn were made, but for want of memory.
+-- Calls in turn were made, but for an allocation failure.
 abbrev pub InTurn : List Op → State → Caller → Result (Unit {0}) CommitFault → State → Type 0
 InTurn calls s caller (Err fault.NoMemory) t = Unit {0}
 InTurn calls s caller r t = in_turn calls s caller ≡ (r, t)

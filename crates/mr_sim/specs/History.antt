@@ -40,7 +40,7 @@ pub record PrintsHistory (bytes text : List ℕ) : Type 0 where
   pub good : bad_line bytes ≡ None
   pub is : text ≡ history_text bytes
 
--- why nothing is printed: the first bad line, or want of memory
+-- why nothing is printed: the first bad line, or an allocation failure
 abbrev pub RefusesHistory : List ℕ → HistoryFault → Type 0
 RefusesHistory bytes (BadLine n) = bad_line bytes ≡ Some n
 RefusesHistory bytes NoMemory = Unit {0}

@@ -120,7 +120,7 @@ submission_of bytes = required bad.Text (if is_utf8 bytes then read bytes else N
 
 -- ---- what reading answers
 
--- a fault stands where the definition has it; there may be want of memory at any text
+-- a fault stands where the definition has it; there may be an allocation failure at any text
 abbrev pub Fails : {X : Type 0} → SimFault → Result X JobTextFault → Type 0
 Fails faults.NoMemory said = Unit {0}
 Fails (faults.Job e) said = said ≡ Err e

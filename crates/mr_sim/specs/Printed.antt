@@ -135,7 +135,7 @@ IsFull Seq input = ⊥
 abbrev pub IsWithin : List ℕ → Type 0
 IsWithin input = length input ≤ 2 ^ 24
 
--- Which faults a subcommand answers. Want of memory and a failed read may come at any input; a failed write only
+-- Which faults a subcommand answers. An allocation failure and a failed read may come at any input; a failed write only
 -- where there is a text to be written.
 abbrev pub Refuses : Command → List ℕ → SimFault → Type 0
 Refuses command input NoMemory = Unit {0}

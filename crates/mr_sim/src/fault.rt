@@ -72,7 +72,7 @@ pub enum SimFault {
 }
 
 impl SimFault {
-    /// The exit status of the program: 3 for a refused input, 4 for a stream that failed, 5 for want of memory,
+    /// The exit status of the program: 3 for a refused input, 4 for a stream that failed, 5 for an allocation failure,
     /// 7 for a limit that was passed.
     pub fn status(&self) -> u8
         ensures { result ≡ status_of self.now }

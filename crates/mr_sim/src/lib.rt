@@ -44,7 +44,7 @@
 //! the definitions (`PrintsPlay` of `specs/Play`): the lines of refused events, and then the winners, the marker, the outcome and the visible
 //! files of the cluster that is the run, in `mr_model`, of the events that the script and its calms make (`specs/Played`). The first bad key of the job text is
 //! told, else the first bad line of the script, else `Full` exactly where there is no such run, since an event or a work passes a limit;
-//! want of memory may come at any of these. What a container computes is what the job's definition makes of its input (`computed`).
+//! an allocation failure may come at any of these. What a container computes is what the job's definition makes of its input (`computed`).
 //! With a trace or the history shown (`Command::PlayShown`) the text has what is printed, with something before it only where a trace is asked
 //! for, and behind it only where the history is (`Shows`): for each generation that was started, in order, its head line `== history K LENGTH` and as many bytes,
 //! whose records are those that are stable in its segment. What a trace says no clause tells: it is tested by example.

@@ -76,7 +76,7 @@ fn print_files(out: &mut Vec<u8>, files: &[VisibleFile]) -> Result<(), AllocErro
     Ok(())
 }
 
-// What was read of a world, which refuses nothing but for want of memory.
+// What was read of a world, which fails by nothing but an allocation failure.
 fn read<T: Drop>(reading: Result<T, WorldFault>) -> Result<T, SimFault>
     requires { IfErr reading (λ fault. fault ≡ world.NoMemory) }
     ensures value { IfOk result (λ value. reading ≡ Ok value) }
@@ -88,7 +88,7 @@ fn read<T: Drop>(reading: Result<T, WorldFault>) -> Result<T, SimFault>
     }
 }
 
-/// The winners by reduce, the marker, the outcome, and the visible files by rising name. It refuses nothing but for want of memory.
+/// The winners by reduce, the marker, the outcome, and the visible files by rising name. It fails by nothing but an allocation failure.
 pub fn print_world(out: &mut Vec<u8>, world: &World) -> Result<(), SimFault>
     ensures text { OnOk result (out.new.items ≡ out.old.items ++ world_text world.now.config (world_in world.now)) }
     ensures memory { IfErr result (λ fault. fault ≡ NoMemory) }

@@ -2,13 +2,13 @@
 use Rattle.mr_user.specs.declared.fault.UserFault.{UserFault}
 use Rattle.mr_user.specs.declared.fault.UserFault.TheVariants.{Refused, BadWire, NoMemory}
 
--- want of memory, or a refusal where p holds
+-- an allocation failure, or a refusal where p holds
 abbrev pub RefusedIf : UserFault → Type 0 → Type 0
 RefusedIf Refused p = p
 RefusedIf BadWire p = ⊥
 RefusedIf NoMemory p = Unit {0}
 
--- want of memory, or bytes that begin with no value, where p holds
+-- an allocation failure, or bytes that begin with no value, where p holds
 abbrev pub BadWireIf : UserFault → Type 0 → Type 0
 BadWireIf Refused p = ⊥
 BadWireIf BadWire p = p

@@ -75,7 +75,7 @@ fn gathered<J: Job>(
 }
 
 /// The pairs of each reduce, in order of the reduces, each pair where it stood among those of its reduce.
-/// Answers no fault but want of memory.
+/// Answers no fault but an allocation failure.
 pub fn shares<J: Job>(
     alloc: Global,
     job: &J,
@@ -110,7 +110,7 @@ fn empty_shares<T: Drop>(alloc: Global, count: u32) -> Result<Vec<Vec<T>>, Alloc
 }
 
 /// Appends the lines of a key, reduced with the values: its text, a tab, a value text and a line feed, for each value text.
-/// Answers no fault but want of memory.
+/// Answers no fault but an allocation failure.
 pub fn write_lines<J: Job>(
     alloc: Global,
     job: &J,

@@ -8,7 +8,7 @@ use std::alloc::{AllocError, Global};
 use std::cmp::Ordering;
 
 /// Sorts pairs by rising keys; those of a key stay as they stood. Takes n log n comparisons of keys for n pairs, and answers no
-/// fault but want of memory.
+/// fault but an allocation failure.
 pub fn sort_pairs<K: Ord + Drop, V: Drop>(pairs: &mut Vec<(K, V)>) -> Result<(), AllocError>
     ensures permutation { IsPermutation pairs.old.items pairs.new.items }
     ensures sorted { OnOk result (IsSortedByKey (λ p. p.0) K.cmp pairs.new.items) }

@@ -17,7 +17,7 @@ pub trait Job {
     /// Values stand beside their keys. Those of one key keep their order.
     type Value: Wire;
 
-    /// What the functions give, want of memory aside.
+    /// What the functions give, an allocation failure aside.
     ghost functions: { Functions Self.Key Self.Value };
 
     /// The pairs of a line, which stands at place `line_no` of split `split` (both from 0).

@@ -29,7 +29,7 @@ use Rattle.mr_world.specs.Limits.{within, fits_at_once}
 use Rattle.mr_world.specs.Standing.{Standing, IsTaken, Refuses, RefusesEvent}
 use Rattle.mr_world.proofs.Asking.{asks}
 
--- ---- what would be taken is refused for want of memory alone
+-- ---- what would be taken is refused for an allocation failure alone
 
 wants : (o : Option Why) (b at_once : Bool) (f : WorldFault) → o ≡ None → b ≡ true → Refuses o b at_once f → f ≡ fault.NoMemory
 wants o b at_once f now fits r = subst (λ c. Refuses None c at_once f) fits (subst (λ x. Refuses x b at_once f) now r)

@@ -17,7 +17,7 @@ pub record CanHappen (j : Journal) (e : Event) : Type 0 where
   pub now : not_now j.config (world_in j) e ≡ None
   pub fits : fits j e ≡ true
 
--- the first reason why an event is not permitted, or else that it would pass a limit, or else want of memory, which may also come while it is found out whether it would pass one that is not seen at once
+-- the first reason why an event is not permitted, or else that it would pass a limit, or else an allocation failure, which may also come while it is found out whether it would pass one that is not seen at once
 abbrev pub IsRefused : Journal → Event → WorldFault → Type 0
 IsRefused j e f = Refuses (not_now j.config (world_in j) e) (fits j e) (fits_first j e) f
 

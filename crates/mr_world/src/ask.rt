@@ -16,7 +16,7 @@ use mr_names::{Namespace, Op};
 use std::alloc::AllocError;
 
 impl Parts {
-    /// A master's store call is made, if it is in this weather: the stores are left as it leaves them, refused or not. It may want memory,
+    /// A master's store call is made, if it is in this weather: the stores are left as it leaves them, refused or not. It may allocate,
     /// and then nothing has changed.
     pub fn ask(
         &mut self,

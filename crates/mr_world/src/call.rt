@@ -52,7 +52,7 @@ impl Parts {
         Ok(Some(call))
     }
 
-    /// The container makes its store call, and hears of the answer. It may want memory, and then nothing has changed.
+    /// The container makes its store call, and hears of the answer. It may allocate, and then nothing has changed.
     pub fn call_store(
         &mut self,
         c: &ContainerId,
@@ -128,7 +128,7 @@ pub fn is_full(refusal: Option<NameFault>) -> bool
     matches!(refusal, Some(NameFault::Full))
 }
 
-// What its caller hears of a call, in this weather. It may want memory, and then nothing has changed.
+// What its caller hears of a call, in this weather. It may allocate, and then nothing has changed.
 fn make(names: &mut Namespace, call: &StoreCall, weather: Weather) -> Result<Reply, AllocError>
     ensures heard { IfOk result (λ reply. reply ≡ heard_in weather (answer_of names.old call.now).0) }
     ensures left { OnOk result (names.new ≡ left_in weather names.old (answer_of names.old call.now).1) }
@@ -144,7 +144,7 @@ fn make(names: &mut Namespace, call: &StoreCall, weather: Weather) -> Result<Rep
     }
 }
 
-// The answer of a call: a refusal is one, want of memory is none.
+// The answer of a call: a refusal is one, an allocation failure is none.
 fn answer(names: &mut Namespace, call: &StoreCall) -> Result<Result<Answer, NameFault>, AllocError>
     ensures ok { IfOk result (λ answer. answer_of names.old call.now ≡ (answer, names.new)) }
     ensures err { OnErr result (names.new ≡ names.old) }

@@ -56,7 +56,7 @@
 //! - `apply` refuses an event with the first reason why it is not permitted, else `Full` where it would pass a limit, else `NoMemory`, and then nothing has changed;
 //!   else the event is the journal's last, the world after it is the definitions', and the packets that it added are told (`Applies`). `foresee` tells the refusal
 //!   beforehand and changes nothing (`Foretells`);
-//! - `run` passes over what is not permitted and over nothing else, and leads to the world of the journal and all its events; it stops at the first that is `Full` or wants memory, and those
+//! - `run` passes over what is not permitted and over nothing else, and leads to the world of the journal and all its events; it stops at the first that is `Full` or meets an allocation failure, and those
 //!   before it have happened (`Runs`);
 //! - **the headline** stands on `apply` and `run` themselves, of the world before and after (`HeadlineHolds`): a recorded winner stays, and every node told of it is told
 //!   the same; where the success marker is, a reader sees each reduce's winner's whole file and nothing else, from then on; one outcome is told; with deterministic
@@ -68,8 +68,8 @@
 //! A world's invariant is that its parts (`Parts`) *stand for* the world of its journal (`specs/Standing`): one clause a part, each machine for its past there. Each event's
 //! call keeps it (`Tries`), and everything that can fail comes before the first change that can't be taken back.
 //!
-//! Want of memory comes in place of neither a reason nor `Full` where a limit is passed that is seen at once (`fits_at_once` of `specs/Limits`: a journal's events, a start, a launch, a
-//! death, the bytes of a work, an incarnation). Whether any other limit is passed takes memory to find out, and where that was refused want of memory may be answered. A master is told what a
+//! An allocation failure comes in place of neither a reason nor `Full` where a limit is passed that is seen at once (`fits_at_once` of `specs/Limits`: a journal's events, a start, a launch, a
+//! death, the bytes of a work, an incarnation). Whether any other limit is passed takes memory to find out, and where that was refused an allocation failure may be answered. A master is told what a
 //! store answers, a refusal too; only where a store is full the whole event is refused.
 #![tactic(auto)]
 

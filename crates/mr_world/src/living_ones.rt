@@ -11,7 +11,7 @@ use crate::parts::Parts;
 use mr_packet::ContainerId;
 
 impl Parts {
-    /// The containers that are alive, by generation, then number. It refuses want of memory alone.
+    /// The containers that are alive, by generation, then number. Its only fault is an allocation failure.
     pub fn living(&self) -> Result<Vec<ContainerId>, WorldFault>
         ensures is { IfOk result (λ all. (w : World) → Standing self.now w → all.items ≡ living self.now.config w) }
         ensures memory { IfErr result (λ fault. fault ≡ WorldFault.NoMemory) }

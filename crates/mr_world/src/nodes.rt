@@ -64,7 +64,7 @@ impl Nodes {
         }
     }
 
-    /// Whether a node would answer a packet with one. Only for a launch it may want memory.
+    /// Whether a node would answer a packet with one. Only for a launch it may allocate.
     #[tactic(auto, unfolding(crate::specs::Machines::node_of))]
     pub fn would_answer(&self, n: u32, packet: &Packet) -> Result<bool, AllocError>
         ensures { IfOk result (λ answers. answers ≡ is_some (added_by (reaction_of (node_of self.now n) packet.now))) }

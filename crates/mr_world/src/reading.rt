@@ -78,7 +78,7 @@ impl Parts {
     }
 
     /// What the next store call of the master of this generation is for, if there is one; none where the master is not alive. It refuses
-    /// want of memory alone.
+    /// an allocation failure alone.
     pub fn due(&self, k: u32) -> Result<Option<DutyName>, WorldFault>
         ensures is { IfOk result (λ due. (w : World) → Standing self.now w → due ≡ due_in self.now.config w k) }
         ensures memory { IfErr result (λ fault. fault ≡ WorldFault.NoMemory) }

@@ -37,7 +37,7 @@ impl Parts {
         first_told(self.bag.packets())
     }
 
-    /// Whether the success marker is there. It refuses want of memory alone.
+    /// Whether the success marker is there. Its only fault is an allocation failure.
     pub fn marker(&self) -> Result<bool, WorldFault>
         ensures is { IfOk result (λ marked. (w : World) → Standing self.now w → marked ≡ is_file (entry_at w.content marker)) }
         ensures memory { IfErr result (λ fault. fault ≡ WorldFault.NoMemory) }
@@ -46,7 +46,7 @@ impl Parts {
         Ok(is_file(kind_at(&self.names, &path)))
     }
 
-    /// The files directly beneath the destination whose names are not hidden, by rising name. It refuses want of memory alone.
+    /// The files directly beneath the destination whose names are not hidden, by rising name. Its only fault is an allocation failure.
     pub fn visible(&self) -> Result<Vec<VisibleFile>, WorldFault>
         ensures is { IfOk result (λ files. (w : World) → Standing self.now w → map as_pair files.items ≡ visible w) }
         ensures memory { IfErr result (λ fault. fault ≡ WorldFault.NoMemory) }

@@ -16,7 +16,7 @@ use mr_ids::{AttemptId, JobId, TaskId, TaskKind};
 use std::alloc::{AllocError, Global};
 
 impl Parts {
-    /// The recorded winner of a reduce, if it has one: the attempt of its first success that is stable. It refuses want of memory alone.
+    /// The recorded winner of a reduce, if it has one: the attempt of its first success that is stable. Its only fault is an allocation failure.
     pub fn winner(&self, task: TaskId) -> Result<Option<AttemptId>, WorldFault>
         ensures is { IfOk result (λ won. (w : World) → Standing self.now w → won ≡ winner w task) }
         ensures memory { IfErr result (λ fault. fault ≡ WorldFault.NoMemory) }
@@ -25,7 +25,7 @@ impl Parts {
         Ok(winner_of(told.as_slice(), task))
     }
 
-    /// The recorded winner of each reduce of the job, by number. It refuses want of memory alone, and reads the history once.
+    /// The recorded winner of each reduce of the job, by number. Its only fault is an allocation failure; it reads the history once.
     pub fn winners(&self) -> Result<Vec<Option<AttemptId>>, WorldFault>
         ensures is { IfOk result (λ all. (w : World) → Standing self.now w → all.items ≡ map (λ r. winner w (reduce_of self.now.config.job r)) (range_with_len 0 self.now.config.reduces)) }
         ensures memory { IfErr result (λ fault. fault ≡ WorldFault.NoMemory) }

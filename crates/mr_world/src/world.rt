@@ -60,7 +60,7 @@ impl Model for World {
 }
 
 impl World {
-    /// The opening world of a config, with an empty journal. It may want memory; nothing else is refused.
+    /// The opening world of a config, with an empty journal. It may allocate; nothing else is refused.
     pub fn new(alloc: Global, config: Config) -> Result<World, WorldFault>
         ensures opens { IfOk result (λ world. world ≡ record { config = config; events = [] }) }
         ensures memory { IfErr result (λ fault. fault ≡ WorldFault.NoMemory) }
@@ -86,7 +86,7 @@ impl World {
         Ok(took)
     }
 
-    /// Whether the event would be taken now; else what `apply` would refuse it for. It changes nothing, and may want memory.
+    /// Whether the event would be taken now; else what `apply` would refuse it for. It changes nothing, and may allocate.
     pub fn foresee(&self, event: &Event) -> Result<(), WorldFault>
         ensures { Foretells self.now event.now result }
     {
@@ -142,7 +142,7 @@ impl World {
 
 // What comes of the world for those outside
 impl World {
-    /// The recorded winner of a reduce, if it has one: the attempt of its first success that is stable. It refuses want of memory alone.
+    /// The recorded winner of a reduce, if it has one: the attempt of its first success that is stable. Its only fault is an allocation failure.
     pub fn winner(&self, task: TaskId) -> Result<Option<AttemptId>, WorldFault>
         ensures is { IfOk result (λ won. won ≡ winner (world_in self.now) task) }
         ensures memory { IfErr result (λ fault. fault ≡ WorldFault.NoMemory) }
@@ -150,7 +150,7 @@ impl World {
         self.parts.winner(task)
     }
 
-    /// The recorded winner of each reduce of the job, by number. It refuses want of memory alone, and reads the history once.
+    /// The recorded winner of each reduce of the job, by number. Its only fault is an allocation failure; it reads the history once.
     pub fn winners(&self) -> Result<Vec<Option<AttemptId>>, WorldFault>
         ensures is { IfOk result (λ all. all.items ≡ map (λ r. winner (world_in self.now) (reduce_of self.now.config.job r)) (range_with_len 0 self.now.config.reduces)) }
         ensures memory { IfErr result (λ fault. fault ≡ WorldFault.NoMemory) }
@@ -158,7 +158,7 @@ impl World {
         self.parts.winners()
     }
 
-    /// Whether the success marker is there. It refuses want of memory alone.
+    /// Whether the success marker is there. Its only fault is an allocation failure.
     pub fn marker(&self) -> Result<bool, WorldFault>
         ensures is { IfOk result (λ marked. marked ≡ is_file (entry_at (world_in self.now).content marker)) }
         ensures memory { IfErr result (λ fault. fault ≡ WorldFault.NoMemory) }
@@ -173,7 +173,7 @@ impl World {
         self.parts.outcome()
     }
 
-    /// The files directly beneath the destination whose names are not hidden, by rising name. It refuses want of memory alone.
+    /// The files directly beneath the destination whose names are not hidden, by rising name. Its only fault is an allocation failure.
     pub fn visible(&self) -> Result<Vec<VisibleFile>, WorldFault>
         ensures is { IfOk result (λ files. map as_pair files.items ≡ visible (world_in self.now)) }
         ensures memory { IfErr result (λ fault. fault ≡ WorldFault.NoMemory) }
@@ -199,7 +199,7 @@ impl World {
     }
 
     /// What the next store call of the master of this generation is for, if there is one; none where the master is not alive. It refuses
-    /// want of memory alone.
+    /// an allocation failure alone.
     pub fn duty(&self, k: u32) -> Result<Option<DutyName>, WorldFault>
         ensures is { IfOk result (λ due. due ≡ due_in self.now.config (world_in self.now) k) }
         ensures memory { IfErr result (λ fault. fault ≡ WorldFault.NoMemory) }
@@ -240,7 +240,7 @@ impl World {
 
 // What programs read of containers that live
 impl World {
-    /// The containers that are alive, by generation, then number. It refuses want of memory alone.
+    /// The containers that are alive, by generation, then number. Its only fault is an allocation failure.
     pub fn living(&self) -> Result<Vec<ContainerId>, WorldFault>
         ensures is { IfOk result (λ all. all.items ≡ living self.now.config (world_in self.now)) }
         ensures memory { IfErr result (λ fault. fault ≡ WorldFault.NoMemory) }
@@ -274,7 +274,7 @@ impl World {
 // What programs read of an event before it happens
 impl World {
     /// The store call that this event would make now, by whom, and what its caller would hear: the answer, a refusal too, or in bad weather
-    /// nothing. None where the event makes no store call, or would not be taken. It changes nothing, and refuses want of memory alone.
+    /// nothing. None where the event makes no store call, or would not be taken. It changes nothing, and its only fault is an allocation failure.
     pub fn asks(&self, event: &Event) -> Result<Option<Asked>, WorldFault>
         ensures is { IfOk result (λ asked. asked ≡ asked_in self.now event.now) }
         ensures memory { IfErr result (λ fault. fault ≡ WorldFault.NoMemory) }

@@ -27,7 +27,7 @@ pub fn attempt(rt: &impl Abort, kind: TaskKind, number: u32) -> AttemptId {
 pub fn container(rt: &impl Abort, number: u32) -> ContainerId {
     match AppAttempt::new(1) {
         Some(app) => ContainerId { app, number },
-        None => panic!(rt; "no application attempt 1"),
+        None => panic!(rt; "no generation 1"),
     }
 }
 

@@ -26,7 +26,7 @@ const TASK: TaskId = TaskId {
     number: 0,
 };
 
-// What is there, where only want of memory can take it away.
+// What is there, where only an allocation failure can take it away.
 fn there<T>(rt: &impl Abort, value: Option<T>) -> T {
     match value {
         Some(value) => value,

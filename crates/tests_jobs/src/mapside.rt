@@ -31,7 +31,7 @@ impl Gate for GateFor {
     }
 }
 
-// What an answer holds that only want of memory can fail.
+// What an answer holds that only an allocation failure can fail.
 fn with_memory<T, E: Drop>(rt: &impl Abort, answer: Result<T, E>) -> T {
     match answer {
         Ok(value) => value,

@@ -64,7 +64,7 @@ fn entered(alloc: Global, parts: &[Piece], is_open: bool) -> (u32, bool) {
     (gate.entered.get(), spent)
 }
 
-// What an answer holds that only want of memory can fail.
+// What an answer holds that only an allocation failure can fail.
 fn with_memory<T, E: Drop>(rt: &impl Abort, answer: Result<T, E>) -> T {
     match answer {
         Ok(value) => value,

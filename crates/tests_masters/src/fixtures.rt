@@ -39,7 +39,7 @@ pub fn attempt(rt: &impl Abort, task: TaskId) -> AttemptId {
 pub fn first(rt: &impl Abort) -> AppAttempt {
     match AppAttempt::new(1) {
         Some(app) => app,
-        None => panic!(rt; "no application attempt 1"),
+        None => panic!(rt; "no generation 1"),
     }
 }
 

@@ -81,7 +81,7 @@ fn fourth_failure_fails_the_job(rt: HostRuntime) {
 #[test]
 fn winner_is_taken_over(rt: HostRuntime) {
     let Some(app) = AppAttempt::new(2) else {
-        panic!(rt; "no application attempt 2");
+        panic!(rt; "no generation 2");
     };
     let mut master = generation_of(&rt, rt.alloc(), app, 0, 1);
     let mut records = Records::new(rt.alloc());

@@ -29,11 +29,11 @@ fn successes(rt: &impl Abort, alloc: Global) -> Records {
     records
 }
 
-// The second application attempt.
+// The second generation.
 fn second(rt: &impl Abort) -> AppAttempt {
     match AppAttempt::new(2) {
         Some(app) => app,
-        None => panic!(rt; "no application attempt 2"),
+        None => panic!(rt; "no generation 2"),
     }
 }
 

@@ -101,7 +101,7 @@ fn refusal_stops_the_setup(rt: HostRuntime) {
 // A second master, of which the first recorded the success of the reduce.
 fn second(rt: &impl Abort, alloc: Global, record: Record) -> MasterMachine {
     let Some(app) = AppAttempt::new(2) else {
-        panic!(rt; "no application attempt 2");
+        panic!(rt; "no generation 2");
     };
     let mut master = generation_of(rt, alloc, app, 0, 2);
     let mut records = Records::new(alloc);

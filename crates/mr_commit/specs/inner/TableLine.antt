@@ -36,7 +36,7 @@ line_by call (rule.Measure bytes) = Measures (path_of call) bytes
 abbrev pub line_of : Inside → Line
 line_of l = line_by l.op l.rule
 
--- why these lines are not given: the fault that stands in their place, or want of memory, where there are some
+-- why these lines are not given: the fault that stands in their place, or an allocation failure, where there are some
 abbrev pub IsWhy : Result (List Line) CommitFault → CommitFault → Type 0
 IsWhy lines fault.NoMemory = lines_follow lines ≡ true
 IsWhy lines f = lines ≡ Err f

@@ -11,7 +11,7 @@ read_fault user.NoMemory = shuffle.NoMemory
 read_fault user.Refused = shuffle.Truncated
 read_fault user.BadWire = shuffle.Truncated
 
--- want of memory, or the fault of what bytes mean, which is never that a piece is another one
+-- an allocation failure, or the fault of what bytes mean, which is never that a piece is another one
 abbrev pub ReadFaultIs : {A : Type 0} → ShuffleFault → Result A ShuffleFault → Type 0
 ReadFaultIs shuffle.NoMemory meant = Unit {0}
 ReadFaultIs shuffle.WrongPiece meant = ⊥

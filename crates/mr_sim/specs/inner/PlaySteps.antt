@@ -15,7 +15,7 @@ use Rattle.mr_sim.specs.Play.{PrintsPlay, config_of, line_of_winner, played_of, 
 use Rattle.mr_sim.specs.inner.Player.{state_in}
 use Rattle.mr_sim.specs.Shown.{text_in}
 
--- a script is not read: its first bad line, where line 2 of the input is its first, or want of memory
+-- a script is not read: its first bad line, where line 2 of the input is its first, or an allocation failure
 abbrev pub IsUnread : JobId → List ℕ → SimFault → Type 0
 IsUnread job script (fault.BadCommand n) = IsFirstBad job 2 (lines_of script) n
 IsUnread job script fault.NoMemory = Unit {0}

@@ -40,7 +40,7 @@ pub record Reaches (old : Player) (said : Option Played) (new : Player) : Type 0
   pub same : SameJob old new
   pub state : said ≡ Some (state_in new)
 
--- want of memory, or that a limit is passed, where it is
+-- an allocation failure, or that a limit is passed, where it is
 abbrev pub FullWhere : SimFault → Type 0 → Type 0
 FullWhere fault.NoMemory full = Unit {0}
 FullWhere fault.Full full = full
