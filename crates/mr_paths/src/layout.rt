@@ -63,14 +63,6 @@ impl Layout {
         self.dest.child(marker_name(self.dest.allocator())?)
     }
 
-    /// The name of the file with a reduce's output: `part-r-` and the reduce in at least five digits.
-    pub fn part(&self, reduce: u32) -> Result<Name, AllocError>
-        ensures { IfOk result (λ name. name ≡ part reduce) }
-    {
-        let text = format!(in self.dest.allocator(); "part-r-{reduce:05}")?;
-        Ok(Name::from_bytes(text.into_bytes()))
-    }
-
     /// An equal layout.
     pub fn copy(&self) -> Result<Layout, AllocError>
         ensures { IfOk result (λ layout. layout ≡ self.now) }
@@ -78,6 +70,14 @@ impl Layout {
         let dest = self.dest.copy()?;
         Ok(Layout { dest })
     }
+}
+
+/// The name of the file with a reduce's output: `part-r-` and the reduce in at least five digits.
+pub fn part_name(alloc: Global, reduce: u32) -> Result<Name, AllocError>
+    ensures { IfOk result (λ name. name ≡ part reduce) }
+{
+    let text = format!(in alloc; "part-r-{reduce:05}")?;
+    Ok(Name::from_bytes(text.into_bytes()))
 }
 
 /// `/staging/<name>`: where the masters of a job leave marks for those that come after them.

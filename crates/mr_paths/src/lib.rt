@@ -22,8 +22,8 @@
 //!
 //! # What is proved
 //!
-//! **mr_paths, names, paths and the committer's layout.** `Name`, `Path`, `PathFault`, `Layout`, `staging`,
-//! `is_hidden`, `is_name`. A contract sees a `Name` as its bytes and a `Path` as its list of names.
+//! **mr_paths, names, paths and the committer's layout.** `Name`, `Path`, `PathFault`, `Layout`, `part_name`,
+//! `staging`, `is_hidden`, `is_name`. A contract sees a `Name` as its bytes and a `Path` as its list of names.
 //! - A name has 1 to 255 bytes, none of them `/`; a value that breaks this can't be made. `is_name` is the test,
 //!   `Name::parse` answers the name exactly where the bytes are one, `Name::new` and `Name::from_bytes` ask for it.
 //! - A path has one text: `/` for the root, else each name behind a `/`. Proved: `Path::parse` answers the path
@@ -31,9 +31,9 @@
 //!   only where it is one's. What was read is shown by `{}` as it was written.
 //! - `{}` shows a path as its text; a part of a name that is no UTF-8 is shown as U+FFFD (proved for `Name` and for
 //!   `Path`).
-//! - `Layout { dest }`: `temporary`, `job_attempt`, `task_attempt`, `committed`, `marker`, `part` and the free
-//!   `staging` give exactly the table of docs/MODEL.md; `is_hidden` is exactly whether the first byte is `_` or
-//!   `.`. They take no other fault than an allocation failure.
+//! - `Layout { dest }`: `temporary`, `job_attempt`, `task_attempt`, `committed`, `marker` and the free
+//!   `part_name` and `staging` give exactly the table of docs/MODEL.md; `is_hidden` is exactly whether the first
+//!   byte is `_` or `.`. They take no other fault than an allocation failure.
 //! - Proved laws, on functions that do nothing, for the layers above: no two paths have one text
 //!   (`texts_are_distinct`); what it is to stand at or beneath a path, and on what a path stands
 //!   (`paths_are_nested`); what stands at or beneath paths that part ways stays apart (`parted_stay_apart`); which
@@ -58,6 +58,6 @@ pub use laws::{
     hidden_names, layout_is_nested, layout_parts_ways, part_names_differ, parted_stay_apart,
     paths_are_nested, texts_are_distinct,
 };
-pub use layout::{Layout, is_hidden, staging};
+pub use layout::{Layout, is_hidden, part_name, staging};
 pub use name::{Name, is_name};
 pub use path::{Path, child_of, copy_names, is_within, parent, rebase};

@@ -5,7 +5,7 @@ use Rattle.mr_ids.proofs.Shown.{styled-numeral}
 use Rattle.mr_paths.specs.Layout.{part}
 use Rattle.mr_paths.specs.Path.{IsName}
 use Rattle.mr_paths.proofs.NameBytes.{part_is_name}
-use Rattle.mr_paths.proofs.layout.Layout.part.Goals as goal
+use Rattle.mr_paths.proofs.layout.part_name.Goals as goal
 
 pub from_bytes-requires : goal.from_bytes-requires
 unfolding part
