@@ -1,11 +1,10 @@
--- An order of attempts, and attempts as their numbers: what a finite set of them is made with. Nothing else asks for this order.
-use Rattle.std.specs.Prelude.{◌≡◌, ℕ, Bool, true, false, refl}
+-- An order of attempts: what a finite set of them is made with. Nothing else asks for this order.
+use Rattle.std.specs.Prelude.{◌≡◌, ℕ, refl}
 use Rattle.std.specs.declared.cmp.Ordering.{Ordering}
 use Rattle.std.specs.declared.cmp.Ordering.TheVariants.{Less, Equal, Greater}
 use Rattle.std.specs.Ordering.{nat_cmp, on, then_cmp, ordering_then}
 use Rattle.std.specs.Cmp.{IsTotalOrder, then_total, on_total, nat_cmp_total}
 use Rattle.std.specs.FinSet.{IsAntisymmetric, nat_cmp-IsAntisymmetric}
-use Rattle.std.specs.Coded.{Coded, code_by, coded×, coded_ℕ, coded_bool}
 use Rattle.mr_ids.specs.declared.id.TaskKind.{TaskKind}
 use Rattle.mr_ids.specs.declared.id.TaskKind.TheVariants.{Map, Reduce}
 use Rattle.mr_ids.specs.Attempt.{Attempt}
@@ -54,27 +53,3 @@ attempt_exact a b tied =
     let task : a.task.number ≡ b.task.number = nat_cmp-IsAntisymmetric _ _ s.0 in
     let number : a.number ≡ b.number = nat_cmp-IsAntisymmetric _ _ s.1 in
     λ i. record { task = record { job = record { start = start i; number = job i }; kind = kind i; number = task i }; number = number i }
-
--- ---- an attempt as its numbers, and whether it is a reduce's
-
-abbrev pub of_reduce : TaskKind → Bool
-of_reduce Map = false
-of_reduce Reduce = true
-
-abbrev pub kind_from : Bool → TaskKind
-kind_from false = Map
-kind_from true = Reduce
-
-pub kind_from-of_reduce : (k : TaskKind) → kind_from (of_reduce k) ≡ k
-kind_from-of_reduce Map = refl
-kind_from-of_reduce Reduce = refl
-
-abbrev pub coded_kind : Coded TaskKind
-coded_kind = code_by Bool coded_bool of_reduce kind_from kind_from-of_reduce
-
-abbrev pub coded_attempt : Coded Attempt
-coded_attempt =
-    code_by (((ℕ × ℕ) × TaskKind) × (ℕ × ℕ)) (coded× (coded× (coded× coded_ℕ coded_ℕ) coded_kind) (coded× coded_ℕ coded_ℕ))
-    (λ a. (((a.task.job.start, a.task.job.number), a.task.kind), (a.task.number, a.number)))
-    (λ p. record { task = record { job = record { start = p.0.0.0; number = p.0.0.1 }; kind = p.0.1; number = p.1.0 }; number = p.1.1 })
-    (λ _. refl)

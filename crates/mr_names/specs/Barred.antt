@@ -4,14 +4,15 @@ use Rattle.std.specs.Prelude.{◌+◌, Bool, false, not, ◌&&◌, Option, Some,
 use Rattle.std.specs.Coded.{Coded}
 use Rattle.std.specs.FinSet as set
 use Rattle.mr_ids.specs.Attempt.{Attempt}
+use Rattle.mr_ids.specs.Code.{attempt_code}
 use Rattle.mr_names.specs.declared.namespace.TheConstants.{MAX_BARRED}
-use Rattle.mr_names.specs.Attempts.{attempt_cmp, coded_attempt}
+use Rattle.mr_names.specs.Attempts.{attempt_cmp}
 
 abbrev pub Barred : Type 0
 Barred = set.FinSet attempt_cmp
 
 abbrev pub barred_code : Coded Barred
-barred_code = set.code coded_attempt
+barred_code = set.code attempt_code
 
 -- whether an attempt is barred
 abbrev pub is_barred : Barred → Attempt → Bool

@@ -132,7 +132,10 @@ impl Namespace {
         ensures { Makes (λ _. Answer.Done) self.old caller (Op.Create path.now closed) result self.new }
     {
         self.check_create(caller, path, closed)?;
-        let file = Node::File(Bytes::new(self.alloc), closed);
+        let file = Node::File {
+            bytes: Bytes::new(self.alloc),
+            closed,
+        };
         self.tree.insert(self.alloc, path.names(), file)?;
         Ok(())
     }
@@ -206,7 +209,7 @@ impl Namespace {
         match self.tree.get(path.names()) {
             None => Err(NameFault::Missing),
             Some(Node::Dir) => Err(NameFault::NotFile),
-            Some(Node::File(bytes, _closed)) => Ok(bytes.copy()?),
+            Some(Node::File { bytes, .. }) => Ok(bytes.copy()?),
         }
     }
 
@@ -230,11 +233,11 @@ impl Namespace {
     {
         match op {
             Op::Mkdirs(path) => self.mkdirs(caller, path)?,
-            Op::Create(path, closed) => self.create(caller, path, *closed)?,
-            Op::Append(path, bytes) => self.append(caller, path, bytes.as_slice())?,
+            Op::Create { path, closed } => self.create(caller, path, *closed)?,
+            Op::Append { path, bytes } => self.append(caller, path, bytes.as_slice())?,
             Op::Close(path) => self.close(caller, path)?,
             Op::Delete(path) => self.delete(caller, path)?,
-            Op::Rename(from, to) => self.rename(caller, from, to)?,
+            Op::Rename { from, to } => self.rename(caller, from, to)?,
             Op::List(path) => return Ok(Answer::Listed(self.list(caller, path)?)),
             Op::Exists(path) => return Ok(Answer::Found(self.exists(caller, path)?)),
             Op::Read(path) => return Ok(Answer::Contents(self.read(caller, path)?)),
@@ -266,11 +269,11 @@ impl Namespace {
     {
         match op {
             Op::Mkdirs(path) => self.check_mkdirs(caller, path),
-            Op::Create(path, closed) => self.check_create(caller, path, *closed),
-            Op::Append(path, bytes) => self.check_append(caller, path, bytes.as_slice()),
+            Op::Create { path, closed } => self.check_create(caller, path, *closed),
+            Op::Append { path, bytes } => self.check_append(caller, path, bytes.as_slice()),
             Op::Close(path) => self.check_close(caller, path),
             Op::Delete(path) => self.check_delete(caller, path),
-            Op::Rename(from, to) => self.check_rename(caller, from, to),
+            Op::Rename { from, to } => self.check_rename(caller, from, to),
             Op::List(path) => self.check_list(caller, path),
             Op::Exists(_path) => self.check_caller(caller),
             Op::Read(path) => self.check_read(caller, path),
@@ -309,7 +312,7 @@ impl Namespace {
         }
         match self.tree.get(parent(path.names())) {
             None => Err(NameFault::NoParent),
-            Some(Node::File(_bytes, _closed)) => Err(NameFault::NotDir),
+            Some(Node::File { .. }) => Err(NameFault::NotDir),
             Some(Node::Dir) => self.check_room(1),
         }
     }
@@ -321,7 +324,7 @@ impl Namespace {
         match self.tree.get(path.names()) {
             None => Err(NameFault::Missing),
             Some(Node::Dir) => Err(NameFault::NotFile),
-            Some(Node::File(bytes, closed)) => {
+            Some(Node::File { bytes, closed }) => {
                 if *closed {
                     Err(NameFault::Closed)
                 } else if MAX_FILE_LEN - bytes.len() < more.len() {
@@ -340,8 +343,8 @@ impl Namespace {
         match self.tree.get(path.names()) {
             None => Err(NameFault::Missing),
             Some(Node::Dir) => Err(NameFault::NotFile),
-            Some(Node::File(_bytes, true)) => Err(NameFault::Closed),
-            Some(Node::File(_bytes, false)) => Ok(()),
+            Some(Node::File { closed: true, .. }) => Err(NameFault::Closed),
+            Some(Node::File { closed: false, .. }) => Ok(()),
         }
     }
 
@@ -373,7 +376,7 @@ impl Namespace {
         }
         match self.tree.get(parent(to.names())) {
             None => Err(NameFault::NoParent),
-            Some(Node::File(_bytes, _closed)) => Err(NameFault::NotDir),
+            Some(Node::File { .. }) => Err(NameFault::NotDir),
             Some(Node::Dir) => Ok(()),
         }
     }
@@ -384,7 +387,7 @@ impl Namespace {
         self.check_caller(caller)?;
         match self.tree.get(path.names()) {
             None => Err(NameFault::Missing),
-            Some(Node::File(_bytes, _closed)) => Err(NameFault::NotDir),
+            Some(Node::File { .. }) => Err(NameFault::NotDir),
             Some(Node::Dir) => Ok(()),
         }
     }
@@ -407,7 +410,7 @@ impl Namespace {
         match self.tree.get(path.names()) {
             None => Err(NameFault::Missing),
             Some(Node::Dir) => Err(NameFault::NotFile),
-            Some(Node::File(_bytes, _closed)) => Ok(()),
+            Some(Node::File { .. }) => Ok(()),
         }
     }
 }

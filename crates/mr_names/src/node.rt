@@ -1,5 +1,11 @@
 //! What stands at a path, a directory or a file with its bytes, and the entries that a directory lists.
-ghost use Rattle.std.specs.Prelude.{◌≡◌, ◌↔◌, ◌++◌, ◌∷◌, [], IfOk, OnOk, OnErr, length, nat_lt, true, IsTrue};
+ghost use Rattle.std.specs.Prelude.{◌≡◌, ◌↔◌, ◌++◌, ◌∷◌, [], IfOk, OnOk, OnErr, length, nat_eq, nat_lt, true, IsTrue};
+ghost use Rattle.std.specs.Cmp.{partial_equiv_from_equiv};
+ghost use Rattle.std.specs.Cmp.Lexicographic.{pointwise, lists_equiv};
+ghost use Rattle.std.specs.Cmp.Rules.{comparing};
+ghost use Rattle.std.proofs.Common.{rules};
+ghost use Rattle.mr_names.specs.contracts.node.EntryPartialEq.TheImpl.{eq-value};
+ghost use Rattle.mr_names.specs.contracts.node.EntryEq.TheImpl.Laws.{laws-law};
 ghost use Rattle.mr_names.specs.Walk.{length_of};
 ghost use Rattle.mr_names.specs.Node.{appended, closed_of, kind_of};
 
@@ -8,7 +14,7 @@ use std::alloc::{AllocError, Global};
 use std::marker::Model;
 
 /// The bytes of a file. Contracts see them as a list.
-#[derive(Drop)]
+#[derive(Debug, Drop)]
 pub struct Bytes {
     items: Vec<u8>,
 }
@@ -88,11 +94,30 @@ impl Bytes {
     }
 }
 
-/// What is at a path: a directory, or a file with its bytes and whether it is closed.
-#[derive(Drop)]
+impl PartialEq for Bytes {
+    ghost eq = { pointwise nat_eq };
+
+    ghost laws = { Prim.search (comparing, rules) };
+
+    fn eq(&self, other: &Bytes) -> bool {
+        self.items.as_slice() == other.items.as_slice()
+    }
+}
+
+impl Eq for Bytes {
+    ghost laws = { Prim.search (comparing, rules) };
+}
+
+/// What is at a path: a directory or a file.
+#[derive(Debug, PartialEq, Eq, Drop)]
 pub enum Node {
     Dir,
-    File(Bytes, bool),
+    File {
+        /// What the file has so far.
+        bytes: Bytes,
+        /// Whether nothing more is added to it.
+        closed: bool,
+    },
 }
 
 impl Node {
@@ -104,7 +129,7 @@ impl Node {
     {
         match self {
             Node::Dir => Ok(()),
-            Node::File(bytes, _closed) => bytes.extend(more),
+            Node::File { bytes, .. } => bytes.extend(more),
         }
     }
 
@@ -112,7 +137,7 @@ impl Node {
     pub fn close(&mut self)
         ensures { self.new ≡ closed_of self.old }
     {
-        if let Node::File(_bytes, closed) = self {
+        if let Node::File { closed, .. } = self {
             *closed = true;
         }
     }
@@ -123,7 +148,7 @@ impl Node {
     {
         match self {
             Node::Dir => Kind::Dir,
-            Node::File(_, _) => Kind::File,
+            Node::File { .. } => Kind::File,
         }
     }
 
@@ -133,7 +158,7 @@ impl Node {
     {
         match self {
             Node::Dir => None,
-            Node::File(bytes, _closed) => Some(bytes.len()),
+            Node::File { bytes, .. } => Some(bytes.len()),
         }
     }
 }
@@ -145,15 +170,17 @@ pub enum Kind {
     File,
 }
 
-/// One entry of a listed directory: its last name, and what it is.
-#[derive(Drop)]
+/// One entry of a listed directory.
+#[derive(Debug, PartialEq, Eq, Drop)]
 pub struct Entry {
+    /// The last name of its path.
     pub name: Name,
+    /// What it is.
     pub kind: Kind,
 }
 
 /// The entries of a listed directory, by the bytes of their names. Contracts see them as a list.
-#[derive(Drop)]
+#[derive(Debug, Drop)]
 pub struct Entries {
     items: Vec<Entry>,
 }
@@ -203,4 +230,18 @@ impl Entries {
     {
         &self.items
     }
+}
+
+impl PartialEq for Entries {
+    ghost eq = { pointwise eq-value.it };
+
+    ghost laws = { partial_equiv_from_equiv (lists_equiv laws-law) };
+
+    fn eq(&self, other: &Entries) -> bool {
+        self.items.as_slice() == other.items.as_slice()
+    }
+}
+
+impl Eq for Entries {
+    ghost laws = { lists_equiv laws-law };
 }

@@ -13,16 +13,29 @@ pub struct Caller {
 }
 
 /// A call of the namespace as a value.
-#[derive(Drop)]
+#[derive(Debug, PartialEq, Eq, Drop)]
 pub enum Op {
     Mkdirs(Path),
-    /// The path of the new file, and whether it is closed at once.
-    Create(Path, bool),
-    Append(Path, Bytes),
+    Create {
+        /// Where the new file is.
+        path: Path,
+        /// Whether it is closed at once.
+        closed: bool,
+    },
+    Append {
+        /// Where the file is.
+        path: Path,
+        /// What is added at its end.
+        bytes: Bytes,
+    },
     Close(Path),
     Delete(Path),
-    /// From the first path to the second.
-    Rename(Path, Path),
+    Rename {
+        /// What is moved, with all beneath it.
+        from: Path,
+        /// Where it is afterwards.
+        to: Path,
+    },
     List(Path),
     Exists(Path),
     Read(Path),
@@ -31,7 +44,7 @@ pub enum Op {
 }
 
 /// The answer of a call as a value: `Done` where the call only changes something.
-#[derive(Drop)]
+#[derive(Debug, PartialEq, Eq, Drop)]
 pub enum Answer {
     Done,
     Listed(Entries),

@@ -88,7 +88,7 @@ impl Tree {
         match self.nodes.get(at) {
             Some(place) => match place.node {
                 Node::Dir => Some(names.len() - there),
-                Node::File(_, _) => None,
+                Node::File { .. } => None,
             },
             None => None,
         }

@@ -1,20 +1,25 @@
 //! All that a namespace holds, path by path: for programs that print it.
 ghost use Rattle.std.specs.Prelude.{◌≡◌, ◌++◌, ◌∷◌, [], OnOk, OnErr};
+ghost use Rattle.std.specs.Cmp.{partial_equiv_from_equiv};
+ghost use Rattle.std.specs.Cmp.Lexicographic.{pointwise, lists_equiv};
+ghost use Rattle.mr_names.specs.contracts.walk.FoundPartialEq.TheImpl.{eq-value};
+ghost use Rattle.mr_names.specs.contracts.walk.FoundEq.TheImpl.Laws.{laws-law};
 
 use mr_paths::Path;
 use std::alloc::{AllocError, Global};
 use std::marker::Model;
 
 /// What stands at a path.
-#[derive(Drop)]
+#[derive(Debug, PartialEq, Eq, Drop)]
 pub struct Found {
+    /// Where it stands.
     pub path: Path,
     /// A file's length in bytes, and none for a directory.
     pub length: Option<usize>,
 }
 
 /// What stands at each path, by the paths' names and bytes: a directory stands before its entries.
-#[derive(Drop)]
+#[derive(Debug, Drop)]
 pub struct Walk {
     items: Vec<Found>,
 }
@@ -53,4 +58,18 @@ impl Walk {
     {
         &self.items
     }
+}
+
+impl PartialEq for Walk {
+    ghost eq = { pointwise eq-value.it };
+
+    ghost laws = { partial_equiv_from_equiv (lists_equiv laws-law) };
+
+    fn eq(&self, other: &Walk) -> bool {
+        self.items.as_slice() == other.items.as_slice()
+    }
+}
+
+impl Eq for Walk {
+    ghost laws = { lists_equiv laws-law };
 }

@@ -16,5 +16,5 @@ returns-in-Dir c =
 pub returns-in-File : goal.returns-in-File
 returns-in-File c =
     subst (λ m. None ≡ missing_count m (prefixes c.args.names.now)) c.self.view_is
-    (missing_file c.self.inside.nodes c.self.inside.root c.self.inside.held.0 c.self.inside.held.1 c.args.names.now c.reach-at.result.0 c.reach-at.result.1 c.reach-at.ensures.within c.reach-at.ensures.leads c.reach-at.ensures.ends (subst IsTree (sym c.self.view_is) c.requires) c.in-File.field-0 c.in-File.field-1
+    (missing_file c.self.inside.nodes c.self.inside.root c.self.inside.held.0 c.self.inside.held.1 c.args.names.now c.reach-at.result.0 c.reach-at.result.1 c.reach-at.ensures.within c.reach-at.ensures.leads c.reach-at.ensures.ends (subst IsTree (sym c.self.view_is) c.requires) c.in-File.bytes c.in-File.closed
     (ap (option_map (λ (p : Place). p.node)) (sym c.get.ensures ∙ ap option_copied c.in-Some.is) ∙ ap Some c.in-File.is))
