@@ -6,7 +6,7 @@
 //! fn commit(
 //!     store: &mut Namespace,
 //!     caller: Caller,
-//!     step: &mut CommitTask,
+//!     step: &mut Step,
 //!     most: u32,
 //! ) -> Result<StepDone, CommitFault> {
 //!     for _ in 0..most {
@@ -27,8 +27,9 @@
 //! # What is proved
 //!
 //! The output committer of a job, one call of the namespace at a time. Six operations of Hadoop's `OutputCommitter`
-//! stand as step values, so that a machine, a driver or a crash can stop between any two calls: `SetupJob`,
-//! `CommitTask`, `AbortTask`, `RecoverTask`, `CommitJob`, `AbortJob`.
+//! stand as step values, so that a machine, a driver or a crash can stop between any two calls: a `Step`, made by
+//! `Step::setup_job`, `Step::commit_task`, `Step::abort_task`, `Step::commit_job` or `Step::abort_job`, and
+//! `RecoverTask`, which stands over one.
 //!
 //! What is proved, and by which contract:
 //!
@@ -60,7 +61,7 @@
 //! - `needs_task_commit` and `check_output` are their one `exists`; `check_output` takes no memory.
 //! - **An answer of another call is a fault**: `took` and `follow` answer `WrongAnswer` to it, and nothing goes on. What
 //!   the namespace answers is always of its call (law `answers_own_calls`).
-//! - `copy` of each step value is an equal value.
+//! - `copy` of a step value is an equal value.
 //! - **Laws**: steps lead to one answer and one namespace (`one_result`); whole forms end, and the tables meet the
 //!   condition for it (`whole_forms_end`); after a task commit that was answered the committed path holds what the
 //!   attempt path held, the attempt path holds nothing, nothing else changed, and the fence is as before
@@ -87,20 +88,20 @@ mod fault;
 mod job;
 mod laws;
 mod line;
-mod lines;
 mod recover;
 mod setup;
+mod step;
 mod task;
 
-pub use abort::{AbortJob, AbortTask, abort_job, abort_task};
+pub use abort::{abort_job, abort_task};
 pub use checks::{check_output, needs_task_commit};
 pub use fault::{CommitFault, StepDone};
-pub use job::{CommitJob, commit_job};
+pub use job::commit_job;
 pub use laws::{
     aborts_leave, answers_own_calls, job_commits, one_result, task_commits, task_recovers,
     whole_forms_end,
 };
-pub use lines::Following;
 pub use recover::{RecoverTask, recover_task};
-pub use setup::{SetupJob, setup_job};
-pub use task::{CommitTask, commit_task};
+pub use setup::setup_job;
+pub use step::{Following, Step};
+pub use task::commit_task;

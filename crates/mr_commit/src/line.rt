@@ -1,5 +1,5 @@
 //! One line of a committer's table: its namespace call, and the lines that take its place once that was answered. Here are the merge of directories and the
-//! search through earlier generations; `lines` keeps such lines for each operation.
+//! search through earlier generations; a `Step` keeps such lines for each operation.
 ghost use Rattle.std.specs.Prelude.{◌≡◌, ◌<◌, [], ◌∷◌, ◌++◌, IfOk, IfErr, OnErr, Ok, Err, map, filter, length};
 ghost use Rattle.mr_commit.specs.Line.{replaced, is_answer_to, found, listed, bytes_read, op_of, merging, merging_child, merging_task, is_task, passes_missing, before, older, sought, taking_over, measuring, measured, fault_at};
 ghost use Rattle.mr_commit.specs.Line.Line.{Does, Clears, Needs, Merges, MergesEach, MergesTasks, Seeks, Measures};
@@ -9,7 +9,7 @@ ghost use Rattle.mr_commit.specs.inner.TableLine.{IsWhy};
 use crate::fault::CommitFault;
 use mr_ids::{AppAttempt, TaskId};
 use mr_names::{Answer, Entry, Kind, NameFault, Op};
-use mr_paths::{Layout, Path};
+use mr_paths::{Layout, Path, part_name};
 use std::alloc::{AllocError, Global};
 use std::collections::LinkedList;
 use std::marker::Model;
@@ -96,11 +96,20 @@ fn copy_op(op: &Op) -> Result<Op, AllocError>
 {
     Ok(match op {
         Op::Mkdirs(path) => Op::Mkdirs(path.copy()?),
-        Op::Create(path, closed) => Op::Create(path.copy()?, *closed),
-        Op::Append(path, bytes) => Op::Append(path.copy()?, bytes.copy()?),
+        Op::Create { path, closed } => Op::Create {
+            path: path.copy()?,
+            closed: *closed,
+        },
+        Op::Append { path, bytes } => Op::Append {
+            path: path.copy()?,
+            bytes: bytes.copy()?,
+        },
         Op::Close(path) => Op::Close(path.copy()?),
         Op::Delete(path) => Op::Delete(path.copy()?),
-        Op::Rename(from, to) => Op::Rename(from.copy()?, to.copy()?),
+        Op::Rename { from, to } => Op::Rename {
+            from: from.copy()?,
+            to: to.copy()?,
+        },
         Op::List(path) => Op::List(path.copy()?),
         Op::Exists(path) => Op::Exists(path.copy()?),
         Op::Read(path) => Op::Read(path.copy()?),
@@ -416,11 +425,11 @@ fn taking_over(
     let to = layout.committed(k, task)?;
     let mut lines = LinkedList::new(alloc);
     if let Some(bytes) = bytes {
-        let part = from.child(layout.part(task.number)?)?;
+        let part = from.child(part_name(alloc, task.number)?)?;
         lines.push_back(TableLine::measures(part, bytes))?;
     }
     lines.push_back(TableLine::clears(to.copy()?))?;
-    lines.push_back(TableLine::does(Op::Rename(from, to)))?;
+    lines.push_back(TableLine::does(Op::Rename { from, to }))?;
     Ok(lines)
 }
 
@@ -443,7 +452,9 @@ fn merging(
         }
         (_, Some(_)) => lines.push_back(TableLine::does(Op::Delete(to.copy()?)))?,
     }
-    lines.push_back(TableLine::does(Op::Rename(from.copy()?, to.copy()?)))?;
+    let from = from.copy()?;
+    let to = to.copy()?;
+    lines.push_back(TableLine::does(Op::Rename { from, to }))?;
     Ok(lines)
 }
 

@@ -9,11 +9,12 @@ ghost use Rattle.mr_commit.specs.Recovery.{Left, recover_task, next_of, HearsOf,
 use crate::checks::heard_generation;
 use crate::fault::{CommitFault, StepDone};
 use crate::line::{before, seeking};
-use crate::lines::{Following, Lines};
+use crate::step::{Following, Step};
 use mr_ids::{AppAttempt, TaskId};
 use mr_names::{Answer, Caller, NameFault, Namespace, Op};
 use mr_paths::Layout;
 use std::alloc::AllocError;
+use std::collections::LinkedList;
 use std::marker::Model;
 
 /// A task's recovery, one call at a time: what the newest earlier generation committed of it takes the place of what this
@@ -24,7 +25,7 @@ use std::marker::Model;
 /// `OutputMissing`. Generation 1 has no earlier one: then no call is made.
 #[derive(Drop)]
 pub struct RecoverTask {
-    lines: Lines,
+    step: Step,
     has_earlier: bool,
 }
 
@@ -33,7 +34,7 @@ impl Model for RecoverTask {
 
     ghost Value = { Recovery };
 
-    ghost view = { λ s. recovery_of s.has_earlier s.lines };
+    ghost view = { λ s. recovery_of s.has_earlier s.step };
 }
 
 impl RecoverTask {
@@ -49,13 +50,13 @@ impl RecoverTask {
     {
         match before(k) {
             None => Ok(RecoverTask {
-                lines: Lines::none(layout.dest.allocator()),
+                step: Step::of_table(LinkedList::new(layout.dest.allocator())),
                 has_earlier: false,
             }),
             Some(j) => {
-                let lines = Lines::new(seeking(layout, task, bytes, k, j)?);
+                let step = Step::of_table(seeking(layout, task, bytes, k, j)?);
                 Ok(RecoverTask {
-                    lines,
+                    step,
                     has_earlier: true,
                 })
             }
@@ -67,7 +68,7 @@ impl RecoverTask {
         ensures { option_copied result ≡ next_of self.now }
     {
         if self.has_earlier {
-            self.lines.call()
+            self.step.call()
         } else {
             None
         }
@@ -81,7 +82,7 @@ impl RecoverTask {
         ensures { HearsOf self.old answer result self.new }
     {
         if self.has_earlier {
-            self.lines.took(answer)
+            self.step.took(answer)
         } else {
             Err(self.give_up())
         }
@@ -94,7 +95,7 @@ impl RecoverTask {
         ensures fits { IfOk result (λ f. FitsOf f.lines self.now) }
     {
         if self.has_earlier {
-            self.lines.follow(answer)
+            self.step.follow(answer)
         } else {
             Err(CommitFault::OutputMissing)
         }
@@ -106,7 +107,7 @@ impl RecoverTask {
         ensures { self.new ≡ gone_on following.lines self.old }
     {
         if self.has_earlier {
-            self.lines.go_on(following);
+            self.step.go_on(following);
         }
     }
 
@@ -118,7 +119,7 @@ impl RecoverTask {
         ensures { StepsOf self.old names.old caller result self.new names.new }
     {
         if self.has_earlier {
-            self.lines.next(names, caller)
+            self.step.next(names, caller)
         } else {
             Err(self.give_up())
         }
@@ -130,7 +131,7 @@ impl RecoverTask {
         ensures over { self.new ≡ Left [] }
     {
         self.has_earlier = true;
-        self.lines.clear();
+        self.step.clear();
         CommitFault::OutputMissing
     }
 
@@ -138,9 +139,9 @@ impl RecoverTask {
     pub fn copy(&self) -> Result<RecoverTask, AllocError>
         ensures { IfOk result (λ step. step ≡ self.now) }
     {
-        let lines = self.lines.copy()?;
+        let step = self.step.copy()?;
         Ok(RecoverTask {
-            lines,
+            step,
             has_earlier: self.has_earlier,
         })
     }
@@ -181,6 +182,6 @@ fn recover_from(
     ensures made { Commits (Seeks layout.now.dest task bytes caller.now.app j ∷ []) names.old caller.now result names.new }
 {
     let k = heard_generation(names, caller)?;
-    let mut lines = Lines::new(seeking(layout, task, bytes, k, j)?);
-    lines.finish(names, *caller)
+    let mut step = Step::of_table(seeking(layout, task, bytes, k, j)?);
+    step.finish(names, *caller)
 }

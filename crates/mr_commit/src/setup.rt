@@ -1,101 +1,31 @@
 //! The setup of a job (Hadoop's `setupJob`): the job attempt path is made; call by call, as a step value, and whole.
-ghost use Rattle.std.specs.Prelude.{◌≡◌, [], ◌∷◌, ◌++◌, drop, IfOk};
-ghost use Rattle.std.specs.Option.{option_copied};
-ghost use Rattle.mr_commit.specs.Steps.{next_call, Hears, Steps};
-ghost use Rattle.mr_commit.specs.Halves.{Follows, Fits};
+ghost use Rattle.std.specs.Prelude.{◌≡◌, [], ◌∷◌, IfOk};
 ghost use Rattle.mr_commit.specs.CommitterEffect.{Commits, HasEffect};
 ghost use Rattle.mr_commit.specs.Tables.{setup_job};
 
 use crate::checks::heard_generation;
-use crate::fault::{CommitFault, StepDone};
+use crate::fault::CommitFault;
 use crate::line::TableLine;
-use crate::lines::{Following, Lines};
+use crate::step::Step;
 use mr_ids::AppAttempt;
-use mr_names::{Answer, Caller, NameFault, Namespace, Op};
+use mr_names::{Caller, Namespace, Op};
 use mr_paths::Layout;
 use std::alloc::AllocError;
 use std::collections::LinkedList;
-use std::marker::Model;
 
-/// The setup of a job, one call at a time: the job attempt path is made.
-#[derive(Drop)]
-pub struct SetupJob {
-    lines: Lines,
-}
-
-impl Model for SetupJob {
-    ghost use Rattle.std.specs.Prelude.{List};
-    ghost use Rattle.mr_commit.specs.Line.{Line};
-
-    ghost Value = { List Line };
-
-    ghost view = { λ s. s.lines };
-}
-
-impl SetupJob {
-    /// The setup by the master's generation `k`.
-    pub fn new(layout: &Layout, k: AppAttempt) -> Result<SetupJob, AllocError>
+impl Step {
+    /// The setup of a job by the master's generation `k`: the job attempt path is made.
+    pub fn setup_job(layout: &Layout, k: AppAttempt) -> Result<Step, AllocError>
         ensures { IfOk result (λ step. step ≡ setup_job layout.now.dest k) }
     {
         let alloc = layout.dest.allocator();
         let path = layout.job_attempt(k)?;
         let table = LinkedList::from_array(alloc, [TableLine::does(Op::Mkdirs(path))])?;
-        let lines = Lines::new(table);
-        Ok(SetupJob { lines })
-    }
-
-    /// The next call, or none where it is over. It takes no memory.
-    pub fn call(&self) -> Option<&Op>
-        ensures { option_copied result ≡ next_call self.now }
-    {
-        self.lines.call()
-    }
-
-    /// Hears the answer of the next call, and tells whether calls are left.
-    ///
-    /// A fault is the end: from then on the answer is `Over`, as after `Finished`. But after `NoMemory` all is as
-    /// before.
-    pub fn took(&mut self, answer: Result<Answer, NameFault>) -> Result<StepDone, CommitFault>
-        ensures { Hears self.old answer result self.new }
-    {
-        self.lines.took(answer)
-    }
-
-    /// Makes ready for the answer of the next call, the lines that follow, and changes nothing. A fault is that of `took`,
-    /// and `NoMemory` too.
-    pub fn follow(&self, answer: &Result<Answer, NameFault>) -> Result<Following, CommitFault>
-        ensures { Follows self.now answer.now result }
-    {
-        self.lines.follow(answer)
-    }
-
-    /// Hears the answer that it was made ready for: the second half of `took`. It takes no memory.
-    pub fn go_on(&mut self, following: Following)
-        requires { Fits following.lines self.old }
-        ensures { self.new ≡ following.lines ++ drop 1 self.old }
-    {
-        self.lines.go_on(following);
-    }
-
-    /// Makes the next call and hears its answer: `call`, `Namespace::perform` and `took` in one.
-    ///
-    /// After `NoMemory` the step value and the namespace are as before.
-    pub fn next(&mut self, names: &mut Namespace, caller: Caller) -> Result<StepDone, CommitFault>
-        ensures { Steps self.old names.old caller result self.new names.new }
-    {
-        self.lines.next(names, caller)
-    }
-
-    /// An equal value.
-    pub fn copy(&self) -> Result<SetupJob, AllocError>
-        ensures { IfOk result (λ step. step ≡ self.now) }
-    {
-        let lines = self.lines.copy()?;
-        Ok(SetupJob { lines })
+        Ok(Step::of_table(table))
     }
 }
 
-/// Sets a job up in the caller's generation: all calls of `SetupJob`.
+/// Sets a job up in the caller's generation: all calls of `Step::setup_job`.
 ///
 /// After `NoMemory` nothing has changed.
 pub fn setup_job(names: &mut Namespace, caller: Caller, layout: &Layout) -> Result<(), CommitFault>
@@ -103,6 +33,6 @@ pub fn setup_job(names: &mut Namespace, caller: Caller, layout: &Layout) -> Resu
     ensures made { Commits (setup_job layout.now.dest caller.app) names.old caller result names.new }
 {
     let k = heard_generation(names, &caller)?;
-    let mut step = SetupJob::new(layout, k)?;
-    step.lines.finish(names, caller)
+    let mut step = Step::setup_job(layout, k)?;
+    step.finish(names, caller)
 }

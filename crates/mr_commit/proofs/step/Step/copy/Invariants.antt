@@ -1,5 +1,5 @@
 use Rattle.std.proofs.Common.{◌≡◌, ◌++◌}
-use Rattle.mr_commit.proofs.lines.Lines.copy.Given as goal
+use Rattle.mr_commit.proofs.step.Step.copy.Given as goal
 
 abbrev pub invariant-loop-line : goal.invariant-loop-line
 invariant-loop-line l = l.left ++ l.line-iterator ≡ l.self

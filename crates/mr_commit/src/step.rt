@@ -1,4 +1,5 @@
-//! The lines of a committer's table that are left: which call is next, and what its answer puts in the place of the first line. Each step value is made of them.
+//! A step value: an operation of the committer as the lines of its table that are left. Which call is next, and what its answer puts in the place of the
+//! first line. Each operation's file has the maker of its table.
 ghost use Rattle.std.specs.Prelude.{◌≡◌, ◌<◌, [], ◌∷◌, ◌++◌, IfOk, OnOk, OnErr, length, drop};
 ghost use Rattle.std.specs.Option.{option_copied};
 ghost use Rattle.mr_commit.specs.Settles.{Settles};
@@ -9,7 +10,7 @@ ghost use Rattle.mr_commit.specs.CommitterEffect.{Finishes, HasEffect};
 use crate::fault::{CommitFault, StepDone};
 use crate::line::TableLine;
 use mr_names::{Answer, Caller, NameFault, Namespace, Op};
-use std::alloc::{AllocError, Global};
+use std::alloc::AllocError;
 use std::collections::LinkedList;
 use std::marker::Model;
 
@@ -40,54 +41,47 @@ impl Following {
     }
 }
 
-/// The lines of a table that are left.
+/// An operation of the committer, one call at a time: the lines of its table that are left. `setup_job`, `commit_task`,
+/// `commit_job`, `abort_task` and `abort_job` make it.
 #[derive(Drop)]
-pub struct Lines {
+pub struct Step {
     left: LinkedList<TableLine>,
 }
 
-impl Model for Lines {
+impl Model for Step {
     ghost use Rattle.std.specs.Prelude.{List};
     ghost use Rattle.mr_commit.specs.Line.{Line};
 
     ghost Value = { List Line };
 
-    ghost view = { λ l. l.left };
+    ghost view = { λ s. s.left };
 }
 
-impl Lines {
-    /// All lines of a table, in its order.
-    pub fn new(table: LinkedList<TableLine>) -> Lines
+impl Step {
+    // All lines of a table, in its order.
+    pub(crate) fn of_table(table: LinkedList<TableLine>) -> Step
         ensures { result ≡ table }
     {
-        Lines { left: table }
+        Step { left: table }
     }
 
-    /// No lines.
-    pub fn none(alloc: Global) -> Lines
-        ensures { result ≡ [] }
-    {
-        Lines {
-            left: LinkedList::new(alloc),
-        }
-    }
-
-    /// Takes all lines away.
-    pub fn clear(&mut self)
+    // Takes all lines away.
+    pub(crate) fn clear(&mut self)
         ensures { self.new ≡ [] }
     {
         self.left.clear();
     }
 
-    /// The call that is next, or none where it is over.
+    /// The next call, or none where it is over. It takes no memory.
     pub fn call(&self) -> Option<&Op>
         ensures { option_copied result ≡ next_call self.now }
     {
         self.left.front().map(|line| line.op())
     }
 
-    /// Whether nothing at the path of the next call is well.
-    pub fn next_passes(&self) -> bool
+    /// Whether the next call is a deletion for which a missing path is accepted: in a job's commit, that of what was
+    /// temporary. It takes no memory.
+    pub fn cleans_up(&self) -> bool
         ensures { result ≡ next_passes self.now }
     {
         match self.left.front() {
@@ -97,17 +91,18 @@ impl Lines {
     }
 
     /// An equal value.
-    pub fn copy(&self) -> Result<Lines, AllocError>
-        ensures { IfOk result (λ lines. lines ≡ self.now) }
+    pub fn copy(&self) -> Result<Step, AllocError>
+        ensures { IfOk result (λ step. step ≡ self.now) }
     {
         let mut left = LinkedList::new(*self.left.allocator());
         for line in &self.left {
             left.push_back(line.copy()?)?;
         }
-        Ok(Lines { left })
+        Ok(Step { left })
     }
 
-    /// Makes ready for the answer of the next call: the lines that follow. Nothing changes.
+    /// Makes ready for the answer of the next call, the lines that follow, and changes nothing. A fault is that of `took`,
+    /// and `NoMemory` too.
     pub fn follow(&self, answer: &Result<Answer, NameFault>) -> Result<Following, CommitFault>
         ensures { Follows self.now answer.now result }
     {
@@ -119,7 +114,7 @@ impl Lines {
         Ok(following)
     }
 
-    /// These lines, ready to take the place of the first one.
+    // These lines, ready to take the place of the first one.
     fn following(&self, lines: LinkedList<TableLine>) -> Result<Following, AllocError>
         requires { 0 < length self.now }
         ensures ok { IfOk result (λ f. f ≡ record { lines = lines; done = done_at (lines ++ drop 1 self.now) }) }
@@ -133,7 +128,7 @@ impl Lines {
         Ok(Following { lines, done })
     }
 
-    /// Whether lines are left once these take the place of the first one.
+    // Whether lines are left once these take the place of the first one.
     fn done_after(&self, lines: &LinkedList<TableLine>) -> StepDone
         ensures { result ≡ done_at (lines.now ++ drop 1 self.now) }
     {
@@ -147,7 +142,7 @@ impl Lines {
         }
     }
 
-    /// Puts the lines that follow in the place of the first one. It takes no memory.
+    /// Hears the answer that it was made ready for: the second half of `took`. It takes no memory.
     pub fn go_on(&mut self, following: Following)
         requires { Fits following.lines self.old }
         ensures { self.new ≡ following.lines ++ drop 1 self.old }
@@ -159,7 +154,10 @@ impl Lines {
         self.left = left;
     }
 
-    /// Hears the answer of the next call. After an allocation failure all is as before.
+    /// Hears the answer of the next call, and tells whether calls are left.
+    ///
+    /// A fault is the end: from then on the answer is `Over`, as after `Finished`. But after `NoMemory` all is as
+    /// before.
     pub fn took(&mut self, answer: Result<Answer, NameFault>) -> Result<StepDone, CommitFault>
         ensures { Hears self.old answer result self.new }
     {
@@ -177,7 +175,9 @@ impl Lines {
         }
     }
 
-    /// Makes the next call, and hears its answer. After an allocation failure all is as before.
+    /// Makes the next call and hears its answer: `call`, `Namespace::perform` and `took` in one.
+    ///
+    /// After `NoMemory` the step value and the namespace are as before.
     pub fn next(&mut self, names: &mut Namespace, caller: Caller) -> Result<StepDone, CommitFault>
         ensures { Steps self.old names.old caller result self.new names.new }
     {
@@ -188,9 +188,13 @@ impl Lines {
         self.took(answer)
     }
 
-    /// Makes all calls that are left. An allocation failure leaves what the earlier ones did, and comes only where the line
-    /// that is next may allocate.
-    pub fn finish(&mut self, names: &mut Namespace, caller: Caller) -> Result<(), CommitFault>
+    // Makes all calls that are left. An allocation failure leaves what the earlier ones did, and comes only where the line
+    // that is next may allocate.
+    pub(crate) fn finish(
+        &mut self,
+        names: &mut Namespace,
+        caller: Caller,
+    ) -> Result<(), CommitFault>
         requires settles { Settles self.old }
         ensures effect { HasEffect self.old names.old caller result names.new }
         ensures made { Finishes self.old names.old caller result names.new }

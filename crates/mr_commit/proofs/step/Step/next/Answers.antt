@@ -1,7 +1,7 @@
 use Rattle.std.proofs.Common.{sym}
 use Rattle.mr_commit.proofs.Calls.{made}
 use Rattle.mr_commit.proofs.Steps.{step_from_took}
-use Rattle.mr_commit.proofs.lines.Lines.next.Goals as goal
+use Rattle.mr_commit.proofs.step.Step.next.Goals as goal
 
 pub returns : goal.returns
 returns c =

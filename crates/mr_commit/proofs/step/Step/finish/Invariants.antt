@@ -1,7 +1,7 @@
 use Rattle.std.specs.FinMap as finite
 use Rattle.mr_commit.specs.CommitterEffect.{most_calls, deepest}
 use Rattle.mr_commit.proofs.Wholes.{Going}
-use Rattle.mr_commit.proofs.lines.Lines.finish.Given as goal
+use Rattle.mr_commit.proofs.step.Step.finish.Given as goal
 
 abbrev pub invariant-calls : goal.invariant-calls
 invariant-calls l = Going l.fn.self l.fn.names l.caller l.self l.names

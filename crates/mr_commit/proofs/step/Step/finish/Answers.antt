@@ -5,7 +5,7 @@ use Rattle.mr_commit.specs.contracts.fault.StepDone.{the_type}
 use Rattle.mr_commit.specs.declared.fault.StepDone.{StepDone}
 use Rattle.mr_commit.specs.declared.fault.StepDone.TheVariants as done
 use Rattle.mr_commit.proofs.Wholes.{going_first, going_further, fewer_left, effect_last, effect_by, made_by}
-use Rattle.mr_commit.proofs.lines.Lines.finish.Goals as goal
+use Rattle.mr_commit.proofs.step.Step.finish.Goals as goal
 
 is_more : (d : StepDone) → sameb the_type d done.More ≡ true → d ≡ done.More
 is_more done.More e = refl
