@@ -18,7 +18,7 @@ use crate::duty::{Duty, of_line, of_look, of_mark};
 use crate::earlier::{first_winner, next_winner, winners};
 use crate::ops::{fail_mark, started_mark, success_mark};
 use crate::store::{Coming, Look, coming_of, is_fine, is_superseded, looked, named};
-use mr_commit::{CommitJob, Following, RecoverTask, SetupJob};
+use mr_commit::{Following, RecoverTask, Step};
 use mr_history::Record;
 use mr_master_model::{DutyName, Phase, Setting, StoreAnswer, StoreCall};
 use mr_names::{Answer, NameFault, Op};
@@ -40,7 +40,7 @@ enum At {
     LooksForFail,
     LooksForStarted,
     Reads,
-    SetsUp(SetupJob),
+    SetsUp(Step),
     /// A reduce is taken over, and then the others.
     TakesOver {
         winner: TaskWinner,
@@ -48,7 +48,7 @@ enum At {
         others: VecDeque<TaskWinner>,
     },
     Runs,
-    CommitsJob(CommitJob),
+    CommitsJob(Step),
     TellsSuccess,
     TellsFail,
     AbortsCommit,
@@ -281,14 +281,14 @@ fn copied(alloc: Global, winners: &VecDeque<TaskWinner>) -> Result<VecDeque<Task
 }
 
 // The call of the line of the job commit that is next.
-fn commit_duty(step: &CommitJob) -> Result<Option<Duty>, AllocError>
+fn commit_duty(step: &Step) -> Result<Option<Duty>, AllocError>
     ensures due { IfOk result (λ due. due ≡ does (commit_name step.now) step.now) }
     ensures due_on_memory { OnErr result (is_some (next_call step.now) ≡ true) }
 {
     of_line(commit_name(step), step.call())
 }
 
-fn commit_name(step: &CommitJob) -> DutyName
+fn commit_name(step: &Step) -> DutyName
     ensures { result ≡ commit_name step.now }
 {
     if step.cleans_up() {
@@ -428,7 +428,7 @@ impl Work {
     pub fn sets_up(setting: &Setting) -> Result<Work, AllocError>
         ensures { IfOk result (λ work. work ≡ SetsUp (setup_job setting.now.layout.dest setting.now.app)) }
     {
-        let step = SetupJob::new(&setting.layout, setting.app)?;
+        let step = Step::setup_job(&setting.layout, setting.app)?;
         Ok(Work {
             at: At::SetsUp(step),
         })
@@ -438,7 +438,7 @@ impl Work {
     pub fn commits(setting: &Setting) -> Result<Work, AllocError>
         ensures { IfOk result (λ work. work ≡ CommitsJob (commit_job setting.now.layout.dest setting.now.app)) }
     {
-        let step = CommitJob::new(&setting.layout, setting.app)?;
+        let step = Step::commit_job(&setting.layout, setting.app)?;
         Ok(Work {
             at: At::CommitsJob(step),
         })
@@ -486,9 +486,8 @@ impl Work {
             return Ok(Coming::Refused);
         };
         match &self.at {
-            At::SetsUp(step) => follow_setup(step, r),
+            At::SetsUp(step) | At::CommitsJob(step) => follow_step(step, r),
             At::TakesOver { step, .. } => follow_recovery(step, r),
-            At::CommitsJob(step) => follow_commit(step, r),
             _ => Ok(Coming::Refused),
         }
     }
@@ -499,9 +498,8 @@ impl Work {
         ensures { self.new ≡ with_left self.old (following.lines ++ drop 1 (left_of self.old)) }
     {
         match &mut self.at {
-            At::SetsUp(step) => step.go_on(following),
+            At::SetsUp(step) | At::CommitsJob(step) => step.go_on(following),
             At::TakesOver { step, .. } => step.go_on(following),
-            At::CommitsJob(step) => step.go_on(following),
             _ => {}
         }
     }
@@ -521,16 +519,7 @@ impl Work {
     }
 }
 
-fn follow_setup(step: &SetupJob, r: &Result<Answer, NameFault>) -> Result<Coming, AllocError>
-    requires { r.now ≡ Err NameFault.NoMemory → ⊥ }
-    ensures coming { IfOk result (λ coming. IsComing step.now (StoreAnswer.Names r.now) coming) }
-    ensures memory { OnErr result (MayWantOn step.now r.now) }
-{
-    let followed = step.follow(r);
-    coming_of(followed)
-}
-
-fn follow_commit(step: &CommitJob, r: &Result<Answer, NameFault>) -> Result<Coming, AllocError>
+fn follow_step(step: &Step, r: &Result<Answer, NameFault>) -> Result<Coming, AllocError>
     requires { r.now ≡ Err NameFault.NoMemory → ⊥ }
     ensures coming { IfOk result (λ coming. IsComing step.now (StoreAnswer.Names r.now) coming) }
     ensures memory { OnErr result (MayWantOn step.now r.now) }
