@@ -74,7 +74,7 @@ impl AttemptState {
             (Assigned | Running | CommitPending, Fail) => Some(Failed),
             (Assigned | Running | CommitPending, Kill) => Some(Killed),
             (Recording, Recorded) => Some(Succeeded),
-            (Succeeded, Lost) if kind == TaskKind::Map => Some(Killed),
+            (Succeeded, Lost) if kind.is_map() => Some(Killed),
             _ => None,
         }
     }

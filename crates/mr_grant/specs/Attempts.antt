@@ -1,12 +1,8 @@
 -- Attempts in order of arrival: which are one, which is the first.
-use Rattle.std.specs.Prelude.{Bool, false, not, ◌&&◌, ◌==◌, List, [], ◌∷◌, ◌++◌, Option, Some, None, if◌then◌else◌, filter}
+use Rattle.std.specs.Prelude.{Bool, false, not, List, [], ◌∷◌, ◌++◌, Option, Some, None, if◌then◌else◌, filter}
 use Rattle.std.specs.List.{list_any}
 use Rattle.mr_ids.specs.Attempt.{Attempt}
-use Rattle.mr_ids.specs.Same.{same_task}
-
--- whether two attempts are one
-unfoldable pub same_attempt : Attempt → Attempt → Bool
-same_attempt a b = same_task a.task b.task && (a.number == b.number)
+unfoldable pub use Rattle.mr_ids.specs.Same.{same_attempt}
 
 -- whether a is among them
 abbrev pub has : List Attempt → Attempt → Bool

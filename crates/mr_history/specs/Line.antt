@@ -1,8 +1,7 @@
 -- The line of a record: JSON with no space, its keys in this order. The form of the lines is our own profile.
 use Rattle.std.specs.Prelude.{◌≡◌, ◌≤◌, ◌<◌, ◌^◌, ◌+◌, ◌-◌, ℕ, Bool, true, false, ◌&&◌, nat_eq, nat_le, List, [], ◌∷◌, ◌++◌, length, flat_map, codes, decimal, Option, Some, None, is_some, is_none, if◌then◌else◌}
 use Rattle.mr_ids.specs.Text.{attempt_text, numeral, IsAttempt}
-use Rattle.mr_ids.specs.declared.id.TaskKind.{TaskKind}
-use Rattle.mr_ids.specs.declared.id.TaskKind.TheVariants.{Map, Reduce}
+pub use Rattle.mr_ids.specs.Kind.{is_map, is_reduce}
 use Rattle.mr_history.specs.declared.record.TheConstants.{MAX_PART_LEN}
 use Rattle.mr_history.specs.declared.record.Record.{Record}
 use Rattle.mr_history.specs.declared.record.Record.TheVariants.{AttemptStarted, MapSucceeded, ReduceSucceeded, AttemptFailed, JobUnsuccessful}
@@ -55,20 +54,12 @@ unfoldable pub whole_in : ℕ → List Record → List Record
 whole_in n [] = []
 whole_in n (r ∷ rs) = if nat_le (width r) n then r ∷ whole_in (n - width r) rs else []
 
--- whether the attempt is of the kind that succeeds so, and the incarnation is one
-abbrev pub is_map : TaskKind → Bool
-is_map Map = true
-is_map Reduce = false
-
-abbrev pub is_reduce : TaskKind → Bool
-is_reduce Map = false
-is_reduce Reduce = true
-
 -- a length, if there is one, is that of a file
 abbrev pub is_length : Option ℕ → Bool
 is_length None = true
 is_length (Some bytes) = nat_le bytes MAX_PART_LEN
 
+-- whether the attempt is of the kind that succeeds so, the incarnation is one, and the length is that of a file
 abbrev pub fits : Record → Bool
 fits (AttemptStarted a node) = true
 fits (MapSucceeded a node incarnation) = is_map a.task.kind && nat_le 1 incarnation

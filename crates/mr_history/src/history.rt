@@ -8,12 +8,9 @@ ghost use Rattle.mr_history.specs.Calls.{Append, Flush, Read, Done, Told, Makes,
 use crate::fault::HistoryFault;
 use crate::record::{Record, Records};
 use crate::segment::Segment;
-use mr_ids::AppAttempt;
+use mr_ids::{AppAttempt, MAX_APP_ATTEMPTS};
 use std::alloc::Global;
 use std::marker::Model;
-
-/// Most generations, each of which has a segment.
-pub const MAX_APP_ATTEMPTS: usize = 1000;
 
 /// The segments of all generations, and the fence below which no master is heard.
 pub struct History {

@@ -85,7 +85,7 @@ mod record;
 mod segment;
 
 pub use fault::HistoryFault;
-pub use history::{History, MAX_APP_ATTEMPTS};
+pub use history::History;
 pub use laws::{
     fronts_replay, histories_stay, lines_read_back, lines_replay, others_stay, refusals_are_heard,
     segments_record, segments_stay_sound, stable_stays, winners_have_lengths, winners_stay,

@@ -1,8 +1,8 @@
 //! The records of the job history: what a master writes down of attempts and of its job, each of them a line.
 ghost use Rattle.std.specs.Prelude.{◌≡◌, ◌++◌, ◌∷◌, [], OnOk, OnErr, IfOk, IsOk, length};
-ghost use Rattle.mr_history.specs.Line.{fits, is_map, is_length, suits, is_of, as_written};
+ghost use Rattle.mr_history.specs.Line.{fits, is_length, suits, is_of, as_written};
 
-use mr_ids::{AttemptId, TaskKind};
+use mr_ids::AttemptId;
 use std::alloc::{AllocError, Global};
 use std::marker::Model;
 
@@ -48,9 +48,9 @@ impl Record {
                 attempt,
                 node: _,
                 incarnation,
-            } => is_map(attempt.task().kind) && 1 <= incarnation,
+            } => attempt.task().kind.is_map() && 1 <= incarnation,
             Record::ReduceSucceeded { attempt, bytes } => {
-                !is_map(attempt.task().kind) && is_length(bytes)
+                attempt.task().kind.is_reduce() && is_length(bytes)
             }
             _ => true,
         }
@@ -97,15 +97,6 @@ fn is_length(bytes: Option<u32>) -> bool
     match bytes {
         None => true,
         Some(bytes) => bytes <= MAX_PART_LEN,
-    }
-}
-
-fn is_map(kind: TaskKind) -> bool
-    ensures { result ≡ is_map kind }
-{
-    match kind {
-        TaskKind::Map => true,
-        TaskKind::Reduce => false,
     }
 }
 

@@ -1,7 +1,7 @@
 -- The map outputs that lie on a node (Dean and Ghemawat 2004, section 3.1: the intermediate files of a map stay on its
 -- worker's local disk, from where the reduce workers read them). Which of them are kept, and until when, is our own profile.
-use Rattle.std.specs.Prelude.{◌≡◌, ◌↔◌, ℕ, true, false, Bool, List, [], ◌∷◌, Option, refl}
-use Rattle.std.specs.Coded.{Coded, code_by, coded×, coded_ℕ, coded_bool, coded_list}
+use Rattle.std.specs.Prelude.{◌≡◌, ◌↔◌, ℕ, true, List, [], ◌∷◌, Option, refl}
+use Rattle.std.specs.Coded.{Coded, code_by, coded×, coded_ℕ, coded_list}
 use Rattle.std.specs.Cmp.Lexicographic.{slice_cmp}
 use Rattle.std.specs.FinMap as finite
 use Rattle.std.specs.List.{slice_get}
@@ -9,6 +9,7 @@ use Rattle.std.specs.Option.{option_and_then}
 use Rattle.std.specs.Ordering.{nat_cmp, eq_by_cmp}
 use Rattle.std.specs.declared.cmp.Ordering.{Ordering}
 use Rattle.mr_ids.specs.Attempt.{Attempt}
+use Rattle.mr_ids.specs.Code.{attempt_code}
 use Rattle.mr_ids.specs.declared.id.TaskKind.{TaskKind}
 use Rattle.mr_ids.specs.declared.id.TaskKind.TheVariants.{Map, Reduce}
 use Rattle.mr_mapside.specs.Cutting.{cut}
@@ -49,24 +50,6 @@ without_outputs reduces = record { reduces = reduces; outputs = finite.empty }
 -- the block of a reduce in what was put of an attempt, if something was put that is so many blocks
 abbrev pub block_there : Shelf → Attempt → ℕ → Option (List ℕ)
 block_there shelf a reduce = option_and_then (λ bytes. option_and_then (λ blocks. slice_get blocks reduce) (cut shelf.reduces bytes)) (finite.get shelf.outputs a)
-
-abbrev pub is_map : TaskKind → Bool
-is_map Map = true
-is_map Reduce = false
-
-abbrev pub kind_of : Bool → TaskKind
-kind_of true = Map
-kind_of false = Reduce
-
-pub kind_back : (k : TaskKind) → kind_of (is_map k) ≡ k
-kind_back Map = refl
-kind_back Reduce = refl
-
-abbrev pub attempt_code : Coded Attempt
-attempt_code = code_by ((ℕ × ℕ) × ((Bool × ℕ) × ℕ)) (coded× (coded× coded_ℕ coded_ℕ) (coded× (coded× coded_bool coded_ℕ) coded_ℕ))
-    (λ a. ((a.task.job.start, a.task.job.number), ((is_map a.task.kind, a.task.number), a.number)))
-    (λ p. record { task = record { job = record { start = p.0.0; number = p.0.1 }; kind = kind_of p.1.0.0; number = p.1.0.1 }; number = p.1.1 })
-    (λ a i. record { task = record { job = a.task.job; kind = kind_back a.task.kind i; number = a.task.number }; number = a.number })
 
 abbrev pub shelf_code : Coded Shelf
 shelf_code = code_by (ℕ × Outputs) (coded× coded_ℕ (finite.code attempt_code (coded_list coded_ℕ))) (λ s. (s.reduces, s.outputs)) (λ p. record { reduces = p.0; outputs = p.1 }) (λ s. refl)

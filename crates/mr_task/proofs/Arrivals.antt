@@ -9,7 +9,7 @@ use Rattle.mr_grant.specs.Attempts.{same_attempt, has, first_of}
 use Rattle.mr_grant.proofs.Same.{same-is}
 use Rattle.mr_task.specs.declared.fault.TaskFault.{TaskFault}
 use Rattle.mr_task.specs.Calls.{TaskCall, Launches, Hears, Asks, Reports, Fails, Ends, Dies, Records, Recovers, Loses}
-use Rattle.mr_task.specs.Readings.{Seen, seen, next_seen, AreDistinct, is_reduce, is_live, is_won, may_accept, launch_refusal, next_attempt, first_number, numbered_up_to, may_recover, after_launch}
+use Rattle.mr_task.specs.Readings.{Seen, seen, next_seen, AreDistinct, is_reduce, is_live, is_won, may_accept, launch_refusal, next_attempt, first_attempt_number, numbered_up_to, may_recover, after_launch}
 use Rattle.mr_ids.proofs.Same.{task-is}
 use Rattle.mr_task.proofs.Same.{apart}
 use Rattle.mr_task.proofs.Lists.{has-append, distinct-append}
@@ -58,7 +58,7 @@ at t n = record { task = t; number = n }
 
 pub record Arrivals (t : TaskId) (k : ℕ) (s : Seen) : Type 0 where
   -- the numbers that are not given away are fresh
-  pub free : (n : ℕ) → s.numbered ≤ n → n < 1000 → has s.arrived (at t (first_number k + n)) ≡ false
+  pub free : (n : ℕ) → s.numbered ≤ n → n < 1000 → has s.arrived (at t (first_attempt_number k + n)) ≡ false
   pub distinct : AreDistinct s.arrived
   pub of_task : (a : Attempt) → has s.arrived a ≡ true → a.task ≡ t
 
@@ -67,8 +67,8 @@ fresh t k s a e = let m = may-launch s e in let room : nat_le 1000 s.numbered �
 
 launched : (t : TaskId) (k : ℕ) (s : Seen) → Arrivals t k s → is_none (launch_refusal s) ≡ true → Arrivals t k (after_launch t k s)
 launched t k s a e = record {
-  free = λ n low high. has-append s.arrived (next_attempt t k s) (at t (first_number k + n))
-      ∙ (λ i. a.free n (omega arith) high i || apart (at t (first_number k + n)) (next_attempt t k s) (λ same. omega arith) i);
+  free = λ n low high. has-append s.arrived (next_attempt t k s) (at t (first_attempt_number k + n))
+      ∙ (λ i. a.free n (omega arith) high i || apart (at t (first_attempt_number k + n)) (next_attempt t k s) (λ same. omega arith) i);
   distinct = distinct-append s.arrived (next_attempt t k s) a.distinct (fresh t k s a e);
   of_task = λ x there. by x (has s.arrived x) refl (same_attempt x (next_attempt t k s)) refl (sym (has-append s.arrived (next_attempt t k s) x) ∙ there);
 }
@@ -79,18 +79,18 @@ launched t k s a e = record {
     by x false e false f h = absurd (true≢false (sym h))
 
 -- the numbers above that of a recovered attempt are fresh
-above : (k m n : ℕ) → (b : Bool) → (nat_le (first_number k) m && nat_lt m (first_number k + 1000)) ≡ b → cond b (m - first_number k + 1) 0 ≤ n → n < 1000 → first_number k + n ≡ m → ⊥
+above : (k m n : ℕ) → (b : Bool) → (nat_le (first_attempt_number k) m && nat_lt m (first_attempt_number k + 1000)) ≡ b → cond b (m - first_attempt_number k + 1) 0 ≤ n → n < 1000 → first_attempt_number k + n ≡ m → ⊥
 above k m n true e low high same =
-    let from : nat_le (first_number k) m ≡ true = left _ _ e in
-    let is : first_number k ≤ m = grind (arith, nat_tests) in omega arith
+    let from : nat_le (first_attempt_number k) m ≡ true = left _ _ e in
+    let is : first_attempt_number k ≤ m = grind (arith, nat_tests) in omega arith
 above k m n false e low high same =
-    let from : nat_le (first_number k) m ≡ true = grind (arith, nat_tests) in
-    let below : nat_lt m (first_number k + 1000) ≡ true = grind (arith, nat_tests) in
+    let from : nat_le (first_attempt_number k) m ≡ true = grind (arith, nat_tests) in
+    let below : nat_lt m (first_attempt_number k + 1000) ≡ true = grind (arith, nat_tests) in
     absurd (true≢false (sym (λ i. from i && below i) ∙ e))
 
 recovered : (t : TaskId) (k : ℕ) (s : Seen) (b : Attempt) → same_task b.task t ≡ true → Arrivals t k (record s { arrived = b ∷ []; accepted = b ∷ []; recorded = b ∷ []; numbered = numbered_up_to k b })
 recovered t k s b own = record {
-  free = λ n low high. (λ i. apart (at t (first_number k + n)) b (λ same. above k b.number n (nat_le (first_number k) b.number && nat_lt b.number (first_number k + 1000)) refl low high same) i || false);
+  free = λ n low high. (λ i. apart (at t (first_attempt_number k + n)) b (λ same. above k b.number n (nat_le (first_attempt_number k) b.number && nat_lt b.number (first_attempt_number k + 1000)) refl low high same) i || false);
   distinct = (refl, tt);
   of_task = λ x there. by x (same_attempt x b) refl there;
 }
@@ -101,7 +101,7 @@ recovered t k s b own = record {
 
 same : (t : TaskId) (k : ℕ) (s r : Seen) → s.arrived ≡ r.arrived → s.numbered ≡ r.numbered → Arrivals t k r → Arrivals t k s
 same t k s r e f a = record {
-  free = λ n low high. ap (λ xs. has xs (at t (first_number k + n))) e ∙ a.free n (omega arith) high;
+  free = λ n low high. ap (λ xs. has xs (at t (first_attempt_number k + n))) e ∙ a.free n (omega arith) high;
   distinct = subst AreDistinct (sym e) a.distinct;
   of_task = λ x there. a.of_task x (sym (ap (λ xs. has xs x) e) ∙ there);
 }

@@ -14,7 +14,7 @@ use Rattle.mr_grant.specs.Attempts.{same_attempt, has, first_of}
 use Rattle.mr_grant.proofs.Same.{same-is, same-itself}
 use Rattle.mr_task.specs.declared.attempts.Entry.{Entry}
 use Rattle.mr_task.specs.Calls.{TaskCall, Launches, Recovers}
-use Rattle.mr_task.specs.Readings.{Seen, seen, next_seen, has_failed, is_live, failures, launch_refusal, next_attempt, numbered_up_to, may_recover, after_launch, only, events_by, events_of, state_of, winner, is_succeeded}
+use Rattle.mr_task.specs.Readings.{Seen, seen, next_seen, has_failed, is_live, failures, launch_refusal, next_attempt, first_attempt_number, numbered_up_to, may_recover, after_launch, only, events_by, events_of, state_of, winner, is_succeeded}
 use Rattle.mr_task.specs.State.{StandsFor, entry_of, kept, state_answer}
 use Rattle.mr_task.specs.Steps.{Task, entry_in, is_failed}
 use Rattle.mr_ids.proofs.Same.{task-itself}
@@ -104,10 +104,10 @@ none-stand t k = record { task = refl; app = refl; attempts = refl; askers = λ 
 -- ---- a launch
 
 abbrev pub new_attempt : Task → Attempt
-new_attempt m = record { task = m.task; number = 1000 * (m.app - 1) + m.numbered }
+new_attempt m = record { task = m.task; number = first_attempt_number m.app + m.numbered }
 
 pub new-is : (m : Task) (t : TaskId) (k : ℕ) (h : List TaskCall) → StandsFor m t k h → new_attempt m ≡ next_attempt t k (seen t k h)
-new-is m t k h st = λ i. record { task = st.task i; number = 1000 * (st.app i - 1) + st.numbered i }
+new-is m t k h st = λ i. record { task = st.task i; number = first_attempt_number (st.app i) + st.numbered i }
 
 pub new-absent : (m : Task) (t : TaskId) (k : ℕ) (h : List TaskCall) → StandsFor m t k h → launch_refusal (seen t k h) ≡ None → entry_in m.attempts (new_attempt m) ≡ None
 new-absent m t k h st none =

@@ -7,7 +7,7 @@ use Rattle.mr_grant.specs.Attempts.{has}
 use Rattle.mr_task.specs.Calls.{TaskCall, Reports, Fails, Ends, Dies}
 use Rattle.mr_attempt.specs.Table as table
 use Rattle.mr_task.specs.declared.fault.TaskFault.TheVariants.{AlreadyWon}
-use Rattle.mr_task.specs.Readings.{Seen, seen, state_of, is_live, stands, AreDistinct, is_over, is_won, failures, named, may_accept, launch_refusal, next_attempt, first_number, winner, succeeded}
+use Rattle.mr_task.specs.Readings.{Seen, seen, state_of, is_live, stands, AreDistinct, is_over, is_won, failures, named, may_accept, launch_refusal, next_attempt, first_attempt_number, winner, succeeded}
 
 -- The name moves only when the named attempt is over.
 abbrev pub NameStays : Type 0
@@ -50,7 +50,7 @@ pub record NoFailures : Type 0 where
 pub record NumbersAreFresh : Type 0 where
   pub distinct : (t : TaskId) (k : ℕ) (calls : List TaskCall) → AreDistinct (seen t k calls).arrived
   pub fresh : (t : TaskId) (k : ℕ) (calls : List TaskCall) → launch_refusal (seen t k calls) ≡ None → has (seen t k calls).arrived (next_attempt t k (seen t k calls)) ≡ false
-  pub from : (t : TaskId) (k : ℕ) (calls : List TaskCall) → first_number k ≤ (next_attempt t k (seen t k calls)).number
+  pub from : (t : TaskId) (k : ℕ) (calls : List TaskCall) → first_attempt_number k ≤ (next_attempt t k (seen t k calls)).number
   pub below : (t : TaskId) (k : ℕ) (calls : List TaskCall) → 1 ≤ k → launch_refusal (seen t k calls) ≡ None → (next_attempt t k (seen t k calls)).number < 1000 * k
 
 -- The state of an attempt tells what was heard of it, the Succeeded attempt is the one whose record was heard and whose output

@@ -6,7 +6,7 @@
 -- umbilical protocol and then asks `canCommit` until it hears yes (`TaskImpl.canCommit`, `TaskImpl` on a failed commit attempt).
 -- That those who ask later wait in order, that the name is for good once `Done` of the named attempt was heard, what counts as a
 -- failure, the limits and the numbers are our own profile.
-use Rattle.std.specs.Prelude.{◌≡◌, ℕ, ◌+◌, ◌-◌, ◌*◌, Bool, true, false, ◌&&◌, ◌||◌, not, nat_le, nat_lt, List, [], ◌∷◌, ◌++◌, filter, count_by, Option, Some, None, is_none, if◌then◌else◌}
+use Rattle.std.specs.Prelude.{◌≡◌, ℕ, ◌+◌, ◌-◌, Bool, true, false, ◌&&◌, ◌||◌, not, nat_le, nat_lt, List, [], ◌∷◌, ◌++◌, filter, count_by, Option, Some, None, is_none, if◌then◌else◌}
 use Rattle.std.specs.List.{list_any, find}
 use Rattle.mr_ids.specs.Attempt.{Attempt}
 use Rattle.mr_ids.specs.declared.id.TaskId.{TaskId}
@@ -18,6 +18,8 @@ use Rattle.mr_attempt.specs.declared.state.AttemptEvent.{AttemptEvent}
 use Rattle.mr_attempt.specs.declared.state.AttemptEvent.TheVariants as event
 use Rattle.mr_attempt.specs.Table.{state_after}
 use Rattle.mr_ids.specs.Same.{same_task}
+pub use Rattle.mr_ids.specs.Kind.{is_reduce}
+pub use Rattle.mr_ids.specs.Generations.{first_attempt_number}
 use Rattle.mr_grant.specs.Attempts.{same_attempt, has, first_of, is_first}
 use Rattle.mr_task.specs.declared.fault.TaskFault.{TaskFault}
 use Rattle.mr_task.specs.declared.fault.TaskFault.TheVariants.{AlreadyWon, TooManyLive, TooManyAttempts}
@@ -121,13 +123,9 @@ refusal_of won live_ones numbers =
 abbrev pub launch_refusal : Seen → Option TaskFault
 launch_refusal s = refusal_of (is_won s) (count_by (is_live s) s.arrived) s.numbered
 
--- the first number of generation k
-abbrev pub first_number : ℕ → ℕ
-first_number k = 1000 * (k - 1)
-
 -- the attempt that generation k launches next
 abbrev pub next_attempt : TaskId → ℕ → Seen → Attempt
-next_attempt t k s = record { task = t; number = first_number k + s.numbered }
+next_attempt t k s = record { task = t; number = first_attempt_number k + s.numbered }
 
 -- only a task with no attempt recovers one, and only its own
 abbrev pub may_recover : TaskId → Seen → Attempt → Bool
@@ -136,7 +134,7 @@ may_recover t s a = is_none (first_of s.arrived) && same_task a.task t
 -- a recovered attempt that has a number of generation k was launched by it, and so were those with lower numbers
 abbrev pub numbered_up_to : ℕ → Attempt → ℕ
 numbered_up_to k a =
-    if nat_le (first_number k) a.number && nat_lt a.number (first_number k + 1000) then a.number - first_number k + 1 else 0
+    if nat_le (first_attempt_number k) a.number && nat_lt a.number (first_attempt_number k + 1000) then a.number - first_attempt_number k + 1 else 0
 
 -- ---- what is heard. Whatever is said of an unknown attempt is not heard
 
@@ -145,10 +143,6 @@ after_launch t k s = record s { arrived = s.arrived ++ next_attempt t k s ∷ []
 
 abbrev pub after_ask : Seen → Attempt → Seen
 after_ask s a = if has s.arrived a && not (has s.asked a) then record s { asked = s.asked ++ a ∷ [] } else s
-
-abbrev pub is_reduce : TaskKind → Bool
-is_reduce Reduce = true
-is_reduce Map = false
 
 abbrev pub after_done : Seen → Attempt → Seen
 after_done s a = if may_accept s a then record s { accepted = a ∷ s.accepted; is_fixed = is_reduce a.task.kind || s.is_fixed } else s

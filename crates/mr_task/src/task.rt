@@ -3,7 +3,7 @@ ghost use Rattle.std.specs.Prelude.{◌≡◌, ◌≤◌, ◌<◌, ◌+◌, ◌*
 ghost use Rattle.mr_attempt.specs.Table.{is_live};
 ghost use Rattle.mr_grant.specs.Attempts.{has, is_first};
 ghost use Rattle.mr_task.specs.Calls.{Launches, Hears, Asks, Reports, Fails, Ends, Dies, Records, Recovers, Loses};
-ghost use Rattle.mr_task.specs.Readings.{seen, named, is_named, failures, is_won, winner, launch_refusal, next_attempt, refusal_of, numbered_up_to};
+ghost use Rattle.mr_task.specs.Readings.{seen, named, is_named, failures, first_attempt_number, is_won, winner, launch_refusal, next_attempt, refusal_of, numbered_up_to};
 ghost use Rattle.mr_task.specs.State.{StandsFor, StandsForSome, StandsAfterSome, Stands, Answers, known, launch_answer, done_answer, state_answer, fault_or};
 ghost use Rattle.mr_task.specs.Steps.{entry_in, if_there, noted, ended, asked, done};
 
@@ -116,7 +116,7 @@ impl TaskMachine {
         self.app
     }
 
-    /// Launches an attempt, whose number is the next of this generation: generation k numbers from `1000 * (k - 1)`.
+    /// Launches an attempt, whose number is the next of this generation, from `AppAttempt::first_attempt_number` on.
     ///
     /// Refusals in order: `AlreadyWon` where an attempt is Recording or Succeeded, `TooManyLive` at two live attempts,
     /// `TooManyAttempts` after 1,000 numbers, `NoMemory`. A refused launch changes nothing.
@@ -158,10 +158,10 @@ impl TaskMachine {
     /// The attempt that the next `launch` gives, while this generation has numbers left (`launch_refusal` answers none).
     pub fn next_attempt(&self) -> AttemptId
         requires { self.now.numbered < 1000 }
-        ensures attempt { result ≡ record { task = self.now.task; number = 1000 * (self.now.app - 1) + self.now.numbered } }
+        ensures attempt { result ≡ record { task = self.now.task; number = first_attempt_number self.now.app + self.now.numbered } }
         ensures next { Answers self.now (λ t k calls. next_attempt t k (seen t k calls)) result }
     {
-        AttemptId::new(self.task, first_number(self.app) + self.numbered).unwrap()
+        AttemptId::new(self.task, self.app.first_attempt_number() + self.numbered).unwrap()
     }
 
     /// The attempt was heard of.
@@ -470,20 +470,12 @@ fn refusal(won: bool, live: usize, numbered: u32) -> Option<TaskFault>
     }
 }
 
-// The first number of a generation.
-fn first_number(app: AppAttempt) -> u32
-    ensures first { result ≡ 1000 * (app - 1) }
-    ensures range { result ≤ 999000 }
-{
-    1000 * (app.number() - 1)
-}
-
 // How many numbers of the generation a recovered attempt shows to be given away.
 fn numbered_up_to(app: AppAttempt, attempt: &AttemptId) -> u32
     ensures count { result ≡ numbered_up_to app attempt.now }
     ensures range { result ≤ 1000 }
 {
-    let first = first_number(app);
+    let first = app.first_attempt_number();
     let number = attempt.number();
     if first <= number && number < first + MAX_LAUNCHES {
         number - first + 1
