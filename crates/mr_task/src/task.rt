@@ -1,5 +1,5 @@
 //! The machine of one task under one master: its attempts, which of them may commit, which was accepted, how many failed. A master keeps one for each task.
-ghost use Rattle.std.specs.Prelude.{◌≡◌, ◌≤◌, ◌<◌, ◌+◌, ◌*◌, ◌-◌, [], ◌∷◌, length, if◌then◌else◌, true, false, Some, None, Ok, Err, IfOk, OnOk, OnErr, IfErr, IfNone, IsOkUnless, unwrap_or, not};
+ghost use Rattle.std.specs.Prelude.{◌≡◌, ◌≤◌, ◌<◌, ◌+◌, [], ◌∷◌, length, if◌then◌else◌, true, false, Some, None, Ok, Err, IfOk, OnOk, OnErr, IfErr, IfNone, IsOkUnless, unwrap_or, not};
 ghost use Rattle.mr_attempt.specs.Table.{is_live};
 ghost use Rattle.mr_grant.specs.Attempts.{has, is_first};
 ghost use Rattle.mr_task.specs.Calls.{Launches, Hears, Asks, Reports, Fails, Ends, Dies, Records, Recovers, Loses};
