@@ -1,5 +1,5 @@
 -- The line of a record: JSON with no space, its keys in this order. The form of the lines is our own profile.
-use Rattle.std.specs.Prelude.{◌≡◌, ◌≤◌, ◌<◌, ◌^◌, ◌+◌, ◌-◌, ℕ, Bool, true, false, ◌&&◌, nat_eq, nat_le, List, [], ◌∷◌, ◌++◌, length, flat_map, codes, decimal, Option, Some, None, is_some, is_none, if◌then◌else◌}
+use Rattle.std.specs.Prelude.{◌≡◌, ◌≤◌, ◌<◌, ◌^◌, ◌+◌, ◌-◌, ℕ, Bool, true, ◌&&◌, nat_eq, nat_le, List, [], ◌∷◌, ◌++◌, length, flat_map, codes, decimal, Option, Some, None, is_some, is_none, if◌then◌else◌}
 use Rattle.mr_ids.specs.Text.{attempt_text, numeral, IsAttempt}
 pub use Rattle.mr_ids.specs.Kind.{is_map, is_reduce}
 use Rattle.mr_history.specs.declared.record.TheConstants.{MAX_PART_LEN}
