@@ -1,8 +1,9 @@
 -- What follows from the readings alone, for every past.
 use Rattle.std.specs.Prelude.{◌≡◌, ◌<◌, ℕ, length, Bool, true, false, ◌&&◌, ◌||◌, List, [], ◌∷◌, ◌++◌, map, Some}
 use Rattle.mr_ids.specs.Attempt.{Attempt}
+pub use Rattle.mr_ids.specs.Kind.{is_reduce}
 use Rattle.mr_ids.specs.declared.id.TaskKind.{TaskKind}
-use Rattle.mr_ids.specs.declared.id.TaskKind.TheVariants.{Map, Reduce}
+use Rattle.mr_ids.specs.declared.id.TaskKind.TheVariants.{Reduce}
 use Rattle.mr_packet.specs.declared.packet.Packet.{Packet}
 use Rattle.mr_packet.specs.declared.packet.Packet.TheVariants as packet
 use Rattle.mr_commit.specs.Line.{Line, op_of}
@@ -27,10 +28,6 @@ is_yes x (Calls op r) = false
 unfoldable pub was_told_yes : Attempt → List Step → Bool
 was_told_yes x [] = false
 was_told_yes x (step ∷ h) = is_yes x step || was_told_yes x h
-
-abbrev pub is_reduce : TaskKind → Bool
-is_reduce Reduce = true
-is_reduce Map = false
 
 -- it commits its task, or reports that it did
 unfoldable pub commits : TaskKind → Wish → Bool

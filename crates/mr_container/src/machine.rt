@@ -16,7 +16,7 @@ use crate::wish::{Wish, is_same};
 use mr_ids::{AppAttempt, AttemptId, TaskKind};
 use mr_names::{Caller, Op};
 use mr_packet::{Address, Bag, Bytes, ContainerId, Envelope, Packet};
-use mr_paths::{Layout, Path};
+use mr_paths::{Layout, Path, part_name};
 use std::alloc::{AllocError, Global};
 use std::marker::Model;
 
@@ -474,15 +474,21 @@ fn wished_op(
 {
     Ok(match wish {
         Wish::Mkdirs => Some(Op::Mkdirs(layout.task_attempt(k, a)?)),
-        Wish::Create => Some(Op::Create(part_path(layout, k, a)?, false)),
-        Wish::Write => Some(Op::Append(part_path(layout, k, a)?, store_bytes(written)?)),
+        Wish::Create => Some(Op::Create {
+            path: part_path(layout, k, a)?,
+            closed: false,
+        }),
+        Wish::Write => Some(Op::Append {
+            path: part_path(layout, k, a)?,
+            bytes: store_bytes(written)?,
+        }),
         Wish::Close => Some(Op::Close(part_path(layout, k, a)?)),
         Wish::Needs | Wish::Look => Some(Op::Exists(layout.task_attempt(k, a)?)),
         Wish::Clear => Some(Op::Delete(layout.committed(k, a.task())?)),
-        Wish::Rename => Some(Op::Rename(
-            layout.task_attempt(k, a)?,
-            layout.committed(k, a.task())?,
-        )),
+        Wish::Rename => Some(Op::Rename {
+            from: layout.task_attempt(k, a)?,
+            to: layout.committed(k, a.task())?,
+        }),
         Wish::Abort => Some(Op::Delete(layout.task_attempt(k, a)?)),
         Wish::Where { .. }
         | Wish::Fetch { .. }
@@ -500,7 +506,7 @@ fn part_path(layout: &Layout, k: AppAttempt, a: AttemptId) -> Result<Path, Alloc
     ensures { IfOk result (λ path. path ≡ part_path layout.now.dest k a) }
 {
     let mut path = layout.task_attempt(k, a)?;
-    path.push(layout.part(a.task().number)?)?;
+    path.push(part_name(path.allocator(), a.task().number)?)?;
     Ok(path)
 }
 
