@@ -44,7 +44,7 @@ abbrev pub lost_in : View → Attempt → View
 lost_in v a = if can_lose v a then with_loss v a else v
 
 abbrev with_launch : TaskId → ℕ → View → View
-with_launch t k v = record v { arrived = v.arrived ++ record { task = t; number = task.first_number k + v.numbered } ∷ []; numbered = v.numbered + 1 }
+with_launch t k v = record v { arrived = v.arrived ++ record { task = t; number = task.first_attempt_number k + v.numbered } ∷ []; numbered = v.numbered + 1 }
 
 abbrev recovered_in : TaskId → ℕ → View → Attempt → View
 recovered_in t k v a =

@@ -1,6 +1,8 @@
 -- What the four facts need beside them: of a recorded attempt's rivals, of the newest committed directory, of yeses, ends and failed commits.
 use Rattle.std.proofs.Common.{ℕ, zero, suc, ◌≤◌, ◌<◌, ◌+◌, ◌*◌, ◌-◌, ◌/◌, ◌≡◌, refl, sym, ◌∙◌, subst, true, false, List, ◌++◌, Option, Some, None, is_some, is_none, ◌⊎◌, inl, inr, arith}
 use Rattle.std.proofs.lemmas.Bool.{false≢true, true≢false}
+use Rattle.mr_ids.specs.Generations.{first_attempt_number, generation_of}
+use Rattle.mr_ids.proofs.Generations.{only_own}
 use Rattle.mr_model.specs.Ids.{Attempt, ContainerId, is_reduce, generation}
 use Rattle.mr_model.specs.Records.{ReduceSucceeded, History, Record, records_below}
 use Rattle.mr_model.specs.Packets.{Config, Answer, Done}
@@ -68,8 +70,8 @@ launched-at cfg w kn k a i d =
 pub numbers-always : (cfg : Config) (within : Limits) (es : List Event) → Numbers cfg (world_of cfg within es)
 numbers-always cfg within es = along (Numbers cfg) cfg within (λ w e o n. numbers cfg w e o n) opening_world es (opening-numbers cfg)
 
-generation-is : (n k : ℕ) → 1 ≤ k → 1000 * (k - 1) ≤ n → n < 1000 * (k - 1) + 1000 → suc (n / 1000) ≡ k
-generation-is n k p l u = omega arith
+generation-is : (n k : ℕ) → 1 ≤ k → first_attempt_number k ≤ n → n < first_attempt_number k + 1000 → generation_of n ≡ k
+generation-is n k p l u = only_own n k p l (omega arith)
 
 pub in-generation : (cfg : Config) (w : World) → Numbers cfg w → Known cfg w → (k : ℕ) (a : Attempt) → In a (seen_by cfg w k).accepted → is_reduce a ≡ true → generation a ≡ k
 in-generation cfg w o kn k a i d = let l = launched-at cfg w kn k a i d in let r : IsNumbered k l.launch = o.ranged k l.launch l.here in

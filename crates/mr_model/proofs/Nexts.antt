@@ -79,7 +79,7 @@ with_block blocks (Some block) = blocks ++ block ∷ []
 
 -- two attempts are one alike
 pub same-attempt : (a b : Attempt) → container.same_attempt a b ≡ attempt_eq a b
-unfolding task_eq
+unfolding task_eq container.same_attempt
 same-attempt a b = refl
 
 -- a function of one of two, by a test
@@ -114,7 +114,7 @@ module _ (maps : ℕ) (x : Attempt) (p : container.Pieces) (text : List ℕ) whe
   At v = record { wish = v; pieces = p; result = text }
 
   awaited-is : (a : Attempt) (n i : ℕ) (b : Attempt) (r o : ℕ) → container.is_awaited x (At (wished.Fetch a n i)) b r o ≡ is_awaited x a p.got b r o
-  unfolding task_eq
+  unfolding task_eq container.same_attempt
   awaited-is a n i b r o = refl
 
   -- a piece that is waited for

@@ -97,35 +97,35 @@ abbrev m1 : Small.Small
 m1 = Small.called m0 (Names (Exist commit_success))
 
 r1 : Reached m1
-unfolding duty_of next_seen told phase_told seen heard winners_of winner_in length_in newest_maps named_in wish container.seen container.next_seen container.after_packet container.wish_called computed wished_op wished_packet generation_name attempt_name task_name part_name layout.part task_eq to_all
+unfolding duty_of next_seen told phase_told seen heard winners_of winner_in length_in newest_maps named_in wish container.seen container.next_seen container.after_packet container.same_attempt container.wish_called computed wished_op wished_packet generation_name attempt_name task_name part_name layout.part task_eq to_all
 r1 = duties r0 (Names (Exist commit_success)) refl refl
 
 abbrev m2 : Small.Small
 m2 = Small.called m1 (Names (Exist commit_fail))
 
 r2 : Reached m2
-unfolding duty_of next_seen told phase_told seen heard winners_of winner_in length_in newest_maps named_in wish container.seen container.next_seen container.after_packet container.wish_called computed wished_op wished_packet generation_name attempt_name task_name part_name layout.part task_eq to_all
+unfolding duty_of next_seen told phase_told seen heard winners_of winner_in length_in newest_maps named_in wish container.seen container.next_seen container.after_packet container.same_attempt container.wish_called computed wished_op wished_packet generation_name attempt_name task_name part_name layout.part task_eq to_all
 r2 = duties r1 (Names (Exist commit_fail)) refl refl
 
 abbrev m3 : Small.Small
 m3 = Small.called m2 (Names (Exist commit_started))
 
 r3 : Reached m3
-unfolding duty_of next_seen told phase_told seen heard winners_of winner_in length_in newest_maps named_in wish container.seen container.next_seen container.after_packet container.wish_called computed wished_op wished_packet generation_name attempt_name task_name part_name layout.part task_eq to_all
+unfolding duty_of next_seen told phase_told seen heard winners_of winner_in length_in newest_maps named_in wish container.seen container.next_seen container.after_packet container.same_attempt container.wish_called computed wished_op wished_packet generation_name attempt_name task_name part_name layout.part task_eq to_all
 r3 = duties r2 (Names (Exist commit_started)) refl refl
 
 abbrev m4 : Small.Small
 m4 = Small.called m3 (Read_history)
 
 r4 : Reached m4
-unfolding duty_of next_seen told phase_told seen heard winners_of winner_in length_in newest_maps named_in wish container.seen container.next_seen container.after_packet container.wish_called computed wished_op wished_packet generation_name attempt_name task_name part_name layout.part task_eq to_all
+unfolding duty_of next_seen told phase_told seen heard winners_of winner_in length_in newest_maps named_in wish container.seen container.next_seen container.after_packet container.same_attempt container.wish_called computed wished_op wished_packet generation_name attempt_name task_name part_name layout.part task_eq to_all
 r4 = duties r3 (Read_history) refl refl
 
 abbrev m5 : Small.Small
 m5 = Small.called m4 (Names (MkDirs (job_attempt 1)))
 
 r5 : Reached m5
-unfolding duty_of next_seen told phase_told seen heard winners_of winner_in length_in newest_maps named_in wish container.seen container.next_seen container.after_packet container.wish_called computed wished_op wished_packet generation_name attempt_name task_name part_name layout.part task_eq to_all
+unfolding duty_of next_seen told phase_told seen heard winners_of winner_in length_in newest_maps named_in wish container.seen container.next_seen container.after_packet container.same_attempt container.wish_called computed wished_op wished_packet generation_name attempt_name task_name part_name layout.part task_eq to_all
 r5 = duties r4 (Names (MkDirs (job_attempt 1))) refl refl
 
 -- it launches the reduce, whose container starts and has its result
@@ -134,21 +134,21 @@ abbrev m6 : Small.Small
 m6 = Small.launched m5
 
 r6 : Reached m6
-unfolding duty_of next_seen told phase_told seen heard winners_of winner_in length_in newest_maps named_in wish container.seen container.next_seen container.after_packet container.wish_called computed wished_op wished_packet generation_name attempt_name task_name part_name layout.part task_eq to_all
+unfolding duty_of next_seen told phase_told seen heard winners_of winner_in length_in newest_maps named_in wish container.seen container.next_seen container.after_packet container.same_attempt container.wish_called computed wished_op wished_packet generation_name attempt_name task_name part_name layout.part task_eq to_all
 r6 = after r5 (LaunchOn 1 Small.t0 0) _ (Small.on-launch r5.stands refl refl)
 
 abbrev m7 : Small.Small
 m7 = Small.obeyed_by m6
 
 r7 : Reached m7
-unfolding duty_of next_seen told phase_told seen heard winners_of winner_in length_in newest_maps named_in wish container.seen container.next_seen container.after_packet container.wish_called computed wished_op wished_packet generation_name attempt_name task_name part_name layout.part task_eq to_all
+unfolding duty_of next_seen told phase_told seen heard winners_of winner_in length_in newest_maps named_in wish container.seen container.next_seen container.after_packet container.same_attempt container.wish_called computed wished_op wished_packet generation_name attempt_name task_name part_name layout.part task_eq to_all
 r7 = after r6 (Deliver 0) _ (Small.on-obey r6.stands 0 refl refl)
 
 abbrev m8 : Small.Small
 m8 = Small.stepped m7 (Computed text) []
 
 r8 : Reached m8
-unfolding duty_of next_seen told phase_told seen heard winners_of winner_in length_in newest_maps named_in wish container.seen container.next_seen container.after_packet container.wish_called computed wished_op wished_packet generation_name attempt_name task_name part_name layout.part task_eq to_all
+unfolding duty_of next_seen told phase_told seen heard winners_of winner_in length_in newest_maps named_in wish container.seen container.next_seen container.after_packet container.same_attempt container.wish_called computed wished_op wished_packet generation_name attempt_name task_name part_name layout.part task_eq to_all
 r8 = after r7 (Compute Small.c0 text) _ (Small.on-result r7.stands text refl refl refl)
 
 -- so far
@@ -167,7 +167,7 @@ k8 = record {
 }
 
 s8 : Reached k8
-unfolding duty_of next_seen told phase_told seen heard winners_of winner_in length_in newest_maps named_in wish container.seen container.next_seen container.after_packet container.wish_called computed wished_op wished_packet generation_name attempt_name task_name part_name layout.part task_eq to_all
+unfolding duty_of next_seen told phase_told seen heard winners_of winner_in length_in newest_maps named_in wish container.seen container.next_seen container.after_packet container.same_attempt container.wish_called computed wished_op wished_packet generation_name attempt_name task_name part_name layout.part task_eq to_all
 s8 = r8
 
 -- it writes its file
@@ -176,35 +176,35 @@ abbrev m9 : Small.Small
 m9 = Small.called_by k8 (MkDirs (task_attempt 1 Small.a0))
 
 r9 : Reached m9
-unfolding duty_of next_seen told phase_told seen heard winners_of winner_in length_in newest_maps named_in wish container.seen container.next_seen container.after_packet container.wish_called computed wished_op wished_packet generation_name attempt_name task_name part_name layout.part task_eq to_all
+unfolding duty_of next_seen told phase_told seen heard winners_of winner_in length_in newest_maps named_in wish container.seen container.next_seen container.after_packet container.same_attempt container.wish_called computed wished_op wished_packet generation_name attempt_name task_name part_name layout.part task_eq to_all
 r9 = calls s8 (MkDirs (task_attempt 1 Small.a0)) refl refl refl refl refl refl
 
 abbrev m10 : Small.Small
 m10 = Small.called_by m9 (Create (part_at 1 Small.a0) false)
 
 r10 : Reached m10
-unfolding duty_of next_seen told phase_told seen heard winners_of winner_in length_in newest_maps named_in wish container.seen container.next_seen container.after_packet container.wish_called computed wished_op wished_packet generation_name attempt_name task_name part_name layout.part task_eq to_all
+unfolding duty_of next_seen told phase_told seen heard winners_of winner_in length_in newest_maps named_in wish container.seen container.next_seen container.after_packet container.same_attempt container.wish_called computed wished_op wished_packet generation_name attempt_name task_name part_name layout.part task_eq to_all
 r10 = calls r9 (Create (part_at 1 Small.a0) false) refl refl refl refl refl refl
 
 abbrev m11 : Small.Small
 m11 = Small.called_by m10 (Append (part_at 1 Small.a0) text)
 
 r11 : Reached m11
-unfolding duty_of next_seen told phase_told seen heard winners_of winner_in length_in newest_maps named_in wish container.seen container.next_seen container.after_packet container.wish_called computed wished_op wished_packet generation_name attempt_name task_name part_name layout.part task_eq to_all
+unfolding duty_of next_seen told phase_told seen heard winners_of winner_in length_in newest_maps named_in wish container.seen container.next_seen container.after_packet container.same_attempt container.wish_called computed wished_op wished_packet generation_name attempt_name task_name part_name layout.part task_eq to_all
 r11 = calls r10 (Append (part_at 1 Small.a0) text) refl refl refl refl refl refl
 
 abbrev m12 : Small.Small
 m12 = Small.called_by m11 (Close (part_at 1 Small.a0))
 
 r12 : Reached m12
-unfolding duty_of next_seen told phase_told seen heard winners_of winner_in length_in newest_maps named_in wish container.seen container.next_seen container.after_packet container.wish_called computed wished_op wished_packet generation_name attempt_name task_name part_name layout.part task_eq to_all
+unfolding duty_of next_seen told phase_told seen heard winners_of winner_in length_in newest_maps named_in wish container.seen container.next_seen container.after_packet container.same_attempt container.wish_called computed wished_op wished_packet generation_name attempt_name task_name part_name layout.part task_eq to_all
 r12 = calls r11 (Close (part_at 1 Small.a0)) refl refl refl refl refl refl
 
 abbrev m13 : Small.Small
 m13 = Small.called_by m12 (Exist (task_attempt 1 Small.a0))
 
 r13 : Reached m13
-unfolding duty_of next_seen told phase_told seen heard winners_of winner_in length_in newest_maps named_in wish container.seen container.next_seen container.after_packet container.wish_called computed wished_op wished_packet generation_name attempt_name task_name part_name layout.part task_eq to_all
+unfolding duty_of next_seen told phase_told seen heard winners_of winner_in length_in newest_maps named_in wish container.seen container.next_seen container.after_packet container.same_attempt container.wish_called computed wished_op wished_packet generation_name attempt_name task_name part_name layout.part task_eq to_all
 r13 = calls r12 (Exist (task_attempt 1 Small.a0)) refl refl refl refl refl refl
 
 abbrev past13 : List Step
@@ -218,7 +218,7 @@ k13 = record k8 {
 }
 
 s13 : Reached k13
-unfolding duty_of next_seen told phase_told seen heard winners_of winner_in length_in newest_maps named_in wish container.seen container.next_seen container.after_packet container.wish_called computed wished_op wished_packet generation_name attempt_name task_name part_name layout.part task_eq to_all
+unfolding duty_of next_seen told phase_told seen heard winners_of winner_in length_in newest_maps named_in wish container.seen container.next_seen container.after_packet container.same_attempt container.wish_called computed wished_op wished_packet generation_name attempt_name task_name part_name layout.part task_eq to_all
 s13 = r13
 
 -- asks whether it may commit, and is told yes
@@ -227,21 +227,21 @@ abbrev m14 : Small.Small
 m14 = Small.stepped k13 (Sent (Pending Small.a0)) (to_app 1 (Pending Small.a0) ∷ [])
 
 r14 : Reached m14
-unfolding duty_of next_seen told phase_told seen heard winners_of winner_in length_in newest_maps named_in wish container.seen container.next_seen container.after_packet container.wish_called computed wished_op wished_packet generation_name attempt_name task_name part_name layout.part task_eq to_all
+unfolding duty_of next_seen told phase_told seen heard winners_of winner_in length_in newest_maps named_in wish container.seen container.next_seen container.after_packet container.same_attempt container.wish_called computed wished_op wished_packet generation_name attempt_name task_name part_name layout.part task_eq to_all
 r14 = sends s13 (to_app 1 (Pending Small.a0)) refl refl refl refl refl refl
 
 abbrev m15 : Small.Small
 m15 = Small.heard_of m14 (Pending Small.a0)
 
 r15 : Reached m15
-unfolding duty_of next_seen told phase_told seen heard winners_of winner_in length_in newest_maps named_in wish container.seen container.next_seen container.after_packet container.wish_called computed wished_op wished_packet generation_name attempt_name task_name part_name layout.part task_eq to_all
+unfolding duty_of next_seen told phase_told seen heard winners_of winner_in length_in newest_maps named_in wish container.seen container.next_seen container.after_packet container.same_attempt container.wish_called computed wished_op wished_packet generation_name attempt_name task_name part_name layout.part task_eq to_all
 r15 = after r14 (Deliver 1) _ (Small.on-packet r14.stands 1 (Pending Small.a0) refl)
 
 abbrev m16 : Small.Small
 m16 = Small.stepped m15 (Got (Answer Small.a0 true)) []
 
 r16 : Reached m16
-unfolding duty_of next_seen told phase_told seen heard winners_of winner_in length_in newest_maps named_in wish container.seen container.next_seen container.after_packet container.wish_called computed wished_op wished_packet generation_name attempt_name task_name part_name layout.part task_eq to_all
+unfolding duty_of next_seen told phase_told seen heard winners_of winner_in length_in newest_maps named_in wish container.seen container.next_seen container.after_packet container.same_attempt container.wish_called computed wished_op wished_packet generation_name attempt_name task_name part_name layout.part task_eq to_all
 r16 = after r15 (Deliver 2) _ (Small.on-got r15.stands 2 (Answer Small.a0 true) refl refl refl refl)
 
 -- commits, and reports
@@ -250,28 +250,28 @@ abbrev m17 : Small.Small
 m17 = Small.called_by m16 (Exist (task_attempt 1 Small.a0))
 
 r17 : Reached m17
-unfolding duty_of next_seen told phase_told seen heard winners_of winner_in length_in newest_maps named_in wish container.seen container.next_seen container.after_packet container.wish_called computed wished_op wished_packet generation_name attempt_name task_name part_name layout.part task_eq to_all
+unfolding duty_of next_seen told phase_told seen heard winners_of winner_in length_in newest_maps named_in wish container.seen container.next_seen container.after_packet container.same_attempt container.wish_called computed wished_op wished_packet generation_name attempt_name task_name part_name layout.part task_eq to_all
 r17 = calls r16 (Exist (task_attempt 1 Small.a0)) refl refl refl refl refl refl
 
 abbrev m18 : Small.Small
 m18 = Small.called_by m17 (Delete (committed 1 Small.t0))
 
 r18 : Reached m18
-unfolding duty_of next_seen told phase_told seen heard winners_of winner_in length_in newest_maps named_in wish container.seen container.next_seen container.after_packet container.wish_called computed wished_op wished_packet generation_name attempt_name task_name part_name layout.part task_eq to_all
+unfolding duty_of next_seen told phase_told seen heard winners_of winner_in length_in newest_maps named_in wish container.seen container.next_seen container.after_packet container.same_attempt container.wish_called computed wished_op wished_packet generation_name attempt_name task_name part_name layout.part task_eq to_all
 r18 = calls r17 (Delete (committed 1 Small.t0)) refl refl refl refl refl refl
 
 abbrev m19 : Small.Small
 m19 = Small.called_by m18 (Rename (task_attempt 1 Small.a0) (committed 1 Small.t0))
 
 r19 : Reached m19
-unfolding duty_of next_seen told phase_told seen heard winners_of winner_in length_in newest_maps named_in wish container.seen container.next_seen container.after_packet container.wish_called computed wished_op wished_packet generation_name attempt_name task_name part_name layout.part task_eq to_all
+unfolding duty_of next_seen told phase_told seen heard winners_of winner_in length_in newest_maps named_in wish container.seen container.next_seen container.after_packet container.same_attempt container.wish_called computed wished_op wished_packet generation_name attempt_name task_name part_name layout.part task_eq to_all
 r19 = calls r18 (Rename (task_attempt 1 Small.a0) (committed 1 Small.t0)) refl refl refl refl refl refl
 
 abbrev m20 : Small.Small
 m20 = Small.stepped m19 (Sent (Done Small.a0 (Some 2))) (to_app 1 (Done Small.a0 (Some 2)) ∷ [])
 
 r20 : Reached m20
-unfolding duty_of next_seen told phase_told seen heard winners_of winner_in length_in newest_maps named_in wish container.seen container.next_seen container.after_packet container.wish_called computed wished_op wished_packet generation_name attempt_name task_name part_name layout.part task_eq to_all
+unfolding duty_of next_seen told phase_told seen heard winners_of winner_in length_in newest_maps named_in wish container.seen container.next_seen container.after_packet container.same_attempt container.wish_called computed wished_op wished_packet generation_name attempt_name task_name part_name layout.part task_eq to_all
 r20 = sends r19 (to_app 1 (Done Small.a0 (Some 2))) refl refl refl refl refl refl
 
 abbrev past20 : List Step
@@ -294,14 +294,14 @@ k20 = record k8 {
 }
 
 s20 : Reached k20
-unfolding duty_of next_seen told phase_told seen heard winners_of winner_in length_in newest_maps named_in wish container.seen container.next_seen container.after_packet container.wish_called computed wished_op wished_packet generation_name attempt_name task_name part_name layout.part task_eq to_all
+unfolding duty_of next_seen told phase_told seen heard winners_of winner_in length_in newest_maps named_in wish container.seen container.next_seen container.after_packet container.same_attempt container.wish_called computed wished_op wished_packet generation_name attempt_name task_name part_name layout.part task_eq to_all
 s20 = r20
 
 abbrev m21 : Small.Small
 m21 = Small.heard_of k20 (Done Small.a0 (Some 2))
 
 r21 : Reached m21
-unfolding duty_of next_seen told phase_told seen heard winners_of winner_in length_in newest_maps named_in wish container.seen container.next_seen container.after_packet container.wish_called computed wished_op wished_packet generation_name attempt_name task_name part_name layout.part task_eq to_all
+unfolding duty_of next_seen told phase_told seen heard winners_of winner_in length_in newest_maps named_in wish container.seen container.next_seen container.after_packet container.same_attempt container.wish_called computed wished_op wished_packet generation_name attempt_name task_name part_name layout.part task_eq to_all
 r21 = after s20 (Deliver 3) _ (Small.on-packet s20.stands 3 (Done Small.a0 (Some 2)) refl)
 
 -- the master records it
@@ -310,21 +310,21 @@ abbrev m22 : Small.Small
 m22 = Small.called m21 (Append_record (AttemptStarted Small.a0 0))
 
 r22 : Reached m22
-unfolding duty_of next_seen told phase_told seen heard winners_of winner_in length_in newest_maps named_in wish container.seen container.next_seen container.after_packet container.wish_called computed wished_op wished_packet generation_name attempt_name task_name part_name layout.part task_eq to_all
+unfolding duty_of next_seen told phase_told seen heard winners_of winner_in length_in newest_maps named_in wish container.seen container.next_seen container.after_packet container.same_attempt container.wish_called computed wished_op wished_packet generation_name attempt_name task_name part_name layout.part task_eq to_all
 r22 = duties r21 (Append_record (AttemptStarted Small.a0 0)) refl refl
 
 abbrev m23 : Small.Small
 m23 = Small.called m22 (Append_record (ReduceSucceeded Small.a0 (Some 2)))
 
 r23 : Reached m23
-unfolding duty_of next_seen told phase_told seen heard winners_of winner_in length_in newest_maps named_in wish container.seen container.next_seen container.after_packet container.wish_called computed wished_op wished_packet generation_name attempt_name task_name part_name layout.part task_eq to_all
+unfolding duty_of next_seen told phase_told seen heard winners_of winner_in length_in newest_maps named_in wish container.seen container.next_seen container.after_packet container.same_attempt container.wish_called computed wished_op wished_packet generation_name attempt_name task_name part_name layout.part task_eq to_all
 r23 = duties r22 (Append_record (ReduceSucceeded Small.a0 (Some 2))) refl refl
 
 abbrev m24 : Small.Small
 m24 = Small.called m23 (Flush)
 
 r24 : Reached m24
-unfolding duty_of next_seen told phase_told seen heard winners_of winner_in length_in newest_maps named_in wish container.seen container.next_seen container.after_packet container.wish_called computed wished_op wished_packet generation_name attempt_name task_name part_name layout.part task_eq to_all
+unfolding duty_of next_seen told phase_told seen heard winners_of winner_in length_in newest_maps named_in wish container.seen container.next_seen container.after_packet container.same_attempt container.wish_called computed wished_op wished_packet generation_name attempt_name task_name part_name layout.part task_eq to_all
 r24 = duties r23 (Flush) refl refl
 
 -- and commits the job
@@ -333,7 +333,7 @@ abbrev m25 : Small.Small
 m25 = Small.called m24 (Names (Create commit_started true))
 
 r25 : Reached m25
-unfolding duty_of next_seen told phase_told seen heard winners_of winner_in length_in newest_maps named_in wish container.seen container.next_seen container.after_packet container.wish_called computed wished_op wished_packet generation_name attempt_name task_name part_name layout.part task_eq to_all
+unfolding duty_of next_seen told phase_told seen heard winners_of winner_in length_in newest_maps named_in wish container.seen container.next_seen container.after_packet container.same_attempt container.wish_called computed wished_op wished_packet generation_name attempt_name task_name part_name layout.part task_eq to_all
 r25 = duties r24 (Names (Create commit_started true)) refl refl
 
 abbrev k25 : Small.Small
@@ -344,49 +344,49 @@ k25 = record k20 {
 }
 
 s25 : Reached k25
-unfolding duty_of next_seen told phase_told seen heard winners_of winner_in length_in newest_maps named_in wish container.seen container.next_seen container.after_packet container.wish_called computed wished_op wished_packet generation_name attempt_name task_name part_name layout.part task_eq to_all
+unfolding duty_of next_seen told phase_told seen heard winners_of winner_in length_in newest_maps named_in wish container.seen container.next_seen container.after_packet container.same_attempt container.wish_called computed wished_op wished_packet generation_name attempt_name task_name part_name layout.part task_eq to_all
 s25 = r25
 
 abbrev m26 : Small.Small
 m26 = Small.called k25 (Names (ListDir (job_attempt 1)))
 
 r26 : Reached m26
-unfolding duty_of next_seen told phase_told seen heard winners_of winner_in length_in newest_maps named_in wish container.seen container.next_seen container.after_packet container.wish_called computed wished_op wished_packet generation_name attempt_name task_name part_name layout.part task_eq to_all
+unfolding duty_of next_seen told phase_told seen heard winners_of winner_in length_in newest_maps named_in wish container.seen container.next_seen container.after_packet container.same_attempt container.wish_called computed wished_op wished_packet generation_name attempt_name task_name part_name layout.part task_eq to_all
 r26 = duties s25 (Names (ListDir (job_attempt 1))) refl refl
 
 abbrev m27 : Small.Small
 m27 = Small.called m26 (Names (Exist dest))
 
 r27 : Reached m27
-unfolding duty_of next_seen told phase_told seen heard winners_of winner_in length_in newest_maps named_in wish container.seen container.next_seen container.after_packet container.wish_called computed wished_op wished_packet generation_name attempt_name task_name part_name layout.part task_eq to_all
+unfolding duty_of next_seen told phase_told seen heard winners_of winner_in length_in newest_maps named_in wish container.seen container.next_seen container.after_packet container.same_attempt container.wish_called computed wished_op wished_packet generation_name attempt_name task_name part_name layout.part task_eq to_all
 r27 = duties r26 (Names (Exist dest)) refl refl
 
 abbrev m28 : Small.Small
 m28 = Small.called m27 (Names (ListDir (committed 1 Small.t0)))
 
 r28 : Reached m28
-unfolding duty_of next_seen told phase_told seen heard winners_of winner_in length_in newest_maps named_in wish container.seen container.next_seen container.after_packet container.wish_called computed wished_op wished_packet generation_name attempt_name task_name part_name layout.part task_eq to_all
+unfolding duty_of next_seen told phase_told seen heard winners_of winner_in length_in newest_maps named_in wish container.seen container.next_seen container.after_packet container.same_attempt container.wish_called computed wished_op wished_packet generation_name attempt_name task_name part_name layout.part task_eq to_all
 r28 = duties r27 (Names (ListDir (committed 1 Small.t0))) refl refl
 
 abbrev m29 : Small.Small
 m29 = Small.called m28 (Names (Exist (part Small.t0)))
 
 r29 : Reached m29
-unfolding duty_of next_seen told phase_told seen heard winners_of winner_in length_in newest_maps named_in wish container.seen container.next_seen container.after_packet container.wish_called computed wished_op wished_packet generation_name attempt_name task_name part_name layout.part task_eq to_all
+unfolding duty_of next_seen told phase_told seen heard winners_of winner_in length_in newest_maps named_in wish container.seen container.next_seen container.after_packet container.same_attempt container.wish_called computed wished_op wished_packet generation_name attempt_name task_name part_name layout.part task_eq to_all
 r29 = duties r28 (Names (Exist (part Small.t0))) refl refl
 
 abbrev m30 : Small.Small
 m30 = Small.called m29 (Names (Rename (committed 1 Small.t0 ++ part_name Small.t0 ∷ []) (part Small.t0)))
 
 r30 : Reached m30
-unfolding duty_of next_seen told phase_told seen heard winners_of winner_in length_in newest_maps named_in wish container.seen container.next_seen container.after_packet container.wish_called computed wished_op wished_packet generation_name attempt_name task_name part_name layout.part task_eq to_all
+unfolding duty_of next_seen told phase_told seen heard winners_of winner_in length_in newest_maps named_in wish container.seen container.next_seen container.after_packet container.same_attempt container.wish_called computed wished_op wished_packet generation_name attempt_name task_name part_name layout.part task_eq to_all
 r30 = duties r29 (Names (Rename (committed 1 Small.t0 ++ part_name Small.t0 ∷ []) (part Small.t0))) refl refl
 
 abbrev m31 : Small.Small
 m31 = Small.called m30 (Names (Delete temporary))
 
 r31 : Reached m31
-unfolding duty_of next_seen told phase_told seen heard winners_of winner_in length_in newest_maps named_in wish container.seen container.next_seen container.after_packet container.wish_called computed wished_op wished_packet generation_name attempt_name task_name part_name layout.part task_eq to_all
+unfolding duty_of next_seen told phase_told seen heard winners_of winner_in length_in newest_maps named_in wish container.seen container.next_seen container.after_packet container.same_attempt container.wish_called computed wished_op wished_packet generation_name attempt_name task_name part_name layout.part task_eq to_all
 r31 = duties r30 (Names (Delete temporary)) refl refl
 
 abbrev k31 : Small.Small
@@ -396,21 +396,21 @@ k31 = record k25 {
 }
 
 s31 : Reached k31
-unfolding duty_of next_seen told phase_told seen heard winners_of winner_in length_in newest_maps named_in wish container.seen container.next_seen container.after_packet container.wish_called computed wished_op wished_packet generation_name attempt_name task_name part_name layout.part task_eq to_all
+unfolding duty_of next_seen told phase_told seen heard winners_of winner_in length_in newest_maps named_in wish container.seen container.next_seen container.after_packet container.same_attempt container.wish_called computed wished_op wished_packet generation_name attempt_name task_name part_name layout.part task_eq to_all
 s31 = r31
 
 abbrev m32 : Small.Small
 m32 = Small.called k31 (Names (Create marker true))
 
 r32 : Reached m32
-unfolding duty_of next_seen told phase_told seen heard winners_of winner_in length_in newest_maps named_in wish container.seen container.next_seen container.after_packet container.wish_called computed wished_op wished_packet generation_name attempt_name task_name part_name layout.part task_eq to_all
+unfolding duty_of next_seen told phase_told seen heard winners_of winner_in length_in newest_maps named_in wish container.seen container.next_seen container.after_packet container.same_attempt container.wish_called computed wished_op wished_packet generation_name attempt_name task_name part_name layout.part task_eq to_all
 r32 = duties s31 (Names (Create marker true)) refl refl
 
 abbrev m33 : Small.Small
 m33 = Small.called m32 (Names (Create commit_success true))
 
 r33 : Reached m33
-unfolding duty_of next_seen told phase_told seen heard winners_of winner_in length_in newest_maps named_in wish container.seen container.next_seen container.after_packet container.wish_called computed wished_op wished_packet generation_name attempt_name task_name part_name layout.part task_eq to_all
+unfolding duty_of next_seen told phase_told seen heard winners_of winner_in length_in newest_maps named_in wish container.seen container.next_seen container.after_packet container.same_attempt container.wish_called computed wished_op wished_packet generation_name attempt_name task_name part_name layout.part task_eq to_all
 r33 = duties r32 (Names (Create commit_success true)) refl refl
 
 -- What is there then

@@ -1,6 +1,7 @@
 -- What the machine of each task is told: the calls that the steps of a master make of it. What is read off these calls by the
 -- words of tasks is what is read off the master's past: Agreement.
-use Rattle.std.specs.Prelude.{◌≡◌, ℕ, ◌+◌, ◌-◌, ◌*◌, count_by, Bool, true, false, ◌&&◌, not, nat_eq, nat_lt, List, [], ◌∷◌, Option, Some, None, is_some, if◌then◌else◌}
+use Rattle.std.specs.Prelude.{◌≡◌, ℕ, ◌+◌, count_by, Bool, true, false, ◌&&◌, not, nat_eq, nat_lt, List, [], ◌∷◌, Option, Some, None, is_some, if◌then◌else◌}
+use Rattle.mr_ids.specs.Generations.{first_attempt_number}
 use Rattle.mr_grant.specs.Attempts as grant
 use Rattle.mr_task.specs.Calls as task_call
 use Rattle.mr_task.specs.Calls.{TaskCall}
@@ -123,7 +124,7 @@ pub record TakenEarlier (k : ℕ) (s : Seen) : Type 0 where
 -- each launch has the model's number, is made while Running and where the task has no fault; what is taken over fits
 abbrev pub Fits : Config → ℕ → Seen → Calls → Master_step → Type 0
 Fits cfg k s c (Launches l) =
-    (l.attempt.number ≡ 1000 * (k - 1) + count_of s.launched l.attempt.task)
+    (l.attempt.number ≡ first_attempt_number k + count_of s.launched l.attempt.task)
     × ((is_running s.phase ≡ true) × (task_fault s l.attempt.task ≡ None))
 Fits cfg k s c (Asks call r) = TakenEarlier k (with_read cfg (if is_fine r then worked s call else s) call r)
 Fits cfg k s c (Came p) = Unit {0}
@@ -141,7 +142,7 @@ pub record ReduceAgrees (k : ℕ) (s : Seen) (t : TaskId) (r : task.Seen) : Type
   pub named : task.named r ≡ named_in s.asked s.ended t
   pub accepted : (a : Attempt) → a.task ≡ t → is_launched s a ≡ true → grant.has r.accepted a ≡ has s.accepted a
   pub accepts : (a : Attempt) → a.task ≡ t → task.may_accept r a ≡ may_accept s a
-  pub next : task.next_attempt t k r ≡ record { task = t; number = 1000 * (k - 1) + count_of s.launched t }
+  pub next : task.next_attempt t k r ≡ record { task = t; number = first_attempt_number k + count_of s.launched t }
   pub live_ones : count_by (task.is_live r) r.arrived ≡ live_count s t s.launched
   pub won : is_running s.phase ≡ true → task.is_won r ≡ is_won s true t
   pub failures : (a : Attempt) → a.task ≡ t → task.failures r ≡ failures s.ended a
@@ -180,7 +181,7 @@ pub record MapAgrees (k : ℕ) (s : Seen) (t : TaskId) (r : task.Seen) : Type 0 
   pub live : (a : Attempt) → a.task ≡ t → task.is_live r a ≡ is_live s a
   pub accepted : (a : Attempt) → a.task ≡ t → is_launched s a ≡ true → grant.has r.accepted a ≡ has s.accepted a
   pub accepts : (a : Attempt) → a.task ≡ t → task.may_accept r a ≡ may_accept s a
-  pub next : task.next_attempt t k r ≡ record { task = t; number = 1000 * (k - 1) + count_of s.launched t }
+  pub next : task.next_attempt t k r ≡ record { task = t; number = first_attempt_number k + count_of s.launched t }
   pub live_ones : count_by (task.is_live r) r.arrived ≡ live_count s t s.launched
   pub won : task.is_won r ≡ is_won s false t
   pub failures : (a : Attempt) → a.task ≡ t → task.failures r ≡ failures s.ended a

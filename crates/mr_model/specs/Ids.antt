@@ -1,11 +1,13 @@
 -- Names of attempts and containers, and the paths of the cluster's one job: `$dest/_temporary/k` and what stands beneath it, `_SUCCESS`,
 -- as Hadoop's committer document has them (algorithm version 1). Containers' names and the staging folder's marks are our own profile.
-use Rattle.std.specs.Prelude.{ℕ, suc, ◌/◌, Bool, true, false, ◌&&◌, nat_eq, List, [], ◌∷◌, codes}
+use Rattle.std.specs.Prelude.{ℕ, Bool, true, false, ◌&&◌, nat_eq, List, [], ◌∷◌, codes}
 use Rattle.std.specs.Cmp.Lexicographic.{pointwise}
+use Rattle.mr_ids.specs.Generations.{generation_of}
 use Rattle.mr_ids.specs.Same.{same_task}
 use Rattle.mr_ids.specs.Text.{numeral, task_text, attempt_text}
 use Rattle.mr_paths.specs.Layout as layout
 pub use Rattle.mr_ids.specs.Attempt.{Attempt}
+pub use Rattle.mr_ids.specs.Kind.{is_reduce as of_reduces}
 pub use Rattle.mr_ids.specs.declared.id.JobId.{JobId}
 pub use Rattle.mr_ids.specs.declared.id.TaskId.{TaskId}
 pub use Rattle.mr_ids.specs.declared.id.TaskKind.{TaskKind}
@@ -42,10 +44,6 @@ abbrev pub path_eq : Path → Path → Bool
 path_eq = pointwise (pointwise nat_eq)
 
 -- the tasks of a job
-abbrev pub of_reduces : TaskKind → Bool
-of_reduces Map = false
-of_reduces Reduce = true
-
 abbrev pub is_reduce : Attempt → Bool
 is_reduce a = of_reduces a.task.kind
 
@@ -60,7 +58,7 @@ same_job i j = nat_eq i.start j.start && nat_eq i.number j.number
 
 -- the generation that launched an attempt
 abbrev pub generation : Attempt → ℕ
-generation a = suc (a.number / 1000)
+generation a = generation_of a.number
 
 -- The layout, name by name. That these are the paths of mr_paths is `proofs/Layout`.
 

@@ -1,5 +1,5 @@
 -- What ties the model to the crates beneath it.
-use Rattle.std.specs.Prelude.{length, replicate, ◌≤◌, ◌+◌, ◌*◌, ◌-◌, ◌^◌, ℕ, ◌≡◌, ◌<◌, true, List, [], ◌∷◌, ◌++◌, Some, not, nat_lt, if◌then◌else◌, false}
+use Rattle.std.specs.Prelude.{length, replicate, ◌≤◌, ◌+◌, ◌^◌, ℕ, ◌≡◌, ◌<◌, true, List, [], ◌∷◌, ◌++◌, Some, not, nat_lt, if◌then◌else◌, false}
 use Rattle.mr_paths.specs.Layout as layout
 use Rattle.mr_names.specs.Calls as names
 use Rattle.mr_history.specs.State.{State}
@@ -8,6 +8,7 @@ use Rattle.mr_history.specs.Winner as winners
 use Rattle.mr_history.specs.Recorded.{tail_width}
 use Rattle.mr_history.specs.Calls as history
 use Rattle.mr_history.specs.Line as lines
+use Rattle.mr_ids.specs.Generations.{first_attempt_number}
 use Rattle.mr_ids.specs.Text.{IsJob}
 use Rattle.mr_model.specs.Pasts.{incarnation_of}
 use Rattle.mr_model.specs.Ids.{Attempt, TaskId, dest, temporary, job_attempt, task_attempt, committed, marker, part}
@@ -73,4 +74,4 @@ pub record AppendedRecordsFit : Type 0 where
 pub record MastersAreRaised : Type 0 where
   pub raised : (cfg : Config) (within : Limits) (es : List Event) (k : ℕ) → (world_of cfg within es).is_master k ≡ true → (1 ≤ k) × (k ≤ (world_of cfg within es).fence)
   pub numbered : (cfg : Config) (within : Limits) (es : List Event) (k : ℕ) (l : Launched) → In l (seen_by cfg (world_of cfg within es) k).launched
-      → (1000 * (k - 1) ≤ l.attempt.number) × (l.attempt.number < 1000 * (k - 1) + 1000)
+      → (first_attempt_number k ≤ l.attempt.number) × (l.attempt.number < first_attempt_number k + 1000)

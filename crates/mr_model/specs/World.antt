@@ -1,5 +1,6 @@
 -- The world, its events, the store calls that an event makes, and the step that it adds to a past (our own profile).
-use Rattle.std.specs.Prelude.{ℕ, suc, ◌-◌, Bool, true, false, ◌&&◌, ◌||◌, not, nat_eq, nat_lt, List, [], ◌∷◌, ◌++◌, Option, Some, None, if◌then◌else◌, is_none, length, ◌+◌, ◌*◌, slice_get, Ok, Err}
+use Rattle.std.specs.Prelude.{ℕ, suc, Bool, true, false, ◌&&◌, ◌||◌, not, nat_eq, nat_lt, List, [], ◌∷◌, ◌++◌, Option, Some, None, if◌then◌else◌, is_none, length, ◌+◌, slice_get, Ok, Err}
+use Rattle.mr_ids.specs.Generations.{first_attempt_number}
 use Rattle.mr_model.specs.Ids.{Attempt, ContainerId, TaskId, task_eq, container_eq, staged}
 use Rattle.mr_model.specs.Content.{Op, ListDir, Exist, Read, bar_of, Superseded, NameFault, Barred, Content, Dir, refusal, left, put, entry_at, children, bytes_of, option_kind}
 use Rattle.mr_model.specs.Packets.{Config, Packet, Launch, Kill, Master, Node, Envelope, Store, Names, Append_record, Flush, Read_history, Reply, Fine, Found, Entries, Bytes, Records, Refused, Address, Container, Caller, Sealed, Fault}
@@ -182,7 +183,7 @@ count_of (l ∷ ls) t = if task_eq l.attempt.task t then suc (count_of ls t) els
 
 abbrev pub launch_of : ℕ → Seen → TaskId → ℕ → Launched
 launch_of k s t n = record {
-  attempt = record { task = t; number = 1000 * (k - 1) + count_of s.launched t };
+  attempt = record { task = t; number = first_attempt_number k + count_of s.launched t };
   container = record { app = k; number = length s.launched };
   node = n;
   incarnation = s.known n;
