@@ -1,6 +1,7 @@
 -- The headline holds of a world before and after any further events.
 use Rattle.std.proofs.Common.{◌≡◌, ℕ, ◌≤◌, refl, sym, subst, Bool, true, false, List, [], ◌++◌, Some, length, append-nil, nat_lt, nat_le, if◌then◌else◌, ◌^◌}
 use Rattle.std.proofs.lemmas.Bool.{leb-true}
+use Rattle.mr_mapside.specs.declared.TheConstants.{MAX_OUTPUT_LEN}
 use Rattle.mr_model.specs.Ids.{is_reduce}
 use Rattle.mr_model.specs.Packets.{Config}
 use Rattle.mr_model.specs.World.{World, Event, Compute}
@@ -12,7 +13,6 @@ use Rattle.mr_model.proofs.Numbers.{whole_is_one}
 use Rattle.mr_model.proofs.Published.{published_are_winners}
 use Rattle.mr_model.proofs.Results.{results_stay}
 use Rattle.mr_model.proofs.Faithful.{marked_files_are_sequential}
-use Rattle.mr_world.specs.declared.limits.TheConstants.{MAX_MAP_OUTPUT}
 use Rattle.mr_world.specs.Headline.{HeadlineHolds}
 use Rattle.mr_world.specs.Journal.{Journal}
 use Rattle.mr_world.specs.Limits.{within, fits_bytes}
@@ -23,7 +23,7 @@ pub outputs-are-bounded : (cfg : Config) → BoundsOutputs (within cfg)
 unfolding most_output
 outputs-are-bounded cfg w c p bytes place map t =
     let own = subst (λ o. fits_bytes o (length bytes) ≡ true) place (fits-parts cfg w (Compute c bytes) t).own in
-    leb-true (length bytes) MAX_MAP_OUTPUT (subst (λ b. (if b then nat_lt (length bytes) (2 ^ 32) else nat_le (length bytes) MAX_MAP_OUTPUT) ≡ true) map own)
+    leb-true (length bytes) MAX_OUTPUT_LEN (subst (λ b. (if b then nat_lt (length bytes) (2 ^ 32) else nat_le (length bytes) MAX_OUTPUT_LEN) ≡ true) map own)
 
 pub holds-on : (cfg : Config) (es fs : List Event) → HeadlineHolds (record { config = cfg; events = es }) (record { config = cfg; events = es ++ fs })
 holds-on cfg es fs = let one = outcomes_agree cfg (within cfg) in let stay = results_stay cfg (within cfg) in record {

@@ -1,12 +1,13 @@
 -- The limits of a world: whether an event can be taken without passing one (our own profile).
 use Rattle.std.specs.Prelude.{ℕ, zero, suc, ◌+◌, ◌-◌, ◌^◌, Bool, true, false, ◌&&◌, ◌||◌, not, nat_lt, nat_le, List, [], ◌∷◌, Option, Some, None, if◌then◌else◌, length, sum_by}
 use Rattle.std.specs.FinSet as set
+use Rattle.mr_ids.specs.declared.id.TheConstants.{MAX_APP_ATTEMPTS}
 use Rattle.mr_names.specs.Attempts.{attempt_cmp}
 use Rattle.mr_names.specs.Barred.{Barred}
 use Rattle.mr_names.specs.Calls.{passes_limit}
 use Rattle.mr_history.specs.Line.{head, width, as_written}
-use Rattle.mr_history.specs.declared.history.TheConstants.{MAX_APP_ATTEMPTS}
 use Rattle.mr_history.specs.declared.segment.TheConstants.{MAX_SEGMENT_LEN}
+use Rattle.mr_mapside.specs.declared.TheConstants.{MAX_OUTPUT_LEN}
 use Rattle.mr_packet.specs.declared.bag.TheConstants.{MAX_PACKETS}
 use Rattle.mr_model.specs.Ids.{is_reduce}
 use Rattle.mr_model.specs.Content.{NameFault, Full, refusal}
@@ -17,7 +18,7 @@ use Rattle.mr_model.specs.Duties.{Master_step, Came, Launches, Expires, Asks}
 use Rattle.mr_model.specs.World.{World, Event, Start, LaunchOn, Compute, Die, NodeRestart, Made, call_of, is_applied}
 use Rattle.mr_model.specs.Sending.{sent}
 use Rattle.mr_model.specs.Claims.{Limits}
-use Rattle.mr_world.specs.declared.limits.TheConstants.{MAX_CONTAINERS, MAX_MAP_OUTPUT}
+use Rattle.mr_world.specs.declared.limits.TheConstants.{MAX_CONTAINERS}
 
 -- ---- the containers of a world: all launches of all masters
 
@@ -66,7 +67,7 @@ fits_call w (Some m) = if is_applied w m.app m.fault then fits_store w m.app m.c
 -- a map's bytes lie on a shelf; a reduce's have a length that a packet can tell
 abbrev pub fits_bytes : Option Place → ℕ → Bool
 fits_bytes None n = nat_lt n (2 ^ 32)
-fits_bytes (Some p) n = if is_reduce p.attempt then nat_lt n (2 ^ 32) else nat_le n MAX_MAP_OUTPUT
+fits_bytes (Some p) n = if is_reduce p.attempt then nat_lt n (2 ^ 32) else nat_le n MAX_OUTPUT_LEN
 
 -- generations, launches, bytes that are handed in, and incarnations of a node (which no list of 1,000,000 events can use up)
 abbrev pub fits_own : World → Event → Bool

@@ -7,13 +7,12 @@ ghost use Rattle.mr_world.specs.Living.{kept};
 ghost use Rattle.mr_world.specs.Standing.{Foresees, Tries};
 
 use crate::fault::WorldFault;
-use crate::limits::MAX_MAP_OUTPUT;
 use crate::parts::Parts;
 use crate::room::tell_most;
 use mr_container::Place;
 use mr_event::Why;
 use mr_ids::TaskKind;
-use mr_mapside::{MapOutput, blocks};
+use mr_mapside::{MAX_OUTPUT_LEN, MapOutput, blocks};
 use mr_packet::{Bytes, ContainerId};
 
 impl Parts {
@@ -71,7 +70,7 @@ fn check_output(reduces: u32, bytes: &Bytes) -> Result<(), WorldFault>
     if blocks(bytes.as_slice(), reduces).is_none() {
         return Err(WorldFault::NotNow(Why::NotBlocks));
     }
-    if bytes.len() > MAX_MAP_OUTPUT {
+    if bytes.len() > MAX_OUTPUT_LEN {
         return Err(WorldFault::Full);
     }
     Ok(())

@@ -119,7 +119,7 @@ pub use asked::Asked;
 pub use config::Config;
 pub use fault::WorldFault;
 pub use inputs::Input;
-pub use limits::{MAX_CONTAINERS, MAX_EVENTS, MAX_MAP_OUTPUT};
+pub use limits::{MAX_CONTAINERS, MAX_EVENTS};
 pub use results::VisibleFile;
 pub use splits::Splits;
 pub use took::Took;

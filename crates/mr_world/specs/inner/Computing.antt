@@ -3,13 +3,13 @@ use Rattle.std.specs.Prelude.{◌≡◌, ℕ, ◌^◌, Bool, true, nat_le, nat_l
 use Rattle.mr_ids.specs.declared.id.TaskKind.{TaskKind}
 use Rattle.mr_ids.specs.declared.id.TaskKind.TheVariants.{Map, Reduce}
 use Rattle.mr_mapside.specs.Cutting.{cut}
+use Rattle.mr_mapside.specs.declared.TheConstants.{MAX_OUTPUT_LEN}
 use Rattle.mr_container.specs.declared.place.Place.{Place}
 use Rattle.mr_container.specs.Readings.{is_computing}
 use Rattle.mr_container.specs.State.{Container}
 use Rattle.mr_event.specs.declared.why.Why.TheVariants.{NotBlocks}
 use Rattle.mr_world.specs.declared.fault.WorldFault.{WorldFault}
 use Rattle.mr_world.specs.declared.fault.WorldFault.TheVariants as fault
-use Rattle.mr_world.specs.declared.limits.TheConstants.{MAX_MAP_OUTPUT}
 
 -- the fault of bytes that are blocks or not, and within the length of a map's or of a reduce's or not
 abbrev pub fault_by : TaskKind → Bool → Bool → Bool → Option WorldFault
@@ -18,7 +18,7 @@ fault_by Reduce blocks small short = if short then None else Some fault.Full
 
 -- why bytes are refused to a container of a task of this kind
 abbrev pub bytes_fault : TaskKind → ℕ → List ℕ → Option WorldFault
-bytes_fault kind reduces bytes = fault_by kind (is_some (cut reduces bytes)) (nat_le (length bytes) MAX_MAP_OUTPUT) (nat_lt (length bytes) (2 ^ 32))
+bytes_fault kind reduces bytes = fault_by kind (is_some (cut reduces bytes)) (nat_le (length bytes) MAX_OUTPUT_LEN) (nat_lt (length bytes) (2 ^ 32))
 
 abbrev pub unless_fault : Option WorldFault → Result (Unit {0}) WorldFault
 unless_fault None = Ok tt
