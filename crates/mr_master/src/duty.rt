@@ -81,5 +81,6 @@ pub fn of_look(path: Path) -> Option<Duty>
 pub fn of_mark(name: DutyName, path: Path) -> Option<Duty>
     ensures { result ≡ creates name path }
 {
-    Some(Duty::new(name, StoreCall::Names(Op::Create(path, true))))
+    let op = Op::Create { path, closed: true };
+    Some(Duty::new(name, StoreCall::Names(op)))
 }

@@ -13,11 +13,20 @@ pub fn copy_op(op: &Op) -> Result<Op, AllocError>
 {
     Ok(match op {
         Op::Mkdirs(path) => Op::Mkdirs(path.copy()?),
-        Op::Create(path, closed) => Op::Create(path.copy()?, *closed),
-        Op::Append(path, bytes) => Op::Append(path.copy()?, bytes.copy()?),
+        Op::Create { path, closed } => Op::Create {
+            path: path.copy()?,
+            closed: *closed,
+        },
+        Op::Append { path, bytes } => Op::Append {
+            path: path.copy()?,
+            bytes: bytes.copy()?,
+        },
         Op::Close(path) => Op::Close(path.copy()?),
         Op::Delete(path) => Op::Delete(path.copy()?),
-        Op::Rename(from, to) => Op::Rename(from.copy()?, to.copy()?),
+        Op::Rename { from, to } => Op::Rename {
+            from: from.copy()?,
+            to: to.copy()?,
+        },
         Op::List(path) => Op::List(path.copy()?),
         Op::Exists(path) => Op::Exists(path.copy()?),
         Op::Read(path) => Op::Read(path.copy()?),

@@ -1,6 +1,5 @@
 //! How far the tasks have come, kept where a task's machine changes, so that nobody has to look through all tasks.
 ghost use Rattle.std.specs.Prelude.{◌≡◌, ◌+◌, ◌&&◌, ℕ, false, is_none, not, nat_lt, IfOk, IfSome, IfNone};
-ghost use Rattle.mr_ids.specs.declared.id.TaskKind.TheVariants.{Map};
 ghost use Rattle.mr_grant.specs.Attempts.{first_of};
 ghost use Rattle.mr_task.specs.Readings.{seen, live};
 ghost use Rattle.mr_task.specs.State.{Answers};
@@ -107,21 +106,13 @@ fn is_open(task: &TaskMachine, kind: TaskKind) -> bool
     both(is_kind, none)
 }
 
+#[tactic(auto, using(crate::proofs::Kinds::map_is, crate::proofs::Kinds::reduce_is))]
 fn same_kind(a: TaskKind, b: TaskKind) -> bool
     ensures { result ≡ same_kind a b }
 {
     match a {
-        TaskKind::Map => is_map(b),
-        TaskKind::Reduce => !is_map(b),
-    }
-}
-
-fn is_map(kind: TaskKind) -> bool
-    ensures { result ≡ same_kind Map kind }
-{
-    match kind {
-        TaskKind::Map => true,
-        TaskKind::Reduce => false,
+        TaskKind::Map => b.is_map(),
+        TaskKind::Reduce => b.is_reduce(),
     }
 }
 

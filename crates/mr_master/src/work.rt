@@ -295,7 +295,7 @@ fn commit_name(step: &Step) -> DutyName
         return DutyName::Cleanup;
     }
     match step.call() {
-        Some(Op::Create(_, _)) => DutyName::Marker,
+        Some(Op::Create { .. }) => DutyName::Marker,
         _ => DutyName::Merge,
     }
 }

@@ -1,6 +1,7 @@
 -- How far the tasks have come, by place: which wait for a launch, and which maps and which reduces are not Succeeded.
 use Rattle.std.specs.Prelude.{◌≡◌, ◌<◌, ◌≤◌, ℕ, Bool, true, false, ◌&&◌, List, length, slice_get, Some, None, is_none}
 use Rattle.std.specs.List.{find}
+pub use Rattle.mr_ids.specs.Same.{same_kind}
 use Rattle.mr_ids.specs.declared.id.TaskId.{TaskId}
 use Rattle.mr_ids.specs.declared.id.TaskKind.{TaskKind}
 use Rattle.mr_ids.specs.declared.id.TaskKind.TheVariants.{Map, Reduce}
@@ -28,12 +29,6 @@ open_of Reduce m = m.open_reduces
 
 abbrev pub waits : TaskId → ℕ → List TaskCall → Bool
 waits t k calls = wants_launch (task.seen t k calls)
-
-abbrev pub same_kind : TaskKind → TaskKind → Bool
-same_kind Map Map = true
-same_kind Map Reduce = false
-same_kind Reduce Map = false
-same_kind Reduce Reduce = true
 
 abbrev pub is_open : TaskKind → TaskId → ℕ → List TaskCall → Bool
 is_open kind t k calls = same_kind t.kind kind && is_none (task.succeeded (task.seen t k calls))
