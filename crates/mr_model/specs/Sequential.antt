@@ -4,6 +4,7 @@ use Rattle.std.specs.Option.{option_map, option_and_then}
 use Rattle.mr_model.specs.Ids.{Attempt, ContainerId, TaskId, is_reduce, part}
 use Rattle.mr_model.specs.Content.{File, entry_at}
 use Rattle.mr_mapside.specs.Cutting.{cut}
+use Rattle.mr_mapside.specs.declared.TheConstants.{MAX_OUTPUT_LEN}
 use Rattle.mr_model.specs.Packets.{Config}
 use Rattle.mr_model.specs.Pasts.{Place, Step, fetched, wish}
 use Rattle.mr_model.specs.World.{World, Event, Compute}
@@ -23,7 +24,7 @@ pub record Job : Type 0 where
 
 -- a map's output has at most so many bytes
 unfoldable pub most_output : ℕ
-most_output = 16777216
+most_output = MAX_OUTPUT_LEN
 
 abbrev pub in_front : Option (List ℕ) → Option (List (List ℕ)) → Option (List (List ℕ))
 in_front None rest = None
