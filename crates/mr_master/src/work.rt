@@ -498,7 +498,8 @@ impl Work {
         ensures { self.new ≡ with_left self.old (following.lines ++ drop 1 (left_of self.old)) }
     {
         match &mut self.at {
-            At::SetsUp(step) | At::CommitsJob(step) => step.go_on(following),
+            At::SetsUp(step) => step.go_on(following),
+            At::CommitsJob(step) => step.go_on(following),
             At::TakesOver { step, .. } => step.go_on(following),
             _ => {}
         }

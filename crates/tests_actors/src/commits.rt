@@ -5,7 +5,7 @@ use mr_container::{ContainerMachine, Reply, Wish};
 use mr_ids::{AttemptId, TaskKind};
 use mr_names::{NameFault, Namespace};
 use mr_packet::{Bag, Envelope, Packet};
-use mr_paths::{Layout, Path};
+use mr_paths::{Layout, Path, part_name};
 use std::alloc::Global;
 use std::process::Abort;
 
@@ -96,7 +96,7 @@ fn reduce_commits(rt: HostRuntime) {
     let mut part = layout
         .committed(copy.id().app, a.task())
         .expect(&rt, "no memory");
-    part.push(layout.part(0).expect(&rt, "no memory"))
+    part.push(part_name(alloc, 0).expect(&rt, "no memory"))
         .expect(&rt, "no memory");
     let bytes = names.read(copy.caller(), &part).expect(&rt, "no file");
     assert!(rt; bytes.as_slice() == b"out".as_slice());

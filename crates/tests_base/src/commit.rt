@@ -1,8 +1,8 @@
 //! The output committer: merges, commits, aborts and recoveries, whole or by steps, and what is refused.
 
 use mr_commit::{
-    AbortJob, AbortTask, CommitFault, CommitJob, CommitTask, RecoverTask, SetupJob, StepDone,
-    check_output, commit_job, commit_task, needs_task_commit, setup_job,
+    CommitFault, RecoverTask, Step, StepDone, check_output, commit_job, commit_task,
+    needs_task_commit, setup_job,
 };
 use mr_ids::{AppAttempt, AttemptId, JobId, TaskId, TaskKind};
 use mr_names::{Answer, Caller, Kind, NameFault, Namespace, Op};
@@ -106,7 +106,7 @@ fn setup_by_halves(rt: HostRuntime) {
     let app = generation(&rt, 1);
     let caller = &Caller { app, attempt: None };
     let mut names = new_namespace(&rt, alloc);
-    let mut setup = made(&rt, SetupJob::new(&out(&rt, alloc), app));
+    let mut setup = made(&rt, Step::setup_job(&out(&rt, alloc), app));
     let Some(call) = setup.call() else {
         panic!(rt; "over");
     };
@@ -123,7 +123,7 @@ fn setup_by_halves(rt: HostRuntime) {
 }
 
 // A task's commit goes on where it hears, in two halves, that its attempt's directory is there.
-fn goes_on_by_halves(rt: &impl Abort, step: &CommitTask) {
+fn goes_on_by_halves(rt: &impl Abort, step: &Step) {
     let mut sure = made(rt, step.copy());
     let Ok(following) = sure.follow(&Ok(Answer::Found(Some(Kind::Dir)))) else {
         panic!(rt; "refused");
@@ -141,7 +141,7 @@ fn output_missing_then_over(rt: HostRuntime) {
     let layout = out(&rt, alloc);
     let mut names = new_namespace(&rt, alloc);
     assert!(rt; told(&rt, setup_job(&mut names, *caller, &layout)) == Ok(()));
-    let mut step = made(&rt, CommitTask::new(&layout, app, attempt(&rt)));
+    let mut step = made(&rt, Step::commit_task(&layout, app, attempt(&rt)));
     goes_on_by_halves(&rt, &step);
     assert!(rt; told(&rt, step.next(&mut names, *caller)) == Err(CommitFault::OutputMissing));
     let mut copy = made(&rt, step.copy());
@@ -154,7 +154,7 @@ fn output_missing_then_over(rt: HostRuntime) {
 #[test]
 fn answer_of_another_kind(rt: HostRuntime) {
     let alloc = rt.alloc();
-    let mut step = made(&rt, CommitJob::new(&out(&rt, alloc), generation(&rt, 1)));
+    let mut step = made(&rt, Step::commit_job(&out(&rt, alloc), generation(&rt, 1)));
     assert!(rt;
         matches!(
             step.follow(&Ok(Answer::Found(None))),
@@ -195,8 +195,8 @@ fn is_heard_alike(
     rt: &impl Abort,
     names: &mut Namespace,
     caller: &Caller,
-    halves: &mut CommitJob,
-    step: &mut CommitJob,
+    halves: &mut Step,
+    step: &mut Step,
 ) {
     let Some(call) = step.call() else {
         panic!(rt; "over");
@@ -216,7 +216,7 @@ fn marker_is_last(
     alloc: Global,
     names: &mut Namespace,
     caller: &Caller,
-    step: &mut CommitJob,
+    step: &mut Step,
 ) {
     assert!(rt; stands(rt, alloc, names, *caller, "/out/_temporary") == None);
     assert!(rt; stands(rt, alloc, names, *caller, "/out/_SUCCESS") == None);
@@ -233,7 +233,7 @@ fn two_level_merge(rt: HostRuntime) {
     let caller = &Caller { app, attempt: None };
     let layout = out(&rt, alloc);
     let mut names = two_levels(&rt, alloc, caller);
-    let mut halves = made(&rt, CommitJob::new(&layout, app));
+    let mut halves = made(&rt, Step::commit_job(&layout, app));
     // list, exists /out, list, exists /out/a, delete, rename; each by a copy, of up to five lines
     for _ in 0..6 {
         halves = made(&rt, halves.copy());
@@ -261,7 +261,7 @@ fn file_beneath_the_job_attempt(rt: HostRuntime) {
     assert!(rt; told(&rt, setup_job(&mut names, *caller, &layout)) == Ok(()));
     let file = path(&rt, alloc, "/out/_temporary/1/f");
     prepared(&rt, names.create(*caller, &file, true));
-    let mut step = made(&rt, CommitJob::new(&layout, app));
+    let mut step = made(&rt, Step::commit_job(&layout, app));
     assert!(rt; told(&rt, step.next(&mut names, *caller)) == Ok(StepDone::More));
     assert!(rt; told(&rt, step.next(&mut names, *caller)) == Ok(StepDone::More));
     let refused = CommitFault::Names(NameFault::NotDir);
@@ -351,7 +351,7 @@ fn task_abort_by_steps(rt: HostRuntime) {
     let mut names = job_set_up(&rt, alloc, caller, &layout);
     let written = "/out/_temporary/1/_temporary/attempt_200707121733_0003_r_000000_0";
     prepared(&rt, names.mkdirs(*caller, &path(&rt, alloc, written)));
-    let mut again = made(&rt, AbortTask::new(&layout, app, attempt(&rt)));
+    let mut again = made(&rt, Step::abort_task(&layout, app, attempt(&rt)));
     let mut step = made(&rt, again.copy());
     let Some(call) = step.call() else {
         panic!(rt; "over");
@@ -374,7 +374,7 @@ fn job_abort_by_steps(rt: HostRuntime) {
     let caller = &Caller { app, attempt: None };
     let layout = out(&rt, alloc);
     let mut names = job_set_up(&rt, alloc, caller, &layout);
-    let mut again = made(&rt, AbortJob::new(&layout));
+    let mut again = made(&rt, Step::abort_job(&layout));
     let mut step = made(&rt, again.copy());
     let Some(call) = step.call() else {
         panic!(rt; "over");

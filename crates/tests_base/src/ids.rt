@@ -1,6 +1,6 @@
 //! Identifiers and their texts.
 
-use mr_ids::{AppAttempt, AttemptId, IdFault, JobId, TaskId, TaskKind};
+use mr_ids::{AppAttempt, AttemptId, IdFault, JobId, MAX_APP_ATTEMPTS, TaskId, TaskKind};
 use std::alloc::Global;
 use std::fmt::Display;
 use std::process::Abort;
@@ -144,6 +144,27 @@ fn generations_of_attempts(rt: HostRuntime) {
         assert!(rt; tried.generation() == generation(&rt, wanted));
         assert!(rt; tried.task() == map && tried.number() == number);
     }
+}
+
+// The numbers of a generation's attempts, from the first to the last.
+#[test]
+fn numbers_of_generations(rt: HostRuntime) {
+    let map = task(JOB, TaskKind::Map, 0);
+    for (number, first, last) in [(1, 0, 999), (2, 1000, 1999), (1000, 999_000, 999_999)] {
+        let k = generation(&rt, number);
+        assert!(rt; k.first_attempt_number() == first);
+        assert!(rt; attempt(&rt, map, first).generation() == k);
+        assert!(rt; attempt(&rt, map, last).generation() == k);
+    }
+    assert!(rt; MAX_APP_ATTEMPTS == 1000);
+    assert!(rt; generation(&rt, MAX_APP_ATTEMPTS).number() == 1000);
+    assert!(rt; AppAttempt::new(MAX_APP_ATTEMPTS + 1).is_none());
+}
+
+#[test]
+fn kinds_of_tasks(rt: HostRuntime) {
+    assert!(rt; TaskKind::Map.is_map() && !TaskKind::Map.is_reduce());
+    assert!(rt; TaskKind::Reduce.is_reduce() && !TaskKind::Reduce.is_map());
 }
 
 #[test]

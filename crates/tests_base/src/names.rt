@@ -1,4 +1,4 @@
-//! The namespace: each call by name and as a value, what is refused, and the rename of a large directory.
+//! The namespace: each call by name and as a value, what is refused, and the listing and the rename of a large directory.
 
 use mr_ids::AppAttempt;
 use mr_names::{Answer, Bytes, Caller, Entries, Kind, MAX_ENTRIES, NameFault, Namespace, Op};
@@ -148,11 +148,20 @@ fn namespace_calls(rt: HostRuntime) {
 fn changes_are_done(rt: &impl Abort, alloc: Global, names: &mut Namespace, one: &Caller) {
     let changes = [
         Op::Mkdirs(path(rt, alloc, "/a/b")),
-        Op::Create(path(rt, alloc, "/a/f"), false),
-        Op::Append(path(rt, alloc, "/a/f"), bytes(rt, alloc, b"xy")),
+        Op::Create {
+            path: path(rt, alloc, "/a/f"),
+            closed: false,
+        },
+        Op::Append {
+            path: path(rt, alloc, "/a/f"),
+            bytes: bytes(rt, alloc, b"xy"),
+        },
         Op::Close(path(rt, alloc, "/a/f")),
         Op::Delete(path(rt, alloc, "/a/b")),
-        Op::Rename(path(rt, alloc, "/a"), path(rt, alloc, "/c")),
+        Op::Rename {
+            from: path(rt, alloc, "/a"),
+            to: path(rt, alloc, "/c"),
+        },
     ];
     for op in &changes {
         assert!(rt; names.foresee(*one, op).is_none());
@@ -260,4 +269,42 @@ fn large_directory_rename(rt: HostRuntime) {
     assert!(rt; names.exists(*one, &path(&rt, alloc, "/b/65534")) == Ok(Some(Kind::File)));
     assert!(rt; names.delete(*one, &b) == Ok(()));
     assert!(rt; told(&rt, names.create(*one, &c, true)) == Ok(()));
+}
+
+// Whether a listing has each file that `fill` makes, by the bytes of their names: each name once, from 0 to 9999.
+fn lists_all(entries: &Entries) -> bool {
+    let files = entries.as_slice();
+    let (Some(first), Some(last)) = (files.first(), files.last()) else {
+        return false;
+    };
+    files.len() == MAX_ENTRIES - 1
+        && first.name.as_bytes() == b"0".as_slice()
+        && last.name.as_bytes() == b"9999".as_slice()
+        && files
+            .iter()
+            .zip(files.iter().skip(1))
+            .all(|(one, next)| one.name < next.name)
+        && files.iter().all(|file| file.kind == Kind::File)
+}
+
+// A full namespace: its directory is listed whole, and there is room again once a file is gone.
+#[test]
+fn large_directory_is_listed(rt: HostRuntime) {
+    let alloc = rt.alloc();
+    let one = &Caller {
+        app: generation(&rt, 1),
+        attempt: None,
+    };
+    let mut names = new_namespace(&rt, alloc);
+    let a = path(&rt, alloc, "/a");
+    let more = path(&rt, alloc, "/a/more");
+    assert!(rt; told(&rt, names.mkdirs(*one, &a)) == Ok(()));
+    fill(&rt, alloc, &mut names, one);
+    assert!(rt; told(&rt, names.create(*one, &more, true)) == Err(NameFault::Full));
+    match told(&rt, names.list(*one, &a)) {
+        Ok(entries) => assert!(rt; lists_all(&entries)),
+        Err(_) => panic!(rt; "not listed"),
+    }
+    assert!(rt; names.delete(*one, &path(&rt, alloc, "/a/0")) == Ok(()));
+    assert!(rt; told(&rt, names.create(*one, &more, true)) == Ok(()));
 }

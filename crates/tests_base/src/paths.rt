@@ -3,7 +3,7 @@
 use mr_ids::{AppAttempt, AttemptId, JobId, TaskId, TaskKind};
 use mr_paths::{
     Layout, Name, Path, PathFault, child_of, copy_names, is_hidden, is_name, is_within, parent,
-    rebase, staging,
+    part_name, rebase, staging,
 };
 use std::alloc::Global;
 use std::process::Abort;
@@ -124,7 +124,7 @@ fn committer_layout(rt: HostRuntime) {
         (99_999, "part-r-99999"),
         (123_456, "part-r-123456"),
     ] {
-        let part = layout.part(reduce).expect(&rt, "no memory");
+        let part = part_name(alloc, reduce).expect(&rt, "no memory");
         assert!(rt; part.as_bytes() == text.as_bytes(), "{text}");
         assert!(rt; !is_hidden(&part), "{text}");
     }

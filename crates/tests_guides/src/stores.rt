@@ -1,6 +1,6 @@
 //! A store, a history, a task and an actor of one's own, as the guide of the libraries shows them.
 
-use mr_commit::{CommitFault, CommitTask, StepDone};
+use mr_commit::{CommitFault, Step, StepDone};
 use mr_container::{ContainerMachine, Place, Reply};
 use mr_history::{History, HistoryFault, Record};
 use mr_ids::AppAttempt;
@@ -15,7 +15,7 @@ use std::alloc::Global;
 pub fn commit(
     store: &mut Namespace,
     caller: Caller,
-    step: &mut CommitTask,
+    step: &mut Step,
     most: u32,
 ) -> Result<StepDone, CommitFault> {
     for _ in 0..most {

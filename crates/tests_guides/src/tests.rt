@@ -2,14 +2,14 @@
 
 use crate::{begin, stores, worlds};
 use mr_attempt::AttemptState;
-use mr_commit::{CommitTask, StepDone};
+use mr_commit::{Step, StepDone};
 use mr_container::{ContainerMachine, Place, Wish};
 use mr_history::{History, Record};
 use mr_ids::{AppAttempt, AttemptId, JobId, TaskId, TaskKind};
 use mr_names::{Caller, Kind, Namespace};
 use mr_node::NodeMachine;
 use mr_packet::{Address, Bag, ContainerId, Envelope, Packet};
-use mr_paths::{Layout, Path};
+use mr_paths::{Layout, Path, part_name};
 use mr_recover::{Recovery, Staging};
 use mr_task::{DoneReply, TaskMachine};
 use mr_user::MAX_SPLIT_LEN;
@@ -116,7 +116,7 @@ fn committer_over_a_store(rt: HostRuntime) {
     };
     let mut names = well(&rt, Namespace::new(alloc));
     let work = well(&rt, layout.task_attempt(k, attempt(&rt, 0)));
-    let file = well(&rt, work.child(well(&rt, layout.part(0))));
+    let file = well(&rt, work.child(well(&rt, part_name(alloc, 0))));
     let spare = path(&rt, alloc, "/spare");
     let spare_file = path(&rt, alloc, "/spare/part");
     let moved = path(&rt, alloc, "/moved");
@@ -124,7 +124,7 @@ fn committer_over_a_store(rt: HostRuntime) {
     assert!(rt;
         names.mkdirs(caller, &work) == Ok(()) && names.create(caller, &file, true) == Ok(())
     );
-    let mut step = well(&rt, CommitTask::new(&layout, k, attempt(&rt, 0)));
+    let mut step = well(&rt, Step::commit_task(&layout, k, attempt(&rt, 0)));
     assert!(rt; stores::commit(&mut names, caller, &mut step, 10) == Ok(StepDone::Finished));
     let committed = well(&rt, layout.committed(k, TASK));
     assert!(rt; names.exists(caller, &committed) == Ok(Some(Kind::Dir)));

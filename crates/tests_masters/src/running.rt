@@ -86,8 +86,8 @@ pub fn is_win(rt: &impl Abort, envelope: &Envelope) -> bool {
 // The path of the mark that is created closed to start the job commit, if that is next.
 fn starts(duty: &Duty) -> Option<&Path> {
     match duty.call() {
-        StoreCall::Names(Op::Create(path, closed)) if *closed && duty.name() == DutyName::Started =>
-            { Some(path) }
+        StoreCall::Names(Op::Create { path, closed })
+            if *closed && duty.name() == DutyName::Started => { Some(path) }
         _ => None,
     }
 }

@@ -89,7 +89,7 @@ fn hears(rt: &impl Abort, world: &World, weather: Weather) -> Reply {
         panic!(rt; "no call of a container");
     };
     assert!(rt; caller.app.number() == 1 && caller.attempt == Some(attempt(rt, 0)));
-    assert!(rt; matches!(op, Op::Rename(_, _)));
+    assert!(rt; matches!(op, Op::Rename { .. }));
     reply
 }
 
