@@ -12,14 +12,14 @@ use Rattle.mr_names.specs.declared.op.Caller.{Caller}
 use Rattle.mr_names.specs.declared.op.Answer.{Answer}
 use Rattle.mr_names.specs.declared.op.Op.{Op}
 use Rattle.mr_names.specs.declared.op.Op.TheVariants as op
-use Rattle.mr_names.specs.declared.namespace.TheConstants.{MAX_BARRED}
+use Rattle.mr_names.specs.declared.namespace.TheConstants.{MAX_ENTRIES, MAX_BARRED}
 use Rattle.mr_names.specs.Attempts.{attempt_cmp, attempt_total, attempt_exact}
 use Rattle.mr_names.specs.Barred.{Barred, bars, is_barred, has_no_room}
 use Rattle.mr_names.specs.Content.{IsTree}
-use Rattle.mr_names.specs.Calls.{State, FilesFit, own_refusal, unheard, refused, barred_after, settled, call_of}
+use Rattle.mr_names.specs.Calls.{State, FilesFit, entry_count, own_refusal, unheard, refused, barred_after, settled, call_of}
 use Rattle.mr_names.specs.Laws.{BelowTheFence, BarredIsRefused, IsHeard, HeardHasItsOwn, HeardIs, AnsweredIsHeard, HeardAlike, RefusedStays, AnsweredIsMade, AnsweredMayBeMade, FenceStays, TreeStays, SoundStays, bar_of, BarredGrow, OnlyBarBars, OthersBarNone, BarKeepsContent, BarBars, Becomes, at_once, by_call, by_raise, BarredForGood}
 use Rattle.mr_names.proofs.TreeLaws.{row_passes, tree_effect, neither, past_caller}
-use Rattle.mr_names.proofs.Limits.{files_effect}
+use Rattle.mr_names.proofs.Limits.{entries_effect, files_effect}
 use Rattle.mr_names.proofs.Callers.{unheard-low, unheard-barred, unheard-none, unheard-is}
 
 -- ---- who is heard
@@ -112,6 +112,7 @@ few_after s caller call passed few = few_barred s call (neither (unheard s calle
 pub sound_stays : SoundStays
 sound_stays s caller call sound = record {
   tree = tree_stays s caller call sound.tree;
+  entries = kept_entries (refused s caller call) refl;
   files = kept_files (refused s caller call) refl;
   fence = subst (λ f. f ≤ 1000) (sym (fence_stays s caller call)) sound.fence;
   barred = by (refused s caller call) refl;
@@ -120,6 +121,10 @@ sound_stays s caller call sound = record {
     by : (o : Option NameFault) → refused s caller call ≡ o → set.len (settled o s call).1.barred ≤ MAX_BARRED
     by None passed = few_barred s call (neither (unheard s caller) _ passed).1 sound.barred
     by (Some why) is = sound.barred
+
+    kept_entries : (o : Option NameFault) → refused s caller call ≡ o → entry_count (settled o s call).1.content ≤ MAX_ENTRIES
+    kept_entries None passed = entries_effect s.content call (past_caller s caller call passed) sound.entries
+    kept_entries (Some why) is = sound.entries
 
     kept_files : (o : Option NameFault) → refused s caller call ≡ o → FilesFit (settled o s call).1.content
     kept_files None passed = files_effect s.content call sound.tree (past_caller s caller call passed) sound.files

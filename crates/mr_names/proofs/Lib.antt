@@ -12,6 +12,7 @@ pub mod ListingLaws
 pub mod NodeLines
 pub mod Making
 pub mod RowLaws
+pub mod Sizes
 pub mod TreeLaws
 pub mod Visiting
 pub mod Walks

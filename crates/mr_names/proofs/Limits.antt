@@ -1,5 +1,5 @@
--- Each file keeps its limit.
-use Rattle.std.proofs.Common.{◌≡◌, ◌≤◌, ◌+◌, ℕ, Bool, true, false, cond, List, [], ◌++◌, length, length-append, refl, sym, ap, ◌∙◌, subst, Option, Some, None, arith}
+-- The entries and each file keep their limits.
+use Rattle.std.proofs.Common.{◌≡◌, ◌≤◌, ◌+◌, ℕ, Bool, true, false, not, cond, List, [], ◌++◌, length, length-append, refl, sym, ap, ◌∙◌, subst, Option, Some, None, is_some, arith}
 use Rattle.std.specs.Option.{option_map}
 use Rattle.std.specs.FinMap as finite
 use Rattle.mr_paths.specs.Path.{path_cmp, strip}
@@ -8,14 +8,47 @@ use Rattle.mr_names.specs.declared.node.Node.TheVariants.{Dir, File}
 use Rattle.mr_names.specs.declared.op.Caller.{Caller}
 use Rattle.mr_names.specs.declared.op.Op.{Op}
 use Rattle.mr_names.specs.declared.op.Op.TheVariants as op
-use Rattle.mr_names.specs.declared.namespace.TheConstants.{MAX_FILE_LEN}
+use Rattle.mr_names.specs.declared.namespace.TheConstants.{MAX_ENTRIES, MAX_FILE_LEN}
 use Rattle.mr_names.specs.Node.{appended, closed_of}
 use Rattle.mr_names.specs.Content.{Content, IsTree, is_path, within, renamed_at_by}
 use Rattle.mr_names.specs.Held.{node_at, bytes_of}
-use Rattle.mr_names.specs.Calls.{State, FilesFit, refusal, refused, effect}
-use Rattle.mr_names.specs.Laws.{node_after}
+use Rattle.mr_names.specs.Calls.{State, FilesFit, entry_count, missing, refusal, refused, effect}
+use Rattle.mr_names.specs.Laws.{node_after, MayMkdirs, MayCreate}
 use Rattle.mr_names.proofs.CallLaws.{each_path, answered_only, get-written, is_path-same}
 use Rattle.mr_names.proofs.TreeLaws.{past_caller}
+use Rattle.mr_names.proofs.Sizes.{len_insert, len_with_dirs, len_changed, len_retained, len_renamed}
+
+-- ---- the entries
+
+pub entries_effect : (c : Content) (call : Op) → refusal c call ≡ None → entry_count c ≤ MAX_ENTRIES → entry_count (effect c call) ≤ MAX_ENTRIES
+entries_effect c (op.Mkdirs path) none few =
+    let may : MayMkdirs c path = answered_only c (op.Mkdirs path) none in
+    let fits : entry_count c + length (missing c path) ≤ MAX_ENTRIES = may.fits in
+    let more = len_with_dirs c (missing c path) in
+    omega arith
+entries_effect c (op.Create path closed) none few =
+    let may : MayCreate c path = answered_only c (op.Create path closed) none in
+    let fits : entry_count c + 1 ≤ MAX_ENTRIES = may.fits in
+    let more = len_insert c path (File [] closed) in
+    omega arith
+entries_effect c (op.Append path bytes) none few = let same = len_changed c path (appended bytes) in omega arith
+entries_effect c (op.Close path) none few = let same = len_changed c path closed_of in omega arith
+entries_effect c (op.Delete path) none few = let fewer = len_retained c (λ other. not (is_some (strip path other))) in omega arith
+entries_effect c (op.Rename from to) none few = let no_more = len_renamed from to c in omega arith
+entries_effect c (op.List path) none few = few
+entries_effect c (op.Exists path) none few = few
+entries_effect c (op.Read path) none few = few
+entries_effect c (op.Bar a) none few = few
+
+-- what a call that is not refused leaves, seen at the content alone
+pub entries_after : (s : State) (caller : Caller) (call : Op) (new : Content) → refused s caller call ≡ None → entry_count s.content ≤ MAX_ENTRIES → new ≡ effect s.content call → entry_count new ≤ MAX_ENTRIES
+entries_after s caller call new none few is = subst (λ c. entry_count c ≤ MAX_ENTRIES) (sym is) (entries_effect s.content call (past_caller s caller call none) few)
+
+-- the root alone
+pub entries_root : entry_count (finite.insert finite.empty [] Dir) ≤ MAX_ENTRIES
+entries_root = let one = len_insert finite.empty [] Dir in let none = finite.len-empty path_cmp Node in omega arith
+
+-- ---- the files
 
 abbrev Fits : Option Node → Type 0
 Fits o = length (bytes_of o) ≤ MAX_FILE_LEN

@@ -37,14 +37,19 @@ state_code =
     (λ p. record { content = p.0.0; fence = p.0.1; barred = p.1 })
     (λ _. refl)
 
+-- the entries without the root
+abbrev pub entry_count : Content → ℕ
+entry_count c = finite.len c - 1
+
 -- each file keeps its limit
 abbrev pub FilesFit : Content → Type 0
 FilesFit c = (path : List (List ℕ)) → length (bytes_of (node_at c path)) ≤ MAX_FILE_LEN
 
--- what holds of each namespace: its content is a tree, its fence was raised to generations alone, and its files and its barred attempts keep
--- their limits
+-- what holds of each namespace: its content is a tree, its fence was raised to generations alone, and its entries, its files and its barred
+-- attempts keep their limits
 pub record IsSound (s : State) : Type 0 where
   pub tree : IsTree s.content
+  pub entries : entry_count s.content ≤ MAX_ENTRIES
   pub files : FilesFit s.content
   pub fence : s.fence ≤ 1000
   pub barred : set.len s.barred ≤ MAX_BARRED
@@ -56,10 +61,6 @@ opening = record { content = finite.insert finite.empty [] Dir; fence = 0; barre
 -- with the fence at a generation, if that is greater
 abbrev pub raised : State → ℕ → State
 raised s app = record s { fence = max s.fence app }
-
--- the entries without the root
-abbrev pub entry_count : Content → ℕ
-entry_count c = finite.len c - 1
 
 -- what is missing on the way down to a path, the path with it
 abbrev pub missing : Content → List (List ℕ) → List (List (List ℕ))

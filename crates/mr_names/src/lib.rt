@@ -39,8 +39,9 @@
 //!   takes no memory (`check_caller`, `is_barred`);
 //! - `raise`, `fence`, `foresee`, `is_barred`, `check_caller`, `exists`, `close`, `delete` never answer `NoMemory`
 //!   (also `perform` of those three: its clause `always`);
-//! - each namespace's content is a tree (the root is a directory, and so is the parent of each other entry), its
-//!   fence is at most 1,000, and at most 100,000 attempts are barred (`fence`, clause `sound`).
+//! - each namespace's content is a tree (the root is a directory, and so is the parent of each other entry) of at most
+//!   65,536 entries without the root, each file has at most 2^24 bytes, its fence is at most 1,000, and at most 100,000
+//!   attempts are barred (`fence`, clause `sound`).
 //!
 //! Laws that follow from the definition alone stand on functions with empty bodies (`each_path`, `others_stay`,
 //! `stays_tree`, `answered`, `settles`, `bars_stay`, `listings`, `runs`, `rename_moves`, `delete_takes_out`): what

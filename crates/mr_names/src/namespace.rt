@@ -286,7 +286,7 @@ impl Namespace {
         ensures { Refuses (if nat_lt MAX_ENTRIES (entry_count self.now.content + more) then Some NameFault.Full else None) result }
     {
         let count = self.tree.len().saturating_sub(1);
-        if MAX_ENTRIES < count || MAX_ENTRIES - count < more {
+        if MAX_ENTRIES - count < more {
             Err(NameFault::Full)
         } else {
             Ok(())

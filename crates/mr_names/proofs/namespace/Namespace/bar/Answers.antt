@@ -12,6 +12,7 @@ invariant_of-self-2 c =
     let after : set.len (set.insert c.args.self.now.barred c.args.attempt) ≤ MAX_BARRED = few_after c.args.self.now c.args.caller (op.Bar c.args.attempt) c.in_ok-check_bar.ensures few in
     record {
       tree = c.self.invariant.tree;
+      entries = c.self.invariant.entries;
       files = c.self.invariant.files;
       fence = c.self.invariant.fence;
       barred = subst (λ b. set.len b ≤ MAX_BARRED) (sym (c.in_ok-insert.ensures.ok ∙ ap (λ (s : State). set.insert s.barred c.args.attempt) c.self.view_is)) after;
