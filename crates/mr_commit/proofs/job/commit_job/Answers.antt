@@ -19,4 +19,4 @@ returns-in_err-step-clause-made c =
     rw (p.1, p.2) (made_nothing (commit_job c.args.layout.now.dest c.args.caller.app) c.args.names.now c.args.caller c.in_ok-k.ensures.heard)
 
 pub finish-requires : goal.finish-requires
-finish-requires c = record { settles = rw (c.before.before.in_ok-step.step.view_is, c.in_ok-step.ensures) (job_settles c.args.layout.now.dest _) }
+finish-requires c = record { settles = rw c.in_ok-step.ensures (job_settles c.args.layout.now.dest _) }
