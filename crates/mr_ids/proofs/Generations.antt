@@ -1,5 +1,5 @@
 -- A number's generation, by the thousand that it lies in.
-use Rattle.std.proofs.Common.{ℕ, ◌≤◌, ◌<◌, ◌+◌, ◌*◌, ◌-◌, ◌/◌, ◌≡◌, arith}
+use Rattle.std.proofs.Common.{ℕ, ◌≤◌, ◌<◌, ◌+◌, ◌≡◌, arith}
 use Rattle.mr_ids.specs.Generations.{first_attempt_number, generation_of}
 
 pub first_is_own : (k : ℕ) → 1 ≤ k → generation_of (first_attempt_number k) ≡ k

@@ -46,4 +46,7 @@ mod reading;
 
 pub use fault::IdFault;
 pub use id::{AppAttempt, AttemptId, JobId, MAX_APP_ATTEMPTS, TaskId, TaskKind};
-pub use laws::{numbers_tell_generations, numerals_are_digits, numerals_are_distinct, texts_are_distinct, texts_are_plain};
+pub use laws::{
+    numbers_tell_generations, numerals_are_digits, numerals_are_distinct, texts_are_distinct,
+    texts_are_plain,
+};
