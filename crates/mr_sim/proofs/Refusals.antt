@@ -9,13 +9,13 @@ use Rattle.mr_sim.specs.declared.fault.JobTextFault.{JobTextFault}
 use Rattle.mr_sim.specs.declared.fault.JobTextFault.TheVariants as bad
 use Rattle.mr_sim.specs.declared.fault.SimFault.TheVariants.{NoMemory, Read, Write, TooLong, BadCommand, BadRecord, Job, Refused, Full}
 use Rattle.mr_sim.specs.declared.subcommand.Command.TheVariants.{Committer, Play, PlayShown, PlayDrawn, History, Seq}
-use Rattle.mr_sim.specs.declared.submission.Submission.{Submission}
-use Rattle.mr_sim.specs.JobText.{◌>>=◌, within, number_in, required, optional, text_at, job_named, kind_named, splits_of, faults_of, submission_in, submission_of}
+use Rattle.mr_sim.specs.declared.job.submission.Submission.{Submission}
+use Rattle.mr_sim.specs.job.Text.{◌>>=◌, within, number_in, required, optional, text_at, job_named, kind_named, splits_of, faults_of, submission_in, submission_of}
 use Rattle.mr_sim.specs.Laws.{PrintedOrRefused}
-use Rattle.mr_sim.specs.Seq.{PrintsSeq, RefusesSeq}
+use Rattle.mr_sim.specs.seq.Text.{PrintsSeq, RefusesSeq}
 use Rattle.mr_world.specs.Limits as limits
-use Rattle.mr_sim.proofs.Playing.{one_play_text_law}
-use Rattle.mr_sim.proofs.Readings.{read_or_bad_law}
+use Rattle.mr_sim.proofs.play.Playing.{one_play_text_law}
+use Rattle.mr_sim.proofs.committer.Readings.{read_or_bad_law}
 
 -- ---- a job has some reduce
 

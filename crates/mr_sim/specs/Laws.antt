@@ -2,12 +2,12 @@
 use Rattle.std.specs.Prelude.{◌≡◌, ℕ, List}
 use Rattle.mr_sim.specs.declared.fault.SimFault.{SimFault}
 use Rattle.mr_sim.specs.declared.fault.SimFault.TheVariants.{NoMemory, Read, Write, TooLong, BadCommand, BadRecord, Job, Refused, Full}
-use Rattle.mr_sim.specs.declared.order.Order.{Order}
+use Rattle.mr_sim.specs.declared.committer.order.Order.{Order}
 use Rattle.mr_sim.specs.declared.subcommand.Command.{Command}
 use Rattle.mr_script.specs.Lines.{lines_of}
 use Rattle.mr_sim.specs.Printed.{IsWithin, Prints, Refuses}
-use Rattle.mr_sim.specs.Script.{AreCommands, IsFirstBad}
-use Rattle.mr_sim.specs.Seq.{PrintsSeq}
+use Rattle.mr_sim.specs.committer.Script.{AreCommands, IsFirstBad}
+use Rattle.mr_sim.specs.seq.Text.{PrintsSeq}
 
 -- a script has at most one reading
 abbrev pub OneReading : Type 0

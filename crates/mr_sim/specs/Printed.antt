@@ -8,23 +8,23 @@ use Rattle.mr_commit.specs.declared.fault.CommitFault.TheVariants as commits
 use Rattle.mr_sim.specs.declared.fault.JobTextFault.{JobTextFault}
 use Rattle.mr_sim.specs.declared.fault.SimFault.{SimFault}
 use Rattle.mr_sim.specs.declared.fault.SimFault.TheVariants.{NoMemory, Read, Write, TooLong, BadCommand, BadRecord, Job, Refused, Full}
-use Rattle.mr_sim.specs.declared.order.Order.{Order}
-use Rattle.mr_sim.specs.declared.scene.Scene.{Scene}
-use Rattle.mr_sim.specs.declared.scene.Reply.{Reply}
-use Rattle.mr_sim.specs.declared.scene.Reply.TheVariants.{Silent, Yes, No}
+use Rattle.mr_sim.specs.declared.committer.order.Order.{Order}
+use Rattle.mr_sim.specs.declared.committer.scene.Scene.{Scene}
+use Rattle.mr_sim.specs.declared.committer.scene.Reply.{Reply}
+use Rattle.mr_sim.specs.declared.committer.scene.Reply.TheVariants.{Silent, Yes, No}
 use Rattle.mr_sim.specs.declared.subcommand.Command.{Command}
 use Rattle.mr_sim.specs.declared.subcommand.Command.TheVariants.{Committer, Play, PlayShown, PlayDrawn, History, Seq}
 use Rattle.mr_history.specs.Reading.{bad_line}
 use Rattle.mr_world.specs.Limits.{within}
-use Rattle.mr_sim.specs.Effect.{out, start, outcome}
-use Rattle.mr_sim.specs.History.{PrintsHistory}
-use Rattle.mr_sim.specs.JobText.{submission_of}
+use Rattle.mr_sim.specs.committer.Effect.{out, start, outcome}
+use Rattle.mr_sim.specs.history.Text.{PrintsHistory}
+use Rattle.mr_sim.specs.job.Text.{submission_of}
 use Rattle.mr_script.specs.Lines.{lines_of}
-use Rattle.mr_sim.specs.Listing.{listing}
-use Rattle.mr_sim.specs.Play.{PrintsPlay, IsBadPlayJob, IsBadPlayLine, IsFullPlay}
-use Rattle.mr_sim.specs.Script.{AreCommands, IsFirstBad}
-use Rattle.mr_sim.specs.Seq.{PrintsSeq, RefusesSeq}
-use Rattle.mr_sim.specs.Shown.{Shows, Draws}
+use Rattle.mr_sim.specs.committer.Listing.{listing}
+use Rattle.mr_sim.specs.play.Text.{PrintsPlay, IsBadPlayJob, IsBadPlayLine, IsFullPlay}
+use Rattle.mr_sim.specs.committer.Script.{AreCommands, IsFirstBad}
+use Rattle.mr_sim.specs.seq.Text.{PrintsSeq, RefusesSeq}
+use Rattle.mr_sim.specs.play.Shown.{Shows, Draws}
 
 -- ---- `committer`
 

@@ -1,16 +1,23 @@
 //! The subcommand `committer`.
 ghost use Rattle.std.specs.Prelude.{◌≡◌, ◌++◌, ◌∷◌, [], codes, ℕ, IfOk, IfErr, OnOk, IsOkUnless};
-ghost use Rattle.mr_sim.specs.Effect.{out, start, outcome};
-ghost use Rattle.mr_sim.specs.Listing.{listing};
+ghost use Rattle.mr_sim.specs.committer.Effect.{out, start, outcome};
+ghost use Rattle.mr_sim.specs.committer.Listing.{listing};
 ghost use Rattle.mr_sim.specs.Printed.{Prints, RefusesText, replies, reply_text, scene_after};
 
+mod listing;
+mod order;
+mod reply;
+mod scene;
+mod script;
+
+use crate::committer::listing::print_listing;
+use crate::committer::order::Order;
+use crate::committer::reply::print_reply;
+use crate::committer::scene::{Scene, obey};
+use crate::committer::script::script_of;
 use crate::fault::SimFault;
-use crate::listing::print_listing;
-use crate::order::Order;
-use crate::reply::print_reply;
-use crate::scene::{Scene, obey};
-use crate::script::script_of;
 use crate::subcommand::Command;
+pub use listing::print_names;
 use mr_commit::CommitFault;
 use mr_ids::AppAttempt;
 use mr_names::{Caller, Namespace};

@@ -1,7 +1,7 @@
 //! The subcommand `history`.
 ghost use Rattle.std.specs.Prelude.{◌≡◌, ◌++◌, flat_map, decimal, IfOk, IfErr, OnOk};
 ghost use Rattle.mr_ids.specs.Text.{attempt_text};
-ghost use Rattle.mr_sim.specs.History.{record_text, record_line, length_text, version_text, PrintsHistory, RefusesHistory};
+ghost use Rattle.mr_sim.specs.history.Text.{record_text, record_line, length_text, version_text, PrintsHistory, RefusesHistory};
 ghost use Rattle.mr_sim.specs.Printed.{Prints, RefusesText};
 
 use crate::fault::SimFault;

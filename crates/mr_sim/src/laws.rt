@@ -1,7 +1,7 @@
 //! Laws of the definitions: these functions do nothing.
 ghost use Rattle.mr_sim.specs.Laws.{OneReading, ReadOrBad, OneFirstBad, OneSeqText, PrintedOrRefused};
-ghost use Rattle.mr_sim.specs.PlayLaws.{CalmsArePermitted, NamesAreOfDutiesAndWishes, OnePlayText, ScriptsGoOn};
-ghost use Rattle.mr_sim.specs.PlayRows.{PlayedRows};
+ghost use Rattle.mr_sim.specs.play.Laws.{CalmsArePermitted, NamesAreOfDutiesAndWishes, OnePlayText, ScriptsGoOn};
+ghost use Rattle.mr_sim.specs.play.Rows.{PlayedRows};
 
 /// A script has at most one reading.
 pub fn one_reading()

@@ -62,48 +62,21 @@
 //! stored run, and tests of its command line (subcommands, help, refused words).
 #![tactic(auto)]
 
-mod call_words;
-mod calm;
 mod committer;
-mod draw;
-mod drawing;
-mod drawn;
-mod event_names;
 mod fault;
-mod histories;
 mod history;
 mod input;
-mod job_text;
-mod lanes;
+mod job;
 mod laws;
-mod listing;
-mod order;
-mod part_files;
-mod picture;
 mod play;
-mod player;
-mod refused;
-mod reply;
-mod rows;
-mod scene;
-mod script;
 mod seq;
-mod signs;
-mod sources;
 mod subcommand;
-mod submission;
-mod svg;
-mod trace;
-mod trace_words;
-mod works;
-mod world_text;
 
 pub use fault::{Ending, JobTextFault, SimFault, exit_status};
-pub use job_text::read_job_text;
+pub use job::{JobKind, PlanAct, PlanFault, PlanFaults, Splits, Submission, read_job_text};
 pub use laws::{
     calms_are_permitted, names_are_of_duties_and_wishes, one_first_bad, one_play_text, one_reading,
     one_seq_text, played_rows, printed_or_refused, read_or_bad, scripts_go_on,
 };
 pub use play::Shown;
 pub use subcommand::{Command, answer, run, run_streams};
-pub use submission::{JobKind, PlanAct, PlanFault, PlanFaults, Splits, Submission};

@@ -6,23 +6,36 @@ ghost use Rattle.mr_script.specs.Script.{AreCommands};
 ghost use Rattle.mr_world.specs.Journal.{world_in};
 ghost use Rattle.mr_world.specs.Limits.{within};
 ghost use Rattle.mr_sim.specs.declared.fault.SimFault.TheVariants as fault;
-ghost use Rattle.mr_sim.specs.Play.{job_line, played_of, script_by, world_text};
+ghost use Rattle.mr_sim.specs.play.Text.{job_line, played_of, script_by, world_text};
 ghost use Rattle.mr_sim.specs.inner.Player.{FullWhere};
 ghost use Rattle.mr_sim.specs.inner.PlaySteps.{HasPlayed, HasPrinted, IsUnread};
 ghost use Rattle.mr_sim.specs.Printed.{Prints, RefusesText};
-ghost use Rattle.mr_sim.specs.Shown.{HasText, text_in};
-ghost use Rattle.mr_sim.specs.Submission.{IsWithinLimits};
+ghost use Rattle.mr_sim.specs.play.Shown.{HasText, text_in};
+ghost use Rattle.mr_sim.specs.job.Submission.{IsWithinLimits};
+
+mod call_words;
+mod calm;
+mod event_names;
+mod histories;
+mod picture;
+mod player;
+mod refused;
+mod sources;
+mod trace;
+mod trace_words;
+mod works;
+mod world_text;
 
 use crate::fault::SimFault;
-use crate::histories::print_histories;
-use crate::job_text::read_job_text;
-use crate::player::Player;
+use crate::job::{Submission, read_job_text};
+use crate::play::histories::print_histories;
+use crate::play::player::Player;
+use crate::play::trace::trace_of;
+use crate::play::world_text::print_world;
 use crate::subcommand::Command;
-use crate::submission::Submission;
-use crate::trace::trace_of;
-use crate::world_text::print_world;
 use mr_ids::JobId;
 use mr_script::{Command as ScriptCommand, ScriptFault, commands_of, split_once};
+pub use picture::play_drawn;
 use std::alloc::Global;
 
 /// The job text, which is the first line, and the script behind it.
@@ -103,7 +116,7 @@ fn shown_text(alloc: Global, player: &Player, shown: Shown) -> Result<Vec<u8>, S
     Ok(text)
 }
 
-#[tactic(auto, using(crate::proofs::Showing::printed))]
+#[tactic(auto, using(crate::proofs::play::Showing::printed))]
 /// The player of a job text and a script, which has obeyed the script.
 pub fn played(alloc: Global, input: &[u8]) -> Result<Player, SimFault>
     ensures ok { IfOk result (HasPrinted input.now) }
@@ -123,7 +136,7 @@ pub fn play(alloc: Global, input: &[u8]) -> Result<Vec<u8>, SimFault>
     text_of(played(alloc, input)?)
 }
 
-#[tactic(auto, using(crate::proofs::Showing::shows))]
+#[tactic(auto, using(crate::proofs::play::Showing::shows))]
 /// What `play` prints, with what is shown beside it.
 pub fn play_shown(alloc: Global, input: &[u8], shown: Shown) -> Result<Vec<u8>, SimFault>
     ensures ok { IfOk result (λ v. Prints (Command.PlayShown shown) input.now v.items) }

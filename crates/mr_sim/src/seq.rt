@@ -2,20 +2,22 @@
 ghost use Rattle.std.specs.Prelude.{◌≡◌, ◌≤◌, length, map, IfOk, IfErr};
 ghost use Rattle.mr_user.specs.Faults.{RefusedIf};
 ghost use Rattle.mr_sim.specs.Printed.{Prints, RefusesText};
-ghost use Rattle.mr_sim.specs.Seq.{ArePartFiles, RefusesLine};
-ghost use Rattle.mr_sim.specs.Submission.{IsWithinLimits};
+ghost use Rattle.mr_sim.specs.seq.Text.{ArePartFiles, RefusesLine};
+ghost use Rattle.mr_sim.specs.job.Submission.{IsWithinLimits};
+
+mod part_files;
 
 use crate::fault::SimFault;
-use crate::job_text::read_job_text;
-use crate::part_files::part_files_text;
+use crate::job::{JobKind, Submission, read_job_text};
+use crate::seq::part_files::part_files_text;
 use crate::subcommand::Command;
-use crate::submission::{JobKind, Submission};
 use mr_user::{LineIndex, MaxByKey, UserFault, WordCount, sequential};
+pub use part_files::print_file;
 use std::alloc::Global;
 
 /// The part files of a job's sequential execution.
-#[tactic(auto, unfolding(crate::specs::Seq::output_of))]
-fn part_files(alloc: Global, submission: &Submission) -> Result<Vec<Vec<u8>>, UserFault>
+#[tactic(auto, unfolding(crate::specs::seq::Text::output_of))]
+fn part_files_of(alloc: Global, submission: &Submission) -> Result<Vec<Vec<u8>>, UserFault>
     requires { IsWithinLimits submission.now }
     ensures files { IfOk result (λ files. ArePartFiles submission.now (map (λ file. file.items) files.items)) }
     ensures fault { IfErr result (λ fault. RefusedIf fault (RefusesLine submission.now)) }
@@ -35,7 +37,7 @@ pub fn seq(alloc: Global, input: &[u8]) -> Result<Vec<u8>, SimFault>
     ensures fault { IfErr result (RefusesText Command.Seq input.now) }
 {
     let submission = read_job_text(alloc, input)?;
-    match part_files(alloc, &submission) {
+    match part_files_of(alloc, &submission) {
         Ok(files) => Ok(part_files_text(alloc, &files)?),
         Err(UserFault::Refused) => Err(SimFault::Refused),
         Err(_) => Err(SimFault::NoMemory),

@@ -4,11 +4,10 @@ ghost use Rattle.std.specs.Io.KnownBytes.{Keeps};
 ghost use Rattle.mr_sim.specs.Printed.{Prints, Refuses, RefusesText, Writes};
 
 use crate::committer::committer;
-use crate::drawn::play_drawn;
 use crate::fault::SimFault;
 use crate::history::history;
 use crate::input::read_input;
-use crate::play::{Shown, play, play_shown};
+use crate::play::{Shown, play, play_drawn, play_shown};
 use crate::seq::seq;
 use std::alloc::Global;
 use std::io::{Read, Write};

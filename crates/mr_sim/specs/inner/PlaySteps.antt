@@ -9,11 +9,11 @@ use Rattle.mr_world.specs.Journal.{world_in}
 use Rattle.mr_world.specs.Limits.{within}
 use Rattle.mr_sim.specs.declared.fault.SimFault.{SimFault}
 use Rattle.mr_sim.specs.declared.fault.SimFault.TheVariants as fault
-use Rattle.mr_sim.specs.declared.player.Player.{Player}
-use Rattle.mr_sim.specs.declared.submission.Submission.{Submission}
-use Rattle.mr_sim.specs.Play.{PrintsPlay, config_of, line_of_winner, played_of, printed_world}
+use Rattle.mr_sim.specs.declared.play.player.Player.{Player}
+use Rattle.mr_sim.specs.declared.job.submission.Submission.{Submission}
+use Rattle.mr_sim.specs.play.Text.{PrintsPlay, config_of, line_of_winner, played_of, printed_world}
 use Rattle.mr_sim.specs.inner.Player.{state_in}
-use Rattle.mr_sim.specs.Shown.{text_in}
+use Rattle.mr_sim.specs.play.Shown.{text_in}
 
 -- a script is not read: its first bad line, where line 2 of the input is its first, or an allocation failure
 abbrev pub IsUnread : JobId → List ℕ → SimFault → Type 0

@@ -14,13 +14,13 @@ use Rattle.mr_script.specs.declared.event_name.EventName.{EventName}
 use Rattle.mr_script.specs.declared.event_name.EventName.TheVariants as name
 use Rattle.mr_world.specs.Journal.{world_in}
 use Rattle.mr_world.specs.Limits.{within}
-use Rattle.mr_sim.specs.declared.calm.Coming.{Coming}
-use Rattle.mr_sim.specs.declared.calm.Coming.TheVariants as coming
+use Rattle.mr_sim.specs.declared.play.calm.Coming.{Coming}
+use Rattle.mr_sim.specs.declared.play.calm.Coming.TheVariants as coming
 use Rattle.mr_sim.specs.declared.fault.SimFault.{SimFault}
 use Rattle.mr_sim.specs.declared.fault.SimFault.TheVariants as fault
-use Rattle.mr_sim.specs.declared.player.Player.{Player}
-use Rattle.mr_sim.specs.Play.{job_as}
-use Rattle.mr_sim.specs.Played.{Played, Next, calmed, calms, computing, taken}
+use Rattle.mr_sim.specs.declared.play.player.Player.{Player}
+use Rattle.mr_sim.specs.play.Text.{job_as}
+use Rattle.mr_sim.specs.play.Played.{Played, Next, calmed, calms, computing, taken}
 
 -- ---- how far a player is
 

@@ -1,10 +1,10 @@
 -- The first word of a command, and what stands after it.
 use Rattle.std.specs.Prelude.{ℕ, List, ◌∷◌, ◌++◌, codes, decimal, Option, Some, None}
-use Rattle.mr_sim.specs.declared.order.Verb.{Verb}
-use Rattle.mr_sim.specs.declared.order.Verb.TheVariants as verb
-use Rattle.mr_sim.specs.declared.order.Order.{Order}
-use Rattle.mr_sim.specs.declared.order.Order.TheVariants.{As, Raise, Check, Setup, Write, Needs, Commit, Abort, Recover, CommitJob, AbortJob, Bar, By}
-use Rattle.mr_sim.specs.Script.{attempt_word, recovery_words, caller_word}
+use Rattle.mr_sim.specs.declared.committer.order.Verb.{Verb}
+use Rattle.mr_sim.specs.declared.committer.order.Verb.TheVariants as verb
+use Rattle.mr_sim.specs.declared.committer.order.Order.{Order}
+use Rattle.mr_sim.specs.declared.committer.order.Order.TheVariants.{As, Raise, Check, Setup, Write, Needs, Commit, Abort, Recover, CommitJob, AbortJob, Bar, By}
+use Rattle.mr_sim.specs.committer.Script.{attempt_word, recovery_words, caller_word}
 
 abbrev pub verb_text : Verb → List ℕ
 verb_text verb.As = codes "as"

@@ -1,7 +1,7 @@
 use Rattle.std.proofs.Common.{◌≡◌, ◌++◌, ◌∙◌, ℕ, List, Result, Ok, Err, ap, sym, append_assoc, codes, decimal}
 use Rattle.std.specs.Prelude.{OnOk}
 use Rattle.mr_ids.specs.Text.{attempt_text}
-use Rattle.mr_sim.specs.History.{record_text}
+use Rattle.mr_sim.specs.history.Text.{record_text}
 use Rattle.mr_sim.proofs.history.print_record.Goals as goal
 
 -- what three calls added, as one text behind what was there

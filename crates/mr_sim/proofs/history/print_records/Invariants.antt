@@ -1,5 +1,5 @@
 use Rattle.std.proofs.Common.{◌≡◌, ◌++◌, take, flat_map}
-use Rattle.mr_sim.specs.History.{record_line}
+use Rattle.mr_sim.specs.history.Text.{record_line}
 use Rattle.mr_sim.proofs.history.print_records.Given as goal
 
 abbrev pub invariant-loop-record : goal.invariant-loop-record

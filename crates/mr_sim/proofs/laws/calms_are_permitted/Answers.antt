@@ -1,4 +1,4 @@
-use Rattle.mr_sim.proofs.Calming.{calms_are_permitted_law}
+use Rattle.mr_sim.proofs.play.Calming.{calms_are_permitted_law}
 use Rattle.mr_sim.proofs.laws.calms_are_permitted.Goals as goal
 
 pub returns : goal.returns

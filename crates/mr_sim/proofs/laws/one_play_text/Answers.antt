@@ -1,4 +1,4 @@
-use Rattle.mr_sim.proofs.Playing.{one_play_text_law}
+use Rattle.mr_sim.proofs.play.Playing.{one_play_text_law}
 use Rattle.mr_sim.proofs.laws.one_play_text.Goals as goal
 
 pub returns : goal.returns

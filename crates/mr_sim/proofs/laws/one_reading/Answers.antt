@@ -1,4 +1,4 @@
-use Rattle.mr_sim.proofs.Readings.{one_reading_law}
+use Rattle.mr_sim.proofs.committer.Readings.{one_reading_law}
 use Rattle.mr_sim.proofs.laws.one_reading.Goals as goal
 
 pub returns : goal.returns

@@ -1,4 +1,4 @@
-use Rattle.mr_sim.proofs.PartFiles.{one_seq_text_law}
+use Rattle.mr_sim.proofs.seq.PartFiles.{one_seq_text_law}
 use Rattle.mr_sim.proofs.laws.one_seq_text.Goals as goal
 
 pub returns : goal.returns

@@ -1,4 +1,4 @@
-use Rattle.mr_sim.proofs.PlayRows.{played_rows_law}
+use Rattle.mr_sim.proofs.play.Rows.{played_rows_law}
 use Rattle.mr_sim.proofs.laws.played_rows.Goals as goal
 
 pub returns : goal.returns

@@ -1,4 +1,4 @@
-use Rattle.mr_sim.proofs.Readings.{read_or_bad_law}
+use Rattle.mr_sim.proofs.committer.Readings.{read_or_bad_law}
 use Rattle.mr_sim.proofs.laws.read_or_bad.Goals as goal
 
 pub returns : goal.returns

@@ -1,4 +1,4 @@
-use Rattle.mr_sim.proofs.Playing.{scripts_go_on_law}
+use Rattle.mr_sim.proofs.play.Playing.{scripts_go_on_law}
 use Rattle.mr_sim.proofs.laws.scripts_go_on.Goals as goal
 
 pub returns : goal.returns

@@ -1,5 +1,5 @@
 use Rattle.std.proofs.Common.{◌∙◌, sym}
-use Rattle.mr_sim.proofs.Plays.{from-begin, full-exit}
+use Rattle.mr_sim.proofs.play.Plays.{from-begin, full-exit}
 use Rattle.mr_sim.proofs.play.player_of.Goals as goal
 
 pub returns-in_err-play-clause-full : goal.returns-in_err-play-clause-full

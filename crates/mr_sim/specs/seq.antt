@@ -1,0 +1,2 @@
+pub mod PartFiles
+pub mod Text
