@@ -1,90 +1,34 @@
--- What a subcommand prints for its input, and which faults it answers.
-use Rattle.std.specs.Prelude.{◌≡◌, ◌<◌, ◌≤◌, ◌^◌, Option, Some, ℕ, List, [], ◌∷◌, ◌++◌, Result, Ok, Err, codes, decimal, length}
+-- What a subcommand prints for its input, and which faults it answers: a case for each subcommand, whose words stand in its folder.
+use Rattle.std.specs.Prelude.{◌≡◌, ◌<◌, ◌≤◌, ◌^◌, Option, Some, ℕ, List, Err, length}
 use Rattle.std.specs.Io.KnownBytes.{Appends}
-use Rattle.mr_names.specs.declared.fault.NameFault.{NameFault}
-use Rattle.mr_names.specs.declared.fault.NameFault.TheVariants as names
-use Rattle.mr_commit.specs.declared.fault.CommitFault.{CommitFault}
-use Rattle.mr_commit.specs.declared.fault.CommitFault.TheVariants as commits
+use Rattle.mr_history.specs.Reading.{bad_line}
+use Rattle.mr_script.specs.Lines.{lines_of}
+use Rattle.mr_world.specs.Limits.{within}
 use Rattle.mr_sim.specs.declared.fault.JobTextFault.{JobTextFault}
 use Rattle.mr_sim.specs.declared.fault.SimFault.{SimFault}
 use Rattle.mr_sim.specs.declared.fault.SimFault.TheVariants.{NoMemory, Read, Write, TooLong, BadCommand, BadRecord, Job, Refused, Full}
-use Rattle.mr_sim.specs.declared.committer.order.Order.{Order}
-use Rattle.mr_sim.specs.declared.committer.scene.Scene.{Scene}
-use Rattle.mr_sim.specs.declared.committer.scene.Reply.{Reply}
-use Rattle.mr_sim.specs.declared.committer.scene.Reply.TheVariants.{Silent, Yes, No}
 use Rattle.mr_sim.specs.declared.subcommand.Command.{Command}
 use Rattle.mr_sim.specs.declared.subcommand.Command.TheVariants.{Committer, Play, PlayShown, PlayDrawn, History, Seq}
-use Rattle.mr_history.specs.Reading.{bad_line}
-use Rattle.mr_world.specs.Limits.{within}
-use Rattle.mr_sim.specs.committer.Effect.{out, start, outcome}
+use Rattle.mr_sim.specs.committer.Script.{IsFirstBad}
+use Rattle.mr_sim.specs.committer.Text.{PrintsCommitter}
 use Rattle.mr_sim.specs.history.Text.{PrintsHistory}
 use Rattle.mr_sim.specs.job.Text.{submission_of}
-use Rattle.mr_script.specs.Lines.{lines_of}
-use Rattle.mr_sim.specs.committer.Listing.{listing}
-use Rattle.mr_sim.specs.play.Text.{PrintsPlay, IsBadPlayJob, IsBadPlayLine, IsFullPlay}
-use Rattle.mr_sim.specs.committer.Script.{AreCommands, IsFirstBad}
-use Rattle.mr_sim.specs.seq.Text.{PrintsSeq, RefusesSeq}
 use Rattle.mr_sim.specs.play.Shown.{Shows, Draws}
+use Rattle.mr_sim.specs.play.Text.{PrintsPlay, IsBadPlayJob, IsBadPlayLine, IsFullPlay}
+use Rattle.mr_sim.specs.seq.Text.{PrintsSeq, RefusesSeq}
 
--- ---- `committer`
-
--- the variant of a refusal
-abbrev pub name_fault_text : NameFault → List ℕ
-name_fault_text (names.Superseded fence) = codes "Superseded " ++ decimal fence
-name_fault_text names.Barred = codes "Barred"
-name_fault_text names.Missing = codes "Missing"
-name_fault_text names.Exists = codes "Exists"
-name_fault_text names.NotDir = codes "NotDir"
-name_fault_text names.NotFile = codes "NotFile"
-name_fault_text names.Closed = codes "Closed"
-name_fault_text names.NoParent = codes "NoParent"
-name_fault_text names.IntoItself = codes "IntoItself"
-name_fault_text names.Full = codes "Full"
-name_fault_text names.NoMemory = codes "NoMemory"
-
-abbrev pub fault_text : CommitFault → List ℕ
-fault_text (commits.Names f) = name_fault_text f
-fault_text commits.OutputMissing = codes "OutputMissing"
-fault_text commits.WrongLength = codes "WrongLength"
-fault_text commits.DestinationExists = codes "DestinationExists"
-fault_text commits.WrongAnswer = codes "WrongAnswer"
-fault_text commits.Over = codes "Over"
-fault_text commits.NoMemory = codes "NoMemory"
-
--- one line of what is printed
-abbrev pub said : ℕ → List ℕ → List ℕ
-said line text = decimal line ++ codes ": " ++ text ++ 10 ∷ []
-
--- what the command of a line prints
-unfoldable pub reply_text : ℕ → Result Reply CommitFault → List ℕ
-reply_text line (Ok Silent) = []
-reply_text line (Ok Yes) = said line (codes "yes")
-reply_text line (Ok No) = said line (codes "no")
-reply_text line (Err f) = said line (fault_text f)
-
--- what commands with their lines print in turn, and where they lead
-abbrev pub replies : List (List ℕ) → List (ℕ × Order) → Scene → List ℕ
-replies dest [] s = []
-replies dest (o ∷ os) s = reply_text o.0 (outcome dest o.1 s).0 ++ replies dest os (outcome dest o.1 s).1
-
-abbrev pub scene_after : List (List ℕ) → List (ℕ × Order) → Scene → Scene
-scene_after dest [] s = s
-scene_after dest (o ∷ os) s = scene_after dest os (outcome dest o.1 s).1
-
--- the replies, and then what the namespace holds
-abbrev pub committer_text : List (ℕ × Order) → List ℕ
-committer_text os = replies out os start ++ listing (scene_after out os start).names.content
-
--- ---- all subcommands
+-- ---- what is printed
 
 -- the text is what the subcommand prints for the input
 abbrev pub Prints : Command → List ℕ → List ℕ → Type 0
-Prints Committer input text = (os : List (ℕ × Order)) × AreCommands 1 (lines_of input) os × (text ≡ committer_text os)
+Prints Committer input text = PrintsCommitter input text
 Prints Play input text = PrintsPlay within input text
 Prints (PlayShown shown) input text = Shows within shown input text
 Prints PlayDrawn input text = Draws within input
 Prints History input text = PrintsHistory input text
 Prints Seq input text = PrintsSeq input text
+
+-- ---- what is refused
 
 -- the first line of a script that is no command
 abbrev pub IsBadLine : Command → List ℕ → ℕ → Type 0

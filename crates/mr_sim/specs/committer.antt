@@ -1,3 +1,4 @@
 pub mod Effect
 pub mod Listing
 pub mod Script
+pub mod Text

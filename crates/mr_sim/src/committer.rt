@@ -2,7 +2,8 @@
 ghost use Rattle.std.specs.Prelude.{◌≡◌, ◌++◌, ◌∷◌, [], codes, ℕ, IfOk, IfErr, OnOk, IsOkUnless};
 ghost use Rattle.mr_sim.specs.committer.Effect.{out, start, outcome};
 ghost use Rattle.mr_sim.specs.committer.Listing.{listing};
-ghost use Rattle.mr_sim.specs.Printed.{Prints, RefusesText, replies, reply_text, scene_after};
+ghost use Rattle.mr_sim.specs.Printed.{Prints, RefusesText};
+ghost use Rattle.mr_sim.specs.committer.Text.{replies, reply_text, scene_after};
 
 mod listing;
 mod order;

@@ -1,7 +1,7 @@
 //! What a command prints.
 //! In a script of committer calls: nothing, or `yes`, `no` or the name of the refusal behind the number of its line.
 ghost use Rattle.std.specs.Prelude.{◌≡◌, ◌++◌, IfOk, OnOk, string_bytes};
-ghost use Rattle.mr_sim.specs.Printed.{fault_text, name_fault_text, reply_text, said};
+ghost use Rattle.mr_sim.specs.committer.Text.{fault_text, name_fault_text, reply_text, said};
 
 use crate::committer::scene::Reply;
 use itoa::Buffer;
@@ -55,7 +55,7 @@ fn say(out: &mut Vec<u8>, line: usize, text: &[u8]) -> Result<(), AllocError>
 }
 
 /// What the command of a line prints.
-#[tactic(auto, unfolding(crate::specs::Printed::reply_text))]
+#[tactic(auto, unfolding(crate::specs::committer::Text::reply_text))]
 pub fn print_reply(
     alloc: Global,
     out: &mut Vec<u8>,

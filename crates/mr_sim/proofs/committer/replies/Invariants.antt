@@ -1,5 +1,5 @@
 use Rattle.std.proofs.Common.{◌≡◌, ◌++◌, drop}
-use Rattle.mr_sim.specs.Printed.{replies, scene_after}
+use Rattle.mr_sim.specs.committer.Text.{replies, scene_after}
 use Rattle.mr_sim.proofs.committer.replies.Given as goal
 
 -- what is printed and left so far, and then by the commands that are left, is what all commands print and leave
