@@ -1,6 +1,6 @@
 pub mod Attempts
+pub mod CarryingOut
 pub mod Joined
-pub mod Obeying
 pub mod Readings
 pub mod Recoveries
 pub mod Verbs

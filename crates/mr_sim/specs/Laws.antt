@@ -2,7 +2,7 @@
 use Rattle.std.specs.Prelude.{◌≡◌, ℕ, List}
 use Rattle.mr_sim.specs.declared.fault.SimFault.{SimFault}
 use Rattle.mr_sim.specs.declared.fault.SimFault.TheVariants.{NoMemory, Read, Write, TooLong, BadCommand, BadRecord, Job, Refused, Full}
-use Rattle.mr_sim.specs.declared.committer.order.Order.{Order}
+use Rattle.mr_sim.specs.declared.committer.command.ScriptCommand.{ScriptCommand}
 use Rattle.mr_sim.specs.declared.subcommand.Command.{Command}
 use Rattle.mr_script.specs.Lines.{lines_of}
 use Rattle.mr_sim.specs.Printed.{IsWithin, Prints, Refuses}
@@ -11,11 +11,11 @@ use Rattle.mr_sim.specs.seq.Text.{PrintsSeq}
 
 -- a script has at most one reading
 abbrev pub OneReading : Type 0
-OneReading = (bytes : List ℕ) (os ps : List (ℕ × Order)) → AreCommands 1 (lines_of bytes) os → AreCommands 1 (lines_of bytes) ps → os ≡ ps
+OneReading = (bytes : List ℕ) (cs ds : List (ℕ × ScriptCommand)) → AreCommands 1 (lines_of bytes) cs → AreCommands 1 (lines_of bytes) ds → cs ≡ ds
 
 -- a script that has a reading has no bad line
 abbrev pub ReadOrBad : Type 0
-ReadOrBad = (bytes : List ℕ) (os : List (ℕ × Order)) (k : ℕ) → AreCommands 1 (lines_of bytes) os → IsFirstBad 1 (lines_of bytes) k → ⊥
+ReadOrBad = (bytes : List ℕ) (cs : List (ℕ × ScriptCommand)) (k : ℕ) → AreCommands 1 (lines_of bytes) cs → IsFirstBad 1 (lines_of bytes) k → ⊥
 
 -- a script has at most one first bad line
 abbrev pub OneFirstBad : Type 0

@@ -5,16 +5,16 @@ ghost use Rattle.mr_sim.specs.committer.Listing.{listing};
 ghost use Rattle.mr_sim.specs.Printed.{Prints, RefusesText};
 ghost use Rattle.mr_sim.specs.committer.Text.{replies, reply_text, scene_after};
 
+mod command;
 mod listing;
-mod order;
 mod reply;
 mod scene;
 mod script;
 
+use crate::committer::command::ScriptCommand;
 use crate::committer::listing::print_listing;
-use crate::committer::order::Order;
 use crate::committer::reply::print_reply;
-use crate::committer::scene::{Scene, obey};
+use crate::committer::scene::{Scene, carry_out};
 use crate::committer::script::script_of;
 use crate::fault::SimFault;
 use crate::subcommand::Command;
@@ -50,52 +50,52 @@ fn start(alloc: Global) -> Result<Scene, SimFault>
     }
 }
 
-/// Does what one command says, and prints its reply.
-fn take(
+/// Carries out the command of a line, and prints its reply.
+fn reply_to(
     alloc: Global,
     layout: &Layout,
     scene: &mut Scene,
     out: &mut Vec<u8>,
     line: usize,
-    order: &Order,
+    command: &ScriptCommand,
 ) -> Result<(), SimFault>
-    ensures printed { OnOk result (out.new.items ≡ out.old.items ++ reply_text line (outcome layout.now.dest order.now scene.old).0) }
-    ensures after { OnOk result (scene.new ≡ (outcome layout.now.dest order.now scene.old).1) }
+    ensures printed { OnOk result (out.new.items ≡ out.old.items ++ reply_text line (outcome layout.now.dest command.now scene.old).0) }
+    ensures after { OnOk result (scene.new ≡ (outcome layout.now.dest command.now scene.old).1) }
     ensures memory { IsOkUnless result SimFault.NoMemory }
 {
-    match obey(scene, layout, order) {
+    match carry_out(scene, layout, command) {
         Err(CommitFault::NoMemory) => Err(SimFault::NoMemory),
         reply => Ok(print_reply(alloc, out, line, reply)?),
     }
 }
 
-/// Does what all commands say in turn, and prints their replies.
-fn replies(
+/// Carries out all commands in turn, and prints their replies.
+fn reply_to_all(
     alloc: Global,
     layout: &Layout,
     scene: &mut Scene,
     out: &mut Vec<u8>,
-    orders: &[(usize, Order)],
+    commands: &[(usize, ScriptCommand)],
 ) -> Result<(), SimFault>
-    ensures printed { OnOk result (out.new.items ≡ out.old.items ++ replies layout.now.dest orders.now scene.old) }
-    ensures after { OnOk result (scene.new ≡ scene_after layout.now.dest orders.now scene.old) }
+    ensures printed { OnOk result (out.new.items ≡ out.old.items ++ replies layout.now.dest commands.now scene.old) }
+    ensures after { OnOk result (scene.new ≡ scene_after layout.now.dest commands.now scene.old) }
     ensures memory { IsOkUnless result SimFault.NoMemory }
 {
-    for (line, order) in orders {
-        take(alloc, layout, scene, out, *line, order)?;
+    for (line, command) in commands {
+        reply_to(alloc, layout, scene, out, *line, command)?;
     }
     Ok(())
 }
 
 /// What the commands of a script print, and then the listing of what they left.
-fn text_of(alloc: Global, orders: &[(usize, Order)]) -> Result<Vec<u8>, SimFault>
-    ensures printed { IfOk result (λ v. v.items ≡ replies out orders.now start ++ listing (scene_after out orders.now start).names.content) }
+fn text_of(alloc: Global, commands: &[(usize, ScriptCommand)]) -> Result<Vec<u8>, SimFault>
+    ensures printed { IfOk result (λ v. v.items ≡ replies out commands.now start ++ listing (scene_after out commands.now start).names.content) }
     ensures memory { IsOkUnless result SimFault.NoMemory }
 {
     let layout = layout(alloc)?;
     let mut scene = start(alloc)?;
     let mut text = Vec::new(alloc);
-    replies(alloc, &layout, &mut scene, &mut text, orders)?;
+    reply_to_all(alloc, &layout, &mut scene, &mut text, commands)?;
     print_listing(&scene.names, &mut text)?;
     Ok(text)
 }
@@ -106,7 +106,7 @@ pub fn committer(alloc: Global, input: &[u8]) -> Result<Vec<u8>, SimFault>
     ensures fault { IfErr result (RefusesText Command.Committer input.now) }
 {
     match script_of(alloc, input) {
-        Ok(orders) => text_of(alloc, &orders),
+        Ok(commands) => text_of(alloc, &commands),
         Err(ScriptFault::NoMemory) => Err(SimFault::NoMemory),
         Err(ScriptFault::BadCommand(line)) => Err(SimFault::BadCommand(line)),
     }

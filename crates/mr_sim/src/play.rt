@@ -65,7 +65,7 @@ fn script_of(
     }
 }
 
-/// A player of a job that has obeyed commands.
+/// A player of a job that has played commands.
 fn player_of(
     alloc: Global,
     submission: Submission,
@@ -117,7 +117,7 @@ fn shown_text(alloc: Global, player: &Player, shown: Shown) -> Result<Vec<u8>, S
 }
 
 #[tactic(auto, using(crate::proofs::play::Showing::printed))]
-/// The player of a job text and a script, which has obeyed the script.
+/// The player of a job text and a script, which has played the script.
 pub fn played(alloc: Global, input: &[u8]) -> Result<Player, SimFault>
     ensures ok { IfOk result (HasPrinted input.now) }
     ensures fault { IfErr result (RefusesText Command.Play input.now) }

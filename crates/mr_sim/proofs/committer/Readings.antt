@@ -1,8 +1,8 @@
 -- A line is at most one command, and a script at most one list of them.
 use Rattle.std.proofs.Common.{◌≡◌, ℕ, List, ◌∷◌, ◌++◌, Some, None, decimal, codes, sym, refl, ap, ap₂, ◌∙◌, arith}
 use Rattle.std.proofs.lemmas.Fmt.{decimal_injective}
-use Rattle.mr_sim.specs.declared.committer.order.Order.{Order}
-use Rattle.mr_sim.specs.declared.committer.order.Order.TheVariants.{As, Raise, Check, Setup, Write, Needs, Commit, Abort, Recover, CommitJob, AbortJob, Bar, By}
+use Rattle.mr_sim.specs.declared.committer.command.ScriptCommand.{ScriptCommand}
+use Rattle.mr_sim.specs.declared.committer.command.ScriptCommand.TheVariants.{As, Raise, Check, Setup, Write, Needs, Commit, Abort, Recover, CommitJob, AbortJob, Bar, By}
 use Rattle.mr_script.specs.Lines.{before, after, lines_of}
 use Rattle.mr_sim.specs.committer.Script.{attempt_word, task_word, line_of, IsCommand, IsLine}
 use Rattle.mr_sim.specs.inner.Verb.{verb_of, rest_of}
@@ -15,7 +15,7 @@ use Rattle.mr_sim.proofs.committer.Verbs.{first-line_of, rest-line_of, verb_text
 some_inj : (a b : List ℕ) → Some a ≡ Some b → a ≡ b
 some_inj a b e = cc
 
-same_parts : (o p : Order) → IsCommand o → IsCommand p → verb_of o ≡ verb_of p → rest_of o ≡ rest_of p → o ≡ p
+same_parts : (o p : ScriptCommand) → IsCommand o → IsCommand p → verb_of o ≡ verb_of p → rest_of o ≡ rest_of p → o ≡ p
 same_parts (As k) (As m) g h v r = ap As (decimal_injective k m (omega arith) (omega arith) (some_inj (decimal k) (decimal m) r))
 same_parts (Raise k) (Raise m) g h v r = ap Raise (decimal_injective k m (omega arith) (omega arith) (some_inj (decimal k) (decimal m) r))
 same_parts Check Check g h v r = refl
@@ -53,7 +53,7 @@ same_parts (By (Some a)) (By None) g h v r = absurd (attempt_word-none a (some_i
 same_parts (By (Some a)) (By (Some b)) g h v r = ap (λ x. By (Some x)) (attempt_word-injective a b (some_inj (attempt_word a) (attempt_word b) r))
 same_parts o p g h v r = absurd (cc)
 
-same_command : (line : List ℕ) (o p : Order) → IsLine line o → IsLine line p → o ≡ p
+same_command : (line : List ℕ) (o p : ScriptCommand) → IsLine line o → IsLine line p → o ≡ p
 same_command line o p x y =
     let e : line_of o ≡ line_of p = sym x.1 ∙ y.1 in
     same_parts o p x.0 y.0

@@ -1,14 +1,14 @@
 -- The verbs, and the two parts of a command's line.
 use Rattle.std.proofs.Common.{◌≡◌, ℕ, List, length, cond, eqb, slice_index, IfNone, Some, None, Option, refl, sym, ap, ◌∙◌}
-use Rattle.mr_sim.specs.declared.committer.order.Verb.{Verb}
-use Rattle.mr_sim.specs.declared.committer.order.Verb.TheVariants as verb
+use Rattle.mr_sim.specs.declared.committer.command.Verb.{Verb}
+use Rattle.mr_sim.specs.declared.committer.command.Verb.TheVariants as verb
 use Rattle.mr_script.specs.Lines.{before, after}
-use Rattle.mr_sim.specs.declared.committer.order.Order.{Order}
-use Rattle.mr_sim.specs.declared.committer.order.Order.TheVariants.{As, Raise, Check, Setup, Write, Needs, Commit, Abort, Recover, CommitJob, AbortJob, Bar, By}
+use Rattle.mr_sim.specs.declared.committer.command.ScriptCommand.{ScriptCommand}
+use Rattle.mr_sim.specs.declared.committer.command.ScriptCommand.TheVariants.{As, Raise, Check, Setup, Write, Needs, Commit, Abort, Recover, CommitJob, AbortJob, Bar, By}
 use Rattle.mr_sim.specs.committer.Script.{line_of, IsCommand, IsBad}
 use Rattle.mr_sim.specs.inner.Verb.{verb_text, verb_of, rest_of}
 
-pub first-line_of : (o : Order) → before 32 (line_of o) ≡ verb_text (verb_of o)
+pub first-line_of : (o : ScriptCommand) → before 32 (line_of o) ≡ verb_text (verb_of o)
 first-line_of (As k) = refl
 first-line_of (Raise k) = refl
 first-line_of Check = refl
@@ -23,7 +23,7 @@ first-line_of AbortJob = refl
 first-line_of (Bar a) = refl
 first-line_of (By who) = refl
 
-pub rest-line_of : (o : Order) → after 32 (line_of o) ≡ rest_of o
+pub rest-line_of : (o : ScriptCommand) → after 32 (line_of o) ≡ rest_of o
 rest-line_of (As k) = refl
 rest-line_of (Raise k) = refl
 rest-line_of Check = refl
@@ -74,7 +74,7 @@ verb_text-injective v w e = sym (back v) ∙ ap verb_back e ∙ back w
 
 -- what is not the command of a line's verb and rest is no command of the line
 pub bad_from_rest : {A : Type 0} (r : Option A) (line : List ℕ) (v : Verb) (rest : Option (List ℕ)) → before 32 line ≡ verb_text v → after 32 line ≡ rest
-    → IfNone r ((o : Order) → IsCommand o → verb_of o ≡ v → rest_of o ≡ rest → ⊥) → IfNone r (IsBad line)
+    → IfNone r ((o : ScriptCommand) → IsCommand o → verb_of o ≡ v → rest_of o ≡ rest → ⊥) → IfNone r (IsBad line)
 bad_from_rest None line v rest w r none = λ o h.
     none o h.0 (verb_text-injective (verb_of o) v (sym (first-line_of o) ∙ ap (before 32) (sym h.1) ∙ w)) (sym (rest-line_of o) ∙ ap (after 32) (sym h.1) ∙ r)
 bad_from_rest (Some x) line v rest w r none = tt

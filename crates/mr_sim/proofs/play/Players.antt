@@ -1,4 +1,4 @@
--- A player that obeys commands in turn.
+-- A player that plays commands in turn.
 use Rattle.std.proofs.Common.{◌≡◌, ◌<◌, ℕ, suc, List, [], ◌∷◌, ◌++◌, length, take, drop, get_or, Option, None, Result, IsErrAnd, refl, sym, ap, subst, ◌∙◌}
 use Rattle.std.proofs.Math.Seq.{split_at}
 use Rattle.std.proofs.lemmas.Result.{err_from_is_err_and}

@@ -22,7 +22,7 @@ adds-one w n k old mid new bytes is (more, are, so) tells written =
     subst (λ j. AddsSegments w j old new) (sym is)
     (more ++ text, (more, text, are, subst (λ j. IsSegment w j text) is (record { bytes = bytes; tells = tells; is = refl }), refl), written ∙ ap (λ xs. xs ++ text) so ∙ append_assoc old more text)
 
--- what is printed of a player that has obeyed what an input says
+-- what is printed of a player that has played what an input says
 pub printed : (input : List ℕ) (job : Submission) (commands : List (ℕ × Command)) (p : Player) → submission_of (job_line input) ≡ Ok job → AreCommands job.id 2 (script_lines input) commands → HasPlayed job commands p → HasPrinted input p
 printed input job commands p said read h = record {
   prints = record {

@@ -16,8 +16,8 @@ use Rattle.mr_commit.specs.Line.{fault_of}
 use Rattle.mr_commit.specs.Tables.{setup_job, commit_task, abort_task, commit_job, abort_job}
 use Rattle.mr_commit.specs.Recovery.{recovered, recover_task}
 use Rattle.mr_commit.specs.CommitterEffect.{whole, has_output, checked}
-use Rattle.mr_sim.specs.declared.committer.order.Order.{Order}
-use Rattle.mr_sim.specs.declared.committer.order.Order.TheVariants.{As, Raise, Check, Setup, Write, Needs, Commit, Abort, Recover, CommitJob, AbortJob, Bar, By}
+use Rattle.mr_sim.specs.declared.committer.command.ScriptCommand.{ScriptCommand}
+use Rattle.mr_sim.specs.declared.committer.command.ScriptCommand.TheVariants.{As, Raise, Check, Setup, Write, Needs, Commit, Abort, Recover, CommitJob, AbortJob, Bar, By}
 use Rattle.mr_sim.specs.declared.committer.scene.Scene.{Scene}
 use Rattle.mr_sim.specs.declared.committer.scene.Reply.{Reply}
 use Rattle.mr_sim.specs.declared.committer.scene.Reply.TheVariants.{Silent, Yes, No}
@@ -81,7 +81,7 @@ abbrev pub by_calls : Scene → Result (Unit {0}) CommitFault × State → Resul
 by_calls s r = (silent r.0, at_names s r.1)
 
 -- what a command answers, and the scene after it. All paths take the generation that makes the calls.
-unfoldable pub outcome : List (List ℕ) → Order → Scene → Result Reply CommitFault × Scene
+unfoldable pub outcome : List (List ℕ) → ScriptCommand → Scene → Result Reply CommitFault × Scene
 outcome dest (As k) s = (Ok Silent, record s { caller = record s.caller { app = k } })
 outcome dest (Raise k) s = (Ok Silent, at_names s (raised s.names k))
 outcome dest Check s = (silent (checked dest s.names s.caller), s)
@@ -96,10 +96,10 @@ outcome dest AbortJob s = by_calls s (whole (abort_job dest) s.names s.caller)
 outcome dest (Bar a) s = by_calls s (in_turn (op.Bar a ∷ []) s.names s.caller)
 outcome dest (By who) s = (Ok Silent, record s { caller = record s.caller { attempt = who } })
 
--- A function did what the command says, but for an allocation failure.
-abbrev pub Obeys : List (List ℕ) → Order → Scene → Result Reply CommitFault → Scene → Type 0
-Obeys dest o s (Err fault.NoMemory) t = Unit {0}
-Obeys dest o s r t = outcome dest o s ≡ (r, t)
+-- A function carried the command out, but for an allocation failure.
+abbrev pub CarriesOut : List (List ℕ) → ScriptCommand → Scene → Result Reply CommitFault → Scene → Type 0
+CarriesOut dest c s (Err fault.NoMemory) t = Unit {0}
+CarriesOut dest c s r t = outcome dest c s ≡ (r, t)
 
 -- Calls in turn were made, but for an allocation failure.
 abbrev pub InTurn : List Op → State → Caller → Result (Unit {0}) CommitFault → State → Type 0

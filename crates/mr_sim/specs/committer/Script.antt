@@ -7,8 +7,8 @@ use Rattle.mr_ids.specs.Text.{task_text, attempt_text, IsTask, IsAttempt}
 use Rattle.mr_ids.specs.declared.id.TaskKind.TheVariants.{Reduce}
 use Rattle.mr_script.specs.Lines.{IsNoLine, AreLines, IsFirstNoLine}
 use Rattle.mr_script.specs.Script.{IsGeneration}
-use Rattle.mr_sim.specs.declared.committer.order.Order.{Order}
-use Rattle.mr_sim.specs.declared.committer.order.Order.TheVariants.{As, Raise, Check, Setup, Write, Needs, Commit, Abort, Recover, CommitJob, AbortJob, Bar, By}
+use Rattle.mr_sim.specs.declared.committer.command.ScriptCommand.{ScriptCommand}
+use Rattle.mr_sim.specs.declared.committer.command.ScriptCommand.TheVariants.{As, Raise, Check, Setup, Write, Needs, Commit, Abort, Recover, CommitJob, AbortJob, Bar, By}
 
 -- the word that names an attempt: its canonical spelling
 unfoldable pub attempt_word : Attempt → List ℕ
@@ -29,7 +29,7 @@ caller_word None = codes "none"
 caller_word (Some a) = attempt_word a
 
 -- the line that the command is written as
-abbrev pub line_of : Order → List ℕ
+abbrev pub line_of : ScriptCommand → List ℕ
 line_of (As k) = codes "as " ++ decimal k
 line_of (Raise k) = codes "raise " ++ decimal k
 line_of Check = codes "check"
@@ -59,7 +59,7 @@ abbrev pub NamesNone : List ℕ → Type 0
 NamesNone rest = (t : TaskId) (bytes : Option ℕ) → IsTask t → IsLength bytes → rest ≡ recovery_words t bytes → ⊥
 
 -- what a command may name: only reduces write
-abbrev pub IsCommand : Order → Type 0
+abbrev pub IsCommand : ScriptCommand → Type 0
 IsCommand (As k) = IsGeneration k
 IsCommand (Raise k) = IsGeneration k
 IsCommand Check = Unit {0}
@@ -75,16 +75,16 @@ IsCommand (Bar a) = IsAttempt a
 IsCommand (By who) = IsCaller who
 
 -- the line is the command
-abbrev pub IsLine : List ℕ → Order → Type 0
-IsLine line o = IsCommand o × (line ≡ line_of o)
+abbrev pub IsLine : List ℕ → ScriptCommand → Type 0
+IsLine line c = IsCommand c × (line ≡ line_of c)
 
 -- the line is no command
 abbrev pub IsBad : List ℕ → Type 0
 IsBad line = IsNoLine IsLine line
 
 -- The lines, numbered from n on, are these commands: an empty line is counted and skipped.
-abbrev pub AreCommands : ℕ → List (List ℕ) → List (ℕ × Order) → Type 0
-AreCommands n lines os = AreLines IsLine n lines os
+abbrev pub AreCommands : ℕ → List (List ℕ) → List (ℕ × ScriptCommand) → Type 0
+AreCommands n lines cs = AreLines IsLine n lines cs
 
 -- Line k is the first that is neither empty nor a command, where the lines are numbered from n on.
 abbrev pub IsFirstBad : ℕ → List (List ℕ) → ℕ → Type 0

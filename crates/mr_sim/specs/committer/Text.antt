@@ -5,7 +5,7 @@ use Rattle.mr_names.specs.declared.fault.NameFault.TheVariants as names
 use Rattle.mr_commit.specs.declared.fault.CommitFault.{CommitFault}
 use Rattle.mr_commit.specs.declared.fault.CommitFault.TheVariants as commits
 use Rattle.mr_script.specs.Lines.{lines_of}
-use Rattle.mr_sim.specs.declared.committer.order.Order.{Order}
+use Rattle.mr_sim.specs.declared.committer.command.ScriptCommand.{ScriptCommand}
 use Rattle.mr_sim.specs.declared.committer.scene.Scene.{Scene}
 use Rattle.mr_sim.specs.declared.committer.scene.Reply.{Reply}
 use Rattle.mr_sim.specs.declared.committer.scene.Reply.TheVariants.{Silent, Yes, No}
@@ -48,18 +48,18 @@ reply_text line (Ok No) = said line (codes "no")
 reply_text line (Err f) = said line (fault_text f)
 
 -- what commands with their lines print in turn, and where they lead
-abbrev pub replies : List (List ℕ) → List (ℕ × Order) → Scene → List ℕ
+abbrev pub replies : List (List ℕ) → List (ℕ × ScriptCommand) → Scene → List ℕ
 replies dest [] s = []
-replies dest (o ∷ os) s = reply_text o.0 (outcome dest o.1 s).0 ++ replies dest os (outcome dest o.1 s).1
+replies dest (c ∷ cs) s = reply_text c.0 (outcome dest c.1 s).0 ++ replies dest cs (outcome dest c.1 s).1
 
-abbrev pub scene_after : List (List ℕ) → List (ℕ × Order) → Scene → Scene
+abbrev pub scene_after : List (List ℕ) → List (ℕ × ScriptCommand) → Scene → Scene
 scene_after dest [] s = s
-scene_after dest (o ∷ os) s = scene_after dest os (outcome dest o.1 s).1
+scene_after dest (c ∷ cs) s = scene_after dest cs (outcome dest c.1 s).1
 
 -- the replies, and then what the namespace holds
-abbrev pub committer_text : List (ℕ × Order) → List ℕ
-committer_text os = replies out os start ++ listing (scene_after out os start).names.content
+abbrev pub committer_text : List (ℕ × ScriptCommand) → List ℕ
+committer_text cs = replies out cs start ++ listing (scene_after out cs start).names.content
 
 -- a script, and what its commands print
 abbrev pub PrintsCommitter : List ℕ → List ℕ → Type 0
-PrintsCommitter input text = (os : List (ℕ × Order)) × AreCommands 1 (lines_of input) os × (text ≡ committer_text os)
+PrintsCommitter input text = (cs : List (ℕ × ScriptCommand)) × AreCommands 1 (lines_of input) cs × (text ≡ committer_text cs)

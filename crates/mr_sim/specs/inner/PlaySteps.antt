@@ -21,7 +21,7 @@ IsUnread job script (fault.BadCommand n) = IsFirstBad job 2 (lines_of script) n
 IsUnread job script fault.NoMemory = Unit {0}
 IsUnread job script _ = ⊥
 
--- a player of a job has obeyed these commands
+-- a player of a job has played these commands
 pub record HasPlayed (job : Submission) (commands : List (ℕ × Command)) (p : Player) : Type 0 where
   pub config : p.world.config ≡ config_of job
   pub comes : played_of within job commands ≡ Some (state_in p)

@@ -54,10 +54,10 @@ Goes old said (Err f) new = FullWhere f (said ≡ None)
 -- ---- events
 
 -- an event was taken; or it is not permitted, for this reason, and nothing has changed
-abbrev pub Takes : Player → Event → Option ContainerId → Result (Option Why) SimFault → Player → Type 0
-Takes old e last (Ok None) new = (not_now old.world.config (cluster_in old) e ≡ None) × Reaches old (taken (job_as old.job) old.world.config (within old.world.config) e last (state_in old)) new
-Takes old e last (Ok (Some why)) new = (not_now old.world.config (cluster_in old) e ≡ Some why) × (new ≡ old)
-Takes old e last (Err f) new = FullWhere f ((not_now old.world.config (cluster_in old) e ≡ None) × (taken (job_as old.job) old.world.config (within old.world.config) e last (state_in old) ≡ None))
+abbrev pub Applies : Player → Event → Option ContainerId → Result (Option Why) SimFault → Player → Type 0
+Applies old e last (Ok None) new = (not_now old.world.config (cluster_in old) e ≡ None) × Reaches old (taken (job_as old.job) old.world.config (within old.world.config) e last (state_in old)) new
+Applies old e last (Ok (Some why)) new = (not_now old.world.config (cluster_in old) e ≡ Some why) × (new ≡ old)
+Applies old e last (Err f) new = FullWhere f ((not_now old.world.config (cluster_in old) e ≡ None) × (taken (job_as old.job) old.world.config (within old.world.config) e last (state_in old) ≡ None))
 
 -- the event that is said; none is where its work is too much
 abbrev pub IsEvent : Option Event → Result Event SimFault → Type 0

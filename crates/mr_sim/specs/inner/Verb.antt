@@ -1,9 +1,9 @@
 -- The first word of a command, and what stands after it.
 use Rattle.std.specs.Prelude.{ℕ, List, ◌∷◌, ◌++◌, codes, decimal, Option, Some, None}
-use Rattle.mr_sim.specs.declared.committer.order.Verb.{Verb}
-use Rattle.mr_sim.specs.declared.committer.order.Verb.TheVariants as verb
-use Rattle.mr_sim.specs.declared.committer.order.Order.{Order}
-use Rattle.mr_sim.specs.declared.committer.order.Order.TheVariants.{As, Raise, Check, Setup, Write, Needs, Commit, Abort, Recover, CommitJob, AbortJob, Bar, By}
+use Rattle.mr_sim.specs.declared.committer.command.Verb.{Verb}
+use Rattle.mr_sim.specs.declared.committer.command.Verb.TheVariants as verb
+use Rattle.mr_sim.specs.declared.committer.command.ScriptCommand.{ScriptCommand}
+use Rattle.mr_sim.specs.declared.committer.command.ScriptCommand.TheVariants.{As, Raise, Check, Setup, Write, Needs, Commit, Abort, Recover, CommitJob, AbortJob, Bar, By}
 use Rattle.mr_sim.specs.committer.Script.{attempt_word, recovery_words, caller_word}
 
 abbrev pub verb_text : Verb → List ℕ
@@ -21,7 +21,7 @@ verb_text verb.AbortJob = codes "abortjob"
 verb_text verb.Bar = codes "bar"
 verb_text verb.By = codes "by"
 
-abbrev pub verb_of : Order → Verb
+abbrev pub verb_of : ScriptCommand → Verb
 verb_of (As k) = verb.As
 verb_of (Raise k) = verb.Raise
 verb_of Check = verb.Check
@@ -37,7 +37,7 @@ verb_of (Bar a) = verb.Bar
 verb_of (By who) = verb.By
 
 -- what stands after the first space, if there is one
-abbrev pub rest_of : Order → Option (List ℕ)
+abbrev pub rest_of : ScriptCommand → Option (List ℕ)
 rest_of (As k) = Some (decimal k)
 rest_of (Raise k) = Some (decimal k)
 rest_of Check = None

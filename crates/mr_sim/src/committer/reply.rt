@@ -44,7 +44,7 @@ fn fault_text(alloc: Global, fault: CommitFault) -> Result<String, AllocError>
 }
 
 /// One line of what is printed.
-fn say(out: &mut Vec<u8>, line: usize, text: &[u8]) -> Result<(), AllocError>
+fn print_line(out: &mut Vec<u8>, line: usize, text: &[u8]) -> Result<(), AllocError>
     ensures { OnOk result (out.new.items ≡ out.old.items ++ said line text.now) }
 {
     let mut buffer = Buffer::new();
@@ -66,11 +66,11 @@ pub fn print_reply(
 {
     match reply {
         Ok(Reply::Silent) => Ok(()),
-        Ok(Reply::Yes) => say(out, line, b"yes"),
-        Ok(Reply::No) => say(out, line, b"no"),
+        Ok(Reply::Yes) => print_line(out, line, b"yes"),
+        Ok(Reply::No) => print_line(out, line, b"no"),
         Err(fault) => {
             let text = fault_text(alloc, fault)?;
-            say(out, line, text.as_bytes())
+            print_line(out, line, text.as_bytes())
         }
     }
 }

@@ -1,9 +1,9 @@
 //! What a script's commands act on.
 //! Of scripts of committer calls: a namespace and the one who calls it, and what each command does there.
 ghost use Rattle.std.specs.Prelude.{◌≡◌, ◌++◌, ◌∷◌, [], ℕ, List, IfOk};
-ghost use Rattle.mr_sim.specs.committer.Effect.{InTurn, Obeys, done, part_file, puts, silent, start, told, writes};
+ghost use Rattle.mr_sim.specs.committer.Effect.{CarriesOut, InTurn, done, part_file, puts, silent, start, told, writes};
 
-use crate::committer::order::Order;
+use crate::committer::command::ScriptCommand;
 use mr_commit::{
     CommitFault, abort_job, abort_task, check_output, commit_job, commit_task, needs_task_commit,
     recover_task, setup_job,
@@ -92,37 +92,51 @@ fn bar(names: &mut Namespace, caller: Caller, attempt: AttemptId) -> Result<(), 
     }
 }
 
-/// Does what a command says.
-pub fn obey(scene: &mut Scene, layout: &Layout, order: &Order) -> Result<Reply, CommitFault>
-    ensures { Obeys layout.now.dest order.now scene.old result scene.new }
+/// Carries out a command.
+pub fn carry_out(
+    scene: &mut Scene,
+    layout: &Layout,
+    command: &ScriptCommand,
+) -> Result<Reply, CommitFault>
+    ensures { CarriesOut layout.now.dest command.now scene.old result scene.new }
 {
     let caller = scene.caller;
-    match order {
-        Order::As(k) => {
+    match command {
+        ScriptCommand::As(k) => {
             scene.caller.app = *k;
             Ok(Reply::Silent)
         }
-        Order::Raise(k) => {
+        ScriptCommand::Raise(k) => {
             scene.names.raise(*k);
             Ok(Reply::Silent)
         }
-        Order::Check => silent(check_output(&scene.names, caller, layout)),
-        Order::Setup => silent(setup_job(&mut scene.names, caller, layout)),
-        Order::Write(attempt, text) => {
+        ScriptCommand::Check => silent(check_output(&scene.names, caller, layout)),
+        ScriptCommand::Setup => silent(setup_job(&mut scene.names, caller, layout)),
+        ScriptCommand::Write(attempt, text) => {
             silent(write(&mut scene.names, caller, layout, *attempt, text))
         }
-        Order::Needs(attempt) => told(needs_task_commit(&scene.names, caller, layout, *attempt)),
-        Order::Commit(attempt) => {
+        ScriptCommand::Needs(attempt) => told(needs_task_commit(
+            &scene.names,
+            caller,
+            layout,
+            *attempt,
+        )),
+        ScriptCommand::Commit(attempt) => {
             silent(commit_task(&mut scene.names, caller, layout, *attempt))
         }
-        Order::Abort(attempt) => silent(abort_task(&mut scene.names, caller, layout, *attempt)),
-        Order::Recover(task, bytes) => {
+        ScriptCommand::Abort(attempt) => silent(abort_task(
+            &mut scene.names,
+            caller,
+            layout,
+            *attempt,
+        )),
+        ScriptCommand::Recover(task, bytes) => {
             silent(recover_task(&mut scene.names, caller, layout, *task, *bytes))
         }
-        Order::CommitJob => silent(commit_job(&mut scene.names, caller, layout)),
-        Order::AbortJob => silent(abort_job(&mut scene.names, caller, layout)),
-        Order::Bar(attempt) => silent(bar(&mut scene.names, caller, *attempt)),
-        Order::By(attempt) => {
+        ScriptCommand::CommitJob => silent(commit_job(&mut scene.names, caller, layout)),
+        ScriptCommand::AbortJob => silent(abort_job(&mut scene.names, caller, layout)),
+        ScriptCommand::Bar(attempt) => silent(bar(&mut scene.names, caller, *attempt)),
+        ScriptCommand::By(attempt) => {
             scene.caller.attempt = *attempt;
             Ok(Reply::Silent)
         }

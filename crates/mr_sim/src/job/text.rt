@@ -7,7 +7,7 @@ ghost use Rattle.mr_sim.specs.job.Submission.{IsOfNodes, IsPlanned, IsWithinLimi
 
 use crate::fault::{JobTextFault, SimFault};
 use crate::job::submission::{JobKind, PlanAct, PlanFault, PlanFaults, Splits, Submission};
-use mr_ids::JobId;
+use mr_ids::{JobId, MAX_APP_ATTEMPTS};
 use mr_user::{MAX_REDUCES, MAX_SPLIT_LEN, MAX_SPLITS};
 use serde_json::Value;
 use std::alloc::Global;
@@ -23,9 +23,6 @@ const MAX_FAULTS: usize = 100;
 
 /// Most events before a fault.
 const MAX_AFTER: u32 = 1_000_000;
-
-/// The greatest generation of the master.
-const MAX_GENERATION: u32 = 1000;
 
 /// The whole number that a value is, from `low` to `high`.
 fn number_in(value: &Value, low: u64, high: u64) -> Option<u64>
@@ -252,7 +249,7 @@ fn v2_from_in(value: &Value) -> Result<u32, SimFault>
 {
     match value.get("v2from") {
         Some(number) => {
-            small_in(number, 1, MAX_GENERATION).ok_or(SimFault::Job(JobTextFault::V2From))
+            small_in(number, 1, MAX_APP_ATTEMPTS).ok_or(SimFault::Job(JobTextFault::V2From))
         }
         None => Ok(1),
     }

@@ -222,7 +222,7 @@ impl Player {
     fn happens(&mut self, event: Event, stepped: Option<ContainerId>) -> Result<bool, SimFault>
         ensures { HappensAs self.old event stepped result self.new }
     {
-        match self.take(event, stepped)? {
+        match self.apply(event, stepped)? {
             None => Ok(true),
             Some(_) => Ok(false),
         }

@@ -1,9 +1,9 @@
-//! A script that is obeyed: a world, and how far the script is.
+//! A script that is played: a world, and how far the script is.
 ghost use Rattle.std.specs.Prelude.{◌≡◌, [], ◌∷◌, Some, OnOk, IfOk, IfErr};
 ghost use Rattle.mr_sim.specs.declared.fault.SimFault.TheVariants.{NoMemory};
 ghost use Rattle.mr_sim.specs.play.Text.{config_of, job_as, played_of};
 ghost use Rattle.mr_sim.specs.play.Played.{begun, computing, made, obeyed, played, stepped_by};
-ghost use Rattle.mr_sim.specs.inner.Player.{cluster_in, state_in, Goes, IsEvent, Takes};
+ghost use Rattle.mr_sim.specs.inner.Player.{cluster_in, state_in, Goes, IsEvent, Applies};
 ghost use Rattle.mr_sim.specs.job.Submission.{IsWithinLimits};
 ghost use Rattle.mr_world.specs.Limits.{within};
 
@@ -55,18 +55,18 @@ impl Player {
         })
     }
 
-    /// Obeys commands in turn, each with the number of its line.
+    /// Plays commands in turn, each with the number of its line.
     pub fn play(&mut self, alloc: Global, commands: Vec<(usize, Command)>) -> Result<(), SimFault>
         ensures { Goes self.old (played (job_as self.old.job) self.old.world.config (within self.old.world.config) commands.items (state_in self.old)) result self.new }
     {
         for (line, command) in commands {
-            self.obey(alloc, line, command)?;
+            self.play_line(alloc, line, command)?;
         }
         Ok(())
     }
 
-    /// Obeys the command of a line, and notes which events it made.
-    fn obey(&mut self, alloc: Global, line: usize, command: Command) -> Result<(), SimFault>
+    /// Plays the command of a line, and notes which events it made.
+    fn play_line(&mut self, alloc: Global, line: usize, command: Command) -> Result<(), SimFault>
         ensures { Goes self.old (obeyed (job_as self.old.job) self.old.world.config (within self.old.world.config) line command (state_in self.old)) result self.new }
     {
         let source = Source {
@@ -129,7 +129,7 @@ impl Player {
     ) -> Result<(), SimFault>
         ensures { Goes self.old (made (job_as self.old.job) self.old.world.config (within self.old.world.config) line event stepped (state_in self.old)) result self.new }
     {
-        match self.take(event, stepped)? {
+        match self.apply(event, stepped)? {
             None => Ok(()),
             Some(why) => {
                 print_refused(&mut self.refused, line, why)?;
@@ -139,12 +139,12 @@ impl Player {
     }
 
     /// Makes an event, or tells why it is not permitted now.
-    pub fn take(
+    pub fn apply(
         &mut self,
         event: Event,
         stepped: Option<ContainerId>,
     ) -> Result<Option<Why>, SimFault>
-        ensures { Takes self.old event stepped result self.new }
+        ensures { Applies self.old event stepped result self.new }
     {
         match self.world.apply(event) {
             Ok(_took) => {

@@ -12,7 +12,7 @@ pub struct Source {
 #[derive(Clone, Copy, Debug, PartialEq, Eq)]
 pub struct Stretch {
     pub source: Source,
-    /// How many events there were once the line was obeyed.
+    /// How many events there were once the line was played.
     pub end: u64,
 }
 

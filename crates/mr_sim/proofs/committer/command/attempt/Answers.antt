@@ -3,7 +3,7 @@ use Rattle.std.specs.Prelude.{IsUtf8}
 use Rattle.std.proofs.lemmas.Str.{IsUtf8-from_ascii}
 use Rattle.mr_sim.specs.committer.Script.{attempt_word}
 use Rattle.mr_sim.proofs.committer.Attempts.{IsAscii-attempt_word}
-use Rattle.mr_sim.proofs.committer.order.attempt.Goals as goal
+use Rattle.mr_sim.proofs.committer.command.attempt.Goals as goal
 
 pub returns-in_default-clause-only : goal.returns-in_default-clause-only
 returns-in_default-clause-only c a h e =

@@ -1,5 +1,5 @@
 use Rattle.mr_sim.proofs.committer.Recoveries.{none_alone, none_of_two}
-use Rattle.mr_sim.proofs.committer.order.recovering.Goals as goal
+use Rattle.mr_sim.proofs.committer.command.recover_command.Goals as goal
 
 pub returns-in-None-task-clause-none : goal.returns-in-None-task-clause-none
 returns-in-None-task-clause-none c = none_alone c.args.rest.now c.in-None.ensures.none.1 (λ t h e. let read = c.task.ensures.only t h e in cc)

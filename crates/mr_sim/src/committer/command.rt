@@ -15,7 +15,7 @@ use std::str;
 
 /// A command of a committer script.
 #[derive(Drop)]
-pub enum Order {
+pub enum ScriptCommand {
     /// The generation that makes the calls from here on.
     As(AppAttempt),
     /// Raises the fence of the namespace to this generation.
@@ -127,18 +127,18 @@ fn task(word: &[u8]) -> Option<TaskId>
 }
 
 /// The recovery of a task, and of a recorded length, if there is one.
-fn recovering(rest: &[u8]) -> Option<Order>
+fn recover_command(rest: &[u8]) -> Option<ScriptCommand>
     ensures some { IfSome result (λ c. IsCommand c × (verb_of c ≡ Verb.Recover) × (rest_of c ≡ Some rest.now)) }
     ensures none { IfNone result (NamesNone rest.now) }
 {
     match split_once(rest, b' ') {
         None => match task(rest) {
-            Some(task) => Some(Order::Recover(task, None)),
+            Some(task) => Some(ScriptCommand::Recover(task, None)),
             None => None,
         },
         Some((word, length)) => match task(word) {
             Some(task) => match number(length) {
-                Some(bytes) => Some(Order::Recover(task, Some(bytes))),
+                Some(bytes) => Some(ScriptCommand::Recover(task, Some(bytes))),
                 None => None,
             },
             None => None,
@@ -147,15 +147,15 @@ fn recovering(rest: &[u8]) -> Option<Order>
 }
 
 /// The caller's attempt, or none.
-fn calling(rest: &[u8]) -> Option<Order>
+fn by_command(rest: &[u8]) -> Option<ScriptCommand>
     ensures some { IfSome result (λ c. IsCommand c × (verb_of c ≡ Verb.By) × (rest_of c ≡ Some rest.now)) }
     ensures none { IfNone result ((who : Option Attempt) → IsCaller who → rest.now ≡ caller_word who → ⊥) }
 {
     if rest == b"none".as_slice() {
-        return Some(Order::By(None));
+        return Some(ScriptCommand::By(None));
     }
     match attempt(rest) {
-        Some(attempt) => Some(Order::By(Some(attempt))),
+        Some(attempt) => Some(ScriptCommand::By(Some(attempt))),
         None => None,
     }
 }
@@ -175,7 +175,7 @@ fn reduce_attempt(word: &[u8]) -> Option<AttemptId>
 }
 
 /// The attempt that writes, and the text that it writes.
-fn writing(alloc: Global, rest: &[u8]) -> Result<Option<Order>, AllocError>
+fn write_command(alloc: Global, rest: &[u8]) -> Result<Option<ScriptCommand>, AllocError>
     ensures some { IfOk result (λ r. IfSome r (λ c. IsCommand c × (verb_of c ≡ Verb.Write) × (rest_of c ≡ Some rest.now))) }
     ensures none { IfOk result (λ r. IfNone r ((a : Attempt) (text : List ℕ) → IsAttempt a → a.task.kind ≡ TaskKind.Reduce → rest.now ≡ attempt_word a ++ 32 ∷ text → ⊥)) }
 {
@@ -186,72 +186,76 @@ fn writing(alloc: Global, rest: &[u8]) -> Result<Option<Order>, AllocError>
         return Ok(None);
     };
     let bytes = Vec::from_slice(alloc, text)?;
-    Ok(Some(Order::Write(attempt, Bytes::from_vec(bytes))))
+    Ok(Some(ScriptCommand::Write(attempt, Bytes::from_vec(bytes))))
 }
 
 /// The command of one word.
-fn alone(verb: Verb) -> Option<Order>
+fn command_of_word(verb: Verb) -> Option<ScriptCommand>
     ensures some { IfSome result (λ c. IsCommand c × (verb_of c ≡ verb) × (rest_of c ≡ None)) }
-    ensures none { IfNone result ((o : Order) → IsCommand o → verb_of o ≡ verb → rest_of o ≡ None → ⊥) }
+    ensures none { IfNone result ((o : ScriptCommand) → IsCommand o → verb_of o ≡ verb → rest_of o ≡ None → ⊥) }
 {
     match verb {
-        Verb::Check => Some(Order::Check),
-        Verb::Setup => Some(Order::Setup),
-        Verb::CommitJob => Some(Order::CommitJob),
-        Verb::AbortJob => Some(Order::AbortJob),
+        Verb::Check => Some(ScriptCommand::Check),
+        Verb::Setup => Some(ScriptCommand::Setup),
+        Verb::CommitJob => Some(ScriptCommand::CommitJob),
+        Verb::AbortJob => Some(ScriptCommand::AbortJob),
         _ => None,
     }
 }
 
 /// The command of this verb and what stands after it.
-fn with_rest(alloc: Global, verb: Verb, rest: &[u8]) -> Result<Option<Order>, AllocError>
+fn command_with_rest(
+    alloc: Global,
+    verb: Verb,
+    rest: &[u8],
+) -> Result<Option<ScriptCommand>, AllocError>
     ensures some { IfOk result (λ r. IfSome r (λ c. IsCommand c × (verb_of c ≡ verb) × (rest_of c ≡ Some rest.now))) }
-    ensures none { IfOk result (λ r. IfNone r ((o : Order) → IsCommand o → verb_of o ≡ verb → rest_of o ≡ Some rest.now → ⊥)) }
+    ensures none { IfOk result (λ r. IfNone r ((o : ScriptCommand) → IsCommand o → verb_of o ≡ verb → rest_of o ≡ Some rest.now → ⊥)) }
 {
     match verb {
         Verb::As => match generation(rest) {
-            Some(k) => Ok(Some(Order::As(k))),
+            Some(k) => Ok(Some(ScriptCommand::As(k))),
             None => Ok(None),
         },
         Verb::Raise => match generation(rest) {
-            Some(k) => Ok(Some(Order::Raise(k))),
+            Some(k) => Ok(Some(ScriptCommand::Raise(k))),
             None => Ok(None),
         },
-        Verb::Write => writing(alloc, rest),
+        Verb::Write => write_command(alloc, rest),
         Verb::Needs => match attempt(rest) {
-            Some(attempt) => Ok(Some(Order::Needs(attempt))),
+            Some(attempt) => Ok(Some(ScriptCommand::Needs(attempt))),
             None => Ok(None),
         },
         Verb::Commit => match attempt(rest) {
-            Some(attempt) => Ok(Some(Order::Commit(attempt))),
+            Some(attempt) => Ok(Some(ScriptCommand::Commit(attempt))),
             None => Ok(None),
         },
         Verb::Abort => match attempt(rest) {
-            Some(attempt) => Ok(Some(Order::Abort(attempt))),
+            Some(attempt) => Ok(Some(ScriptCommand::Abort(attempt))),
             None => Ok(None),
         },
-        Verb::Recover => Ok(recovering(rest)),
+        Verb::Recover => Ok(recover_command(rest)),
         Verb::Bar => match attempt(rest) {
-            Some(attempt) => Ok(Some(Order::Bar(attempt))),
+            Some(attempt) => Ok(Some(ScriptCommand::Bar(attempt))),
             None => Ok(None),
         },
-        Verb::By => Ok(calling(rest)),
+        Verb::By => Ok(by_command(rest)),
         Verb::Check | Verb::Setup | Verb::CommitJob | Verb::AbortJob => Ok(None),
     }
 }
 
 /// The command that the line is.
-pub fn order_in(alloc: Global, line: &[u8]) -> Result<Option<Order>, AllocError>
+pub fn read_command(alloc: Global, line: &[u8]) -> Result<Option<ScriptCommand>, AllocError>
     ensures some { IfOk result (λ r. IfSome r (IsLine line.now)) }
     ensures none { IfOk result (λ r. IfNone r (IsBad line.now)) }
 {
     match split_once(line, b' ') {
         Some((word, rest)) => match verb_named(word) {
-            Some(verb) => with_rest(alloc, verb, rest),
+            Some(verb) => command_with_rest(alloc, verb, rest),
             None => Ok(None),
         },
         None => match verb_named(line) {
-            Some(verb) => Ok(alone(verb)),
+            Some(verb) => Ok(command_of_word(verb)),
             None => Ok(None),
         },
     }

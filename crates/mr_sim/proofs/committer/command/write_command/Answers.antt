@@ -3,7 +3,7 @@ use Rattle.mr_script.specs.Lines.{before, after}
 use Rattle.mr_sim.specs.committer.Script.{attempt_word}
 use Rattle.mr_sim.proofs.committer.Attempts.{no_space-attempt_word}
 use Rattle.mr_script.proofs.Words.{before-by, after-by}
-use Rattle.mr_sim.proofs.committer.order.writing.Goals as goal
+use Rattle.mr_sim.proofs.committer.command.write_command.Goals as goal
 
 pub returns-in_default-clause-none : goal.returns-in_default-clause-none
 returns-in_default-clause-none c a text h k e =
