@@ -41,8 +41,8 @@
 //! `limits`).
 //!
 //! **What `play` prints** (`play`): a job text with a script of a run is run on `mr_world`'s `World`, and what is printed is exactly the text of
-//! the definitions (`PrintsPlay` of `specs/Play`): the lines of refused events, and then the winners, the marker, the outcome and the visible
-//! files of the cluster that is the run, in `mr_model`, of the events that the script and its calms make (`specs/Played`). The first bad key of the job text is
+//! the definitions (`PrintsPlay` of `specs/play/Text`): the lines of refused events, and then the winners, the marker, the outcome and the visible
+//! files of the cluster that is the run, in `mr_model`, of the events that the script and its calms make (`specs/play/Played`). The first bad key of the job text is
 //! told, else the first bad line of the script, else `Full` exactly where there is no such run, since an event or a work passes a limit;
 //! an allocation failure may come at any of these. What a container computes is what the job's definition makes of its input (`computed`).
 //! With a trace or the history shown (`Command::PlayShown`) the text has what is printed, with something before it only where a trace is asked

@@ -2,7 +2,7 @@ use Rattle.std.proofs.Common.{◌≡◌, ◌++◌, ◌∙◌, ℕ, List, Result,
 use Rattle.std.specs.Prelude.{OnOk}
 use Rattle.mr_ids.specs.Text.{attempt_text}
 use Rattle.mr_sim.specs.history.Text.{record_text}
-use Rattle.mr_sim.proofs.history.print_record.Goals as goal
+use Rattle.mr_sim.proofs.history.record.print_record.Goals as goal
 
 -- what three calls added, as one text behind what was there
 behind : (o w a x n y i : List ℕ) → o ++ w ++ a ++ x ++ n ++ y ++ i ≡ o ++ (w ++ a ++ x ++ n ++ y ++ i)
