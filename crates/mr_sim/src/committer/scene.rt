@@ -10,7 +10,7 @@ use mr_commit::{
 };
 use mr_ids::{AppAttempt, AttemptId};
 use mr_names::{Bytes, Caller, NameFault, Namespace, Op};
-use mr_paths::{Layout, Path};
+use mr_paths::{Layout, Path, part_name};
 use std::alloc::AllocError;
 
 /// A namespace, and who makes the next calls.
@@ -33,7 +33,8 @@ fn part_file(layout: &Layout, k: AppAttempt, attempt: AttemptId) -> Result<Path,
     ensures { IfOk result (λ path. path ≡ part_file layout.now.dest k attempt) }
 {
     let folder = layout.task_attempt(k, attempt)?;
-    folder.child(layout.part(attempt.task().number)?)
+    let name = part_name(folder.allocator(), attempt.task().number)?;
+    folder.child(name)
 }
 
 /// A text with a line feed behind it.

@@ -61,18 +61,18 @@ fn put_store_call(out: &mut Vec<u8>, call: &StoreCall) -> Result<(), AllocError>
 fn put_op(out: &mut Vec<u8>, op: &Op) -> Result<(), AllocError> {
     match op {
         Op::Mkdirs(path) => put_path(out, b"mkdirs ", path),
-        Op::Create(path, closed) => {
+        Op::Create { path, closed } => {
             put_path(out, b"create ", path)?;
             out.extend_from_slice(if *closed { b" closed" } else { b"" })
         }
-        Op::Append(path, bytes) => {
+        Op::Append { path, bytes } => {
             put_path(out, b"append ", path)?;
             out.extend_from_slice(b" ")?;
             put_count(out, bytes.len(), b"byte", b"bytes")
         }
         Op::Close(path) => put_path(out, b"close ", path),
         Op::Delete(path) => put_path(out, b"delete ", path),
-        Op::Rename(from, to) => {
+        Op::Rename { from, to } => {
             put_path(out, b"rename ", from)?;
             put_path(out, b" ", to)
         }

@@ -3,7 +3,7 @@ ghost use Rattle.std.specs.Prelude.{◌≡◌, ◌++◌, ◌≤◌, IfOk, OnOk, 
 ghost use Rattle.mr_sim.specs.seq.PartFiles.{file_text, part_files_text};
 
 use itoa::Buffer;
-use mr_paths::{Layout, Path};
+use mr_paths::part_name;
 use std::alloc::{AllocError, Global};
 
 /// A file: its name and its length, and then its bytes.
@@ -24,13 +24,10 @@ pub fn part_files_text(alloc: Global, files: &[Vec<u8>]) -> Result<Vec<u8>, Allo
     requires { length files.now ≤ 1000 }
     ensures { IfOk result (λ text. text.items ≡ part_files_text 0 (map (λ file. file.items) files.now)) }
 {
-    let layout = Layout {
-        dest: Path::root(alloc),
-    };
     let mut text = Vec::new(alloc);
     let mut reduce = 0u32;
     for file in files {
-        let name = layout.part(reduce)?;
+        let name = part_name(alloc, reduce)?;
         print_file(&mut text, name.as_bytes(), file)?;
         reduce += 1;
     }
