@@ -5,7 +5,7 @@ pub mod Parts
 pub mod Keeping
 pub mod Standing
 pub mod Kills
-pub mod Kinds
+pub mod KindTests
 pub mod Ends
 pub mod Lying
 pub mod Delivering

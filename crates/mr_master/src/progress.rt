@@ -106,7 +106,7 @@ fn is_open(task: &TaskMachine, kind: TaskKind) -> bool
     both(is_kind, none)
 }
 
-#[tactic(auto, using(crate::proofs::Kinds::map_is, crate::proofs::Kinds::reduce_is))]
+#[tactic(auto, using(crate::proofs::KindTests::map_is, crate::proofs::KindTests::reduce_is))]
 fn same_kind(a: TaskKind, b: TaskKind) -> bool
     ensures { result ≡ same_kind a b }
 {
