@@ -1,5 +1,5 @@
 -- What the four facts need beside them: of a recorded attempt's rivals, of the newest committed directory, of yeses, ends and failed commits.
-use Rattle.std.proofs.Common.{ℕ, zero, suc, ◌≤◌, ◌<◌, ◌+◌, ◌*◌, ◌-◌, ◌/◌, ◌≡◌, refl, sym, ◌∙◌, subst, true, false, List, ◌++◌, Option, Some, None, is_some, is_none, ◌⊎◌, inl, inr, arith}
+use Rattle.std.proofs.Common.{ℕ, zero, suc, ◌≤◌, ◌<◌, ◌+◌, ◌≡◌, refl, sym, ◌∙◌, subst, true, false, List, ◌++◌, Option, Some, None, is_some, is_none, ◌⊎◌, inl, inr, arith}
 use Rattle.std.proofs.lemmas.Bool.{false≢true, true≢false}
 use Rattle.mr_ids.specs.Generations.{first_attempt_number, generation_of}
 use Rattle.mr_ids.proofs.Generations.{only_own}
