@@ -14,7 +14,7 @@ mod script;
 use crate::committer::command::ScriptCommand;
 use crate::committer::listing::print_listing;
 use crate::committer::reply::print_reply;
-use crate::committer::scene::{Scene, carry_out};
+use crate::committer::scene::Scene;
 use crate::committer::script::script_of;
 use crate::fault::SimFault;
 use crate::subcommand::Command;
@@ -63,7 +63,7 @@ fn reply_to(
     ensures after { OnOk result (scene.new ≡ (outcome layout.now.dest command.now scene.old).1) }
     ensures memory { IsOkUnless result SimFault.NoMemory }
 {
-    match carry_out(scene, layout, command) {
+    match command.carry_out(scene, layout) {
         Err(CommitFault::NoMemory) => Err(SimFault::NoMemory),
         reply => Ok(print_reply(alloc, out, line, reply)?),
     }

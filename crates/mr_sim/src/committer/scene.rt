@@ -93,53 +93,41 @@ fn bar(names: &mut Namespace, caller: Caller, attempt: AttemptId) -> Result<(), 
     }
 }
 
-/// Carries out a command.
-pub fn carry_out(
-    scene: &mut Scene,
-    layout: &Layout,
-    command: &ScriptCommand,
-) -> Result<Reply, CommitFault>
-    ensures { CarriesOut layout.now.dest command.now scene.old result scene.new }
-{
-    let caller = scene.caller;
-    match command {
-        ScriptCommand::As(k) => {
-            scene.caller.app = *k;
-            Ok(Reply::Silent)
-        }
-        ScriptCommand::Raise(k) => {
-            scene.names.raise(*k);
-            Ok(Reply::Silent)
-        }
-        ScriptCommand::Check => silent(check_output(&scene.names, caller, layout)),
-        ScriptCommand::Setup => silent(setup_job(&mut scene.names, caller, layout)),
-        ScriptCommand::Write(attempt, text) => {
-            silent(write(&mut scene.names, caller, layout, *attempt, text))
-        }
-        ScriptCommand::Needs(attempt) => told(needs_task_commit(
-            &scene.names,
-            caller,
-            layout,
-            *attempt,
-        )),
-        ScriptCommand::Commit(attempt) => {
-            silent(commit_task(&mut scene.names, caller, layout, *attempt))
-        }
-        ScriptCommand::Abort(attempt) => silent(abort_task(
-            &mut scene.names,
-            caller,
-            layout,
-            *attempt,
-        )),
-        ScriptCommand::Recover(task, bytes) => {
-            silent(recover_task(&mut scene.names, caller, layout, *task, *bytes))
-        }
-        ScriptCommand::CommitJob => silent(commit_job(&mut scene.names, caller, layout)),
-        ScriptCommand::AbortJob => silent(abort_job(&mut scene.names, caller, layout)),
-        ScriptCommand::Bar(attempt) => silent(bar(&mut scene.names, caller, *attempt)),
-        ScriptCommand::By(attempt) => {
-            scene.caller.attempt = *attempt;
-            Ok(Reply::Silent)
+impl ScriptCommand {
+    /// Carries out the command.
+    pub fn carry_out(&self, scene: &mut Scene, layout: &Layout) -> Result<Reply, CommitFault>
+        ensures { CarriesOut layout.now.dest self.now scene.old result scene.new }
+    {
+        let caller = scene.caller;
+        match self {
+            Self::As(k) => {
+                scene.caller.app = *k;
+                Ok(Reply::Silent)
+            }
+            Self::Raise(k) => {
+                scene.names.raise(*k);
+                Ok(Reply::Silent)
+            }
+            Self::Check => silent(check_output(&scene.names, caller, layout)),
+            Self::Setup => silent(setup_job(&mut scene.names, caller, layout)),
+            Self::Write(attempt, text) => {
+                silent(write(&mut scene.names, caller, layout, *attempt, text))
+            }
+            Self::Needs(attempt) => told(needs_task_commit(&scene.names, caller, layout, *attempt)),
+            Self::Commit(attempt) => {
+                silent(commit_task(&mut scene.names, caller, layout, *attempt))
+            }
+            Self::Abort(attempt) => silent(abort_task(&mut scene.names, caller, layout, *attempt)),
+            Self::Recover(task, bytes) => {
+                silent(recover_task(&mut scene.names, caller, layout, *task, *bytes))
+            }
+            Self::CommitJob => silent(commit_job(&mut scene.names, caller, layout)),
+            Self::AbortJob => silent(abort_job(&mut scene.names, caller, layout)),
+            Self::Bar(attempt) => silent(bar(&mut scene.names, caller, *attempt)),
+            Self::By(attempt) => {
+                scene.caller.attempt = *attempt;
+                Ok(Reply::Silent)
+            }
         }
     }
 }
