@@ -12,7 +12,7 @@ use Rattle.mr_event.specs.declared.why.Why.{Why}
 use Rattle.mr_master_model.specs.declared.phase.DutyName.{DutyName}
 use Rattle.mr_master_model.specs.Duty.{Duty}
 use Rattle.mr_model.specs.Packets.{Config}
-use Rattle.mr_model.specs.Pasts.{Place, Step, wish, wish_of_seen}
+use Rattle.mr_model.specs.Pasts.{Place, Step, wish}
 use Rattle.mr_model.specs.World.{World, Event, Calm, ContainerStep, duty, seen_by, wish_at, wish_of}
 use Rattle.mr_model.specs.Effect.{addressee, wants_compute}
 use Rattle.mr_model.specs.Claims.{Limits}

@@ -1,4 +1,4 @@
-use Rattle.std.proofs.Common.{◌+◌, [], ◌∙◌, sym, refl, append-nil, arith}
+use Rattle.std.proofs.Common.{◌+◌, [], sym, refl, append-nil, arith}
 use Rattle.mr_world.specs.Journal.{world_in}
 use Rattle.mr_sim.proofs.play.Showing.{adds-one}
 use Rattle.mr_sim.proofs.play.histories.print_histories.Goals as goal
