@@ -1,5 +1,5 @@
 -- How far the tasks have come, by place: which wait for a launch, and which maps and which reduces are not Succeeded.
-use Rattle.std.specs.Prelude.{◌≡◌, ◌<◌, ◌≤◌, ℕ, Bool, true, false, ◌&&◌, List, length, slice_get, Some, None, is_none}
+use Rattle.std.specs.Prelude.{◌≡◌, ◌<◌, ◌≤◌, ℕ, Bool, false, ◌&&◌, List, length, slice_get, Some, None, is_none}
 use Rattle.std.specs.List.{find}
 pub use Rattle.mr_ids.specs.Same.{same_kind}
 use Rattle.mr_ids.specs.declared.id.TaskId.{TaskId}
