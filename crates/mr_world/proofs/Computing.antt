@@ -1,5 +1,5 @@
 -- Bytes are handed in to a container: when they can be, and what the parts stand for then.
-use Rattle.std.proofs.Common.{◌≡◌, ℕ, ◌≤◌, refl, sym, ◌∙◌, ap, subst, Bool, true, false, ◌&&◌, ◌||◌, nat_lt, List, ◌++◌, Option, Some, None, Result, Ok, Err, IsErrAnd, inl, if◌then◌else◌, is_some, length, append-nil, arith, IfSome}
+use Rattle.std.proofs.Common.{◌≡◌, ℕ, ◌≤◌, refl, sym, ◌∙◌, ap, subst, Bool, true, false, ◌&&◌, ◌||◌, nat_lt, List, ◌++◌, Option, Some, None, Result, Ok, Err, IsErrAnd, if◌then◌else◌, is_some, length, append-nil, arith, IfSome}
 use Rattle.std.proofs.Math.Bool.{and-true}
 use Rattle.std.proofs.lemmas.Result.{err_from_is_err_and}
 use Rattle.std.specs.Option.{option_map}

@@ -1,15 +1,15 @@
 -- What an event that happened makes of the parts and the journal of a world.
-use Rattle.std.proofs.Common.{◌≡◌, ℕ, ◌+◌, ◌-◌, ◌<◌, ◌≤◌, sym, ◌∙◌, ap, subst, List, [], ◌∷◌, ◌++◌, length, length-append, arith, true, false, Bool, ◌&&◌, nat_lt, Option}
+use Rattle.std.proofs.Common.{◌≡◌, ℕ, ◌+◌, ◌-◌, ◌<◌, ◌≤◌, sym, ◌∙◌, ap, subst, List, [], ◌∷◌, ◌++◌, length, length-append, arith, ◌&&◌, nat_lt}
 use Rattle.std.proofs.lemmas.Bool.{lt-ltb}
 use Rattle.mr_model.specs.Packets.{Config}
 use Rattle.mr_model.specs.World.{World, Event}
-use Rattle.mr_model.specs.Effect.{effect, not_now, Why}
+use Rattle.mr_model.specs.Effect.{effect, not_now}
 use Rattle.mr_model.specs.Sending.{sent}
 use Rattle.mr_world.specs.declared.fault.WorldFault.{WorldFault}
 use Rattle.mr_world.specs.declared.limits.TheConstants.{MAX_EVENTS}
 use Rattle.mr_world.specs.declared.parts.Parts.{Parts}
 use Rattle.mr_world.specs.declared.took.Took.{Took}
-use Rattle.mr_world.specs.Applying.{Counts, Takes, IsRefused}
+use Rattle.mr_world.specs.Applying.{Counts, Takes}
 use Rattle.mr_world.specs.Journal.{Journal, Keeps, run_of}
 use Rattle.mr_world.specs.Limits.{within, fits_at_once}
 use Rattle.mr_world.specs.Standing.{Standing, IsTaken, Refuses, RefusesEvent}

@@ -1,10 +1,9 @@
 -- The headline holds of a world before and after any further events.
-use Rattle.std.proofs.Common.{◌≡◌, ℕ, ◌≤◌, refl, sym, subst, Bool, true, false, List, [], ◌++◌, Some, length, append-nil, nat_lt, nat_le, if◌then◌else◌, ◌^◌}
+use Rattle.std.proofs.Common.{◌≡◌, sym, subst, true, List, [], ◌++◌, length, append-nil, nat_lt, nat_le, if◌then◌else◌, ◌^◌}
 use Rattle.std.proofs.lemmas.Bool.{leb-true}
 use Rattle.mr_mapside.specs.declared.TheConstants.{MAX_OUTPUT_LEN}
-use Rattle.mr_model.specs.Ids.{is_reduce}
 use Rattle.mr_model.specs.Packets.{Config}
-use Rattle.mr_model.specs.World.{World, Event, Compute}
+use Rattle.mr_model.specs.World.{Event, Compute}
 use Rattle.mr_model.specs.Sequential.{BoundsOutputs, most_output}
 use Rattle.mr_model.proofs.Grows.{winner_stays}
 use Rattle.mr_model.proofs.Won.{told_the_same}

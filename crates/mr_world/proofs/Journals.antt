@@ -1,5 +1,5 @@
 -- What a world's journal says, as events are added to it.
-use Rattle.std.proofs.Common.{◌≡◌, ℕ, suc, ◌+◌, ◌<◌, ◌≤◌, refl, sym, ◌∙◌, ap, subst, Bool, true, false, ◌&&◌, List, [], ◌∷◌, ◌++◌, Option, Some, None, if◌then◌else◌, is_none, ◌⊎◌, inl, inr, nat_lt, length, length-append, append_assoc, append-nil, arith, take, drop, get_or, Result, Ok, Err, IsErrAnd}
+use Rattle.std.proofs.Common.{◌≡◌, suc, ◌<◌, refl, sym, ◌∙◌, ap, subst, Bool, true, false, List, [], ◌∷◌, ◌++◌, Option, Some, None, if◌then◌else◌, inl, inr, nat_lt, length, length-append, append_assoc, append-nil, arith, take, drop, get_or, Result, Err, IsErrAnd}
 use Rattle.std.proofs.lemmas.Bool.{and_parts, lt-ltb}
 use Rattle.std.proofs.Math.Seq.{split_at}
 use Rattle.std.proofs.lemmas.Result.{err_from_is_err_and}
@@ -17,7 +17,6 @@ use Rattle.mr_world.specs.Limits.{within}
 use Rattle.mr_world.specs.Standing.{Standing, IsTaken, Refuses}
 use Rattle.mr_world.specs.Journal.{Journal, Keeps, run_of, world_in, if_taken, taken, fits, fits_first}
 use Rattle.mr_world.specs.Applying.{CanHappen, IsRefused, Takes, AllFit, Ran, StopsAt, Runs, Counts}
-use Rattle.mr_world.proofs.Opening_parts.{opens}
 
 -- ---- an event that is taken, and one that is not
 

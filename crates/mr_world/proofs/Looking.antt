@@ -1,17 +1,16 @@
 -- The store call of an event is what the definitions say.
-use Rattle.std.proofs.Common.{◌≡◌, ℕ, refl, sym, ◌∙◌, ap, ap₂, subst, Bool, true, false, ◌&&◌, Option, Some, None, Result, Ok, Err, IsErrAnd, if◌then◌else◌, is_none}
+use Rattle.std.proofs.Common.{◌≡◌, ℕ, refl, sym, ◌∙◌, ap, ap₂, subst, Bool, true, false, ◌&&◌, Option, Some, None, Result, Ok, IsErrAnd, if◌then◌else◌, is_none}
 use Rattle.std.proofs.lemmas.Result.{err_from_is_err_and}
 use Rattle.std.specs.Option.{option_map}
 use Rattle.mr_event.specs.declared.why.Why.{Why}
 use Rattle.mr_container.specs.declared.reply.Reply.{Reply}
-use Rattle.mr_names.specs.declared.op.Op.{Op}
 use Rattle.mr_master_model.specs.declared.store.StoreCall.{StoreCall}
 use Rattle.mr_master_model.specs.declared.store.StoreAnswer.{StoreAnswer}
 use Rattle.mr_model.specs.Effect.{not_now}
 use Rattle.mr_model.specs.Ids.{ContainerId}
-use Rattle.mr_model.specs.Packets.{Caller, Store}
+use Rattle.mr_model.specs.Packets.{Caller}
 use Rattle.mr_model.specs.Stored.{heard_in}
-use Rattle.mr_model.specs.World.{World, Event, Weather, Duty, ContainerStep, duty, op_of, caller_of}
+use Rattle.mr_model.specs.World.{World, Event, Weather, duty, op_of, caller_of}
 use Rattle.mr_model.proofs.Stored.{stores_go_on}
 use Rattle.mr_agree.specs.Steps.{store_call}
 use Rattle.mr_world.specs.declared.asked.Asked.{Asked}
@@ -21,7 +20,7 @@ use Rattle.mr_world.specs.declared.fault.WorldFault.{WorldFault}
 use Rattle.mr_world.specs.declared.fault.WorldFault.TheVariants as fault
 use Rattle.mr_world.specs.declared.parts.Parts.{Parts}
 use Rattle.mr_world.specs.Applying.{CanHappen, IsRefused}
-use Rattle.mr_world.specs.inner.Asking.{IsForeseen, RefusesDuty}
+use Rattle.mr_world.specs.inner.Asking.{IsForeseen}
 use Rattle.mr_world.specs.Asks.{asked_by, asked_in, by_container, by_master, Looks}
 use Rattle.mr_world.specs.inner.Calling.{ForeseesCall, answer_of}
 use Rattle.mr_world.specs.Journal.{Journal, world_in, fits, fits_first}

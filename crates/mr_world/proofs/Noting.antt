@@ -1,5 +1,5 @@
 -- The winners of a job's reduces, noted in one walk over what is told.
-use Rattle.std.proofs.Common.{◌≡◌, ◌≤◌, ◌<◌, ℕ, zero, suc, ◌+◌, refl, sym, ◌∙◌, ap, ap₂, Bool, true, false, nat_eq, List, [], ◌∷◌, map, drop, length, replicate, get_or, slice_get, slice_set, Option, Some, None, if◌then◌else◌, arith}
+use Rattle.std.proofs.Common.{◌≡◌, ◌≤◌, ◌<◌, ℕ, zero, suc, ◌+◌, refl, sym, ◌∙◌, ap, ap₂, Bool, true, false, nat_eq, List, ◌∷◌, map, drop, length, replicate, get_or, slice_get, slice_set, Option, Some, None, if◌then◌else◌, arith}
 use Rattle.std.proofs.lemmas.Bool.{eqb-true, eq-eqb}
 use Rattle.std.proofs.lemmas.Bool.Decides.{nat_tests}
 use Rattle.std.proofs.Math.ListN.{drop_of_length-le}

@@ -1,4 +1,4 @@
-use Rattle.std.proofs.Common.{◌≡◌, ◌∙◌, ap, subst, refl, Option, Some, Ok}
+use Rattle.std.proofs.Common.{◌∙◌, ap, subst, refl, Option, Some, Ok}
 use Rattle.mr_world.specs.declared.call.StoreCall.{StoreCall}
 use Rattle.mr_world.specs.inner.Calling.{ForeseesCall}
 use Rattle.mr_world.proofs.Looking.{by-container}

@@ -1,5 +1,4 @@
 use Rattle.std.proofs.Common.{[], ◌∷◌, refl}
-use Rattle.mr_world.specs.Applying.{Takes}
 use Rattle.mr_world.proofs.Happening.{keeps-on, takes-on, same-journal}
 use Rattle.mr_world.proofs.Headlines.{holds-after, holds-still}
 use Rattle.mr_world.proofs.world.World.apply.Goals as goal
