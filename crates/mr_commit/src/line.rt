@@ -90,33 +90,6 @@ impl Rule {
     }
 }
 
-/// An equal call.
-fn copy_op(op: &Op) -> Result<Op, AllocError>
-    ensures { IfOk result (λ copy. copy ≡ op.now) }
-{
-    Ok(match op {
-        Op::Mkdirs(path) => Op::Mkdirs(path.copy()?),
-        Op::Create { path, closed } => Op::Create {
-            path: path.copy()?,
-            closed: *closed,
-        },
-        Op::Append { path, bytes } => Op::Append {
-            path: path.copy()?,
-            bytes: bytes.copy()?,
-        },
-        Op::Close(path) => Op::Close(path.copy()?),
-        Op::Delete(path) => Op::Delete(path.copy()?),
-        Op::Rename { from, to } => Op::Rename {
-            from: from.copy()?,
-            to: to.copy()?,
-        },
-        Op::List(path) => Op::List(path.copy()?),
-        Op::Exists(path) => Op::Exists(path.copy()?),
-        Op::Read(path) => Op::Read(path.copy()?),
-        Op::Bar(attempt) => Op::Bar(*attempt),
-    })
-}
-
 /// One line of a committer's table: its call, ready to be made, and what follows from the answer.
 #[derive(Drop)]
 pub struct TableLine {
@@ -251,7 +224,7 @@ impl TableLine {
         ensures { IfOk result (λ line. line ≡ self.now) }
     {
         Ok(TableLine {
-            op: copy_op(&self.op)?,
+            op: self.op.copy()?,
             rule: self.rule.copy()?,
         })
     }

@@ -50,7 +50,8 @@
 //! were handed in are its output for good, and the blocks from which they were computed stay (`bytes_stay`).
 //!
 //! `send` asks for two spare places in the bag and for room for two below its limit, `tell_end` for one
-//! (`Bag::reserve` and `Bag::len` tell); what is spare afterwards is not said. Only tested: that `call`, `hear` and
+//! (`Bag::reserve` and `Bag::len` tell). Each takes a place for each packet that it puts, and no more (clause `spare`): so who sends for
+//! several containers may reserve once for all. Only tested: that `call`, `hear` and
 //! `copy` succeed with ample memory; the worked examples.
 #![tactic(auto)]
 

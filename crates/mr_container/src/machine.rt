@@ -328,6 +328,8 @@ impl ContainerMachine {
         requires few { length bag.old.packets + 1 < 1000000 }
         ensures bag { bag.new.packets ≡ bag.old.packets ++ step_packets self.old.maps self.old.id self.old.place.attempt self.old.seen }
         ensures after { (e : Envelope) → wished_packet self.old.id self.old.place.attempt self.old.seen self.old.seen.wish ≡ Some e → self.new ≡ after self.old (Sends e.body) }
+        // A place for each packet that was put; where its wish is no packet, none.
+        ensures spare { bag.old.spare ≡ bag.new.spare + length (step_packets self.old.maps self.old.id self.old.place.attempt self.old.seen) }
         // Where its wish is no packet, nothing changes.
         ensures none { wished_packet self.old.id self.old.place.attempt self.old.seen self.old.seen.wish ≡ None → self.new ≡ self.old }
     {
@@ -343,7 +345,8 @@ impl ContainerMachine {
     pub fn tell_end(&self, bag: &mut Bag)
         requires room { 0 < bag.old.spare }
         requires few { length bag.old.packets < 1000000 }
-        ensures { bag.new.packets ≡ bag.old.packets ++ end_of self.now.id self.now.seen.wish }
+        ensures bag { bag.new.packets ≡ bag.old.packets ++ end_of self.now.id self.now.seen.wish }
+        ensures spare { bag.old.spare ≡ bag.new.spare + length (end_of self.now.id self.now.seen.wish) }
     {
         if let Wish::Over = self.wish {
             bag.push_reserved(self.to_master(Packet::Ended { c: self.id }));
@@ -480,7 +483,7 @@ fn wished_op(
         }),
         Wish::Write => Some(Op::Append {
             path: part_path(layout, k, a)?,
-            bytes: store_bytes(written)?,
+            bytes: written.copy()?,
         }),
         Wish::Close => Some(Op::Close(part_path(layout, k, a)?)),
         Wish::Needs | Wish::Look => Some(Op::Exists(layout.task_attempt(k, a)?)),
@@ -508,11 +511,4 @@ fn part_path(layout: &Layout, k: AppAttempt, a: AttemptId) -> Result<Path, Alloc
     let mut path = layout.task_attempt(k, a)?;
     path.push(part_name(path.allocator(), a.task().number)?)?;
     Ok(path)
-}
-
-// The same bytes, for the namespace.
-fn store_bytes(bytes: &Bytes) -> Result<mr_names::Bytes, AllocError>
-    ensures { IfOk result (λ copy. copy ≡ bytes.now) }
-{
-    Ok(mr_names::Bytes::from_vec(bytes.copy()?.into_vec()))
 }

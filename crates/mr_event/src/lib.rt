@@ -5,15 +5,24 @@
 //!
 //! # What is here
 //!
-//! Types alone, without calls and so without contracts: the crates above cite them.
-//!
-//! - `Event`: one thing that happens, with the numbers of those that it happens to. Whoever holds a `World` (`mr_world`) hands it in by `apply`.
+//! - `Event`: one thing that happens, with the numbers of those that it happens to, each under its name. Whoever holds a `World` (`mr_world`) hands it in by `apply`.
 //! - `Weather`: what befalls the one store call of an event. It is made and answered (`Calm`), not made (`Unavailable`), or made with its answer lost (`Unanswered`); its caller can't tell the last two apart.
-//! - `Why`: why an event is not permitted now. It prints as its variant's name, a task's reason behind `Task`, as `Task AlreadyWon`: derived by thiserror, and tested by what `mrsim play` prints.
+//! - `Why`: why an event is not permitted now. It prints as its variant's name, a task's reason behind `Task`, as `Task AlreadyWon`: derived by thiserror, and tested for each variant.
+//! - `PlanFaults`: what is to befall a cluster, each `PlanFault` once a number of events have happened: a node restarts, the newest master crashes, or gives a node up.
+//!
+//! # What is proved
+//!
+//! - `Event::copy` gives an equal event; only computed bytes take memory. `PlanFaults::copy` gives equal faults; `from_vec`, `into_vec` and `as_slice` are what they say.
+//! - `==` of two events, and of the faults of two plans, holds exactly where they are equal (`events_are_compared`, `plans_are_compared`: laws, on functions that do nothing).
+//! - Only tested: the texts of the reasons, and that the copies succeed with ample memory.
 #![tactic(auto)]
 
 mod event;
+mod laws;
+mod plan;
 mod why;
 
 pub use event::{Event, Weather};
+pub use laws::{events_are_compared, plans_are_compared};
+pub use plan::{PlanAct, PlanFault, PlanFaults};
 pub use why::Why;

@@ -64,7 +64,7 @@
 //! Only tested: that the calls succeed with ample memory, the lines' texts against the table. Only measured by
 //! hand: that `replay` takes time that grows linearly.
 //!
-//! **mr_sim, `history`** (src/history.rt): proved that what is given is `version 2` for a segment of version 2,
+//! **mr_commands, `history`** (src/history.rt): proved that what is given is `version 2` for a segment of version 2,
 //! then the text of the records, then that of the dropped bytes (`PrintsHistory`), or the first bad line. The
 //! format, what a crash leaves and how to read a segment by hand: [docs/HISTORY.md](../../../docs/HISTORY.md).
 //!

@@ -1,5 +1,5 @@
 //! The identifiers of a MapReduce job: the job, its tasks, the attempts at them, and the
-//! generations of its master.
+//! generations of its master. And the bytes that all crates above pass on.
 //!
 //! Each has one text, which Hadoop MapReduce prints and puts into paths. It is written, and read
 //! back as nothing else. The ranges of the numbers are our own, and so is it that no other
@@ -34,9 +34,13 @@
 //!   text has only letters, digits and bars, and at most 35, 49 or 59 bytes (`texts_are_plain`, and beside each
 //!   `write`); a numeral has only digits, at least its width and no more than its number needs
 //!   (`numerals_are_digits`); the ranges of each identifier's numbers (`ranges`).
+//! - **`Bytes`** is the bytes that it was made of, seen as a list: `new`, `from_vec`, `into_vec`, `as_slice`, `len`, `is_empty` are
+//!   what they say, `extend` adds at the end or changes nothing, `copy` gives equal bytes, `==` is that of the lists. `extend` and `copy`
+//!   refuse for want of memory alone, and never of no bytes.
 //! - Only tested: the texts of the faults, what `{:?}` prints, and that the calls succeed with ample memory.
 #![tactic(auto)]
 
+mod bytes;
 mod display;
 mod fault;
 mod from_str;
@@ -44,6 +48,7 @@ mod id;
 mod laws;
 mod reading;
 
+pub use bytes::Bytes;
 pub use fault::IdFault;
 pub use id::{AppAttempt, AttemptId, JobId, MAX_APP_ATTEMPTS, TaskId, TaskKind};
 pub use laws::{

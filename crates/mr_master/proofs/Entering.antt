@@ -45,6 +45,10 @@ is-none (Some x) e = cc
 ok-is : {x y : Attempt} → ◌≡◌ {A = Result Attempt TaskFault} (Ok x) (Ok y) → x ≡ y
 ok-is e = cc
 
+-- where a launch is not refused, the task is the job's
+pub of-the-job : (w : Setting) (s : Seen) (t : TaskId) (n : ℕ) → launch_refusal w s t n ≡ None → is_task w t ≡ true
+of-the-job w s t n e = (may-launch w s t n (none-is _ e)).is_of_job
+
 -- the attempt is the task's next one
 pub next-is : (m : Master) (w : Setting) (s : Seen) (t : TaskId) (n i : ℕ) (a : Attempt) → Keeps m w s → launch_refusal w s t n ≡ None → (is_task w t ≡ true) × (i ≡ place_of w t)
     → AnswersAt m.tasks.machines i launch_answer (Ok a) → a ≡ next_attempt w s t

@@ -165,12 +165,13 @@ next-is m marks w calls i x f k first at =
     )
 
 -- what is marked has a machine
-pub no-machine : (marks : List Bool) (read : TaskId → ℕ → List TaskCall → Bool) (machines : List Task) (i : ℕ) → FollowsTo (length machines) marks read machines → is_marked marks i ≡ true → None ≡ slice_get machines i → ⊥
-no-machine marks read machines i f lit none = by (slice_get_cases machines i).1
+pub machine-there : (marks : List Bool) (read : TaskId → ℕ → List TaskCall → Bool) (machines : List Task) (i : ℕ) (x : Task) → FollowsTo (length machines) marks read machines → is_marked marks i ≡ true
+    → x ≡ get_or machines i x → slice_get machines i ≡ Some x
+machine-there marks read machines i x f lit is = by (slice_get_cases machines i).1
   where
-    by : ((x : Task) × (i < length machines) × (slice_get machines i ≡ Some x) × (get_or machines i x ≡ x)) ⊎ ((length machines ≤ i) × (slice_get machines i ≡ None)) → ⊥
-    by (inl p) = let e : None ≡ Some p.0 = none ∙ p.2 in cc
-    by (inr p) = let e = marked-within marks read machines i f lit in let g = p.0 in omega arith
+    by : ((y : Task) × (i < length machines) × (slice_get machines i ≡ Some y) × (get_or machines i y ≡ y)) ⊎ ((length machines ≤ i) × (slice_get machines i ≡ None)) → slice_get machines i ≡ Some x
+    by (inl p) = p.2 ∙ ap Some (sym (is ∙ get_or_from_slice_get machines i p.0 x p.2))
+    by (inr p) = let e = marked-within marks read machines i f lit in let g = p.0 in absurd (omega arith)
 
 -- ---- what is wanted
 

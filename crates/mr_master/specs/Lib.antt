@@ -6,6 +6,7 @@ pub mod Launches
 pub mod Nodes
 pub mod Records
 pub mod State
+pub mod Refused
 pub mod Told
 pub mod WorkKinds
 pub mod Answering

@@ -16,7 +16,7 @@ use crate::work::Work;
 use mr_history::{Record, Records};
 use mr_ids::{AttemptId, TaskId, TaskKind};
 use mr_master_model::Setting;
-use mr_recover::{Recovery, Staging, TaskWinner, Winners};
+use mr_recover::{RecoverFault, Recovery, Staging, TaskWinner, Winners};
 use std::alloc::{AllocError, Global};
 use std::collections::VecDeque;
 use std::marker::Model;
@@ -134,7 +134,8 @@ fn planned(alloc: Global, records: &[Record]) -> Result<Winners, AllocError>
     };
     match Recovery::plan(alloc, records, staging) {
         Ok(Recovery::Resume(winners)) => Ok(winners),
-        _ => Err(AllocError),
+        Ok(Recovery::Succeeded | Recovery::Failed) => unreachable!(),
+        Err(RecoverFault::NoMemory) => Err(AllocError),
     }
 }
 

@@ -1,12 +1,13 @@
 //! Launches of attempts.
 //! Why one is refused, and what it leaves: the task's next attempt, its container, the record of its start, and the packet to the node.
-ghost use Rattle.std.specs.Prelude.{◌≡◌, ◌<◌, Some, None, IfOk, IfErr, IfSome, OnErr, unwrap_or, length, if◌then◌else◌};
+ghost use Rattle.std.specs.Prelude.{◌≡◌, ◌<◌, ◌≤◌, Some, None, IfOk, IfErr, IfSome, IfNone, OnErr, length, if◌then◌else◌};
 ghost use Rattle.mr_packet.specs.Sends.{to_node};
 ghost use Rattle.mr_master_model.specs.Job.{is_task};
 ghost use Rattle.mr_master_model.specs.Readings.{launch_refusal, by_task};
 ghost use Rattle.mr_master.specs.inner.Launching.{HasLaunched};
 ghost use Rattle.mr_master.specs.Places.{place_of};
-ghost use Rattle.mr_master.specs.State.{Reads, Moves};
+ghost use Rattle.mr_master.specs.State.{Reads, Moves, StandsForSome};
+ghost use Rattle.mr_master.specs.Refused.{MOST_CONTAINERS, launch_error};
 
 use crate::machine::Machine;
 use crate::packets::to_node;
@@ -16,6 +17,17 @@ use mr_ids::{AttemptId, TaskId};
 use mr_master_model::{Launch, LaunchFault};
 use mr_packet::{ContainerId, Envelope, Packet};
 use mr_task::TaskFault;
+
+/// Why a launch came to nothing.
+#[derive(Clone, Copy, Debug, PartialEq, Eq)]
+pub enum LaunchError {
+    /// It is refused, for this reason, the first that applies.
+    Refused(LaunchFault),
+    /// The master launched 2^32 containers: there is no number for another one.
+    Full,
+    /// Memory was refused.
+    NoMemory,
+}
 
 impl Machine {
     // Why no attempt of the task is launched on the node, memory aside.
@@ -38,26 +50,27 @@ impl Machine {
     }
 
     // Launches the next attempt of the task on the node, and gives the packet that tells the node so.
-    pub fn launch(&mut self, task: TaskId, node: u32) -> Result<Envelope, LaunchFault>
+    pub fn launch(&mut self, task: TaskId, node: u32) -> Result<Envelope, LaunchError>
+        requires { StandsForSome self.old }
         ensures launched { IfOk result (λ packet. HasLaunched self.old task node packet self.new) }
-        ensures refused { IfErr result (λ fault. Reads self.old (λ w s. unwrap_or (launch_refusal w s task node) (LaunchFault.Task TaskFault.NoMemory)) fault) }
+        ensures refused { IfErr result (λ error. Reads self.old (λ w s. launch_error w s task node) error) }
         ensures unchanged { OnErr result (Moves self.old (λ w s. s) self.new) }
     {
         if let Some(fault) = self.launch_refusal(task, node) {
-            return Err(fault);
+            return Err(LaunchError::Refused(fault));
         }
         let Some(place) = self.place_within(task) else {
-            return Err(no_memory());
+            unreachable!()
         };
         let Some(number) = number_after(self.launches.len()) else {
-            return Err(no_memory());
+            return Err(LaunchError::Full);
         };
         if self.writing.reserve(1).is_err() || self.launches.reserve(node, task).is_err() {
-            return Err(no_memory());
+            return Err(LaunchError::NoMemory);
         }
         let attempt = match self.tasks.launch(place) {
             Ok(attempt) => attempt,
-            Err(_) => return Err(no_memory()),
+            Err(_) => return Err(LaunchError::NoMemory),
         };
         let launch = Launch {
             container: ContainerId {
@@ -96,9 +109,10 @@ fn by_task(refusal: Option<TaskFault>) -> Option<LaunchFault>
     }
 }
 
-// The number of the next container after so many.
+// The number of the next container after so many; none where no number is left.
 fn number_after(count: usize) -> Option<u32>
-    ensures { IfSome result (λ number. number ≡ count) }
+    ensures some { IfSome result (λ number. number ≡ count) }
+    ensures none { IfNone result (MOST_CONTAINERS ≤ count) }
 {
     if count <= u32::MAX as usize {
         Some(count as u32)

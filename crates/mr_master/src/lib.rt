@@ -24,9 +24,10 @@
 //!   for, also where memory is refused. `answer` then gives these packets, and the master stands for what it stood for and that answer. Where
 //!   no call is due, nothing is sent.
 //! - `launch_refusal` and `expire_refusal` tell which refusal applies first, if one does, and take no memory.
-//! - `launch` and `expire` give exactly the packets that are sent, and then the machine stands for what it stood for and this step. A fault
-//!   is the first refusal that applies, or `Task(NoMemory)` where none does; then it stands for what it stood for, and after a fault of `expire` it
-//!   is the machine that it was.
+//! - `launch` and `expire` give exactly the packets that are sent, and then the machine stands for what it stood for and this step. An error
+//!   of `launch` is the first refusal that applies, else `Full` where 2^32 containers were launched, else `NoMemory`; one of `expire` is the
+//!   first refusal, or `Task(NoMemory)` where none applies. Then it stands for what it stood for, and after an error of `expire` it is the
+//!   machine that it was.
 //! - `expire_packets` gives exactly the packets that `expire` then sends; nothing where that is refused. `copy` gives a machine that stands for
 //!   whatever this one stands for.
 //! - Only tested: that the calls succeed with ample memory, along a few ways through the phases (`crates/tests_masters`).
@@ -77,5 +78,6 @@ mod winners;
 mod work;
 
 pub use duty::Duty;
+pub use launching::LaunchError;
 pub use master::MasterMachine;
 pub use ready::Ready;

@@ -6,9 +6,6 @@ ghost use Rattle.mr_master.specs.inner.Marks.{is_marked, IsFirst, IsSet, NodesBu
 use std::alloc::{AllocError, Global};
 use std::marker::Model;
 
-// How many places there are at most.
-const MOST: usize = 1 << 40;
-
 /// Places, some of which are marked.
 #[derive(Drop)]
 pub struct Marks {
@@ -32,10 +29,11 @@ impl Model for Marks {
 impl Marks {
     // So many places at least, none of which is marked.
     pub fn new(alloc: Global, count: usize) -> Result<Marks, AllocError>
+        requires { count ≤ 2 ^ 40 }
         ensures room { IfOk result (λ marks. count ≤ length marks) }
         ensures none { IfOk result (λ marks. (i : ℕ) → is_marked marks i ≡ false) }
     {
-        let (size, height) = size_for(count)?;
+        let (size, height) = size_for(count);
         let tree = vec![in alloc; false; 2 * size]?;
         Ok(Marks { tree, height })
     }
@@ -72,22 +70,20 @@ impl Marks {
     }
 }
 
-// The least power of 2 that is enough, and its exponent. Where that is too many: an error.
-fn size_for(count: usize) -> Result<(usize, usize), AllocError>
-    ensures enough { IfOk result (λ p. count ≤ p.0) }
-    ensures most { IfOk result (λ p. p.0 ≤ 2 * 2 ^ 40) }
-    ensures power { IfOk result (λ p. p.0 ≡ 2 ^ p.1) }
+// The least power of 2 that is enough, and its exponent.
+fn size_for(count: usize) -> (usize, usize)
+    requires { count ≤ 2 ^ 40 }
+    ensures enough { count ≤ result.0 }
+    ensures most { result.0 ≤ 2 * 2 ^ 40 }
+    ensures power { result.0 ≡ 2 ^ result.1 }
 {
-    if count > MOST {
-        return Err(AllocError);
-    }
     let mut size = 1;
     let mut height = 0;
     while size < count {
         size *= 2;
         height += 1;
     }
-    Ok((size, height))
+    (size, height)
 }
 
 // A place is set, and then each node above it.

@@ -8,8 +8,10 @@ ghost use Rattle.mr_master_model.specs.Readings.{launch_refusal, expire_refusal,
 ghost use Rattle.mr_master_model.specs.Next.{seen, sent};
 ghost use Rattle.mr_master_model.specs.declared.store.StoreAnswer.{StoreAnswer};
 ghost use Rattle.mr_master.specs.Ready.{IsReady, IsReadyForSome};
+ghost use Rattle.mr_master.specs.Refused.{launch_error};
 
 use crate::duty::Duty;
+use crate::launching::LaunchError;
 use crate::machine::Machine;
 use crate::ready::Ready;
 use mr_ids::TaskId;
@@ -96,14 +98,14 @@ impl MasterMachine {
     /// Launches the next attempt of a task on a node, in the incarnation that is known of it, and gives the packet that tells the node
     /// so, which is to be sent.
     ///
-    /// Refusals in order: `NotRunning`, `NoTask` where the task is not the job's, `NoNode`, `Task` with the task's own refusal (it is won,
-    /// has two live attempts, or no numbers are left), and `Task(NoMemory)` where memory is refused, or it launched 2^32 containers. A
-    /// refusal changes nothing.
-    pub fn launch(&mut self, task: TaskId, node: u32) -> Result<Envelope, LaunchFault>
+    /// Errors in order: `Refused` with `NotRunning`, `NoTask` where the task is not the job's, `NoNode`, or `Task` with the task's own
+    /// refusal (it is won, has two live attempts, or no numbers are left); `Full` where it launched 2^32 containers, whose numbers have 32
+    /// bits; `NoMemory`. An error changes nothing.
+    pub fn launch(&mut self, task: TaskId, node: u32) -> Result<Envelope, LaunchError>
         ensures sent { IfOk result (λ packet. Answers self.old (λ w past. sent w past (Launches task node)) (packet ∷ [])) }
         ensures stands { OnOk result (Stands self.old (Launches task node) self.new) }
         ensures allowed { OnOk result (Answers self.old (λ w past. launch_refusal w (seen w past) task node) None) }
-        ensures refused { IfErr result (λ fault. Answers self.old (λ w past. unwrap_or (launch_refusal w (seen w past) task node) (LaunchFault.Task TaskFault.NoMemory)) fault) }
+        ensures refused { IfErr result (λ error. Answers self.old (λ w past. launch_error w (seen w past) task node) error) }
         ensures unchanged { OnErr result (StandsStill self.old self.new) }
     {
         let packet = self.machine.launch(task, node)?;

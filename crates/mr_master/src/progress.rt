@@ -1,5 +1,5 @@
 //! How far the tasks have come, kept where a task's machine changes, so that nobody has to look through all tasks.
-ghost use Rattle.std.specs.Prelude.{◌≡◌, ◌+◌, ◌&&◌, ℕ, false, is_none, not, nat_lt, IfOk, IfSome, IfNone};
+ghost use Rattle.std.specs.Prelude.{◌≡◌, ◌≤◌, ◌+◌, ◌^◌, ◌&&◌, ℕ, length, false, is_none, not, nat_lt, IfOk, IfSome, IfNone};
 ghost use Rattle.mr_grant.specs.Attempts.{first_of};
 ghost use Rattle.mr_task.specs.Readings.{seen, live};
 ghost use Rattle.mr_task.specs.State.{Answers};
@@ -33,6 +33,7 @@ impl Model for Progress {
 impl Progress {
     // Of these machines.
     pub fn of(alloc: Global, machines: &Vec<TaskMachine>) -> Result<Progress, AllocError>
+        requires { length machines.now.items ≤ 2 ^ 40 }
         ensures { IfOk result (λ progress. IsProgress progress machines.now.items) }
     {
         let mut progress = Progress::new(alloc, machines.len())?;
@@ -44,6 +45,7 @@ impl Progress {
 
     // So many places at least, none of which is marked.
     fn new(alloc: Global, count: usize) -> Result<Progress, AllocError>
+        requires { count ≤ 2 ^ 40 }
         ensures room { IfOk result (λ progress. HasRoom progress count) }
         ensures waiting { IfOk result (λ progress. (i : ℕ) → is_marked progress.waiting i ≡ false) }
         ensures open_maps { IfOk result (λ progress. (i : ℕ) → is_marked progress.open_maps i ≡ false) }

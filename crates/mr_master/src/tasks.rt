@@ -248,10 +248,8 @@ impl Tasks {
         let Some(place) = self.progress.first_waiting() else {
             return None;
         };
-        match self.at(place) {
-            Some(machine) => Some(machine.task()),
-            None => None,
-        }
+        let machine = &self.machines[place];
+        Some(machine.task())
     }
 
     // Whether each task of a kind has a Succeeded attempt.

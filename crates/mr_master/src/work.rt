@@ -312,8 +312,9 @@ impl Work {
     // What is next after the answer of a look for a mark.
     #[tactic(auto, unfolding(mr_master_model::specs::Answered::work_after))]
     pub fn look(&self, answer: &StoreAnswer) -> Work
-        ensures quiet { is_look self.now ≡ true → is_running result ≡ false }
-        ensures moved { (w : Setting) (s : Seen) → is_look self.now ≡ true → result ≡ work_after w s answer.now self.now }
+        requires { is_look self.now ≡ true }
+        ensures quiet { is_running result ≡ false }
+        ensures moved { (w : Setting) (s : Seen) → result ≡ work_after w s answer.now self.now }
     {
         match looked(answer) {
             Look::There => self.found(),
@@ -324,11 +325,13 @@ impl Work {
 
     // What is next where the mark is there.
     fn found(&self) -> Work
+        requires { is_look self.now ≡ true }
         ensures { result ≡ found_by self.now }
     {
         match self.at {
             At::LooksForSuccess => Work::ends(true),
-            _ => Work::ends(false),
+            At::LooksForFail | At::LooksForStarted => Work::ends(false),
+            _ => unreachable!(),
         }
     }
 
@@ -350,7 +353,8 @@ impl Work {
         setting: &Setting,
         earlier: &[Record],
     ) -> Result<Work, AllocError>
-        ensures { IfOk result (λ next. (s : Seen) → is_step self.now ≡ true → next ≡ begun_by setting.now (record s { earlier = earlier.now }) self.now) }
+        requires { is_step self.now ≡ true }
+        ensures { IfOk result (λ next. (s : Seen) → next ≡ begun_by setting.now (record s { earlier = earlier.now }) self.now) }
     {
         match &self.at {
             At::SetsUp(_) => {
@@ -361,7 +365,7 @@ impl Work {
             At::CommitsJob(_) => Ok(Work {
                 at: At::TellsSuccess,
             }),
-            _ => Ok(Work::stopped()),
+            _ => unreachable!(),
         }
     }
 
@@ -446,6 +450,7 @@ impl Work {
 
     // The next look, and after the last the reading.
     fn look_on(&self) -> Work
+        requires { is_look self.now ≡ true }
         ensures { result ≡ looked_on self.now }
     {
         match self.at {
@@ -455,7 +460,8 @@ impl Work {
             At::LooksForFail => Work {
                 at: At::LooksForStarted,
             },
-            _ => Work { at: At::Reads },
+            At::LooksForStarted => Work { at: At::Reads },
+            _ => unreachable!(),
         }
     }
 
@@ -479,6 +485,7 @@ impl Work {
 
     // What comes of the answer of a committer's call, made ready. Nothing changes.
     pub fn follow(&self, answer: &StoreAnswer) -> Result<Coming, AllocError>
+        requires { is_step self.now ≡ true }
         ensures coming { IfOk result (λ coming. IsComing (left_of self.now) answer.now coming) }
         ensures memory { OnErr result (WantsMore (left_of self.now) answer.now) }
     {
@@ -488,7 +495,7 @@ impl Work {
         match &self.at {
             At::SetsUp(step) | At::CommitsJob(step) => follow_step(step, r),
             At::TakesOver { step, .. } => follow_recovery(step, r),
-            _ => Ok(Coming::Refused),
+            _ => unreachable!(),
         }
     }
 

@@ -36,12 +36,14 @@
 //!   the greater of the two and keeps the content and the barred attempts;
 //! - the barred attempts are a finite set, kept for good: `bar` adds one and changes no content, nothing takes one
 //!   out, and of one that is there a `bar` wants no memory and does nothing (clause `there`); looking a caller up
-//!   takes no memory (`check_caller`, `is_barred`);
-//! - `raise`, `fence`, `foresee`, `is_barred`, `check_caller`, `exists`, `close`, `delete` never answer `NoMemory`
+//!   takes no memory (`check_caller`);
+//! - `raise`, `fence`, `foresee`, `check_caller`, `exists`, `close`, `delete` never answer `NoMemory`
 //!   (also `perform` of those three: its clause `always`);
 //! - each namespace's content is a tree (the root is a directory, and so is the parent of each other entry) of at most
 //!   65,536 entries without the root, each file has at most 2^24 bytes, its fence is at most 1,000, and at most 100,000
 //!   attempts are barred (`fence`, clause `sound`).
+//!
+//! `Op::copy` gives an equal call, and refuses for want of memory alone.
 //!
 //! Laws that follow from the definition alone stand on functions with empty bodies (`each_path`, `others_stay`,
 //! `stays_tree`, `answered`, `settles`, `bars_stay`, `listings`, `runs`, `rename_moves`, `delete_takes_out`): what
@@ -56,7 +58,7 @@
 //!
 //! Only tested: that the calls succeed with ample memory, and those runs on the built code
 //! (`crates/tests_base/src/names.rt`). Neither: speed, and how many requests for memory a call makes (the rename of a
-//! directory of 65,535 files makes fewer than 1,000: `tools/refuse_rename`). No call recurses.
+//! directory of 65,535 files makes fewer than 1,000: `tools/hostile`). No call recurses.
 //!
 //! The content is kept as a tree of nodes in a slab (`src/tree.rt`, `src/links.rt`): each entry's node is reached from
 //! the root by exactly one path, and no node is kept that none reaches. A rename moves one edge.
@@ -78,7 +80,8 @@ pub use laws::{
     answered, bars_stay, delete_takes_out, each_path, listings, others_stay, rename_moves, runs,
     settles, stays_tree,
 };
+pub use mr_ids::Bytes;
 pub use namespace::{MAX_BARRED, MAX_ENTRIES, MAX_FILE_LEN, Namespace};
-pub use node::{Bytes, Entries, Entry, Kind, Node};
+pub use node::{Entries, Entry, Kind, Node};
 pub use op::{Answer, Caller, Op};
 pub use walk::{Found, Walk};

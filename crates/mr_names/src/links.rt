@@ -69,7 +69,7 @@ pub fn link(nodes: &mut Slab<Place>, at: usize, name: Name, key: usize) -> Resul
             place.children.insert(name, key)?;
             Ok(())
         }
-        None => Ok(()),
+        None => unreachable!(),
     }
 }
 

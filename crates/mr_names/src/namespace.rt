@@ -1,16 +1,15 @@
 //! The namespace as its callers see it: each call, and its refusals in their order, with the fence and the barred attempts. What stands where is kept in `tree`.
 ghost use Rattle.std.specs.Prelude.{IsOkUnless, ◌≡◌, ◌+◌, ℕ, [], ◌∷◌, ◌++◌, IfOk, OnOk, OnErr, length, nat_lt, ◌<◌, ◌^◌, if◌then◌else◌, Some, None, true, false};
 ghost use Rattle.mr_names.specs.Walk.{walk};
-ghost use Rattle.mr_names.specs.Barred.{is_barred};
 ghost use Rattle.mr_names.specs.Calls.{State, IsSound, opening, raised, Makes, MakesAlways, Refuses, unheard, refused, entry_count, may_want_memory};
 
 use crate::barred::Barred;
 use crate::fault::NameFault;
-use crate::node::{Bytes, Entries, Kind, Node};
+use crate::node::{Entries, Kind, Node};
 use crate::op::{Answer, Caller, Op};
 use crate::tree::Tree;
 use crate::walk::Walk;
-use mr_ids::{AppAttempt, AttemptId};
+use mr_ids::{AppAttempt, AttemptId, Bytes};
 use mr_paths::{Path, is_within, parent};
 use std::alloc::{AllocError, Global};
 use std::marker::Model;
@@ -85,13 +84,6 @@ impl Namespace {
         ensures sound { IsSound self.now }
     {
         self.fence
-    }
-
-    /// Whether an attempt is barred: then no call whose caller has it is heard.
-    pub fn is_barred(&self, attempt: AttemptId) -> bool
-        ensures { result ≡ is_barred self.now.barred attempt }
-    {
-        self.barred.contains(attempt)
     }
 
     /// Refuses a caller that no call hears: `Superseded` below the fence, else `Barred`. It takes no memory.

@@ -1,7 +1,10 @@
 //! A call of the namespace as a value, who makes it, and its answer: for committers and machines, whose next call is told before it is made.
-use crate::node::{Bytes, Entries, Kind};
-use mr_ids::{AppAttempt, AttemptId};
+ghost use Rattle.std.specs.Prelude.{◌≡◌, IfOk};
+
+use crate::node::{Entries, Kind};
+use mr_ids::{AppAttempt, AttemptId, Bytes};
 use mr_paths::Path;
+use std::alloc::AllocError;
 
 /// Who makes a call: a master, or a container.
 #[derive(Clone, Copy, Debug, PartialEq, Eq)]
@@ -41,6 +44,35 @@ pub enum Op {
     Read(Path),
     /// The attempt that is barred.
     Bar(AttemptId),
+}
+
+impl Op {
+    /// An equal call. It may allocate, and refuses nothing else.
+    pub fn copy(&self) -> Result<Op, AllocError>
+        ensures { IfOk result (λ copy. copy ≡ self.now) }
+    {
+        Ok(match self {
+            Op::Mkdirs(path) => Op::Mkdirs(path.copy()?),
+            Op::Create { path, closed } => Op::Create {
+                path: path.copy()?,
+                closed: *closed,
+            },
+            Op::Append { path, bytes } => Op::Append {
+                path: path.copy()?,
+                bytes: bytes.copy()?,
+            },
+            Op::Close(path) => Op::Close(path.copy()?),
+            Op::Delete(path) => Op::Delete(path.copy()?),
+            Op::Rename { from, to } => Op::Rename {
+                from: from.copy()?,
+                to: to.copy()?,
+            },
+            Op::List(path) => Op::List(path.copy()?),
+            Op::Exists(path) => Op::Exists(path.copy()?),
+            Op::Read(path) => Op::Read(path.copy()?),
+            Op::Bar(attempt) => Op::Bar(*attempt),
+        })
+    }
 }
 
 /// The answer of a call as a value: `Done` where the call only changes something.

@@ -69,11 +69,11 @@ impl Tree {
         ensures err { OnErr result (self.new ≡ self.old) }
     {
         let Some((name, above)) = names.split_last() else {
-            return Ok(());
+            unreachable!();
         };
         let name = name.copy()?;
         let Some(at) = find(&self.nodes, self.root, above) else {
-            return Ok(());
+            unreachable!();
         };
         let _key = add_node(&mut self.nodes, alloc, at, name, node)?;
         Ok(())
@@ -123,17 +123,17 @@ impl Tree {
             from.split_last(),
             to.split_last(),
         ) else {
-            return Ok(());
+            unreachable!();
         };
         let name = name.copy()?;
         let Some(from_at) = find(&self.nodes, self.root, from_above) else {
-            return Ok(());
+            unreachable!();
         };
         let Some(key) = child(&self.nodes, from_at, from_name) else {
-            return Ok(());
+            unreachable!();
         };
         let Some(at) = find(&self.nodes, self.root, above) else {
-            return Ok(());
+            unreachable!();
         };
         move_edge(&mut self.nodes, from_at, from_name, key, at, name)?;
         Ok(())
@@ -163,7 +163,7 @@ impl Tree {
         ]?;
         while let Some(next) = ahead.pop() {
             let Some(place) = self.nodes.get(next.at) else {
-                return Ok(found);
+                unreachable!();
             };
             push_ahead(&mut ahead, place, &next.path)?;
             found.push(Found {

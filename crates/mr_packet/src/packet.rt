@@ -1,6 +1,5 @@
 //! The packets that masters, nodes and containers send one another, to whom they go, and how a container is named.
-use crate::bytes::Bytes;
-use mr_ids::{AppAttempt, AttemptId, TaskId};
+use mr_ids::{AppAttempt, AttemptId, Bytes, TaskId};
 
 /// A container, by the generation of the master that launched it and its number under that master, counted from 0.
 /// No two launches have one.

@@ -42,7 +42,7 @@
 //!   at a destination is hidden, but for the part files (`hidden_names`); part names differ from one another and
 //!   from the marker's (`part_names_differ`). None has a premise on ranges.
 //! - Also proved: the order of names and paths (by bytes, then by names from the left) and its laws; `parent`,
-//!   `is_within`, `child_of`, `rebase`, `front`, `push`, `child`, copies.
+//!   `is_within`, `front`, `push`, `child`, copies.
 //! - Only tested: the texts of the two faults, what `{:?}` prints, and that the calls succeed with ample memory.
 #![tactic(auto)]
 
@@ -60,4 +60,4 @@ pub use laws::{
 };
 pub use layout::{Layout, is_hidden, part_name, staging};
 pub use name::{Name, is_name};
-pub use path::{Path, child_of, copy_names, is_within, parent, rebase};
+pub use path::{Path, is_within, parent};

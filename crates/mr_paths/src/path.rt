@@ -7,7 +7,7 @@ ghost use Rattle.std.specs.Cmp.Rules.{comparing};
 ghost use Rattle.std.proofs.Common.{rules};
 ghost use Rattle.std.specs.Cmp.{partial_order_from_agreeing_total};
 ghost use Rattle.std.specs.Option.{option_copied};
-ghost use Rattle.mr_paths.specs.Path.{IsName, path_cmp, path_total, path_ties, strip, rebased, parent, child_of};
+ghost use Rattle.mr_paths.specs.Path.{IsName, path_cmp, path_total, path_ties, strip, parent};
 ghost use Rattle.std.specs.Str.{IsUtf8};
 ghost use Rattle.mr_paths.specs.Text.{is_slash, shown_text, ReadsPath};
 
@@ -168,48 +168,8 @@ fn beneath<'a>(names: &'a [Name], top: &[Name]) -> Option<&'a [Name]>
     }
 }
 
-/// The last name, where these lead to a place directly beneath `top`; else none.
-pub fn child_of<'a>(names: &'a [Name], top: &[Name]) -> Option<&'a Name>
-    ensures { option_copied result ≡ child_of top.now names.now }
-{
-    match beneath(names, top) {
-        Some([name]) => Some(name),
-        _ => None,
-    }
-}
-
-/// The names under which these stand once what is at and beneath `from` is moved to `to`:
-/// the same names where they don't lead there.
-pub fn rebase(
-    alloc: Global,
-    names: &[Name],
-    from: &[Name],
-    to: &[Name],
-) -> Result<Vec<Name>, AllocError>
-    ensures { IfOk result (λ moved. moved.items ≡ rebased from.now to.now names.now) }
-{
-    match beneath(names, from) {
-        Some(rest) => {
-            let mut moved = copy_names(alloc, to)?;
-            extend(&mut moved, rest)?;
-            Ok(moved)
-        }
-        None => copy_names(alloc, names),
-    }
-}
-
-// Adds copies of the names at the end.
-fn extend(names: &mut Vec<Name>, more: &[Name]) -> Result<(), AllocError>
-    ensures { OnOk result (names.new.items ≡ names.old.items ++ more.now) }
-{
-    for name in more {
-        names.push(name.copy()?)?;
-    }
-    Ok(())
-}
-
-/// Equal names, in the same order.
-pub fn copy_names(alloc: Global, names: &[Name]) -> Result<Vec<Name>, AllocError>
+// Equal names, in the same order.
+fn copy_names(alloc: Global, names: &[Name]) -> Result<Vec<Name>, AllocError>
     ensures { IfOk result (λ copies. copies.items ≡ names.now) }
 {
     let mut copies = Vec::with_capacity(alloc, names.len())?;

@@ -34,16 +34,17 @@ verb_of (command.Makes (event.Expire k n)) = Some verb.Expire
 verb_of (command.Compute c) = Some verb.Compute
 verb_of (command.Calm k stop) = Some verb.Calm
 
--- whether a master is told first
+-- whether a master is told, and no node
 abbrev pub is_of_master : Verb → Bool
 is_of_master verb.Start = true
 is_of_master verb.Crash = true
 is_of_master verb.Duty = true
-is_of_master verb.Launch = true
-is_of_master verb.Deliver = false
-is_of_master verb.Step = false
-is_of_master verb.Compute = false
-is_of_master verb.Die = false
-is_of_master verb.Restart = false
-is_of_master verb.Expire = true
 is_of_master verb.Calm = true
+is_of_master _ = false
+
+-- whether a node is told
+abbrev pub is_of_node : Verb → Bool
+is_of_node verb.Launch = true
+is_of_node verb.Restart = true
+is_of_node verb.Expire = true
+is_of_node _ = false

@@ -2,7 +2,7 @@
 ghost use Rattle.std.specs.Prelude.{◌≡◌, IfSome, IfNone, Some, true, false};
 ghost use Rattle.mr_script.specs.declared.command.Command as command;
 ghost use Rattle.mr_script.specs.Script.{rest_of, IsCommand, IsLine, IsBad};
-ghost use Rattle.mr_script.specs.Verb.{text_of, verb_of, is_of_master};
+ghost use Rattle.mr_script.specs.Verb.{text_of, verb_of, is_of_master, is_of_node};
 
 use crate::arguments::{calming, launching, stepping, with_fault, with_long, with_number};
 use crate::command::Command;
@@ -58,30 +58,31 @@ fn verb_named(word: &[u8]) -> Option<Verb>
     }
 }
 
-/// The command of a verb that tells a master first.
+/// The command of a verb that tells a master, and no node.
 fn of_master(job: JobId, verb: Verb, rest: &[u8]) -> Option<Command>
     ensures some { IfSome result (λ c. IsCommand job c × (verb_of c ≡ Some verb) × (rest_of c ≡ rest.now)) }
     ensures none { IfNone result (is_of_master verb ≡ true → (c : command.Command) → IsCommand job c → verb_of c ≡ Some verb → rest_of c ≡ rest.now → ⊥) }
 {
     match verb {
         Verb::Start => match with_long(rest) {
-            Some((k, kept)) => Some(Command::Makes(Event::Start(k.number(), kept))),
+            Some((k, kept)) => Some(Command::Makes(Event::Start {
+                generation: k.number(),
+                kept,
+            })),
             None => None,
         },
         Verb::Crash => match with_long(rest) {
-            Some((k, kept)) => Some(Command::Makes(Event::Crash(k.number(), kept))),
+            Some((k, kept)) => Some(Command::Makes(Event::Crash {
+                generation: k.number(),
+                kept,
+            })),
             None => None,
         },
         Verb::Duty => match with_fault(rest) {
-            Some((k, fault)) => Some(Command::Makes(Event::Duty(k.number(), fault))),
-            None => None,
-        },
-        Verb::Launch => match launching(job, rest) {
-            Some((k, t, n)) => Some(Command::Makes(Event::LaunchOn(k.number(), t, n))),
-            None => None,
-        },
-        Verb::Expire => match with_number(rest) {
-            Some((k, n)) => Some(Command::Makes(Event::Expire(k.number(), n))),
+            Some((k, weather)) => Some(Command::Makes(Event::Duty {
+                generation: k.number(),
+                weather,
+            })),
             None => None,
         },
         Verb::Calm => match calming(rest) {
@@ -92,18 +93,49 @@ fn of_master(job: JobId, verb: Verb, rest: &[u8]) -> Option<Command>
     }
 }
 
-/// The command of any other verb.
+/// The command of a verb that tells a node.
+fn of_node(job: JobId, verb: Verb, rest: &[u8]) -> Option<Command>
+    ensures some { IfSome result (λ c. IsCommand job c × (verb_of c ≡ Some verb) × (rest_of c ≡ rest.now)) }
+    ensures none { IfNone result (is_of_node verb ≡ true → (c : command.Command) → IsCommand job c → verb_of c ≡ Some verb → rest_of c ≡ rest.now → ⊥) }
+{
+    match verb {
+        Verb::Launch => match launching(job, rest) {
+            Some((k, task, node)) => Some(Command::Makes(Event::LaunchOn {
+                generation: k.number(),
+                task,
+                node,
+            })),
+            None => None,
+        },
+        Verb::Expire => match with_number(rest) {
+            Some((k, node)) => Some(Command::Makes(Event::Expire {
+                generation: k.number(),
+                node,
+            })),
+            None => None,
+        },
+        Verb::Restart => match number(rest) {
+            Some(node) => Some(Command::Makes(Event::NodeRestart { node })),
+            None => None,
+        },
+        _ => None,
+    }
+}
+
+/// The command of a verb that tells a packet or a container.
 fn of_others(job: JobId, verb: Verb, rest: &[u8]) -> Option<Command>
     ensures some { IfSome result (λ c. IsCommand job c × (verb_of c ≡ Some verb) × (rest_of c ≡ rest.now)) }
-    ensures none { IfNone result (is_of_master verb ≡ false → (c : command.Command) → IsCommand job c → verb_of c ≡ Some verb → rest_of c ≡ rest.now → ⊥) }
+    ensures none { IfNone result (is_of_master verb ≡ false → is_of_node verb ≡ false → (c : command.Command) → IsCommand job c → verb_of c ≡ Some verb → rest_of c ≡ rest.now → ⊥) }
 {
     match verb {
         Verb::Deliver => match long_number(rest) {
-            Some(i) => Some(Command::Makes(Event::Deliver(i))),
+            Some(packet) => Some(Command::Makes(Event::Deliver { packet })),
             None => None,
         },
         Verb::Step => match stepping(rest) {
-            Some((c, fault)) => Some(Command::Makes(Event::ContainerStep(c, fault))),
+            Some((container, weather)) => {
+                Some(Command::Makes(Event::ContainerStep { container, weather }))
+            }
             None => None,
         },
         Verb::Compute => match container(rest) {
@@ -111,11 +143,7 @@ fn of_others(job: JobId, verb: Verb, rest: &[u8]) -> Option<Command>
             None => None,
         },
         Verb::Die => match container(rest) {
-            Some(c) => Some(Command::Makes(Event::Die(c))),
-            None => None,
-        },
-        Verb::Restart => match number(rest) {
-            Some(n) => Some(Command::Makes(Event::NodeRestart(n))),
+            Some(container) => Some(Command::Makes(Event::Die { container })),
             None => None,
         },
         _ => None,
@@ -128,12 +156,9 @@ fn with_rest(job: JobId, verb: Verb, rest: &[u8]) -> Option<Command>
     ensures none { IfNone result ((c : command.Command) → IsCommand job c → verb_of c ≡ Some verb → rest_of c ≡ rest.now → ⊥) }
 {
     match verb {
-        Verb::Start | Verb::Crash | Verb::Duty | Verb::Launch | Verb::Expire | Verb::Calm => {
-            of_master(job, verb, rest)
-        }
-        Verb::Deliver | Verb::Step | Verb::Compute | Verb::Die | Verb::Restart => {
-            of_others(job, verb, rest)
-        }
+        Verb::Start | Verb::Crash | Verb::Duty | Verb::Calm => of_master(job, verb, rest),
+        Verb::Launch | Verb::Restart | Verb::Expire => of_node(job, verb, rest),
+        Verb::Deliver | Verb::Step | Verb::Compute | Verb::Die => of_others(job, verb, rest),
     }
 }
 

@@ -1,2 +1,3 @@
 -- A job of mr_user, mr_mapside and mr_shuffle as one that mr_model asks for, with its laws and its files: all of it in Jobs.
 pub mod Jobs
+pub mod Shown

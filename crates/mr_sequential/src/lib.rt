@@ -10,11 +10,17 @@
 //! - `files_of_jobs_are_sequential`: over every list of events in which each result that is taken is what the job's functions give, and under limits that let no map's output of more than 2^24
 //!   bytes pass, the whole output of each reduce's attempt is the text of the sequential execution, and where the success marker is, so are the files.
 //!
-//! Both are laws alone: there is nothing to be tested.
+//! And of every job with the two laws, of at most 1,000 reduces:
+//!
+//! - `marked_worlds_show_sequential_files`: where the success marker is, what a reader of the destination sees is the part file of each reduce with the text of the sequential
+//!   execution, by rising name, and nothing else.
+//!
+//! All are laws alone: there is nothing to be tested.
 #![tactic(auto)]
 
 ghost use Rattle.mr_user.specs.Computation.{computation};
 ghost use Rattle.mr_sequential.specs.Jobs.{FilesOf, LawsOf};
+ghost use Rattle.mr_sequential.specs.Shown.{MarkedWorldsShowSequential};
 
 use mr_user::Job;
 
@@ -27,4 +33,10 @@ pub fn files_of_jobs_are_sequential<J: Job>()
 /// promised of a job with these laws is promised of it.
 pub fn jobs_have_their_laws<J: Job>()
     ensures { LawsOf (computation J.Key.cmp J.Key.codec J.Value.codec J.functions) }
+{}
+
+/// Over every faithful list, where the success marker is, what a reader of the destination sees is the part file of each reduce with the text of the sequential execution,
+/// by rising name, and nothing else; of jobs of at most 1,000 reduces, with the two laws of a job, under limits that let no map's output of more than 2^24 bytes pass.
+pub fn marked_worlds_show_sequential_files()
+    ensures { MarkedWorldsShowSequential }
 {}

@@ -6,7 +6,7 @@
 //! fn reduced(alloc: Global, first: Vec<u8>, second: Vec<u8>) -> Result<Vec<u8>, WorkFault> {
 //!     let mut pieces = Vec::new(alloc);
 //!     for (map, bytes) in [(0, first), (1, second)] {
-//!         let bytes = PieceBytes::from_vec(bytes);
+//!         let bytes = Bytes::from_vec(bytes);
 //!         pieces.push(Piece {
 //!             map,
 //!             reduce: 0,
@@ -67,6 +67,7 @@ pub use laws::{
     works_give_sequential_text,
 };
 pub use merge::Merge;
-pub use piece::{Piece, PieceBytes};
+pub use mr_ids::Bytes;
+pub use piece::Piece;
 pub use shelf::ShelfOfNode;
 pub use work::reduce_work;

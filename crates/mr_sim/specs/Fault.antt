@@ -1,21 +1,10 @@
--- The faults of a run: their statuses, that of the program by how it ended, and which of them reading answers.
+-- The exit status of the program by how it ended, and which faults reading answers.
 use Rattle.std.specs.Prelude.{ℕ}
-use Rattle.mr_sim.specs.declared.fault.Ending.{Ending}
-use Rattle.mr_sim.specs.declared.fault.Ending.TheVariants.{Done, Helped, RefusedWords, Failed}
-use Rattle.mr_sim.specs.declared.fault.SimFault.{SimFault}
-use Rattle.mr_sim.specs.declared.fault.SimFault.TheVariants.{NoMemory, Read, Write, TooLong, BadCommand, BadRecord, Job, Refused, Full}
-
--- the exit status of the program at a fault
-abbrev pub status_of : SimFault → ℕ
-status_of NoMemory = 5
-status_of Read = 4
-status_of Write = 4
-status_of TooLong = 3
-status_of (BadCommand n) = 3
-status_of (BadRecord n) = 3
-status_of (Job e) = 3
-status_of Refused = 3
-status_of Full = 7
+use Rattle.mr_sim.specs.declared.ending.Ending.{Ending}
+use Rattle.mr_sim.specs.declared.ending.Ending.TheVariants.{Done, Helped, RefusedWords, Failed}
+use Rattle.mr_commands.specs.declared.fault.SimFault.{SimFault}
+use Rattle.mr_commands.specs.declared.fault.SimFault.TheVariants.{NoMemory, Read, Write, TooLong, BadCommand, BadRecord, Job, Refused, Full}
+use Rattle.mr_commands.specs.Faults.{status_of}
 
 -- the exit status of the program by how it ended
 abbrev pub exit_status_of : Ending → ℕ

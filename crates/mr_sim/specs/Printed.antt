@@ -4,18 +4,18 @@ use Rattle.std.specs.Io.KnownBytes.{Appends}
 use Rattle.mr_history.specs.Reading.{bad_line}
 use Rattle.mr_script.specs.Lines.{lines_of}
 use Rattle.mr_world.specs.Limits.{within}
-use Rattle.mr_sim.specs.declared.fault.JobTextFault.{JobTextFault}
-use Rattle.mr_sim.specs.declared.fault.SimFault.{SimFault}
-use Rattle.mr_sim.specs.declared.fault.SimFault.TheVariants.{NoMemory, Read, Write, TooLong, BadCommand, BadRecord, Job, Refused, Full}
+use Rattle.mr_commands.specs.declared.fault.JobTextFault.{JobTextFault}
+use Rattle.mr_commands.specs.declared.fault.SimFault.{SimFault}
+use Rattle.mr_commands.specs.declared.fault.SimFault.TheVariants.{NoMemory, Read, Write, TooLong, BadCommand, BadRecord, Job, Refused, Full}
 use Rattle.mr_sim.specs.declared.subcommand.Command.{Command}
 use Rattle.mr_sim.specs.declared.subcommand.Command.TheVariants.{Committer, Play, PlayShown, PlayDrawn, History, Seq}
-use Rattle.mr_sim.specs.committer.Script.{IsFirstBad}
-use Rattle.mr_sim.specs.committer.Text.{PrintsCommitter}
-use Rattle.mr_sim.specs.history.Text.{PrintsHistory}
-use Rattle.mr_sim.specs.job.Text.{submission_of}
-use Rattle.mr_sim.specs.play.Shown.{Shows, Draws}
-use Rattle.mr_sim.specs.play.Text.{PrintsPlay, IsBadPlayJob, IsBadPlayLine, IsFullPlay}
-use Rattle.mr_sim.specs.seq.Text.{PrintsSeq, RefusesSeq}
+use Rattle.mr_commands.specs.committer.Script.{IsFirstBad}
+use Rattle.mr_commands.specs.committer.Text.{PrintsCommitter}
+use Rattle.mr_commands.specs.history.Text.{PrintsHistory}
+use Rattle.mr_commands.specs.job.Text.{submission_of}
+use Rattle.mr_play.specs.Shown.{Shows, Draws}
+use Rattle.mr_play.specs.Text.{PrintsPlay, IsBadPlayJob, IsBadPlayLine, IsFullPlay}
+use Rattle.mr_commands.specs.seq.Text.{PrintsSeq, RefusesSeq}
 
 -- ---- what is printed
 

@@ -1,54 +1,7 @@
-//! Laws of the definitions: these functions do nothing.
-ghost use Rattle.mr_sim.specs.Laws.{OneReading, ReadOrBad, OneFirstBad, OneSeqText, PrintedOrRefused};
-ghost use Rattle.mr_sim.specs.play.Laws.{CalmsArePermitted, NamesAreOfDutiesAndWishes, OnePlayText, ScriptsGoOn};
-ghost use Rattle.mr_sim.specs.play.Rows.{PlayedRows};
-
-/// A script has at most one reading.
-pub fn one_reading()
-    ensures { OneReading }
-{}
-
-/// A script is not both read and bad.
-pub fn read_or_bad()
-    ensures { ReadOrBad }
-{}
-
-/// A script has at most one first bad line.
-pub fn one_first_bad()
-    ensures { OneFirstBad }
-{}
-
-/// `seq` prints at most one text for an input.
-pub fn one_seq_text()
-    ensures { OneSeqText }
-{}
+//! A law of the definitions: this function does nothing.
+ghost use Rattle.mr_sim.specs.Laws.{PrintedOrRefused};
 
 /// No input is both printed and refused, by any subcommand.
 pub fn printed_or_refused()
     ensures { PrintedOrRefused }
-{}
-
-/// Each name that a calm stops before, but `launch` and `step`, is that of a master's duty or of a container's wish.
-pub fn names_are_of_duties_and_wishes()
-    ensures { NamesAreOfDutiesAndWishes }
-{}
-
-/// A job text with a script has at most one text, and none where it is refused.
-pub fn one_play_text()
-    ensures { OnePlayText }
-{}
-
-/// What a script led to stays, whatever commands follow it: its events, each winner, and, once the marker is there, all that a reader sees.
-pub fn scripts_go_on()
-    ensures { ScriptsGoOn }
-{}
-
-/// What a few scripts print, worked out.
-pub fn played_rows()
-    ensures { PlayedRows }
-{}
-
-/// What a calm makes next is permitted, where the job keeps its laws and there is a node.
-pub fn calms_are_permitted()
-    ensures { CalmsArePermitted }
 {}

@@ -3,12 +3,10 @@ ghost use Rattle.std.specs.Prelude.{◌≡◌, ◌≢◌, IfOk, IfErr, IfSome, O
 ghost use Rattle.std.specs.Io.KnownBytes.{Keeps};
 ghost use Rattle.mr_sim.specs.Printed.{Prints, Refuses, RefusesText, Writes};
 
-use crate::committer::committer;
-use crate::fault::SimFault;
-use crate::history::history;
 use crate::input::read_input;
-use crate::play::{Shown, play, play_drawn, play_shown};
-use crate::seq::seq;
+use mr_commands::{SimFault, committer_output, history_output, seq_output};
+use mr_picture::{play_drawn, play_shown};
+use mr_play::{Shown, play};
 use std::alloc::Global;
 use std::io::{Read, Write};
 use std::rt::Clock;
@@ -36,6 +34,7 @@ pub enum Command {
 ///
 /// `BadCommand`, `BadRecord`, `Job`, `Refused` and `Full` come only where the input has that fault; `NoMemory` may come at
 /// any input. The faults of streams, `Read`, `Write` and `TooLong`, never come: what is too long is for whoever reads.
+#[tactic(auto, using(crate::proofs::Failing::committer_fails, crate::proofs::Failing::history_fails, crate::proofs::Failing::play_fails, crate::proofs::Failing::shown_fails, crate::proofs::Failing::drawn_fails, crate::proofs::Failing::seq_fails))]
 pub fn answer(alloc: Global, command: Command, input: &[u8]) -> Result<Vec<u8>, SimFault>
     // Ok: the text is what is printed for the input.
     ensures ok { IfOk result (λ v. Prints command input.now v.items) }
@@ -44,12 +43,12 @@ pub fn answer(alloc: Global, command: Command, input: &[u8]) -> Result<Vec<u8>, 
     ensures fault { IfErr result (RefusesText command input.now) }
 {
     match command {
-        Command::Committer => committer(alloc, input),
+        Command::Committer => committer_output(alloc, input),
         Command::Play => play(alloc, input),
         Command::PlayShown(shown) => play_shown(alloc, input, shown),
         Command::PlayDrawn => play_drawn(alloc, input),
-        Command::History => history(alloc, input),
-        Command::Seq => seq(alloc, input),
+        Command::History => history_output(alloc, input),
+        Command::Seq => seq_output(alloc, input),
     }
 }
 

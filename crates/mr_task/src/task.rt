@@ -434,18 +434,15 @@ impl TaskMachine {
         ensures told { result ≡ (done self.old attempt.now).0 }
         ensures left { self.new ≡ (done self.old attempt.now).1 }
     {
-        let Some(mut entry) = self.attempts.get(attempt) else {
-            return Err(TaskFault::Unknown);
-        };
-        if entry.accepted {
-            return Ok(DoneReply::Again);
+        let reply = self.reply_to_done(attempt)?;
+        if reply != DoneReply::Accepted {
+            return Ok(reply);
         }
-        let may_accept = match attempt.task().kind {
-            TaskKind::Map => !entry.is_over() && !self.attempts.any_won(),
-            TaskKind::Reduce => self.grant.fix(*attempt),
+        let Some(mut entry) = self.attempts.get(attempt) else {
+            unreachable!();
         };
-        if !may_accept {
-            return Ok(DoneReply::Ignored);
+        if attempt.task().kind == TaskKind::Reduce {
+            self.grant.fix(*attempt);
         }
         entry.machine.on(AttemptEvent::Done);
         entry.accepted = true;

@@ -8,3 +8,4 @@ pub mod Numbers
 pub mod Putting
 pub mod Rising
 pub mod Sharing
+pub mod Listed

@@ -33,6 +33,8 @@
 //!   pairs of k keys, each key held once. Measured, not
 //!   proved: `mrsim seq` is no slower than tools/plain_seq.rs, a program with no proof (`tools/bench seq`; figures
 //!   in docs/PROOFS.md).
+//! - `Splits` is the list of splits that it was made of: `from_vec`, `into_vec`, `as_slice`, `len`, `get` are what they say, `copy` gives
+//!   equal splits (it refuses for want of memory alone), `==` is that of the lists.
 //! - **`groups`**: the keys of pairs, rising, each once and with its values in order.
 //! - **Gates**: `trait Gate`, whose `refuses` says where it may refuse work of a kind (anywhere, if it does not say
 //!   it); `OpenGate` answers `Ok` at once and refuses nothing (proved).
@@ -55,6 +57,7 @@ mod line;
 mod line_index;
 mod max_by_key;
 mod position;
+mod splits;
 mod text;
 mod wire;
 mod word;
@@ -70,6 +73,7 @@ pub use line::next_line;
 pub use line_index::LineIndex;
 pub use max_by_key::MaxByKey;
 pub use position::Position;
+pub use splits::Splits;
 pub use text::{Text, known_bytes};
 pub use wire::Wire;
 pub use word_count::WordCount;

@@ -36,7 +36,7 @@ use Rattle.mr_world.specs.declared.fault.WorldFault.{WorldFault}
 use Rattle.mr_world.specs.declared.fault.WorldFault.TheVariants as fault
 use Rattle.mr_world.specs.declared.masters.Masters.{Masters}
 use Rattle.mr_world.specs.declared.parts.Parts.{Parts}
-use Rattle.mr_world.specs.inner.Asking.{answer_to, names_after, history_after, passes, IsRanged, HasAsked, IsForeseen, RefusesDuty, ForeseesDuty, SendsThen}
+use Rattle.mr_world.specs.inner.Asking.{answer_to, names_after, history_after, passes, IsRanged, IsSuited, HasAsked, IsForeseen, RefusesDuty, ForeseesDuty, SendsThen}
 use Rattle.mr_world.specs.inner.Duties.{IsDue, HasDuty, IsSet, HasTold, MakesReady, says_then, fits_then}
 use Rattle.mr_world.specs.Limits.{within, fits_bag, fits_store}
 use Rattle.mr_world.specs.Machines.{master_of}
@@ -216,6 +216,20 @@ not-foretold p k f c g has why w s = by (passes p k f c) refl why
     by : (b : Bool) → passes p k f c ≡ b → Refuses None (not b) true g → RefusesEvent p.config w (Duty k f) g
     by true e y = subst (λ o. Refuses o (within p.config w (Duty k f)) true g) (sym (now-is p w k f c (has.due w s))) (subst (λ b. Refuses None b true g) (sym (too-much p w k f c s (has.due w s) e)) y)
     by false e y = subst (RefusesEvent p.config w (Duty k f)) (sym y) (refuses-memory _ (now-is p w k f c (has.due w s)) refl)
+
+-- ---- a record that is appended
+
+suited : (p : Parts) (w : World) (k : ℕ) (c : StoreCall) (h : history.State) → Standing p w → IsDue p.config w k c → IsSuited h k c
+suited p w k c h s due = let x = store-call-is _ c due.due in subst (IsSuited h k) x.2 (by x.0 x.1)
+  where
+    by : (x : Store) → duty p.config w k ≡ Some x → IsSuited h k (store_call x)
+    by (Names o) d = tt
+    by (Append_record r) d = (record-fits k r s.reached d, record-suits k r (segments.segment h k).version s.reached d)
+    by Flush d = tt
+    by Read_history d = tt
+
+pub suited-so : (p : Parts) (w : World) (k app : ℕ) (c called : StoreCall) (h : history.State) → Standing p w → HasDuty p k c → app ≡ k → called ≡ c → IsSuited h app called
+suited-so p w k app c called h s has is same = subst (λ j. IsSuited h j called) (sym is) (subst (IsSuited h k) (sym same) (suited p w k c h s (has.due w s)))
 
 -- ---- the exit of a `?`
 

@@ -40,13 +40,6 @@ use Rattle.mr_world.proofs.Stepping.{masters-step, masters-still, swapped, launc
 
 -- ---- a machine that was taken out is put back
 
--- none is missing that is alive
-pub absent : {A : Type 0} (o : Option master.Master) → is_some o ≡ true → None ≡ o → A
-absent o e n = absurd (no (ap is_some n ∙ e))
-  where
-    no : false ≡ true → ⊥
-    no e = cc
-
 pub kept : (old mid new : Masters) (k : ℕ) (before after : master.Master) → Some before ≡ master_of old k → Ceases old k mid → Returns mid k after new → master.StandsStill before after → IsKept old k new
 kept old mid new k before after at out back still = record { before = before; after = after; at = sym at; returns = swapped old mid new k after out back; still = still }
 

@@ -10,6 +10,7 @@ use Rattle.mr_world.specs.declared.limits.TheConstants.{MAX_EVENTS}
 use Rattle.mr_world.specs.declared.parts.Parts.{Parts}
 use Rattle.mr_world.specs.declared.took.Took.{Took}
 use Rattle.mr_world.specs.Applying.{Counts, Takes}
+use Rattle.mr_world.specs.Histories.{change_of, changed}
 use Rattle.mr_world.specs.Journal.{Journal, Keeps, run_of}
 use Rattle.mr_world.specs.Limits.{within, fits_at_once}
 use Rattle.mr_world.specs.Standing.{Standing, IsTaken, Refuses, RefusesEvent}
@@ -33,9 +34,10 @@ counts p q e a b first last becomes w s = record {
 
 -- ---- the world, its journal with it
 
-pub keeps-on : (p q : Parts) (es fs gs : List Event) (e : Event) → Keeps p es → fs ≡ es → gs ≡ fs ++ e ∷ [] → length es < MAX_EVENTS → q.config ≡ p.config → Becomes p e q → Keeps q gs
-keeps-on p q es fs gs e k same more few config becomes = let now = becomes (run_of p.config es) k.stands in
-    subst (Keeps q) (sym (more ∙ ap (λ hs. hs ++ e ∷ []) same)) (keeps-one p q es e k config now.0 few now.1)
+pub keeps-on : (p q : Parts) (es fs gs : List Event) (e : Event) → Keeps p es → fs ≡ es → gs ≡ fs ++ e ∷ [] → length es < MAX_EVENTS → q.config ≡ p.config → Becomes p e q
+    → ((w : World) → Standing p w → q.history ≡ changed p.history (change_of p.config w e)) → Keeps q gs
+keeps-on p q es fs gs e k same more few config becomes left = let now = becomes (run_of p.config es) k.stands in
+    subst (Keeps q) (sym (more ∙ ap (λ hs. hs ++ e ∷ []) same)) (keeps-one p q es e k config now.0 few now.1 (left (run_of p.config es) k.stands))
 
 pub takes-on : (p q : Parts) (j : Journal) (es fs gs : List Event) (e : Event) (took : Took) → journal_of p es ≡ j → Keeps p es → fs ≡ es → gs ≡ fs ++ e ∷ [] → length es < MAX_EVENTS → q.config ≡ p.config → Becomes p e q
     → ((w : World) → Standing p w → Counts p w e took) → Takes j e took (journal_of q gs)

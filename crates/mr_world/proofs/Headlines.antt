@@ -12,6 +12,8 @@ use Rattle.mr_model.proofs.Numbers.{whole_is_one}
 use Rattle.mr_model.proofs.Published.{published_are_winners}
 use Rattle.mr_model.proofs.Results.{results_stay}
 use Rattle.mr_model.proofs.Faithful.{marked_files_are_sequential}
+use Rattle.mr_model.proofs.Found.{recovery_finds}
+use Rattle.mr_model.proofs.Suspicion.{bars_hold}
 use Rattle.mr_world.specs.Headline.{HeadlineHolds}
 use Rattle.mr_world.specs.Journal.{Journal}
 use Rattle.mr_world.specs.Limits.{within, fits_bytes}
@@ -25,7 +27,7 @@ outputs-are-bounded cfg w c p bytes place map t =
     leb-true (length bytes) MAX_OUTPUT_LEN (subst (λ b. (if b then nat_lt (length bytes) (2 ^ 32) else nat_le (length bytes) MAX_OUTPUT_LEN) ≡ true) map own)
 
 pub holds-on : (cfg : Config) (es fs : List Event) → HeadlineHolds (record { config = cfg; events = es }) (record { config = cfg; events = es ++ fs })
-holds-on cfg es fs = let one = outcomes_agree cfg (within cfg) in let stay = results_stay cfg (within cfg) in record {
+holds-on cfg es fs = let one = outcomes_agree cfg (within cfg) in let stay = results_stay cfg (within cfg) in let found = recovery_finds cfg (within cfg) in record {
   winner_stays = winner_stays cfg (within cfg) es fs;
   told = told_the_same cfg (within cfg) (es ++ fs);
   whole_files = marker_means_complete cfg (within cfg) (es ++ fs);
@@ -40,6 +42,11 @@ holds-on cfg es fs = let one = outcomes_agree cfg (within cfg) in let stay = res
   files_settled = stay.told_stays es fs;
   marker_settled = λ b o m. (one.settled es fs b (stay.outcome_told es b o)).1.1 m;
   sequential = λ job laws faithful marked. marked_files_are_sequential job cfg (within cfg) laws (outputs-are-bounded cfg) (es ++ fs) faithful marked;
+  recovered = found.files (es ++ fs);
+  exactly = found.exactly (es ++ fs);
+  launches_later = found.before (es ++ fs);
+  never_again = found.never (es ++ fs);
+  barred = (bars_hold cfg (within cfg)).refused es fs;
 }
 
 -- where a journal was added to

@@ -13,10 +13,12 @@ use Rattle.mr_world.specs.declared.fault.WorldFault.TheVariants as fault
 use Rattle.mr_world.specs.declared.limits.TheConstants.{MAX_EVENTS}
 use Rattle.mr_world.specs.declared.parts.Parts.{Parts}
 use Rattle.mr_world.specs.declared.took.Took.{Took}
+use Rattle.mr_world.specs.Histories.{change_of, changed, history_of, opening_history}
 use Rattle.mr_world.specs.Limits.{within}
 use Rattle.mr_world.specs.Standing.{Standing, IsTaken, Refuses}
 use Rattle.mr_world.specs.Journal.{Journal, Keeps, run_of, world_in, if_taken, taken, fits, fits_first}
 use Rattle.mr_world.specs.Applying.{CanHappen, IsRefused, Takes, AllFit, Ran, StopsAt, Runs, Counts}
+use Rattle.mr_world.proofs.Histories.{history-one}
 
 -- ---- an event that is taken, and one that is not
 
@@ -59,15 +61,17 @@ taken-one cfg es e is t = taken-append cfg opening_world es (e ∷ []) ∙ (ap (
 
 -- ---- the invariant
 
-pub keeps-none : (p : Parts) → Standing p opening_world → Keeps p []
+pub keeps-none : (p : Parts) → Standing p opening_world → p.history ≡ opening_history → Keeps p []
 unfolding run
-keeps-none p s = record { stands = s; taken = refl; few = omega arith }
+keeps-none p s opens = record { stands = s; taken = refl; history = opens; few = omega arith }
 
 pub keeps-one : (p q : Parts) (es : List Event) (e : Event) → Keeps p es → q.config ≡ p.config → IsTaken p.config (run_of p.config es) e → length es < MAX_EVENTS
-    → Standing q (effect p.config (run_of p.config es) e) → Keeps q (es ++ e ∷ [])
-keeps-one p q es e k same t few s = record {
+    → Standing q (effect p.config (run_of p.config es) e) → q.history ≡ changed p.history (change_of p.config (run_of p.config es) e) → Keeps q (es ++ e ∷ [])
+keeps-one p q es e k same t few s left = record {
   stands = subst (λ cfg. Standing q (run_of cfg (es ++ e ∷ []))) (sym same) (subst (Standing q) (sym (run-one p.config es e ∙ happens-taken p.config (run_of p.config es) e t)) s);
   taken = subst (λ cfg. taken cfg opening_world (es ++ e ∷ []) ≡ es ++ e ∷ []) (sym same) (taken-one p.config es e k.taken t);
+  history = subst (λ cfg. q.history ≡ history_of cfg (es ++ e ∷ [])) (sym same)
+      (left ∙ (ap (λ h. changed h (change_of p.config (run_of p.config es) e)) k.history ∙ sym (history-one p.config es e)));
   few = omega (arith, length-append es (e ∷ []), few);
 }
 

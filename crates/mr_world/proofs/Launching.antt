@@ -5,6 +5,7 @@ use Rattle.mr_ids.specs.declared.id.TaskId.{TaskId}
 use Rattle.mr_packet.specs.Bag.{Held}
 use Rattle.mr_packet.specs.declared.packet.Envelope.{Envelope}
 use Rattle.mr_master_model.specs.declared.phase.LaunchFault.{LaunchFault}
+use Rattle.mr_master.specs.declared.launching.LaunchError.{LaunchError}
 use Rattle.mr_master_model.specs.Past as machine
 use Rattle.mr_master_model.specs.Readings as read
 use Rattle.mr_master_model.specs.Next as next
@@ -138,25 +139,18 @@ still p w k masters bag before m s at back same b = record { reached = s.reached
 
 -- ---- as the code does it: the machine is taken out, launches, and is put back
 
-pub launched : (p : Parts) (w : World) (k : ℕ) (t : TaskId) (n : ℕ) (mid masters : Masters) (bag : Held) (before m : master.Master) (packet : Envelope) (r : Result Envelope LaunchFault) → Standing p w → IsTaken p.config w (LaunchOn k t n)
+pub launched : (p : Parts) (w : World) (k : ℕ) (t : TaskId) (n : ℕ) (mid masters : Masters) (bag : Held) (before m : master.Master) (packet : Envelope) (r : Result Envelope LaunchError) → Standing p w → IsTaken p.config w (LaunchOn k t n)
     → Some before ≡ master_of p.masters k → Ceases p.masters k mid → Returns mid k m masters → r ≡ Ok packet → OnOk r (master.Stands before (machine.Launches t n) m)
     → IfOk r (λ packet. master.Answers before (λ w past. next.sent w past (machine.Launches t n)) (packet ∷ [])) → bag.packets ≡ p.bag.packets ++ packet ∷ []
     → Standing (record p { masters = masters; bag = bag; launched = p.launched + 1 }) (effect p.config w (LaunchOn k t n))
 launched p w k t n mid masters bag before m packet r s taken at out back is step says-packet b = stands p w k t n masters bag before m packet s taken (sym at) (swapped p.masters mid masters k m out back)
-    (subst (λ (z : Result Envelope LaunchFault). OnOk z (master.Stands before (machine.Launches t n) m)) is step)
-    (subst (λ (z : Result Envelope LaunchFault). IfOk z (λ packet. master.Answers before (λ w past. next.sent w past (machine.Launches t n)) (packet ∷ []))) is says-packet) b
+    (subst (λ (z : Result Envelope LaunchError). OnOk z (master.Stands before (machine.Launches t n) m)) is step)
+    (subst (λ (z : Result Envelope LaunchError). IfOk z (λ packet. master.Answers before (λ w past. next.sent w past (machine.Launches t n)) (packet ∷ []))) is says-packet) b
 
-pub not-launched : (p : Parts) (k : ℕ) (t : TaskId) (n : ℕ) (mid masters : Masters) (bag : Held) (before m : master.Master) (f : LaunchFault) (r : Result Envelope LaunchFault) → ((w : World) → Standing p w → IsTaken p.config w (LaunchOn k t n))
+pub not-launched : (p : Parts) (k : ℕ) (t : TaskId) (n : ℕ) (mid masters : Masters) (bag : Held) (before m : master.Master) (f : LaunchError) (r : Result Envelope LaunchError) → ((w : World) → Standing p w → IsTaken p.config w (LaunchOn k t n))
     → Some before ≡ master_of p.masters k → Ceases p.masters k mid → Returns mid k m masters → r ≡ Err f → OnErr r (master.StandsStill before m) → bag.packets ≡ p.bag.packets
     → (w : World) → Standing p w → RefusesEvent p.config w (LaunchOn k t n) fault.NoMemory × Standing (record p { masters = masters; bag = bag }) w
 not-launched p k t n mid masters bag before m f r taken at out back is same b w s = (
   lacks-memory (taken w s),
-  still p w k masters bag before m s (sym at) (swapped p.masters mid masters k m out back) (subst (λ (z : Result Envelope LaunchFault). OnErr z (master.StandsStill before m)) is same) b,
+  still p w k masters bag before m s (sym at) (swapped p.masters mid masters k m out back) (subst (λ (z : Result Envelope LaunchError). OnErr z (master.StandsStill before m)) is same) b,
 )
-
--- none is missing that is alive
-pub missing : {A : Type 0} (o : Option master.Master) → is_some o ≡ true → None ≡ o → A
-missing o e n = absurd (no (ap is_some n ∙ e))
-  where
-    no : false ≡ true → ⊥
-    no e = cc

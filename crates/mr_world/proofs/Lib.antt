@@ -1,3 +1,4 @@
+pub mod Configs
 pub mod Keys
 pub mod Slots
 pub mod Generations
@@ -33,6 +34,7 @@ pub mod Read_containers
 pub mod Read_results
 pub mod Read_winners
 pub mod Noting
+pub mod Histories
 pub mod Journals
 pub mod Headlines
 pub mod Happening

@@ -16,7 +16,7 @@ use Rattle.mr_model.specs.Sequential as sequential
 use Rattle.mr_model.proofs.Containers.{blocks-agree}
 use Rattle.mr_world.specs.declared.parts.Parts.{Parts}
 use Rattle.mr_world.specs.Living.{kept}
-use Rattle.mr_world.specs.Readings.{wish_by, wish_in, input_in}
+use Rattle.mr_world.specs.Readings.{wish_by, wish_in, input_in, place_in}
 use Rattle.mr_world.specs.Standing.{Standing}
 use Rattle.mr_world.proofs.Saying.{says}
 
@@ -28,6 +28,11 @@ none-read p w c o s at = ap (λ (b : Bool). if b then o else None) (ap is_some (
 
 is-read : {A : Type 0} (p : Parts) (w : World) (c : ContainerId) (m : container.Container) (o : Option A) → Standing p w → kept p.living c ≡ Some m → o ≡ (if w.is_alive c then o else None)
 is-read p w c m o s at = sym (ap (λ (b : Bool). if b then o else None) (alive p w c m s at))
+
+pub place-is : (p : Parts) (w : World) (c : ContainerId) (m : container.Container) → Standing p w → kept p.living c ≡ Some m → Some m.place ≡ place_in w c
+place-is p w c m s at =
+    let i = s.living.machines c m at in
+    ap (λ (x : Place). Some x) i.stands.place ∙ sym i.place ∙ is-read p w c m (w.place c) s at
 
 pub wish-is : (p : Parts) (w : World) (c : ContainerId) (m : container.Container) → Standing p w → kept p.living c ≡ Some m → Some m.seen.wish ≡ wish_in p.config w c
 wish-is p w c m s at =

@@ -1,13 +1,16 @@
 -- What the calls of a world promise.
-use Rattle.std.specs.Prelude.{◌≡◌, ℕ, true, ◌&&◌, nat_lt, List, [], ◌∷◌, ◌++◌, None, Result, Ok, Err, length}
+use Rattle.std.specs.Prelude.{◌≡◌, ℕ, Bool, true, false, ◌&&◌, nat_lt, List, [], ◌∷◌, ◌++◌, Option, Some, None, Result, Ok, Err, length}
+use Rattle.mr_event.specs.declared.why.Why.{Why}
 use Rattle.mr_model.specs.Packets.{Config}
 use Rattle.mr_model.specs.World.{World, Event}
 use Rattle.mr_model.specs.Effect.{not_now, effect, happens}
 use Rattle.mr_model.specs.Sending.{sent}
 use Rattle.mr_world.specs.declared.fault.WorldFault.{WorldFault}
+use Rattle.mr_world.specs.declared.fault.WorldFault.TheVariants as fault
 use Rattle.mr_world.specs.declared.limits.TheConstants.{MAX_EVENTS}
 use Rattle.mr_world.specs.declared.parts.Parts.{Parts}
 use Rattle.mr_world.specs.declared.took.Took.{Took}
+use Rattle.mr_world.specs.Histories.{change_of, changed}
 use Rattle.mr_world.specs.Limits.{within, fits_at_once}
 use Rattle.mr_world.specs.Standing.{Standing, IsTaken, Refuses}
 use Rattle.mr_world.specs.Journal.{Journal, world_in, run_of, taken, fits, fits_first}
@@ -25,6 +28,15 @@ IsRefused j e f = Refuses (not_now j.config (world_in j) e) (fits j e) (fits_fir
 abbrev pub Foretells : {A : Type 0} → Journal → Event → Result A WorldFault → Type 0
 Foretells j e (Ok a) = CanHappen j e
 Foretells j e (Err f) = IsRefused j e f
+
+-- what a look tells that never wants for memory: the first reason why an event is not permitted, or else that it would pass a limit, or else that it would be taken
+abbrev pub foretold : Option Why → Bool → Result (Unit {0}) WorldFault
+foretold (Some why) fits = Err (fault.NotNow why)
+foretold None false = Err fault.Full
+foretold None true = Ok tt
+
+abbrev pub foretold_in : Journal → Event → Result (Unit {0}) WorldFault
+foretold_in j e = foretold (not_now j.config (world_in j) e) (fits j e)
 
 -- An event was taken: it could happen, it is the last of the journal, the world after it is that of the definitions, and the packets that it added are the last of the bag.
 pub record Takes (old : Journal) (e : Event) (took : Took) (new : Journal) : Type 0 where
@@ -78,6 +90,14 @@ RefusesAt p n e f = (w : World) → Standing p w → Refuses (not_now p.config w
 abbrev pub ForetellsAt : {A : Type 0} → Parts → ℕ → Event → Result A WorldFault → Type 0
 ForetellsAt p n e (Ok a) = (nat_lt n MAX_EVENTS ≡ true) × ((w : World) → Standing p w → IsTaken p.config w e)
 ForetellsAt p n e (Err f) = RefusesAt p n e f
+
+abbrev pub foretold_at : Parts → World → ℕ → Event → Result (Unit {0}) WorldFault
+foretold_at p w n e = foretold (not_now p.config w e) (nat_lt n MAX_EVENTS && within p.config w e)
+
+-- what an event leaves of the job history's bytes: what it changes of them, or all where it was refused
+abbrev pub LeavesHistory : {A : Type 0} → Parts → Event → Result A WorldFault → Parts → Type 0
+LeavesHistory old e (Ok a) new = (w : World) → Standing old w → new.history ≡ changed old.history (change_of old.config w e)
+LeavesHistory old e (Err f) new = new.history ≡ old.history
 
 -- the packets that an event added are the last of the bag
 pub record Counts (p : Parts) (w : World) (e : Event) (took : Took) : Type 0 where

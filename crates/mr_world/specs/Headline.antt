@@ -1,12 +1,21 @@
 -- The headline, of a world before and after a call.
-use Rattle.std.specs.Prelude.{◌≡◌, ℕ, Bool, true, List, Some}
-use Rattle.mr_model.specs.Ids.{Attempt, Path, TaskId, part}
-use Rattle.mr_model.specs.Content.{Entry, File, entry_at}
-use Rattle.mr_model.specs.Claims.{winner, IsToldWon, IsToldOutcome, IsMarked, IsComplete, IsReduce, IsVisible, IsWhole, LooksTheSame}
+use Rattle.std.specs.Prelude.{◌≡◌, ◌≤◌, ℕ, Bool, true, nat_lt, List, [], Some, None, if◌then◌else◌}
+use Rattle.mr_model.specs.Ids.{Attempt, Path, TaskId, is_reduce, part}
+use Rattle.mr_model.specs.Content.{Entry, File, Op, Superseded, Barred, entry_at}
+use Rattle.mr_model.specs.Records.{records_below, winner_in}
+use Rattle.mr_model.specs.Packets.{Caller, Names, Refused}
+use Rattle.mr_model.specs.Hearing.{Launched, Seen, is_running}
+use Rattle.mr_model.specs.Duties.{winners_of}
+use Rattle.mr_model.specs.World.{reply_to, seen_by}
+use Rattle.mr_model.specs.Claims.{In, winner, IsToldWon, IsToldOutcome, IsMarked, IsComplete, IsReduce, IsVisible, IsWhole, LooksTheSame, HoldsWhole, WasBarred, has_not_run}
 use Rattle.mr_model.specs.Results.{outcome, visible}
 use Rattle.mr_model.specs.Sequential.{Job, JobLaws, IsFaithful, SeesSequential}
 use Rattle.mr_world.specs.Limits.{within}
 use Rattle.mr_world.specs.Journal.{Journal, world_in}
+
+-- what the newest master has seen
+abbrev pub newest : Journal → Seen
+newest j = seen_by j.config (world_in j) (world_in j).fence
 
 pub record HeadlineHolds (old new : Journal) : Type 0 where
   -- a recorded winner never changes
@@ -33,3 +42,12 @@ pub record HeadlineHolds (old new : Journal) : Type 0 where
   pub marker_settled : (b : Bool) → outcome (world_in old) ≡ Some b → IsMarked (world_in new) → IsMarked (world_in old)
   -- with deterministic functions, each of whose results is the definition's, the files are the sequential execution's, once the marker is there
   pub sequential : (job : Job) → JobLaws job new.config → IsFaithful job new.config (within new.config) new.events → IsMarked (world_in new) → SeesSequential job new.config (world_in new)
+  -- recovery finds the winners: while the newest master runs, each earlier winner's whole file is in its own generation, and it takes exactly these for won
+  pub recovered : (t : TaskId) (a : Attempt) → is_running (newest new).phase ≡ true → IsReduce new.config t → winner_in (records_below (world_in new).history (world_in new).fence) t ≡ Some a → HoldsWhole (world_in new) (world_in new).fence t a
+  pub exactly : is_running (newest new).phase ≡ true → (newest new).winners ≡ winners_of (records_below (world_in new).history (world_in new).fence) new.config.job new.config.reduces
+  -- a master launches nothing before it runs, and never a reduce that had a winner in a generation below its own
+  pub launches_later : (k : ℕ) → has_not_run (seen_by new.config (world_in new) k).phase ≡ true → (seen_by new.config (world_in new) k).launched ≡ []
+  pub never_again : (k : ℕ) (l : Launched) → k ≤ (world_in new).fence → In l (seen_by new.config (world_in new) k).launched → is_reduce l.attempt ≡ true → winner_in (records_below (world_in new).history k) l.attempt.task ≡ None
+  -- once a bar of an attempt was answered, each call of that attempt is refused, by the fence where it is below it
+  pub barred : (k : ℕ) (a : Attempt) → WasBarred (world_in old) k a → (c : Caller) → c.attempt ≡ Some a → (op : Op) →
+      reply_to (world_in new) c (Names op) ≡ Refused (if nat_lt c.app (world_in new).fence then Superseded (world_in new).fence else Barred)

@@ -1,5 +1,6 @@
 -- What contracts see of a world, its config and its journal, and the world of the definitions that these lead to.
 use Rattle.std.specs.Prelude.{◌≡◌, ◌≤◌, Bool, ◌&&◌, nat_lt, List, [], ◌∷◌, ◌++◌, if◌then◌else◌, length}
+use Rattle.mr_history.specs.State.{State}
 use Rattle.mr_model.specs.Packets.{Config}
 use Rattle.mr_model.specs.World.{World, Event, opening_world}
 use Rattle.mr_model.specs.Effect.{happens}
@@ -7,6 +8,7 @@ use Rattle.mr_model.specs.Claims.{world_of}
 use Rattle.mr_model.specs.Sequential.{is_taken}
 use Rattle.mr_world.specs.declared.limits.TheConstants.{MAX_EVENTS}
 use Rattle.mr_world.specs.declared.parts.Parts.{Parts}
+use Rattle.mr_world.specs.Histories.{history_of}
 use Rattle.mr_world.specs.Limits.{within, fits_at_once}
 use Rattle.mr_world.specs.Standing.{Standing}
 
@@ -27,6 +29,10 @@ world_in j = run_of j.config j.events
 abbrev pub if_taken : Config → World → Event → List Event
 if_taken cfg w e = if is_taken cfg (within cfg) w e then e ∷ [] else []
 
+-- the job history in bytes after them
+abbrev pub history_in : Journal → State
+history_in j = history_of j.config j.events
+
 -- of a list of events those that are taken, as it is run
 abbrev pub taken : Config → World → List Event → List Event
 taken cfg w [] = []
@@ -36,6 +42,7 @@ taken cfg w (e ∷ es) = if_taken cfg w e ++ taken cfg (happens cfg (within cfg)
 pub record Keeps (p : Parts) (es : List Event) : Type 0 where
   pub stands : Standing p (run_of p.config es)
   pub taken : taken p.config opening_world es ≡ es
+  pub history : p.history ≡ history_of p.config es
   pub few : length es ≤ MAX_EVENTS
 
 -- whether an event passes no limit, that of the journal among them

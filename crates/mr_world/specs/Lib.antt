@@ -1,4 +1,4 @@
--- What a world's contracts say. Read Ranges, Limits, Journal, Applying and Headline for what its calls promise, and Readings, VisibleFiles and Asks for what is read;
+-- What a world's contracts say. Read Ranges, Limits, Journal, Applying and Headline for what its calls promise, and Readings, VisibleFiles, Histories and Asks for what is read;
 -- Living, Machines and Standing say how its parts stand for the world of mr_model.
 pub mod Ranges
 pub mod Living
@@ -7,6 +7,7 @@ pub mod Machines
 pub mod Standing
 pub mod Readings
 pub mod VisibleFiles
+pub mod Histories
 pub mod Journal
 pub mod Asks
 pub mod Applying

@@ -38,6 +38,10 @@ unflushed_in w k = if w.is_master k then Some (tail_width (w.history k)) else No
 
 -- ---- containers
 
+-- what it was launched as
+abbrev pub place_in : World → ContainerId → Option Place
+place_in w c = if w.is_alive c then w.place c else None
+
 -- the wish of a container that was launched so
 abbrev pub wish_by : Config → Option Place → List Step → Wish
 wish_by cfg None h = wish.Over

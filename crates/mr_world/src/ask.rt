@@ -3,7 +3,7 @@ ghost use Rattle.std.specs.Prelude.{◌≡◌, ◌≤◌, OnOk, OnErr};
 ghost use Rattle.mr_names.specs.Calls.{call_of};
 ghost use Rattle.mr_history.specs.Calls as segments;
 ghost use Rattle.mr_model.specs.Stored.{master};
-ghost use Rattle.mr_world.specs.inner.Asking.{HasAsked, is_look};
+ghost use Rattle.mr_world.specs.inner.Asking.{HasAsked, IsSuited, is_look};
 
 use crate::call::is_made;
 use crate::foretell::master_caller;
@@ -24,7 +24,8 @@ impl Parts {
         call: &StoreCall,
         weather: Weather,
     ) -> Result<(), AllocError>
-        requires { app ≤ self.old.history.fence }
+        requires raised { app ≤ self.old.history.fence }
+        requires suited { IsSuited self.old.history app call.now }
         ensures ok { OnOk result (HasAsked self.old app weather call.now self.new) }
         ensures err { OnErr result (self.new ≡ self.old) }
     {
@@ -64,17 +65,15 @@ fn is_look(op: &Op) -> bool
     matches!(op, Op::List(_) | Op::Exists(_) | Op::Read(_))
 }
 
-// The history is left as an append leaves it. A record that a master appends fits.
+// The history is left as an append leaves it.
 fn append(history: &mut History, app: AppAttempt, line: &Record) -> Result<(), AllocError>
-    requires { app ≤ history.old.fence }
+    requires raised { app ≤ history.old.fence }
+    requires suited { IsSuited history.old app (StoreCall.Append line.now) }
     ensures ok { OnOk result (history.new ≡ (segments.call_of history.old app (segments.Append line.now)).1) }
     ensures err { OnErr result (history.new ≡ history.old) }
 {
     if history.append_refusal(app, line).is_some() {
         return Ok(());
-    }
-    if !line.fits() || !line.suits(history.version(app)) {
-        return Err(AllocError);
     }
     match history.append(app, *line) {
         Ok(()) => Ok(()),

@@ -46,16 +46,19 @@ impl Parts {
         ensures { Looks self.now event.now result }
     {
         match event {
-            Event::Duty(k, weather) => self.asked_in_duty(*k, *weather),
-            Event::ContainerStep(c, weather) => self.asked_in_step(c, *weather),
-            Event::Start(_, _)
-            | Event::Crash(_, _)
-            | Event::LaunchOn(_, _, _)
-            | Event::Deliver(_)
-            | Event::Computed(_, _)
-            | Event::Die(_)
-            | Event::NodeRestart(_)
-            | Event::Expire(_, _) => Ok(None),
+            Event::Duty {
+                generation,
+                weather,
+            } => self.asked_in_duty(*generation, *weather),
+            Event::ContainerStep { container, weather } => self.asked_in_step(container, *weather),
+            Event::Start { .. }
+            | Event::Crash { .. }
+            | Event::LaunchOn { .. }
+            | Event::Deliver { .. }
+            | Event::Computed { .. }
+            | Event::Die { .. }
+            | Event::NodeRestart { .. }
+            | Event::Expire { .. } => Ok(None),
         }
     }
 

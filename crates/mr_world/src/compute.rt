@@ -1,5 +1,5 @@
 //! The event by which a container's bytes are handed in: a map's lie on its node's shelf from then on, a reduce's are kept, to be written.
-ghost use Rattle.std.specs.Prelude.{◌≡◌, IfOk, OnOk, None, ℕ};
+ghost use Rattle.std.specs.Prelude.{◌≡◌, IfOk, IfErr, None, ℕ};
 ghost use Rattle.mr_ids.specs.declared.id.TaskKind.TheVariants.{Map, Reduce};
 ghost use Rattle.mr_model.specs.World.{Compute};
 ghost use Rattle.mr_world.specs.inner.Computing.{bytes_fault, unless_fault, Computes};
@@ -16,10 +16,11 @@ use mr_mapside::{MAX_OUTPUT_LEN, MapOutput, blocks};
 use mr_packet::{Bytes, ContainerId};
 
 impl Parts {
-    /// Whether these bytes can be handed in to the container now; and what it was launched as.
+    /// Whether these bytes can be handed in to the container now; and what it was launched as. It takes no memory.
     pub fn check_compute(&self, c: &ContainerId, bytes: &Bytes) -> Result<Place, WorldFault>
         ensures foresees { Foresees self.now (Compute c.now bytes.now) result }
         ensures computes { IfOk result (λ place. Computes (kept self.now.living c.now) place) }
+        ensures memory { IfErr result (λ fault. fault ≡ WorldFault.NoMemory → ⊥) }
         ensures fine { IfOk result (λ place. bytes_fault place.attempt.task.kind self.now.config.reduces bytes.now ≡ None) }
     {
         tell_most(&self.bag);
@@ -39,6 +40,7 @@ impl Parts {
     pub fn compute(&mut self, c: &ContainerId, bytes: Bytes) -> Result<(), WorldFault>
         ensures tries { Tries self.old (Compute c.now bytes) result self.new }
         ensures config { self.new.config ≡ self.old.config }
+        ensures history { self.new.history ≡ self.old.history }
     {
         let place = self.check_compute(c, &bytes)?;
         match place.attempt.task().kind {

@@ -1,13 +1,15 @@
 //! What a world is made for: the job with its splits and reduces, the nodes, the limit of failures, and from which generation on the history has version 2.
-ghost use Rattle.std.specs.Prelude.{◌≡◌, length, option_map, slice_get};
+ghost use Rattle.std.specs.Prelude.{◌≡◌, IfOk, length, option_map, slice_get};
+ghost use Rattle.mr_shuffle.specs.SequentialText.{AreSplits};
 ghost use Rattle.mr_world.specs.Ranges.{IsInRange};
 
-use crate::splits::Splits;
 use mr_ids::JobId;
+use mr_user::Splits;
+use std::alloc::AllocError;
 use std::marker::Model;
 
 /// The job that a world runs, its nodes and its limits. Contracts see it as the cluster's config in `mr_model`.
-#[derive(Drop)]
+#[derive(Debug, PartialEq, Eq, Drop)]
 pub struct Config {
     /// The job's identifier.
     pub job: JobId,
@@ -31,15 +33,33 @@ impl Model for Config {
 
     ghost view = { λ c. record { job = c.job; splits = c.splits; reduces = c.reduces; nodes = c.nodes; limit = c.limit; v2_from = c.v2_from } };
 
+    ghost inverse = { λ c. record { job = c.job; splits = c.splits; reduces = c.reduces; nodes = c.nodes; limit = c.limit; v2_from = c.v2_from } };
+
     ghost invariant = { λ c. IsInRange (record { job = c.job; splits = c.splits; reduces = c.reduces; nodes = c.nodes; limit = c.limit; v2_from = c.v2_from }) };
 }
 
 impl Config {
-    /// The numbers of a config are in their ranges. This call does nothing: it tells the caller so.
+    /// The numbers of a config are in their ranges, and its splits are those of a job: at most 1,000, each of bytes and at most 2^24 long. This call does
+    /// nothing: it tells the caller so.
     pub fn ranges(&self)
-        ensures { IsInRange self.now }
+        ensures numbers { IsInRange self.now }
+        ensures splits { AreSplits self.now.splits }
     {
-        let _job = &self.job;
+        self.splits.tell_bytes();
+    }
+
+    /// An equal config. It may allocate, and refuses nothing else.
+    pub fn copy(&self) -> Result<Config, AllocError>
+        ensures { IfOk result (λ config. config ≡ self.now) }
+    {
+        Ok(Config {
+            job: self.job,
+            splits: self.splits.copy()?,
+            reduces: self.reduces,
+            nodes: self.nodes,
+            limit: self.limit,
+            v2_from: self.v2_from,
+        })
     }
 
     /// The job's identifier. It takes no memory.

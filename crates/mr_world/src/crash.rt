@@ -1,8 +1,9 @@
 //! The event by which a master crashes: so many bytes that it had not flushed stay, and its segment is sealed.
+ghost use Rattle.mr_history.specs.Calls.{sealed_at};
 ghost use Rattle.mr_model.specs.World.{Crash};
 ghost use Rattle.mr_world.specs.Machines.{master_of};
 ghost use Rattle.mr_world.specs.Standing.{Foresees, Tries};
-ghost use Rattle.std.specs.Prelude.{◌≡◌, ◌≤◌, true, is_some, IfOk, OnOk};
+ghost use Rattle.std.specs.Prelude.{◌≡◌, ◌≤◌, true, is_some, IfOk, OnOk, OnErr};
 
 use crate::fault::WorldFault;
 use crate::parts::Parts;
@@ -25,6 +26,8 @@ impl Parts {
     pub fn crash(&mut self, k: u32, kept: u64) -> Result<(), WorldFault>
         ensures tries { Tries self.old (Crash k kept) result self.new }
         ensures config { self.new.config ≡ self.old.config }
+        ensures seals { OnOk result (self.new.history ≡ sealed_at k kept self.old.history) }
+        ensures kept { OnErr result (self.new.history ≡ self.old.history) }
     {
         let app = self.check_crash(k, kept)?;
         self.masters.cease(k);

@@ -41,6 +41,7 @@ impl Parts {
     pub fn deliver(&mut self, i: usize) -> Result<(), WorldFault>
         ensures tries { Tries self.old (Deliver i) result self.new }
         ensures config { self.new.config ≡ self.old.config }
+        ensures history { self.new.history ≡ self.old.history }
     {
         match whom(&self.bag, i) {
             Addressee::Nobody => Err(WorldFault::NotNow(Why::NoPacket)),

@@ -26,6 +26,7 @@ impl Parts {
     pub fn die(&mut self, c: &ContainerId) -> Result<(), WorldFault>
         ensures tries { Tries self.old (Die c.now) result self.new }
         ensures config { self.new.config ≡ self.old.config }
+        ensures history { self.new.history ≡ self.old.history }
     {
         self.check_die(c)?;
         reserve(&mut self.bag, 1)?;

@@ -1,9 +1,10 @@
 //! The event by which a master makes the store call that is due, hears the answer, and sends what follows.
-ghost use Rattle.std.specs.Prelude.{◌≡◌, ◌≤◌, IfOk, OnOk, true, is_some};
-ghost use Rattle.mr_model.specs.World.{Duty};
+ghost use Rattle.std.specs.Prelude.{◌≡◌, ◌≤◌, IfOk, OnOk, OnErr, true, is_some};
+ghost use Rattle.mr_model.specs.World.{Duty, World};
+ghost use Rattle.mr_world.specs.Histories.{change_of, changed};
 ghost use Rattle.mr_world.specs.inner.Asking.{ForeseesDuty, SendsThen, Counts};
 ghost use Rattle.mr_world.specs.Machines.{master_of};
-ghost use Rattle.mr_world.specs.Standing.{Foresees, Tries};
+ghost use Rattle.mr_world.specs.Standing.{Foresees, Standing, Tries};
 
 use crate::fault::WorldFault;
 use crate::masters::Masters;
@@ -29,7 +30,7 @@ impl Masters {
         ensures { IfOk result (λ count. SendsThen self.now k answer count) }
     {
         let Some(machine) = self.get(k) else {
-            return Err(AllocError);
+            unreachable!();
         };
         let mut machine = machine.copy()?;
         let count = count_of(&mut machine, answer);
@@ -75,8 +76,11 @@ impl Parts {
     /// The master of this generation makes its store call, and hears of the answer: that of the store, a refusal too, or in bad weather
     /// that nobody can tell. It sends the packets that follow.
     pub fn duty(&mut self, k: u32, weather: Weather) -> Result<(), WorldFault>
+        requires { (w : World) × Standing self.old w }
         ensures tries { Tries self.old (Duty k weather) result self.new }
         ensures config { self.new.config ≡ self.old.config }
+        ensures calls { OnOk result ((w : World) → Standing self.old w → self.new.history ≡ changed self.old.history (change_of self.old.config w (Duty k weather))) }
+        ensures kept { OnErr result (self.new.history ≡ self.old.history) }
     {
         let Due { app, duty, answer } = self.foresee_duty(k, weather)?;
         let ready = self.make_ready(k, answer)?;

@@ -40,11 +40,12 @@ impl Parts {
     pub fn expire(&mut self, k: u32, node: u32) -> Result<(), WorldFault>
         ensures tries { Tries self.old (Expire k node) result self.new }
         ensures config { self.new.config ≡ self.old.config }
+        ensures history { self.new.history ≡ self.old.history }
     {
         let packets = self.check_expire(k, node)?;
         reserve(&mut self.bag, packets.len())?;
         let Some(mut machine) = self.masters.take(k) else {
-            return Err(WorldFault::NotNow(Why::NoMaster));
+            unreachable!();
         };
         let expired = machine.expire(node);
         self.masters.put(k, machine);

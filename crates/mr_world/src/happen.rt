@@ -1,7 +1,7 @@
 //! Any event, handed on to the file of its kind: whether it can happen now, and that it happens. And whether the journal has room for it.
 ghost use Rattle.std.specs.Prelude.{◌≡◌, ◌<◌, IfErr, IfOk, OnOk, length, vec_capacity, vec_len};
 ghost use Rattle.mr_model.specs.World.{World, Compute};
-ghost use Rattle.mr_world.specs.Applying.{Counts, ForetellsAt, RefusesAt};
+ghost use Rattle.mr_world.specs.Applying.{Counts, ForetellsAt, LeavesHistory, RefusesAt, foretold_at};
 ghost use Rattle.mr_world.specs.Standing.{Foresees, Standing, Tries};
 
 use crate::fault::WorldFault;
@@ -17,26 +17,33 @@ impl Parts {
         ensures { Foresees self.now event.now result }
     {
         match event {
-            Event::Start(k, kept) => {
-                self.check_start(*k, *kept)?;
+            Event::Start { generation, kept } => {
+                self.check_start(*generation, *kept)?;
                 Ok(())
             }
-            Event::Crash(k, kept) => {
-                self.check_crash(*k, *kept)?;
+            Event::Crash { generation, kept } => {
+                self.check_crash(*generation, *kept)?;
                 Ok(())
             }
-            Event::Duty(k, weather) => self.check_duty(*k, *weather),
-            Event::LaunchOn(k, task, node) => self.check_launch(*k, *task, *node),
-            Event::Deliver(i) => self.check_deliver(*i as usize),
-            Event::ContainerStep(c, weather) => self.check_step(c, *weather),
-            Event::Computed(c, bytes) => {
-                self.check_compute(c, bytes)?;
+            Event::Duty {
+                generation,
+                weather,
+            } => self.check_duty(*generation, *weather),
+            Event::LaunchOn {
+                generation,
+                task,
+                node,
+            } => self.check_launch(*generation, *task, *node),
+            Event::Deliver { packet } => self.check_deliver(*packet as usize),
+            Event::ContainerStep { container, weather } => self.check_step(container, *weather),
+            Event::Computed { container, bytes } => {
+                self.check_compute(container, bytes)?;
                 Ok(())
             }
-            Event::Die(c) => self.check_die(c),
-            Event::NodeRestart(n) => self.check_restart(*n),
-            Event::Expire(k, n) => {
-                self.check_expire(*k, *n)?;
+            Event::Die { container } => self.check_die(container),
+            Event::NodeRestart { node } => self.check_restart(*node),
+            Event::Expire { generation, node } => {
+                self.check_expire(*generation, *node)?;
                 Ok(())
             }
         }
@@ -44,20 +51,29 @@ impl Parts {
 
     /// An event happens.
     pub fn happen(&mut self, event: &Event) -> Result<(), WorldFault>
+        requires { (w : World) × Standing self.old w }
         ensures tries { Tries self.old event.now result self.new }
         ensures config { self.new.config ≡ self.old.config }
+        ensures history { LeavesHistory self.old event.now result self.new }
     {
         match event {
-            Event::Start(k, kept) => self.start(*k, *kept),
-            Event::Crash(k, kept) => self.crash(*k, *kept),
-            Event::Duty(k, weather) => self.duty(*k, *weather),
-            Event::LaunchOn(k, task, node) => self.launch(*k, *task, *node),
-            Event::Deliver(i) => self.deliver(*i as usize),
-            Event::ContainerStep(c, weather) => self.step(c, *weather),
-            Event::Computed(c, bytes) => self.hand_in(c, bytes),
-            Event::Die(c) => self.die(c),
-            Event::NodeRestart(n) => self.restart(*n),
-            Event::Expire(k, n) => self.expire(*k, *n),
+            Event::Start { generation, kept } => self.start(*generation, *kept),
+            Event::Crash { generation, kept } => self.crash(*generation, *kept),
+            Event::Duty {
+                generation,
+                weather,
+            } => self.duty(*generation, *weather),
+            Event::LaunchOn {
+                generation,
+                task,
+                node,
+            } => self.launch(*generation, *task, *node),
+            Event::Deliver { packet } => self.deliver(*packet as usize),
+            Event::ContainerStep { container, weather } => self.step(container, *weather),
+            Event::Computed { container, bytes } => self.hand_in(container, bytes),
+            Event::Die { container } => self.die(container),
+            Event::NodeRestart { node } => self.restart(*node),
+            Event::Expire { generation, node } => self.expire(*generation, *node),
         }
     }
 
@@ -65,6 +81,7 @@ impl Parts {
     fn hand_in(&mut self, c: &ContainerId, bytes: &Bytes) -> Result<(), WorldFault>
         ensures tries { Tries self.old (Compute c.now bytes.now) result self.new }
         ensures config { self.new.config ≡ self.old.config }
+        ensures history { self.new.history ≡ self.old.history }
     {
         self.check_compute(c, bytes)?;
         let copy = bytes.copy()?;
@@ -77,6 +94,7 @@ pub fn take(parts: &mut Parts, event: &Event) -> Result<Took, WorldFault>
     requires { (w : World) × Standing parts.old w }
     ensures tries { Tries parts.old event.now result parts.new }
     ensures config { parts.new.config ≡ parts.old.config }
+    ensures history { LeavesHistory parts.old event.now result parts.new }
     ensures counts { IfOk result (λ took. (w : World) → Standing parts.old w → Counts parts.old w event.now took) }
 {
     let first = parts.bag.len();
@@ -98,6 +116,23 @@ pub fn foresee(parts: &Parts, journaled: usize, event: &Event) -> Result<(), Wor
     match looked {
         Err(WorldFault::NotNow(why)) => Err(WorldFault::NotNow(why)),
         _ => Err(WorldFault::Full),
+    }
+}
+
+/// Whether these bytes can be handed in to the container now, with a journal of so many events. It takes no memory, so it never wants for any.
+pub fn foresee_computed(
+    parts: &Parts,
+    journaled: usize,
+    c: &ContainerId,
+    bytes: &Bytes,
+) -> Result<(), WorldFault>
+    ensures { (w : World) → Standing parts.now w → result ≡ foretold_at parts.now w journaled (Compute c.now bytes.now) }
+{
+    match parts.check_compute(c, bytes) {
+        Ok(_place) if journaled < MAX_EVENTS => Ok(()),
+        Err(WorldFault::NotNow(why)) => Err(WorldFault::NotNow(why)),
+        Err(WorldFault::NoMemory) => unreachable!(),
+        Ok(_) | Err(WorldFault::Full) => Err(WorldFault::Full),
     }
 }
 

@@ -1,5 +1,5 @@
 //! A packet is delivered to a container, which may come to its end by it.
-ghost use Rattle.std.specs.Prelude.{◌≡◌, ◌≤◌, ◌+◌, length, slice_get, is_some, true, Some, IfOk, OnOk, OnErr};
+ghost use Rattle.std.specs.Prelude.{◌≡◌, ◌≤◌, ◌+◌, length, slice_get, is_some, IsSome, true, Some, IfOk, OnOk, OnErr};
 ghost use Rattle.mr_packet.specs.declared.packet.Address.TheVariants.{Container};
 ghost use Rattle.mr_packet.specs.declared.packet.Envelope.{Envelope};
 ghost use Rattle.mr_container.specs.Past.{Hears};
@@ -42,6 +42,7 @@ impl Parts {
         requires { IsTo self.old i (Container c.now) }
         ensures tries { Tries self.old (Deliver i) result self.new }
         ensures config { self.new.config ≡ self.old.config }
+        ensures history { self.new.history ≡ self.old.history }
     {
         self.check_hear_container(i, c)?;
         reserve(&mut self.bag, 1)?;
@@ -56,22 +57,24 @@ impl Parts {
 
 // Whether the packet at this place would end the container.
 fn would_end(bag: &Bag, i: usize, living: &Living, c: &ContainerId) -> Result<bool, AllocError>
+    requires { IsSome (slice_get bag.now.packets i) }
     ensures { IfOk result (λ ends. ends ≡ ends_by living.now c.now (slice_get bag.now.packets i)) }
 {
     match bag.get(i) {
         Some(envelope) => living.would_end(c, &envelope.body),
-        None => Ok(false),
+        None => unreachable!(),
     }
 }
 
 // The container hears the packet at this place: whether it came to its end. Where memory is refused nothing changes.
 fn hear(bag: &Bag, i: usize, living: &mut Living, c: &ContainerId) -> Result<bool, AllocError>
+    requires { IsSome (slice_get bag.now.packets i) }
     ensures heard { OnOk result ((e : Envelope) → slice_get bag.now.packets i ≡ Some e → Changes living.old c.now (stepped living.old c.now (Hears e.body)) living.new) }
     ensures over { IfOk result (λ ends. ends ≡ ends_by living.old c.now (slice_get bag.now.packets i)) }
     ensures err { OnErr result (Same living.old living.new) }
 {
     match bag.get(i) {
         Some(envelope) => living.hear(c, &envelope.body),
-        None => Ok(false),
+        None => unreachable!(),
     }
 }

@@ -1,5 +1,5 @@
 //! A packet is delivered to a master, with the packets that it sends for it.
-ghost use Rattle.std.specs.Prelude.{◌≡◌, ◌≤◌, ◌+◌, length, slice_get, is_some, true, Some, IfOk, OnOk, OnErr};
+ghost use Rattle.std.specs.Prelude.{◌≡◌, ◌≤◌, ◌+◌, length, slice_get, is_some, IsSome, true, Some, IfOk, OnOk, OnErr};
 ghost use Rattle.mr_packet.specs.declared.packet.Address.TheVariants.{Master};
 ghost use Rattle.mr_packet.specs.declared.packet.Envelope.{Envelope};
 ghost use Rattle.mr_master.specs.State as master;
@@ -17,7 +17,7 @@ use crate::room::reserve;
 use mr_event::Why;
 use mr_master::MasterMachine;
 use mr_packet::{Bag, Envelope, MAX_PACKETS};
-use std::alloc::{AllocError, Global};
+use std::alloc::AllocError;
 
 impl Parts {
     /// Whether the packet at this place can be delivered to its master now, and the packets that the master sends then.
@@ -31,7 +31,7 @@ impl Parts {
         let Some(machine) = self.masters.get(k) else {
             return Err(WorldFault::NotNow(Why::NoAddressee));
         };
-        let packets = replies(&self.bag, i, machine, self.layout.dest.allocator())?;
+        let packets = replies(&self.bag, i, machine)?;
         if MAX_PACKETS - self.bag.len() < packets.len() {
             return Err(WorldFault::Full);
         }
@@ -43,11 +43,12 @@ impl Parts {
         requires { IsTo self.old i (Master k) }
         ensures tries { Tries self.old (Deliver i) result self.new }
         ensures config { self.new.config ≡ self.old.config }
+        ensures history { self.new.history ≡ self.old.history }
     {
         let packets = self.check_hear_master(i, k)?;
         reserve(&mut self.bag, packets.len())?;
         let Some(mut machine) = self.masters.take(k) else {
-            return Err(WorldFault::NotNow(Why::NoAddressee));
+            unreachable!();
         };
         let heard = hear(&self.bag, i, &mut machine, &packets);
         self.masters.put(k, machine);
@@ -61,17 +62,13 @@ impl Parts {
 }
 
 // What the master sends once it hears the packet at this place.
-fn replies(
-    bag: &Bag,
-    i: usize,
-    machine: &MasterMachine,
-    alloc: Global,
-) -> Result<Vec<Envelope>, AllocError>
+fn replies(bag: &Bag, i: usize, machine: &MasterMachine) -> Result<Vec<Envelope>, AllocError>
+    requires { IsSome (slice_get bag.now.packets i) }
     ensures { IfOk result (λ packets. (e : Envelope) → slice_get bag.now.packets i ≡ Some e → Answers machine.now (λ w past. sent w past (Hears e.body)) packets.items) }
 {
     match bag.get(i) {
         Some(envelope) => machine.hear_packets(&envelope.body),
-        None => Ok(Vec::new(alloc)),
+        None => unreachable!(),
     }
 }
 
@@ -82,12 +79,13 @@ fn hear(
     machine: &mut MasterMachine,
     packets: &[Envelope],
 ) -> Result<(), AllocError>
-    requires { (e : Envelope) → slice_get bag.now.packets i ≡ Some e → Answers machine.old (λ w past. sent w past (Hears e.body)) packets.now }
+    requires there { IsSome (slice_get bag.now.packets i) }
+    requires heard { (e : Envelope) → slice_get bag.now.packets i ≡ Some e → Answers machine.old (λ w past. sent w past (Hears e.body)) packets.now }
     ensures heard { OnOk result ((e : Envelope) → slice_get bag.now.packets i ≡ Some e → Stands machine.old (Hears e.body) machine.new) }
     ensures still { OnErr result (StandsStill machine.old machine.new) }
 {
     match bag.get(i) {
         Some(envelope) => machine.hear(&envelope.body, packets),
-        None => Ok(()),
+        None => unreachable!(),
     }
 }

@@ -1,5 +1,5 @@
 //! A packet is delivered to a node: a launch may begin a container, a `Kill` ends one, and the node may answer.
-ghost use Rattle.std.specs.Prelude.{◌≡◌, ◌≤◌, ◌+◌, length, slice_get, Some, IfOk, OnOk, OnErr};
+ghost use Rattle.std.specs.Prelude.{◌≡◌, ◌≤◌, ◌+◌, length, slice_get, IsSome, Some, IfOk, OnOk, OnErr};
 ghost use Rattle.std.specs.Option.{option_map};
 ghost use Rattle.mr_packet.specs.declared.packet.Address.TheVariants.{Node};
 ghost use Rattle.mr_packet.specs.declared.packet.Envelope.{Envelope};
@@ -46,6 +46,7 @@ impl Parts {
         requires { IsTo self.old i (Node n) }
         ensures tries { Tries self.old (Deliver i) result self.new }
         ensures config { self.new.config ≡ self.old.config }
+        ensures history { self.new.history ≡ self.old.history }
     {
         self.check_hear_node(i, n)?;
         reserve(&mut self.bag, 1)?;
@@ -69,11 +70,12 @@ impl Parts {
 
 // Whether the node would answer the packet at this place.
 fn would_answer(bag: &Bag, i: usize, nodes: &Nodes, n: u32) -> Result<bool, AllocError>
+    requires { IsSome (slice_get bag.now.packets i) }
     ensures { IfOk result (λ answers. answers ≡ answers_at nodes.now n (slice_get bag.now.packets i)) }
 {
     match bag.get(i) {
         Some(envelope) => nodes.would_answer(n, &envelope.body),
-        None => Ok(false),
+        None => unreachable!(),
     }
 }
 
@@ -87,6 +89,7 @@ fn hear(
     n: u32,
     maps: u32,
 ) -> Result<Option<Envelope>, AllocError>
+    requires { IsSome (slice_get bag.now.packets i) }
     ensures nodes { OnOk result ((e : Envelope) → slice_get bag.now.packets i ≡ Some e → ChangesNode nodes.old n (node_stepped nodes.old n (Hears e.body)) nodes.new) }
     ensures added { IfOk result (λ added. (e : Envelope) → slice_get bag.now.packets i ≡ Some e → added ≡ added_by (reaction_of (node_of nodes.old n) e.body)) }
     ensures living { OnOk result ((e : Envelope) → slice_get bag.now.packets i ≡ Some e → Serves living.old nodes.old n maps e.body living.new) }
@@ -95,7 +98,7 @@ fn hear(
 {
     match bag.get(i) {
         Some(envelope) => hear_packet(alloc, nodes, living, n, maps, &envelope.body),
-        None => Ok(None),
+        None => unreachable!(),
     }
 }
 

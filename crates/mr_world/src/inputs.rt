@@ -1,18 +1,18 @@
 //! What is read of a container that lives.
-//! Its wish, and what it is to compute from: for programs that run a world.
+//! What it was launched as, its wish, and what it is to compute from: for programs that run a world.
 ghost use Rattle.std.specs.Prelude.{◌≡◌};
 ghost use Rattle.std.specs.Option.{option_map};
 ghost use Rattle.mr_model.specs.World.{World};
-ghost use Rattle.mr_world.specs.Readings.{wish_in, input_in, as_input};
+ghost use Rattle.mr_world.specs.Readings.{as_input, input_in, place_in, wish_in};
 ghost use Rattle.mr_world.specs.Standing.{Standing};
 
 use crate::parts::Parts;
-use mr_container::Wish;
+use mr_container::{Place, Wish};
 use mr_ids::TaskKind;
 use mr_packet::{Bytes, ContainerId};
 
 /// What a container is to compute from, lent from the world.
-#[derive(Drop)]
+#[derive(Debug, PartialEq, Eq, Drop)]
 pub enum Input<'a> {
     /// Of a map: the number of its split, and the bytes of that.
     Map { split: u32, bytes: &'a [u8] },
@@ -21,6 +21,14 @@ pub enum Input<'a> {
 }
 
 impl Parts {
+    /// What a container was launched as; none where it is not alive. It takes no memory.
+    pub fn place(&self, c: &ContainerId) -> Option<Place>
+        ensures { (w : World) → Standing self.now w → result ≡ place_in w c.now }
+    {
+        let machine = self.living.get(c)?;
+        Some(machine.place())
+    }
+
     /// What a container wishes to do next; none where it is not alive. It takes no memory.
     pub fn wish(&self, c: &ContainerId) -> Option<Wish>
         ensures { (w : World) → Standing self.now w → result ≡ wish_in self.now.config w c.now }

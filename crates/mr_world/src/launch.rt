@@ -38,11 +38,12 @@ impl Parts {
     pub fn launch(&mut self, k: u32, task: TaskId, node: u32) -> Result<(), WorldFault>
         ensures tries { Tries self.old (LaunchOn k task node) result self.new }
         ensures config { self.new.config ≡ self.old.config }
+        ensures history { self.new.history ≡ self.old.history }
     {
         self.check_launch(k, task, node)?;
         reserve(&mut self.bag, 1)?;
         let Some(mut machine) = self.masters.take(k) else {
-            return Err(WorldFault::NotNow(Why::NoMaster));
+            unreachable!();
         };
         let launched = machine.launch(task, node);
         self.masters.put(k, machine);

@@ -12,27 +12,30 @@
 //!     map_made: &[u8],
 //!     reduce_made: &[u8],
 //! ) -> Result<Option<bool>, WorldFault> {
-//!     world.apply(Event::Start(1, 0))?;
+//!     world.apply(Event::Start {
+//!         generation: 1,
+//!         kept: 0,
+//!     })?;
 //!     let (mut next, mut last) = (0, None);
 //!     for _ in 0..10_000 {
 //!         let event = if next < world.bag().len() {
+//!             let packet = next as u64;
 //!             next += 1;
-//!             Event::Deliver(next as u64 - 1)
+//!             Event::Deliver { packet }
 //!         } else if world.duty(1)?.is_some() {
-//!             Event::Duty(1, Weather::Calm)
-//!         } else if let Some(task) = world.wanted(1) {
-//!             Event::LaunchOn(1, task, 0)
-//!         } else if let Some(c) = world.next_living(last) {
-//!             last = Some(c);
-//!             match world.input(&c) {
-//!                 None => Event::ContainerStep(c, Weather::Calm),
-//!                 Some(Input::Map { .. }) => {
-//!                     Event::Computed(c, Bytes::from_vec(Vec::from_slice(alloc, map_made)?))
-//!                 }
-//!                 Some(Input::Reduce { .. }) => {
-//!                     Event::Computed(c, Bytes::from_vec(Vec::from_slice(alloc, reduce_made)?))
-//!                 }
+//!             Event::Duty {
+//!                 generation: 1,
+//!                 weather: Weather::Calm,
 //!             }
+//!         } else if let Some(task) = world.wanted(1) {
+//!             Event::LaunchOn {
+//!                 generation: 1,
+//!                 task,
+//!                 node: 0,
+//!             }
+//!         } else if let Some(container) = world.next_living(last) {
+//!             last = Some(container);
+//!             step_of(alloc, world, container, map_made, reduce_made)?
 //!         } else {
 //!             break; // nothing is left to do
 //!         };
@@ -45,24 +48,49 @@
 //! }
 //! ```
 //!
-//! (It is run in `crates/tests_guides`.)
+//! ```rust
+//! fn step_of(
+//!     alloc: Global,
+//!     world: &World,
+//!     container: ContainerId,
+//!     map_made: &[u8],
+//!     reduce_made: &[u8],
+//! ) -> Result<Event, AllocError> {
+//!     let made = match world.input(&container) {
+//!         Some(Input::Map { .. }) => map_made,
+//!         Some(Input::Reduce { .. }) => reduce_made,
+//!         None => {
+//!             return Ok(Event::ContainerStep {
+//!                 container,
+//!                 weather: Weather::Calm,
+//!             });
+//!         }
+//!     };
+//!     let bytes = Bytes::from_vec(Vec::from_slice(alloc, made)?);
+//!     Ok(Event::Computed { container, bytes })
+//! }
+//! ```
+//!
+//! (Both are run in `crates/tests_guides`.) Events, weather and reasons are those of `mr_event`, which this crate gives on.
 //!
 //! # What is proved
 //!
 //! Contracts see a `World` as its config and its journal (`specs/Journal`), and `world_in` of that is the world of the definitions, under the limits of
 //! `specs/Limits`. For every world, every event and every list of events:
 //!
-//! - `World::new` has an empty journal, `journal` and `config` lend what contracts see;
+//! - `World::new` has an empty journal, `journal` and `config` lend what contracts see; a `Config` is copied and compared, and tells that its splits are those of a job
+//!   (`Config::ranges`), so that `mr_sequential::jobs_have_their_laws` holds of each world;
 //! - `apply` refuses an event with the first reason why it is not permitted, else `Full` where it would pass a limit, else `NoMemory`, and then nothing has changed;
 //!   else the event is the journal's last, the world after it is the definitions', and the packets that it added are told (`Applies`). `foresee` tells the refusal
-//!   beforehand and changes nothing (`Foretells`);
+//!   beforehand and changes nothing (`Foretells`), and `foresee_computed` does so of bytes that a container computed, without a copy of them and without memory (`foretold_in`);
 //! - `run` passes over what is not permitted and over nothing else, and leads to the world of the journal and all its events; it stops at the first that is `Full` or meets an allocation failure, and those
 //!   before it have happened (`Runs`);
 //! - **the headline** stands on `apply` and `run` themselves, of the world before and after (`HeadlineHolds`): a recorded winner stays, and every node told of it is told
 //!   the same; where the success marker is, a reader sees each reduce's winner's whole file and nothing else, from then on; one outcome is told; with deterministic
-//!   functions the files are the sequential execution's;
+//!   functions the files are the sequential execution's; recovery finds the winners, and a barred attempt's calls are refused from then on;
 //! - what is read is what the definitions read: for those outside `winner`, `winners`, `marker`, `outcome`, `visible`; for programs `bag`, `undeliverable`, `newest`,
-//!   `phase`, `duty`, `wanted`, `unflushed`, `stable`, `living`, `next_living`, `wish`, `input` (`specs/Readings`), and `asks`: the store call that an event
+//!   `phase`, `duty`, `wanted`, `unflushed`, `stable`, `living`, `next_living`, `place`, `wish`, `input` (`specs/Readings`; the bytes of `stable` are those
+//!   that the calls of the journal's events leave in the history, a torn end among them: `specs/Histories`), and `asks`: the store call that an event
 //!   would make now, by whom, and what its caller would hear (`specs/Asks`).
 //!
 //! A world's invariant is that its parts (`Parts`) *stand for* the world of its journal (`specs/Standing`): one clause a part, each machine for its past there. Each event's
@@ -108,7 +136,6 @@ mod restart;
 mod results;
 mod room;
 mod send;
-mod splits;
 mod start;
 mod step;
 mod took;
@@ -120,7 +147,8 @@ pub use config::Config;
 pub use fault::WorldFault;
 pub use inputs::Input;
 pub use limits::{MAX_CONTAINERS, MAX_EVENTS};
+pub use mr_event::{Event, Weather, Why};
+pub use mr_user::Splits;
 pub use results::VisibleFile;
-pub use splits::Splits;
 pub use took::Took;
 pub use world::World;

@@ -19,7 +19,7 @@ impl Parts {
         ensures refused { IfErr result (λ fault. (weather : Weather) → RefusesDuty self.now k weather fault) }
     {
         let Some(machine) = self.masters.get(k) else {
-            return Err(WorldFault::NotNow(Why::NoMaster));
+            unreachable!();
         };
         match machine.duty()? {
             Some(duty) => Ok(duty),

@@ -1,11 +1,11 @@
 //! What stands before the first event: the staging folder, an empty history, nodes in their first incarnation, and no master.
-ghost use Rattle.std.specs.Prelude.{◌≡◌, replicate, IfOk};
-ghost use Rattle.mr_history.specs.Segment.{fresh};
+ghost use Rattle.std.specs.Prelude.{◌≡◌, IfOk};
 ghost use Rattle.mr_names.specs.Calls as names;
 ghost use Rattle.mr_names.specs.declared.op.Op.TheVariants as op;
 ghost use Rattle.mr_model.specs.Ids.{dest, staged};
 ghost use Rattle.mr_model.specs.Stored.{master};
 ghost use Rattle.mr_model.specs.World.{opening_world};
+ghost use Rattle.mr_world.specs.Histories.{opening_history};
 ghost use Rattle.mr_world.specs.Standing.{Standing};
 
 use crate::config::Config;
@@ -24,6 +24,7 @@ impl Parts {
     /// The parts of the opening world: the root and the staging folder, nodes that begin, and no master.
     pub fn new(alloc: Global, config: Config) -> Result<Parts, AllocError>
         ensures config { IfOk result (λ parts. parts.config ≡ config) }
+        ensures history { IfOk result (λ parts. parts.history ≡ opening_history) }
         ensures opens { IfOk result (λ parts. Standing parts opening_world) }
     {
         let dest = destination(alloc)?;
@@ -88,7 +89,7 @@ fn new_names(alloc: Global) -> Result<Namespace, AllocError>
 }
 
 fn open_history(alloc: Global) -> Result<History, AllocError>
-    ensures { IfOk result (λ history. history ≡ record { segments = replicate 1000 (fresh 1); fence = 0 }) }
+    ensures { IfOk result (λ history. history ≡ opening_history) }
 {
     match History::new(alloc) {
         Ok(history) => Ok(history),

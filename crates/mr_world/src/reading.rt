@@ -6,6 +6,7 @@ ghost use Rattle.mr_history.specs.Reading.{records_of};
 ghost use Rattle.mr_world.specs.declared.fault.WorldFault.TheVariants.{NoMemory};
 ghost use Rattle.mr_model.specs.World.{World};
 ghost use Rattle.mr_model.specs.Effect.{addressee};
+ghost use Rattle.mr_world.specs.Histories.{stable_bytes};
 ghost use Rattle.mr_world.specs.Readings.{due_in, phase_in, wanted_in, unflushed_in};
 ghost use Rattle.mr_world.specs.Standing.{Standing};
 
@@ -91,9 +92,11 @@ impl Parts {
 
     /// The stable bytes of the segment of this generation; none where its master was not started. It takes no memory.
     pub fn stable(&self, k: u32) -> &[u8]
+        ensures bytes { result.now ≡ stable_bytes self.now.history k }
         ensures stable { (w : World) → Standing self.now w → k ≤ w.fence → records_of result.now ≡ (w.history k).stable }
         ensures none { (w : World) → Standing self.now w → w.fence < k → result.now ≡ [] }
     {
+        let _newest = self.history.fence();
         match AppAttempt::new(k) {
             Some(app) if self.history.is_raised(app) => self.history.stable(app),
             _ => &[],

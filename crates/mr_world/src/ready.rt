@@ -12,7 +12,7 @@ use crate::room::reserve;
 use mr_master::Ready;
 use mr_master_model::StoreAnswer;
 use mr_packet::Envelope;
-use std::alloc::{AllocError, Global};
+use std::alloc::AllocError;
 
 impl Masters {
     /// The machine of a living master is made ready for an answer; nothing changes but its spare room.
@@ -22,7 +22,7 @@ impl Masters {
         ensures still { OnErr result (IsKept self.old k self.new) }
     {
         let Some(mut machine) = self.take(k) else {
-            return Err(AllocError);
+            unreachable!();
         };
         let made = machine.ready(answer);
         self.put(k, machine);
@@ -30,13 +30,13 @@ impl Masters {
     }
 
     /// The master hears the answer that it was made ready for: the packets that it sends. It takes no memory.
-    pub fn answer(&mut self, alloc: Global, k: u32, ready: Ready) -> Vec<Envelope>
+    pub fn answer(&mut self, k: u32, ready: Ready) -> Vec<Envelope>
         requires { (a : StoreAnswer) × IsReadyAt self.old k a ready }
         ensures packets { result.items ≡ ready.packets }
         ensures heard { (a : StoreAnswer) → IsReadyAt self.old k a ready → HasHeard self.old k a self.new }
     {
         let Some(mut machine) = self.take(k) else {
-            return Vec::new(alloc);
+            unreachable!();
         };
         let packets = machine.answer(ready);
         self.put(k, machine);
@@ -61,10 +61,10 @@ impl Parts {
     /// The master hears the answer that it was made ready for, and its packets are sent. It takes no memory.
     pub fn tell(&mut self, k: u32, ready: Ready)
         requires { (a : StoreAnswer) × IsSet self.old k a ready }
-        ensures { (a : StoreAnswer) → IsSet self.old k a ready → HasTold self.old k a ready self.new }
+        ensures told { (a : StoreAnswer) → IsSet self.old k a ready → HasTold self.old k a ready self.new }
+        ensures history { self.new.history ≡ self.old.history }
     {
-        let alloc = self.layout.dest.allocator();
-        let packets = self.masters.answer(alloc, k, ready);
+        let packets = self.masters.answer(k, ready);
         push_all(&mut self.bag, packets);
     }
 }

@@ -51,6 +51,7 @@ impl Parts {
     pub fn restart(&mut self, n: u32) -> Result<(), WorldFault>
         ensures tries { Tries self.old (NodeRestart n) result self.new }
         ensures config { self.new.config ≡ self.old.config }
+        ensures history { self.new.history ≡ self.old.history }
     {
         let packets = self.restart_packets(n)?;
         reserve(&mut self.bag, packets.len())?;

@@ -21,7 +21,7 @@ use mr_paths::{Name, Path, is_hidden};
 use std::alloc::{AllocError, Global};
 
 /// A file that a reader of the destination sees.
-#[derive(Drop)]
+#[derive(Debug, PartialEq, Eq, Drop)]
 pub struct VisibleFile {
     /// Its name in the destination.
     pub name: Name,
@@ -98,7 +98,7 @@ fn kind_at(names: &Namespace, path: &Path) -> Option<Kind>
 {
     match names.exists(onlooker(names), path) {
         Ok(found) => found,
-        Err(_) => None,
+        Err(_) => unreachable!(),
     }
 }
 

@@ -31,6 +31,7 @@ impl Parts {
         requires { IsAlone self.old c.now weather }
         ensures tries { Tries self.old (ContainerStep c.now weather) result self.new }
         ensures config { self.new.config ≡ self.old.config }
+        ensures history { self.new.history ≡ self.old.history }
     {
         match self.check_send(c, weather)? {
             Letters::Nothing => Ok(()),

@@ -1,5 +1,6 @@
 //! The event by which a master starts as the next generation, and both stores are fenced against older ones.
-ghost use Rattle.std.specs.Prelude.{◌≡◌, IfOk};
+ghost use Rattle.std.specs.Prelude.{◌≡◌, IfOk, OnOk, OnErr};
+ghost use Rattle.mr_history.specs.Calls.{raised};
 ghost use Rattle.mr_model.specs.World.{Start};
 ghost use Rattle.mr_model.specs.Effect.{version_of};
 ghost use Rattle.mr_agree.specs.Steps.{setting};
@@ -34,6 +35,8 @@ impl Parts {
     pub fn start(&mut self, k: u32, kept: u64) -> Result<(), WorldFault>
         ensures tries { Tries self.old (Start k kept) result self.new }
         ensures config { self.new.config ≡ self.old.config }
+        ensures raises { OnOk result (self.new.history ≡ raised k kept (version_of self.old.config k) self.old.history) }
+        ensures kept { OnErr result (self.new.history ≡ self.old.history) }
     {
         let app = self.check_start(k, kept)?;
         let setting = setting(&self.config, &self.layout, app)?;

@@ -26,6 +26,7 @@ impl Parts {
     pub fn step(&mut self, c: &ContainerId, weather: Weather) -> Result<(), WorldFault>
         ensures tries { Tries self.old (ContainerStep c.now weather) result self.new }
         ensures config { self.new.config ≡ self.old.config }
+        ensures history { self.new.history ≡ self.old.history }
     {
         match self.foresee_call(c, weather)? {
             Some(call) => {

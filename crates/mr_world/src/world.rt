@@ -5,30 +5,32 @@ ghost use Rattle.std.specs.Option.{option_map};
 ghost use Rattle.mr_history.specs.Reading.{records_of};
 ghost use Rattle.mr_model.specs.Ids.{marker, reduce_of};
 ghost use Rattle.mr_model.specs.Content.{entry_at, is_file};
+ghost use Rattle.mr_model.specs.World.{Compute};
 ghost use Rattle.mr_model.specs.Effect.{addressee};
 ghost use Rattle.mr_model.specs.Claims.{winner};
 ghost use Rattle.mr_model.specs.Results.{outcome, visible};
 ghost use Rattle.mr_world.specs.declared.fault.WorldFault.TheVariants.{NoMemory};
-ghost use Rattle.mr_world.specs.Applying.{Applies, Foretells, Passes, Runs};
+ghost use Rattle.mr_world.specs.Applying.{Applies, Foretells, Passes, Runs, foretold_in};
 ghost use Rattle.mr_world.specs.Asks.{asked_in};
 ghost use Rattle.mr_world.specs.Headline.{HeadlineHolds};
-ghost use Rattle.mr_world.specs.Journal.{world_in};
-ghost use Rattle.mr_world.specs.Readings.{as_input, due_in, input_in, living, next_living, phase_in, unflushed_in, wanted_in, wish_in};
+ghost use Rattle.mr_world.specs.Histories.{stable_bytes};
+ghost use Rattle.mr_world.specs.Journal.{history_in, world_in};
+ghost use Rattle.mr_world.specs.Readings.{as_input, due_in, input_in, living, next_living, phase_in, place_in, unflushed_in, wanted_in, wish_in};
 ghost use Rattle.mr_world.specs.VisibleFiles.{as_pair};
 
 use crate::asked::Asked;
 use crate::config::Config;
 use crate::fault::WorldFault;
-use crate::happen::{foresee, make_room, take};
+use crate::happen::{foresee, foresee_computed, make_room, take};
 use crate::inputs::Input;
 use crate::parts::Parts;
 use crate::results::VisibleFile;
 use crate::took::Took;
-use mr_container::Wish;
+use mr_container::{Place, Wish};
 use mr_event::{Event, Why};
 use mr_ids::{AttemptId, TaskId};
 use mr_master_model::{DutyName, Phase};
-use mr_packet::{ContainerId, Envelope};
+use mr_packet::{Bytes, ContainerId, Envelope};
 use std::alloc::Global;
 use std::marker::Model;
 
@@ -91,6 +93,14 @@ impl World {
         ensures { Foretells self.now event.now result }
     {
         foresee(&self.parts, self.journal.len(), event)
+    }
+
+    /// As `foresee` of these bytes as what the container computed, without a copy of them. It takes no memory, so its refusals are `NotNow` and, where that
+    /// event would pass a limit or the journal has `MAX_EVENTS` events, `Full`.
+    pub fn foresee_computed(&self, c: &ContainerId, bytes: &Bytes) -> Result<(), WorldFault>
+        ensures { result ≡ foretold_in self.now (Compute c.now bytes.now) }
+    {
+        foresee_computed(&self.parts, self.journal.len(), c, bytes)
     }
 
     /// The events happen, in order. One that is not permitted when it comes is passed over.
@@ -221,8 +231,9 @@ impl World {
         self.parts.unflushed(k)
     }
 
-    /// The stable bytes of the history segment of this generation; none where its master was not started. It takes no memory.
+    /// The stable bytes of the history segment of this generation, a torn end among them; none where its master was not started. It takes no memory.
     pub fn stable(&self, k: u32) -> &[u8]
+        ensures bytes { result.now ≡ stable_bytes (history_in self.now) k }
         ensures stable { k ≤ (world_in self.now).fence → records_of result.now ≡ ((world_in self.now).history k).stable }
         ensures none { (world_in self.now).fence < k → result.now ≡ [] }
     {
@@ -254,6 +265,14 @@ impl World {
         ensures { result ≡ next_living (living self.now.config (world_in self.now)) after }
     {
         self.parts.next_living(after)
+    }
+
+    /// What a container was launched as: for which attempt, and on which node in which of its incarnations; none where it is not alive. It takes no
+    /// memory.
+    pub fn place(&self, c: &ContainerId) -> Option<Place>
+        ensures { result ≡ place_in (world_in self.now) c.now }
+    {
+        self.parts.place(c)
     }
 
     /// What a container wishes to do next; none where it is not alive. It takes no memory.

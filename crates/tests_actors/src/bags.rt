@@ -1,7 +1,7 @@
 //! The bag of packets, and bytes.
 
 use crate::fixtures::{bytes_of, container};
-use mr_packet::{Address, Bag, Envelope, Packet};
+use mr_packet::{Address, Bag, BagFault, Bytes, Envelope, Packet};
 
 #[test]
 fn bag_grows(rt: HostRuntime) {
@@ -27,5 +27,21 @@ fn bytes_are_added(rt: HostRuntime) {
     bytes.extend(b"c").expect(&rt, "no memory");
     let copy = bytes.copy().expect(&rt, "no memory");
     assert!(rt; copy.len() == 3 && copy.as_slice() == b"abc".as_slice());
-    assert!(rt; bytes.into_vec().as_slice() == b"abc".as_slice());
+    assert!(rt; bytes == copy && !bytes.is_empty() && Bytes::new(rt.alloc()).is_empty());
+    bytes.extend(b"d").expect(&rt, "no memory");
+    assert!(rt; bytes != copy);
+    assert!(rt; bytes.into_vec().as_slice() == b"abcd".as_slice());
+}
+
+#[test]
+fn bag_fault_texts(rt: HostRuntime) {
+    for (fault, want) in [(BagFault::Full, "Full"), (BagFault::NoMemory, "NoMemory")] {
+        assert!(rt;
+            fault
+                .to_string(rt.alloc())
+                .expect(&rt, "no memory")
+                .as_str()
+                == want
+        );
+    }
 }

@@ -145,3 +145,23 @@ fn block_of_two_pieces(rt: HostRuntime) {
     assert!(rt; reduce.wish() == Wish::Compute);
     assert!(rt; reduce.blocks().len() == 1 && reduce.blocks()[0].len() == 65_537);
 }
+
+// A block of more than a mebibyte comes in seventeen pieces.
+#[test]
+fn block_of_seventeen_pieces(rt: HostRuntime) {
+    let alloc = rt.alloc();
+    let mut output = vec![in alloc; 0u8; 1_048_581].expect(&rt, "no memory");
+    output[1] = 16;
+    output[3] = 1;
+    let mut node = NodeMachine::new(alloc, 0, 1);
+    node.put(attempt(&rt, TaskKind::Map, 0), MapOutput::from_vec(output))
+        .expect(&rt, "no memory");
+    let mut reduce = machine(&rt, alloc, TaskKind::Reduce);
+    is_told_where(&rt, &mut reduce);
+    for _ in 0..17 {
+        assert!(rt; reduce.wish() != Wish::Compute);
+        asks(&rt, &mut node, &mut reduce);
+    }
+    assert!(rt; reduce.wish() == Wish::Compute);
+    assert!(rt; reduce.blocks().len() == 1 && reduce.blocks()[0].len() == 1_048_577);
+}

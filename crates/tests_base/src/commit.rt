@@ -1,8 +1,8 @@
 //! The output committer: merges, commits, aborts and recoveries, whole or by steps, and what is refused.
 
 use mr_commit::{
-    CommitFault, RecoverTask, Step, StepDone, check_output, commit_job, commit_task,
-    needs_task_commit, setup_job,
+    CommitFault, RecoverTask, Step, StepDone, abort_job, abort_task, check_output, commit_job,
+    commit_task, needs_task_commit, recover_task, setup_job,
 };
 use mr_ids::{AppAttempt, AttemptId, JobId, TaskId, TaskKind};
 use mr_names::{Answer, Caller, Kind, NameFault, Namespace, Op};
@@ -134,7 +134,7 @@ fn goes_on_by_halves(rt: &impl Abort, step: &Step) {
 }
 
 #[test]
-fn output_missing_then_over(rt: HostRuntime) {
+fn over_after_output_missing(rt: HostRuntime) {
     let alloc = rt.alloc();
     let app = generation(&rt, 1);
     let caller = &Caller { app, attempt: None };
@@ -437,4 +437,75 @@ fn first_master_recovers_nothing(rt: HostRuntime) {
     let mut nothing = made(&rt, RecoverTask::new(&out(&rt, alloc), app, TASK, None));
     assert!(rt; nothing.call().is_none());
     assert!(rt; told(&rt, nothing.next(&mut names, *caller)) == Err(CommitFault::OutputMissing));
+}
+
+// A namespace in which the first master's reduce 0 was committed, with a part file of so many bytes.
+fn committed_before(
+    rt: &impl Abort,
+    alloc: Global,
+    caller: &Caller,
+    layout: &Layout,
+    bytes: &[u8],
+) -> Namespace {
+    let mut names = job_set_up(rt, alloc, caller, layout);
+    let committed = "/out/_temporary/1/task_200707121733_0003_r_000000";
+    prepared(rt, names.mkdirs(*caller, &path(rt, alloc, committed)));
+    let part = "/out/_temporary/1/task_200707121733_0003_r_000000/part-r-00000";
+    let part = path(rt, alloc, part);
+    prepared(rt, names.create(*caller, &part, false));
+    prepared(rt, names.append(*caller, &part, bytes));
+    names
+}
+
+// The second master takes over a reduce with a length, whoever is stopped on the way: it looks, reads, makes room, and moves.
+#[test]
+fn recovery_stopped_halfway(rt: HostRuntime) {
+    let alloc = rt.alloc();
+    let app = generation(&rt, 2);
+    let caller = &Caller { app, attempt: None };
+    let layout = out(&rt, alloc);
+    let mut names = committed_before(&rt, alloc, caller, &layout, b"a\t1\nb\t1\n");
+    let mut step = made(&rt, RecoverTask::new(&layout, app, TASK, Some(8)));
+    assert!(rt; matches!(step.call(), Some(Op::Exists(_path))));
+    assert!(rt; told(&rt, step.next(&mut names, *caller)) == Ok(StepDone::More));
+    assert!(rt; matches!(step.call(), Some(Op::Read(_path))));
+    assert!(rt; told(&rt, step.next(&mut names, *caller)) == Ok(StepDone::More));
+    assert!(rt; matches!(step.call(), Some(Op::Delete(_path))));
+    assert!(rt; told(&rt, step.next(&mut names, *caller)) == Ok(StepDone::More));
+    assert!(rt; matches!(step.call(), Some(Op::Rename { .. })));
+    assert!(rt; told(&rt, step.next(&mut names, *caller)) == Ok(StepDone::Finished));
+    let recovered = "/out/_temporary/2/task_200707121733_0003_r_000000/part-r-00000";
+    assert!(rt; stands(&rt, alloc, &names, *caller, recovered) == Some(Kind::File));
+}
+
+// A recovery at once, of a file that has its recorded length, and of one that has not; and aborts at once.
+#[test]
+fn recovered_then_aborted(rt: HostRuntime) {
+    let alloc = rt.alloc();
+    let caller = &Caller {
+        app: generation(&rt, 2),
+        attempt: None,
+    };
+    let layout = out(&rt, alloc);
+    let a = attempt(&rt);
+    let mut names = committed_before(&rt, alloc, caller, &layout, b"a\t1\n");
+    let short = told(
+        &rt,
+        recover_task(&mut names, *caller, &layout, TASK, Some(5)),
+    );
+    assert!(rt; short == Err(CommitFault::WrongLength));
+    let whole = told(
+        &rt,
+        recover_task(&mut names, *caller, &layout, TASK, Some(4)),
+    );
+    assert!(rt; whole == Ok(()));
+    let recovered = "/out/_temporary/2/task_200707121733_0003_r_000000";
+    assert!(rt; stands(&rt, alloc, &names, *caller, recovered) == Some(Kind::Dir));
+    let written = "/out/_temporary/2/_temporary/attempt_200707121733_0003_r_000000_0";
+    prepared(&rt, names.mkdirs(*caller, &path(&rt, alloc, written)));
+    assert!(rt; told(&rt, abort_task(&mut names, *caller, &layout, a)) == Ok(()));
+    assert!(rt; stands(&rt, alloc, &names, *caller, written) == None);
+    assert!(rt; told(&rt, abort_job(&mut names, *caller, &layout)) == Ok(()));
+    assert!(rt; stands(&rt, alloc, &names, *caller, "/out/_temporary") == None);
+    assert!(rt; stands(&rt, alloc, &names, *caller, "/out") == Some(Kind::Dir));
 }

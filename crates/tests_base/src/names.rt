@@ -1,7 +1,10 @@
 //! The namespace: each call by name and as a value, what is refused, and the listing and the rename of a large directory.
 
-use mr_ids::AppAttempt;
-use mr_names::{Answer, Bytes, Caller, Entries, Kind, MAX_ENTRIES, NameFault, Namespace, Op};
+use mr_ids::{AppAttempt, AttemptId, JobId, TaskId, TaskKind};
+use mr_names::{
+    Answer, Bytes, Caller, Entries, Kind, MAX_BARRED, MAX_ENTRIES, MAX_FILE_LEN, NameFault,
+    Namespace, Op,
+};
 use mr_paths::{Path, PathFault};
 use std::alloc::Global;
 use std::process::Abort;
@@ -224,7 +227,7 @@ fn long_appends_and_empty_ones(rt: HostRuntime) {
     assert!(rt; matches!(told(&rt, names.read(*one, &f)), Ok(bytes) if bytes.len() == 1_000_000));
 }
 
-// The requests for memory between two of this size are those that `tools/refuse_rename` counts.
+// `tools/hostile` refuses each request for memory behind the first one of this size. Between the second and the third are those of the rename.
 const MARK: usize = 1_000_003;
 
 fn mark(rt: &impl Abort, alloc: Global) {
@@ -260,6 +263,7 @@ fn large_directory_rename(rt: HostRuntime) {
     let c = path(&rt, alloc, "/c");
     assert!(rt; told(&rt, names.mkdirs(*one, &a)) == Ok(()));
     fill(&rt, alloc, &mut names, one);
+    mark(&rt, alloc);
     assert!(rt; told(&rt, names.create(*one, &c, true)) == Err(NameFault::Full));
     mark(&rt, alloc);
     let renamed = names.rename(*one, &a, &b);
@@ -307,4 +311,125 @@ fn large_directory_is_listed(rt: HostRuntime) {
     }
     assert!(rt; names.delete(*one, &path(&rt, alloc, "/a/0")) == Ok(()));
     assert!(rt; told(&rt, names.create(*one, &more, true)) == Ok(()));
+}
+
+// The attempt of this number at a reduce.
+fn attempt(rt: &impl Abort, number: u32) -> AttemptId {
+    let task = TaskId {
+        job: JobId {
+            start: 200707121733,
+            number: 3,
+        },
+        kind: TaskKind::Reduce,
+        number: 0,
+    };
+    match AttemptId::new(task, number) {
+        Some(attempt) => attempt,
+        None => panic!(rt; "no attempt"),
+    }
+}
+
+// Once an attempt is barred, its container's calls are refused, a second bar of it changes nothing, and nobody else is refused. One is
+// barred by name, one by a call as a value.
+#[test]
+fn barred_attempts(rt: HostRuntime) {
+    let alloc = rt.alloc();
+    let app = generation(&rt, 1);
+    let master = &Caller { app, attempt: None };
+    let mut names = new_namespace(&rt, alloc);
+    let root = path(&rt, alloc, "/");
+    let op = Op::Bar(attempt(&rt, 1));
+    assert!(rt; names.foresee(*master, &op) == None);
+    assert!(rt; matches!(told(&rt, names.perform(*master, &op)), Ok(Answer::Done)));
+    for _ in 0..2 {
+        assert!(rt; told(&rt, names.bar(*master, attempt(&rt, 0))) == Ok(()));
+    }
+    for (number, want) in [
+        (0, Err(NameFault::Barred)),
+        (1, Err(NameFault::Barred)),
+        (2, Ok(Some(Kind::Dir))),
+    ] {
+        let caller = Caller {
+            app,
+            attempt: Some(attempt(&rt, number)),
+        };
+        assert!(rt; names.exists(caller, &root) == want);
+    }
+}
+
+// The walk over all that is there: a directory before its entries, each file with its length.
+#[test]
+fn namespace_is_walked(rt: HostRuntime) {
+    let alloc = rt.alloc();
+    let one = &Caller {
+        app: generation(&rt, 1),
+        attempt: None,
+    };
+    let mut names = new_namespace(&rt, alloc);
+    changes_are_done(&rt, alloc, &mut names, one);
+    let walk = names.walk().expect(&rt, "no memory");
+    let found = walk.as_slice();
+    assert!(rt; found.len() == 3);
+    for (place, (text, length)) in [("/", None), ("/c", None), ("/c/f", Some(2usize))]
+        .into_iter()
+        .enumerate()
+    {
+        assert!(rt; place < found.len());
+        assert!(rt; found[place].path == path(&rt, alloc, text) && found[place].length == length);
+    }
+}
+
+// A file takes 2^24 bytes, and no byte more.
+#[test]
+fn file_is_full(rt: HostRuntime) {
+    let alloc = rt.alloc();
+    let one = &Caller {
+        app: generation(&rt, 1),
+        attempt: None,
+    };
+    let mut names = new_namespace(&rt, alloc);
+    let f = path(&rt, alloc, "/f");
+    let mebibyte = vec![in alloc; b'x'; 1_048_576].expect(&rt, "no memory");
+    assert!(rt; told(&rt, names.create(*one, &f, false)) == Ok(()));
+    for _ in 0..16 {
+        assert!(rt; told(&rt, names.append(*one, &f, &mebibyte)) == Ok(()));
+    }
+    assert!(rt; told(&rt, names.append(*one, &f, b"x")) == Err(NameFault::Full));
+    assert!(rt; told(&rt, names.append(*one, &f, b"")) == Ok(()));
+    assert!(rt;
+        matches!(told(&rt, names.read(*one, &f)), Ok(bytes) if bytes.len() == MAX_FILE_LEN)
+    );
+}
+
+// As many attempts are barred as there is room for. One more is refused; one that is barred is not.
+#[test]
+fn bars_run_out(rt: HostRuntime) {
+    let alloc = rt.alloc();
+    let one = &Caller {
+        app: generation(&rt, 1),
+        attempt: None,
+    };
+    let mut names = new_namespace(&rt, alloc);
+    for number in 0..MAX_BARRED as u32 {
+        assert!(rt; told(&rt, names.bar(*one, attempt(&rt, number))) == Ok(()));
+    }
+    assert!(rt; told(&rt, names.bar(*one, attempt(&rt, 100_000))) == Err(NameFault::Full));
+    assert!(rt; told(&rt, names.bar(*one, attempt(&rt, 99_999))) == Ok(()));
+}
+
+// A call is copied, and the copy is equal.
+#[test]
+fn calls_are_copied(rt: HostRuntime) {
+    let alloc = rt.alloc();
+    let append = Op::Append {
+        path: path(&rt, alloc, "/a/f"),
+        bytes: bytes(&rt, alloc, b"xy"),
+    };
+    let rename = Op::Rename {
+        from: path(&rt, alloc, "/a"),
+        to: path(&rt, alloc, "/c"),
+    };
+    for op in [append, rename] {
+        assert!(rt; op.copy().expect(&rt, "no memory") == op);
+    }
 }

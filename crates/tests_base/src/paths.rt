@@ -2,8 +2,7 @@
 
 use mr_ids::{AppAttempt, AttemptId, JobId, TaskId, TaskKind};
 use mr_paths::{
-    Layout, Name, Path, PathFault, child_of, copy_names, is_hidden, is_name, is_within, parent,
-    part_name, rebase, staging,
+    Layout, Name, Path, PathFault, is_hidden, is_name, is_within, parent, part_name, staging,
 };
 use std::alloc::Global;
 use std::process::Abort;
@@ -157,14 +156,6 @@ fn paths_are_made(rt: HostRuntime) {
     assert!(rt; shows(&rt, alloc, &leaf, "/a/a"));
     assert!(rt; top < leaf && leaf.clone().expect(&rt, "no memory") == leaf);
     assert!(rt; is_within(leaf.names(), top.names()) && parent(leaf.names()) == top.names());
-    assert!(rt; child_of(leaf.names(), top.names()) == leaf.names().last());
     assert!(rt; leaf.len() == 2);
     assert!(rt; leaf.front(1).expect(&rt, "no memory") == top);
-    let names = copy_names(alloc, leaf.names()).expect(&rt, "no memory");
-    assert!(rt; names.as_slice() == leaf.names());
-    let to = path(&rt, alloc, "/x/y");
-    let moved = rebase(alloc, leaf.names(), top.names(), to.names()).expect(&rt, "no memory");
-    assert!(rt; moved.as_slice() == path(&rt, alloc, "/x/y/a").names());
-    let kept = rebase(alloc, top.names(), leaf.names(), to.names()).expect(&rt, "no memory");
-    assert!(rt; kept.as_slice() == top.names());
 }

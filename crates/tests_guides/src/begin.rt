@@ -7,7 +7,7 @@ use mr_mapside::{WorkFault, blocks, map_work};
 use mr_names::{Caller, NameFault, Namespace};
 use mr_packet::{Bag, BagFault, Envelope};
 use mr_paths::{Layout, Path, PathFault};
-use mr_shuffle::{Piece, PieceBytes, reduce_work};
+use mr_shuffle::{Bytes, Piece, reduce_work};
 use mr_user::{MAX_SPLIT_LEN, OpenGate, UserFault, WordCount, sequential};
 use std::alloc::{AllocError, Global};
 
@@ -85,7 +85,7 @@ pub fn first_block(alloc: Global, text: &[u8]) -> Result<usize, WorkFault> {
 pub fn reduced(alloc: Global, first: Vec<u8>, second: Vec<u8>) -> Result<Vec<u8>, WorkFault> {
     let mut pieces = Vec::new(alloc);
     for (map, bytes) in [(0, first), (1, second)] {
-        let bytes = PieceBytes::from_vec(bytes);
+        let bytes = Bytes::from_vec(bytes);
         pieces.push(Piece {
             map,
             reduce: 0,

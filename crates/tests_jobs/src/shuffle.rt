@@ -1,9 +1,9 @@
 //! Reduce works, merges and the shelf of a node.
 
-use mr_ids::{AttemptId, TaskKind};
+use mr_ids::{AttemptId, Bytes, TaskKind};
 use mr_mapside::{MAX_OUTPUT_LEN, MapOutput, ShuffleFault, WorkFault, blocks, map_work};
 use mr_shuffle::{
-    Merge, Piece, PieceBytes, ShelfOfNode, attempts_are_apart, piece_is_what_it_says, reduce_work,
+    Merge, Piece, ShelfOfNode, attempts_are_apart, piece_is_what_it_says, reduce_work,
     shuffle_gives_sequential_text, works_give_sequential_text,
 };
 use mr_user::{
@@ -81,7 +81,7 @@ fn pieces(rt: &impl Abort, alloc: Global, first: u32, reduce: u32, all: &[&[u8]]
     let mut parts = Vec::new(alloc);
     let mut map = first;
     for bytes in all {
-        let bytes = PieceBytes::from_vec(with_memory(rt, Vec::from_slice(alloc, bytes)));
+        let bytes = Bytes::from_vec(with_memory(rt, Vec::from_slice(alloc, bytes)));
         with_memory(rt, parts.push(Piece { map, reduce, bytes }));
         map = map.wrapping_add(1);
     }
@@ -101,8 +101,35 @@ fn reduced<J: Job>(
     }
 }
 
+// The answer of a reduce work of reduce 0, for wordcount, to such pieces of map `first` on.
+fn reduced_0(
+    rt: &impl Abort,
+    alloc: Global,
+    first: u32,
+    all: &[&[u8]],
+) -> Result<Vec<u8>, WorkFault> {
+    let parts = pieces(rt, alloc, first, 0, all);
+    match reduce_work(alloc, &WordCount, &OpenGate, 0, &parts) {
+        Err(WorkFault::NoMemory) => panic!(rt; "no memory"),
+        answer => answer,
+    }
+}
+
 #[test]
 fn reduce_faults(rt: HostRuntime) {
+    for (first, all, want) in [
+        (0, SHORT, ShuffleFault::Truncated),
+        (0, FALLING, ShuffleFault::Disorder),
+        (1, BLOCK, ShuffleFault::WrongPiece),
+    ] {
+        let answer = reduced_0(&rt, rt.alloc(), first, &[all]);
+        assert!(rt; matches!(answer, Err(WorkFault::Shuffle(fault)) if fault == want));
+    }
+    assert!(rt; matches!(reduced_0(&rt, rt.alloc(), 0, &[]), Ok(text) if text.is_empty()));
+}
+
+#[test]
+fn first_fault_is_told(rt: HostRuntime) {
     let alloc = rt.alloc();
     for (all, want) in [
         ([SHORT].as_slice(), ShuffleFault::Truncated),
@@ -299,7 +326,7 @@ fn shuffled<J: Job>(rt: &impl Abort, alloc: Global, job: &J, splits: &[&[u8]]) -
         let output = with_memory(rt, map_work(alloc, job, &OpenGate, map, split, 4));
         match blocks(output.bytes(), 4).and_then(|blocks| blocks.get(3)) {
             Some(block) => {
-                let bytes = PieceBytes::from_vec(with_memory(rt, Vec::from_slice(alloc, block)));
+                let bytes = Bytes::from_vec(with_memory(rt, Vec::from_slice(alloc, block)));
                 assert!(rt; same(bytes.as_slice(), block));
                 with_memory(
                     rt,
@@ -325,7 +352,7 @@ fn pieces_make_the_text(rt: HostRuntime) {
     assert!(rt; same(&text, b"c\t3\ng\t2\n"));
     let text = shuffled(&rt, alloc, &LineIndex, &words);
     assert!(rt; same(&text, b"c\t0:0,0:0,1:1\ng\t0:0,1:1\n"));
-    let bytes = PieceBytes::from_vec(text);
+    let bytes = Bytes::from_vec(text);
     assert!(rt; same(&bytes.into_vec(), b"c\t0:0,0:0,1:1\ng\t0:0,1:1\n"));
     shuffle_gives_sequential_text::<WordCount>();
     works_give_sequential_text::<LineIndex>();

@@ -8,6 +8,8 @@ mod fixtures;
 #[cfg(test)]
 mod hearing;
 #[cfg(test)]
+mod launches;
+#[cfg(test)]
 mod leaving;
 #[cfg(test)]
 mod opening;

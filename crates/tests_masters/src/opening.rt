@@ -2,7 +2,7 @@
 
 use crate::fixtures::{attempt, container, hears, job, master, task};
 use mr_ids::{JobId, TaskId, TaskKind};
-use mr_master::{Duty, MasterMachine};
+use mr_master::{Duty, LaunchError, MasterMachine};
 use mr_master_model::{DutyName, LaunchFault, Phase, StoreCall};
 use mr_names::Op;
 use mr_packet::Packet;
@@ -56,7 +56,7 @@ fn nothing_is_launched_nor_given_up(rt: HostRuntime) {
         (foreign, 0),
     ] {
         let launched = master.launch(task, node);
-        assert!(rt; matches!(launched, Err(LaunchFault::NotRunning)));
+        assert!(rt; matches!(launched, Err(LaunchError::Refused(LaunchFault::NotRunning))));
         let given_up = master.expire(node);
         assert!(rt; matches!(given_up, Err(LaunchFault::NotRunning)));
     }

@@ -17,6 +17,14 @@ fn drawn<H: AllocGlobal + Clock + Threads + Wait + Sync + Abort>(
     script: &str,
 ) -> Result<String, Fail> {
     let input = format!(in rt.alloc(); "{ONE}\n{script}")?;
+    drawn_of(rt, &input)
+}
+
+/// The picture of the input.
+fn drawn_of<H: AllocGlobal + Clock + Threads + Wait + Sync + Abort>(
+    rt: &H,
+    input: &str,
+) -> Result<String, Fail> {
     let mut reader = input.as_bytes();
     let mut writer = Vec::new(rt.alloc());
     if let Err(fault) = run(rt, &Command::PlayDrawn, &mut reader, &mut writer) {
@@ -107,6 +115,46 @@ fn long_runs_are_cut(rt: HostRuntime) -> Result<(), Fail> {
     assert_eq!(rt; count(&picture, ">restart 0<"), 400);
     let whole = drawn(&rt, "restart 0")?;
     assert!(rt; !whole.contains("cut here"));
+    Ok(())
+}
+
+// Of three packets of a node to the master the first is delivered behind the 400 events that are drawn, the second never, and the
+// third among them.
+#[test]
+fn delivered_behind_the_cut(rt: HostRuntime) -> Result<(), Fail> {
+    let mut script = String::from_str(
+        rt.alloc(),
+        "start 1 0\nrestart 0\nrestart 0\nrestart 0\ndeliver 2\n",
+    )?;
+    for _ in 0..395 {
+        script.push_str("restart 0\n")?;
+    }
+    script.push_str("deliver 0\n")?;
+    let picture = drawn(&rt, &script)?;
+    assert!(rt; picture.contains("a run of 401 events"));
+    assert!(rt; picture.contains("delivered later to master 1: NodeUp 0 incarnation 2<"));
+    assert!(rt; !picture.contains("not delivered to master 1: NodeUp 0 incarnation 2<"));
+    assert!(rt; picture.contains("not delivered to master 1: NodeUp 0 incarnation 3<"));
+    assert!(rt; !picture.contains("delivered to master 1: NodeUp 0 incarnation 4<"));
+    assert!(rt; !picture.contains("delivered later to master 1: NodeUp 0 incarnation 4<"));
+    Ok(())
+}
+
+// Below the picture 24 lines have room: the marker, the outcome, and then 22 of 30 winners.
+#[test]
+fn marker_and_outcome_come_first(rt: HostRuntime) -> Result<(), Fail> {
+    let input =
+        "{\"id\":\"job_200707121733_0003\",\"job\":\"wordcount\",\"reduces\":30,\"splits\":[]}\n";
+    let picture = drawn_of(&rt, input)?;
+    let order = [">marker no<", ">outcome none<", ">r 0 none<", ">r 21 none<"];
+    let mut rest: &str = &picture;
+    for words in order {
+        match rest.split_once(words) {
+            Some((_, behind)) => rest = behind,
+            None => panic!(rt; "{words}"),
+        }
+    }
+    assert!(rt; !picture.contains(">r 22 none<"));
     Ok(())
 }
 

@@ -31,7 +31,15 @@ fn scripts_are_read_whole(rt: HostRuntime) {
     match read(rt.alloc(), text.as_slice()) {
         Ok(commands) => {
             assert!(rt; commands.len() == 4 && commands[1].0 == 4 && commands[3].0 == 6);
-            assert!(rt; matches!(&commands[0].1, Command::Makes(Event::Start(1, u64::MAX))));
+            assert!(rt;
+                matches!(
+                    &commands[0].1,
+                    Command::Makes(Event::Start {
+                        generation: 1,
+                        kept: u64::MAX
+                    })
+                )
+            );
             assert!(rt; matches!(&commands[1].1, Command::Calm(1, Some(EventName::Launch))));
         }
         Err(_) => panic!(rt; "not read"),

@@ -1,10 +1,9 @@
 //! What `seq` prints for job texts, and which it refuses.
 use crate::committer::{gives, is_refused};
+use mr_commands::{JobKind, read_job_text};
+use mr_event::{PlanAct, PlanFault};
 use mr_ids::JobId;
-use mr_sim::{
-    Command, Ending, JobKind, JobTextFault, PlanAct, PlanFault, SimFault, exit_status,
-    read_job_text,
-};
+use mr_sim::{Command, Ending, JobTextFault, SimFault, exit_status};
 use std::process::Abort;
 use std::rt::Clock;
 use std::sync::Wait;

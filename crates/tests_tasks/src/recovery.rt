@@ -85,3 +85,9 @@ fn the_first_mark_decides(rt: HostRuntime) {
     let started = Recovery::plan(rt.alloc(), &told, marks(false, false, true));
     assert!(rt; !reports(&rt, started));
 }
+
+#[test]
+fn recover_fault_text(rt: HostRuntime) {
+    let text = RecoverFault::NoMemory.to_string(rt.alloc());
+    assert!(rt; text.expect(&rt, "no memory").as_str() == "NoMemory");
+}

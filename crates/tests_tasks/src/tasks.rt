@@ -70,14 +70,13 @@ fn accepted_then_ended(rt: HostRuntime) {
     second_wins(&rt, copy, a0, a1);
 }
 
-// Each attempt that a generation can number is launched, asks and ends; and then there is no further one.
+// Each attempt that a generation can number is launched and ends; and then there is no further one.
 #[test]
 fn attempt_numbers_run_out(rt: HostRuntime) {
     let mut task = machine(&rt, rt.alloc(), TaskKind::Reduce);
     for number in 0..1000 {
         let a = launched(&rt, &mut task);
         assert!(rt; a.number() == number);
-        assert!(rt; told(&rt, task.pending(a)) == Ok(()));
         assert!(rt; task.ended(a, true) == Ok(()));
     }
     assert!(rt; task.numbered() == 1000 && task.arrived().len() == 1000);
@@ -212,4 +211,24 @@ fn next_launch_is_told(rt: HostRuntime) {
     assert!(rt; launched(&rt, &mut task) == next);
     launched(&rt, &mut task);
     assert!(rt; task.launch_refusal() == Some(TaskFault::TooManyLive));
+}
+
+// What the faults print.
+#[test]
+fn task_fault_texts(rt: HostRuntime) {
+    for (fault, want) in [
+        (TaskFault::AlreadyWon, "AlreadyWon"),
+        (TaskFault::TooManyLive, "TooManyLive"),
+        (TaskFault::TooManyAttempts, "TooManyAttempts"),
+        (TaskFault::Unknown, "Unknown"),
+        (TaskFault::NoMemory, "NoMemory"),
+    ] {
+        assert!(rt;
+            fault
+                .to_string(rt.alloc())
+                .expect(&rt, "no memory")
+                .as_str()
+                == want
+        );
+    }
 }

@@ -1,7 +1,8 @@
 //! The store calls of events, looked at before they happen.
 
+use crate::events::{start, store_call};
 use crate::fixtures::{Stop, attempt, container, started, takes, world};
-use mr_container::Reply;
+use mr_container::{Reply, Wish};
 use mr_event::{Event, Weather};
 use mr_master_model::{StoreAnswer, StoreCall};
 use mr_names::{Answer, NameFault, Op};
@@ -69,14 +70,21 @@ fn is_superseded(answer: &Result<Answer, NameFault>) -> bool {
 #[test]
 fn calls_of_a_master_are_told(rt: HostRuntime) {
     let mut world = world(&rt, rt.alloc(), 1);
-    let calm = Event::Duty(1, Weather::Calm);
+    let calm = store_call(1);
     assert!(rt; asked(&rt, &world, &calm).is_none());
-    takes(&rt, &mut world, Event::Start(1, 0));
+    takes(&rt, &mut world, start(1));
     let (call, answer) = by_master(&rt, &world, &calm);
     assert!(rt; looks(&call) && finds_nothing(&answer));
-    let (call, answer) = by_master(&rt, &world, &Event::Duty(1, Weather::Unanswered));
+    let (call, answer) = by_master(
+        &rt,
+        &world,
+        &Event::Duty {
+            generation: 1,
+            weather: Weather::Unanswered,
+        },
+    );
     assert!(rt; looks(&call) && matches!(answer, StoreAnswer::Fault));
-    takes(&rt, &mut world, Event::Start(2, 0));
+    takes(&rt, &mut world, start(2));
     let (_call, answer) = by_master(&rt, &world, &calm);
     assert!(rt; is_late(&answer));
     assert!(rt; world.journal().len() == 2);
@@ -84,7 +92,10 @@ fn calls_of_a_master_are_told(rt: HostRuntime) {
 
 // What the first attempt at the reduce would hear of its rename.
 fn hears(rt: &impl Abort, world: &World, weather: Weather) -> Reply {
-    let event = Event::ContainerStep(container(rt, 1), weather);
+    let event = Event::ContainerStep {
+        container: container(rt, 1),
+        weather,
+    };
     let Some(Asked::Container { caller, op, reply }) = asked(rt, world, &event) else {
         panic!(rt; "no call of a container");
     };
@@ -124,8 +135,44 @@ fn calls_of_a_container_are_told(rt: HostRuntime) {
     assert!(rt; is_done(&done));
     let lost = hears(&rt, &run.world, Weather::Unavailable);
     assert!(rt; matches!(lost, Reply::Fault));
-    takes(&rt, &mut run.world, Event::Start(2, 0));
+    takes(&rt, &mut run.world, start(2));
     let late = hears(&rt, &run.world, Weather::Calm);
     assert!(rt; hears_late(&late));
-    assert!(rt; asked(&rt, &run.world, &Event::Deliver(0)).is_none());
+    assert!(rt; asked(&rt, &run.world, &Event::Deliver { packet: 0 }).is_none());
+}
+
+fn hears_of_a_bar(reply: &Reply) -> bool {
+    match reply {
+        Reply::Answered(answer) => is_barred(answer),
+        Reply::Fault => false,
+    }
+}
+
+fn is_barred(answer: &Result<Answer, NameFault>) -> bool {
+    match answer {
+        Ok(_) => false,
+        Err(fault) => *fault == NameFault::Barred,
+    }
+}
+
+// The node is given up while the reduce's attempt is about to rename: nobody is killed, and from the bar on the rename would be refused.
+#[test]
+fn rename_of_a_barred_attempt_is_refused(rt: HostRuntime) {
+    let alloc = rt.alloc();
+    let mut run = started(&rt, alloc, 1);
+    run.calms(&rt, alloc, 1, Stop::BeforeRename);
+    let expires = Event::Expire {
+        generation: 1,
+        node: 0,
+    };
+    assert!(rt; takes(&rt, &mut run.world, expires) == 0);
+    let done = hears(&rt, &run.world, Weather::Calm);
+    assert!(rt; is_done(&done));
+    let bars = Event::Duty {
+        generation: 1,
+        weather: Weather::Calm,
+    };
+    takes(&rt, &mut run.world, bars);
+    let barred = hears(&rt, &run.world, Weather::Calm);
+    assert!(rt; hears_of_a_bar(&barred));
 }

@@ -1,5 +1,6 @@
 //! What the tests begin with: a job of the words of `a b a`, and a run of it.
 
+use crate::events::{start, store_call};
 use mr_container::Wish;
 use mr_event::{Event, Weather, Why};
 use mr_ids::{AppAttempt, AttemptId, JobId, TaskId, TaskKind};
@@ -137,13 +138,26 @@ pub fn started(rt: &impl Abort, alloc: Global, nodes: u32) -> Run {
         next: 0,
         last: None,
     };
-    takes(rt, &mut run.world, Event::Start(1, 0));
+    takes(rt, &mut run.world, start(1));
     run
+}
+
+/// Of bytes that are handed in the same is foreseen without a copy of them.
+pub fn foresees_bytes(
+    rt: &impl Abort,
+    world: &World,
+    event: &Event,
+    foreseen: Result<(), WorldFault>,
+) {
+    if let Event::Computed { container, bytes } = event {
+        assert!(rt; world.foresee_computed(container, bytes) == foreseen);
+    }
 }
 
 /// The event is taken, as was foreseen. Gives how many packets it added, which are the last ones of the bag.
 pub fn takes(rt: &impl Abort, world: &mut World, event: Event) -> usize {
     assert!(rt; world.foresee(&event).is_ok());
+    foresees_bytes(rt, world, &event, Ok(()));
     let before = world.bag().len();
     let length = world.journal().len();
     match world.apply(event) {
@@ -159,6 +173,7 @@ pub fn takes(rt: &impl Abort, world: &mut World, event: Event) -> usize {
 /// The event is not permitted, as was foreseen, and neither journal nor bag grew. Gives the reason.
 pub fn refuses(rt: &impl Abort, world: &mut World, event: Event) -> Why {
     let foreseen = world.foresee(&event);
+    foresees_bytes(rt, world, &event, foreseen);
     let before = world.bag().len();
     let length = world.journal().len();
     match world.apply(event) {
@@ -180,7 +195,14 @@ pub fn computes(rt: &impl Abort, alloc: Global, world: &mut World, c: ContainerI
         Some(Input::Reduce { reduce, .. }) => bytes(rt, alloc, text(reduces, reduce)),
         None => panic!(rt; "it does not compute"),
     };
-    takes(rt, world, Event::Computed(c, made));
+    takes(
+        rt,
+        world,
+        Event::Computed {
+            container: c,
+            bytes: made,
+        },
+    );
 }
 
 /// What the map makes for so many reduces.
@@ -231,11 +253,19 @@ impl Run {
             if stop == Stop::Before(duty) {
                 return false;
             }
-            takes(rt, &mut self.world, Event::Duty(k, Weather::Calm));
+            takes(rt, &mut self.world, store_call(k));
             return true;
         }
         if let Some(task) = self.world.wanted(k) {
-            takes(rt, &mut self.world, Event::LaunchOn(k, task, 0));
+            takes(
+                rt,
+                &mut self.world,
+                Event::LaunchOn {
+                    generation: k,
+                    task,
+                    node: 0,
+                },
+            );
             return true;
         }
         stop != Stop::BeforeStep && self.steps(rt, alloc, stop)
@@ -246,7 +276,13 @@ impl Run {
         for place in self.next..self.world.bag().len() {
             self.next = place + 1;
             if self.world.undeliverable(place).is_none() {
-                takes(rt, &mut self.world, Event::Deliver(place as u64));
+                takes(
+                    rt,
+                    &mut self.world,
+                    Event::Deliver {
+                        packet: place as u64,
+                    },
+                );
                 return true;
             }
         }
@@ -265,7 +301,14 @@ impl Run {
         if self.world.input(&c).is_some() {
             computes(rt, alloc, &mut self.world, c);
         } else {
-            takes(rt, &mut self.world, Event::ContainerStep(c, Weather::Calm));
+            takes(
+                rt,
+                &mut self.world,
+                Event::ContainerStep {
+                    container: c,
+                    weather: Weather::Calm,
+                },
+            );
         }
         true
     }

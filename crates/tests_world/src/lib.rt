@@ -4,9 +4,9 @@
 #[cfg(test)]
 mod calls;
 #[cfg(test)]
-mod crashes;
-#[cfg(test)]
 mod cuts;
+#[cfg(test)]
+mod events;
 #[cfg(test)]
 mod fixtures;
 #[cfg(test)]
@@ -19,3 +19,5 @@ mod restarts;
 mod runs;
 #[cfg(test)]
 mod sweeps;
+#[cfg(test)]
+mod texts;

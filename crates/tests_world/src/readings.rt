@@ -1,8 +1,9 @@
 //! What is read of a world, and a list of events.
 
+use crate::events::{crash, start, store_call};
 use crate::fixtures::{Stop, container, started, task, world};
 use mr_container::Wish;
-use mr_event::{Event, Weather};
+use mr_event::Event;
 use mr_ids::TaskKind;
 use mr_master_model::{DutyName, Phase};
 use mr_world::{Input, Splits};
@@ -20,10 +21,10 @@ fn runs_a_list(rt: HostRuntime) {
     let alloc = rt.alloc();
     let mut world = world(&rt, alloc, 2);
     let mut events = Vec::new(alloc);
-    adds(&rt, &mut events, Event::Start(1, 0));
-    adds(&rt, &mut events, Event::Duty(2, Weather::Calm));
-    adds(&rt, &mut events, Event::Crash(1, 0));
-    adds(&rt, &mut events, Event::Start(2, 0));
+    adds(&rt, &mut events, start(1));
+    adds(&rt, &mut events, store_call(2));
+    adds(&rt, &mut events, crash(1, 0));
+    adds(&rt, &mut events, start(2));
     assert!(rt; world.run(events).is_ok());
     assert!(rt; world.journal().len() == 3);
     assert!(rt; world.newest() == 2);
@@ -43,6 +44,17 @@ fn config_tells_its_job(rt: HostRuntime) {
     assert!(rt; config.reduce_count() == 1 && config.maps() == 1);
     assert!(rt; config.split(0) == Some(b"a b a".as_slice()));
     assert!(rt; config.split(1).is_none());
+}
+
+// A copy of a config is equal to it, and differs from that of a job on fewer nodes.
+#[test]
+fn configs_are_copied_and_compared(rt: HostRuntime) {
+    let alloc = rt.alloc();
+    let world = world(&rt, alloc, 2);
+    let copy = world.config().copy().expect(&rt, "no memory");
+    assert!(rt; copy == *world.config());
+    let other = started(&rt, alloc, 1).world;
+    assert!(rt; copy != *other.config());
 }
 
 #[test]
@@ -72,15 +84,18 @@ fn container_asks(rt: HostRuntime) {
     assert!(rt; world.phase(1) == Some(Phase::Running));
     assert!(rt; world.wanted(1).is_none());
     assert!(rt; world.wish(&c) == Some(Wish::Compute));
+    match world.place(&c) {
+        Some(place) => assert!(rt; place.node == 0 && place.incarnation == 1),
+        None => panic!(rt; "no place"),
+    }
+    assert!(rt; world.place(&container(&rt, 1)).is_none());
     assert!(rt; world.living().expect(&rt, "no memory").as_slice() == [c].as_slice());
     assert!(rt; world.next_living(Some(c)) == Some(c));
-    match world.input(&c) {
-        Some(Input::Map { split, bytes }) => {
-            assert!(rt; split == 0);
-            assert!(rt; bytes == b"a b a".as_slice());
-        }
-        _ => panic!(rt; "no split"),
-    }
+    let split = Input::Map {
+        split: 0,
+        bytes: b"a b a".as_slice(),
+    };
+    assert!(rt; world.input(&c) == Some(split));
     assert!(rt; world.input(&container(&rt, 1)).is_none());
 }
 

@@ -1,5 +1,6 @@
 //! Events that are not permitted: each reason, in order.
 
+use crate::events::{crash, expiry, launch, start, store_call};
 use crate::fixtures::{Run, Stop, bytes, computes, container, refuses, started, takes, task};
 use mr_event::{Event, Weather, Why};
 use mr_ids::{TaskId, TaskKind};
@@ -15,23 +16,23 @@ fn refused_events(rt: HostRuntime) {
     let alloc = rt.alloc();
     let mut world = started(&rt, alloc, 1).world;
     let map = task(TaskKind::Map, 0);
-    assert!(rt; refuses(&rt, &mut world, Event::Start(1, 0)) == Why::WrongGeneration);
-    assert!(rt; refuses(&rt, &mut world, Event::Duty(2, Weather::Calm)) == Why::NoMaster);
-    assert!(rt; refuses(&rt, &mut world, Event::LaunchOn(1, map, 0)) == Why::NotRunning);
-    assert!(rt; refuses(&rt, &mut world, Event::Expire(1, 0)) == Why::NotRunning);
-    assert!(rt; refuses(&rt, &mut world, Event::Deliver(0)) == Why::NoPacket);
-    assert!(rt; refuses(&rt, &mut world, Event::NodeRestart(1)) == Why::NoNode);
-    assert!(rt; refuses(&rt, &mut world, Event::Crash(2, 0)) == Why::NoMaster);
+    assert!(rt; refuses(&rt, &mut world, start(1)) == Why::WrongGeneration);
+    assert!(rt; refuses(&rt, &mut world, store_call(2)) == Why::NoMaster);
+    assert!(rt; refuses(&rt, &mut world, launch(map, 0)) == Why::NotRunning);
+    assert!(rt; refuses(&rt, &mut world, expiry(0)) == Why::NotRunning);
+    assert!(rt; refuses(&rt, &mut world, Event::Deliver { packet: 0 }) == Why::NoPacket);
+    assert!(rt; refuses(&rt, &mut world, Event::NodeRestart { node: 1 }) == Why::NoNode);
+    assert!(rt; refuses(&rt, &mut world, crash(2, 0)) == Why::NoMaster);
     after_its_crash(&rt, world);
 }
 
 // The master crashes: it makes no call, launches nothing and gives no node up. Nothing was told or won.
 fn after_its_crash(rt: &impl Abort, mut world: World) {
     let map = task(TaskKind::Map, 0);
-    takes(rt, &mut world, Event::Crash(1, 0));
-    assert!(rt; refuses(rt, &mut world, Event::Duty(1, Weather::Calm)) == Why::NoMaster);
-    assert!(rt; refuses(rt, &mut world, Event::LaunchOn(1, map, 0)) == Why::NoMaster);
-    assert!(rt; refuses(rt, &mut world, Event::Expire(1, 0)) == Why::NoMaster);
+    takes(rt, &mut world, crash(1, 0));
+    assert!(rt; refuses(rt, &mut world, store_call(1)) == Why::NoMaster);
+    assert!(rt; refuses(rt, &mut world, launch(map, 0)) == Why::NoMaster);
+    assert!(rt; refuses(rt, &mut world, expiry(0)) == Why::NoMaster);
     assert!(rt; world.outcome().is_none());
     assert!(rt; !world.marker().expect(rt, "no memory"));
     assert!(rt;
@@ -51,7 +52,7 @@ fn running(rt: &impl Abort, alloc: Global) -> Run {
 
 // Whether the launch is refused for this reason.
 fn no_launch(rt: &impl Abort, run: &mut Run, task: TaskId, node: u32) -> Why {
-    refuses(rt, &mut run.world, Event::LaunchOn(1, task, node))
+    refuses(rt, &mut run.world, launch(task, node))
 }
 
 #[test]
@@ -61,11 +62,11 @@ fn launches_are_refused_in_order(rt: HostRuntime) {
     let map = task(TaskKind::Map, 0);
     assert!(rt; no_launch(&rt, &mut run, task(TaskKind::Map, 1), 1) == Why::NoTask);
     assert!(rt; no_launch(&rt, &mut run, map, 1) == Why::NoNode);
-    assert!(rt; takes(&rt, &mut run.world, Event::LaunchOn(1, map, 0)) == 1);
+    assert!(rt; takes(&rt, &mut run.world, launch(map, 0)) == 1);
     assert!(rt; no_launch(&rt, &mut run, map, 0) == Why::Task(TaskFault::TooManyLive));
     run.calms(&rt, alloc, 1, Stop::BeforeStep);
-    assert!(rt; refuses(&rt, &mut run.world, Event::Duty(1, Weather::Calm)) == Why::NoDuty);
-    assert!(rt; refuses(&rt, &mut run.world, Event::Expire(1, 1)) == Why::NoNode);
+    assert!(rt; refuses(&rt, &mut run.world, store_call(1)) == Why::NoDuty);
+    assert!(rt; refuses(&rt, &mut run.world, expiry(1)) == Why::NoNode);
 }
 
 // No container of this number lives.
@@ -73,22 +74,36 @@ fn launches_are_refused_in_order(rt: HostRuntime) {
 fn no_container(rt: HostRuntime) {
     let alloc = rt.alloc();
     let mut run = running(&rt, alloc);
-    let step = Event::ContainerStep(container(&rt, 7), Weather::Calm);
+    let step = Event::ContainerStep {
+        container: container(&rt, 7),
+        weather: Weather::Calm,
+    };
     assert!(rt; refuses(&rt, &mut run.world, step) == Why::NoContainer);
-    let computed = Event::Computed(container(&rt, 7), Bytes::new(alloc));
+    let computed = Event::Computed {
+        container: container(&rt, 7),
+        bytes: Bytes::new(alloc),
+    };
     assert!(rt; refuses(&rt, &mut run.world, computed) == Why::NoContainer);
-    let dies = Event::Die(container(&rt, 7));
+    let dies = Event::Die {
+        container: container(&rt, 7),
+    };
     assert!(rt; refuses(&rt, &mut run.world, dies) == Why::NoContainer);
 }
 
 // The first container's step.
 fn step(rt: &impl Abort, weather: Weather) -> Event {
-    Event::ContainerStep(container(rt, 0), weather)
+    Event::ContainerStep {
+        container: container(rt, 0),
+        weather,
+    }
 }
 
 // The first container is handed these bytes.
 fn computed(rt: &impl Abort, alloc: Global, items: &[u8]) -> Event {
-    Event::Computed(container(rt, 0), bytes(rt, alloc, items))
+    Event::Computed {
+        container: container(rt, 0),
+        bytes: bytes(rt, alloc, items),
+    }
 }
 
 // The container is to compute, and takes no other step; bytes that are no block are refused, and then its bytes are taken once.
@@ -115,8 +130,18 @@ fn nobody_hears(rt: HostRuntime) {
     computes(&rt, alloc, &mut run.world, container(&rt, 0));
     let done = run.world.bag().len() as u64;
     assert!(rt; takes(&rt, &mut run.world, step(&rt, Weather::Calm)) == 1);
-    assert!(rt; takes(&rt, &mut run.world, Event::Deliver(done)) == 1);
-    assert!(rt; takes(&rt, &mut run.world, Event::Die(container(&rt, 0))) == 1);
-    let heard = Event::Deliver(done.wrapping_add(1));
+    assert!(rt; takes(&rt, &mut run.world, Event::Deliver { packet: done }) == 1);
+    assert!(rt;
+        takes(
+            &rt,
+            &mut run.world,
+            Event::Die {
+                container: container(&rt, 0)
+            }
+        ) == 1
+    );
+    let heard = Event::Deliver {
+        packet: done.wrapping_add(1),
+    };
     assert!(rt; refuses(&rt, &mut run.world, heard) == Why::NoAddressee);
 }

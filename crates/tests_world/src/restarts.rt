@@ -1,10 +1,11 @@
 //! Nodes that restart.
 
+use crate::events::{crash, launch, start, store_call};
 use crate::fixtures::{Run, Stop, container, started, takes, task};
 use mr_event::{Event, Weather};
 use mr_ids::TaskKind;
 use mr_master_model::DutyName;
-use mr_packet::Packet;
+use mr_packet::{Address, Packet};
 use std::alloc::Global;
 use std::process::Abort;
 
@@ -12,9 +13,9 @@ use std::process::Abort;
 fn reduce_asks(rt: &impl Abort, alloc: Global) -> Run {
     let mut run = started(rt, alloc, 2);
     run.calms(rt, alloc, 1, Stop::Before(DutyName::Flush));
-    takes(rt, &mut run.world, Event::Duty(1, Weather::Calm));
+    takes(rt, &mut run.world, store_call(1));
     let reduce = task(TaskKind::Reduce, 0);
-    takes(rt, &mut run.world, Event::LaunchOn(1, reduce, 1));
+    takes(rt, &mut run.world, launch(reduce, 1));
     run.calms(rt, alloc, 1, Stop::BeforeStep);
     steps(rt, &mut run);
     run.calms(rt, alloc, 1, Stop::BeforeStep);
@@ -24,7 +25,10 @@ fn reduce_asks(rt: &impl Abort, alloc: Global) -> Run {
 // The reduce's container takes a step.
 fn steps(rt: &impl Abort, run: &mut Run) {
     run.last = Some(container(rt, 1));
-    let step = Event::ContainerStep(container(rt, 1), Weather::Calm);
+    let step = Event::ContainerStep {
+        container: container(rt, 1),
+        weather: Weather::Calm,
+    };
     takes(rt, &mut run.world, step);
 }
 
@@ -38,26 +42,37 @@ fn launched_anew(run: &Run) -> bool {
     false
 }
 
-// The node of the map restarts before the fetch. The first launch, delivered again, does nothing; the map runs again in the next incarnation.
+// Whether the reduce's container was told that the output which it asked for is lost.
+fn told_of_the_loss(rt: &impl Abort, run: &Run) -> bool {
+    let reduce = Address::Container(container(rt, 1));
+    for envelope in run.world.bag() {
+        if matches!(&envelope.body, Packet::FetchLost { .. }) && envelope.to == reduce {
+            return true;
+        }
+    }
+    false
+}
+
+// The node of the map restarts before the fetch. The first launch, delivered again, does nothing; the fetch is answered by a loss, and the map is
+// launched in the next incarnation.
 #[test]
-fn node_restart_loses_map_output(rt: HostRuntime) {
+fn output_of_a_restarted_node_is_lost(rt: HostRuntime) {
     let alloc = rt.alloc();
     let mut run = reduce_asks(&rt, alloc);
     assert!(rt; !launched_anew(&run));
-    assert!(rt; takes(&rt, &mut run.world, Event::NodeRestart(0)) == 1);
-    assert!(rt; takes(&rt, &mut run.world, Event::Deliver(0)) == 0);
+    assert!(rt; takes(&rt, &mut run.world, Event::NodeRestart { node: 0 }) == 1);
+    assert!(rt; takes(&rt, &mut run.world, Event::Deliver { packet: 0 }) == 0);
     steps(&rt, &mut run);
     run.calms(&rt, alloc, 1, Stop::Never);
-    assert!(rt; launched_anew(&run));
-    run.succeeded(&rt, 0);
+    assert!(rt; told_of_the_loss(&rt, &run) && launched_anew(&run));
 }
 
 // A node that no living container runs on tells each living master.
 #[test]
 fn masters_are_told_by_generation(rt: HostRuntime) {
     let mut run = started(&rt, rt.alloc(), 2);
-    takes(&rt, &mut run.world, Event::Start(2, 0));
-    assert!(rt; takes(&rt, &mut run.world, Event::NodeRestart(1)) == 2);
-    takes(&rt, &mut run.world, Event::Crash(1, 0));
-    assert!(rt; takes(&rt, &mut run.world, Event::NodeRestart(1)) == 1);
+    takes(&rt, &mut run.world, start(2));
+    assert!(rt; takes(&rt, &mut run.world, Event::NodeRestart { node: 1 }) == 2);
+    takes(&rt, &mut run.world, crash(1, 0));
+    assert!(rt; takes(&rt, &mut run.world, Event::NodeRestart { node: 1 }) == 1);
 }

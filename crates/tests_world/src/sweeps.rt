@@ -1,9 +1,10 @@
 //! Sweeps: a run is cut after each of its events, and goes on in another way.
 
 use crate::cuts::cut;
+use crate::events::{crash, expiry, start, store_call};
 use crate::fixtures::{Run, Stop, begun, container, started, takes};
 use crate::runs::second_attempt;
-use mr_event::{Event, Weather};
+use mr_event::Event;
 use mr_master_model::DutyName;
 use mr_world::World;
 use std::alloc::Global;
@@ -74,16 +75,23 @@ impl Turns {
 
 // Master 1 crashes after the cut, and the next one ends the job.
 fn crashes(rt: &impl Abort, alloc: Global, mut run: Run, kept: usize) -> Run {
-    takes(rt, &mut run.world, Event::Crash(1, kept as u64));
-    takes(rt, &mut run.world, Event::Start(2, 0));
+    takes(rt, &mut run.world, crash(1, kept as u64));
+    takes(rt, &mut run.world, start(2));
     run.calms(rt, alloc, 2, Stop::Never);
     run
 }
 
 // The next master starts after the cut, and ends the job, while master 1 goes on.
 fn is_superseded(rt: &impl Abort, alloc: Global, mut run: Run, kept: usize) -> Run {
-    takes(rt, &mut run.world, Event::Start(2, kept as u64));
-    run.passes(rt, Event::Duty(1, Weather::Calm));
+    takes(
+        rt,
+        &mut run.world,
+        Event::Start {
+            generation: 2,
+            kept: kept as u64,
+        },
+    );
+    run.passes(rt, store_call(1));
     run.calms(rt, alloc, 2, Stop::Never);
     run
 }
@@ -116,8 +124,8 @@ fn recovery_cut_after(rt: &impl Abort, alloc: Global, whole: &World, length: usi
     let world = cut(rt, alloc, 2, whole.journal(), length).world;
     for kept in 0..=tail(rt, &world, 2) {
         let mut run = cut(rt, alloc, 2, whole.journal(), length);
-        takes(rt, &mut run.world, Event::Crash(2, kept as u64));
-        takes(rt, &mut run.world, Event::Start(3, 0));
+        takes(rt, &mut run.world, crash(2, kept as u64));
+        takes(rt, &mut run.world, start(3));
         run.calms(rt, alloc, 3, Stop::Never);
         run.both_succeeded(rt, 0, 0);
     }
@@ -129,8 +137,8 @@ fn recovery_cut_after_each_event(rt: HostRuntime) {
     let alloc = rt.alloc();
     let mut run = both_started(&rt, alloc);
     run.calms(&rt, alloc, 1, Stop::Before(DutyName::Started));
-    takes(&rt, &mut run.world, Event::Crash(1, 0));
-    takes(&rt, &mut run.world, Event::Start(2, 0));
+    takes(&rt, &mut run.world, crash(1, 0));
+    takes(&rt, &mut run.world, start(2));
     let first = run.world.journal().len();
     run.calms(&rt, alloc, 2, Stop::Before(DutyName::Started));
     for length in first..=run.world.journal().len() {
@@ -141,7 +149,7 @@ fn recovery_cut_after_each_event(rt: HostRuntime) {
 // The job of two reduces, whose first master started.
 fn both_started(rt: &impl Abort, alloc: Global) -> Run {
     let mut run = begun(rt, alloc, 2);
-    takes(rt, &mut run.world, Event::Start(1, 0));
+    takes(rt, &mut run.world, start(1));
     run
 }
 
@@ -150,12 +158,24 @@ fn four_died(rt: &impl Abort, alloc: Global) -> Run {
     let mut run = both_started(rt, alloc);
     for _ in 0..2 {
         run.calms(rt, alloc, 1, Stop::Before(DutyName::Flush));
-        takes(rt, &mut run.world, Event::Duty(1, Weather::Calm));
+        takes(rt, &mut run.world, store_call(1));
     }
-    takes(rt, &mut run.world, Event::Die(container(rt, 2)));
+    takes(
+        rt,
+        &mut run.world,
+        Event::Die {
+            container: container(rt, 2),
+        },
+    );
     for number in 3..6 {
         run.calms(rt, alloc, 1, Stop::BeforeStep);
-        takes(rt, &mut run.world, Event::Die(container(rt, number)));
+        takes(
+            rt,
+            &mut run.world,
+            Event::Die {
+                container: container(rt, number),
+            },
+        );
     }
     run
 }
@@ -194,7 +214,7 @@ fn failing_job_cut_after_each_event(rt: HostRuntime) {
 fn expiry_before_each(rt: &impl Abort, alloc: Global, whole: &World) {
     for length in 1..whole.journal().len() {
         let mut run = cut(rt, alloc, 1, whole.journal(), length);
-        run.passes(rt, Event::Expire(1, 0));
+        run.passes(rt, expiry(0));
         run.calms(rt, alloc, 1, Stop::Never);
         assert!(rt; run.world.marker().expect(rt, "no memory"));
         run.shows_the_file(rt);

@@ -5,7 +5,7 @@ use Rattle.mr_names.specs.declared.op.Op.TheVariants as op
 use Rattle.mr_names.specs.Calls as names
 use Rattle.mr_history.specs.declared.fault.HistoryFault.{HistoryFault}
 use Rattle.mr_history.specs.declared.fault.HistoryFault.TheVariants as history_fault
-use Rattle.mr_history.specs.Line.{InRange}
+use Rattle.mr_history.specs.Line.{InRange, fits, suits}
 use Rattle.mr_history.specs.State as history
 use Rattle.mr_history.specs.Calls as segments
 use Rattle.mr_master_model.specs.declared.store.StoreCall.{StoreCall}
@@ -78,6 +78,11 @@ passes p k f c = is_made f && finds_full p.names p.history k c
 abbrev pub IsRanged : StoreCall → Type 0
 IsRanged (call.Append r) = InRange r
 IsRanged _ = Unit
+
+-- a record that is appended has a line in its segment's version
+abbrev pub IsSuited : history.State → ℕ → StoreCall → Type 0
+IsSuited h k (call.Append r) = (fits r ≡ true) × (suits (segments.segment h k).version r ≡ true)
+IsSuited h k _ = Unit
 
 -- ---- what is left once the call was made, or was not
 

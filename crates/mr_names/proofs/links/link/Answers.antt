@@ -9,8 +9,8 @@ returns-in_err-insert-in-Some-clause-err c =
     let was = sym c.get_mut.ensures.value ∙ ap option_copied_mut c.in-Some.is in
     on_err _ _ (graph_same _ _ c.args.at c.in-Some.place.now _ was (Updates-with_value _ _ _ (search (rules, was))) refl c.in_err-insert-in-Some.ensures.err)
 
-pub returns-in_ok-insert-in-Some-clause-ok : goal.returns-in_ok-insert-in-Some-clause-ok
-returns-in_ok-insert-in-Some-clause-ok c =
+pub returns-clause-ok : goal.returns-clause-ok
+returns-clause-ok c =
     let was = sym c.get_mut.ensures.value ∙ ap option_copied_mut c.in-Some.is in
     edge_set _ _ c.args.at c.in-Some.place.now _ c.args.name _ was (Updates-with_value _ _ _ (search (rules, was))) refl
     c.in_ok-insert-in-Some.ensures.updates.1 (λ other apart. c.in_ok-insert-in-Some.ensures.updates.2 other (name_apart c.args.name other apart))

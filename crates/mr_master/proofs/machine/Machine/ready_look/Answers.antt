@@ -13,12 +13,15 @@ use Rattle.mr_master.proofs.machine.Machine.ready_look.Goals as goal
 work-is : (c : goal.In_ok-ready) (w : Setting) (s : Seen) → Keeps c.args.self.now w s → c.look.result ≡ work_after w s c.args.answer.now s.work
 work-is c w s keeps =
     let k = subst (λ (x : Master). Keeps x w s) (sym c.self.view_is) keeps in
-    c.look.ensures.moved w s (ap (λ (m : Master). is_look m.work) c.self.view_is ∙ c.requires) ∙ ap (λ (x : Work). work_after w s c.args.answer.now x) k.work
+    c.look.ensures.moved w s ∙ ap (λ (x : Work). work_after w s c.args.answer.now x) k.work
+
+pub look-requires : goal.look-requires
+look-requires c = ap (λ (m : Master). is_look m.work) c.self.view_is ∙ c.requires
 
 pub returns : goal.returns
 returns c =
     prepares-as
     (λ w s keeps. quiet-sends w s c.args.answer.now c.look.result (outcome_of w c.look.result) (look-changes w s c.args.answer.now s.work (ap (λ (x : Work). is_look x) (sym keeps.work) ∙ c.requires)).1 (work-is c w s keeps) refl)
     (λ w s keeps. quiet-seen w s c.args.answer.now c.look.result (look-changes w s c.args.answer.now s.work (ap (λ (x : Work). is_look x) (sym keeps.work) ∙ c.requires)).0 (work-is c w s keeps)
-    (c.look.ensures.quiet (ap (λ (m : Master). is_look m.work) c.self.view_is ∙ c.requires)))
+    c.look.ensures.quiet)
     c.in_ok-ready.ensures

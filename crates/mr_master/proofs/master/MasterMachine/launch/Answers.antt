@@ -6,6 +6,9 @@ use Rattle.mr_master.proofs.Past_stays.{passed-still}
 use Rattle.mr_master.proofs.Entering.{stands-launched, sent-launched}
 use Rattle.mr_master.proofs.master.MasterMachine.launch.Goals as goal
 
+pub launch-requires : goal.launch-requires
+launch-requires c = (c.self.invariant.0, c.self.invariant.1)
+
 pub invariant_of-self-2 : goal.invariant_of-self-2
 invariant_of-self-2 c =
     passed-still c.self.inside.machine c.launch.new.self (Launches c.args.task c.args.node) c.self.inside.passed

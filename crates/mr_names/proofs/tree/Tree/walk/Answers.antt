@@ -17,8 +17,8 @@ loop-next-init c =
     (subst (Visits c.self.inside.nodes c.self.inside.root c.self.inside.held.0 c.self.inside.held.1 []) (sym c.in_ok-ahead.ensures.items)
     (visits_first c.self.inside.nodes c.self.inside.root c.self.inside.held.0 c.self.inside.held.1 _ c.root.ensures refl))
 
-pub returns-in_default-get : goal.returns-in_default-get
-returns-in_default-get c =
+pub unreachable-requires : goal.unreachable-requires
+unreachable-requires c =
     absurd (true≢false (sym (visits_live c.self.inside.nodes c.self.inside.root c.self.inside.held.0 c.self.inside.held.1 c.loop-next.found c.loop-next.ahead.items c.pop.new.self.items c.in-Some.next c.loop-next.invariant c.in-Some.ensures.items)
     ∙ ap (λ o. is_some (option_map (λ (p : Place). p.node) o)) (sym c.get.ensures ∙ ap option_copied c.in_default-get.is)))
 

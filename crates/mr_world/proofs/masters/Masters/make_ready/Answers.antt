@@ -1,13 +1,10 @@
 use Rattle.std.proofs.Common.{arith}
 use Rattle.mr_world.proofs.Mastering.{counted}
-use Rattle.mr_world.proofs.Attending.{absent, made, kept-if}
+use Rattle.mr_world.proofs.Attending.{made, kept-if}
 use Rattle.mr_world.proofs.masters.Masters.make_ready.Goals as goal
 
 pub put-requires : goal.put-requires
 put-requires c = let n = counted c.args.self.now c.args.k c.requires in record { started = (n.0, omega (arith, n.1, c.take.ensures.left.count)) }
-
-pub returns-in_default-clause-still : goal.returns-in_default-clause-still
-returns-in_default-clause-still c = absent _ c.requires c.in_default.ensures.taken
 
 pub returns-clause-ready : goal.returns-clause-ready
 returns-clause-ready c = made c.args.self.now c.take.new.self c.put.new.self c.args.k c.args.answer c.in-Some.machine c.ready-made.new.self c.ready-made.result c.in-Some.ensures.taken c.take.ensures.left c.put.ensures

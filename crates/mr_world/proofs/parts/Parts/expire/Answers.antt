@@ -1,14 +1,10 @@
 use Rattle.std.proofs.Common.{sym, ap, ◌∙◌, ◌++◌, arith}
 use Rattle.mr_world.proofs.Mastering.{counted}
-use Rattle.mr_world.proofs.Launching.{missing}
 use Rattle.mr_world.proofs.Expiring.{expired, not-expired, ok-part, err-part}
 use Rattle.mr_world.proofs.parts.Parts.expire.Goals as goal
 
 pub put-requires : goal.put-requires
 put-requires c = let n = counted c.args.self.now.masters c.args.k c.in_ok-packets.ensures.alive in record { started = (n.0, omega (arith, n.1, c.take.ensures.left.count)) }
-
-pub returns-in_default-clause-tries : goal.returns-in_default-clause-tries
-returns-in_default-clause-tries c = missing _ c.in_ok-packets.ensures.alive c.in_default.ensures.taken
 
 pub returns-in-Err-clause-tries : goal.returns-in-Err-clause-tries
 returns-in-Err-clause-tries c = not-expired c.args.self.now c.args.k c.args.node c.take.new.self c.put.new.self c.reserve.new.bag c.in-Some.machine c.expire-expired.new.self

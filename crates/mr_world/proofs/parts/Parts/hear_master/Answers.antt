@@ -1,19 +1,15 @@
 use Rattle.std.proofs.Common.{sym, ap, ◌∙◌, ◌++◌, slice_get, arith}
 use Rattle.mr_world.proofs.Mastering.{counted}
-use Rattle.mr_world.proofs.Launching.{missing}
 use Rattle.mr_world.proofs.Expiring.{ok-part, err-part}
 use Rattle.mr_world.proofs.Hearing_masters.{heard, not-heard}
 use Rattle.mr_world.proofs.parts.Parts.hear_master.Goals as goal
 
-pub hear-heard-requires : goal.hear-heard-requires
-hear-heard-requires c = λ e at w past stands. c.deref.ensures.value
+pub hear-heard-requires-clause-heard : goal.hear-heard-requires-clause-heard
+hear-heard-requires-clause-heard c = λ e at w past stands. c.deref.ensures.value
     ∙ c.in_ok-packets.ensures.sent c.in-Some.machine e (sym c.in-Some.ensures.taken) (sym (ap (λ es. slice_get es c.args.i) c.reserve.ensures.kept) ∙ at) w past stands
 
 pub put-requires : goal.put-requires
 put-requires c = let n = counted c.args.self.now.masters c.args.k c.in_ok-packets.ensures.alive in record { started = (n.0, omega (arith, n.1, c.take.ensures.left.count)) }
-
-pub returns-in_default-clause-tries : goal.returns-in_default-clause-tries
-returns-in_default-clause-tries c = missing _ c.in_ok-packets.ensures.alive c.in_default.ensures.taken
 
 pub returns-in-Err-clause-tries : goal.returns-in-Err-clause-tries
 returns-in-Err-clause-tries c = not-heard c.args.self.now c.args.i c.args.k c.take.new.self c.put.new.self c.reserve.new.bag c.in-Some.machine c.hear-heard.new.machine

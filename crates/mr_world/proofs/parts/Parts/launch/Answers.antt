@@ -1,13 +1,10 @@
 use Rattle.std.proofs.Common.{ap, ◌∙◌, ◌++◌, ◌∷◌, [], arith}
 use Rattle.mr_world.proofs.Mastering.{counted}
-use Rattle.mr_world.proofs.Launching.{launched, not-launched, missing}
+use Rattle.mr_world.proofs.Launching.{launched, not-launched}
 use Rattle.mr_world.proofs.parts.Parts.launch.Goals as goal
 
 pub put-requires : goal.put-requires
 put-requires c = let n = counted c.args.self.now.masters c.args.k c.in_ok-check_launch.ensures.alive in record { started = (n.0, omega (arith, n.1, c.take.ensures.left.count)) }
-
-pub returns-in_default-clause-tries : goal.returns-in_default-clause-tries
-returns-in_default-clause-tries c = missing _ c.in_ok-check_launch.ensures.alive c.in_default.ensures.taken
 
 pub returns-in-Err-clause-tries : goal.returns-in-Err-clause-tries
 returns-in-Err-clause-tries c = not-launched c.args.self.now c.args.k c.args.task c.args.node c.take.new.self c.put.new.self c.reserve.new.bag c.in-Some.machine c.launch-launched.new.self c.in-Err.field-0 c.launch-launched.result

@@ -13,7 +13,7 @@ returns-in_err-took-clause-headline c = holds-still c.args.self.now _
 
 pub invariant_of-self-2 : goal.invariant_of-self-2
 invariant_of-self-2 c = keeps-on c.self.inside.parts c.take.new.parts c.self.inside.journal.items c.make_room.new.journal.items c.push_reserved.new.self.items c.args.event c.self.invariant c.make_room.ensures.kept c.push_reserved.ensures.items
-    c.in_ok-make_room.ensures.few c.in_ok-took.ensures.config c.in_ok-took.ensures.tries
+    c.in_ok-make_room.ensures.few c.in_ok-took.ensures.config c.in_ok-took.ensures.tries c.in_ok-took.ensures.history
 
 pub returns-clause-applies : goal.returns-clause-applies
 returns-clause-applies c = takes-on c.self.inside.parts c.take.new.parts c.args.self.now c.self.inside.journal.items c.make_room.new.journal.items c.push_reserved.new.self.items c.args.event c.in_ok-took.took c.self.view_is c.self.invariant

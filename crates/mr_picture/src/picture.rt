@@ -1,0 +1,73 @@
+//! `play` with a picture of the run in place of its text.
+ghost use Rattle.std.specs.Prelude.{◌≡◌, IfOk, IfErr};
+ghost use Rattle.mr_commands.specs.declared.fault.SimFault.TheVariants.{NoMemory};
+ghost use Rattle.mr_play.specs.Shown.{Draws};
+ghost use Rattle.mr_play.specs.Text.{PlayFails};
+ghost use Rattle.mr_world.specs.Limits.{within};
+
+mod draw;
+mod drawing;
+mod lanes;
+mod render;
+mod rows;
+mod signs;
+mod svg;
+
+use crate::picture::draw::drawing_of;
+use crate::picture::render::picture_of;
+use mr_commands::SimFault;
+use mr_play::{Player, played, print_world};
+use std::alloc::{AllocError, Global};
+
+// What came of the run, in the lines of `play`, without the files. The marker and the outcome come first, since the others may be cut.
+fn ending_of(alloc: Global, player: &Player) -> Result<Vec<u8>, SimFault>
+    ensures { IfErr result (λ e. e ≡ SimFault.NoMemory) }
+{
+    let mut text = Vec::new(alloc);
+    text.extend_from_slice(&player.refused)?;
+    print_world(&mut text, &player.world)?;
+    let mut ending = Vec::new(alloc);
+    put_lines(&mut ending, &text, true)?;
+    put_lines(&mut ending, &text, false)?;
+    Ok(ending)
+}
+
+// The lines before the files: those that are of the whole job, or all others.
+fn put_lines(out: &mut Vec<u8>, text: &[u8], of_job: bool) -> Result<(), AllocError> {
+    for line in text.split(|byte| *byte == b'\n') {
+        if line.starts_with(b"== ") {
+            break;
+        }
+        if is_of_job(line) == of_job {
+            out.extend_from_slice(line)?;
+            out.extend_from_slice(b"\n")?;
+        }
+    }
+    Ok(())
+}
+
+// Whether the line tells the marker or the outcome.
+fn is_of_job(line: &[u8]) -> bool {
+    line.starts_with(b"marker ") || line.starts_with(b"outcome ")
+}
+
+// The picture of what a player played.
+fn drawn(alloc: Global, player: &Player) -> Result<Vec<u8>, SimFault>
+    ensures { IfErr result (λ e. e ≡ SimFault.NoMemory) }
+{
+    let ending = ending_of(alloc, player)?;
+    let drawing = drawing_of(alloc, &player.world, ending)?;
+    let picture = picture_of(alloc, &drawing)?;
+    Ok(picture)
+}
+
+#[tactic(auto, using(mr_play::proofs::Showing::draws))]
+/// The picture of what `play` plays, with the faults of `play`.
+pub fn play_drawn(alloc: Global, input: &[u8]) -> Result<Vec<u8>, SimFault>
+    ensures ok { IfOk result (λ v. Draws within input.now) }
+    ensures fault { IfErr result (PlayFails within input.now) }
+{
+    let player = played(alloc, input)?;
+    let picture = drawn(alloc, &player)?;
+    Ok(picture)
+}

@@ -1,0 +1,241 @@
+//! A run is drawn: its events happen once more, and each leaves a row, and an arrow for each packet.
+ghost use Rattle.std.specs.Prelude.{◌≡◌, IfErr};
+ghost use Rattle.mr_commands.specs.declared.fault.SimFault.TheVariants.{NoMemory};
+
+use crate::picture::drawing::{
+    Arrow, Drawing, End, Lane, MOST_ROWS, Row, Sign, Tone, container_lane, lane_of, master_lane,
+};
+use crate::picture::lanes::{end_at, lanes_of, live};
+use crate::picture::rows::{
+    Facts, event_of, facts_of, name_label, put_consequences, put_detail, sign_of,
+};
+use crate::trace::opened;
+use crate::trace_words::{put_address, put_packet};
+use mr_commands::SimFault;
+use mr_event::Event;
+use mr_packet::{Address, Envelope, Packet};
+use mr_world::World;
+use std::alloc::{AllocError, Global};
+
+/// The drawing of the events of a world's journal, with what came of them.
+pub fn drawing_of(alloc: Global, world: &World, ending: Vec<u8>) -> Result<Drawing, SimFault>
+    ensures { IfErr result (λ e. e ≡ SimFault.NoMemory) }
+{
+    let drawing = shown(alloc, world, ending)?;
+    Ok(drawing)
+}
+
+fn shown(alloc: Global, world: &World, ending: Vec<u8>) -> Result<Drawing, AllocError> {
+    let journal = world.journal();
+    let mut drawing = blank(alloc, &shown_part(alloc, world)?, ending)?;
+    drawing.more = journal.len().saturating_sub(MOST_ROWS);
+    let mut again = begun(alloc, world)?;
+    live(&mut drawing.lanes, &again, 0, End::Over);
+    for event in journal.iter().take(MOST_ROWS) {
+        add(alloc, &mut drawing, &mut again, journal, event)?;
+    }
+    Ok(drawing)
+}
+
+// A world at its beginning, of the config of this one.
+fn begun(alloc: Global, world: &World) -> Result<World, AllocError> {
+    match opened(alloc, world.config()) {
+        Ok(world) => Ok(world),
+        Err(_) => Err(AllocError),
+    }
+}
+
+// A world in which the events that are shown have happened.
+fn shown_part(alloc: Global, world: &World) -> Result<World, AllocError> {
+    let mut part = begun(alloc, world)?;
+    for event in world.journal().iter().take(MOST_ROWS) {
+        happen(&mut part, event)?;
+    }
+    Ok(part)
+}
+
+// An event of the journal happens once more.
+fn happen(world: &mut World, event: &Event) -> Result<(), AllocError> {
+    match world.apply(event.copy()?) {
+        Ok(_) => Ok(()),
+        Err(_) => Err(AllocError),
+    }
+}
+
+// A drawing with the lanes of a world, and nothing in them.
+fn blank(alloc: Global, world: &World, ending: Vec<u8>) -> Result<Drawing, AllocError> {
+    let mut job = Vec::new(alloc);
+    world.config().job.write(&mut job)?;
+    Ok(Drawing {
+        job,
+        lanes: lanes_of(alloc, world)?,
+        rows: Vec::new(alloc),
+        arrows: Vec::new(alloc),
+        repeats: Vec::new(alloc),
+        more: 0,
+        ending,
+    })
+}
+
+// The event happens, and is drawn.
+fn add(
+    alloc: Global,
+    drawing: &mut Drawing,
+    world: &mut World,
+    journal: &[Event],
+    event: &Event,
+) -> Result<(), AllocError> {
+    let place = drawing.rows.len();
+    let end = end_at(world, event);
+    let before = facts_of(world, event)?;
+    let mut row = row_of(alloc, &drawing.lanes, world, event)?;
+    let first = world.bag().len();
+    row.leftwards = arrive(drawing, event, place)?;
+    happen(world, event)?;
+    live(&mut drawing.lanes, world, place, end);
+    send(drawing, row.lane, place, world, first)?;
+    put_lost(&mut row.detail, world, journal, first)?;
+    let after = facts_of(world, event)?;
+    finish(&mut row, event, &before, &after)?;
+    drawing.rows.push(row)?;
+    Ok(())
+}
+
+// The row of an event, as far as it can be told before the event.
+fn row_of(alloc: Global, lanes: &[Lane], world: &World, event: &Event) -> Result<Row, AllocError> {
+    let mut row = Row {
+        lane: actor_of(lanes, world, event),
+        other: other_of(lanes, event),
+        words: event_of(alloc, world, event)?,
+        leftwards: false,
+        label: name_label(alloc, world, event)?,
+        note: Vec::new(alloc),
+        detail: Vec::new(alloc),
+        sign: Sign::Dot,
+    };
+    put_detail(&mut row.detail, world, event)?;
+    Ok(row)
+}
+
+// What can be told only when it has happened.
+fn finish(row: &mut Row, event: &Event, before: &Facts, after: &Facts) -> Result<(), AllocError> {
+    row.sign = sign_of(event, before, after);
+    put_consequences(&mut row.note, row.sign, event, before, after)
+}
+
+// The lane of the one who acts.
+fn actor_of(lanes: &[Lane], world: &World, event: &Event) -> Option<usize> {
+    match event {
+        Event::Start { generation: k, .. }
+        | Event::Crash { generation: k, .. }
+        | Event::Duty { generation: k, .. }
+        | Event::LaunchOn { generation: k, .. }
+        | Event::Expire { generation: k, .. } => master_lane(lanes, *k),
+        Event::NodeRestart { node: n } => lane_of(lanes, &Address::Node(*n)),
+        Event::ContainerStep { container: c, .. }
+        | Event::Computed { container: c, .. }
+        | Event::Die { container: c } => container_lane(lanes, c),
+        Event::Deliver { packet: i } => match world.bag().get(*i as usize) {
+            Some(envelope) => lane_of(lanes, &envelope.to),
+            None => None,
+        },
+    }
+}
+
+// The lane of the node that is given up.
+fn other_of(lanes: &[Lane], event: &Event) -> Option<usize> {
+    match event {
+        Event::Expire { node: n, .. } => lane_of(lanes, &Address::Node(*n)),
+        _ => None,
+    }
+}
+
+// The packet that the event delivers arrives in this row, for the first time or once more. Tells whether it comes from the right.
+fn arrive(drawing: &mut Drawing, event: &Event, row: usize) -> Result<bool, AllocError> {
+    let Event::Deliver { packet: i } = event else {
+        return Ok(false);
+    };
+    let Some(arrow) = drawing.arrows.get_mut(*i as usize) else {
+        return Ok(false);
+    };
+    let leftwards = arrow.to < arrow.from;
+    if arrow.delivered.is_none() {
+        arrow.delivered = Some(row);
+        return Ok(leftwards);
+    }
+    let mut repeat = *arrow;
+    repeat.delivered = Some(row);
+    drawing.repeats.push(repeat)?;
+    Ok(leftwards)
+}
+
+// An arrow for each packet from this place of the bag on, from a lane and a row.
+fn send(
+    drawing: &mut Drawing,
+    from: Option<usize>,
+    row: usize,
+    world: &World,
+    first: usize,
+) -> Result<(), AllocError> {
+    for envelope in world.bag().iter().skip(first) {
+        let arrow = Arrow {
+            from,
+            sent: row,
+            to: lane_of(&drawing.lanes, &envelope.to),
+            delivered: None,
+            tone: tone_of(&envelope.body),
+        };
+        drawing.arrows.push(arrow)?;
+    }
+    Ok(())
+}
+
+fn tone_of(packet: &Packet) -> Tone {
+    match packet {
+        Packet::Answer { yes: true, .. } => Tone::Yes,
+        Packet::Answer { yes: false, .. } => Tone::No,
+        _ => Tone::Plain,
+    }
+}
+
+// The packets from this place of the bag on whose delivery is not drawn.
+fn put_lost(
+    out: &mut Vec<u8>,
+    world: &World,
+    journal: &[Event],
+    first: usize,
+) -> Result<(), AllocError> {
+    for (place, envelope) in world.bag().iter().enumerate().skip(first) {
+        if let Some(words) = undrawn_words(journal, place) {
+            put_undrawn(out, words, envelope)?;
+        }
+    }
+    Ok(())
+}
+
+fn put_undrawn(out: &mut Vec<u8>, words: &[u8], envelope: &Envelope) -> Result<(), AllocError> {
+    if !out.is_empty() {
+        out.extend_from_slice(b"; ")?;
+    }
+    out.extend_from_slice(words)?;
+    put_address(out, &envelope.to)?;
+    out.extend_from_slice(b": ")?;
+    put_packet(out, &envelope.body)
+}
+
+// What is said of the packet at this place where its delivery is not drawn: no event of the whole run delivers it, or only one
+// behind those that are drawn.
+fn undrawn_words(journal: &[Event], place: usize) -> Option<&'static [u8]> {
+    match journal.iter().position(|event| delivers(event, place)) {
+        None => Some(b"not delivered to "),
+        Some(row) if row < MOST_ROWS => None,
+        Some(_) => Some(b"delivered later to "),
+    }
+}
+
+fn delivers(event: &Event, place: usize) -> bool {
+    match event {
+        Event::Deliver { packet: i } => *i == place as u64,
+        _ => false,
+    }
+}

@@ -1,0 +1,11 @@
+pub mod Calming
+pub mod Calmly
+pub mod Coming
+pub mod Honest
+pub mod Players
+pub mod Playing
+pub mod Plays
+pub mod Rows
+pub mod Showing
+pub mod Working
+pub mod WorldText

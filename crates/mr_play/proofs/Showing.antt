@@ -1,0 +1,53 @@
+-- What is shown beside what is printed.
+use Rattle.std.proofs.Common.{◌≡◌, ℕ, suc, List, ◌++◌, Ok, refl, sym, ap, subst, ◌∙◌, append_assoc}
+use Rattle.mr_history.specs.Reading.{records_of}
+use Rattle.mr_script.specs.declared.command.Command.{Command}
+use Rattle.mr_script.specs.Script.{AreCommands}
+use Rattle.mr_model.specs.World.{World}
+use Rattle.mr_world.specs.Journal.{run_of}
+use Rattle.mr_world.specs.Limits.{within}
+use Rattle.mr_play.specs.declared.shown.Shown.{Shown}
+use Rattle.mr_play.specs.declared.player.Player.{Player}
+use Rattle.mr_commands.specs.declared.job.submission.Submission.{Submission}
+use Rattle.mr_commands.specs.job.Text.{submission_of}
+use Rattle.mr_play.specs.Text.{job_line, script_lines, world_text}
+use Rattle.mr_play.specs.inner.Player.{state_in}
+use Rattle.mr_play.specs.inner.PlaySteps.{HasPlayed}
+use Rattle.mr_play.specs.Shown.{AddsSegments, Draws, HasPrinted, HasText, IsHistory, IsSegment, Shows, segment_text, text_in}
+
+-- one segment more was written
+pub adds-one : (w : World) (n k : ℕ) (old mid new bytes : List ℕ) → k ≡ suc n → AddsSegments w n old mid → records_of bytes ≡ (w.history k).stable → new ≡ mid ++ segment_text k bytes → AddsSegments w k old new
+adds-one w n k old mid new bytes is (more, are, so) tells written =
+    let text = segment_text k bytes in
+    subst (λ j. AddsSegments w j old new) (sym is)
+    (more ++ text, (more, text, are, subst (λ j. IsSegment w j text) is (record { bytes = bytes; tells = tells; is = refl }), refl), written ∙ ap (λ xs. xs ++ text) so ∙ append_assoc old more text)
+
+-- what is printed of a player that has played what an input says
+pub printed : (input : List ℕ) (job : Submission) (commands : List (ℕ × Command)) (p : Player) → submission_of (job_line input) ≡ Ok job → AreCommands job.id 2 (script_lines input) commands → HasPlayed job commands p → HasPrinted input p
+printed input job commands p said read h = record {
+  prints = record {
+    job = job;
+    said = said;
+    commands = commands;
+    read = read;
+    left = state_in p;
+    comes = h.comes;
+    is = ap (λ cfg. p.refused.items ++ world_text cfg (run_of cfg p.world.events)) h.config;
+  };
+  cluster = ap (λ cfg. run_of cfg p.world.events) (sym h.config);
+}
+
+pub shows : (shown : Shown) (input text : List ℕ) (p : Player) → HasPrinted input p → HasText p shown text → Shows within shown input text
+shows shown input text p is h = record {
+  before = h.before;
+  printed = text_in p;
+  behind = h.behind;
+  untraced = h.untraced;
+  plain = h.plain;
+  prints = is.prints;
+  history = λ asked. subst (λ (w : World). IsHistory w h.behind) (sym is.cluster) (h.history asked);
+  is = h.is;
+}
+
+pub draws : (input : List ℕ) (p : Player) → HasPrinted input p → Draws within input
+draws input p is = (text_in p, is.prints)

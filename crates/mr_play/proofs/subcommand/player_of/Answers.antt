@@ -1,0 +1,13 @@
+use Rattle.std.proofs.Common.{◌∙◌, sym}
+use Rattle.mr_play.proofs.Plays.{from-begin, full-exit}
+use Rattle.mr_play.proofs.subcommand.player_of.Goals as goal
+
+pub returns-in_err-play-clause-full : goal.returns-in_err-play-clause-full
+returns-in_err-play-clause-full c =
+    let begins = from-begin c.args.submission c.args.commands.items c.in_ok-player.player c.in_ok-player.ensures.job c.in_ok-player.ensures.config c.in_ok-player.ensures.state in
+    full-exit c.from_residual-in_err-play.result c.in_err-play.field-0.0 c.from_residual-in_err-play.ensures.1 (λ none. sym begins ∙ none) c.in_err-play.ensures
+
+pub returns-clause-played : goal.returns-clause-played
+returns-clause-played c =
+    let begins = from-begin c.args.submission c.args.commands.items c.in_ok-player.player c.in_ok-player.ensures.job c.in_ok-player.ensures.config c.in_ok-player.ensures.state in
+    record { config = c.in_ok-play.ensures.same.config ∙ c.in_ok-player.ensures.config; comes = sym begins ∙ c.in_ok-play.ensures.state }

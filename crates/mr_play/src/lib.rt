@@ -1,0 +1,52 @@
+//! The subcommand `play`: a job text with a script of a run is played in `mr_world`'s `World`, and what came of it is printed.
+//!
+//! # What is proved
+//!
+//! **What `play` prints** (`play`, for every input): exactly the text of the definitions (`PrintsPlay` of `specs/Text`): the lines of refused events, and then
+//! the winners, the marker, the outcome and the visible files of the cluster that is the run, in `mr_model`, of the events that the script and its
+//! calms make (`specs/Played`). The first bad key of the job text is told, else the first bad line of the script, else `Full` exactly where there is no such
+//! run, since an event or a work passes a limit; an allocation failure may come at any of these (`PlayFails`). What a container computes is what the
+//! job's definition makes of its input (`computed`).
+//!
+//! **A player** (`played`): a job's world in which the script was played; its text is what `play` prints, and its world is the cluster of which it is
+//! printed (`HasPrinted`). The crate above shows more of it.
+//!
+//! **What stands beside the text** (`shown_text`): something before it only where a trace is asked for, and the history behind it only where
+//! that is (`HasText`, and so `Shows`): for each generation that was started, in order, its head line `== history K LENGTH` and as many bytes,
+//! whose records are those that are stable in its segment.
+//!
+//! **The events of every script are faithful** (`scripts_are_faithful`): a script has no words for bytes, so whatever is handed in is what the job's
+//! definition gives. So what the headline says of sequential files holds of every run that `play` makes.
+//!
+//! Laws of these definitions: an input has at most one text, and none where its job text or a line
+//! is bad or a limit is passed (`one_play_text`). Whatever commands follow others, each winner stays, and once the marker is there all
+//! that a reader sees stays (`scripts_go_on`, from the headline). What a calm makes next is always permitted (`calms_are_permitted`, for
+//! jobs that keep their laws). The names that a calm can stop before are those of duties and wishes,
+//! `launch` and `step` (`names_are_of_duties_and_wishes`). Four small scripts are worked out (`played_rows`).
+//!
+//! Only tested: which line of a script made which events (`Source`, `source_of`), which a trace tells.
+#![tactic(auto)]
+
+mod calm;
+mod event_names;
+mod faithful;
+mod histories;
+mod laws;
+mod player;
+mod refused;
+mod shown;
+mod sources;
+mod subcommand;
+mod works;
+mod world_text;
+
+pub use event_names::{duty_event, name_word, wish_event};
+pub use faithful::scripts_are_faithful;
+pub use laws::{
+    calms_are_permitted, names_are_of_duties_and_wishes, one_play_text, played_rows, scripts_go_on,
+};
+pub use player::Player;
+pub use shown::{Shown, shown_text};
+pub use sources::{Source, Stretch, source_of};
+pub use subcommand::{play, played};
+pub use world_text::print_world;

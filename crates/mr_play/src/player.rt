@@ -1,0 +1,201 @@
+//! A script that is played: a world, and how far the script is.
+ghost use Rattle.std.specs.Prelude.{◌≡◌, [], ◌∷◌, Some, OnOk, IfOk, IfErr};
+ghost use Rattle.mr_commands.specs.declared.fault.SimFault.TheVariants.{NoMemory};
+ghost use Rattle.mr_play.specs.Text.{config_of, job_as, played_of};
+ghost use Rattle.mr_play.specs.Played.{begun, computing, made, obeyed, played, stepped_by};
+ghost use Rattle.mr_play.specs.inner.Player.{cluster_in, state_in, Goes, IsEvent, Applies};
+ghost use Rattle.mr_commands.specs.job.Submission.{IsWithinLimits};
+ghost use Rattle.mr_world.specs.Limits.{within};
+
+use crate::refused::print_refused;
+use crate::sources::{Source, Stretch};
+use crate::works::computed;
+use mr_commands::{JobKind, SimFault, Submission};
+use mr_event::{Event, Why};
+use mr_packet::ContainerId;
+use mr_script::Command;
+use mr_world::{Config, World, WorldFault};
+use std::alloc::{AllocError, Global};
+
+/// A world in which a script happens.
+#[derive(Drop)]
+pub struct Player {
+    /// What the job computes.
+    pub(crate) job: JobKind,
+    pub world: World,
+    /// How many packets of the bag the calms have delivered or passed over.
+    pub(crate) cursor: usize,
+    /// The container that a calm or the script stepped last.
+    pub(crate) stepped: Option<ContainerId>,
+    /// The lines of refused events.
+    pub refused: Vec<u8>,
+    /// Which line of the script made which events.
+    pub stretches: Vec<Stretch>,
+}
+
+impl Player {
+    /// The opening world of a job.
+    pub(crate) fn new(alloc: Global, submission: Submission) -> Result<Player, SimFault>
+        requires { IsWithinLimits submission }
+        ensures job { IfOk result (λ player. player.job ≡ submission.job) }
+        ensures config { IfOk result (λ player. player.world.config ≡ config_of submission) }
+        ensures state { IfOk result (λ player. state_in player ≡ begun) }
+        ensures memory { IfErr result (λ fault. fault ≡ SimFault.NoMemory) }
+    {
+        let job = submission.job;
+        let world = open_world(alloc, submission)?;
+        Ok(Player {
+            job,
+            world,
+            cursor: 0,
+            stepped: None,
+            refused: Vec::new(alloc),
+            stretches: Vec::new(alloc),
+        })
+    }
+
+    /// Plays commands in turn, each with the number of its line.
+    pub(crate) fn play(
+        &mut self,
+        alloc: Global,
+        commands: Vec<(usize, Command)>,
+    ) -> Result<(), SimFault>
+        ensures { Goes self.old (played (job_as self.old.job) self.old.world.config (within self.old.world.config) commands.items (state_in self.old)) result self.new }
+    {
+        for (line, command) in commands {
+            self.play_line(alloc, line, command)?;
+        }
+        Ok(())
+    }
+
+    /// Plays the command of a line, and notes which events it made.
+    fn play_line(&mut self, alloc: Global, line: usize, command: Command) -> Result<(), SimFault>
+        ensures { Goes self.old (obeyed (job_as self.old.job) self.old.world.config (within self.old.world.config) line command (state_in self.old)) result self.new }
+    {
+        let source = Source {
+            line: line as u64,
+            is_calm: matches!(command, Command::Calm(..)),
+        };
+        self.carry_out(alloc, line, command)?;
+        self.note(source)?;
+        Ok(())
+    }
+
+    /// Carries out one command.
+    fn carry_out(&mut self, alloc: Global, line: usize, command: Command) -> Result<(), SimFault>
+        ensures { Goes self.old (obeyed (job_as self.old.job) self.old.world.config (within self.old.world.config) line command (state_in self.old)) result self.new }
+    {
+        match command {
+            Command::Makes(event) => self.happen(line, event),
+            Command::Compute(c) => self.compute_at(alloc, line, c),
+            Command::Calm(k, stop) => self.calm(alloc, k, stop),
+        }
+    }
+
+    /// Notes what made the events since the last note, if there were any.
+    fn note(&mut self, source: Source) -> Result<(), AllocError>
+        ensures { self.new ≡ record self.old { stretches = self.new.stretches } }
+    {
+        let before = match self.stretches.last() {
+            Some(stretch) => stretch.end,
+            None => 0,
+        };
+        let end = self.world.journal().len() as u64;
+        if before < end {
+            self.stretches.push(Stretch { source, end })?;
+        }
+        Ok(())
+    }
+
+    /// Makes the event that a line names.
+    fn happen(&mut self, line: usize, event: Event) -> Result<(), SimFault>
+        ensures { Goes self.old (obeyed (job_as self.old.job) self.old.world.config (within self.old.world.config) line (Command.Makes event) (state_in self.old)) result self.new }
+    {
+        let stepped = self.stepped_by(&event);
+        self.make(line, event, stepped)
+    }
+
+    /// The container of a line computes.
+    fn compute_at(&mut self, alloc: Global, line: usize, c: ContainerId) -> Result<(), SimFault>
+        ensures { Goes self.old (obeyed (job_as self.old.job) self.old.world.config (within self.old.world.config) line (Command.Compute c) (state_in self.old)) result self.new }
+    {
+        let event = self.computing(alloc, &c)?;
+        self.make(line, event, Some(c))
+    }
+
+    /// Makes the event of a line, or prints why it is not permitted.
+    fn make(
+        &mut self,
+        line: usize,
+        event: Event,
+        stepped: Option<ContainerId>,
+    ) -> Result<(), SimFault>
+        ensures { Goes self.old (made (job_as self.old.job) self.old.world.config (within self.old.world.config) line event stepped (state_in self.old)) result self.new }
+    {
+        match self.apply(event, stepped)? {
+            None => Ok(()),
+            Some(why) => {
+                print_refused(&mut self.refused, line, why)?;
+                Ok(())
+            }
+        }
+    }
+
+    /// Makes an event, or tells why it is not permitted now.
+    pub(crate) fn apply(
+        &mut self,
+        event: Event,
+        stepped: Option<ContainerId>,
+    ) -> Result<Option<Why>, SimFault>
+        ensures { Applies self.old event stepped result self.new }
+    {
+        match self.world.apply(event) {
+            Ok(_took) => {
+                self.stepped = stepped;
+                Ok(None)
+            }
+            Err(WorldFault::NotNow(why)) => Ok(Some(why)),
+            Err(WorldFault::Full) => Err(SimFault::Full),
+            Err(WorldFault::NoMemory) => Err(SimFault::NoMemory),
+        }
+    }
+
+    /// Who has stepped last, after an event of the script.
+    fn stepped_by(&self, event: &Event) -> Option<ContainerId>
+        ensures { result ≡ stepped_by (job_as self.now.job) self.now.world.config (within self.now.world.config) event.now self.now.stepped }
+    {
+        match event {
+            Event::ContainerStep { container: c, .. } => Some(*c),
+            _ => self.stepped,
+        }
+    }
+
+    /// What `compute` is an event of.
+    #[tactic(auto, using(crate::proofs::Working::inputs_are_short))]
+    pub(crate) fn computing(&self, alloc: Global, c: &ContainerId) -> Result<Event, SimFault>
+        ensures { IsEvent (computing (job_as self.now.job) self.now.world.config (within self.now.world.config) (cluster_in self.now) c.now) result }
+    {
+        let config = self.world.config();
+        config.ranges();
+        computed(alloc, self.job, config, *c, self.world.input(c))
+    }
+}
+
+fn open_world(alloc: Global, submission: Submission) -> Result<World, SimFault>
+    requires { IsWithinLimits submission }
+    ensures opens { IfOk result (λ world. world ≡ record { config = config_of submission; events = [] }) }
+    ensures memory { IfErr result (λ fault. fault ≡ SimFault.NoMemory) }
+{
+    let config = Config {
+        job: submission.id,
+        splits: submission.splits,
+        reduces: submission.reduces,
+        nodes: submission.nodes,
+        limit: submission.limit,
+        v2_from: submission.v2_from,
+    };
+    match World::new(alloc, config) {
+        Ok(world) => Ok(world),
+        Err(_) => Err(SimFault::NoMemory),
+    }
+}

@@ -1,0 +1,34 @@
+//! What is shown beside what `play` prints.
+ghost use Rattle.std.specs.Prelude.{◌≡◌, [], false, IfOk, IfErr};
+ghost use Rattle.mr_commands.specs.declared.fault.SimFault.TheVariants as fault;
+ghost use Rattle.mr_play.specs.Shown.{HasText};
+
+use crate::histories::print_histories;
+use crate::player::Player;
+use crate::world_text::print_world;
+use mr_commands::SimFault;
+
+/// What `play` shows beyond what came of the script.
+#[derive(Clone, Copy, Debug, PartialEq, Eq)]
+pub struct Shown {
+    /// Each event, with the line that made it, its store call and the packets that it added, before the rest.
+    pub trace: bool,
+    /// The stable bytes of each generation's history, behind the rest.
+    pub history: bool,
+}
+
+/// What is printed of a player, with what is shown beside it: behind the text `before`, which is empty where no trace is asked for, and
+/// before its history, where that is. It fails by nothing but an allocation failure.
+pub fn shown_text(player: &Player, shown: Shown, before: Vec<u8>) -> Result<Vec<u8>, SimFault>
+    requires untraced { shown.trace ≡ false → before.items ≡ [] }
+    ensures text { IfOk result (λ text. HasText player.now shown text.items) }
+    ensures memory { IfErr result (λ e. e ≡ fault.NoMemory) }
+{
+    let mut text = before;
+    text.extend_from_slice(&player.refused)?;
+    print_world(&mut text, &player.world)?;
+    if shown.history {
+        print_histories(&mut text, &player.world)?;
+    }
+    Ok(text)
+}

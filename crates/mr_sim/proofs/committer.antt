@@ -1,6 +1,0 @@
-pub mod Attempts
-pub mod CarryingOut
-pub mod Joined
-pub mod Readings
-pub mod Recoveries
-pub mod Verbs

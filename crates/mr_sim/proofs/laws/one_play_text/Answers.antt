@@ -1,5 +1,0 @@
-use Rattle.mr_sim.proofs.play.Playing.{one_play_text_law}
-use Rattle.mr_sim.proofs.laws.one_play_text.Goals as goal
-
-pub returns : goal.returns
-returns c = one_play_text_law

@@ -1,7 +1,0 @@
-use Rattle.mr_world.specs.Journal.{world_in}
-use Rattle.mr_sim.specs.play.Shown.{AddsSegments}
-use Rattle.mr_sim.proofs.play.histories.print_histories.Given as goal
-
--- the segments so far were written behind
-abbrev pub invariant-loop-older : goal.invariant-loop-older
-invariant-loop-older l = AddsSegments (world_in l.world) l.older l.initial.out.items l.out.items

@@ -1,0 +1,30 @@
+//! How the program ends, and with which exit status.
+ghost use Rattle.std.specs.Prelude.{◌≡◌};
+ghost use Rattle.mr_sim.specs.Fault.{exit_status_of};
+
+use mr_commands::SimFault;
+
+/// How the program ended.
+#[derive(Clone, Copy, Debug, PartialEq, Eq)]
+pub enum Ending {
+    /// The subcommand read, ran and wrote.
+    Done,
+    /// The command line asked for help, which was printed.
+    Helped,
+    /// The command line was refused.
+    RefusedWords,
+    /// There is this fault, of a subcommand or of the program's streams.
+    Failed(SimFault),
+}
+
+/// The exit status of the program: 0 where the subcommand was done or help that was asked for was printed, 2 where the
+/// command line was refused, the status of the fault where there is one.
+pub fn exit_status(ending: Ending) -> u8
+    ensures { result ≡ exit_status_of ending }
+{
+    match ending {
+        Ending::Done | Ending::Helped => 0,
+        Ending::RefusedWords => 2,
+        Ending::Failed(fault) => fault.status(),
+    }
+}

@@ -1,6 +1,0 @@
-//! Job texts, and the jobs that are submitted by them, for `seq` and `play`.
-mod submission;
-mod text;
-
-pub use submission::{JobKind, PlanAct, PlanFault, PlanFaults, Splits, Submission};
-pub use text::read_job_text;

@@ -1,0 +1,116 @@
+//! The splits of a job, in order.
+ghost use Rattle.std.specs.Prelude.{◌≡◌, IfOk, length, map, nat_eq, option_map, slice_get};
+ghost use Rattle.std.specs.List.{AllByRecursion};
+ghost use Rattle.std.specs.Cmp.Lexicographic.{pointwise};
+ghost use Rattle.std.specs.Cmp.Rules.{comparing};
+ghost use Rattle.std.proofs.Common.{rules};
+ghost use Rattle.mr_user.specs.Laws.{AreBytes};
+
+use crate::text::known_bytes;
+use std::alloc::{AllocError, Global};
+use std::marker::Model;
+
+/// The splits of a job, in order: each is the bytes of a text. Contracts see the list of their bytes.
+#[derive(Debug, Drop)]
+pub struct Splits {
+    items: Vec<Vec<u8>>,
+}
+
+impl Model for Splits {
+    ghost use Rattle.std.specs.Prelude.{ℕ, List, map};
+    ghost use Rattle.std.specs.List.{AllByRecursion};
+    ghost use Rattle.mr_user.specs.Laws.{AreBytes};
+
+    ghost Value = { List (List ℕ) };
+
+    ghost view = { λ s. map (λ split. split.items) s.items.items };
+
+    ghost invariant = { λ s. AllByRecursion AreBytes (map (λ split. split.items) s.items.items) };
+}
+
+impl Splits {
+    /// These splits, without taking memory.
+    pub fn from_vec(items: Vec<Vec<u8>>) -> Splits
+        ensures { result ≡ map (λ split. split.items) items.items }
+    {
+        known_splits(&items);
+        Splits { items }
+    }
+
+    /// Each split is of bytes: of numbers below 256. This call does nothing: it tells the caller so.
+    pub fn tell_bytes(&self)
+        ensures { AllByRecursion AreBytes self.now }
+    {
+        let _len = self.items.len();
+    }
+
+    /// The splits as a vector, without taking memory.
+    pub fn into_vec(self) -> Vec<Vec<u8>>
+        ensures { map (λ split. split.items) result.items ≡ self }
+    {
+        self.items
+    }
+
+    /// The splits as a slice. It takes no memory.
+    pub fn as_slice(&self) -> &[Vec<u8>]
+        ensures { map (λ split. split.items) result.now ≡ self.now }
+    {
+        &self.items
+    }
+
+    /// How many splits there are. It takes no memory.
+    pub fn len(&self) -> usize
+        ensures { result ≡ length self.now }
+    {
+        self.items.len()
+    }
+
+    /// The bytes of the split at this place; none past the last. It takes no memory.
+    pub fn get(&self, place: usize) -> Option<&[u8]>
+        ensures { option_map (λ bytes. bytes.now) result ≡ slice_get self.now place }
+    {
+        let split = self.items.get(place)?;
+        Some(split.as_slice())
+    }
+
+    /// Equal splits. It may allocate, and refuses nothing else.
+    pub fn copy(&self) -> Result<Splits, AllocError>
+        ensures { IfOk result (λ splits. splits ≡ self.now) }
+    {
+        let items = copies(*self.items.allocator(), &self.items)?;
+        Ok(Splits { items })
+    }
+}
+
+impl PartialEq for Splits {
+    ghost eq = { pointwise (pointwise nat_eq) };
+
+    ghost laws = { Prim.search (comparing, rules) };
+
+    fn eq(&self, other: &Splits) -> bool {
+        self.items.as_slice() == other.items.as_slice()
+    }
+}
+
+impl Eq for Splits {
+    ghost laws = { Prim.search (comparing, rules) };
+}
+
+// Tells a proof that what a program holds as splits is of bytes. It does nothing.
+fn known_splits(splits: &[Vec<u8>])
+    ensures { AllByRecursion AreBytes (map (λ split. split.items) splits.now) }
+{
+    for split in splits {
+        known_bytes(split);
+    }
+}
+
+fn copies(alloc: Global, splits: &[Vec<u8>]) -> Result<Vec<Vec<u8>>, AllocError>
+    ensures { IfOk result (λ copies. map (λ split. split.items) copies.items ≡ map (λ split. split.items) splits.now) }
+{
+    let mut copies = Vec::new(alloc);
+    for split in splits {
+        copies.push(Vec::from_slice(alloc, split)?)?;
+    }
+    Ok(copies)
+}

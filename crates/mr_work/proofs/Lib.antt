@@ -1,0 +1,3 @@
+mod Faults
+pub mod Inputs
+mod Parts

@@ -1,0 +1,153 @@
+//! What a container's work is given, as a value of its own, and the pieces of a reduce.
+ghost use Rattle.std.specs.Prelude.{◌≡◌, ◌↔◌, IfOk, IsTrue, nat_eq};
+ghost use Rattle.std.specs.Cmp.Lexicographic.{pointwise};
+ghost use Rattle.std.specs.Cmp.Rules.{comparing};
+ghost use Rattle.std.proofs.Common.{rules};
+ghost use Rattle.mr_model.specs.Sequential.{Split, Pieces as Fetched};
+ghost use Rattle.mr_work.specs.Works.{as_input, kind_of};
+
+use mr_ids::{Bytes, TaskKind};
+use std::alloc::{AllocError, Global};
+use std::marker::Model;
+
+/// The pieces that a reduce's container fetched, one of each map, by the maps' numbers. Contracts see the list of their bytes.
+#[derive(Debug, Drop)]
+pub struct Pieces {
+    items: Vec<Bytes>,
+}
+
+impl Model for Pieces {
+    ghost use Rattle.std.specs.Prelude.{List, ℕ};
+
+    ghost Value = { List (List ℕ) };
+
+    ghost view = { λ p. p.items.items };
+}
+
+impl Pieces {
+    /// These pieces. It takes no memory.
+    pub fn from_vec(items: Vec<Bytes>) -> Pieces
+        ensures { result ≡ items.items }
+    {
+        Pieces { items }
+    }
+
+    /// A copy of these pieces. It may allocate, and refuses nothing else.
+    pub fn from_slice(alloc: Global, pieces: &[Bytes]) -> Result<Pieces, AllocError>
+        ensures { IfOk result (λ copied. copied ≡ pieces.now) }
+    {
+        let mut items = Vec::with_capacity(alloc, pieces.len())?;
+        for piece in pieces {
+            items.push(piece.copy()?)?;
+        }
+        Ok(Pieces { items })
+    }
+
+    /// The pieces. It takes no memory.
+    pub fn as_slice(&self) -> &[Bytes]
+        ensures { result.now ≡ self.now }
+    {
+        &self.items
+    }
+}
+
+impl PartialEq for Pieces {
+    ghost eq = { pointwise (pointwise nat_eq) };
+
+    ghost laws = { Prim.search (comparing, rules) };
+
+    fn eq(&self, other: &Pieces) -> bool {
+        self.items.as_slice() == other.items.as_slice()
+    }
+}
+
+impl Eq for Pieces {
+    ghost laws = { Prim.search (comparing, rules) };
+}
+
+/// What a container's work is given.
+#[derive(Debug, PartialEq, Eq, Drop)]
+pub enum Input {
+    /// A map: the number of its split, and the bytes of that.
+    Map { split: u32, bytes: Bytes },
+    /// A reduce: its number, and the piece that it fetched of each map, by the maps' numbers.
+    Reduce { reduce: u32, pieces: Pieces },
+}
+
+impl Input {
+    /// What a map is given, copied. It may allocate, and refuses nothing else.
+    pub fn of_map(alloc: Global, split: u32, bytes: &[u8]) -> Result<Input, AllocError>
+        ensures { IfOk result (λ input. as_input input ≡ Split split bytes.now) }
+    {
+        let bytes = Bytes::from_vec(Vec::from_slice(alloc, bytes)?);
+        Ok(Input::Map { split, bytes })
+    }
+
+    /// What a reduce is given, copied. It may allocate, and refuses nothing else.
+    pub fn of_reduce(alloc: Global, reduce: u32, pieces: &[Bytes]) -> Result<Input, AllocError>
+        ensures { IfOk result (λ input. as_input input ≡ Fetched reduce pieces.now) }
+    {
+        let pieces = Pieces::from_slice(alloc, pieces)?;
+        Ok(Input::Reduce { reduce, pieces })
+    }
+
+    /// An equal input. It may allocate, and refuses nothing else.
+    pub fn copy(&self, alloc: Global) -> Result<Input, AllocError>
+        ensures { IfOk result (λ input. input ≡ self.now) }
+    {
+        match self {
+            Input::Map { split, bytes } => Input::of_map(alloc, *split, bytes.as_slice()),
+            Input::Reduce { reduce, pieces } => {
+                Input::of_reduce(alloc, *reduce, pieces.as_slice())
+            }
+        }
+    }
+
+    /// Whether a map is given it, or a reduce. It takes no memory.
+    pub fn kind(&self) -> TaskKind
+        ensures { result ≡ kind_of self.now }
+    {
+        match self {
+            Input::Map { .. } => TaskKind::Map,
+            Input::Reduce { .. } => TaskKind::Reduce,
+        }
+    }
+
+    /// Whether it is what a map is given for these bytes of this split. It takes no memory.
+    pub fn is_of_map(&self, number: u32, split_bytes: &[u8]) -> bool
+        ensures { IsTrue result ↔ (as_input self.now ≡ Split number split_bytes.now) }
+    {
+        match self {
+            Input::Map { split, bytes } => *split == number && bytes.as_slice() == split_bytes,
+            Input::Reduce { .. } => false,
+        }
+    }
+
+    /// Whether it is what this reduce is given for these pieces. It takes no memory.
+    pub fn is_of_reduce(&self, number: u32, fetched: &[Bytes]) -> bool
+        ensures { IsTrue result ↔ (as_input self.now ≡ Fetched number fetched.now) }
+    {
+        match self {
+            Input::Map { .. } => false,
+            Input::Reduce { reduce, pieces } => {
+                *reduce == number && are_equal(pieces.as_slice(), fetched)
+            }
+        }
+    }
+}
+
+// Whether two lists of pieces are equal.
+fn are_equal(some: &[Bytes], others: &[Bytes]) -> bool
+    ensures { IsTrue result ↔ (some.now ≡ others.now) }
+{
+    let mut rest = some;
+    let mut left = others;
+    while let Some((piece, more)) = rest.split_first() {
+        match left.split_first() {
+            Some((other, later)) if piece.as_slice() == other.as_slice() => left = later,
+            _ => return false,
+        }
+        rest = more;
+    }
+    left.is_empty()
+}
