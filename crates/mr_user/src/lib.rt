@@ -19,7 +19,7 @@
 //! - **A job** is a type with `map`, `partition`, `combine`, `reduce` and `key_text` (`trait Job`), over keys and
 //!   values that can be written as bytes (`trait Wire`). What the functions give is a ghost member that depends on
 //!   the type alone; each method is proved to give exactly that, an allocation failure aside. A job owes the *job laws*;
-//!   one that breaks them is not proved and so not built. docs/JOBS.md is for who writes one.
+//!   one that breaks them is not proved and so not built. docs/USING.md is for who writes one.
 //! - **Three jobs** are proved with all their laws: `WordCount`, `MaxByKey`, `LineIndex`.
 //! - **Forms**: `Text`, `u64` and `Position` are written as the tables of docs/MODEL.md say; what was written is
 //!   read again whatever follows; what is read fits and was written so; `read` answers `BadWire` exactly where the
