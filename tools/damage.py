@@ -239,7 +239,7 @@ def printed_record(line, version):
 
 
 def history(text):
-    """What the program has to do with a segment: docs/HISTORY.md, "Reading a segment by hand"."""
+    """What the program has to do with a segment: docs/MRSIM.md, "Reading a segment by hand"."""
     *lines, torn = text.split(b"\n")
     version = 2 if lines and lines[0] == b'{"version":2}' else 1
     out = ["version 2"] * (version == 2)

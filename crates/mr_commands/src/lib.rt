@@ -16,7 +16,7 @@
 //! **Job texts** (`read_job_text`): it answers exactly what the definition `submission_of` says of the bytes: the
 //! job that is submitted, or the first bad key in the order `id`, `job`, `reduces`, `splits`, `nodes`, `limit`,
 //! `faults`, `v2from`, or that there is no JSON object. The definition is a function of the value that `serde_json`'s own
-//! definition reads the text as, key by key. A job that is read is within the limits of docs/SEQ.md (clause
+//! definition reads the text as, key by key. A job that is read is within the limits of docs/MRSIM.md (clause
 //! `limits`).
 //!
 //! **Parts of an output** that others print too: a file with its name and length (`print_file`), a record in words (`print_record`), and names with

@@ -66,7 +66,7 @@
 //!
 //! **mr_commands, `history`** (src/history.rt): proved that what is given is `version 2` for a segment of version 2,
 //! then the text of the records, then that of the dropped bytes (`PrintsHistory`), or the first bad line. The
-//! format, what a crash leaves and how to read a segment by hand: [docs/HISTORY.md](../../../docs/HISTORY.md).
+//! format, what a crash leaves and how to read a segment by hand: [docs/MRSIM.md](../../../docs/MRSIM.md).
 //!
 //! Conditions on arguments, each with its test: `append` asks that the record fits (`Record::fits`: the attempt is
 //! of the kind that the record speaks of, the incarnation is not 0, a length is at most 2^24; all other ranges are
