@@ -32,7 +32,7 @@
 //!   only from a refused growth. It gathers the values of each key in a map as they come: n log k comparisons for n
 //!   pairs of k keys, each key held once. Measured, not
 //!   proved: `mrsim seq` is no slower than tools/plain_seq.rs, a program with no proof (`tools/bench seq`; figures
-//!   in docs/PROOFS.md).
+//!   in the README of this crate).
 //! - `Splits` is the list of splits that it was made of: `from_vec`, `into_vec`, `as_slice`, `len`, `get` are what they say, `copy` gives
 //!   equal splits (it refuses for want of memory alone), `==` is that of the lists.
 //! - **`groups`**: the keys of pairs, rising, each once and with its values in order.
