@@ -2,6 +2,7 @@ pub mod Calming
 pub mod Calmly
 pub mod Coming
 pub mod Honest
+pub mod Marked
 pub mod Players
 pub mod Playing
 pub mod Plays

@@ -15,8 +15,8 @@
 //! that is (`HasText`, and so `Shows`): for each generation that was started, in order, its head line `== history K LENGTH` and as many bytes,
 //! whose records are those that are stable in its segment.
 //!
-//! **The events of every script are faithful** (`scripts_are_faithful`): a script has no words for bytes, so whatever is handed in is what the job's
-//! definition gives. So what the headline says of sequential files holds of every run that `play` makes.
+//! **Where `play` prints `marker yes`, the files that it prints are those that `seq` prints for the same job text** (`marked_files_are_those_of_seq`), and a job text that
+//! `seq` refuses is never marked: the events of every script are faithful (`scripts_are_faithful`), since a script has no words for bytes.
 //!
 //! Laws of these definitions: an input has at most one text, and none where its job text or a line
 //! is bad or a limit is passed (`one_play_text`). Whatever commands follow others, each winner stays, and once the marker is there all
@@ -41,7 +41,7 @@ mod works;
 mod world_text;
 
 pub use event_names::{duty_event, name_word, wish_event};
-pub use faithful::scripts_are_faithful;
+pub use faithful::{marked_files_are_those_of_seq, scripts_are_faithful};
 pub use laws::{
     calms_are_permitted, names_are_of_duties_and_wishes, one_play_text, played_rows, scripts_go_on,
 };

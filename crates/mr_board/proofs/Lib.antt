@@ -1,0 +1,3 @@
+mod Due
+mod Faithful
+mod Making

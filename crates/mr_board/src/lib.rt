@@ -1,0 +1,30 @@
+//! A world that several actors share, with a note of who made each of its events. docs/USING.md tells how several threads run one.
+//!
+//! # What is proved
+//!
+//! Contracts see a `Board` as its world and, for each event of the journal, the number of the seat that made it; a `Seat` as its number and the events that were made from it
+//! (`specs/Boards`). For every job, board and seat:
+//!
+//! - `Board::new` has these numbers empty, and gives as many seats as are asked for, numbered from 0, from which nothing was made;
+//! - **`apply_as`** is `World::apply` on the world that it finds, with its answer and its refusals in order, but that every `Computed` is `WrongWish`; an event that is taken gets the seat's number
+//!   and is the last of that seat's list, and a refusal changes nothing of world, numbers and seat (`Applies`);
+//! - **`computed_as`** is the same of the bytes of a `Finished`, where its container wishes to compute just that work; else it answers `NoContainer`, then `WrongWish` (`Hands`);
+//! - `work` copies what a container is to compute, and **`Work::run`** gives a `Finished` with the definition's bytes of it, or the exact fault;
+//! - **the headline** stands on `apply_as` and `computed_as`, of the world before and after (`HeadlineHolds`), and on `world`, whose journal is faithful: once the success marker is there, the files
+//!   are the job's sequential execution's (`SeesSequentialFiles`);
+//! - **`close`** answers the world exactly where the seats account for its journal (`Account`), takes no memory, and needs no other fact of the threads.
+//!
+//! No call here waits: each returns (`Work::run` where the gate's `enter` does). Whoever shares a board puts a lock round it.
+//!
+//! Only tested (crates/tests_board): that the calls succeed with ample memory, that the gate is entered.
+#![tactic(auto)]
+
+mod board;
+mod close;
+mod seat;
+mod work;
+
+pub use board::Board;
+pub use close::Mismatch;
+pub use seat::Seat;
+pub use work::{Finished, Work};
