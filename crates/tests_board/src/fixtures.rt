@@ -1,0 +1,240 @@
+//! What the tests begin with: a board over a job of the words of one split, and two seats.
+
+ghost use Rattle.std.specs.Prelude.{◌≡◌, []};
+
+use mr_board::{Board, Finished, Mismatch, Seat, Work};
+use mr_event::{Event, Weather};
+use mr_ids::{AppAttempt, JobId, TaskKind};
+use mr_packet::ContainerId;
+use mr_user::{Gate, GateFault, OpenGate, WordCount};
+use mr_world::{Config, Splits, World, WorldFault};
+use std::alloc::Global;
+use std::process::Abort;
+
+/// What the map of `a b a` makes for one reduce: the length of its block, then `a` with 2 and `b` with 1.
+pub const BLOCK: [u8; 30] = [
+    0, 0, 0, 26, 0, 0, 0, 1, 97, 0, 0, 0, 0, 0, 0, 0, 2, 0, 0, 0, 1, 98, 0, 0, 0, 0, 0, 0, 0, 1,
+];
+
+/// What the one reduce makes of its block.
+pub const TEXT: &[u8] = b"a\t2\nb\t1\n";
+
+/// The gate that lets no work pass.
+#[derive(Drop)]
+pub struct ShutGate;
+
+impl Gate for ShutGate {
+    fn enter(&self, _kind: TaskKind) -> Result<(), GateFault> {
+        Err(GateFault::Spent)
+    }
+}
+
+/// A board, its two seats, and how far its run is: how many packets were delivered or passed over, and who stepped last.
+#[derive(Drop)]
+pub struct Table {
+    pub board: Board<WordCount>,
+    pub masters: Seat,
+    pub nodes: Seat,
+    pub next: usize,
+    pub last: Option<ContainerId>,
+}
+
+/// The container of this number of the first master.
+pub fn container(rt: &impl Abort, number: u32) -> ContainerId {
+    match AppAttempt::new(1) {
+        Some(app) => ContainerId { app, number },
+        None => panic!(rt; "no generation 1"),
+    }
+}
+
+// The world of a job of this one split and one reduce, on one node.
+fn world(rt: &impl Abort, alloc: Global, text: &[u8]) -> World
+    ensures { result.events ≡ [] }
+{
+    let mut splits = Vec::new(alloc);
+    let split = Vec::from_slice(alloc, text).expect(rt, "no memory");
+    assert!(rt; split.len() <= 16_777_216);
+    if splits.push(split).is_err() {
+        panic!(rt; "no memory");
+    }
+    let config = Config {
+        job: JobId {
+            start: 200707121733,
+            number: 3,
+        },
+        splits: Splits::from_vec(splits),
+        reduces: 1,
+        nodes: 1,
+        limit: 4,
+        v2_from: 1,
+    };
+    World::new(alloc, config).expect(rt, "no memory")
+}
+
+/// A board over a job of the words of this one split, with two seats, before its first event.
+pub fn opened(rt: &impl Abort, alloc: Global, text: &[u8]) -> Table {
+    let world = world(rt, alloc, text);
+    let (board, mut seats) = Board::new(alloc, &WordCount, world, 2).expect(rt, "no memory");
+    let nodes = seats.pop().expect(rt, "no second seat");
+    let masters = seats.pop().expect(rt, "no first seat");
+    assert!(rt; masters.number() == 0 && nodes.number() == 1);
+    Table {
+        board,
+        masters,
+        nodes,
+        next: 0,
+        last: None,
+    }
+}
+
+/// What this work gives, behind a gate that is open.
+pub fn done(rt: &impl Abort, alloc: Global, work: Work) -> Finished<WordCount> {
+    work.run(alloc, &WordCount, &OpenGate)
+        .expect(rt, "the work is refused")
+}
+
+/// The world of a job of `a b a` that ran to its end by itself.
+pub fn ended(rt: &impl Abort, alloc: Global) -> World {
+    let mut table = opened(rt, alloc, b"a b a");
+    table.launches_the_map(rt);
+    table.calms(rt, alloc);
+    let Table {
+        board,
+        masters,
+        nodes,
+        next: _,
+        last: _,
+    } = table;
+    let mut seats = Vec::with_capacity(alloc, 2).expect(rt, "no memory");
+    if seats.push(masters).is_err() || seats.push(nodes).is_err() {
+        panic!(rt; "no memory");
+    }
+    match board.close(seats) {
+        Ok(world) => world,
+        Err(Mismatch) => panic!(rt; "a mismatch"),
+    }
+}
+
+impl Table {
+    /// The event is taken from the masters' seat.
+    pub fn takes(&mut self, rt: &impl Abort, event: Event) {
+        let length = self.board.world().journal().len();
+        let made = self.masters.made().len();
+        match self.board.apply_as(&mut self.masters, event) {
+            Ok(_took) => {
+                assert!(rt; self.board.world().journal().len() > length);
+                assert!(rt; self.masters.made().len() > made);
+            }
+            Err(_) => panic!(rt; "refused"),
+        }
+    }
+
+    /// The work of a container, done behind an open gate.
+    pub fn done_at(&self, rt: &impl Abort, alloc: Global, c: ContainerId) -> Finished<WordCount> {
+        match self.board.work(alloc, &c) {
+            Ok(work) => done(rt, alloc, work),
+            Err(_) => panic!(rt; "it does not compute"),
+        }
+    }
+
+    /// What a work gave is handed in from the nodes' seat.
+    pub fn hands_in(&mut self, work: &Finished<WordCount>) -> Result<usize, WorldFault> {
+        let took = self.board.computed_as(&mut self.nodes, work)?;
+        Ok(took.count)
+    }
+
+    /// The first master starts, runs, and launches the map, whose container lives and wishes to compute.
+    pub fn launches_the_map(&mut self, rt: &impl Abort) {
+        self.takes(
+            rt,
+            Event::Start {
+                generation: 1,
+                kept: 0,
+            },
+        );
+        for _ in 0..20 {
+            if self.board.world().input(&container(rt, 0)).is_some() {
+                return;
+            }
+            self.goes_on(rt);
+        }
+    }
+
+    /// What happens by itself until the master is through, or nothing is left to do. Each work is done by hand.
+    pub fn calms(&mut self, rt: &impl Abort, alloc: Global) {
+        for _ in 0..1000 {
+            if !self.goes_on(rt) && !self.steps(rt, alloc) {
+                return;
+            }
+        }
+    }
+
+    // One event of a packet, a store call or a launch, the first that is there; false where none is there.
+    fn goes_on(&mut self, rt: &impl Abort) -> bool {
+        if self.delivers(rt) {
+            return true;
+        }
+        if self.board.world().duty(1).expect(rt, "no memory").is_some() {
+            self.takes(
+                rt,
+                Event::Duty {
+                    generation: 1,
+                    weather: Weather::Calm,
+                },
+            );
+            return true;
+        }
+        let Some(task) = self.board.world().wanted(1) else {
+            return false;
+        };
+        self.takes(
+            rt,
+            Event::LaunchOn {
+                generation: 1,
+                task,
+                node: 0,
+            },
+        );
+        true
+    }
+
+    // The next packet that goes to somebody who is alive is delivered.
+    fn delivers(&mut self, rt: &impl Abort) -> bool {
+        for place in self.next..self.board.world().bag().len() {
+            self.next = place + 1;
+            if self.board.world().undeliverable(place).is_none() {
+                self.takes(
+                    rt,
+                    Event::Deliver {
+                        packet: place as u64,
+                    },
+                );
+                return true;
+            }
+        }
+        false
+    }
+
+    // The next living container steps or computes; false where none lives.
+    fn steps(&mut self, rt: &impl Abort, alloc: Global) -> bool {
+        let Some(c) = self.board.world().next_living(self.last) else {
+            return false;
+        };
+        self.last = Some(c);
+        if self.board.world().input(&c).is_some() {
+            let work = self.done_at(rt, alloc, c);
+            if self.hands_in(&work).is_err() {
+                panic!(rt; "refused");
+            }
+        } else {
+            self.takes(
+                rt,
+                Event::ContainerStep {
+                    container: c,
+                    weather: Weather::Calm,
+                },
+            );
+        }
+        true
+    }
+}

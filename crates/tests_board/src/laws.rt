@@ -1,0 +1,125 @@
+//! The laws of what a world's calls answer, each called once on the world of a job that has succeeded, with ample memory.
+
+use crate::fixtures::{TEXT, ended};
+use mr_event::Event;
+use mr_ids::{AttemptId, JobId, TaskId, TaskKind};
+use mr_laws::{
+    files_stay_after_the_outcome, marked_files_stay, marker_stays, outcome_stays,
+    success_means_marker, told_winner_is_the_winner, winner_stays,
+};
+use mr_packet::Packet;
+use mr_world::{VisibleFile, World};
+use std::alloc::Global;
+use std::process::Abort;
+
+// The one reduce.
+const REDUCE: TaskId = TaskId {
+    job: JobId {
+        start: 200707121733,
+        number: 3,
+    },
+    kind: TaskKind::Reduce,
+    number: 0,
+};
+
+// The node restarts, and a master that is not there crashes: the first is taken, the second is passed over.
+fn later(rt: &impl Abort, alloc: Global) -> Vec<Event> {
+    let mut events = Vec::with_capacity(alloc, 2).expect(rt, "no memory");
+    let crash = Event::Crash {
+        generation: 7,
+        kept: 0,
+    };
+    if events.push(Event::NodeRestart { node: 0 }).is_err() || events.push(crash).is_err() {
+        panic!(rt; "no memory");
+    }
+    events
+}
+
+// These are the one part file.
+fn are_the_file(files: &[VisibleFile]) -> bool {
+    files.len() == 1 && files[0].bytes.as_slice() == TEXT
+}
+
+#[test]
+fn winner_is_told_again(rt: HostRuntime) {
+    let mut world = ended(&rt, rt.alloc());
+    match winner_stays(&mut world, later(&rt, rt.alloc()), REDUCE) {
+        Ok(told) => {
+            assert!(rt; told.before == AttemptId::new(REDUCE, 0));
+            assert!(rt; told.after == told.before);
+        }
+        Err(_) => panic!(rt; "refused"),
+    }
+}
+
+// The first packet that tells of a winner.
+fn told_at(world: &World) -> Option<usize> {
+    world
+        .bag()
+        .iter()
+        .position(|envelope| matches!(envelope.body, Packet::Won { .. }))
+}
+
+#[test]
+fn told_winner_is_the_recorded_one(rt: HostRuntime) {
+    let world = ended(&rt, rt.alloc());
+    let place = told_at(&world).expect(&rt, "no winner is told");
+    match told_winner_is_the_winner(&world, place) {
+        Ok(Some(winners)) => {
+            assert!(rt; winners.1 == AttemptId::new(REDUCE, 0));
+            assert!(rt; winners.1 == Some(winners.0));
+        }
+        _ => panic!(rt; "none, or refused"),
+    }
+}
+
+#[test]
+fn marker_is_seen_again(rt: HostRuntime) {
+    let mut world = ended(&rt, rt.alloc());
+    match marker_stays(&mut world, later(&rt, rt.alloc())) {
+        Ok(told) => assert!(rt; told.before && told.after),
+        Err(_) => panic!(rt; "refused"),
+    }
+}
+
+#[test]
+fn marked_files_are_seen_again(rt: HostRuntime) {
+    let mut world = ended(&rt, rt.alloc());
+    match marked_files_stay(&mut world, later(&rt, rt.alloc())) {
+        Ok(Some(files)) => {
+            assert!(rt; are_the_file(&files.before));
+            assert!(rt; are_the_file(&files.after));
+        }
+        _ => panic!(rt; "no marker, or refused"),
+    }
+}
+
+#[test]
+fn files_are_seen_again_after_the_outcome(rt: HostRuntime) {
+    let mut world = ended(&rt, rt.alloc());
+    match files_stay_after_the_outcome(&mut world, later(&rt, rt.alloc())) {
+        Ok(Some(files)) => {
+            assert!(rt; are_the_file(&files.before));
+            assert!(rt; are_the_file(&files.after));
+        }
+        _ => panic!(rt; "no outcome, or refused"),
+    }
+}
+
+#[test]
+fn outcome_is_told_again(rt: HostRuntime) {
+    let mut world = ended(&rt, rt.alloc());
+    match outcome_stays(&mut world, later(&rt, rt.alloc())) {
+        Ok(told) => assert!(rt; told.before == Some(true) && told.after == Some(true)),
+        Err(_) => panic!(rt; "refused"),
+    }
+}
+
+#[test]
+fn success_is_told_of_a_marked_world(rt: HostRuntime) {
+    let world = ended(&rt, rt.alloc());
+    match success_means_marker(&world) {
+        Ok((outcome, marker)) => assert!(rt; outcome == Some(true) && marker),
+        Err(_) => panic!(rt; "refused"),
+    }
+}
