@@ -14,6 +14,10 @@
 //! - `outcome_stays`, `files_stay_after_the_outcome`: an outcome that was told, a failed one too, is told again, and from then on the files that are seen stay the same;
 //! - `success_means_marker`: after a told success the marker is there.
 //!
+//! And that this is not said of nothing:
+//!
+//! - `a_world_succeeds`: in some world a job with a map succeeds, under the world's own limits. This clause alone cites definitions, since no call is made.
+//!
 //! A law that runs events ends with the fault of `World::run`: `Full` or `NoMemory`, never `NotNow` (clause `fault`). Those that run none end with `NoMemory` alone.
 //!
 //! Only tested: that they answer with ample memory.
@@ -21,10 +25,12 @@
 
 mod destination;
 mod outcome;
+mod success;
 mod told;
 mod winner;
 
 pub use destination::{files_stay_after_the_outcome, marked_files_stay, marker_stays};
 pub use outcome::{outcome_stays, success_means_marker};
+pub use success::a_world_succeeds;
 pub use told::Told;
 pub use winner::{told_winner_is_the_winner, winner_stays};
