@@ -1,0 +1,205 @@
+//! What lies under the lock: the board, the faults to come, and who finds nothing to do. No function here waits.
+use crate::actor::{Actor, Role};
+use crate::fault::DriveFault;
+use crate::fault_turns::Coming;
+use crate::hand_in::hand_in;
+use crate::master_turns::master_turn;
+use crate::node_turns::node_turn;
+use crate::turn::{Next, Turn};
+use mr_board::{Board, Finished, Seat};
+use mr_mapside::WorkFault;
+use mr_master_model::Phase;
+use mr_packet::{ContainerId, Packet};
+use mr_user::Job;
+use std::alloc::Global;
+
+/// What the threads share.
+#[derive(Drop)]
+pub(crate) struct Floor<J: Job> {
+    board: Board<J>,
+    coming: Coming,
+    stop: Option<DriveFault>,
+    // Whether an outcome was told, or the newest master is Stopped, and how many packets were looked at for that.
+    over: bool,
+    looked: usize,
+    changes: u64,
+    idle: u32,
+    threads: u32,
+    // How often all threads found nothing to do, and the count of changes when that was so last.
+    round: u64,
+    round_at: u64,
+}
+
+impl<J: Job> Floor<J> {
+    pub(crate) fn new(board: Board<J>, coming: Coming, threads: u32) -> Floor<J> {
+        Floor {
+            board,
+            coming,
+            stop: None,
+            over: false,
+            looked: 0,
+            changes: 0,
+            idle: 0,
+            threads,
+            round: 0,
+            round_at: 0,
+        }
+    }
+
+    /// The board, and why the threads stopped where that was not the end.
+    pub(crate) fn ends(self) -> (Board<J>, Option<DriveFault>) {
+        let Floor {
+            board,
+            coming: _,
+            stop,
+            over: _,
+            looked: _,
+            changes: _,
+            idle: _,
+            threads: _,
+            round: _,
+            round_at: _,
+        } = self;
+        (board, stop)
+    }
+
+    fn has_ended(&self) -> bool {
+        self.over || self.stop.is_some()
+    }
+
+    fn is_due(&self) -> bool {
+        self.coming.is_due(self.board.world().journal().len())
+    }
+
+    /// Whether a fault is due, so that what a work gave has to wait.
+    pub(crate) fn is_held(&self) -> bool {
+        !self.has_ended() && self.is_due()
+    }
+
+    // Whether who saw this count of changes has nothing new to look at.
+    fn is_still(&self, changes: u64) -> bool {
+        self.changes == changes && !self.has_ended()
+    }
+
+    /// Lets every thread end, for this reason.
+    pub(crate) fn stop(&mut self, fault: DriveFault) {
+        if !self.has_ended() {
+            self.stop = Some(fault);
+        }
+    }
+
+    // Something changed: whoever found nothing to do may look again.
+    fn changed(&mut self) {
+        self.changes = self.changes.wrapping_add(1);
+        self.idle = 0;
+    }
+
+    // Looks at the packets that are new, and at the newest master.
+    fn look(&mut self) {
+        let world = self.board.world();
+        for place in self.looked..world.bag().len() {
+            if let Some(envelope) = world.bag().get(place) {
+                self.over = self.over || matches!(&envelope.body, Packet::Outcome { .. });
+            }
+        }
+        self.looked = world.bag().len();
+        self.over = self.over || world.phase(world.newest()) == Some(Phase::Stopped);
+    }
+
+    // Nothing to do. Where that is so for all threads, those that wait for an answer ask again; where nothing came of that, nothing ever will.
+    fn rests(&mut self) -> Next {
+        self.idle = self.idle.saturating_add(1);
+        if self.idle < self.threads {
+            return Next::Waits(self.changes);
+        }
+        if self.round > 0 && self.round_at == self.changes {
+            self.stop(DriveFault::TurnsSpent);
+            return Next::Ends;
+        }
+        self.changed();
+        self.round = self.round.wrapping_add(1);
+        self.round_at = self.changes;
+        Next::Goes
+    }
+
+    /// Looks for something to do, unless nothing changed since the last look, and makes at most one event. True where there was nothing to do.
+    pub(crate) fn waits(
+        &mut self,
+        alloc: Global,
+        actor: &mut Actor,
+        seat: &mut Seat,
+        next: &mut Next,
+    ) -> bool {
+        if let Next::Waits(changes) = next {
+            if self.is_still(*changes) {
+                return true;
+            }
+        }
+        *next = self.turn(alloc, actor, seat);
+        matches!(next, Next::Waits(_))
+    }
+
+    // Makes at most one event. Only who makes the faults acts while one is due.
+    fn turn(&mut self, alloc: Global, actor: &mut Actor, seat: &mut Seat) -> Next {
+        if self.has_ended() {
+            return Next::Ends;
+        }
+        if self.is_due() && actor.role != Role::Faults {
+            return self.rests();
+        }
+        match self.found(alloc, actor, seat) {
+            Ok(Turn::Made) => {
+                self.changed();
+                self.look();
+                Next::Goes
+            }
+            Ok(Turn::Compute(c, work)) => {
+                self.idle = 0;
+                Next::Computes(c, work)
+            }
+            Ok(Turn::Nothing) => self.rests(),
+            Err(fault) => {
+                self.stop(fault);
+                Next::Ends
+            }
+        }
+    }
+
+    // What a role finds to do.
+    fn found(
+        &mut self,
+        alloc: Global,
+        actor: &mut Actor,
+        seat: &mut Seat,
+    ) -> Result<Turn, DriveFault> {
+        match actor.role {
+            Role::Node(n) => {
+                actor.begin(self.board.world(), n, self.round)?;
+                node_turn(alloc, &mut self.board, seat, actor)
+            }
+            Role::Master(k) => master_turn(&mut self.board, seat, actor, k),
+            Role::Faults => self.coming.turn(&mut self.board, seat),
+        }
+    }
+
+    /// What a work gave is handed in, unless all has ended.
+    pub(crate) fn hand_in(
+        &mut self,
+        actor: &mut Actor,
+        seat: &mut Seat,
+        c: &ContainerId,
+        done: Result<Finished<J>, WorkFault>,
+    ) {
+        if self.has_ended() {
+            return;
+        }
+        self.changed();
+        if let Err(fault) = hand_in(&mut self.board, seat, c, done) {
+            self.stop(fault);
+        }
+        if actor.is_ready(c).is_err() {
+            self.stop(DriveFault::NoMemory);
+        }
+        self.look();
+    }
+}

@@ -1,0 +1,21 @@
+//! Events that a thread makes on the board.
+use crate::fault::{DriveFault, stopping};
+use crate::turn::Turn;
+use mr_board::{Board, Seat};
+use mr_event::Event;
+use mr_user::Job;
+
+/// Makes an event. One that is not permitted now is dropped.
+pub(crate) fn made<J: Job>(
+    board: &mut Board<J>,
+    seat: &mut Seat,
+    event: Event,
+) -> Result<Turn, DriveFault> {
+    match board.apply_as(seat, event) {
+        Ok(_) => Ok(Turn::Made),
+        Err(fault) => match stopping(fault) {
+            None => Ok(Turn::Nothing),
+            Some(fault) => Err(fault),
+        },
+    }
+}

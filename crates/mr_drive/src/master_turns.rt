@@ -1,0 +1,48 @@
+//! The turns of a master: it hears, makes its store calls, launches.
+use crate::actor::Actor;
+use crate::fault::DriveFault;
+use crate::made::made;
+use crate::turn::Turn;
+use mr_board::{Board, Seat};
+use mr_event::{Event, Weather};
+use mr_user::Job;
+use mr_world::World;
+
+/// At most one event of the master of generation `k`: a packet for it, else its store call, else its launch.
+pub(crate) fn master_turn<J: Job>(
+    board: &mut Board<J>,
+    seat: &mut Seat,
+    actor: &mut Actor,
+    k: u32,
+) -> Result<Turn, DriveFault> {
+    if let Some(place) = actor.next_packet(board.world()) {
+        let packet = place as u64;
+        return made(board, seat, Event::Deliver { packet });
+    }
+    match next_of_master(board.world(), k)? {
+        Some(event) => made(board, seat, event),
+        None => Ok(Turn::Nothing),
+    }
+}
+
+// The store call of a master, else its launch of the task that it wants, on the node of the task's number, where nodes are counted again and again.
+fn next_of_master(world: &World, k: u32) -> Result<Option<Event>, DriveFault> {
+    let Ok(due) = world.duty(k) else {
+        return Err(DriveFault::NoMemory);
+    };
+    if due.is_some() {
+        return Ok(Some(Event::Duty {
+            generation: k,
+            weather: Weather::Calm,
+        }));
+    }
+    let Some(task) = world.wanted(k) else {
+        return Ok(None);
+    };
+    world.config().ranges();
+    Ok(Some(Event::LaunchOn {
+        generation: k,
+        task,
+        node: task.number % world.config().nodes,
+    }))
+}
