@@ -9,6 +9,7 @@ mod draw;
 mod drawing;
 mod lanes;
 mod render;
+mod rest;
 mod rows;
 mod signs;
 mod svg;

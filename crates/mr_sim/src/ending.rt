@@ -9,7 +9,7 @@ use mr_commands::SimFault;
 pub enum Ending {
     /// The subcommand read, ran and wrote.
     Done,
-    /// The command line asked for help, which was printed.
+    /// The command line asked for help or the version, which was printed.
     Helped,
     /// The command line was refused.
     RefusedWords,
@@ -17,7 +17,7 @@ pub enum Ending {
     Failed(SimFault),
 }
 
-/// The exit status of the program: 0 where the subcommand was done or help that was asked for was printed, 2 where the
+/// The exit status of the program: 0 where the subcommand was done or what the words asked for was printed, 2 where the
 /// command line was refused, the status of the fault where there is one.
 pub fn exit_status(ending: Ending) -> u8
     ensures { result ≡ exit_status_of ending }

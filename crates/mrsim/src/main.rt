@@ -1,4 +1,4 @@
-//! The program `mrsim`: its words by `clap`, then one run from standard input to standard output.
+//! The program `mrsim`: its words by `clap`, then one run from standard input or a file to standard output.
 #![tactic(auto)]
 
 ghost use Rattle.std.specs.Prelude.{◌≡◌, ◌⊎◌};
@@ -9,21 +9,39 @@ ghost use Rattle.mr_sim.specs.Fault.{exit_status_of};
 mod tests;
 mod words;
 
-use crate::words::{command_line, command_of, ending_of};
+use crate::words::{command_line, command_of, ending_of, file_of};
 use mr_sim::{Ending, SimFault, run};
 use std::alloc::Global;
+use std::fs::File;
 use std::process::ExitCode;
 use std::{env, io};
 
-// The exit code of a program that ended so. A fault's text goes to standard error first: where it cannot be printed it is
-// dropped, and the status says it.
-fn code_of(rt: &impl Eprint, ending: Ending) -> ExitCode
+// The exit code of a program that ended so, when it has said what failed. The file is the one that it was to read, if not
+// standard input.
+fn code_of(rt: &impl Eprint, ending: Ending, file: Option<&str>) -> ExitCode
     ensures { exit_status result ≡ exit_status_of ending }
 {
     if let Ending::Failed(fault) = ending {
-        let _ = rt.eprintln(fault);
+        say(rt, fault, file);
     }
     ExitCode::from(mr_sim::exit_status(ending))
+}
+
+// Says what failed on standard error: the fault's text, and behind that of a failed read the name of the file that was to be read.
+// Where it cannot be printed it is dropped, and the exit status says it.
+fn say(rt: &impl Eprint, fault: SimFault, file: Option<&str>) {
+    let _ = match (fault, file) {
+        (SimFault::Read, Some(name)) => eprintln!(rt; "{fault}: {name}"),
+        _ => rt.eprintln(fault),
+    };
+}
+
+// What it is that a file could not be opened.
+fn open_fault(error: &io::Error) -> SimFault {
+    match error.kind() {
+        io::ErrorKind::OutOfMemory => SimFault::NoMemory,
+        _ => SimFault::Read,
+    }
 }
 
 // Prints what clap says of the words: help that was asked for to standard output, a refusal to standard error.
@@ -44,23 +62,30 @@ fn main(rt: HostRuntime) -> ExitCode {
     let args = match env::args(&rt) {
         Ok(args) => args,
         Err(error) if error.kind() == io::ErrorKind::OutOfMemory => {
-            return code_of(&rt, Ending::Failed(SimFault::NoMemory));
+            return code_of(&rt, Ending::Failed(SimFault::NoMemory), None);
         }
-        Err(_) => return code_of(&rt, Ending::RefusedWords),
+        Err(_) => return code_of(&rt, Ending::RefusedWords, None),
     };
     let Ok(words): Result<Vec<String>, _> = args.collect(alloc) else {
-        return code_of(&rt, Ending::Failed(SimFault::NoMemory));
+        return code_of(&rt, Ending::Failed(SimFault::NoMemory), None);
     };
     let Ok(command) = command_line(alloc) else {
-        return code_of(&rt, Ending::Failed(SimFault::NoMemory));
+        return code_of(&rt, Ending::Failed(SimFault::NoMemory), None);
     };
     let matches = match command.try_get_matches_from(words.as_slice()) {
         Ok(matches) => matches,
-        Err(error) => return code_of(&rt, print_words(&rt, &error, ending_of(&error))),
+        Err(error) => return code_of(&rt, print_words(&rt, &error, ending_of(&error)), None),
     };
-    let command = command_of(&matches);
-    match run(&rt, &command, &mut rt.reader(), &mut io::writer(&rt)) {
-        Ok(()) => code_of(&rt, Ending::Done),
-        Err(fault) => code_of(&rt, Ending::Failed(fault)),
+    let (command, file) = (command_of(&matches), file_of(&matches));
+    let ran = match file {
+        None => run(&rt, &command, &mut rt.reader(), &mut io::writer(&rt)),
+        Some(name) => match File::open(&rt, name) {
+            Ok(mut reader) => run(&rt, &command, &mut reader, &mut io::writer(&rt)),
+            Err(error) => Err(open_fault(&error)),
+        },
+    };
+    match ran {
+        Ok(()) => code_of(&rt, Ending::Done, file),
+        Err(fault) => code_of(&rt, Ending::Failed(fault), file),
     }
 }

@@ -1,5 +1,5 @@
 //! What the command line takes, what it refuses, and its help.
-use crate::words::{command_line, command_of, ending_of};
+use crate::words::{command_line, command_of, ending_of, file_of};
 use clap::error::ErrorKind;
 use mr_sim::{Ending, Shown, exit_status};
 use std::alloc::Global;
@@ -13,18 +13,31 @@ fn named(alloc: Global, words: &[&str]) -> Result<mr_sim::Command, clap::Error> 
     Ok(command_of(&matches))
 }
 
-/// The words ask for help: it goes to standard output with status 0, and holds this text.
-fn helps(rt: &impl Abort, alloc: Global, words: &[&str], text: &str) -> Result<(), Fail> {
+/// What the words ask for in place of a run goes to standard output with status 0: its text.
+fn told(rt: &impl Abort, alloc: Global, words: &[&str], kind: ErrorKind) -> Result<String, Fail> {
     match named(alloc, words) {
-        Ok(_) => panic!(rt; "no help"),
+        Ok(_) => panic!(rt; "a run"),
         Err(error) => {
-            assert!(rt; error.kind() == ErrorKind::DisplayHelp);
+            assert!(rt; error.kind() == kind);
             assert!(rt; !error.use_stderr());
             assert!(rt; ending_of(&error) == Ending::Helped);
             assert_eq!(rt; exit_status(ending_of(&error)), 0);
-            assert!(rt; error.to_string(alloc)?.contains(text));
+            Ok(error.to_string(alloc)?)
         }
     }
+}
+
+/// The words ask for help, which holds this text.
+fn helps(rt: &impl Abort, alloc: Global, words: &[&str], text: &str) -> Result<(), Fail> {
+    let help = told(rt, alloc, words, ErrorKind::DisplayHelp)?;
+    assert!(rt; help.contains(text), "{help}");
+    Ok(())
+}
+
+/// The words name this file, or none.
+fn reads(rt: &impl Abort, alloc: Global, words: &[&str], file: Option<&str>) -> Result<(), Fail> {
+    let matches = command_line(alloc)?.try_get_matches_from(words)?;
+    assert!(rt; file_of(&matches) == file);
     Ok(())
 }
 
@@ -97,17 +110,72 @@ fn help(rt: HostRuntime) -> Result<(), Fail> {
     helps(&rt, alloc, &["mrsim", "seq", "--help"], "== part-r-00001 4")
 }
 
+// `help` tells what `--help` tells, of the program and of each subcommand.
+#[test]
+fn help_in_words(rt: HostRuntime) -> Result<(), Fail> {
+    let alloc = rt.alloc();
+    for (word, option) in [
+        (&["mrsim", "help"][..], &["mrsim", "--help"][..]),
+        (
+            &["mrsim", "help", "committer"],
+            &["mrsim", "committer", "--help"],
+        ),
+        (&["mrsim", "help", "play"], &["mrsim", "play", "--help"]),
+        (
+            &["mrsim", "help", "history"],
+            &["mrsim", "history", "--help"],
+        ),
+        (&["mrsim", "help", "seq"], &["mrsim", "seq", "--help"]),
+    ] {
+        let help = told(&rt, alloc, word, ErrorKind::DisplayHelp)?;
+        helps(&rt, alloc, option, help.as_str())?;
+    }
+    refuses(&rt, alloc, &["mrsim", "help", "paly"]);
+    Ok(())
+}
+
+#[test]
+fn version(rt: HostRuntime) -> Result<(), Fail> {
+    let alloc = rt.alloc();
+    for word in ["--version", "-V"] {
+        let line = told(&rt, alloc, &["mrsim", word], ErrorKind::DisplayVersion)?;
+        assert!(rt;
+            line.as_str() == "mrsim 0.1.0, built of proved crates\n",
+            "{line}"
+        );
+    }
+    refuses(&rt, alloc, &["mrsim", "play", "--version"]);
+    Ok(())
+}
+
+#[test]
+fn file_words(rt: HostRuntime) -> Result<(), Fail> {
+    let alloc = rt.alloc();
+    reads(&rt, alloc, &["mrsim", "committer"], None)?;
+    reads(&rt, alloc, &["mrsim", "committer", "-"], None)?;
+    reads(&rt, alloc, &["mrsim", "committer", "a b"], Some("a b"))?;
+    reads(&rt, alloc, &["mrsim", "history", "x"], Some("x"))?;
+    reads(&rt, alloc, &["mrsim", "seq", "./-"], Some("./-"))?;
+    reads(&rt, alloc, &["mrsim", "play", "x", "--trace"], Some("x"))?;
+    reads(&rt, alloc, &["mrsim", "play", "--trace", "x"], Some("x"))?;
+    reads(
+        &rt,
+        alloc,
+        &["mrsim", "play", "--", "--trace"],
+        Some("--trace"),
+    )?;
+    refuses(&rt, alloc, &["mrsim", "seq", "x", "y"]);
+    refuses(&rt, alloc, &["mrsim", "x"]);
+    Ok(())
+}
+
 #[test]
 fn refused_words(rt: HostRuntime) {
     let alloc = rt.alloc();
     refuses(&rt, alloc, &["mrsim"]);
-    refuses(&rt, alloc, &["mrsim", "help"]);
     refuses(&rt, alloc, &["mrsim", "threads"]);
     refuses(&rt, alloc, &["mrsim", "comitter"]);
-    refuses(&rt, alloc, &["mrsim", "committer", "x"]);
     refuses(&rt, alloc, &["mrsim", "--turns", "committer"]);
     refuses(&rt, alloc, &["mrsim", "history", "--hold"]);
-    refuses(&rt, alloc, &["mrsim", "play", "--history", "yes"]);
-    refuses(&rt, alloc, &["mrsim", "play", "x"]);
-    refuses(&rt, alloc, &["mrsim", "seq", "x"]);
+    refuses(&rt, alloc, &["mrsim", "play", "--history=yes"]);
 }

@@ -10,15 +10,22 @@ use std::alloc::{AllocError, Global};
 const ABOUT: &str =
     "Simulates the part of a Hadoop MapReduce cluster that decides whose output counts.";
 
+// What stands behind the program's name where its version is asked for. It is our own.
+const VERSION: &str = "0.1.0, built of proved crates";
+
+const FILE: &str = "FILE";
+
+const FILE_HELP: &str = "The file to read in place of standard input; - is standard input";
+
 const STATUSES: &str = "\
-Each subcommand reads standard input to its end, and then writes standard output.
+Each subcommand reads standard input, or FILE, to its end, and then writes standard output.
 
 Statuses:
   0  done
   2  the command line was refused
   3  the input was refused: `mrsim: line N: bad command`, `mrsim: history: bad line N`,
      `mrsim: job: KEY`, `mrsim: refused`, `mrsim: input too long`
-  4  a stream failed: `mrsim: read`, `mrsim: write`
+  4  a stream failed: `mrsim: read`, `mrsim: write`, or FILE: `mrsim: read: FILE`
   5  `mrsim: no memory`
   7  `mrsim: full`";
 
@@ -141,15 +148,25 @@ fn shows<'a>(alloc: Global, name: &'a str, help: &'a str) -> Arg<'a> {
         .help(help)
 }
 
+// The file to be read, which may be left out.
+fn read_file<'a>(alloc: Global) -> Arg<'a> {
+    Arg::new(alloc, FILE).action(ArgAction::Set).help(FILE_HELP)
+}
+
 /// The program's command line.
 pub fn command_line<'a>(alloc: Global) -> Result<Command<'a>, AllocError> {
     let committer = Command::new(alloc, "committer")
         .about(COMMITTER)
-        .after_help(COMMITTER_HELP);
+        .after_help(COMMITTER_HELP)
+        .arg(read_file(alloc))?;
     let history = Command::new(alloc, "history")
         .about(HISTORY)
-        .after_help(HISTORY_HELP);
-    let seq = Command::new(alloc, "seq").about(SEQ).after_help(SEQ_HELP);
+        .after_help(HISTORY_HELP)
+        .arg(read_file(alloc))?;
+    let seq = Command::new(alloc, "seq")
+        .about(SEQ)
+        .after_help(SEQ_HELP)
+        .arg(read_file(alloc))?;
     let play = Command::new(alloc, "play")
         .about(PLAY)
         .after_help(PLAY_HELP)
@@ -159,11 +176,12 @@ pub fn command_line<'a>(alloc: Global) -> Result<Command<'a>, AllocError> {
                 .conflicts_with("trace")?,
         )?
         .arg(shows(alloc, "history", HISTORY_SHOWN))?
-        .arg(shows(alloc, "trace", TRACE_SHOWN))?;
+        .arg(shows(alloc, "trace", TRACE_SHOWN))?
+        .arg(read_file(alloc))?;
     Command::new(alloc, "mrsim")
+        .version(VERSION)
         .about(ABOUT)
         .after_help(STATUSES)
-        .disable_help_subcommand(true)
         .subcommand_required(true)
         .subcommand(committer)?
         .subcommand(play)?
@@ -181,12 +199,24 @@ pub fn command_of(matches: &ArgMatches<'_>) -> mr_sim::Command {
     }
 }
 
-/// How the program ends at words that name no subcommand to be run: they ask for help, or are refused, or there was no memory to
-/// read them.
+/// The name of the file that the words would have read, as it was given; none where that is standard input.
+pub fn file_of<'a>(matches: &ArgMatches<'a>) -> Option<&'a str> {
+    match matches.subcommand() {
+        Some((_, words)) => match words.get_str(FILE) {
+            Some("-") => None,
+            file => file,
+        },
+        None => None,
+    }
+}
+
+/// How the program ends at words that name no subcommand to be run: they ask for help or the version, or are refused, or there was
+/// no memory to read them.
 pub fn ending_of(error: &Error) -> Ending
     ensures help { kind_of error.now ≡ ErrorKind.DisplayHelp → result ≡ Ending.Helped }
+    ensures version { kind_of error.now ≡ ErrorKind.DisplayVersion → result ≡ Ending.Helped }
     ensures memory { kind_of error.now ≡ ErrorKind.OutOfMemory → result ≡ Ending.Failed SimFault.NoMemory }
-    // All else is a refusal. (There is no version to be shown.)
+    // All else is a refusal.
     ensures refused { kind_of error.now ≢ ErrorKind.DisplayHelp → kind_of error.now ≢ ErrorKind.DisplayVersion
         → kind_of error.now ≢ ErrorKind.OutOfMemory → result ≡ Ending.RefusedWords }
 {

@@ -10,10 +10,14 @@ mod pictures;
 #[cfg(test)]
 mod play;
 #[cfg(test)]
+mod rows;
+#[cfg(test)]
 mod scripts;
 #[cfg(test)]
 mod segments;
 #[cfg(test)]
 mod seq;
+#[cfg(test)]
+mod shown;
 #[cfg(test)]
 mod traces;

@@ -112,9 +112,11 @@ fn long_runs_are_cut(rt: HostRuntime) -> Result<(), Fail> {
     }
     let picture = drawn(&rt, &script)?;
     assert!(rt; picture.contains(">cut here: 3 more events are not drawn<"));
+    assert!(rt; picture.contains(">3 restart<"));
     assert_eq!(rt; count(&picture, ">restart 0<"), 400);
     let whole = drawn(&rt, "restart 0")?;
     assert!(rt; !whole.contains("cut here"));
+    assert!(rt; !whole.contains("later"));
     Ok(())
 }
 
@@ -140,6 +142,27 @@ fn delivered_behind_the_cut(rt: HostRuntime) -> Result<(), Fail> {
     Ok(())
 }
 
+// The same packets as strokes: from node 0 in its lane to the left, one that comes behind the cut, and 396 that never come. Each
+// kind stands once in the key too. What is left out is the one delivery.
+#[test]
+fn strokes_at_the_cut(rt: HostRuntime) -> Result<(), Fail> {
+    let mut script = String::from_str(
+        rt.alloc(),
+        "start 1 0\nrestart 0\nrestart 0\nrestart 0\ndeliver 2\n",
+    )?;
+    for _ in 0..395 {
+        script.push_str("restart 0\n")?;
+    }
+    script.push_str("deliver 0\n")?;
+    let picture = drawn(&rt, &script)?;
+    assert_eq!(rt; count(&picture, "class=\"later\""), 2);
+    assert_eq!(rt; count(&picture, "class=\"lost\""), 397);
+    assert_eq!(rt; count(&picture, "class=\"packet\" x"), 2);
+    assert!(rt; picture.contains(">delivered later, behind the events that are drawn<"));
+    assert!(rt; picture.contains(">1 deliver<"));
+    Ok(())
+}
+
 // Below the picture 24 lines have room: the marker, the outcome, and then 22 of 30 winners.
 #[test]
 fn marker_and_outcome_come_first(rt: HostRuntime) -> Result<(), Fail> {
@@ -155,6 +178,7 @@ fn marker_and_outcome_come_first(rt: HostRuntime) -> Result<(), Fail> {
         }
     }
     assert!(rt; !picture.contains(">r 22 none<"));
+    assert!(rt; picture.contains(">cut here: 8 more lines are not shown<"));
     Ok(())
 }
 

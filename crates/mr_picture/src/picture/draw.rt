@@ -3,9 +3,11 @@ ghost use Rattle.std.specs.Prelude.{◌≡◌, IfErr};
 ghost use Rattle.mr_commands.specs.declared.fault.SimFault.TheVariants.{NoMemory};
 
 use crate::picture::drawing::{
-    Arrow, Drawing, End, Lane, MOST_ROWS, Row, Sign, Tone, container_lane, lane_of, master_lane,
+    Arrow, Delivery, Drawing, End, Lane, MOST_ROWS, Row, Sign, Tone, container_lane, lane_of,
+    master_lane,
 };
 use crate::picture::lanes::{end_at, lanes_of, live};
+use crate::picture::rest::{deliveries, left_out};
 use crate::picture::rows::{
     Facts, event_of, facts_of, name_label, put_consequences, put_detail, sign_of,
 };
@@ -27,12 +29,15 @@ pub fn drawing_of(alloc: Global, world: &World, ending: Vec<u8>) -> Result<Drawi
 
 fn shown(alloc: Global, world: &World, ending: Vec<u8>) -> Result<Drawing, AllocError> {
     let journal = world.journal();
-    let mut drawing = blank(alloc, &shown_part(alloc, world)?, ending)?;
+    let part = shown_part(alloc, world)?;
+    let ways = deliveries(alloc, journal, part.bag().len())?;
+    let mut drawing = blank(alloc, &part, ending)?;
     drawing.more = journal.len().saturating_sub(MOST_ROWS);
+    drawing.left_out = left_out(alloc, journal)?;
     let mut again = begun(alloc, world)?;
     live(&mut drawing.lanes, &again, 0, End::Over);
     for event in journal.iter().take(MOST_ROWS) {
-        add(alloc, &mut drawing, &mut again, journal, event)?;
+        add(alloc, &mut drawing, &mut again, &ways, event)?;
     }
     Ok(drawing)
 }
@@ -73,16 +78,17 @@ fn blank(alloc: Global, world: &World, ending: Vec<u8>) -> Result<Drawing, Alloc
         arrows: Vec::new(alloc),
         repeats: Vec::new(alloc),
         more: 0,
+        left_out: Vec::new(alloc),
         ending,
     })
 }
 
-// The event happens, and is drawn.
+// The event happens, and is drawn. Each packet is delivered where its place tells.
 fn add(
     alloc: Global,
     drawing: &mut Drawing,
     world: &mut World,
-    journal: &[Event],
+    ways: &[Delivery],
     event: &Event,
 ) -> Result<(), AllocError> {
     let place = drawing.rows.len();
@@ -93,8 +99,8 @@ fn add(
     row.leftwards = arrive(drawing, event, place)?;
     happen(world, event)?;
     live(&mut drawing.lanes, world, place, end);
-    send(drawing, row.lane, place, world, first)?;
-    put_lost(&mut row.detail, world, journal, first)?;
+    send(drawing, row.lane, world, ways)?;
+    put_lost(&mut row.detail, world, ways, first)?;
     let after = facts_of(world, event)?;
     finish(&mut row, event, &before, &after)?;
     drawing.rows.push(row)?;
@@ -155,39 +161,45 @@ fn arrive(drawing: &mut Drawing, event: &Event, row: usize) -> Result<bool, Allo
     let Event::Deliver { packet: i } = event else {
         return Ok(false);
     };
-    let Some(arrow) = drawing.arrows.get_mut(*i as usize) else {
+    let Some(arrow) = drawing.arrows.get(*i as usize) else {
         return Ok(false);
     };
     let leftwards = arrow.to < arrow.from;
-    if arrow.delivered.is_none() {
-        arrow.delivered = Some(row);
-        return Ok(leftwards);
+    if arrow.delivery != Delivery::At(row) {
+        let mut repeat = *arrow;
+        repeat.delivery = Delivery::At(row);
+        drawing.repeats.push(repeat)?;
     }
-    let mut repeat = *arrow;
-    repeat.delivered = Some(row);
-    drawing.repeats.push(repeat)?;
     Ok(leftwards)
 }
 
-// An arrow for each packet from this place of the bag on, from a lane and a row.
+// An arrow from a lane for each packet that has none yet. The row is the next one.
 fn send(
     drawing: &mut Drawing,
     from: Option<usize>,
-    row: usize,
     world: &World,
-    first: usize,
+    ways: &[Delivery],
 ) -> Result<(), AllocError> {
-    for envelope in world.bag().iter().skip(first) {
+    let sent = drawing.rows.len();
+    let first = drawing.arrows.len();
+    for (place, envelope) in world.bag().iter().enumerate().skip(first) {
         let arrow = Arrow {
             from,
-            sent: row,
+            sent,
             to: lane_of(&drawing.lanes, &envelope.to),
-            delivered: None,
+            delivery: delivery_of(ways, place),
             tone: tone_of(&envelope.body),
         };
         drawing.arrows.push(arrow)?;
     }
     Ok(())
+}
+
+fn delivery_of(ways: &[Delivery], place: usize) -> Delivery {
+    match ways.get(place) {
+        Some(delivery) => *delivery,
+        None => Delivery::Never,
+    }
 }
 
 fn tone_of(packet: &Packet) -> Tone {
@@ -202,12 +214,14 @@ fn tone_of(packet: &Packet) -> Tone {
 fn put_lost(
     out: &mut Vec<u8>,
     world: &World,
-    journal: &[Event],
+    ways: &[Delivery],
     first: usize,
 ) -> Result<(), AllocError> {
     for (place, envelope) in world.bag().iter().enumerate().skip(first) {
-        if let Some(words) = undrawn_words(journal, place) {
-            put_undrawn(out, words, envelope)?;
+        match delivery_of(ways, place) {
+            Delivery::At(_) => {}
+            Delivery::Later => put_undrawn(out, b"delivered later to ", envelope)?,
+            Delivery::Never => put_undrawn(out, b"not delivered to ", envelope)?,
         }
     }
     Ok(())
@@ -221,21 +235,4 @@ fn put_undrawn(out: &mut Vec<u8>, words: &[u8], envelope: &Envelope) -> Result<(
     put_address(out, &envelope.to)?;
     out.extend_from_slice(b": ")?;
     put_packet(out, &envelope.body)
-}
-
-// What is said of the packet at this place where its delivery is not drawn: no event of the whole run delivers it, or only one
-// behind those that are drawn.
-fn undrawn_words(journal: &[Event], place: usize) -> Option<&'static [u8]> {
-    match journal.iter().position(|event| delivers(event, place)) {
-        None => Some(b"not delivered to "),
-        Some(row) if row < MOST_ROWS => None,
-        Some(_) => Some(b"delivered later to "),
-    }
-}
-
-fn delivers(event: &Event, place: usize) -> bool {
-    match event {
-        Event::Deliver { packet: i } => *i == place as u64,
-        _ => false,
-    }
 }

@@ -96,13 +96,24 @@ pub enum Tone {
     No,
 }
 
-/// A packet, from the row and the lane that it was sent from to the lane that it goes to, and the row in which it was delivered.
+/// Where in a run a packet is delivered.
+#[derive(Clone, Copy, Debug, PartialEq, Eq)]
+pub enum Delivery {
+    /// In this row.
+    At(usize),
+    /// Behind the rows that are drawn.
+    Later,
+    /// Nowhere.
+    Never,
+}
+
+/// A packet, from the row and the lane that it was sent from to the lane that it goes to, and where it is delivered.
 #[derive(Clone, Copy, Debug, PartialEq, Eq)]
 pub struct Arrow {
     pub from: Option<usize>,
     pub sent: usize,
     pub to: Option<usize>,
-    pub delivered: Option<usize>,
+    pub delivery: Delivery,
     pub tone: Tone,
 }
 
@@ -121,6 +132,8 @@ pub struct Drawing {
     pub repeats: Vec<Arrow>,
     /// How many more events there were.
     pub more: usize,
+    /// How many of these there were of each kind, in words.
+    pub left_out: Vec<u8>,
     /// What came of the whole run, a line each.
     pub ending: Vec<u8>,
 }

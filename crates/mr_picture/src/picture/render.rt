@@ -1,7 +1,9 @@
 //! The picture of a drawing: where its parts stand, and how they are written.
 //! It is written as SVG, for `drawn`.
-use crate::picture::drawing::{Arrow, Drawing, End, Lane, Row, Sign, Tone};
-use crate::picture::signs::{put_begin, put_dead, put_given_up, put_key, put_over, put_sign};
+use crate::picture::drawing::{Arrow, Delivery, Drawing, End, Lane, Row, Sign, Tone};
+use crate::picture::signs::{
+    put_begin, put_dead, put_given_up, put_key, put_later_key, put_over, put_sign,
+};
 use crate::picture::svg::{Point, close, line, noted, open, rectangle, text};
 use itoa::Buffer;
 use mr_packet::Address;
@@ -109,12 +111,16 @@ fn at(x: u64, y: u64) -> Point {
 
 // The title, and what the signs mean.
 fn put_top(out: &mut String, drawing: &Drawing, places: &Places) -> Result<(), AllocError> {
-    let foot = (line_count(drawing) as u64).saturating_mul(14);
+    let foot = (foot_lines(drawing) as u64).saturating_mul(14);
     let height = places.below.saturating_add(70).saturating_add(foot);
     let title = title_of(*out.allocator(), drawing)?;
     open(out, at(places.width, height), &title)?;
     text(out, "title", at(16, 26), &title)?;
-    put_key(out, at(24, 50))
+    put_key(out, at(24, 50))?;
+    if drawing.more > 0 {
+        put_later_key(out, at(24, 94))?;
+    }
+    Ok(())
 }
 
 fn title_of(alloc: Global, drawing: &Drawing) -> Result<Vec<u8>, AllocError> {
@@ -262,12 +268,13 @@ fn put_arrows(
     for arrow in arrows {
         if let (Some(from), Some(to)) = (arrow.from, arrow.to) {
             let start = place(places, from, arrow.sent);
-            match arrow.delivered {
-                Some(row) => {
+            match arrow.delivery {
+                Delivery::At(row) => {
                     let class = arrow_class(arrow.tone, again);
                     put_arrow(out, class, start, place(places, to, row))?;
                 }
-                None => put_stub(out, start, from < to)?,
+                Delivery::Later => put_stub(out, "later", start, from < to)?,
+                Delivery::Never => put_stub(out, "lost", start, from < to)?,
             }
         }
     }
@@ -293,13 +300,18 @@ fn put_arrow(out: &mut String, class: &str, from: Point, to: Point) -> Result<()
     line(out, class, from, at(x, to.y))
 }
 
-fn put_stub(out: &mut String, from: Point, rightwards: bool) -> Result<(), AllocError> {
+fn put_stub(
+    out: &mut String,
+    class: &str,
+    from: Point,
+    rightwards: bool,
+) -> Result<(), AllocError> {
     let x = if rightwards {
         from.x.saturating_add(30)
     } else {
         from.x.saturating_sub(30)
     };
-    line(out, "lost", from, at(x, from.y.saturating_add(12)))
+    line(out, class, from, at(x, from.y.saturating_add(12)))
 }
 
 // The sign of each row, with what stands beside it.
@@ -365,29 +377,58 @@ fn put_heads(
     Ok(())
 }
 
-// How many lines stand below the rows.
+// How many lines tell what came of the run, with the empty one behind the last line feed.
 fn line_count(drawing: &Drawing) -> usize {
-    drawing
-        .ending
-        .split(|byte| *byte == b'\n')
-        .count()
-        .min(MOST_LINES)
+    drawing.ending.split(|byte| *byte == b'\n').count()
 }
 
-// How many more events there were, and what came of the run.
+// How many of them are left out. Empty ones don't count.
+fn hidden_lines(drawing: &Drawing) -> usize {
+    let mut hidden = 0usize;
+    for words in drawing.ending.split(|byte| *byte == b'\n').skip(MOST_LINES) {
+        if !words.is_empty() {
+            hidden = hidden.saturating_add(1);
+        }
+    }
+    hidden
+}
+
+// How many lines stand below the rows, with those that tell what is left out.
+fn foot_lines(drawing: &Drawing) -> usize {
+    line_count(drawing)
+        .min(MOST_LINES)
+        .saturating_add(usize::from(drawing.more > 0))
+        .saturating_add(usize::from(hidden_lines(drawing) > 0))
+}
+
+// That so many of something are left out.
+fn cut_note(alloc: Global, count: usize, behind: &[u8]) -> Result<Vec<u8>, AllocError> {
+    let mut note = Vec::new(alloc);
+    let mut buffer = Buffer::new();
+    note.extend_from_slice(b"cut here: ")?;
+    note.extend_from_slice(buffer.format(count).as_bytes())?;
+    note.extend_from_slice(behind)?;
+    Ok(note)
+}
+
+// Which events are left out, and what came of the run.
 fn put_ending(out: &mut String, drawing: &Drawing, places: &Places) -> Result<(), AllocError> {
+    let alloc = *out.allocator();
     let mut y = places.below.saturating_add(40);
     if drawing.more > 0 {
-        let mut note = Vec::new(*out.allocator());
-        let mut buffer = Buffer::new();
-        note.extend_from_slice(b"cut here: ")?;
-        note.extend_from_slice(buffer.format(drawing.more).as_bytes())?;
-        note.extend_from_slice(b" more events are not drawn")?;
+        let note = cut_note(alloc, drawing.more, b" more events are not drawn")?;
         text(out, "title", at(16, y), &note)?;
+        y = y.saturating_add(14);
+        text(out, "words", at(38, y), &drawing.left_out)?;
     }
     for words in drawing.ending.split(|byte| *byte == b'\n').take(MOST_LINES) {
         y = y.saturating_add(14);
         text(out, "words", at(38, y), words)?;
+    }
+    let hidden = hidden_lines(drawing);
+    if hidden > 0 {
+        let note = cut_note(alloc, hidden, b" more lines are not shown")?;
+        text(out, "words", at(38, y.saturating_add(14)), &note)?;
     }
     Ok(())
 }

@@ -1,7 +1,7 @@
 //! The signs of a picture, and what they mean.
 //! `picture` puts one at each event, and their key at the top.
 use crate::picture::drawing::Sign;
-use crate::picture::svg::{Point, line, shape, text};
+use crate::picture::svg::{Point, later_style, line, shape, text};
 use std::alloc::AllocError;
 
 const DOT: &str = "M-3 0a3 3 0 1 0 6 0a3 3 0 1 0 -6 0";
@@ -71,6 +71,17 @@ pub fn put_key(out: &mut String, at: Point) -> Result<(), AllocError> {
         y: at.y.saturating_add(22),
     };
     put_commit_key(out, below)
+}
+
+/// What a packet's stroke means that only a picture has that is cut, in a line from this place on.
+pub fn put_later_key(out: &mut String, at: Point) -> Result<(), AllocError> {
+    later_style(out)?;
+    put_stroke(out, "later", at)?;
+    meaning(
+        out,
+        right(at),
+        b"delivered later, behind the events that are drawn",
+    )
 }
 
 fn put_lives_key(out: &mut String, at: Point) -> Result<(), AllocError> {

@@ -60,6 +60,10 @@ path{fill:none;stroke:#000;stroke-width:1.5}
 </defs>
 ";
 
+// How a packet looks whose delivery stands behind a cut.
+const LATER_STYLE: &str =
+    "<style>.later{stroke:#444;stroke-dasharray:2 2;marker-end:url(#head)}</style>\n";
+
 /// The head of a picture of this size: its title, how its elements look, and a white ground.
 pub fn open(out: &mut String, size: Point, title: &[u8]) -> Result<(), AllocError> {
     let (x, y) = (size.x, size.y);
@@ -71,6 +75,11 @@ pub fn open(out: &mut String, size: Point, title: &[u8]) -> Result<(), AllocErro
     out.push_str("</title>\n")?;
     out.push_str(STYLE)?;
     out.push_str("<rect width=\"100%\" height=\"100%\" fill=\"#fff\"/>\n")
+}
+
+/// How the elements look that stand in no picture but one that is cut.
+pub fn later_style(out: &mut String) -> Result<(), AllocError> {
+    out.push_str(LATER_STYLE)
 }
 
 /// The end of a picture.
