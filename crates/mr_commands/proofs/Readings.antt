@@ -1,12 +1,12 @@
 -- A line is at most one command, and a script at most one list of them.
-use Rattle.std.proofs.Common.{◌≡◌, ℕ, List, ◌∷◌, ◌++◌, Some, None, decimal, codes, sym, refl, ap, ap₂, ◌∙◌, arith}
+use Rattle.std.proofs.Common.{◌≡◌, false, ℕ, List, ◌∷◌, ◌++◌, Some, None, decimal, codes, sym, refl, ap, ap₂, ◌∙◌, arith}
 use Rattle.std.proofs.lemmas.Fmt.{decimal_injective}
 use Rattle.mr_commands.specs.declared.committer.command.ScriptCommand.{ScriptCommand}
 use Rattle.mr_commands.specs.declared.committer.command.ScriptCommand.TheVariants.{As, Raise, Check, Setup, Write, Needs, Commit, Abort, Recover, CommitJob, AbortJob, Bar, By}
-use Rattle.mr_script.specs.Lines.{before, after, lines_of}
+use Rattle.mr_script.specs.Lines.{before, after, is_comment, lines_of}
 use Rattle.mr_commands.specs.committer.Script.{attempt_word, task_word, line_of, IsCommand, IsLine}
 use Rattle.mr_commands.specs.inner.Verb.{verb_of, rest_of}
-use Rattle.mr_commands.specs.Laws.{OneReading, ReadOrBad, OneFirstBad}
+use Rattle.mr_commands.specs.Laws.{OneReading, ReadOrBad, OneFirstBad, CommentsAreNoCommands}
 use Rattle.mr_script.proofs.Lines.{same-lines, not-both, same-first}
 use Rattle.mr_script.proofs.Words.{before-by, after-by, none-after}
 use Rattle.mr_commands.proofs.committer.Attempts.{no_space-attempt_word, no_space-task_word, attempt_word-injective, task_word-injective, attempt_word-none}
@@ -68,3 +68,21 @@ read_or_bad_law = λ bytes os k. not-both IsLine 1 (lines_of bytes) os k
 
 pub one_first_bad_law : OneFirstBad
 one_first_bad_law = λ bytes j k. same-first IsLine 1 (lines_of bytes) j k
+
+no_comment : (o : ScriptCommand) → is_comment (line_of o) ≡ false
+no_comment (As k) = refl
+no_comment (Raise k) = refl
+no_comment Check = refl
+no_comment Setup = refl
+no_comment (Write a text) = refl
+no_comment (Needs a) = refl
+no_comment (Commit a) = refl
+no_comment (Abort a) = refl
+no_comment (Recover t bytes) = refl
+no_comment CommitJob = refl
+no_comment AbortJob = refl
+no_comment (Bar a) = refl
+no_comment (By who) = refl
+
+pub comments_are_no_commands_law : CommentsAreNoCommands
+comments_are_no_commands_law = λ line o h. ap is_comment h.1 ∙ no_comment o

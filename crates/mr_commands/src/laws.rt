@@ -1,5 +1,5 @@
 //! Laws of the definitions: these functions do nothing.
-ghost use Rattle.mr_commands.specs.Laws.{OneReading, ReadOrBad, OneFirstBad, OneSeqText};
+ghost use Rattle.mr_commands.specs.Laws.{OneReading, ReadOrBad, OneFirstBad, CommentsAreNoCommands, OneSeqText};
 
 /// A script has at most one reading.
 pub fn one_reading()
@@ -14,6 +14,11 @@ pub fn read_or_bad()
 /// A script has at most one first bad line.
 pub fn one_first_bad()
     ensures { OneFirstBad }
+{}
+
+/// A line that is a command is no comment.
+pub fn comments_are_no_commands()
+    ensures { CommentsAreNoCommands }
 {}
 
 /// `seq` prints at most one text for an input.

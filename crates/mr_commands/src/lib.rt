@@ -23,7 +23,7 @@
 //! slashes between them (`print_names`), each behind what is there already.
 //!
 //! Laws, each on a function of its own: a script has at most one reading (`one_reading`), is not both read and bad
-//! (`read_or_bad`), and has at most one first bad line (`one_first_bad`), and a job text has at most one print
+//! (`read_or_bad`), has at most one first bad line (`one_first_bad`), and none of its commands is a comment (`comments_are_no_commands`); a job text has at most one print
 //! (`one_seq_text`). `SimFault::status` is exactly the table of statuses.
 //!
 //! Only tested: the texts of `SimFault` (derived by thiserror), and the examples.
@@ -40,5 +40,7 @@ pub use committer::{committer_output, print_names};
 pub use fault::{JobTextFault, SimFault};
 pub use history::{history_output, print_record};
 pub use job::{JobKind, Submission, read_job_text};
-pub use laws::{one_first_bad, one_reading, one_seq_text, read_or_bad};
+pub use laws::{
+    comments_are_no_commands, one_first_bad, one_reading, one_seq_text, read_or_bad,
+};
 pub use seq::{print_file, seq_output};

@@ -15,7 +15,7 @@ use Rattle.mr_master_model.specs.Duty.{Duty, duty, duty_at, record_duty, abort_d
 use Rattle.mr_master_model.specs.Answered.{is_fine, changed, work_after, with_work, after_due, failing_after, name_of, is_unsuccessful}
 use Rattle.mr_master_model.specs.Sends.{work_sends, outcome_of, due_sends}
 use Rattle.mr_master.specs.WorkKinds.{passes_abort, aborted}
-use Rattle.mr_master.specs.Records.{written_by}
+use Rattle.mr_tables.specs.Records.{written_by}
 use Rattle.mr_master.specs.Answering.{answered_sends, answered_seen}
 use Rattle.mr_master.proofs.Replies.{quiet, after_named, named_sends, due-named, sends-named}
 

@@ -9,7 +9,7 @@ use Rattle.mr_master_model.specs.Readings.{Seen, is_running, is_over}
 use Rattle.mr_master_model.specs.Hearing.{heard, delivered, after_node_up}
 use Rattle.mr_master_model.specs.Sends.{replies, killed_by}
 use Rattle.mr_master_model.specs.Next.{seen, next_seen, moved, sent_by, sent, with_kills}
-use Rattle.mr_master.specs.Launches.{Launched, Notes}
+use Rattle.mr_tables.specs.Launches.{Launched, Notes}
 use Rattle.mr_master.specs.State.{Master, Keeps, Moves, Stands, StandsStill, Answers}
 use Rattle.mr_master.proofs.Parts.{with-launches}
 

@@ -1,13 +1,12 @@
 -- The attempts that are given up are distinct, so each bar that is new comes once.
-use Rattle.std.proofs.Common.{ℕ, zero, suc, ◌+◌, ◌<◌, ◌≡◌, refl, sym, ◌∙◌, ap, subst, Bool, true, false, ◌||◌, not, cond, List, [], ◌∷◌, ◌++◌, filter, flat_map, length, take, get_or, add-one, append-nil, append_assoc, arith, true≢false}
-use Rattle.std.proofs.Math.Seq.{take-suc}
+use Rattle.std.proofs.Common.{ℕ, zero, suc, ◌<◌, ◌≡◌, refl, sym, ◌∙◌, ap, subst, Bool, true, false, ◌||◌, not, cond, List, [], ◌∷◌, ◌++◌, filter, flat_map, append-nil, append_assoc, arith, true≢false}
 use Rattle.std.proofs.lemmas.List.Folds.{list_any-append}
 use Rattle.std.proofs.lemmas.Grind.{flat_map-append}
 use Rattle.mr_ids.specs.Attempt.{Attempt}
 use Rattle.mr_ids.specs.declared.id.TaskId.{TaskId}
 use Rattle.mr_ids.specs.declared.id.TaskKind.{TaskKind}
 use Rattle.mr_ids.specs.declared.id.TaskKind.TheVariants.{Reduce}
-use Rattle.mr_grant.specs.Attempts.{same_attempt, has, with_last}
+use Rattle.mr_grant.specs.Attempts.{same_attempt, has}
 use Rattle.mr_grant.proofs.Same.{same-is, same-itself}
 use Rattle.mr_task.specs.Readings as task
 use Rattle.mr_task.specs.Readings.{AreDistinct}
@@ -16,9 +15,9 @@ use Rattle.mr_master_model.specs.declared.setting.Setting.{Setting}
 use Rattle.mr_master_model.specs.Job.{task_of, first_tasks, all_reduces}
 use Rattle.mr_master_model.specs.Readings.{Seen, of_task}
 use Rattle.mr_master_model.specs.Hearing.{given_up, new_bars}
-use Rattle.mr_master.specs.declared.gone.Gone.TheVariants.{GivenUp}
-use Rattle.mr_master.specs.inner.Gone.{gone_of}
-use Rattle.mr_master.specs.inner.Expiring.{all_added}
+use Rattle.mr_tables.specs.declared.gone.Gone.TheVariants.{GivenUp}
+use Rattle.mr_tables.specs.Gone.{gone_of}
+use Rattle.mr_tables.specs.Bars.{all_added}
 use Rattle.mr_master.proofs.Telling.{Own}
 use Rattle.mr_master.proofs.Losing.{among-passing, gone-own}
 
@@ -107,14 +106,3 @@ bars-added w s n bars more new e f g =
     g ∙ (λ i. all_added (e i) (f i))
     ∙ added-is s.bars (flat_map (given_up w s n) (all_reduces w))
     (all-distinct w (given_up w s n) (gone-own w s (GivenUp n)) (λ t. filter-distinct _ (task.live (of_task w s t)) (filter-distinct (task.is_live (of_task w s t)) (of_task w s t).arrived (arrivals t w.app (s.calls t)).distinct)) Reduce w.reduces)
-
--- ---- the loop
-
-added-more : (bars xs : List Attempt) (a : Attempt) → all_added bars (xs ++ a ∷ []) ≡ with_last (all_added bars xs) a
-added-more bars [] a = refl
-added-more bars (x ∷ xs) a = added-more (with_last bars x) xs a
-
-pub next-added : (bars xs : List Attempt) (i : ℕ) (x : Attempt) (mid new : List Attempt) → i < length xs → x ≡ get_or xs i x → mid ≡ all_added bars (take i xs) → new ≡ with_last mid x → new ≡ all_added bars (take (i + 1) xs)
-next-added bars xs i x mid new within is before now =
-    let more : take (i + 1) xs ≡ take i xs ++ x ∷ [] = ap (λ (n : ℕ). take n xs) (add-one i) ∙ take-suc xs i x within ∙ ap (λ (y : Attempt). take i xs ++ y ∷ []) (sym is) in
-    now ∙ ap (λ (l : List Attempt). with_last l x) before ∙ sym (ap (λ (l : List Attempt). all_added bars l) more ∙ added-more bars (take i xs) x)

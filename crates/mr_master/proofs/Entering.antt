@@ -1,5 +1,5 @@
 -- A launch: what the machine keeps after it, and what it sends.
-use Rattle.std.proofs.Common.{ℕ, ◌+◌, ◌<◌, ◌≡◌, refl, sym, ◌∙◌, ap, subst, Bool, true, false, List, [], ◌∷◌, ◌++◌, Option, Some, None, Ok, is_none, Result, slice_get, length, length-append, if◌then◌else◌, arith, nat_eq}
+use Rattle.std.proofs.Common.{ℕ, ◌+◌, ◌<◌, ◌≡◌, refl, sym, ◌∙◌, ap, subst, Bool, true, false, List, [], ◌∷◌, ◌++◌, Option, Some, None, Ok, is_none, Result, slice_get, length, length-append, unwrap_or, if◌then◌else◌, arith, nat_eq}
 use Rattle.std.specs.Map.{lookup}
 use Rattle.std.proofs.lemmas.Bool.{eqb-true, eqb-false}
 use Rattle.std.proofs.lemmas.Bool.Decides.{nat_tests}
@@ -7,6 +7,7 @@ use Rattle.mr_ids.specs.Attempt.{Attempt}
 use Rattle.mr_ids.specs.declared.id.TaskId.{TaskId}
 use Rattle.mr_grant.specs.Attempts.{same_attempt}
 use Rattle.mr_task.specs.declared.fault.TaskFault.{TaskFault}
+use Rattle.mr_task.specs.declared.fault.TaskFault.TheVariants.{NoMemory}
 use Rattle.mr_task.specs.Calls as task_call
 use Rattle.mr_task.specs.Readings as reading
 use Rattle.mr_task.specs.State.{launch_answer, refusal_or}
@@ -28,8 +29,8 @@ use Rattle.mr_master_model.proofs.Launching.{may-launch, launches_are_fresh}
 use Rattle.mr_master_model.proofs.Killing.{kills_go_to_launched}
 use Rattle.mr_master.specs.Places.{place_of}
 use Rattle.mr_master.specs.Tasks.{Tasks, AnswersAt, Takes, told}
-use Rattle.mr_master.specs.Launches.{Launched, KeepsLaunches, SameLaunches}
-use Rattle.mr_master.specs.Records.{Writing, SameRecords}
+use Rattle.mr_tables.specs.Launches.{Launched, KeepsLaunches, SameLaunches}
+use Rattle.mr_tables.specs.Records.{Writing, SameRecords}
 use Rattle.mr_master.specs.inner.Launching.{IsNew, HasLaunched}
 use Rattle.mr_master.specs.State.{Master, Keeps, StandsFor, Stands}
 use Rattle.mr_master.proofs.Keeping.{read-at}
@@ -56,6 +57,14 @@ next-is m w s t n i a k none p answers =
     let free : reading.launch_refusal (of_task w s t) ≡ None = is-none _ (may-launch w s t n (none-is _ none)).task in
     ok-is (read-at m.tasks w s.calls t i launch_answer (Ok a) k.tasks p.0 p.1 answers
     ∙ ap (λ (o : Option TaskFault). refusal_or o (next_attempt w s t)) free)
+
+-- where it comes to nothing, memory was wanting
+pub fault-is : (m : Master) (w : Setting) (s : Seen) (t : TaskId) (n i : ℕ) (f : TaskFault) → Keeps m w s → launch_refusal w s t n ≡ None → (is_task w t ≡ true) × (i ≡ place_of w t)
+    → AnswersAt m.tasks.machines i (λ t k calls. unwrap_or (reading.launch_refusal (reading.seen t k calls)) NoMemory) f → f ≡ NoMemory
+fault-is m w s t n i f k none p answers =
+    let free : reading.launch_refusal (of_task w s t) ≡ None = is-none _ (may-launch w s t n (none-is _ none)).task in
+    read-at m.tasks w s.calls t i (λ t k calls. unwrap_or (reading.launch_refusal (reading.seen t k calls)) NoMemory) f k.tasks p.0 p.1 answers
+    ∙ ap (λ (o : Option TaskFault). unwrap_or o NoMemory) free
 
 -- ---- what is sent
 

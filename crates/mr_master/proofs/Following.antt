@@ -14,7 +14,7 @@ use Rattle.mr_task.specs.Steps.{Task}
 use Rattle.mr_master_model.specs.declared.setting.Setting.{Setting}
 use Rattle.mr_master_model.specs.Job.{is_task, task_of, count_of, first_tasks, all_maps, all_reduces}
 use Rattle.mr_master_model.specs.Readings.{Seen, is_running, or_else, of_task, wants_launch, all_succeeded, wanted}
-use Rattle.mr_master.specs.inner.Marks.{is_marked, IsFirst}
+use Rattle.mr_tables.specs.Marks.{is_marked, IsFirst}
 use Rattle.mr_master.specs.Places.{place_of, place_by}
 use Rattle.mr_master.specs.inner.Progress.{Progress, waits, same_kind, is_open, open_of, FollowsTo, FollowsAllTo, HasRoom, IsProgress, Notes, NotesAll, IsNextOf}
 use Rattle.mr_master.specs.Tasks.{Tasks, KeepsTasks, TakesAt}

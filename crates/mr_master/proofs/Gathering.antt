@@ -14,8 +14,8 @@ use Rattle.mr_task.specs.Readings as task
 use Rattle.mr_master_model.specs.declared.setting.Setting.{Setting}
 use Rattle.mr_master_model.specs.Job.{is_task, task_of, count_of, first_tasks}
 use Rattle.mr_master_model.specs.Readings.{Seen, launch_of, of_task}
-use Rattle.mr_master.specs.declared.gone.Gone.{Gone}
-use Rattle.mr_master.specs.inner.Gone.{is_gone, gone_of, if_gone, of_job}
+use Rattle.mr_tables.specs.declared.gone.Gone.{Gone}
+use Rattle.mr_tables.specs.Gone.{is_gone, gone_of, if_gone, of_job}
 use Rattle.mr_master.specs.Places.{place_of}
 use Rattle.mr_master.specs.Tasks.{Tasks, KeepsTasks}
 use Rattle.mr_master.proofs.Keeping.{machine-of}

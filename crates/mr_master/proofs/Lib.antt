@@ -1,5 +1,4 @@
 pub mod Apart
-pub mod Noting
 pub mod Opening
 pub mod Parts
 pub mod Keeping
@@ -11,10 +10,8 @@ pub mod Lying
 pub mod Delivering
 pub mod Answering
 pub mod Containers
-pub mod Incarnations
 pub mod Telling
 pub mod Stepping
-pub mod Listing
 pub mod Gathering
 pub mod Dying
 pub mod AllDone
@@ -31,9 +28,7 @@ pub mod Taken
 pub mod Called
 pub mod GivenUp
 pub mod Prepared
-pub mod Marking
 pub mod Following
 pub mod Past_stays
 pub mod On_nodes
-pub mod Placing
 pub mod Owning

@@ -19,10 +19,10 @@ use Rattle.mr_master_model.specs.Sends.{kill_of, killed_by}
 use Rattle.mr_master_model.specs.Next.{with_kills}
 use Rattle.mr_packet.specs.declared.packet.Envelope.{Envelope}
 use Rattle.mr_master.specs.inner.Expiring.{kills_on, with_bars}
-use Rattle.mr_master.specs.Launches.{Launched, Notes}
-use Rattle.mr_master.specs.declared.gone.Gone.{Gone}
-use Rattle.mr_master.specs.declared.gone.Gone.TheVariants.{Restarted, GivenUp}
-use Rattle.mr_master.specs.inner.Gone.{gone_of, lost_of, is_lost}
+use Rattle.mr_tables.specs.Launches.{Launched, Notes}
+use Rattle.mr_tables.specs.declared.gone.Gone.{Gone}
+use Rattle.mr_tables.specs.declared.gone.Gone.TheVariants.{Restarted, GivenUp}
+use Rattle.mr_tables.specs.Gone.{gone_of, lost_of, is_lost}
 use Rattle.mr_master.specs.Told.{told_all}
 use Rattle.mr_master.specs.inner.Leaving.{without}
 use Rattle.mr_master.specs.State.{Master, Keeps}

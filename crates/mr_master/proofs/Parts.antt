@@ -9,9 +9,9 @@ use Rattle.mr_master_model.specs.declared.setting.Setting.{Setting}
 use Rattle.mr_master_model.specs.Past.{Work}
 use Rattle.mr_master_model.specs.Readings.{Seen}
 use Rattle.mr_master.specs.Tasks.{Tasks, KeepsTasks}
-use Rattle.mr_master.specs.Launches.{Launched, KeepsLaunches}
-use Rattle.mr_master.specs.Nodes.{KeepsNodes}
-use Rattle.mr_master.specs.Records.{Writing, KeepsRecords}
+use Rattle.mr_tables.specs.Launches.{Launched, KeepsLaunches}
+use Rattle.mr_tables.specs.Nodes.{KeepsNodes}
+use Rattle.mr_tables.specs.Records.{Writing, KeepsRecords}
 use Rattle.mr_master.specs.State.{Master, Keeps}
 
 pub with-work : {m : Master} {w : Setting} {s : Seen} (stored work : Work) → stored ≡ work → Keeps m w s → Keeps (record m { work = stored }) w (record s { work = work })

@@ -2,9 +2,6 @@
 -- and then what the answer of a store call changes, and what is ready for it.
 pub mod Places
 pub mod Tasks
-pub mod Launches
-pub mod Nodes
-pub mod Records
 pub mod State
 pub mod Refused
 pub mod Told

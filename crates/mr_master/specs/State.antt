@@ -7,9 +7,9 @@ use Rattle.mr_master_model.specs.Past.{Work, Step}
 use Rattle.mr_master_model.specs.Readings.{Seen}
 use Rattle.mr_master_model.specs.Next.{seen}
 use Rattle.mr_master.specs.Tasks.{Tasks, KeepsTasks}
-use Rattle.mr_master.specs.Launches.{Launched, KeepsLaunches}
-use Rattle.mr_master.specs.Nodes.{KeepsNodes}
-use Rattle.mr_master.specs.Records.{Writing, KeepsRecords, SameRecords}
+use Rattle.mr_tables.specs.Launches.{Launched, KeepsLaunches}
+use Rattle.mr_tables.specs.Nodes.{KeepsNodes}
+use Rattle.mr_tables.specs.Records.{Writing, KeepsRecords, SameRecords}
 
 -- what a machine stores, part by part
 pub record Master : Type 0 where

@@ -1,16 +1,12 @@
 -- Words for private contracts and for proofs. No public clause cites them.
 pub mod Work
 pub mod Ends
-pub mod Gone
 pub mod Heard
 pub mod Coming
-pub mod Earlier
 pub mod Launching
 pub mod Leaving
 pub mod Expiring
-pub mod Marks
 pub mod Progress
 pub mod Passing
-pub mod Spots
 pub mod Outputs
 pub mod Placed

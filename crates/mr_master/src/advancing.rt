@@ -10,7 +10,6 @@ ghost use Rattle.mr_master.specs.Ready.{Prepares, IsReadyDue};
 
 use crate::change::Change;
 use crate::machine::Machine;
-use crate::packets::push_won;
 use crate::places::place_in_job;
 use crate::ready::Ready;
 use crate::store::Coming;
@@ -18,6 +17,7 @@ use crate::work::Work;
 use mr_master_model::StoreAnswer;
 use mr_packet::Envelope;
 use mr_recover::TaskWinner;
+use mr_tables::push_won;
 use std::alloc::AllocError;
 
 impl Machine {

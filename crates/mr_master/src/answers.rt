@@ -8,11 +8,11 @@ ghost use Rattle.mr_master.specs.Ready.{Prepares, IsReadyDue};
 
 use crate::change::Change;
 use crate::machine::Machine;
-use crate::packets::push_outcome;
 use crate::ready::Ready;
 use crate::work::Work;
 use mr_master_model::StoreAnswer;
 use mr_packet::Envelope;
+use mr_tables::push_outcome;
 use std::alloc::AllocError;
 
 impl Machine {

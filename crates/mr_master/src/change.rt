@@ -1,10 +1,10 @@
 //! What the answer of a store call changes, made ready before it is heard.
 
-use crate::earlier::Earlier;
 use crate::tasks::Tasks;
 use crate::work::Work;
 use mr_commit::Following;
 use mr_ids::AttemptId;
+use mr_tables::Earlier;
 use mr_task::TaskMachine;
 
 /// What changes. To make it takes no memory.

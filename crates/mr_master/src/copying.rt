@@ -1,18 +1,14 @@
 //! A machine that stands for what another one stands for.
 ghost use Rattle.std.specs.Prelude.{◌≡◌, IfOk};
 ghost use Rattle.mr_master.specs.State.{Moves};
-ghost use Rattle.mr_master.specs.Launches.{SameLaunches};
-ghost use Rattle.mr_master.specs.Records.{SameRecords};
+ghost use Rattle.mr_tables.specs.Launches.{SameLaunches};
+ghost use Rattle.mr_tables.specs.Records.{SameRecords};
 
-use crate::bars::Bars;
-use crate::earlier::Earlier;
-use crate::launches::Launches;
 use crate::machine::Machine;
-use crate::nodes::Nodes;
-use crate::records::Writing;
 use crate::tasks::Tasks;
 use crate::work::Work;
 use mr_master_model::Setting;
+use mr_tables::{Bars, Earlier, Launches, Nodes, Writing};
 use std::alloc::AllocError;
 
 // The part of a machine that tells what the master is at, with its tasks and containers.

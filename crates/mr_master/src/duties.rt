@@ -8,7 +8,7 @@ ghost use Rattle.mr_master_model.specs.Duty.{duty, duty_at};
 ghost use Rattle.mr_master.specs.inner.Passing.{NoneLive};
 ghost use Rattle.mr_master.specs.State.{Reads};
 
-use crate::duty::{Duty, of_mark};
+use crate::duty::of_mark;
 use crate::machine::Machine;
 use crate::ops::started_mark;
 use crate::places::place_of;
@@ -17,6 +17,7 @@ use crate::work::abort_duty;
 use mr_ids::{AttemptId, TaskKind};
 use mr_master_model::{DutyName, StoreCall};
 use mr_names::Op;
+use mr_tables::Duty;
 use std::alloc::AllocError;
 
 impl Machine {

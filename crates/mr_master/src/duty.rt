@@ -1,60 +1,14 @@
-//! What a master's next store call is for, and the call.
-//! It is what `duties` finds, for whoever makes the call.
+//! Duties: a call of a committer's line, a look for a mark, a mark that is created.
 ghost use Rattle.std.specs.Prelude.{◌≡◌, true, Some, None, IfOk, OnErr};
 ghost use Rattle.std.specs.Option.{is_some, option_map, option_copied};
 ghost use Rattle.mr_names.specs.declared.op.Op.TheVariants as op;
 ghost use Rattle.mr_master_model.specs.Duty.{looks, creates};
 
-use crate::ops::copy_op;
 use mr_master_model::{DutyName, StoreCall};
 use mr_names::Op;
 use mr_paths::Path;
+use mr_tables::Duty;
 use std::alloc::AllocError;
-use std::marker::Model;
-
-/// A store call that a master has to make, and what it is for.
-#[derive(Drop)]
-pub struct Duty {
-    name: DutyName,
-    call: StoreCall,
-}
-
-impl Model for Duty {
-    ghost use Rattle.mr_master_model.specs.Duty.{Duty};
-
-    ghost Value = { Duty };
-
-    ghost view = { λ d. record { name = d.name; call = d.call } };
-}
-
-impl Duty {
-    pub(crate) fn new(name: DutyName, call: StoreCall) -> Duty
-        ensures { result ≡ record { name = name; call = call } }
-    {
-        Duty { name, call }
-    }
-
-    /// What the call is for.
-    pub fn name(&self) -> DutyName
-        ensures { result ≡ self.now.name }
-    {
-        self.name
-    }
-
-    /// The call. A call of the namespace is made with the master's generation as the caller, and no attempt.
-    pub fn call(&self) -> &StoreCall
-        ensures { result.now ≡ self.now.call }
-    {
-        &self.call
-    }
-
-    /// The call, taken out.
-    pub fn into_call(self) -> StoreCall
-        ensures { result ≡ self.call }
-    {
-        self.call
-    }
-}
 
 // The call of the line that is next, if there is one.
 pub fn of_line(name: DutyName, op: Option<&Op>) -> Result<Option<Duty>, AllocError>
@@ -64,7 +18,7 @@ pub fn of_line(name: DutyName, op: Option<&Op>) -> Result<Option<Duty>, AllocErr
     match op {
         None => Ok(None),
         Some(op) => {
-            let op = copy_op(op)?;
+            let op = op.copy()?;
             Ok(Some(Duty::new(name, StoreCall::Names(op))))
         }
     }

@@ -6,17 +6,17 @@ ghost use Rattle.mr_master_model.specs.Readings.{expire_refusal};
 ghost use Rattle.mr_master_model.specs.Hearing.{expired};
 ghost use Rattle.mr_master_model.specs.Sends.{kill_of, expiry_sends};
 ghost use Rattle.mr_master_model.specs.Next.{with_kills};
-ghost use Rattle.mr_master.specs.declared.gone.Gone.TheVariants.{GivenUp};
+ghost use Rattle.mr_tables.specs.declared.gone.Gone.TheVariants.{GivenUp};
 ghost use Rattle.mr_master.specs.inner.Expiring.{kills_on, with_bars, HasExpired};
-ghost use Rattle.mr_master.specs.inner.Gone.{gone_of};
+ghost use Rattle.mr_tables.specs.Gone.{gone_of};
 ghost use Rattle.mr_master.specs.State.{Reads, Moves, Adds};
 
-use crate::gone::Gone;
 use crate::launching::no_memory;
 use crate::machine::Machine;
 use mr_ids::{AttemptId, TaskKind};
 use mr_master_model::LaunchFault;
 use mr_packet::Envelope;
+use mr_tables::Gone;
 use mr_task::TaskFault;
 use std::alloc::AllocError;
 

@@ -8,11 +8,11 @@ ghost use Rattle.mr_packet.specs.Sends.{to_container};
 ghost use Rattle.mr_master.specs.State.{Reads, Moves, Unchanged};
 
 use crate::machine::Machine;
-use crate::packets::to_container;
 use mr_history::Record;
 use mr_ids::{AttemptId, TaskKind};
 use mr_master_model::Launch;
 use mr_packet::{ContainerId, Envelope, Packet};
+use mr_tables::to_container;
 use mr_task::DoneReply;
 use std::alloc::AllocError;
 

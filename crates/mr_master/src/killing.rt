@@ -4,11 +4,11 @@ ghost use Rattle.mr_master_model.specs.Sends.{kill_of, kills_of};
 ghost use Rattle.mr_master.specs.State.{Adds};
 
 use crate::machine::Machine;
-use crate::packets::kill;
 use crate::places::place_of;
 use crate::tasks::is_live;
 use mr_ids::{AttemptId, TaskId};
 use mr_packet::Envelope;
+use mr_tables::kill;
 use std::alloc::AllocError;
 
 impl Machine {

@@ -10,12 +10,12 @@ ghost use Rattle.mr_master.specs.State.{Reads, Moves, StandsForSome};
 ghost use Rattle.mr_master.specs.Refused.{MOST_CONTAINERS, launch_error};
 
 use crate::machine::Machine;
-use crate::packets::to_node;
 use crate::places::place_of;
 use mr_history::Record;
 use mr_ids::{AttemptId, TaskId};
 use mr_master_model::{Launch, LaunchFault};
 use mr_packet::{ContainerId, Envelope, Packet};
+use mr_tables::to_node;
 use mr_task::TaskFault;
 
 /// Why a launch came to nothing.
@@ -70,7 +70,7 @@ impl Machine {
         }
         let attempt = match self.tasks.launch(place) {
             Ok(attempt) => attempt,
-            Err(_) => return Err(LaunchError::NoMemory),
+            Err(fault) => return Err(by_memory(fault)),
         };
         let launch = Launch {
             container: ContainerId {
@@ -106,6 +106,20 @@ fn by_task(refusal: Option<TaskFault>) -> Option<LaunchFault>
     match refusal {
         Some(fault) => Some(LaunchFault::Task(fault)),
         None => None,
+    }
+}
+
+// A launch that nothing refuses fails for want of memory alone.
+fn by_memory(fault: TaskFault) -> LaunchError
+    requires { fault ≡ TaskFault.NoMemory }
+    ensures { result ≡ LaunchError.NoMemory }
+{
+    match fault {
+        TaskFault::NoMemory => LaunchError::NoMemory,
+        TaskFault::AlreadyWon => unreachable!(),
+        TaskFault::TooManyLive => unreachable!(),
+        TaskFault::TooManyAttempts => unreachable!(),
+        TaskFault::Unknown => unreachable!(),
     }
 }
 

@@ -7,17 +7,16 @@ ghost use Rattle.mr_master_model.specs.Readings.{succeeded_where, is_over};
 ghost use Rattle.mr_master_model.specs.Hearing.{with_known, after_restart, after_node_up};
 ghost use Rattle.mr_master.specs.inner.Leaving.{without};
 ghost use Rattle.mr_master.specs.inner.Outputs.{NoneLost, NoneLostFrom};
-ghost use Rattle.mr_master.specs.inner.Gone.{gone_of, if_gone, of_job, is_lost, lost_of};
+ghost use Rattle.mr_tables.specs.Gone.{gone_of, if_gone, of_job, is_lost, lost_of};
 ghost use Rattle.mr_master.specs.State.{Adds, Reads, Moves};
 ghost use Rattle.mr_master.specs.Told.{with_deaths, with_losses};
 
-use crate::gone::Gone;
 use crate::machine::Machine;
 use crate::places::place_of;
-use crate::spots::lower;
 use crate::tasks::is_live;
 use mr_ids::{AttemptId, TaskId, TaskKind};
 use mr_master_model::Setting;
+use mr_tables::{Gone, lower};
 use std::alloc::AllocError;
 
 impl Machine {

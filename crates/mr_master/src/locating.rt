@@ -8,15 +8,15 @@ ghost use Rattle.mr_packet.specs.Sends.{to_container};
 ghost use Rattle.mr_master_model.specs.Readings as reading;
 ghost use Rattle.mr_task.specs.Calls.{Loses};
 ghost use Rattle.mr_master_model.specs.Job.{is_task};
-ghost use Rattle.mr_master.specs.inner.Earlier.{where_told, listed};
+ghost use Rattle.mr_tables.specs.Earlier.{where_told, listed};
 ghost use Rattle.mr_master.specs.State.{Reads, Moves};
 
 use crate::failing::is_same;
 use crate::machine::Machine;
-use crate::packets::to_container;
 use crate::places::place_of;
 use mr_ids::{AttemptId, JobId, TaskId, TaskKind};
 use mr_packet::{ContainerId, Envelope, Packet};
+use mr_tables::to_container;
 use std::alloc::AllocError;
 
 impl Machine {

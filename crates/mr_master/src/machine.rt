@@ -4,17 +4,13 @@ ghost use Rattle.mr_master_model.specs.Readings.{launch_of, is_known, launched_i
 ghost use Rattle.mr_master.specs.Places.{place_of};
 ghost use Rattle.mr_master.specs.State.{StandsFor, Reads};
 
-use crate::bars::Bars;
-use crate::earlier::Earlier;
-use crate::launches::Launches;
-use crate::nodes::Nodes;
 use crate::places::place_of;
-use crate::records::Writing;
 use crate::tasks::Tasks;
 use crate::work::Work;
 use mr_ids::AttemptId;
 use mr_master_model::{Launch, Setting};
 use mr_packet::ContainerId;
+use mr_tables::{Bars, Earlier, Launches, Nodes, Writing};
 use std::alloc::{AllocError, Global};
 use std::marker::Model;
 

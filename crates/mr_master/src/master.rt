@@ -10,13 +10,13 @@ ghost use Rattle.mr_master_model.specs.declared.store.StoreAnswer.{StoreAnswer};
 ghost use Rattle.mr_master.specs.Ready.{IsReady, IsReadyForSome};
 ghost use Rattle.mr_master.specs.Refused.{launch_error};
 
-use crate::duty::Duty;
 use crate::launching::LaunchError;
 use crate::machine::Machine;
 use crate::ready::Ready;
 use mr_ids::TaskId;
 use mr_master_model::{LaunchFault, Phase, Setting, StoreAnswer};
 use mr_packet::{Envelope, Packet};
+use mr_tables::Duty;
 use mr_task::TaskFault;
 use std::alloc::{AllocError, Global};
 use std::marker::Model;

@@ -4,12 +4,12 @@ ghost use Rattle.mr_grant.specs.Attempts.{first_of};
 ghost use Rattle.mr_task.specs.Readings.{seen, live};
 ghost use Rattle.mr_task.specs.State.{Answers};
 ghost use Rattle.mr_master_model.specs.Readings.{wants_launch};
-ghost use Rattle.mr_master.specs.inner.Marks.{is_marked, IsFirst};
+ghost use Rattle.mr_tables.specs.Marks.{is_marked, IsFirst};
 ghost use Rattle.mr_master.specs.inner.Progress.{is_open, open_of, same_kind, HasRoom, NotesAll, IsProgress};
 
-use crate::marks::Marks;
 use crate::tasks::is_live;
 use mr_ids::TaskKind;
+use mr_tables::{Marks, both};
 use mr_task::{MAX_LAUNCHES, TaskMachine};
 use std::alloc::{AllocError, Global};
 use std::marker::Model;
@@ -116,12 +116,6 @@ fn same_kind(a: TaskKind, b: TaskKind) -> bool
         TaskKind::Map => b.is_map(),
         TaskKind::Reduce => b.is_reduce(),
     }
-}
-
-pub fn both(a: bool, b: bool) -> bool
-    ensures { result ≡ (a && b) }
-{
-    a && b
 }
 
 // Whether no attempt is live, Recording or Succeeded, and numbers are left.

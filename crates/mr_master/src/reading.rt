@@ -9,12 +9,12 @@ ghost use Rattle.mr_master.specs.WorkKinds.{is_read, records_in};
 ghost use Rattle.mr_master.specs.Ready.{IsReadyDue};
 
 use crate::change::Change;
-use crate::earlier::{Earlier, tells_failure};
 use crate::machine::Machine;
 use crate::ready::Ready;
 use crate::work::Work;
 use mr_history::{Record, Records};
 use mr_master_model::{Setting, StoreAnswer};
+use mr_tables::{Earlier, tells_failure};
 use std::alloc::AllocError;
 
 impl Machine {

@@ -10,12 +10,12 @@ ghost use Rattle.mr_master.specs.Taking.{winner_of, after_winner, after_table, E
 ghost use Rattle.mr_master_model.specs.Readings.{is_running};
 
 use crate::change::Change;
-use crate::earlier::Earlier;
 use crate::machine::Machine;
 use crate::tasks::Tasks;
 use crate::work::Work;
 use mr_commit::Following;
 use mr_packet::Envelope;
+use mr_tables::Earlier;
 use mr_task::TaskMachine;
 use std::alloc::Global;
 use std::marker::Model;

@@ -19,7 +19,7 @@ use crate::places::{place_in_job, place_of};
 use crate::tasks::{Tasks, follow};
 use mr_ids::{AttemptId, TaskId, TaskKind};
 use mr_master_model::Setting;
-use mr_task::TaskMachine;
+use mr_task::{TaskFault, TaskMachine};
 use std::alloc::{AllocError, Global};
 
 impl Tasks {
@@ -116,7 +116,20 @@ fn recover(task: &mut TaskMachine, attempt: AttemptId) -> Result<(), AllocError>
     }
     match task.recovered(attempt) {
         Ok(()) => Ok(()),
-        Err(_) => Err(AllocError),
+        Err(fault) => Err(wants_memory(fault)),
+    }
+}
+
+// What is left of a task's faults where it has no refusal.
+fn wants_memory(fault: TaskFault) -> AllocError
+    requires { fault ≡ TaskFault.NoMemory }
+{
+    match fault {
+        TaskFault::NoMemory => AllocError,
+        TaskFault::AlreadyWon => unreachable!(),
+        TaskFault::TooManyLive => unreachable!(),
+        TaskFault::TooManyAttempts => unreachable!(),
+        TaskFault::Unknown => unreachable!(),
     }
 }
 

@@ -14,15 +14,16 @@ ghost use Rattle.mr_master_model.specs.Answered.{work_after, is_superseded, take
 ghost use Rattle.mr_master_model.specs.declared.setting.Setting.{Setting};
 ghost use Rattle.mr_commit.specs.Tables.{setup_job, commit_job};
 
-use crate::duty::{Duty, of_line, of_look, of_mark};
-use crate::earlier::{first_winner, next_winner, winners};
+use crate::duty::{of_line, of_look, of_mark};
 use crate::ops::{fail_mark, started_mark, success_mark};
 use crate::store::{Coming, Look, coming_of, is_fine, is_superseded, looked, named};
+use crate::winning::{first_winner, next_winner};
 use mr_commit::{Following, RecoverTask, Step};
 use mr_history::Record;
 use mr_master_model::{DutyName, Phase, Setting, StoreAnswer, StoreCall};
 use mr_names::{Answer, NameFault, Op};
 use mr_recover::TaskWinner;
+use mr_tables::{Duty, winners};
 use std::alloc::{AllocError, Global};
 use std::collections::VecDeque;
 use std::marker::Model;

@@ -1,5 +1,5 @@
 -- A line is at most one command, and a script at most one list of them.
-use Rattle.std.proofs.Common.{◌≡◌, ◌<◌, ◌^◌, ℕ, List, ◌∷◌, ◌++◌, Option, Some, None, decimal, codes, slice_index, sym, refl, ap, ap₂, ◌∙◌, arith}
+use Rattle.std.proofs.Common.{◌≡◌, false, ◌<◌, ◌^◌, ℕ, List, ◌∷◌, ◌++◌, Option, Some, None, decimal, codes, slice_index, sym, refl, ap, ap₂, ◌∙◌, arith}
 use Rattle.std.proofs.lemmas.Fmt.{decimal_injective}
 use Rattle.mr_ids.specs.declared.id.JobId.{JobId}
 use Rattle.mr_ids.specs.declared.id.TaskId.{TaskId}
@@ -12,11 +12,11 @@ use Rattle.mr_event.specs.declared.event.Event.TheVariants as event
 use Rattle.mr_script.specs.declared.command.Command.{Command}
 use Rattle.mr_script.specs.declared.command.Command.TheVariants as command
 use Rattle.mr_script.specs.declared.event_name.EventName.{EventName}
-use Rattle.mr_script.specs.Lines.{before, after, lines_of}
+use Rattle.mr_script.specs.Lines.{before, after, is_comment, lines_of}
 use Rattle.mr_script.specs.Names.{name_text}
 use Rattle.mr_script.specs.Script.{with_word, kind_word, task_words, container_word, and_words, fault_word, stop_words, line_of, rest_of, IsGeneration, IsContainer, IsTaskOf, IsCommand, IsLine}
 use Rattle.mr_script.specs.Verb.{verb_of}
-use Rattle.mr_script.specs.Laws.{OneReading, ReadOrBad, OneFirstBad}
+use Rattle.mr_script.specs.Laws.{OneReading, ReadOrBad, OneFirstBad, CommentsAreNoCommands}
 use Rattle.mr_script.proofs.Lines.{same-lines, not-both, same-first}
 use Rattle.mr_script.proofs.Words.{Lacks, before-by, after-by, none-after}
 use Rattle.mr_script.proofs.Numbers.{no-space, no-stop, low, container-no-space, kind-no-space}
@@ -174,3 +174,20 @@ read_or_bad_law = λ job first bytes cs k. not-both (IsLine job) first (lines_of
 
 pub one_first_bad_law : OneFirstBad
 one_first_bad_law = λ job first bytes j k. same-first (IsLine job) first (lines_of bytes) j k
+
+no-comment : (c : Command) → is_comment (line_of c) ≡ false
+no-comment (command.Makes (event.Start k kept)) = refl
+no-comment (command.Makes (event.Crash k kept)) = refl
+no-comment (command.Makes (event.Duty k fault)) = refl
+no-comment (command.Makes (event.LaunchOn k t n)) = refl
+no-comment (command.Makes (event.Deliver i)) = refl
+no-comment (command.Makes (event.ContainerStep c fault)) = refl
+no-comment (command.Makes (event.Computed c bytes)) = refl
+no-comment (command.Makes (event.Die c)) = refl
+no-comment (command.Makes (event.NodeRestart n)) = refl
+no-comment (command.Makes (event.Expire k n)) = refl
+no-comment (command.Compute c) = refl
+no-comment (command.Calm k stop) = refl
+
+pub comments_are_no_commands_law : CommentsAreNoCommands
+comments_are_no_commands_law = λ job line c h. ap is_comment h.1 ∙ no-comment c

@@ -1,9 +1,9 @@
 -- Laws of the definitions.
-use Rattle.std.specs.Prelude.{◌≡◌, ℕ, List}
+use Rattle.std.specs.Prelude.{◌≡◌, false, ℕ, List}
 use Rattle.mr_ids.specs.declared.id.JobId.{JobId}
 use Rattle.mr_script.specs.declared.command.Command.{Command}
-use Rattle.mr_script.specs.Lines.{lines_of}
-use Rattle.mr_script.specs.Script.{AreCommands, IsFirstBad}
+use Rattle.mr_script.specs.Lines.{is_comment, lines_of}
+use Rattle.mr_script.specs.Script.{IsLine, AreCommands, IsFirstBad}
 
 -- a script has at most one reading
 abbrev pub OneReading : Type 0
@@ -16,3 +16,7 @@ ReadOrBad = (job : JobId) (first : ℕ) (bytes : List ℕ) (cs : List (ℕ × Co
 -- a script has at most one first bad line
 abbrev pub OneFirstBad : Type 0
 OneFirstBad = (job : JobId) (first : ℕ) (bytes : List ℕ) (j k : ℕ) → IsFirstBad job first (lines_of bytes) j → IsFirstBad job first (lines_of bytes) k → j ≡ k
+
+-- a line that is a command is no comment
+abbrev pub CommentsAreNoCommands : Type 0
+CommentsAreNoCommands = (job : JobId) (line : List ℕ) (c : Command) → IsLine job line c → is_comment line ≡ false

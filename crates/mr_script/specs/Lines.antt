@@ -1,5 +1,5 @@
 -- A text cut into lines, a line cut at its first byte of a kind, and lines that are read as commands, whatever the commands are.
-use Rattle.std.specs.Prelude.{◌≡◌, ◌⊎◌, ◌+◌, ℕ, List, [], ◌∷◌, ◌==◌, cond, Option, Some, None}
+use Rattle.std.specs.Prelude.{◌≡◌, ◌⊎◌, ◌+◌, Bool, false, ℕ, List, [], ◌∷◌, ◌==◌, cond, map, Option, Some, None}
 
 -- the bytes before the first b
 abbrev pub before : ℕ → List ℕ → List ℕ
@@ -16,9 +16,22 @@ abbrev pub onto_line : ℕ → List (List ℕ) → List (List ℕ)
 onto_line b [] = (b ∷ []) ∷ []
 onto_line b (line ∷ lines) = (b ∷ line) ∷ lines
 
+abbrev pub pieces_of : List ℕ → List (List ℕ)
+pieces_of [] = []
+pieces_of (b ∷ bytes) = cond (b == 10) ([] ∷ pieces_of bytes) (onto_line b (pieces_of bytes))
+
+-- the line begins with #
+abbrev pub is_comment : List ℕ → Bool
+is_comment [] = false
+is_comment (b ∷ line) = b == 35
+
+-- a comment says nothing: it is as an empty line
+abbrev pub said : List ℕ → List ℕ
+said line = cond (is_comment line) [] line
+
+-- what the lines of a script say
 abbrev pub lines_of : List ℕ → List (List ℕ)
-lines_of [] = []
-lines_of (b ∷ bytes) = cond (b == 10) ([] ∷ lines_of bytes) (onto_line b (lines_of bytes))
+lines_of bytes = map said (pieces_of bytes)
 
 -- ---- scripts in any language
 
@@ -27,7 +40,7 @@ module _ {C : Type 0} (IsLine : List ℕ → C → Type 0) where
   abbrev pub IsNoLine : List ℕ → Type 0
   IsNoLine line = (c : C) → IsLine line c → ⊥
 
-  -- The lines, numbered from n on, are these commands: an empty line is counted and skipped.
+  -- The lines, numbered from n on, are these commands: a line that says nothing is counted and skipped.
   abbrev pub AreLines : ℕ → List (List ℕ) → List (ℕ × C) → Type 0
   AreLines n [] [] = Unit {0}
   AreLines n [] (c ∷ cs) = ⊥

@@ -1,5 +1,5 @@
 //! Laws of the definitions: these functions do nothing.
-ghost use Rattle.mr_script.specs.Laws.{OneReading, ReadOrBad, OneFirstBad};
+ghost use Rattle.mr_script.specs.Laws.{OneReading, ReadOrBad, OneFirstBad, CommentsAreNoCommands};
 
 /// A script has at most one reading.
 pub fn one_reading()
@@ -14,4 +14,9 @@ pub fn read_or_bad()
 /// A script has at most one first bad line.
 pub fn one_first_bad()
     ensures { OneFirstBad }
+{}
+
+/// A line that is a command is no comment.
+pub fn comments_are_no_commands()
+    ensures { CommentsAreNoCommands }
 {}

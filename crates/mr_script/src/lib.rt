@@ -16,7 +16,7 @@
 //!
 //! K is 1 to 1,000; C is K, a full stop and a number; KEPT and I are below 2^64, T, N and a container's number below 2^32. Numbers are
 //! decimal with no zero in front. FAULT is `unavailable` (the call is not made) or `unanswered` (its answer is lost). Words have one
-//! space between and none at the ends. An empty line is counted and skipped.
+//! space between and none at the ends. A line that is empty, or begins with `#`, says nothing: it is counted and skipped.
 //!
 //! Scripts of other commands are read in the same way: a `Language` says which line is which command, and `script_in` reads a script in
 //! it. `mrsim committer` has one of its own.
@@ -24,13 +24,13 @@
 //! # What is proved
 //!
 //! - `script_in` answers exactly the commands of the text in a language, each with the number of its line (`AreLines`), or
-//!   `BadCommand(n)` where line n is the first that is neither empty nor a command (`IsFirstNoLine`), or `NoMemory`.
+//!   `BadCommand(n)` where line n is the first that says something and is no command (`IsFirstNoLine`), or `NoMemory`.
 //! - `commands_of` is that for the commands of the table: a line is a command exactly where it is the line that the command is written
 //!   as (`IsLine`).
 //! - `split_once` cuts at the first byte of a kind; `number`, `long_number` and `generation` read a word exactly where it is the decimal of
 //!   a number below 2^32, below 2^64, from 1 to 1,000. None of these takes memory.
 //! - Laws, on functions that do nothing: a script has at most one reading (`one_reading`), is not both read and bad (`read_or_bad`), and
-//!   has at most one first bad line (`one_first_bad`).
+//!   has at most one first bad line (`one_first_bad`). No command is a comment (`comments_are_no_commands`).
 //! - Only tested: that it succeeds with ample memory.
 #![tactic(auto)]
 
@@ -45,7 +45,7 @@ mod word;
 
 pub use command::Command;
 pub use event_name::EventName;
-pub use laws::{one_first_bad, one_reading, read_or_bad};
+pub use laws::{comments_are_no_commands, one_first_bad, one_reading, read_or_bad};
 pub use run::commands_of;
 pub use script::{Language, ScriptFault, script_in};
 pub use word::{generation, long_number, number, split_once};

@@ -1,7 +1,7 @@
 //! A whole script, in any language.
 //! Both scripts of a run and scripts of committer calls are read by it, to the first line that is no command.
 ghost use Rattle.std.specs.Prelude.{◌≡◌, ◌<◌, ◌≤◌, ◌+◌, ◌^◌, [], ◌∷◌, ℕ, List, length, IfSome, IfNone, IfOk, IfErr};
-ghost use Rattle.mr_script.specs.Lines.{lines_of, AreLines, IsNoLine};
+ghost use Rattle.mr_script.specs.Lines.{said, lines_of, AreLines, IsNoLine};
 ghost use Rattle.mr_script.specs.ScriptFault.{IsScriptFault};
 ghost use Rattle.mr_script.specs.declared.script.ScriptFault.TheVariants.{NoMemory};
 
@@ -47,7 +47,14 @@ pub trait Language {
         ensures none { IfOk result (λ r. IfNone r (IsNoLine (is_line self.now) line.now)) };
 }
 
-/// The first line, without its line feed, and the bytes after it.
+/// What the line says: nothing where it is a comment.
+fn said(line: &[u8]) -> &[u8]
+    ensures { result.now ≡ said line.now }
+{
+    if line.starts_with(b"#") { &[] } else { line }
+}
+
+/// What the first line says, without its line feed, and the bytes after it.
 fn next_line(bytes: &[u8]) -> Option<(&[u8], &[u8])>
     ensures some { IfSome result (λ p. (lines_of bytes.now ≡ p.0.now ∷ lines_of p.1.now) × (length p.1.now < length bytes.now)) }
     ensures none { IfNone result (bytes.now ≡ []) }
@@ -56,8 +63,8 @@ fn next_line(bytes: &[u8]) -> Option<(&[u8], &[u8])>
         return None;
     }
     match cut(bytes, b'\n') {
-        Some((line, rest)) => Some((line, rest)),
-        None => Some((bytes, &[])),
+        Some((line, rest)) => Some((said(line), rest)),
+        None => Some((said(bytes), &[])),
     }
 }
 

@@ -46,6 +46,7 @@ Reads a script from standard input, one command a line:
   abortjob        deletes what is temporary
   bar A           bars the attempt A: from here on each call made for it is refused
   by A, by none   the calls from here on are made for the attempt A, or for none (at first none)
+  # ..            is a comment
 Writes a line for each refused command and each `needs`, and then each path with its length.
 
 Example:
@@ -93,6 +94,7 @@ Reads a job text (see `seq`) from the first line of standard input, and a script
   restart N                  node N restarts
   expire K N                 master K gives node N up
   calm K [before NAME]       all goes on without a fault until master K is through, or until an event of that name is next
+  # ..                       is a comment
 C is a container: its master, a full stop and its number, as 1.0. FAULT is `unavailable` (the call is not made) or
 `unanswered` (its answer is lost). Writes a line for each event that is refused, then each reduce's winner, whether the
 marker is there, the outcome, and the files that a reader of the destination sees.

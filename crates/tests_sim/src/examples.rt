@@ -27,6 +27,30 @@ out/part-r-00000 7\n\
 }
 
 #[test]
+fn commented(rt: HostRuntime) -> Result<(), Fail> {
+    committer::prints(
+        &rt,
+        b"\
+# The first attempt commits, and the second is too late.\n\
+setup\n\
+write attempt_200707121733_0003_r_000000_0 # one\n\
+write attempt_200707121733_0003_r_000000_1 three\n\
+\n\
+commit attempt_200707121733_0003_r_000000_0\n\
+commitjob\n\
+#commit attempt_200707121733_0003_r_000000_0\n\
+commit attempt_200707121733_0003_r_000000_1\n\
+",
+        b"\
+9: OutputMissing\n\
+out/\n\
+out/_SUCCESS 0\n\
+out/part-r-00000 6\n\
+",
+    )
+}
+
+#[test]
 fn crash_before_commit(rt: HostRuntime) -> Result<(), Fail> {
     committer::prints(
         &rt,

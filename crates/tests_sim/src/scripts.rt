@@ -46,6 +46,22 @@ fn scripts_are_read_whole(rt: HostRuntime) {
     }
 }
 
+// A line that begins with `#` is skipped and counted, whatever else it says. A `#` further on begins no comment.
+#[test]
+fn comments_are_skipped(rt: HostRuntime) {
+    let text = b"# two masters\nstart 1 0\n\n#crash 1 0\n#\ncalm 1\n# \xff";
+    match read(rt.alloc(), text.as_slice()) {
+        Ok(commands) => {
+            assert!(rt; commands.len() == 2 && commands[0].0 == 3 && commands[1].0 == 7);
+            assert!(rt; matches!(&commands[1].1, Command::Calm(1, None)));
+        }
+        Err(_) => panic!(rt; "not read"),
+    }
+    assert!(rt; is_bad(rt.alloc(), b"#\n # two masters", 3));
+    assert!(rt; is_bad(rt.alloc(), b"#\nstart 1 0 # a master", 3));
+    assert!(rt; is_bad(rt.alloc(), b"#\n\n/ a master", 4));
+}
+
 #[test]
 fn bad_commands_of_scripts(rt: HostRuntime) {
     let lines: [&[u8]; 14] = [

@@ -1,7 +1,5 @@
 -- What is sent where a node is given up, and whose bar is due then.
-use Rattle.std.specs.Prelude.{◌≡◌, ℕ, None, List, [], ◌∷◌, ◌++◌, flat_map}
-use Rattle.mr_ids.specs.Attempt.{Attempt}
-use Rattle.mr_grant.specs.Attempts.{with_last}
+use Rattle.std.specs.Prelude.{◌≡◌, ℕ, None, List, ◌++◌, flat_map}
 use Rattle.mr_packet.specs.declared.packet.Envelope.{Envelope}
 use Rattle.mr_master_model.specs.declared.setting.Setting.{Setting}
 use Rattle.mr_master_model.specs.Job.{all_maps}
@@ -18,11 +16,6 @@ kills_on w s n = flat_map (kill_of w s) (flat_map (given_up_of_maps w s n) (all_
 -- the bars of the reduces' live attempts on the node are due as well
 abbrev pub with_bars : Setting → Seen → ℕ → Seen
 with_bars w s n = record s { bars = s.bars ++ new_bars w s n }
-
--- each is added as the last, if it is not there
-abbrev pub all_added : (bars more : List Attempt) → List Attempt
-all_added bars [] = bars
-all_added bars (a ∷ as') = all_added (with_last bars a) as'
 
 -- it was given up: nothing refused it, these packets are what is sent, and the machine keeps what is seen after it
 pub record Expired (n : ℕ) (packets : List Envelope) (new : Master) (w : Setting) (s : Seen) : Type 0 where

@@ -4,8 +4,8 @@ use Rattle.mr_ids.specs.declared.id.TaskKind.TheVariants.{Map}
 use Rattle.mr_master_model.specs.declared.setting.Setting.{Setting}
 use Rattle.mr_master_model.specs.Job.{task_of}
 use Rattle.mr_master_model.specs.Readings.{Seen}
-use Rattle.mr_master.specs.declared.gone.Gone.{Gone}
-use Rattle.mr_master.specs.inner.Gone.{lost_of}
+use Rattle.mr_tables.specs.declared.gone.Gone.{Gone}
+use Rattle.mr_tables.specs.Gone.{lost_of}
 use Rattle.mr_master.specs.State.{Master, Keeps}
 
 -- of the map of this number what is gone loses no output

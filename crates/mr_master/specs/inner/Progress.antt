@@ -12,7 +12,7 @@ use Rattle.mr_task.specs.Steps.{Task}
 use Rattle.mr_master_model.specs.declared.setting.Setting.{Setting}
 use Rattle.mr_master_model.specs.Job.{all_maps, all_reduces}
 use Rattle.mr_master_model.specs.Readings.{wants_launch}
-use Rattle.mr_master.specs.inner.Marks.{is_marked}
+use Rattle.mr_tables.specs.Marks.{is_marked}
 use Rattle.mr_master.specs.Tasks.{TakesAt}
 
 -- marks of places

@@ -7,9 +7,9 @@ pub returns-in-Some-clause-some : goal.returns-in-Some-clause-some
 returns-in-Some-clause-some c =
     let f = c.in-Some.ensures.some in
     let shorter : length c.in-Some.rest.now < length c.args.bytes.now = rw f.1 (omega (arith, length-append c.in-Some.line.now (10 ∷ c.in-Some.rest.now))) in
-    (ap lines_of f.1 ∙ lines_of-cut c.in-Some.line.now c.in-Some.rest.now f.0, shorter)
+    (rw c.said.ensures (ap lines_of f.1 ∙ lines_of-cut c.in-Some.line.now c.in-Some.rest.now f.0), shorter)
 
 pub returns-in-None-clause-some : goal.returns-in-None-clause-some
 returns-in-None-clause-some c =
     let some : 0 < length c.args.bytes.now = search rules in
-    (lines_of-last c.args.bytes.now c.in-None.ensures.none some, search rules)
+    (rw c.said-in-None.ensures (lines_of-last c.args.bytes.now c.in-None.ensures.none some), search rules)

@@ -2,7 +2,7 @@ use Rattle.std.proofs.Common.{sym, subst, ◌∙◌, ◌++◌}
 use Rattle.mr_master_model.specs.Hearing.{new_bars}
 use Rattle.mr_master.specs.State.{Master, Keeps}
 use Rattle.mr_master.proofs.Distinct.{bars-added}
-use Rattle.mr_master.proofs.On_nodes.{on-ok}
+use Rattle.mr_tables.proofs.Spreading.{on-ok}
 use Rattle.mr_master.proofs.Parts.{with-bars}
 use Rattle.mr_master.proofs.machine.Machine.add_bars.Goals as goal
 

@@ -5,7 +5,7 @@ use Rattle.mr_task.specs.declared.reply.DoneReply.TheVariants as reply
 use Rattle.mr_master_model.specs.declared.launch.Launch.{Launch}
 use Rattle.mr_master_model.specs.Readings.{launch_of}
 use Rattle.mr_master_model.specs.Hearing.{after_done, success_of}
-use Rattle.mr_master.specs.Records.{SameRecords}
+use Rattle.mr_tables.specs.Records.{SameRecords}
 use Rattle.mr_master.specs.Tasks.{reply_or}
 use Rattle.mr_master.specs.State.{Master, Keeps}
 use Rattle.mr_master.proofs.Keeping.{none-mapped, known-is, tell-known, read-at, by-launch, by-seen}

@@ -6,7 +6,7 @@ use Rattle.mr_master_model.specs.declared.setting.Setting.{Setting}
 use Rattle.mr_master_model.specs.Past.{Fails}
 use Rattle.mr_master_model.specs.Readings.{Seen, of_task, tell}
 use Rattle.mr_master.specs.inner.Ends.{call_of}
-use Rattle.mr_master.specs.Records.{SameRecords}
+use Rattle.mr_tables.specs.Records.{SameRecords}
 use Rattle.mr_master.specs.State.{Master, Keeps}
 use Rattle.mr_master.proofs.Ends.{no-failure-is, not-live-is, failure-is, spent-is, unspent-is}
 use Rattle.mr_master.proofs.Keeping.{read-at, tell-keeps, by-seen}

@@ -6,7 +6,7 @@ use Rattle.mr_master_model.specs.Next.{seen}
 use Rattle.mr_master_model.specs.Readings.{launched_as}
 use Rattle.mr_master.specs.State.{Master, Keeps}
 use Rattle.mr_master.proofs.Keeping.{not-placed}
-use Rattle.mr_master.proofs.Entering.{next-is, of-the-job, sends-it, launched-keeps, found-place}
+use Rattle.mr_master.proofs.Entering.{next-is, fault-is, of-the-job, sends-it, launched-keeps, found-place}
 use Rattle.mr_master.proofs.machine.Machine.launch.Goals as goal
 
 pub unreachable-requires : goal.unreachable-requires
@@ -39,3 +39,14 @@ returns-clause-launched c = λ w s keeps.
           k none p c.in-Ok.ensures.takes is same c.reserve-else-is_err.ensures.same c.push_reserved.ensures.entries c.push_reserved.ensures.killed
           c.reserve.ensures.same c.push_reserved-2.ensures.due c.push_reserved-2.ensures.tail c.push_reserved-2.ensures.flag;
     }
+
+pub by_memory-requires : goal.by_memory-requires
+by_memory-requires c =
+    let w = c.args.self.now.setting in
+    let t = c.args.task in
+    let keeps = c.requires.1 in
+    let s = seen w c.requires.0 in
+    let k = subst (λ (x : Master). Keeps x w s) (sym c.self.view_is) keeps in
+    let none = sym (sym c.in_default.is ∙ c.launch_refusal.ensures w s keeps) in
+    let p = found-place w t c.in-Some-place_within.place (c.in-Some-place_within.ensures.place w s keeps) in
+    fault-is _ w s t c.args.node c.in-Some-place_within.place c.in-Err.fault k none p c.in-Err.ensures.refused

@@ -1,8 +1,8 @@
 use Rattle.std.proofs.Common.{◌≤◌, ℕ, Option, IfSome, IfNone, sym, subst}
 use Rattle.mr_ids.specs.declared.id.TaskKind.TheVariants.{Map}
-use Rattle.mr_master.specs.inner.Earlier.{IsUntold}
+use Rattle.mr_tables.specs.Earlier.{IsUntold}
 use Rattle.mr_master.specs.inner.Outputs.{IsKept, NoneLost, NoneLostFrom}
-use Rattle.mr_master.specs.inner.Spots.{IsFree}
+use Rattle.mr_tables.specs.Spots.{IsFree}
 use Rattle.mr_master.specs.State.{Master, Keeps}
 use Rattle.mr_master.proofs.On_nodes.{kept-lost, lower-from, lower-first, lower-none}
 use Rattle.mr_master.proofs.machine.Machine.next_output.Goals as goal

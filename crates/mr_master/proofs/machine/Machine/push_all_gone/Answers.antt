@@ -2,7 +2,7 @@ use Rattle.std.proofs.Common.{◌<◌, sym, subst, ◌∙◌, ap, ◌++◌, arit
 use Rattle.mr_ids.specs.declared.id.TaskId.{TaskId}
 use Rattle.mr_master_model.specs.declared.setting.Setting.{Setting}
 use Rattle.mr_master_model.specs.Job.{count_of}
-use Rattle.mr_master.specs.inner.Gone.{gone_of, of_job}
+use Rattle.mr_tables.specs.Gone.{gone_of, of_job}
 use Rattle.mr_master.specs.State.{Master, Keeps}
 use Rattle.mr_master.proofs.Gathering.{next-task, no-task}
 use Rattle.mr_master.proofs.On_nodes.{up-to, kept-gone}

@@ -1,7 +1,7 @@
 use Rattle.std.proofs.Common.{◌≤◌}
 use Rattle.std.specs.List.{flat_map}
 use Rattle.mr_master_model.specs.Job.{first_tasks}
-use Rattle.mr_master.specs.inner.Gone.{gone_of}
+use Rattle.mr_tables.specs.Gone.{gone_of}
 use Rattle.mr_master.specs.State.{Adds}
 use Rattle.mr_master.proofs.machine.Machine.push_all_gone.Given as goal
 

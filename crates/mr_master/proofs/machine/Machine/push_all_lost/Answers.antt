@@ -2,7 +2,7 @@ use Rattle.std.proofs.Common.{sym, subst, ◌∙◌, ap, ◌++◌, arith}
 use Rattle.mr_ids.specs.declared.id.TaskId.{TaskId}
 use Rattle.mr_ids.specs.declared.id.TaskKind.TheVariants.{Map}
 use Rattle.mr_master_model.specs.declared.setting.Setting.{Setting}
-use Rattle.mr_master.specs.inner.Gone.{lost_of}
+use Rattle.mr_tables.specs.Gone.{lost_of}
 use Rattle.mr_master.specs.State.{Master, Keeps}
 use Rattle.mr_master.proofs.Gathering.{no-task}
 use Rattle.mr_master.proofs.Losing.{next-map}

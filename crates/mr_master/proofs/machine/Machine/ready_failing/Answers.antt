@@ -11,7 +11,7 @@ use Rattle.mr_master_model.specs.Answered.{is_fine, flushed, moved_first, is_uns
 use Rattle.mr_master_model.specs.Sends.{flush_sends, outcome_of}
 use Rattle.mr_master.specs.declared.change.Change.TheVariants as change
 use Rattle.mr_master.specs.Answering.{answered_sends, answered_seen}
-use Rattle.mr_master.specs.Records.{written_by}
+use Rattle.mr_tables.specs.Records.{written_by}
 use Rattle.mr_master.specs.State.{Master, Keeps}
 use Rattle.mr_master.proofs.Prepared.{prepares-as, ready-as}
 use Rattle.mr_master.proofs.Replies.{fails-seen, fails-sends, moved-work}

@@ -11,7 +11,7 @@ use Rattle.mr_master_model.specs.Duty.{duty}
 use Rattle.mr_master_model.specs.Answered.{is_fine, flushed, moved_first, after_bar, name_of}
 use Rattle.mr_master_model.specs.Sends.{kill_of, flush_sends, bar_sends, outcome_of}
 use Rattle.mr_master.specs.declared.change.Change.TheVariants as change
-use Rattle.mr_master.specs.Records.{written_by}
+use Rattle.mr_tables.specs.Records.{written_by}
 use Rattle.mr_master.specs.State.{Master, Keeps}
 use Rattle.mr_master.proofs.Prepared.{prepares-as, ready-as}
 use Rattle.mr_master.proofs.Replies.{runs-stop, runs-seen, runs-sends, runs-on, due-runs, name-bar, name-start, name-record, recorded-work, moved-work, found-passes, live-of-job, death-is}

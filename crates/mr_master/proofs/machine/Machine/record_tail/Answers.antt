@@ -1,7 +1,7 @@
 use Rattle.std.proofs.Common.{◌<◌, ◌≤◌, refl, ◌∙◌, ap, List, length, get_or, arith}
 use Rattle.mr_history.specs.declared.record.Record.{Record}
 use Rattle.mr_master_model.specs.Answered.{recorded}
-use Rattle.mr_master.specs.Records.{Writing}
+use Rattle.mr_tables.specs.Records.{Writing}
 use Rattle.mr_master.specs.State.{Master}
 use Rattle.mr_master.proofs.Flushes.{recorded-none, recorded-more, recorded-all}
 use Rattle.mr_master.proofs.machine.Machine.record_tail.Goals as goal

@@ -1,0 +1,9 @@
+-- Attempts whose bars come due, each once.
+use Rattle.std.specs.Prelude.{List, [], ◌∷◌}
+use Rattle.mr_ids.specs.Attempt.{Attempt}
+use Rattle.mr_grant.specs.Attempts.{with_last}
+
+-- each is added as the last, if it is not there
+abbrev pub all_added : (bars more : List Attempt) → List Attempt
+all_added bars [] = bars
+all_added bars (a ∷ as') = all_added (with_last bars a) as'
