@@ -31,14 +31,13 @@ use Rattle.mr_model.specs.Acts.{Went}
 use Rattle.mr_model.proofs.Acts.{containers_act}
 use Rattle.mr_model.proofs.Stored.{stores_go_on}
 use Rattle.mr_agree.proofs.Stores.{masters_go_on}
-use Rattle.mr_world.specs.declared.living.Living.{Living}
+use Rattle.mr_cluster.specs.declared.living.Living.{Living}
+use Rattle.mr_cluster.specs.Living.{kept, Changes}
 use Rattle.mr_world.specs.declared.parts.Parts.{Parts}
 use Rattle.mr_world.specs.declared.call.StoreCall.{StoreCall}
 use Rattle.mr_world.specs.declared.fault.WorldFault.{WorldFault}
 use Rattle.mr_world.specs.declared.fault.WorldFault.TheVariants as fault
-use Rattle.mr_world.specs.inner.Calling.{is_call, is_made, step_fault, permitted, ForeseesCall, HasCalled}
-use Rattle.mr_world.specs.inner.Letters.{IsAlone}
-use Rattle.mr_world.specs.Living.{kept, Changes}
+use Rattle.mr_world.specs.inner.Calling.{is_call, is_made, step_fault, permitted, ForeseesCall, HasCalled, IsAlone}
 use Rattle.mr_world.specs.Limits.{within, fits_bag, fits_call, is_full, barred_of}
 use Rattle.mr_world.specs.Standing.{Standing, IsTaken, Refuses, RefusesEvent}
 use Rattle.mr_world.proofs.Refusals.{bag-fits, refuses-now, refuses-full, refuses-memory}

@@ -25,15 +25,15 @@ use Rattle.mr_model.proofs.Acts.{containers_act, maps_act}
 use Rattle.mr_model.proofs.Stored.{stores_go_on}
 use Rattle.mr_model.proofs.Places.{places_are_nodes}
 use Rattle.mr_agree.proofs.Stores.{masters_go_on}
+use Rattle.mr_cluster.specs.declared.living.Living.{Living}
+use Rattle.mr_cluster.specs.declared.nodes.Nodes.{Nodes}
+use Rattle.mr_cluster.specs.Living.{kept, Changes, stepped}
+use Rattle.mr_cluster.specs.Nodes.{node_of, node_stepped, ChangesNode, SameNodes}
 use Rattle.mr_world.specs.declared.fault.WorldFault.{WorldFault}
 use Rattle.mr_world.specs.declared.fault.WorldFault.TheVariants as fault
-use Rattle.mr_world.specs.declared.living.Living.{Living}
-use Rattle.mr_world.specs.declared.nodes.Nodes.{Nodes}
 use Rattle.mr_world.specs.declared.parts.Parts.{Parts}
 use Rattle.mr_world.specs.inner.Computing.{fault_by, bytes_fault, unless_fault, Computes}
-use Rattle.mr_world.specs.Living.{kept, Changes, stepped}
 use Rattle.mr_world.specs.Limits.{within, fits_bytes, fits_bag, fits_at_once}
-use Rattle.mr_world.specs.Machines.{node_of, node_stepped, ChangesNode, SameNodes}
 use Rattle.mr_world.specs.Standing.{Standing, IsTaken, Refuses, Foresees, RefusesEvent}
 use Rattle.mr_world.proofs.Refusals.{bag-fits, refuses-now}
 use Rattle.mr_world.proofs.Saying.{says}

@@ -10,10 +10,10 @@ use Rattle.mr_model.specs.Sending.{sent}
 use Rattle.mr_model.proofs.Acts.{nodes_act}
 use Rattle.mr_model.proofs.Stored.{stores_go_on}
 use Rattle.mr_agree.proofs.Stores.{masters_go_on}
+use Rattle.mr_cluster.specs.declared.living.Living.{Living}
+use Rattle.mr_cluster.specs.Living.{kept, Changes}
 use Rattle.mr_world.specs.declared.fault.WorldFault.TheVariants as fault
-use Rattle.mr_world.specs.declared.living.Living.{Living}
 use Rattle.mr_world.specs.declared.parts.Parts.{Parts}
-use Rattle.mr_world.specs.Living.{kept, Changes}
 use Rattle.mr_world.specs.Limits.{within, fits_bag}
 use Rattle.mr_world.specs.Standing.{Standing, IsTaken, RefusesEvent}
 use Rattle.mr_world.proofs.Refusals.{NeedsRoom, refuses-now}

@@ -18,13 +18,13 @@ use Rattle.mr_model.proofs.Basic.{run-append}
 use Rattle.mr_model.proofs.Closed.{container_eq-true}
 use Rattle.mr_agree.specs.Steps.{setting, steps}
 use Rattle.mr_agree.specs.Stores.{MastersRest}
-use Rattle.mr_world.specs.declared.living.Living.{Living}
+use Rattle.mr_cluster.specs.declared.living.Living.{Living}
+use Rattle.mr_cluster.specs.declared.nodes.Nodes.{Nodes}
+use Rattle.mr_cluster.specs.Living.{kept, Changes}
+use Rattle.mr_cluster.specs.Nodes.{node_of, ChangesNode}
 use Rattle.mr_world.specs.declared.masters.Masters.{Masters}
-use Rattle.mr_world.specs.declared.nodes.Nodes.{Nodes}
 use Rattle.mr_world.specs.declared.parts.Parts.{Parts}
-use Rattle.mr_world.specs.Living.{kept, Changes}
 use Rattle.mr_world.specs.Limits.{within, launches_of}
-use Rattle.mr_world.specs.Machines.{node_of, ChangesNode}
 use Rattle.mr_world.specs.Standing.{Standing, Reached, IsTaken, LivingStand, NodesStand, MastersStand}
 
 -- ---- the world after one event more is reached

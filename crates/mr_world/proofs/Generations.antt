@@ -5,10 +5,10 @@ use Rattle.std.proofs.lemmas.List.{length-set}
 use Rattle.std.proofs.lemmas.Bool.Decides.{nat_tests}
 use Rattle.std.specs.Option.{option_and_then}
 use Rattle.mr_master.specs.State.{Master}
+use Rattle.mr_cluster.proofs.Slots.{slice_last}
 use Rattle.mr_world.specs.declared.masters.Masters.{Masters}
 use Rattle.mr_world.specs.Machines.{master_of, master_count}
 use Rattle.mr_world.specs.inner.Masters.{Begins, ChangesMaster}
-use Rattle.mr_world.proofs.Slots.{slice_last}
 
 next-eq : (a b : ℕ) → nat_eq (suc a) (suc b) ≡ nat_eq a b
 next-eq a b = grind (arith, nat_tests)

@@ -21,12 +21,13 @@ use Rattle.mr_model.specs.Acts.{Went}
 use Rattle.mr_model.proofs.Acts.{containers_act}
 use Rattle.mr_model.proofs.Stored.{stores_go_on}
 use Rattle.mr_agree.proofs.Stores.{masters_go_on}
+use Rattle.mr_cluster.specs.declared.living.Living.{Living}
+use Rattle.mr_cluster.specs.Living.{kept, Changes, stepped, is_over}
 use Rattle.mr_world.specs.declared.fault.WorldFault.TheVariants as fault
-use Rattle.mr_world.specs.declared.living.Living.{Living}
 use Rattle.mr_world.specs.declared.parts.Parts.{Parts}
-use Rattle.mr_world.specs.Living.{kept, Changes, stepped, is_over, ends_by, one_if}
 use Rattle.mr_world.specs.Limits.{within, fits_bag}
 use Rattle.mr_world.specs.Standing.{Standing, IsTaken, IsTo, RefusesEvent}
+use Rattle.mr_world.specs.inner.Replying.{ends_by, one_if}
 use Rattle.mr_world.proofs.Refusals.{NeedsRoom, refuses-now}
 use Rattle.mr_world.proofs.Frames.{rests, living-moved, nodes-stay}
 

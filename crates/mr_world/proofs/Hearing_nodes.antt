@@ -32,14 +32,14 @@ use Rattle.mr_model.proofs.Nodes.{nodes_agree}
 use Rattle.mr_model.proofs.Runs.{begins_once}
 use Rattle.mr_model.proofs.Stored.{stores_go_on}
 use Rattle.mr_agree.proofs.Stores.{masters_go_on}
-use Rattle.mr_world.specs.declared.living.Living.{Living}
-use Rattle.mr_world.specs.declared.nodes.Nodes.{Nodes}
+use Rattle.mr_cluster.specs.declared.living.Living.{Living}
+use Rattle.mr_cluster.specs.declared.nodes.Nodes.{Nodes}
+use Rattle.mr_cluster.specs.Living.{kept, Same}
+use Rattle.mr_cluster.specs.Nodes.{node_of, node_stepped, reaction_of, ChangesNode, SameNodes, added_by}
 use Rattle.mr_world.specs.declared.parts.Parts.{Parts}
-use Rattle.mr_world.specs.Living.{kept, one_if, Same}
 use Rattle.mr_world.specs.Limits.{within, fits_bag}
-use Rattle.mr_world.specs.Machines.{node_of, node_stepped, reaction_of, ChangesNode, SameNodes}
-use Rattle.mr_world.specs.inner.Serving.{added_by, begun_by, served, BeginsAnew, Serves}
-use Rattle.mr_world.specs.inner.Replying.{answers_at}
+use Rattle.mr_world.specs.inner.Serving.{begun_by, served, BeginsAnew, Serves}
+use Rattle.mr_world.specs.inner.Replying.{answers_at, one_if}
 use Rattle.mr_world.specs.Standing.{Standing, IsTaken, IsTo, LivingStand}
 use Rattle.mr_world.proofs.Frames.{rests, nodes-moved}
 use Rattle.mr_world.proofs.Refusals.{NeedsRoom}

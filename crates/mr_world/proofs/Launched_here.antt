@@ -15,10 +15,10 @@ use Rattle.mr_node.specs.declared.reaction.Reaction.TheVariants.{Nothing, Starts
 use Rattle.mr_model.specs.Ids.{Attempt, ContainerId, container_eq}
 use Rattle.mr_model.specs.Acts.{begins, is_killed}
 use Rattle.mr_model.proofs.Closed.{container_eq-true}
-use Rattle.mr_world.specs.declared.living.Living.{Living}
-use Rattle.mr_world.specs.declared.nodes.Nodes.{Nodes}
-use Rattle.mr_world.specs.Living.{kept, Changes}
-use Rattle.mr_world.specs.Machines.{node_of, reaction_of}
+use Rattle.mr_cluster.specs.declared.living.Living.{Living}
+use Rattle.mr_cluster.specs.declared.nodes.Nodes.{Nodes}
+use Rattle.mr_cluster.specs.Living.{kept, Changes}
+use Rattle.mr_cluster.specs.Nodes.{node_of, reaction_of}
 use Rattle.mr_world.specs.inner.Serving.{begun_at, served, BeginsAnew}
 
 -- a launch begins its own container, for its own attempt, or none

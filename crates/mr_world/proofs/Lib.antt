@@ -1,6 +1,4 @@
 pub mod Configs
-pub mod Keys
-pub mod Slots
 pub mod Generations
 pub mod Frames
 pub mod Refusals
@@ -22,13 +20,11 @@ pub mod Computing
 pub mod Expiring
 pub mod Hearing_masters
 pub mod Hearing_nodes
-pub mod Ending
 pub mod Delivering
 pub mod Restarting
 pub mod Filling
 pub mod Asking
 pub mod Living_order
-pub mod Living_next
 pub mod Read_masters
 pub mod Read_containers
 pub mod Read_results

@@ -1,15 +1,13 @@
 -- Who is kept, in order, is who lives, as the definition lists them.
-use Rattle.std.proofs.Common.{◌≡◌, ℕ, zero, suc, ◌+◌, ◌≤◌, ◌<◌, refl, sym, ◌∙◌, ap, subst, Bool, true, false, ◌&&◌, ◌||◌, List, [], ◌∷◌, ◌++◌, map, filter, length, cond, Some, is_some, nat_eq, nat_le, arith}
+use Rattle.std.proofs.Common.{◌≡◌, ℕ, zero, suc, ◌+◌, ◌≤◌, ◌<◌, refl, sym, ◌∙◌, ap, subst, Bool, true, false, ◌&&◌, ◌||◌, List, [], ◌∷◌, ◌++◌, map, filter, length, cond, nat_eq, nat_le, arith}
 use Rattle.std.proofs.lemmas.Bool.{eqb-true, leb-true, leb-false}
 use Rattle.std.proofs.lemmas.Bool.Decides.{nat_tests}
 use Rattle.std.proofs.lemmas.List.Kept.{IsStrictlySortedBy-filter}
 use Rattle.std.proofs.lemmas.Cmp.{then_total, on_total, nat_cmp_total}
 use Rattle.std.proofs.lemmas.Map.Lookups.{btree_set_from_contains, CmpEqualImpliesEq}
-use Rattle.std.specs.BTreeMap.{is_at}
 use Rattle.std.specs.Cmp.{IsTotalOrder}
 use Rattle.std.specs.List.{AllByRecursion, flat_map, list_any, range_with_len}
 use Rattle.std.specs.List.Sorted.{IsStrictlySortedBy}
-use Rattle.std.specs.Map.{keys_of, lookup}
 use Rattle.std.specs.Ordering.{is_eq, nat_cmp, ordering_then}
 use Rattle.std.specs.declared.cmp.Ordering.TheVariants.{Less, Equal}
 use Rattle.mr_model.specs.Ids.{ContainerId}
@@ -19,33 +17,17 @@ use Rattle.mr_model.specs.Duties.{seen}
 use Rattle.mr_model.specs.World.{World, Event, seen_by}
 use Rattle.mr_model.specs.Claims.{In, world_of}
 use Rattle.mr_model.proofs.Beside.{numbers-always}
-use Rattle.mr_model.proofs.Closed.{container_eq-true}
 use Rattle.mr_model.proofs.Cluster.{open_place, launched_as}
 use Rattle.mr_model.proofs.Ranges.{always-placed}
+use Rattle.mr_cluster.specs.Living.{container_cmp}
+use Rattle.mr_cluster.specs.Order.{in_order}
+use Rattle.mr_cluster.proofs.Keys.{found_is, is_it, it-is, kept-listed}
 use Rattle.mr_world.specs.declared.parts.Parts.{Parts}
 use Rattle.mr_world.specs.Limits.{within}
-use Rattle.mr_world.specs.Living.{container_cmp, kept}
-use Rattle.mr_world.specs.inner.LivingOrder.{in_order}
 use Rattle.mr_world.specs.Readings.{living, launched_by}
 use Rattle.mr_world.specs.Standing.{Standing}
-use Rattle.mr_world.proofs.Keys.{found_is}
-
--- whether a container is q, as the map tests it
-abbrev is_it : ContainerId → ContainerId → Bool
-is_it q c = is_at (container_cmp q) c
-
-it-is : (q c : ContainerId) → is_it q c ≡ true → c ≡ q
-it-is q c e = container_eq-true c q (sym (found_is q c) ∙ e)
 
 -- ---- who is in a list
-
-kept-has : {X : Type 0} (test : ContainerId → Bool) (es : List (ContainerId × X)) → is_some (lookup test es) ≡ list_any test (keys_of es)
-kept-has test [] = refl
-kept-has test (e ∷ es) = by (test e.0) (kept-has test es)
-  where
-    by : (b : Bool) → is_some (lookup test es) ≡ list_any test (keys_of es) → is_some (cond b (Some e.1) (lookup test es)) ≡ (b || list_any test (keys_of es))
-    by true ih = refl
-    by false ih = ih
 
 filter-has : (f : ContainerId → Bool) (q : ContainerId) (xs : List ContainerId) → list_any (is_it q) (filter f xs) ≡ (f q && list_any (is_it q) xs)
 filter-has f q [] = none (f q)
@@ -212,10 +194,6 @@ total = then_total (on_total (λ (c : ContainerId). c.app) nat_cmp_total) (on_to
 exact : CmpEqualImpliesEq container_cmp
 exact x y e = sym (it-is x y (ap is_eq e))
 
-kept-listed : (p : Parts) (w : World) → Standing p w → (q : ContainerId) → list_any (is_it q) (in_order p.living) ≡ w.is_alive q
-unfolding in_order kept
-kept-listed p w s q = sym (kept-has (is_it q) p.living.machines.entries) ∙ s.living.alive q
-
 pub living-is : (p : Parts) (w : World) → Standing p w → IsStrictlySortedBy container_cmp (in_order p.living) → in_order p.living ≡ living p.config w
 living-is p w s sorted = btree_set_from_contains total (record { keys = in_order p.living }) (record { keys = living p.config w }) sorted (listed-sorted p.config w)
-    (λ q. kept-listed p w s q ∙ sym (listed p.config w (subst (λ (u : World). (c : ContainerId) → u.is_alive c ≡ true → WasLaunched p.config u c) s.reached.is (alive-launched p.config s.reached.events)) q)) exact
+    (λ q. kept-listed p.living q ∙ s.living.alive q ∙ sym (listed p.config w (subst (λ (u : World). (c : ContainerId) → u.is_alive c ≡ true → WasLaunched p.config u c) s.reached.is (alive-launched p.config s.reached.events)) q)) exact

@@ -13,12 +13,13 @@ use Rattle.mr_model.proofs.Stored.{stores_go_on}
 use Rattle.mr_model.specs.Packets.{Config}
 use Rattle.mr_model.specs.World.{opening_world}
 use Rattle.mr_model.specs.Effect.{run}
-use Rattle.mr_world.specs.declared.living.Living.{Living}
+use Rattle.mr_cluster.specs.declared.living.Living.{Living}
+use Rattle.mr_cluster.specs.declared.nodes.Nodes.{Nodes}
+use Rattle.mr_cluster.specs.Living.{kept}
+use Rattle.mr_cluster.specs.Nodes.{node_of}
 use Rattle.mr_world.specs.declared.masters.Masters.{Masters}
-use Rattle.mr_world.specs.declared.nodes.Nodes.{Nodes}
-use Rattle.mr_world.specs.Living.{kept}
 use Rattle.mr_world.specs.Limits.{launches_of}
-use Rattle.mr_world.specs.Machines.{node_of, master_of, master_count}
+use Rattle.mr_world.specs.Machines.{master_of, master_count}
 use Rattle.mr_world.specs.Standing.{Reached, LivingStand, NodesStand, MastersStand}
 
 pub opens : (cfg : Config) → Reached cfg opening_world

@@ -14,8 +14,8 @@ use Rattle.mr_model.specs.World.{World, wish_of, wish_at}
 use Rattle.mr_model.specs.Effect.{wants_compute}
 use Rattle.mr_model.specs.Sequential as sequential
 use Rattle.mr_model.proofs.Containers.{blocks-agree}
+use Rattle.mr_cluster.specs.Living.{kept}
 use Rattle.mr_world.specs.declared.parts.Parts.{Parts}
-use Rattle.mr_world.specs.Living.{kept}
 use Rattle.mr_world.specs.Readings.{wish_by, wish_in, input_in, place_in}
 use Rattle.mr_world.specs.Standing.{Standing}
 use Rattle.mr_world.proofs.Saying.{says}

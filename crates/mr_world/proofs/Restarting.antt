@@ -24,14 +24,14 @@ use Rattle.mr_model.proofs.Basic.{unless_parts}
 use Rattle.mr_model.proofs.Nodes.{nodes_agree}
 use Rattle.mr_model.proofs.Stored.{stores_go_on}
 use Rattle.mr_agree.proofs.Stores.{masters_go_on}
+use Rattle.mr_cluster.specs.declared.living.Living.{Living}
+use Rattle.mr_cluster.specs.declared.nodes.Nodes.{Nodes}
+use Rattle.mr_cluster.specs.Living.{kept, unless_on}
+use Rattle.mr_cluster.specs.Nodes.{node_of, node_stepped, ChangesNode}
 use Rattle.mr_world.specs.declared.fault.WorldFault.TheVariants as fault
-use Rattle.mr_world.specs.declared.living.Living.{Living}
-use Rattle.mr_world.specs.declared.nodes.Nodes.{Nodes}
 use Rattle.mr_world.specs.declared.parts.Parts.{Parts}
-use Rattle.mr_world.specs.Living.{kept}
 use Rattle.mr_world.specs.Limits.{within, fits_at_once, fits_bag}
-use Rattle.mr_world.specs.Machines.{node_of, node_stepped, master_of, ChangesNode}
-use Rattle.mr_world.specs.inner.Restarting.{unless_on}
+use Rattle.mr_world.specs.Machines.{master_of}
 use Rattle.mr_world.specs.Standing.{Standing, IsTaken, LivingStand, RefusesEvent}
 use Rattle.mr_world.proofs.Frames.{rests, nodes-moved}
 use Rattle.mr_world.proofs.Refusals.{NeedsRoom, refuses-now, refuses-full}

@@ -8,8 +8,8 @@ use Rattle.mr_model.specs.Pasts.{Place}
 use Rattle.mr_model.specs.World.{World}
 use Rattle.mr_model.specs.Actors.{ContainerIn, ContainerSays, BoundsBytes}
 use Rattle.mr_model.proofs.Runs.{containers_say}
+use Rattle.mr_cluster.specs.Living.{kept}
 use Rattle.mr_world.specs.declared.parts.Parts.{Parts}
-use Rattle.mr_world.specs.Living.{kept}
 use Rattle.mr_world.specs.Limits.{within, fits_bytes}
 use Rattle.mr_world.specs.Standing.{Standing}
 

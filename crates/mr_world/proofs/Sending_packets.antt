@@ -22,13 +22,14 @@ use Rattle.mr_model.specs.Acts.{Went}
 use Rattle.mr_model.proofs.Acts.{containers_act}
 use Rattle.mr_model.proofs.Stored.{stores_go_on}
 use Rattle.mr_agree.proofs.Stores.{masters_go_on}
-use Rattle.mr_world.specs.declared.letters.Letters.TheVariants.{Nothing, One, Last}
-use Rattle.mr_world.specs.declared.living.Living.{Living}
+use Rattle.mr_cluster.specs.declared.letters.Letters.TheVariants.{Nothing, One, Last}
+use Rattle.mr_cluster.specs.declared.living.Living.{Living}
+use Rattle.mr_cluster.specs.Letters.{is_last, letters_by, letters_of, count_of}
+use Rattle.mr_cluster.specs.Living.{kept, Changes, stepped}
 use Rattle.mr_world.specs.declared.parts.Parts.{Parts}
-use Rattle.mr_world.specs.inner.Letters.{IsAlone, is_last, letters_by, letters_of, count_of}
-use Rattle.mr_world.specs.Living.{kept, Changes, stepped}
 use Rattle.mr_world.specs.Limits.{within, fits_bag, fits_call}
 use Rattle.mr_world.specs.Standing.{Standing, IsTaken}
+use Rattle.mr_world.specs.inner.Calling.{IsAlone}
 use Rattle.mr_world.proofs.Refusals.{NeedsRoom}
 use Rattle.mr_world.proofs.Frames.{rests, living-moved, living-stay, nodes-stay}
 use Rattle.mr_world.proofs.Saying.{says}

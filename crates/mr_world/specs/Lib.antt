@@ -1,7 +1,6 @@
 -- What a world's contracts say. Read Ranges, Limits, Journal, Applying and Headline for what its calls promise, and Readings, VisibleFiles, Histories and Asks for what is read;
--- Living, Machines and Standing say how its parts stand for the world of mr_model.
+-- Machines and Standing say how its parts stand for the world of mr_model (of mr_cluster, Living and Nodes).
 pub mod Ranges
-pub mod Living
 pub mod Limits
 pub mod Machines
 pub mod Standing

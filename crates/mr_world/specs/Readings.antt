@@ -1,6 +1,6 @@
 -- What programs read of a world: of masters and containers that are alive, and nothing of others.
-use Rattle.std.specs.Prelude.{ℕ, Bool, true, ◌&&◌, ◌||◌, nat_eq, nat_lt, List, map, filter, length, slice_get, Option, Some, None, if◌then◌else◌}
-use Rattle.std.specs.Option.{option_map, option_or}
+use Rattle.std.specs.Prelude.{ℕ, List, map, filter, length, Option, Some, None, if◌then◌else◌}
+use Rattle.std.specs.Option.{option_map}
 use Rattle.std.specs.List.{flat_map, range_with_len}
 use Rattle.mr_ids.specs.declared.id.TaskId.{TaskId}
 use Rattle.mr_history.specs.Recorded.{tail_width}
@@ -16,6 +16,8 @@ use Rattle.mr_model.specs.World.{World, duty, seen_by}
 use Rattle.mr_model.specs.Sequential as sequential
 use Rattle.mr_model.specs.Wanted.{wanted}
 use Rattle.mr_agree.specs.Works.{phase_of, named}
+-- the next living container after another, in cyclic order
+pub use Rattle.mr_cluster.specs.Order.{is_behind, next_living}
 use Rattle.mr_world.specs.declared.inputs.Input.{Input}
 use Rattle.mr_world.specs.declared.inputs.Input.TheVariants.{Map, Reduce}
 
@@ -67,11 +69,3 @@ launched_by cfg w k = map (λ n. record { app = k; number = n }) (range_with_len
 -- by generation, then number
 unfoldable pub living : Config → World → List ContainerId
 living cfg w = filter w.is_alive (flat_map (launched_by cfg w) (range_with_len 1 w.fence))
-
-abbrev pub is_behind : Option ContainerId → ContainerId → Bool
-is_behind None c = true
-is_behind (Some d) c = nat_lt d.app c.app || (nat_eq d.app c.app && nat_lt d.number c.number)
-
--- the next one after another, in cyclic order
-abbrev pub next_living : List ContainerId → Option ContainerId → Option ContainerId
-next_living cs last = option_or (slice_get (filter (is_behind last) cs) 0) (slice_get cs 0)

@@ -14,15 +14,16 @@ use Rattle.mr_model.specs.Claims.{world_of}
 use Rattle.mr_model.specs.Stored.{StoresStand}
 use Rattle.mr_model.specs.Actors.{ContainerIn, NodeIn}
 use Rattle.mr_agree.specs.Steps.{setting, steps}
+use Rattle.mr_cluster.specs.declared.living.Living.{Living}
+use Rattle.mr_cluster.specs.declared.nodes.Nodes.{Nodes}
+use Rattle.mr_cluster.specs.Living.{kept}
+use Rattle.mr_cluster.specs.Nodes.{node_of}
 use Rattle.mr_world.specs.declared.fault.WorldFault.{WorldFault}
 use Rattle.mr_world.specs.declared.fault.WorldFault.TheVariants as fault
-use Rattle.mr_world.specs.declared.living.Living.{Living}
 use Rattle.mr_world.specs.declared.masters.Masters.{Masters}
-use Rattle.mr_world.specs.declared.nodes.Nodes.{Nodes}
 use Rattle.mr_world.specs.declared.parts.Parts.{Parts}
-use Rattle.mr_world.specs.Living.{kept}
 use Rattle.mr_world.specs.Limits.{within, fits_at_once, launch_count}
-use Rattle.mr_world.specs.Machines.{node_of, master_of, master_count}
+use Rattle.mr_world.specs.Machines.{master_of, master_count}
 
 -- w is the world after some events
 pub record Reached (cfg : Config) (w : World) : Type 0 where

@@ -1,14 +1,11 @@
 -- Words for private contracts and for proofs. No public clause cites them.
 pub mod Reasons
 pub mod Masters
-pub mod Letters
 pub mod Serving
 pub mod Calling
 pub mod Computing
 pub mod Replying
-pub mod Restarting
 pub mod Duties
 pub mod Addressees
 pub mod Asking
-pub mod LivingOrder
 pub mod Winning

@@ -3,9 +3,9 @@ ghost use Rattle.std.specs.Prelude.{◌≡◌, ◌&&◌, OnOk, OnErr, IfOk, is_s
 ghost use Rattle.mr_names.specs.Calls.{refused};
 ghost use Rattle.mr_model.specs.Effect.{is_calm};
 ghost use Rattle.mr_model.specs.Stored.{left_in, heard_in};
+ghost use Rattle.mr_cluster.specs.Living.{kept};
 ghost use Rattle.mr_world.specs.inner.Calling.{is_call, step_fault, permitted, is_made, ForeseesCall, answer_of, HasCalled};
 ghost use Rattle.mr_world.specs.Limits.{is_full};
-ghost use Rattle.mr_world.specs.Living.{kept};
 
 use crate::fault::WorldFault;
 use crate::parts::Parts;

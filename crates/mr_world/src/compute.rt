@@ -2,8 +2,8 @@
 ghost use Rattle.std.specs.Prelude.{◌≡◌, IfOk, IfErr, None, ℕ};
 ghost use Rattle.mr_ids.specs.declared.id.TaskKind.TheVariants.{Map, Reduce};
 ghost use Rattle.mr_model.specs.World.{Compute};
+ghost use Rattle.mr_cluster.specs.Living.{kept};
 ghost use Rattle.mr_world.specs.inner.Computing.{bytes_fault, unless_fault, Computes};
-ghost use Rattle.mr_world.specs.Living.{kept};
 ghost use Rattle.mr_world.specs.Standing.{Foresees, Tries};
 
 use crate::fault::WorldFault;

@@ -4,14 +4,15 @@ ghost use Rattle.mr_packet.specs.declared.packet.Address.TheVariants.{Container}
 ghost use Rattle.mr_packet.specs.declared.packet.Envelope.{Envelope};
 ghost use Rattle.mr_container.specs.Past.{Hears};
 ghost use Rattle.mr_model.specs.World.{Deliver};
-ghost use Rattle.mr_world.specs.Living.{kept, Changes, Same, stepped, ends_by, one_if};
+ghost use Rattle.mr_cluster.specs.Living.{kept, Changes, Same, stepped};
 ghost use Rattle.mr_world.specs.Standing.{IsTo, Foresees, Tries};
+ghost use Rattle.mr_world.specs.inner.Replying.{ends_by, one_if};
 
 use crate::die::ended;
 use crate::fault::WorldFault;
-use crate::living::Living;
 use crate::parts::Parts;
 use crate::room::reserve;
+use mr_cluster::Living;
 use mr_event::Why;
 use mr_packet::{Bag, ContainerId, MAX_PACKETS};
 use std::alloc::AllocError;

@@ -9,10 +9,9 @@ ghost use Rattle.mr_world.specs.Histories.{opening_history};
 ghost use Rattle.mr_world.specs.Standing.{Standing};
 
 use crate::config::Config;
-use crate::living::Living;
 use crate::masters::Masters;
-use crate::nodes::Nodes;
 use crate::parts::Parts;
+use mr_cluster::{Living, Nodes};
 use mr_history::History;
 use mr_ids::AppAttempt;
 use mr_names::{Caller, Namespace};

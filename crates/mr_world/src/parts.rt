@@ -5,9 +5,8 @@ ghost use Rattle.mr_world.specs.declared.fault.WorldFault.TheVariants.{Full};
 
 use crate::config::Config;
 use crate::fault::WorldFault;
-use crate::living::Living;
 use crate::masters::Masters;
-use crate::nodes::Nodes;
+use mr_cluster::{Living, Nodes};
 use mr_history::History;
 use mr_names::Namespace;
 use mr_packet::{Bag, MAX_PACKETS};

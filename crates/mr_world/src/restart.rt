@@ -3,7 +3,8 @@ ghost use Rattle.std.specs.Prelude.{◌≡◌, ◌<◌, ◌≤◌, ◌+◌, ◌-
 ghost use Rattle.mr_packet.specs.declared.packet.Packet.TheVariants.{NodeUp};
 ghost use Rattle.mr_model.specs.Sending.{sent, to_app, to_masters};
 ghost use Rattle.mr_model.specs.World.{World, NodeRestart};
-ghost use Rattle.mr_world.specs.Machines.{master_of, node_of};
+ghost use Rattle.mr_cluster.specs.Nodes.{node_of};
+ghost use Rattle.mr_world.specs.Machines.{master_of};
 ghost use Rattle.mr_world.specs.Standing.{Standing, Foresees, Tries};
 
 use crate::fault::WorldFault;

@@ -1,15 +1,16 @@
 //! A container's step that is no store call: the packet that it sends, and its end where that was its last.
 ghost use Rattle.std.specs.Prelude.{◌≡◌, ◌≤◌, ◌+◌, length, IfOk, OnOk};
 ghost use Rattle.mr_model.specs.World.{ContainerStep};
-ghost use Rattle.mr_world.specs.inner.Letters.{IsAlone, letters_of, count_of};
-ghost use Rattle.mr_world.specs.Living.{kept};
+ghost use Rattle.mr_cluster.specs.Letters.{letters_of, count_of};
+ghost use Rattle.mr_cluster.specs.Living.{kept};
 ghost use Rattle.mr_world.specs.Standing.{Foresees, Tries};
+ghost use Rattle.mr_world.specs.inner.Calling.{IsAlone};
 
 use crate::die::ended;
 use crate::fault::WorldFault;
-use crate::letters::Letters;
 use crate::parts::Parts;
 use crate::room::reserve;
+use mr_cluster::Letters;
 use mr_event::Weather;
 use mr_packet::{ContainerId, MAX_PACKETS};
 

@@ -1,5 +1,5 @@
 -- The store call of a container's next step: when it is permitted, and what is done.
-use Rattle.std.specs.Prelude.{◌≡◌, Bool, true, false, ◌||◌, not, Option, Some, None, Result, Ok, Err}
+use Rattle.std.specs.Prelude.{◌≡◌, Bool, true, false, ◌||◌, not, Option, Some, None, is_some, Result, Ok, Err}
 use Rattle.mr_container.specs.declared.wish.Wish.{Wish}
 use Rattle.mr_container.specs.declared.wish.Wish.TheVariants as wish
 use Rattle.mr_container.specs.Readings.{is_computing}
@@ -12,11 +12,11 @@ use Rattle.mr_model.specs.Ids.{ContainerId}
 use Rattle.mr_model.specs.World.{World, Weather, Calm, Unavailable, Unanswered, ContainerStep, op_of, caller_of}
 use Rattle.mr_model.specs.Effect.{not_now, unless, is_calm, WrongWish, NoStoreCall}
 use Rattle.mr_model.specs.Stored.{left_in, heard_in}
+use Rattle.mr_cluster.specs.Living.{kept, Changes, stepped}
 use Rattle.mr_world.specs.declared.call.StoreCall.{StoreCall}
 use Rattle.mr_world.specs.declared.fault.WorldFault.{WorldFault}
 use Rattle.mr_world.specs.declared.fault.WorldFault.TheVariants as fault
 use Rattle.mr_world.specs.declared.parts.Parts.{Parts}
-use Rattle.mr_world.specs.Living.{Changes, stepped}
 use Rattle.mr_world.specs.Standing.{Standing, IsTaken, RefusesEvent}
 
 -- the wishes that are store calls
@@ -62,3 +62,9 @@ pub record HasCalled (old : Parts) (c : ContainerId) (f : Weather) (call : Store
   pub names : new.names ≡ left_in f old.names (answer_of old.names call).1
   pub living : Changes old.living c (stepped old.living c (Calls call.op (heard_in f (answer_of old.names call).0))) new.living
   pub rest : new ≡ record old { names = new.names; living = new.living }
+
+-- the container's next step is permitted, and is no store call
+pub record IsAlone (p : Parts) (c : ContainerId) (f : Weather) : Type 0 where
+  pub lives : is_some (kept p.living c) ≡ true
+  pub now : (w : World) → Standing p w → not_now p.config w (ContainerStep c f) ≡ None
+  pub no_call : (w : World) → Standing p w → op_of p.config w c ≡ None

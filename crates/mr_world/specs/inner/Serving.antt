@@ -1,7 +1,6 @@
 -- What a packet to a node makes of the living.
 -- A launch that the node obeys begins a container, and a Kill ends one.
 use Rattle.std.specs.Prelude.{◌≡◌, ℕ, true, Option, Some, None, if◌then◌else◌}
-use Rattle.mr_packet.specs.declared.packet.Envelope.{Envelope}
 use Rattle.mr_packet.specs.declared.packet.Packet.{Packet}
 use Rattle.mr_container.specs.Readings.{opening}
 use Rattle.mr_container.specs.State.{Container}
@@ -10,16 +9,10 @@ use Rattle.mr_node.specs.declared.reaction.Reaction.{Reaction}
 use Rattle.mr_node.specs.declared.reaction.Reaction.TheVariants.{Nothing, Starts, Adds}
 use Rattle.mr_model.specs.Ids.{ContainerId}
 use Rattle.mr_model.specs.Acts.{begins, is_killed}
-use Rattle.mr_world.specs.declared.living.Living.{Living}
-use Rattle.mr_world.specs.declared.nodes.Nodes.{Nodes}
-use Rattle.mr_world.specs.Living.{kept}
-use Rattle.mr_world.specs.Machines.{node_of, reaction_of}
-
--- the packet that a reaction adds
-abbrev pub added_by : Reaction → Option Envelope
-added_by (Adds e) = Some e
-added_by (Starts c a) = None
-added_by Nothing = None
+use Rattle.mr_cluster.specs.declared.living.Living.{Living}
+use Rattle.mr_cluster.specs.declared.nodes.Nodes.{Nodes}
+use Rattle.mr_cluster.specs.Living.{kept}
+use Rattle.mr_cluster.specs.Nodes.{node_of, reaction_of}
 
 -- the machine of a container that node m starts by this reaction, in a job of so many maps
 abbrev pub begun_by : node.Node → ℕ → Reaction → Option Container

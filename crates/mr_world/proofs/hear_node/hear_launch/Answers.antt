@@ -1,6 +1,6 @@
 use Rattle.std.proofs.Common.{sym, ◌∙◌, Some, subst}
 use Rattle.mr_container.specs.State.{Container}
-use Rattle.mr_world.specs.Living.{Changes}
+use Rattle.mr_cluster.specs.Living.{Changes}
 use Rattle.mr_world.proofs.Launched_here.{lives-on, begun}
 use Rattle.mr_world.proofs.hear_node.hear_launch.Goals as goal
 

@@ -1,5 +1,5 @@
 use Rattle.std.proofs.Common.{◌∙◌, ap}
-use Rattle.mr_world.specs.inner.Serving.{added_by}
+use Rattle.mr_cluster.specs.Nodes.{added_by}
 use Rattle.mr_world.proofs.Launched_here.{killed, elsewhere}
 use Rattle.mr_world.proofs.hear_node.hear_packet.Goals as goal
 

@@ -1,6 +1,6 @@
 use Rattle.std.proofs.Common.{refl, sym, ◌∙◌, ap, slice_get, arith}
 use Rattle.mr_model.specs.World.{Deliver}
-use Rattle.mr_world.specs.Living.{one_if, ends_by}
+use Rattle.mr_world.specs.inner.Replying.{one_if, ends_by}
 use Rattle.mr_world.proofs.Hearing_containers.{refused, needs, one_if-most}
 use Rattle.mr_world.proofs.Refusals.{taken-by, full-by, memory-foreseen}
 use Rattle.mr_world.proofs.parts.Parts.check_hear_container.Goals as goal

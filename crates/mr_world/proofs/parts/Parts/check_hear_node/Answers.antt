@@ -1,7 +1,6 @@
 use Rattle.std.proofs.Common.{refl, sym, ◌∙◌, ap, slice_get, arith}
 use Rattle.mr_model.specs.World.{Deliver}
-use Rattle.mr_world.specs.Living.{one_if}
-use Rattle.mr_world.specs.inner.Replying.{answers_at}
+use Rattle.mr_world.specs.inner.Replying.{answers_at, one_if}
 use Rattle.mr_world.proofs.Hearing_containers.{one_if-most}
 use Rattle.mr_world.proofs.Hearing_nodes.{needs}
 use Rattle.mr_world.proofs.Refusals.{taken-by, full-by, memory-foreseen}

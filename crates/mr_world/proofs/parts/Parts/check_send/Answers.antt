@@ -1,8 +1,8 @@
 use Rattle.std.proofs.Common.{◌≡◌, ap, subst, ◌+◌, ◌≤◌, ◌<◌, length, ◌∙◌, IsErrAnd}
 use Rattle.mr_packet.specs.declared.bag.TheConstants.{MAX_PACKETS}
 use Rattle.mr_model.specs.World.{ContainerStep}
-use Rattle.mr_world.specs.inner.Letters.{count_of, letters_of}
-use Rattle.mr_world.specs.Living.{kept}
+use Rattle.mr_cluster.specs.Letters.{count_of, letters_of}
+use Rattle.mr_cluster.specs.Living.{kept}
 use Rattle.mr_world.proofs.Sending_packets.{needs}
 use Rattle.mr_world.proofs.Refusals.{taken-by, full-foreseen}
 use Rattle.mr_world.proofs.parts.Parts.check_send.Goals as goal

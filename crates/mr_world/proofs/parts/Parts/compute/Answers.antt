@@ -1,6 +1,6 @@
 use Rattle.std.proofs.Common.{◌∙◌, ap, sym, ℕ, List, subst}
 use Rattle.mr_node.specs.Past.{Shelves}
-use Rattle.mr_world.specs.Machines.{ChangesNode, node_stepped}
+use Rattle.mr_cluster.specs.Nodes.{ChangesNode, node_stepped}
 use Rattle.mr_ids.specs.declared.id.TaskId.{TaskId}
 use Rattle.mr_world.proofs.Computing.{reduce-stands, map-stands, map-kind, nodes-same}
 use Rattle.mr_world.proofs.Refusals.{memory-tried}

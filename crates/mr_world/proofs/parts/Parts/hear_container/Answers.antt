@@ -1,6 +1,6 @@
 use Rattle.std.proofs.Common.{sym, ◌∙◌, ap, None, true, false, ◌++◌, ◌∷◌, [], append-nil, slice_get}
 use Rattle.mr_model.specs.World.{Deliver}
-use Rattle.mr_world.specs.Living.{ends_by}
+use Rattle.mr_world.specs.inner.Replying.{ends_by}
 use Rattle.mr_world.proofs.Frames.{same-parts, changes-twice}
 use Rattle.mr_world.proofs.Hearing_containers.{heard-stands}
 use Rattle.mr_world.proofs.Refusals.{memory-tried}

@@ -1,6 +1,6 @@
 use Rattle.std.proofs.Common.{sym, ◌∙◌, ap, subst, length, ◌++◌, ◌∷◌, [], append-nil, slice_get, arith}
 use Rattle.mr_model.specs.World.{Deliver}
-use Rattle.mr_world.specs.Machines.{node_of, reaction_of}
+use Rattle.mr_cluster.specs.Nodes.{node_of, reaction_of}
 use Rattle.mr_world.specs.inner.Serving.{Serves}
 use Rattle.mr_world.proofs.Hearing_nodes.{stands, same-all, one-added, none-added, answering, is-none}
 use Rattle.mr_world.proofs.Refusals.{memory-tried}

@@ -1,7 +1,7 @@
 use Rattle.std.proofs.Common.{◌≡◌, ℕ, subst, sym, nat_lt, Some, None, if◌then◌else◌}
 use Rattle.mr_node.specs.Readings.{opening}
 use Rattle.mr_model.specs.Packets.{Config}
-use Rattle.mr_world.specs.Machines.{node_of}
+use Rattle.mr_cluster.specs.Nodes.{node_of}
 use Rattle.mr_world.proofs.Opening_parts.{opens, none-live, nodes-begin, no-master, none-launched, stores-open}
 use Rattle.mr_world.proofs.parts.Parts.new.Goals as goal
 

@@ -1,0 +1,252 @@
+//! The machines of the containers that are alive, in order of the containers, and what each of them hears, sends or computes.
+ghost use Rattle.std.specs.Prelude.{◌≡◌, None, Some, is_some, IfOk, IfSome, OnOk, OnErr, List, ℕ, filter, slice_get};
+ghost use Rattle.std.specs.List.Sorted.{IsStrictlySortedBy};
+ghost use Rattle.std.specs.Option.{option_copied};
+ghost use Rattle.mr_packet.specs.declared.packet.Packet.{Packet};
+ghost use Rattle.mr_container.specs.Past.{Hears, Sends, Computes, Calls};
+ghost use Rattle.mr_ids.specs.declared.id.TaskKind.TheVariants.{Map};
+ghost use Rattle.mr_names.specs.declared.op.Op.{Op};
+ghost use Rattle.mr_container.specs.Wished.{wished_packet};
+ghost use Rattle.mr_container.specs.State.{after};
+ghost use Rattle.mr_model.specs.Actors.{is_finished};
+ghost use Rattle.mr_model.specs.Ids.{ContainerId};
+ghost use Rattle.mr_cluster.specs.Letters.{letters_by, letters_of, is_last};
+ghost use Rattle.mr_cluster.specs.Living.{container_cmp, kept, Changes, Same, stepped, is_over, stays, unless_on};
+ghost use Rattle.mr_cluster.specs.Order.{in_order, is_behind, next_living};
+
+use crate::letters::Letters;
+use mr_container::{ContainerMachine, Reply, Wish};
+use mr_packet::{Bytes, ContainerId, Packet};
+use std::alloc::{AllocError, Global};
+use std::collections::BTreeMap;
+use std::ops::Bound;
+
+/// The machines of the containers that live, in the order of the containers.
+#[derive(Drop)]
+pub struct Living {
+    machines: BTreeMap<ContainerId, ContainerMachine>,
+}
+
+impl Living {
+    /// None lives. It takes no memory.
+    #[tactic(auto, unfolding(crate::specs::Living::kept))]
+    pub fn new(alloc: Global) -> Living
+        ensures { (d : ContainerId) → kept result d ≡ None }
+    {
+        Living {
+            machines: BTreeMap::new(alloc),
+        }
+    }
+
+    /// The machine of a container, if it lives. It takes no memory.
+    #[tactic(auto, unfolding(crate::specs::Living::kept))]
+    pub fn get(&self, c: &ContainerId) -> Option<&ContainerMachine>
+        ensures { option_copied result ≡ kept self.now c.now }
+    {
+        self.machines.get(c)
+    }
+
+    /// Whether a container lives. It takes no memory.
+    #[tactic(auto, unfolding(crate::specs::Living::kept))]
+    pub fn contains(&self, c: &ContainerId) -> bool
+        ensures { result ≡ is_some (kept self.now c.now) }
+    {
+        self.machines.contains_key(c)
+    }
+
+    /// The container lives from now on, with this machine. Where memory is refused nothing changes.
+    #[tactic(auto, using(crate::proofs::Keys::changed), unfolding(crate::specs::Living::kept))]
+    pub fn insert(&mut self, c: ContainerId, machine: ContainerMachine) -> Result<(), AllocError>
+        ensures ok { OnOk result (Changes self.old c (Some machine) self.new) }
+        ensures err { OnErr result (Same self.old self.new) }
+    {
+        self.machines.insert(c, machine)?;
+        Ok(())
+    }
+
+    /// The container, if it lives, hears the answer of its store call. It takes no memory.
+    #[tactic(auto, using(crate::proofs::Keys::changed), unfolding(crate::specs::Living::kept))]
+    pub fn on(&mut self, c: &ContainerId, reply: Reply)
+        ensures { (op : Op) → Changes self.old c.now (stepped self.old c.now (Calls op reply)) self.new }
+    {
+        match self.machines.get_mut(c) {
+            Some(machine) => machine.on(reply),
+            None => {}
+        }
+    }
+
+    /// The container, if it lives, was handed in its bytes. It takes no memory.
+    #[tactic(auto, using(crate::proofs::Keys::changed), unfolding(crate::specs::Living::kept))]
+    pub fn computed(&mut self, c: &ContainerId, bytes: Bytes)
+        ensures changed { Changes self.old c.now (stepped self.old c.now (Computes bytes)) self.new }
+        // Which bytes they are is not kept of a map.
+        ensures of_map { IfSome (kept self.old c.now) (λ m. m.place.attempt.task.kind ≡ Map) → (others : List ℕ) → Changes self.old c.now (stepped self.old c.now (Computes others)) self.new }
+    {
+        match self.machines.get_mut(c) {
+            Some(machine) => machine.computed(bytes),
+            None => {}
+        }
+    }
+
+    /// The container lives no longer. It takes no memory.
+    #[tactic(auto, using(crate::proofs::Keys::changed), unfolding(crate::specs::Living::kept))]
+    pub fn remove(&mut self, c: &ContainerId)
+        ensures { Changes self.old c.now None self.new }
+    {
+        self.machines.remove(c);
+    }
+
+    /// The containers that were launched on this node live no longer. It takes no memory.
+    #[tactic(auto, unfolding(crate::specs::Living::kept))]
+    pub fn end_on(&mut self, n: u32)
+        ensures { (d : ContainerId) → kept self.new d ≡ unless_on n (kept self.old d) }
+    {
+        self.machines
+            .retain(|_container, machine| stays(machine, n));
+    }
+
+    /// The container, if it lives, hears a packet: whether it came to its end. Where memory is refused nothing changes.
+    #[tactic(auto, using(crate::proofs::Keys::changed), unfolding(crate::specs::Living::kept))]
+    pub fn hear(&mut self, c: &ContainerId, packet: &Packet) -> Result<bool, AllocError>
+        ensures ok { OnOk result (Changes self.old c.now (stepped self.old c.now (Hears packet.now)) self.new) }
+        ensures over { IfOk result (λ over. over ≡ is_over (stepped self.old c.now (Hears packet.now))) }
+        ensures err { OnErr result (Same self.old self.new) }
+    {
+        match self.machines.get_mut(c) {
+            Some(machine) => hear(machine, packet),
+            None => Ok(false),
+        }
+    }
+
+    /// What the container's next step puts into the bag, if it lives, where that is no store call. It takes no memory.
+    #[tactic(auto, unfolding(crate::specs::Living::kept))]
+    pub fn letters(&self, c: &ContainerId) -> Letters
+        ensures { result ≡ letters_of (kept self.now c.now) }
+    {
+        match self.machines.get(c) {
+            Some(machine) => letters(machine),
+            None => Letters::Nothing,
+        }
+    }
+
+    /// The packet that the container wished to send was sent. It takes no memory.
+    #[tactic(auto, using(crate::proofs::Keys::changed), unfolding(crate::specs::Living::kept))]
+    pub fn sent(&mut self, c: &ContainerId)
+        ensures { (packet : Packet) → Changes self.old c.now (stepped self.old c.now (Sends packet)) self.new }
+    {
+        match self.machines.get_mut(c) {
+            Some(machine) => machine.sent(),
+            None => {}
+        }
+    }
+
+    /// Whether the container, if it lives, would come to its end by a packet. Its only error is an allocation failure.
+    #[tactic(auto, unfolding(crate::specs::Living::kept))]
+    pub fn would_end(&self, c: &ContainerId, packet: &Packet) -> Result<bool, AllocError>
+        ensures { IfOk result (λ over. over ≡ is_over (stepped self.now c.now (Hears packet.now))) }
+    {
+        match self.machines.get(c) {
+            Some(machine) => {
+                let mut copy = machine.copy()?;
+                hear(&mut copy, packet)
+            }
+            None => Ok(false),
+        }
+    }
+}
+
+// Who lives, in order.
+impl Living {
+    /// The containers stand in order. This call does nothing: it tells the caller so.
+    #[tactic(auto, unfolding(crate::specs::Order::in_order))]
+    pub fn tell_order(&self)
+        ensures { IsStrictlySortedBy container_cmp (in_order self.now) }
+    {
+        let _len = self.machines.len();
+    }
+
+    /// All containers that live, in order. Its only error is an allocation failure.
+    #[tactic(auto, unfolding(crate::specs::Order::in_order))]
+    pub fn all(&self, alloc: Global) -> Result<Vec<ContainerId>, AllocError>
+        ensures { IfOk result (λ all. all.items ≡ in_order self.now) }
+    {
+        let mut all = Vec::new(alloc);
+        for c in self.machines.keys() {
+            all.push(*c)?;
+        }
+        Ok(all)
+    }
+
+    /// The next one that lives after a container, in cyclic order; the first, where none is given. It takes no memory, and walks over none.
+    #[tactic(auto, unfolding(crate::specs::Order::in_order))]
+    pub fn next(&self, after: Option<ContainerId>) -> Option<ContainerId>
+        ensures { result ≡ next_living (in_order self.now) after }
+    {
+        if let Some(c) = after {
+            if let Some(next) = self.next_behind(c) {
+                return Some(next);
+            }
+        }
+        self.first()
+    }
+
+    // The first of all.
+    #[tactic(auto, unfolding(crate::specs::Order::in_order))]
+    fn first(&self) -> Option<ContainerId>
+        ensures { result ≡ slice_get (in_order self.now) 0 }
+    {
+        let (first, _machine) = self.machines.first_key_value()?;
+        Some(*first)
+    }
+
+    // The first behind a container.
+    #[tactic(auto, unfolding(crate::specs::Order::in_order))]
+    fn next_behind(&self, c: ContainerId) -> Option<ContainerId>
+        ensures { result ≡ slice_get (filter (is_behind (Some c)) (in_order self.now)) 0 }
+    {
+        let behind = (Bound::Excluded(c), Bound::Unbounded);
+        let (next, _machine) = self.machines.range(behind).next()?;
+        Some(*next)
+    }
+}
+
+// Hears a packet: whether the container came to its end.
+fn hear(machine: &mut ContainerMachine, packet: &Packet) -> Result<bool, AllocError>
+    ensures ok { OnOk result (machine.new ≡ after machine.old (Hears packet.now)) }
+    ensures over { IfOk result (λ over. over ≡ is_finished (after machine.old (Hears packet.now)).seen.wish) }
+    ensures err { OnErr result (machine.new ≡ machine.old) }
+{
+    machine.hear(packet)?;
+    Ok(is_finished(&machine.wish()))
+}
+
+fn is_finished(wish: &Wish) -> bool
+    ensures { result ≡ is_finished wish.now }
+{
+    matches!(wish, Wish::Over)
+}
+
+// What a container's next step puts into the bag, where it is no store call.
+fn letters(machine: &ContainerMachine) -> Letters
+    ensures { result ≡ letters_by (is_last machine.now.seen.wish) (wished_packet machine.now.id machine.now.place.attempt machine.now.seen machine.now.seen.wish) }
+{
+    match machine.packet() {
+        Some(packet) if is_last(&machine.wish()) => Letters::Last(packet),
+        Some(packet) => Letters::One(packet),
+        None => Letters::Nothing,
+    }
+}
+
+// Who tells that it failed does nothing more.
+fn is_last(wish: &Wish) -> bool
+    ensures { result ≡ is_last wish.now }
+{
+    matches!(wish, Wish::Failed)
+}
+
+// Whether the container was launched on another node.
+fn stays(machine: &ContainerMachine, n: u32) -> bool
+    ensures { result ≡ stays n machine.now }
+{
+    machine.place().node != n
+}
