@@ -4,12 +4,14 @@ use Rattle.std.proofs.lemmas.Fmt.{decimal_injective}
 use Rattle.mr_commands.specs.declared.committer.command.ScriptCommand.{ScriptCommand}
 use Rattle.mr_commands.specs.declared.committer.command.ScriptCommand.TheVariants.{As, Raise, Check, Setup, Write, Needs, Commit, Abort, Recover, CommitJob, AbortJob, Bar, By}
 use Rattle.mr_script.specs.Lines.{before, after, is_comment, lines_of}
-use Rattle.mr_commands.specs.committer.Script.{attempt_word, task_word, line_of, IsCommand, IsLine}
+use Rattle.mr_script.specs.Words.{attempt_word}
+use Rattle.mr_commands.specs.committer.Script.{task_word, line_of, IsCommand, IsLine}
 use Rattle.mr_commands.specs.inner.Verb.{verb_of, rest_of}
 use Rattle.mr_commands.specs.Laws.{OneReading, ReadOrBad, OneFirstBad, CommentsAreNoCommands}
 use Rattle.mr_script.proofs.Lines.{same-lines, not-both, same-first}
 use Rattle.mr_script.proofs.Words.{before-by, after-by, none-after}
-use Rattle.mr_commands.proofs.committer.Attempts.{no_space-attempt_word, no_space-task_word, attempt_word-injective, task_word-injective, attempt_word-none}
+use Rattle.mr_script.proofs.Attempts.{no_space-attempt_word, attempt_word-injective, attempt_word-none}
+use Rattle.mr_commands.proofs.committer.Tasks.{no_space-task_word, task_word-injective}
 use Rattle.mr_commands.proofs.committer.Verbs.{first-line_of, rest-line_of, verb_text-injective}
 
 some_inj : (a b : List ℕ) → Some a ≡ Some b → a ≡ b

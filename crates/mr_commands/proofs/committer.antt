@@ -1,5 +1,5 @@
-pub mod Attempts
 pub mod CarryingOut
 pub mod Joined
 pub mod Recoveries
+pub mod Tasks
 pub mod Verbs

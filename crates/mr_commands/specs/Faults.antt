@@ -4,7 +4,7 @@ use Rattle.std.specs.Prelude.{◌≡◌, Some, ℕ, List, Err}
 use Rattle.mr_history.specs.Reading.{bad_line}
 use Rattle.mr_script.specs.Lines.{lines_of}
 use Rattle.mr_commands.specs.declared.fault.SimFault.{SimFault}
-use Rattle.mr_commands.specs.declared.fault.SimFault.TheVariants.{NoMemory, Read, Write, TooLong, BadCommand, BadRecord, Job, Refused, Full}
+use Rattle.mr_commands.specs.declared.fault.SimFault.TheVariants.{NoMemory, Read, Write, TooLong, BadCommand, BadRecord, Job, Refused, Full, JobFailed, TurnsSpent, JournalMismatch, Thread}
 use Rattle.mr_commands.specs.committer.Script.{IsFirstBad}
 use Rattle.mr_commands.specs.job.Text.{submission_of}
 use Rattle.mr_commands.specs.seq.Text.{RefusesSeq}
@@ -20,6 +20,10 @@ status_of (BadRecord n) = 3
 status_of (Job e) = 3
 status_of Refused = 3
 status_of Full = 7
+status_of JobFailed = 1
+status_of TurnsSpent = 6
+status_of JournalMismatch = 7
+status_of Thread = 7
 
 -- `committer`: the first line that is no command
 abbrev pub CommitterFails : List ℕ → SimFault → Type 0

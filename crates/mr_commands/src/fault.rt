@@ -68,11 +68,23 @@ pub enum SimFault {
     /// An event of the run, or a work, would pass a limit of the world.
     #[error("mrsim: full")]
     Full,
+    /// Threads ran the job, and it was told that it failed, or its newest master stopped.
+    #[error("mrsim: job failed")]
+    JobFailed,
+    /// A thread made all its turns, no thread found anything to do, or a gate let no work pass.
+    #[error("mrsim: turns spent")]
+    TurnsSpent,
+    /// What the threads made does not account for the journal of the run.
+    #[error("mrsim: journal mismatch")]
+    JournalMismatch,
+    /// A thread could not be made.
+    #[error("mrsim: thread")]
+    Thread,
 }
 
 impl SimFault {
-    /// The exit status of the program: 3 for a refused input, 4 for a stream that failed, 5 for an allocation failure,
-    /// 7 for a limit that was passed.
+    /// The exit status of the program: 1 for a job that failed, 3 for a refused input, 4 for a stream that failed, 5 for an allocation
+    /// failure, 6 where turns were spent, 7 for a limit that was passed and for threads that could not be made or did not account for their run.
     pub fn status(&self) -> u8
         ensures { result ≡ status_of self.now }
     {
@@ -84,7 +96,9 @@ impl SimFault {
             | SimFault::Refused => 3,
             SimFault::Read | SimFault::Write => 4,
             SimFault::NoMemory => 5,
-            SimFault::Full => 7,
+            SimFault::JobFailed => 1,
+            SimFault::TurnsSpent => 6,
+            SimFault::Full | SimFault::JournalMismatch | SimFault::Thread => 7,
         }
     }
 }

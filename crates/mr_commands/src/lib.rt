@@ -40,7 +40,5 @@ pub use committer::{committer_output, print_names};
 pub use fault::{JobTextFault, SimFault};
 pub use history::{history_output, print_record};
 pub use job::{JobKind, Submission, read_job_text};
-pub use laws::{
-    comments_are_no_commands, one_first_bad, one_reading, one_seq_text, read_or_bad,
-};
+pub use laws::{comments_are_no_commands, one_first_bad, one_reading, one_seq_text, read_or_bad};
 pub use seq::{print_file, seq_output};

@@ -2,7 +2,7 @@
 ghost use Rattle.std.specs.Prelude.{◌≡◌, IfOk, IfErr};
 ghost use Rattle.mr_commands.specs.declared.fault.SimFault.TheVariants.{NoMemory};
 ghost use Rattle.mr_play.specs.Shown.{Draws};
-ghost use Rattle.mr_play.specs.Text.{PlayFails};
+ghost use Rattle.mr_play.specs.Text.{IsAsExpected, PlayFails};
 ghost use Rattle.mr_world.specs.Limits.{within};
 
 mod draw;
@@ -16,17 +16,20 @@ mod svg;
 
 use crate::picture::draw::drawing_of;
 use crate::picture::render::picture_of;
+use crate::trace::Makers;
 use mr_commands::SimFault;
-use mr_play::{Player, played, print_world};
+use mr_play::{Printed, played, print_world};
+use mr_world::World;
 use std::alloc::{AllocError, Global};
 
-// What came of the run, in the lines of `play`, without the files. The marker and the outcome come first, since the others may be cut.
-fn ending_of(alloc: Global, player: &Player) -> Result<Vec<u8>, SimFault>
+// What came of the run, in the lines of `play`, without the files, behind the lines of refused events. The marker and the outcome come first, since the
+// others may be cut.
+fn ending_of(alloc: Global, world: &World, refused: &[u8]) -> Result<Vec<u8>, SimFault>
     ensures { IfErr result (λ e. e ≡ SimFault.NoMemory) }
 {
     let mut text = Vec::new(alloc);
-    text.extend_from_slice(&player.refused)?;
-    print_world(&mut text, &player.world)?;
+    text.extend_from_slice(refused)?;
+    print_world(&mut text, world)?;
     let mut ending = Vec::new(alloc);
     put_lines(&mut ending, &text, true)?;
     put_lines(&mut ending, &text, false)?;
@@ -52,23 +55,30 @@ fn is_of_job(line: &[u8]) -> bool {
     line.starts_with(b"marker ") || line.starts_with(b"outcome ")
 }
 
-// The picture of what a player played.
-fn drawn(alloc: Global, player: &Player) -> Result<Vec<u8>, SimFault>
+/// The picture of a world's run, with who made each event where that is not a script, and the lines of refused events among what came of it.
+pub fn drawn(
+    alloc: Global,
+    world: &World,
+    makers: &Makers<'_>,
+    refused: &[u8],
+) -> Result<Vec<u8>, SimFault>
     ensures { IfErr result (λ e. e ≡ SimFault.NoMemory) }
 {
-    let ending = ending_of(alloc, player)?;
-    let drawing = drawing_of(alloc, &player.world, ending)?;
+    let ending = ending_of(alloc, world, refused)?;
+    let drawing = drawing_of(alloc, world, makers, ending)?;
     let picture = picture_of(alloc, &drawing)?;
     Ok(picture)
 }
 
-#[tactic(auto, using(mr_play::proofs::Showing::draws))]
 /// The picture of what `play` plays, with the faults of `play`.
-pub fn play_drawn(alloc: Global, input: &[u8]) -> Result<Vec<u8>, SimFault>
+#[tactic(auto, using(mr_play::proofs::Showing::draws, mr_play::proofs::Showing::as_expected))]
+pub fn play_drawn(alloc: Global, input: &[u8]) -> Result<Printed, SimFault>
     ensures ok { IfOk result (λ v. Draws within input.now) }
+    ensures met { IfOk result (λ v. IsAsExpected within input.now v.met) }
     ensures fault { IfErr result (PlayFails within input.now) }
 {
     let player = played(alloc, input)?;
-    let picture = drawn(alloc, &player)?;
-    Ok(picture)
+    let makers = Makers::Lines(&player.stretches);
+    let picture = drawn(alloc, &player.world, &makers, &player.told)?;
+    Ok(player.printed(picture))
 }

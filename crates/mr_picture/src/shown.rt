@@ -2,12 +2,12 @@
 ghost use Rattle.std.specs.Prelude.{◌≡◌, [], false, IfOk, IfErr};
 ghost use Rattle.mr_commands.specs.declared.fault.SimFault.TheVariants.{NoMemory};
 ghost use Rattle.mr_play.specs.Shown.{Shows};
-ghost use Rattle.mr_play.specs.Text.{PlayFails};
+ghost use Rattle.mr_play.specs.Text.{IsAsExpected, PlayFails};
 ghost use Rattle.mr_world.specs.Limits.{within};
 
-use crate::trace::trace_of;
+use crate::trace::{Makers, trace_of};
 use mr_commands::SimFault;
-use mr_play::{Player, Shown, played, shown_text};
+use mr_play::{Player, Printed, Shown, played, shown_text};
 use std::alloc::Global;
 
 // The trace, where it is asked for, else nothing.
@@ -16,20 +16,21 @@ fn before_of(alloc: Global, player: &Player, shown: Shown) -> Result<Vec<u8>, Si
     ensures memory { IfErr result (λ e. e ≡ SimFault.NoMemory) }
 {
     if shown.trace {
-        trace_of(alloc, player)
+        trace_of(alloc, &player.world, &Makers::Lines(&player.stretches))
     } else {
         Ok(Vec::new(alloc))
     }
 }
 
-#[tactic(auto, using(mr_play::proofs::Showing::shows))]
+#[tactic(auto, using(mr_play::proofs::Showing::shows, mr_play::proofs::Showing::as_expected))]
 /// What `play` prints, with what is shown beside it, and with the faults of `play`.
-pub fn play_shown(alloc: Global, input: &[u8], shown: Shown) -> Result<Vec<u8>, SimFault>
-    ensures ok { IfOk result (λ v. Shows within shown input.now v.items) }
+pub fn play_shown(alloc: Global, input: &[u8], shown: Shown) -> Result<Printed, SimFault>
+    ensures ok { IfOk result (λ v. Shows within shown input.now v.text.items) }
+    ensures met { IfOk result (λ v. IsAsExpected within input.now v.met) }
     ensures fault { IfErr result (PlayFails within input.now) }
 {
     let player = played(alloc, input)?;
     let before = before_of(alloc, &player, shown)?;
     let text = shown_text(&player, shown, before)?;
-    Ok(text)
+    Ok(player.printed(text))
 }

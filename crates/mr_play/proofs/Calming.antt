@@ -1,5 +1,5 @@
 -- What a calm makes next is permitted.
-use Rattle.std.proofs.Common.{◌≡◌, ℕ, zero, suc, ◌+◌, ◌<◌, ◌≤◌, ◌%◌, Bool, true, false, ◌||◌, not, cond, List, [], ◌∷◌, filter, length, drop, slice_get, get_or, Option, Some, None, is_some, is_none, option_map, nat_lt, nat_le, refl, sym, ap, subst, ◌∙◌, arith, length-drop, ltb-true, leb-true}
+use Rattle.std.proofs.Common.{◌≡◌, ℕ, zero, suc, ◌+◌, ◌<◌, ◌≤◌, ◌%◌, Bool, true, false, ◌||◌, not, cond, List, [], ◌∷◌, filter, length, drop, slice_get, get_or, Option, Some, None, is_some, option_map, nat_lt, nat_le, refl, sym, ap, subst, ◌∙◌, arith, length-drop, ltb-true, leb-true}
 use Rattle.std.proofs.lemmas.Bool.{lt-ltb}
 use Rattle.std.proofs.lemmas.Nat.{mod_below}
 use Rattle.std.proofs.lemmas.Option.{slice_get-get_or}
@@ -25,7 +25,7 @@ use Rattle.mr_model.proofs.Ranges.{always-placed}
 use Rattle.mr_model.proofs.Wanted.{wanted_may_be_launched}
 use Rattle.mr_agree.specs.Works.{named}
 use Rattle.mr_world.specs.Readings.{living, launched_by, is_behind, next_living}
-use Rattle.mr_play.specs.Played.{Next, passed, cursor_at, has_ended, is_through, result_of, computed_of, computing, stepping, next_packet, next_duty, next_launch, next_step, next_of}
+use Rattle.mr_play.specs.Played.{Next, is_dropped, passed, cursor_at, has_ended, is_through, result_of, computed_of, computing, stepping, next_packet, next_duty, next_launch, next_step, next_of}
 use Rattle.mr_play.specs.Laws.{CalmsArePermitted}
 
 some_is : {A : Type 0} (x y : A) → Some x ≡ Some y → x ≡ y
@@ -60,12 +60,16 @@ next_has P cs last c e h = by (slice_get (filter (is_behind last) cs) 0) refl e 
   by (Some d) is e = first_has P (filter (is_behind last) cs) c (is ∙ e) (all_kept P (is_behind last) cs h)
 
 -- the first packet that is not passed over goes to someone
-addressed : (w : World) (xs : List Envelope) → passed w xs < length xs → addressee w (slice_get xs (passed w xs)) ≡ None
-addressed w [] l = absurd (omega arith)
-addressed w (x ∷ xs) l = by (addressee w (Some x)) refl l (λ m. addressed w xs m) where
-  by : (o : Option Why) → addressee w (Some x) ≡ o → cond (is_none o) 0 (suc (passed w xs)) < suc (length xs) → (passed w xs < length xs → addressee w (slice_get xs (passed w xs)) ≡ None) → addressee w (slice_get (x ∷ xs) (cond (is_none o) 0 (suc (passed w xs)))) ≡ None
-  by None is l go = is
-  by (Some reason) is l go = go (omega arith)
+addressed : (w : World) (dropped : List ℕ) (n : ℕ) (xs : List Envelope) → passed w dropped n xs < length xs → addressee w (slice_get xs (passed w dropped n xs)) ≡ None
+addressed w dropped n [] l = absurd (omega arith)
+addressed w dropped n (x ∷ xs) l = by (is_dropped dropped n) (addressee w (Some x)) refl l (λ m. addressed w dropped (suc n) xs m) where
+  rest : ℕ
+  rest = passed w dropped (suc n) xs
+
+  by : (b : Bool) (o : Option Why) → addressee w (Some x) ≡ o → cond (b || is_some o) (suc rest) 0 < suc (length xs) → (rest < length xs → addressee w (slice_get xs rest) ≡ None) → addressee w (slice_get (x ∷ xs) (cond (b || is_some o) (suc rest) 0)) ≡ None
+  by true o is l go = go (omega arith)
+  by false None is l go = is
+  by false (Some reason) is l go = go (omega arith)
 
 module _ (job : Job) (cfg : Config) (within : Limits) (laws : JobLaws job cfg) (some_node : 0 < cfg.nodes) (es : List Event) where
   abbrev w : World
@@ -93,16 +97,16 @@ module _ (job : Job) (cfg : Config) (within : Limits) (laws : JobLaws job cfg) (
   unless_true false reason rest e = absurd cc
 
   -- a packet
-  packet_fine : (last : Option ContainerId) (n : ℕ) → Fine (next_packet job cfg within w last (cursor_at w n))
+  packet_fine : (last : Option ContainerId) (dropped : List ℕ) (n : ℕ) → Fine (next_packet job cfg within w last (cursor_at w dropped n))
   unfolding not_now
-  packet_fine last n next e = by (nat_lt (cursor_at w n) (length w.bag)) refl e where
-    by : (b : Bool) → nat_lt (cursor_at w n) (length w.bag) ≡ b → cond b (Some (record { names = []; event = Some (Deliver (cursor_at w n)); stepped = last; cursor = cursor_at w n + 1 })) None ≡ Some next → Good next.event
+  packet_fine last dropped n next e = by (nat_lt (cursor_at w dropped n) (length w.bag)) refl e where
+    by : (b : Bool) → nat_lt (cursor_at w dropped n) (length w.bag) ≡ b → cond b (Some (record { names = []; event = Some (Deliver (cursor_at w dropped n)); stepped = last; cursor = cursor_at w dropped n + 1 })) None ≡ Some next → Good next.event
     by false is e = absurd (none_is next e)
     by true is e =
-        let less = ltb-true (cursor_at w n) (length w.bag) is in
+        let less = ltb-true (cursor_at w dropped n) (length w.bag) is in
         let left = length-drop n w.bag in
-        let there = addressed w (drop n w.bag) (omega arith) in
-        subst (λ (x : Next). Good x.event) (some_is _ next e) (one_good (Deliver (cursor_at w n)) (ap (addressee w) (sym (at_drop n w.bag (passed w (drop n w.bag)))) ∙ there))
+        let there = addressed w dropped n (drop n w.bag) (omega arith) in
+        subst (λ (x : Next). Good x.event) (some_is _ next e) (one_good (Deliver (cursor_at w dropped n)) (ap (addressee w) (sym (at_drop n w.bag (passed w dropped n (drop n w.bag)))) ∙ there))
 
   -- a duty
   due_now : (k : ℕ) (call : Store) → w.is_master k ≡ true → duty cfg w k ≡ Some call → not_now cfg w (Duty k Calm) ≡ None
@@ -183,11 +187,11 @@ module _ (job : Job) (cfg : Config) (within : Limits) (laws : JobLaws job cfg) (
   step_fine last at = made_fine _ (next_living (living cfg w) last) (λ c is.
       stepping_good c (next_has (λ c. w.is_alive c ≡ true) (living cfg w) last c is (all_pass w.is_alive (flat_map (launched_by cfg w) (range_with_len 1 w.fence)))))
 
-  next_fine : (k : ℕ) (last : Option ContainerId) (n : ℕ) → is_through cfg w k ≡ false → Fine (next_of job cfg within w k last (cursor_at w n))
-  next_fine k last n on =
-      let at = cursor_at w n in
+  next_fine : (k : ℕ) (last : Option ContainerId) (dropped : List ℕ) (n : ℕ) → is_through cfg w k ≡ false → Fine (next_of job cfg within w k last (cursor_at w dropped n))
+  next_fine k last dropped n on =
+      let at = cursor_at w dropped n in
       let alive : w.is_master k ≡ true = lives (w.is_master k) (has_ended (seen_by cfg w k).phase) on in
-      or_fine (next_packet job cfg within w last at) _ (packet_fine last n)
+      or_fine (next_packet job cfg within w last at) _ (packet_fine last dropped n)
       (or_fine (next_duty job cfg within w k last at) _ (duty_fine k last at alive)
       (or_fine (next_launch job cfg within w k last at) (next_step job cfg within w last at) (launch_fine k last at alive) (step_fine last at))) where
         lives : (b t : Bool) → (not b || t) ≡ false → b ≡ true
@@ -195,4 +199,4 @@ module _ (job : Job) (cfg : Config) (within : Limits) (laws : JobLaws job cfg) (
         lives false t e = absurd cc
 
 pub calms_are_permitted_law : CalmsArePermitted
-calms_are_permitted_law job cfg within laws some s k next e on is event = next_fine job cfg within laws some s.events k s.stepped s.cursor on next is e event
+calms_are_permitted_law job cfg within laws some s k next e on is event = next_fine job cfg within laws some s.events k s.stepped s.dropped s.cursor on next is e event

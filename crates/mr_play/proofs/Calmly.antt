@@ -31,18 +31,22 @@ full_then (fault.BadCommand n) P Q go h = h
 full_then (fault.BadRecord n) P Q go h = h
 full_then (fault.Job e) P Q go h = h
 full_then fault.Refused P Q go h = h
+full_then fault.JobFailed P Q go h = h
+full_then fault.TurnsSpent P Q go h = h
+full_then fault.JournalMismatch P Q go h = h
+full_then fault.Thread P Q go h = h
 
 module _ (old : Player) (k : ℕ) (stop : Option EventName) (on : is_through old.world.config (cluster_in old) k ≡ false) where
   abbrev mid : Player
-  mid = record old { cursor = cursor_at (cluster_in old) old.cursor }
+  mid = record old { cursor = cursor_at (cluster_in old) old.dropped.keys old.cursor }
 
   -- a calm of one event more looks at what is next
   one_more : (most : ℕ) → calm_of old k stop (suc most) ≡
       calmed_by (job_as old.job) old.world.config (within old.world.config) stop (calms (job_as old.job) old.world.config (within old.world.config) k stop most) (state_in mid)
-      (next_of (job_as old.job) old.world.config (within old.world.config) (cluster_in old) k old.stepped (cursor_at (cluster_in old) old.cursor))
+      (next_of (job_as old.job) old.world.config (within old.world.config) (cluster_in old) k old.stepped (cursor_at (cluster_in old) old.dropped.keys old.cursor))
   one_more most = rw on refl
 
-  goes : (c : Coming) → Some (next_in mid k c) ≡ next_of (job_as old.job) old.world.config (within old.world.config) (cluster_in old) k old.stepped (cursor_at (cluster_in old) old.cursor) →
+  goes : (c : Coming) → Some (next_in mid k c) ≡ next_of (job_as old.job) old.world.config (within old.world.config) (cluster_in old) k old.stepped (cursor_at (cluster_in old) old.dropped.keys old.cursor) →
       stops_at stop (names_of c) ≡ false → (most : ℕ) → calm_of old k stop (suc most) ≡ made_then mid (next_in mid k c) (calms (job_as old.job) old.world.config (within old.world.config) k stop most)
   goes c is more most =
       let w = cluster_in old in

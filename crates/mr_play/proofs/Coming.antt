@@ -1,5 +1,5 @@
 -- What a calm makes next, as the code finds it.
-use Rattle.std.proofs.Common.{◌≡◌, ◌+◌, ◌<◌, ◌≤◌, ◌||◌, ℕ, zero, suc, Bool, true, false, not, cond, List, [], ◌∷◌, length, drop, slice_get, Option, Some, None, option_map, is_none, refl, sym, ap, ◌∙◌, arith}
+use Rattle.std.proofs.Common.{◌≡◌, ◌+◌, ◌<◌, ◌≤◌, ◌||◌, ℕ, zero, suc, Bool, true, false, not, cond, List, [], ◌∷◌, length, drop, slice_get, Option, Some, None, option_map, is_some, refl, sym, ap, ◌∙◌, arith}
 use Rattle.std.proofs.lemmas.Bool.{lt-ltb, le-ltb}
 use Rattle.std.specs.Option.{option_or, option_to_list}
 use Rattle.std.specs.List.{flat_map, range_with_len}
@@ -8,7 +8,6 @@ use Rattle.mr_packet.specs.declared.packet.ContainerId.{ContainerId}
 use Rattle.mr_container.specs.declared.wish.Wish as container_wish
 use Rattle.mr_container.specs.declared.wish.Wish.TheVariants as wished
 use Rattle.mr_container.specs.Readings as container
-use Rattle.mr_event.specs.declared.why.Why.{Why}
 use Rattle.mr_master_model.specs.declared.phase.DutyName.{DutyName}
 use Rattle.mr_master_model.specs.Duty.{Duty}
 use Rattle.mr_model.specs.Packets.{Config}
@@ -23,7 +22,7 @@ use Rattle.mr_world.specs.Readings.{due_in, wanted_in, wish_by, wish_in, living,
 use Rattle.mr_play.specs.declared.calm.Coming.{Coming}
 use Rattle.mr_play.specs.declared.calm.Coming.TheVariants as coming
 use Rattle.mr_play.specs.EventNames.{duty_event, wish_event}
-use Rattle.mr_play.specs.Played.{Next, computing, cursor_at, has_ended, is_through, next_duty, next_launch, next_of, next_step, passed, stepping}
+use Rattle.mr_play.specs.Played.{Next, computing, cursor_at, has_ended, is_dropped, is_through, next_duty, next_launch, next_of, next_step, passed, stepping}
 use Rattle.mr_play.specs.inner.Player.{next_as}
 use Rattle.mr_play.proofs.Calming.{all_pass, next_has}
 
@@ -42,8 +41,8 @@ at_end zero (x ∷ xs) l = absurd (omega arith)
 at_end (suc n) [] l = refl
 at_end (suc n) (x ∷ xs) l = at_end n xs (omega arith)
 
-pub cursor_end : (w : World) (n : ℕ) → length w.bag ≤ n → cursor_at w n ≡ n
-cursor_end w n l = ap (λ xs. n + passed w xs) (at_end n w.bag l) ∙ (let e : n + 0 ≡ n = omega arith in e)
+pub cursor_end : (w : World) (dropped : List ℕ) (n : ℕ) → length w.bag ≤ n → cursor_at w dropped n ≡ n
+cursor_end w dropped n l = ap (λ xs. n + passed w dropped n xs) (at_end n w.bag l) ∙ (let e : n + 0 ≡ n = omega arith in e)
 
 front_is : {A : Type 0} (n : ℕ) (xs : List A) (x : A) → slice_get xs n ≡ Some x → drop n xs ≡ x ∷ drop (suc n) xs
 front_is zero [] x e = absurd (none_is x e)
@@ -56,23 +55,28 @@ there n [] l = absurd (omega arith)
 there zero (x ∷ xs) l = (x, refl)
 there (suc n) (x ∷ xs) l = there n xs (omega arith)
 
--- a packet that goes to someone is not passed
-pub cursor_stays : (w : World) (n : ℕ) → n < length w.bag → addressee w (slice_get w.bag n) ≡ None → cursor_at w n ≡ n
-cursor_stays w n l e =
-    let x = there n w.bag l in
-    let none : addressee w (Some x.0) ≡ None = ap (addressee w) (sym x.1) ∙ e in
-    ap (λ xs. n + passed w xs) (front_is n w.bag x.0 x.1) ∙ ap (λ b. n + cond (is_none b) 0 (suc (passed w (drop (suc n) w.bag)))) none ∙ (let z : n + 0 ≡ n = omega arith in z)
+module _ (w : World) (dropped : List ℕ) (n : ℕ) (l : n < length w.bag) where
+  -- whether the packet at the cursor is passed over
+  abbrev pub passes : Bool
+  passes = is_dropped dropped n || is_some (addressee w (slice_get w.bag n))
 
--- one that goes to nobody is
-pub cursor_goes : (w : World) (n : ℕ) (why : Why) → n < length w.bag → addressee w (slice_get w.bag n) ≡ Some why → cursor_at w (n + 1) ≡ cursor_at w n
-cursor_goes w n why l e =
-    let x = there n w.bag l in
-    let some : addressee w (Some x.0) ≡ Some why = ap (addressee w) (sym x.1) ∙ e in
-    let next : suc n ≡ n + 1 = omega arith in
-    let p = passed w (drop (suc n) w.bag) in
-    let here : cursor_at w n ≡ n + suc p = ap (λ xs. n + passed w xs) (front_is n w.bag x.0 x.1) ∙ ap (λ b. n + cond (is_none b) 0 (suc (passed w (drop (suc n) w.bag)))) some in
-    let z : n + suc p ≡ suc n + p = omega arith in
-    sym (here ∙ z ∙ ap (cursor_at w) next)
+  here : (b : Bool) → passes ≡ b → cursor_at w dropped n ≡ n + cond b (suc (passed w dropped (suc n) (drop (suc n) w.bag))) 0
+  here b e =
+      let x = there n w.bag l in
+      let is : (is_dropped dropped n || is_some (addressee w (Some x.0))) ≡ b = ap (λ o. is_dropped dropped n || is_some (addressee w o)) (sym x.1) ∙ e in
+      ap (λ xs. n + passed w dropped n xs) (front_is n w.bag x.0 x.1) ∙ ap (λ b. n + cond b (suc (passed w dropped (suc n) (drop (suc n) w.bag))) 0) is
+
+  -- a packet that is not passed over stays at the cursor
+  pub cursor_stays : passes ≡ false → cursor_at w dropped n ≡ n
+  cursor_stays e = here false e ∙ (let z : n + 0 ≡ n = omega arith in z)
+
+  -- behind one that is, the cursor comes to the same place
+  pub cursor_goes : passes ≡ true → cursor_at w dropped (n + 1) ≡ cursor_at w dropped n
+  cursor_goes e =
+      let next : suc n ≡ n + 1 = omega arith in
+      let p = passed w dropped (suc n) (drop (suc n) w.bag) in
+      let z : n + suc p ≡ suc n + p = omega arith in
+      sym (here true e ∙ z ∙ ap (cursor_at w dropped) next)
 
 -- ---- what is next
 

@@ -1,5 +1,5 @@
 -- The events that a script makes are faithful.
-use Rattle.std.proofs.Common.{◌≡◌, ◌⊎◌, ℕ, zero, suc, ◌+◌, ◌%◌, ◌<◌, Bool, true, false, cond, ◌&&◌, not, nat_lt, nat_le, List, [], ◌∷◌, ◌++◌, length, get_or, slice_get, option_map, Option, Some, None, inl, inr, is_some, refl, sym, ap, subst, ◌∙◌}
+use Rattle.std.proofs.Common.{◌≡◌, ◌⊎◌, ℕ, zero, suc, ◌+◌, ◌%◌, ◌<◌, Bool, true, false, cond, ◌&&◌, nat_lt, nat_le, List, [], ◌∷◌, ◌++◌, length, slice_get, option_map, Option, Some, None, inl, inr, refl, sym, ap, subst, ◌∙◌}
 use Rattle.std.proofs.lemmas.Option.{slice_get-get_or}
 use Rattle.std.specs.Option.{option_and_then, option_or}
 use Rattle.mr_ids.specs.declared.id.JobId.{JobId}
@@ -10,6 +10,7 @@ use Rattle.mr_packet.specs.declared.packet.ContainerId.{ContainerId}
 use Rattle.mr_script.specs.declared.command.Command.{Command}
 use Rattle.mr_script.specs.declared.command.Command.TheVariants as command
 use Rattle.mr_script.specs.declared.event_name.EventName.{EventName}
+use Rattle.mr_script.specs.declared.expectation.Expectation.{Expectation}
 use Rattle.mr_script.specs.Script.{AreCommands, IsCommand}
 use Rattle.mr_model.specs.Ids.{of_reduces}
 use Rattle.mr_model.specs.Packets.{Config}
@@ -17,7 +18,7 @@ use Rattle.mr_model.specs.Pasts.{Place, wish, fetched}
 use Rattle.mr_model.specs.World.{World, Event, Start, Crash, Duty, LaunchOn, Deliver, ContainerStep, Compute, Die, NodeRestart, Expire, Calm, duty, seen_by, wish_at, wish_of}
 use Rattle.mr_model.specs.Effect.{unless, not_now, wants_compute, tasks_of}
 use Rattle.mr_model.specs.Claims.{Limits, world_of}
-use Rattle.mr_model.specs.Sequential.{Job, Input, Split, Pieces, given, input_at, input_of, made_of, most_output, CarriesDefinition, IsFaithful, is_taken}
+use Rattle.mr_model.specs.Sequential.{Job, Input, Split, Pieces, given, input_at, input_of, made_of, most_output, CarriesDefinition, IsFaithful}
 use Rattle.mr_model.specs.Wanted.{wanted}
 use Rattle.mr_model.proofs.Lists.{Each}
 use Rattle.mr_model.proofs.Cluster.{open_place}
@@ -25,9 +26,9 @@ use Rattle.mr_model.proofs.Ranges.{always-placed}
 use Rattle.mr_agree.specs.Works.{named}
 use Rattle.mr_world.specs.declared.limits.TheConstants.{MAX_EVENTS}
 use Rattle.mr_world.specs.Readings.{input_in, living, next_living}
-use Rattle.mr_commands.specs.declared.job.submission.Submission.{Submission}
 use Rattle.mr_play.specs.EventNames.{stops_at}
-use Rattle.mr_play.specs.Played.{Played, Next, begun, world, result_of, computed_of, computing, stepping, next_packet, next_duty, next_launch, next_step, next_of, taken, unless_refused, made, calmed, calmed_by, calms, is_through, cursor_at, stepped_by, most_calm, obeyed, played}
+use Rattle.mr_play.specs.Expectations.{is_met, unmet_line, value_in}
+use Rattle.mr_play.specs.Played.{Played, Next, begun, world, result_of, computed_of, computing, stepping, next_packet, next_duty, next_launch, next_step, next_of, taken, unless_refused, made, calmed, calmed_by, calms, is_through, cursor_at, stepped_by, most_calm, losing, expecting, obeyed, played}
 use Rattle.mr_play.specs.Text.{job_as, config_of, played_of}
 use Rattle.mr_play.specs.Faithful.{ScriptsAreFaithful}
 
@@ -229,14 +230,23 @@ module _ (job : Job) (cfg : Config) (within : Limits) where
   calms_honest k stop zero s t h q = subst Honest (some_is s t q) h
   calms_honest k stop (suc most) s t h q = by (calms_honest k stop most) (is_through cfg (world job cfg within s) k) q
     where
-      by : Keeps (calms job cfg within k stop most) → (b : Bool) → cond b (Some s) (calmed_by job cfg within stop (calms job cfg within k stop most) (record s { cursor = cursor_at (world job cfg within s) s.cursor }) (next_of job cfg within (world job cfg within s) k s.stepped (cursor_at (world job cfg within s) s.cursor))) ≡ Some t → Honest t
+      by : Keeps (calms job cfg within k stop most) → (b : Bool) → cond b (Some s) (calmed_by job cfg within stop (calms job cfg within k stop most) (record s { cursor = cursor_at (world job cfg within s) s.dropped s.cursor }) (next_of job cfg within (world job cfg within s) k s.stepped (cursor_at (world job cfg within s) s.dropped s.cursor))) ≡ Some t → Honest t
       by keeps true q = subst Honest (some_is s t q) h
-      by keeps false q = calmed_by_honest stop (calms job cfg within k stop most) keeps (record s { cursor = cursor_at (world job cfg within s) s.cursor }) t h _ (next_fine s.events k s.stepped (cursor_at (world job cfg within s) s.cursor)) q
+      by keeps false q = calmed_by_honest stop (calms job cfg within k stop most) keeps (record s { cursor = cursor_at (world job cfg within s) s.dropped s.cursor }) t h _ (next_fine s.events k s.stepped (cursor_at (world job cfg within s) s.dropped s.cursor)) q
+
+  expecting_honest : (line : ℕ) (e : Expectation) (s : Played) → Honest s → Honest (expecting job cfg within line e s)
+  expecting_honest line e s h = by (is_met cfg (world job cfg within s) e)
+    where
+      by : (b : Bool) → Honest (cond b s (record s { told = s.told ++ unmet_line line e (value_in cfg (world job cfg within s) e); met = false }))
+      by true = h
+      by false = h
 
   obeyed_honest : (id : JobId) (line : ℕ) (c : Command) → IsCommand id c → Keeps (obeyed job cfg within line c)
   obeyed_honest id line (command.Makes e) i s t h q = made_honest line e (stepped_by job cfg within e s.stepped) s t h (told_good s.events id e i) q
   obeyed_honest id line (command.Compute c) i s t h q = if_there _ (computing job cfg within (world job cfg within s) c) t (λ e is q. made_honest line e (Some c) s t h (computing_good s.events c e is) q) q
   obeyed_honest id line (command.Calm k stop) i s t h q = calms_honest k stop most_calm s t h q
+  obeyed_honest id line (command.Drop place) i s t h q = subst Honest (some_is (losing job cfg within place s) t q) h
+  obeyed_honest id line (command.Expect e) i s t h q = subst Honest (some_is (expecting job cfg within line e s) t q) (expecting_honest line e s h)
 
   played_honest : (id : JobId) (cs : List (ℕ × Command)) → Each (λ (c : ℕ × Command). IsCommand id c.1) cs → Keeps (played job cfg within cs)
   played_honest id [] i s t h q = subst Honest (some_is s t q) h

@@ -1,5 +1,5 @@
 -- Where the marker is, the files that `play` prints are those that `seq` prints.
-use Rattle.std.proofs.Common.{◌≡◌, ℕ, zero, suc, ◌+◌, ◌<◌, ◌≤◌, ◌^◌, true, List, [], ◌∷◌, ◌++◌, length, map, take, Vec, Global, All, Some, None, Result, Ok, refl, sym, ap, subst, ◌∙◌, append_assoc, arith}
+use Rattle.std.proofs.Common.{◌≡◌, ℕ, zero, suc, ◌+◌, ◌<◌, ◌≤◌, ◌^◌, List, [], ◌∷◌, ◌++◌, length, map, take, Vec, Global, All, Some, None, Result, Ok, refl, sym, ap, subst, ◌∙◌, append_assoc, arith}
 use Rattle.std.specs.Cmp.Lexicographic.{slice_cmp}
 use Rattle.std.specs.List.{AllByRecursion, flat_map, range_with_len, slice_get}
 use Rattle.std.specs.Ordering.{nat_cmp}
@@ -15,8 +15,6 @@ use Rattle.mr_script.specs.declared.command.Command.{Command}
 use Rattle.mr_script.specs.Script.{AreCommands}
 use Rattle.mr_model.specs.Packets.{Config}
 use Rattle.mr_model.specs.Claims.{IsMarked}
-use Rattle.mr_model.specs.Content.{entry_at, is_file}
-use Rattle.mr_model.specs.Ids.{marker}
 use Rattle.mr_model.specs.Results.{outcome, visible}
 use Rattle.mr_model.specs.Sequential.{JobLaws}
 use Rattle.mr_sequential.specs.Jobs.{LawsOf}
@@ -31,10 +29,11 @@ use Rattle.mr_commands.specs.declared.job.submission.Submission.{Submission}
 use Rattle.mr_commands.specs.job.Submission.{IsWithinLimits}
 use Rattle.mr_commands.specs.job.Text.{submission_of}
 use Rattle.mr_commands.specs.seq.PartFiles.{part_files_text}
-use Rattle.mr_commands.specs.seq.Text.{output_of, PrintsSeq, RefusesSeq}
+use Rattle.mr_commands.specs.seq.Text.{output_of}
 use Rattle.mr_play.specs.Played.{Played, world}
-use Rattle.mr_play.specs.Text.{job_as, config_of, played_of, job_line, script_lines, visible_text, winner_line, marker_line, outcome_line, line_of_marker, world_text, PrintsPlay, printed_world}
-use Rattle.mr_play.specs.Faithful.{MarkedShowsSeq, RefusedIsNeverMarked, ShowsFilesOfSeq}
+use Rattle.mr_play.specs.Text.{job_as, config_of, played_of, job_line, script_lines, printed_world}
+use Rattle.mr_play.specs.WorldText.{visible_text, winner_line, marker_line, outcome_line, line_of_marker, world_text}
+use Rattle.mr_play.specs.Faithful.{MarkedShowsSeq, RefusedIsNeverMarked}
 use Rattle.mr_play.proofs.Honest.{scripts_are_faithful_law}
 
 -- the laws of the three jobs
@@ -110,11 +109,11 @@ module _ (laws : Laws) (input : List ℕ) (job : Submission) (said : submission_
           is = refl;
         };
         is = record {
-          before = p.left.refused ++ flat_map (winner_line (config_of p.job) w) (range_with_len 0 p.job.reduces);
+          before = p.left.told ++ flat_map (winner_line (config_of p.job) w) (range_with_len 0 p.job.reduces);
           told = outcome w;
           is = p.is
-              ∙ together p.left.refused (flat_map (winner_line (config_of p.job) w) (range_with_len 0 p.job.reduces)) (marker_line w) (outcome_line w) (flat_map visible_text (visible w))
-              ∙ (λ i. (p.left.refused ++ flat_map (winner_line (config_of p.job) w) (range_with_len 0 p.job.reduces)) ++ (line_of_marker (marked i) ++ (outcome_line w ++ (ap (flat_map visible_text) s.seen ∙ files-text 0 s.files) i)));
+              ∙ together p.left.told (flat_map (winner_line (config_of p.job) w) (range_with_len 0 p.job.reduces)) (marker_line w) (outcome_line w) (flat_map visible_text (visible w))
+              ∙ (λ i. (p.left.told ++ flat_map (winner_line (config_of p.job) w) (range_with_len 0 p.job.reduces)) ++ (line_of_marker (marked i) ++ (outcome_line w ++ (ap (flat_map visible_text) s.seen ∙ files-text 0 s.files) i)));
         };
       }
 

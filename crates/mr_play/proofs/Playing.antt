@@ -11,6 +11,7 @@ use Rattle.mr_container.specs.declared.wish.Wish.TheVariants as wish
 use Rattle.mr_script.specs.declared.command.Command.{Command}
 use Rattle.mr_script.specs.declared.command.Command.TheVariants as command
 use Rattle.mr_script.specs.declared.event_name.EventName.{EventName}
+use Rattle.mr_script.specs.declared.expectation.Expectation.{Expectation}
 use Rattle.mr_script.specs.declared.event_name.EventName.TheVariants as name
 use Rattle.mr_script.proofs.Readings.{one_reading_law as one_script, read_or_bad_law as script_or_bad}
 use Rattle.mr_model.specs.Packets.{Config}
@@ -23,7 +24,8 @@ use Rattle.mr_model.proofs.Outcomes.{no_later_event}
 use Rattle.mr_world.specs.declared.limits.TheConstants.{MAX_EVENTS}
 use Rattle.mr_commands.specs.declared.job.submission.Submission.{Submission}
 use Rattle.mr_play.specs.EventNames.{duty_event, wish_event, stops_at}
-use Rattle.mr_play.specs.Played.{Played, Next, world, computing, taken, unless_refused, made, calmed, calmed_by, calms, is_through, cursor_at, next_of, stepped_by, most_calm, obeyed, played}
+use Rattle.mr_play.specs.Expectations.{is_met, unmet_line, value_in}
+use Rattle.mr_play.specs.Played.{Played, Next, world, computing, taken, unless_refused, made, calmed, calmed_by, calms, is_through, cursor_at, next_of, stepped_by, most_calm, losing, expecting, obeyed, played}
 use Rattle.mr_script.specs.Lines.{after}
 use Rattle.mr_script.specs.Script.{AreCommands, IsFirstBad}
 use Rattle.mr_commands.specs.declared.fault.JobTextFault.{JobTextFault}
@@ -176,15 +178,28 @@ module _ (job : Job) (cfg : Config) (within : Limits) where
   unfolding Grows
   calms_longer k stop zero s t h = longer_same s t h
   calms_longer k stop (suc most) s t h = by (calms_longer k stop most) (is_through cfg (world job cfg within s) k) h where
-    by : ((s t : Played) → calms job cfg within k stop most s ≡ Some t → Longer s t) → (b : Bool) → cond b (Some s) (calmed_by job cfg within stop (calms job cfg within k stop most) (record s { cursor = cursor_at (world job cfg within s) s.cursor }) (next_of job cfg within (world job cfg within s) k s.stepped (cursor_at (world job cfg within s) s.cursor))) ≡ Some t → Longer s t
+    by : ((s t : Played) → calms job cfg within k stop most s ≡ Some t → Longer s t) → (b : Bool) → cond b (Some s) (calmed_by job cfg within stop (calms job cfg within k stop most) (record s { cursor = cursor_at (world job cfg within s) s.dropped s.cursor }) (next_of job cfg within (world job cfg within s) k s.stepped (cursor_at (world job cfg within s) s.dropped s.cursor))) ≡ Some t → Longer s t
     by grows true h = longer_same s t h
-    by grows false h = moved_longer (cursor_at (world job cfg within s) s.cursor) s t (calmed_by_longer stop (calms job cfg within k stop most) grows (record s { cursor = cursor_at (world job cfg within s) s.cursor }) t _ h)
+    by grows false h = moved_longer (cursor_at (world job cfg within s) s.dropped s.cursor) s t (calmed_by_longer stop (calms job cfg within k stop most) grows (record s { cursor = cursor_at (world job cfg within s) s.dropped s.cursor }) t _ h)
+
+  expecting_longer : (line : ℕ) (e : Expectation) (s : Played) → Longer s (expecting job cfg within line e s)
+  unfolding Longer
+  expecting_longer line e s = by (is_met cfg (world job cfg within s) e) where
+    by : (b : Bool) → (more : List Event) × ((cond b s (record s { told = s.told ++ unmet_line line e (value_in cfg (world job cfg within s) e); met = false })).events ≡ s.events ++ more)
+    by true = ([], sym (append-nil s.events))
+    by false = ([], sym (append-nil s.events))
+
+  lost_longer : (place : ℕ) (s t : Played) → Longer (losing job cfg within place s) t → Longer s t
+  unfolding Longer
+  lost_longer place s t h = h
 
   obeyed_longer : (line : ℕ) (c : Command) → Grows (obeyed job cfg within line c)
   unfolding Grows
   obeyed_longer line (command.Makes e) s t h = made_longer line e (stepped_by job cfg within e s.stepped) s t h
   obeyed_longer line (command.Compute c) s t h = if_there _ (computing job cfg within (world job cfg within s) c) s t (λ e h. made_longer line e (Some c) s t h) h
   obeyed_longer line (command.Calm k stop) s t h = calms_longer k stop most_calm s t h
+  obeyed_longer line (command.Drop place) s t h = lost_longer place s t (longer_same (losing job cfg within place s) t h)
+  obeyed_longer line (command.Expect e) s t h = longer_trans s (expecting job cfg within line e s) t (expecting_longer line e s) (longer_same (expecting job cfg within line e s) t h)
 
   played_longer : (cs : List (ℕ × Command)) → Grows (played job cfg within cs)
   unfolding Grows
@@ -229,11 +244,17 @@ module _ (within : Config → Limits) (input : List ℕ) where
   same_commands : (i j : Submission) (cs ds : List (ℕ × Command)) → i ≡ j → AreCommands i.id 2 (script_lines input) cs → AreCommands j.id 2 (script_lines input) ds → cs ≡ ds
   same_commands i j cs ds e x y = one_script i.id 2 (script_by (after 10 input)) cs ds x (subst (λ (j : Submission). AreCommands j.id 2 (script_lines input) ds) (sym e) y)
 
+  -- it comes to one end
+  pub one_end : (text other : List ℕ) (p : PrintsPlay within input text) (q : PrintsPlay within input other) → p.left ≡ q.left
+  one_end text other p q =
+      let job : p.job ≡ q.job = same_job p.job q.job p.said q.said in
+      let commands : p.commands ≡ q.commands = same_commands p.job q.job p.commands q.commands job p.read q.read in
+      some_is p.left q.left (sym p.comes ∙ (λ i. played_of within (job i) (commands i)) ∙ q.comes)
+
   one_text : (text other : List ℕ) → PrintsPlay within input text → PrintsPlay within input other → text ≡ other
   one_text text other p q =
       let job : p.job ≡ q.job = same_job p.job q.job p.said q.said in
-      let commands : p.commands ≡ q.commands = same_commands p.job q.job p.commands q.commands job p.read q.read in
-      let left : p.left ≡ q.left = some_is p.left q.left (sym p.comes ∙ (λ i. played_of within (job i) (commands i)) ∙ q.comes) in
+      let left : p.left ≡ q.left = one_end text other p q in
       p.is ∙ (λ i. played_text within (job i) (left i)) ∙ sym q.is
 
   not_bad_job : (text : List ℕ) (e : JobTextFault) → PrintsPlay within input text → IsBadPlayJob input e → ⊥

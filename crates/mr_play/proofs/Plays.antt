@@ -29,6 +29,10 @@ full-weaker (fault.BadCommand n) g h = absurd h
 full-weaker (fault.BadRecord n) g h = absurd h
 full-weaker (fault.Job e) g h = absurd h
 full-weaker fault.Refused g h = absurd h
+full-weaker fault.JobFailed g h = absurd h
+full-weaker fault.TurnsSpent g h = absurd h
+full-weaker fault.JournalMismatch g h = absurd h
+full-weaker fault.Thread g h = absurd h
 full-weaker fault.Full g h = g h
 
 -- the exit of a `?` answers the fault

@@ -1,5 +1,5 @@
 -- What is shown beside what is printed.
-use Rattle.std.proofs.Common.{◌≡◌, ℕ, suc, List, ◌++◌, Ok, refl, sym, ap, subst, ◌∙◌, append_assoc}
+use Rattle.std.proofs.Common.{◌≡◌, ℕ, suc, Bool, List, ◌++◌, Ok, refl, sym, ap, subst, ◌∙◌, append_assoc}
 use Rattle.mr_history.specs.Reading.{records_of}
 use Rattle.mr_script.specs.declared.command.Command.{Command}
 use Rattle.mr_script.specs.Script.{AreCommands}
@@ -10,9 +10,12 @@ use Rattle.mr_play.specs.declared.shown.Shown.{Shown}
 use Rattle.mr_play.specs.declared.player.Player.{Player}
 use Rattle.mr_commands.specs.declared.job.submission.Submission.{Submission}
 use Rattle.mr_commands.specs.job.Text.{submission_of}
-use Rattle.mr_play.specs.Text.{job_line, script_lines, world_text}
+use Rattle.mr_play.specs.Text.{job_line, script_lines, IsAsExpected}
+use Rattle.mr_play.specs.WorldText.{world_text}
 use Rattle.mr_play.specs.inner.Player.{state_in}
 use Rattle.mr_play.specs.inner.PlaySteps.{HasPlayed}
+use Rattle.mr_play.specs.Played.{Played}
+use Rattle.mr_play.proofs.Playing.{one_end}
 use Rattle.mr_play.specs.Shown.{AddsSegments, Draws, HasPrinted, HasText, IsHistory, IsSegment, Shows, segment_text, text_in}
 
 -- one segment more was written
@@ -32,8 +35,9 @@ printed input job commands p said read h = record {
     read = read;
     left = state_in p;
     comes = h.comes;
-    is = ap (λ cfg. p.refused.items ++ world_text cfg (run_of cfg p.world.events)) h.config;
+    is = ap (λ cfg. p.told.items ++ world_text cfg (run_of cfg p.world.events)) h.config;
   };
+  met = refl;
   cluster = ap (λ cfg. run_of cfg p.world.events) (sym h.config);
 }
 
@@ -51,3 +55,7 @@ shows shown input text p is h = record {
 
 pub draws : (input : List ℕ) (p : Player) → HasPrinted input p → Draws within input
 draws input p is = (text_in p, is.prints)
+
+-- and what it knows of the script's expectations is so
+pub as_expected : (input : List ℕ) (p : Player) (met : Bool) → met ≡ p.met → HasPrinted input p → IsAsExpected within input met
+as_expected input p met known is text q = ap (λ (left : Played). left.met) (one_end within input text (text_in p) q is.prints) ∙ is.met ∙ sym known

@@ -10,14 +10,15 @@ use Rattle.mr_world.specs.Limits.{within}
 use Rattle.mr_commands.specs.declared.job.submission.Submission.{Submission}
 use Rattle.mr_commands.specs.seq.Text.{PrintsSeq, RefusesSeq}
 use Rattle.mr_play.specs.Played.{Played}
-use Rattle.mr_play.specs.Text.{PrintsPlay, printed_world, job_as, config_of, played_of, job_line, line_of_marker, line_of_outcome}
+use Rattle.mr_play.specs.Text.{PrintsPlay, printed_world, job_as, config_of, played_of, job_line}
+use Rattle.mr_play.specs.WorldText.{line_of_marker, line_of_outcome}
 
 -- the events of each played script are faithful: a script has no words for bytes
 abbrev pub ScriptsAreFaithful : Type 0
 ScriptsAreFaithful = (within : Config → Limits) (job : Submission) (n : ℕ) (lines : List (List ℕ)) (cs : List (ℕ × Command)) (left : Played) →
     AreCommands job.id n lines cs → played_of within job cs ≡ Some left → IsFaithful (job_as job.job) (config_of job) (within (config_of job)) left.events
 
--- what `play` prints where the marker is: lines of refused events and of winners, `marker yes`, the line of the outcome, and behind them these files
+-- what `play` prints where the marker is: lines of refused events, of unmet expectations and of winners, `marker yes`, the line of the outcome, and behind them these files
 pub record IsMarkedText (text files : List ℕ) : Type 0 where
   pub before : List ℕ
   pub told : Option Bool

@@ -45,5 +45,5 @@ ScriptsGoOn =
 abbrev pub CalmsArePermitted : Type 0
 CalmsArePermitted =
     (job : Job) (cfg : Config) (within : Limits) → JobLaws job cfg → 0 < cfg.nodes → (s : Played) (k : ℕ) (next : Next) (e : Event) →
-    is_through cfg (world job cfg within s) k ≡ false → next_of job cfg within (world job cfg within s) k s.stepped (cursor_at (world job cfg within s) s.cursor) ≡ Some next → next.event ≡ Some e →
+    is_through cfg (world job cfg within s) k ≡ false → next_of job cfg within (world job cfg within s) k s.stepped (cursor_at (world job cfg within s) s.dropped s.cursor) ≡ Some next → next.event ≡ Some e →
     not_now cfg (world job cfg within s) e ≡ None

@@ -1,5 +1,8 @@
 -- What a script makes of a cluster, a command at a time: its events and those of its calms (our own profile). The cluster is the run of the events.
-use Rattle.std.specs.Prelude.{ℕ, zero, suc, ◌+◌, ◌%◌, Bool, true, false, ◌&&◌, ◌||◌, not, nat_lt, nat_le, List, [], ◌∷◌, ◌++◌, length, drop, Option, Some, None, if◌then◌else◌, is_none, codes, decimal}
+use Rattle.std.specs.Prelude.{ℕ, zero, suc, ◌+◌, ◌%◌, Bool, true, false, ◌&&◌, ◌||◌, not, nat_lt, nat_le, List, [], ◌∷◌, ◌++◌, length, drop, Option, Some, None, if◌then◌else◌, is_some, codes, decimal}
+use Rattle.std.specs.BTreeSet.{insert_key}
+use Rattle.std.specs.List.{list_any}
+use Rattle.std.specs.Ordering.{is_eq, nat_cmp}
 use Rattle.std.specs.Option.{option_map, option_and_then, option_or, option_to_list}
 use Rattle.mr_task.specs.declared.fault.TaskFault.{TaskFault}
 use Rattle.mr_task.specs.declared.fault.TaskFault.TheVariants as task_fault
@@ -19,20 +22,24 @@ use Rattle.mr_world.specs.declared.limits.TheConstants.{MAX_EVENTS}
 use Rattle.mr_world.specs.Readings.{input_in, living, next_living, wish_by}
 use Rattle.mr_script.specs.declared.command.Command.{Command}
 use Rattle.mr_script.specs.declared.command.Command.TheVariants as command
+use Rattle.mr_script.specs.declared.expectation.Expectation.{Expectation}
 use Rattle.mr_script.specs.declared.event_name.EventName.{EventName}
 use Rattle.mr_script.specs.declared.event_name.EventName.TheVariants as name
 use Rattle.mr_play.specs.EventNames.{duty_event, wish_event, stops_at}
+use Rattle.mr_play.specs.Expectations.{is_met, unmet_line, value_in}
 
 -- ---- how far a script is
 
 pub record Played : Type 0 where
   pub events : List Event  -- those that were taken, the oldest first
   pub cursor : ℕ  -- how many packets of the bag the calms have delivered or passed over
+  pub dropped : List ℕ  -- the packets that no calm delivers, by their places in the bag
   pub stepped : Option ContainerId  -- the container that calm or the script stepped last
-  pub refused : List ℕ  -- the lines of refused events, as they are printed
+  pub told : List ℕ  -- the lines of refused events and of unmet expectations, as they are printed
+  pub met : Bool  -- every expectation so far is met
 
 abbrev pub begun : Played
-begun = record { events = []; cursor = 0; stepped = None; refused = [] }
+begun = record { events = []; cursor = 0; dropped = []; stepped = None; told = []; met = true }
 
 -- ---- refused events
 
@@ -70,13 +77,21 @@ pub record Next : Type 0 where
   pub stepped : Option ContainerId
   pub cursor : ℕ
 
--- so many packets go to nobody who is alive, before the first that does
-abbrev pub passed : World → List Envelope → ℕ
-passed w [] = 0
-passed w (e ∷ es) = if is_none (addressee w (Some e)) then 0 else suc (passed w es)
+-- the script dropped the packet at place n
+abbrev pub is_dropped : List ℕ → ℕ → Bool
+is_dropped dropped n = list_any (λ place. is_eq (nat_cmp n place)) dropped
 
-abbrev pub cursor_at : World → ℕ → ℕ
-cursor_at w n = n + passed w (drop n w.bag)
+-- a calm passes over the packet at place n: it was dropped, or goes to nobody who is alive
+abbrev pub is_passed : World → List ℕ → ℕ → Envelope → Bool
+is_passed w dropped n e = is_dropped dropped n || is_some (addressee w (Some e))
+
+-- so many packets, the first of them at place n, are passed over before one that is not
+abbrev pub passed : World → List ℕ → ℕ → List Envelope → ℕ
+passed w dropped n [] = 0
+passed w dropped n (e ∷ es) = if is_passed w dropped n e then suc (passed w dropped (suc n) es) else 0
+
+abbrev pub cursor_at : World → List ℕ → ℕ → ℕ
+cursor_at w dropped n = n + passed w dropped n (drop n w.bag)
 
 abbrev pub has_ended : Phase → Bool
 has_ended (Finished succeeded) = true
@@ -137,7 +152,7 @@ module _ (job : Job) (cfg : Config) (within : Limits) where
 
   abbrev pub unless_refused : ℕ → Event → Option ContainerId → Played → Option Why → Option Played
   unless_refused line e last s None = taken e last s
-  unless_refused line e last s (Some reason) = Some (record s { refused = s.refused ++ refused_line line reason })
+  unless_refused line e last s (Some reason) = Some (record s { told = s.told ++ refused_line line reason })
 
   -- the event of a line
   abbrev pub made : ℕ → Event → Option ContainerId → Played → Option Played
@@ -159,17 +174,27 @@ module _ (job : Job) (cfg : Config) (within : Limits) where
   calms k stop zero s = Some s
   calms k stop (suc most) s =
       if is_through cfg (world s) k then Some s
-      else calmed_by stop (calms k stop most) (record s { cursor = cursor_at (world s) s.cursor }) (next_of (world s) k s.stepped (cursor_at (world s) s.cursor))
+      else calmed_by stop (calms k stop most) (record s { cursor = cursor_at (world s) s.dropped s.cursor }) (next_of (world s) k s.stepped (cursor_at (world s) s.dropped s.cursor))
 
   -- who has stepped last, after an event of the script
   abbrev pub stepped_by : Event → Option ContainerId → Option ContainerId
   stepped_by (ContainerStep c fault) last = Some c
   stepped_by _ last = last
 
+  -- from here on no calm delivers this packet, whether or not it was sent yet
+  abbrev pub losing : ℕ → Played → Played
+  losing place s = record s { dropped = insert_key nat_cmp s.dropped place }
+
+  -- what a line expects: where it is not so, the line is told
+  abbrev pub expecting : ℕ → Expectation → Played → Played
+  expecting line e s = if is_met cfg (world s) e then s else record s { told = s.told ++ unmet_line line e (value_in cfg (world s) e); met = false }
+
   abbrev pub obeyed : ℕ → Command → Played → Option Played
   obeyed line (command.Makes e) s = made line e (stepped_by e s.stepped) s
   obeyed line (command.Compute c) s = option_and_then (λ e. made line e (Some c) s) (computing (world s) c)
   obeyed line (command.Calm k stop) s = calms k stop most_calm s
+  obeyed line (command.Drop place) s = Some (losing place s)
+  obeyed line (command.Expect e) s = Some (expecting line e s)
 
   -- commands with their lines, in turn
   abbrev pub played : List (ℕ × Command) → Played → Option Played

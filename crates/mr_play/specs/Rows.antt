@@ -19,9 +19,9 @@ small = record { job = record { start = 200707121733; number = 3 }; splits = cod
 abbrev pub any : Limits
 any w e = true
 
--- commands lead to these events and print these refusals; no calm has passed a packet, and none has stepped
+-- commands lead to these events and print these refusals; no calm has passed a packet, none was dropped, none has stepped, and nothing was expected
 abbrev pub LeadTo : List (ℕ × Command) → List Event → List ℕ → Type 0
-LeadTo cs events refused = (job : Job) → played job small any cs begun ≡ Some (record { events = events; cursor = 0; stepped = None; refused = refused })
+LeadTo cs events refused = (job : Job) → played job small any cs begun ≡ Some (record { events = events; cursor = 0; dropped = []; stepped = None; told = refused; met = true })
 
 pub record PlayedRows : Type 0 where
   -- a master starts twice, one that never did is called, a task is launched while it opens, no packet is there, and it crashed

@@ -8,7 +8,8 @@ use Rattle.mr_world.specs.Journal.{world_in}
 use Rattle.mr_world.specs.Limits.{within}
 use Rattle.mr_play.specs.declared.shown.Shown.{Shown}
 use Rattle.mr_play.specs.declared.player.Player.{Player}
-use Rattle.mr_play.specs.Text.{PrintsPlay, printed_world, world_text}
+use Rattle.mr_play.specs.Text.{PrintsPlay, printed_world}
+use Rattle.mr_play.specs.WorldText.{world_text}
 
 -- a segment: its generation and how many bytes are stable, and then these
 abbrev pub segment_text : ℕ → List ℕ → List ℕ
@@ -33,13 +34,14 @@ IsHistory w text = AreSegments w w.fence text
 abbrev pub AddsSegments : World → ℕ → List ℕ → List ℕ → Type 0
 AddsSegments w n old new = (more : List ℕ) × AreSegments w n more × (new ≡ old ++ more)
 
--- what is printed of a player: the lines of refused events, and then of its world
+-- what is printed of a player: what was told of lines, and then of its world
 abbrev pub text_in : Player → List ℕ
-text_in p = p.refused.items ++ world_text p.world.config (world_in p.world)
+text_in p = p.told.items ++ world_text p.world.config (world_in p.world)
 
--- a player has played what an input says: its text is printed, of its cluster
+-- a player has played what an input says: its text is printed, of its cluster, and it knows whether all is as expected
 pub record HasPrinted (input : List ℕ) (p : Player) : Type 0 where
   pub prints : PrintsPlay within input (text_in p)
+  pub met : prints.left.met ≡ p.met
   pub cluster : printed_world within input (text_in p) prints ≡ world_in p.world
 
 -- a text that has it: with something before it only where a trace is asked for, and behind it the history where that is, else nothing

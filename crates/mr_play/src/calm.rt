@@ -1,13 +1,15 @@
 //! Calms: what happens by itself, without a fault, until a master is through.
-ghost use Rattle.std.specs.Prelude.{◌≡◌, ◌<◌, ◌%◌, ℕ, false, Some, None, IfOk, IfErr, length};
+ghost use Rattle.std.specs.Prelude.{◌≡◌, ◌<◌, ◌%◌, ◌||◌, ℕ, false, Some, None, IfOk, IfErr, is_some, length};
+ghost use Rattle.std.specs.List.{slice_get};
 ghost use Rattle.std.specs.Option.{option_map};
+ghost use Rattle.mr_model.specs.Effect.{addressee};
 ghost use Rattle.mr_world.specs.Journal.{world_in};
 ghost use Rattle.mr_world.specs.Limits.{within};
 ghost use Rattle.mr_world.specs.Readings.{due_in};
 ghost use Rattle.mr_commands.specs.declared.fault.SimFault.TheVariants.{NoMemory};
 ghost use Rattle.mr_play.specs.EventNames.{stops_at};
 ghost use Rattle.mr_play.specs.Text.{job_as};
-ghost use Rattle.mr_play.specs.Played.{cursor_at, is_through, most_calm, next_of, next_step};
+ghost use Rattle.mr_play.specs.Played.{cursor_at, is_dropped, is_through, most_calm, next_of, next_step};
 ghost use Rattle.mr_play.specs.inner.Player.{calm_of, cluster_in, next_in, CalmsOnce, Goes, HappensAs, MakesNext, names_of};
 
 use crate::event_names::{duty_event, wish_event};
@@ -20,9 +22,10 @@ use mr_packet::ContainerId;
 use mr_script::EventName;
 use mr_world::World;
 use std::alloc::Global;
+use std::collections::BTreeSet;
 
 /// Most events of a calm.
-const MOST_CALM: u32 = 10_000;
+pub const MOST_CALM: u32 = 10_000;
 
 /// What a calm makes next.
 #[derive(Clone, Copy, Debug, PartialEq, Eq)]
@@ -40,8 +43,8 @@ pub enum Coming {
 }
 
 impl Coming {
-    // Whether a calm that stops before a name stops here.
-    fn stops_at(&self, stop: Option<EventName>) -> bool
+    /// Whether a calm that stops before a name stops here.
+    pub fn stops_at(&self, stop: Option<EventName>) -> bool
         ensures { result ≡ stops_at stop (names_of self.now) }
     {
         let Some(name) = stop else {
@@ -108,16 +111,16 @@ impl Player {
         }
     }
 
-    // The cursor passes the packets that go to nobody who is alive, up to the first that does.
+    // The cursor passes over the packets that the script dropped and those that go to nobody who is alive, up to the first that is delivered.
     fn pass(&mut self)
-        ensures { self.new ≡ record self.old { cursor = cursor_at (cluster_in self.old) self.old.cursor } }
+        ensures { self.new ≡ record self.old { cursor = cursor_at (cluster_in self.old) self.old.dropped.keys self.old.cursor } }
     {
-        self.cursor = passed(&self.world, self.cursor);
+        self.cursor = passed(&self.world, &self.dropped, self.cursor);
     }
 
-    // The first that is there of a packet at the cursor, a duty, a launch and a step, of a master that is not through.
+    /// The first that is there of a packet at the cursor, a duty, a launch and a step, of a master that is not through.
     #[tactic(auto, using(crate::proofs::Coming::packet_is, crate::proofs::Coming::duty_is, crate::proofs::Coming::launch_is, crate::proofs::Coming::step_is))]
-    fn coming(&self, k: u32) -> Result<Option<Coming>, SimFault>
+    pub(crate) fn coming(&self, k: u32) -> Result<Option<Coming>, SimFault>
         ensures is { IfOk result (λ coming. is_through self.now.world.config (cluster_in self.now) k ≡ false →
             option_map (next_in self.now k) coming ≡ next_of (job_as self.now.job) self.now.world.config (within self.now.world.config) (cluster_in self.now) k self.now.stepped self.now.cursor) }
         ensures packet { IfOk result (λ coming. coming ≡ Some Coming.Deliver → self.now.cursor < length (cluster_in self.now).bag) }
@@ -247,17 +250,24 @@ impl Player {
     }
 }
 
-// The place of the first packet from here on that goes to someone who is alive.
+// Whether a calm passes over the packet at this place: it was dropped, or goes to nobody who is alive.
+fn is_passed(world: &World, dropped: &BTreeSet<u64>, place: usize) -> bool
+    ensures { result ≡ (is_dropped dropped.now.keys place || is_some (addressee (world_in world.now) (slice_get (world_in world.now).bag place))) }
+{
+    dropped.contains(&(place as u64)) || world.undeliverable(place).is_some()
+}
+
+// The place of the first packet from here on that is not passed over.
 #[tactic(auto, using(crate::proofs::Coming::cursor_end, crate::proofs::Coming::cursor_stays, crate::proofs::Coming::cursor_goes))]
-fn passed(world: &World, from: usize) -> usize
-    ensures { result ≡ cursor_at (world_in world.now) from }
+fn passed(world: &World, dropped: &BTreeSet<u64>, from: usize) -> usize
+    ensures { result ≡ cursor_at (world_in world.now) dropped.now.keys from }
 {
     let mut cursor = from;
     while cursor < world.bag().len() {
-        match world.undeliverable(cursor) {
-            Some(_) => cursor += 1,
-            None => return cursor,
+        if !is_passed(world, dropped, cursor) {
+            return cursor;
         }
+        cursor += 1;
     }
     cursor
 }

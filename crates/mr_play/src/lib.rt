@@ -28,24 +28,30 @@
 #![tactic(auto)]
 
 mod calm;
+mod calm_notes;
 mod event_names;
+mod expectations;
 mod faithful;
 mod histories;
 mod laws;
 mod player;
+mod printed;
 mod refused;
 mod shown;
 mod sources;
 mod subcommand;
+mod values;
 mod works;
 mod world_text;
 
 pub use event_names::{duty_event, name_word, wish_event};
 pub use faithful::{marked_files_are_those_of_seq, scripts_are_faithful};
+pub use histories::print_histories;
 pub use laws::{
     calms_are_permitted, names_are_of_duties_and_wishes, one_play_text, played_rows, scripts_go_on,
 };
 pub use player::Player;
+pub use printed::Printed;
 pub use shown::{Shown, shown_text};
 pub use sources::{Source, Stretch, source_of};
 pub use subcommand::{play, played};

@@ -2,20 +2,22 @@
 ghost use Rattle.std.specs.Prelude.{◌≡◌, [], ◌∷◌, Some, OnOk, IfOk, IfErr};
 ghost use Rattle.mr_commands.specs.declared.fault.SimFault.TheVariants.{NoMemory};
 ghost use Rattle.mr_play.specs.Text.{config_of, job_as, played_of};
-ghost use Rattle.mr_play.specs.Played.{begun, computing, made, obeyed, played, stepped_by};
-ghost use Rattle.mr_play.specs.inner.Player.{cluster_in, state_in, Goes, IsEvent, Applies};
+ghost use Rattle.mr_play.specs.Played.{begun, computing, expecting, losing, made, most_calm, obeyed, played, stepped_by};
+ghost use Rattle.mr_play.specs.inner.Player.{calm_of, cluster_in, state_in, Goes, IsEvent, Applies};
 ghost use Rattle.mr_commands.specs.job.Submission.{IsWithinLimits};
 ghost use Rattle.mr_world.specs.Limits.{within};
 
+use crate::expectations::{is_expected, print_unmet, value_of};
 use crate::refused::print_refused;
 use crate::sources::{Source, Stretch};
 use crate::works::computed;
 use mr_commands::{JobKind, SimFault, Submission};
 use mr_event::{Event, Why};
 use mr_packet::ContainerId;
-use mr_script::Command;
+use mr_script::{Command, EventName, Expectation};
 use mr_world::{Config, World, WorldFault};
 use std::alloc::{AllocError, Global};
+use std::collections::BTreeSet;
 
 /// A world in which a script happens.
 #[derive(Drop)]
@@ -25,12 +27,18 @@ pub struct Player {
     pub world: World,
     /// How many packets of the bag the calms have delivered or passed over.
     pub(crate) cursor: usize,
+    /// The packets that no calm delivers, since the script dropped them, by their places in the bag.
+    pub(crate) dropped: BTreeSet<u64>,
     /// The container that a calm or the script stepped last.
     pub(crate) stepped: Option<ContainerId>,
-    /// The lines of refused events.
-    pub refused: Vec<u8>,
+    /// The lines of refused events, and of expectations that were not met.
+    pub told: Vec<u8>,
+    /// Whether every expectation so far was met.
+    pub met: bool,
     /// Which line of the script made which events.
     pub stretches: Vec<Stretch>,
+    /// Lines for standard error: which calms ended otherwise than the script asks.
+    pub notes: Vec<u8>,
 }
 
 impl Player {
@@ -48,9 +56,12 @@ impl Player {
             job,
             world,
             cursor: 0,
+            dropped: BTreeSet::new(alloc),
             stepped: None,
-            refused: Vec::new(alloc),
+            told: Vec::new(alloc),
+            met: true,
             stretches: Vec::new(alloc),
+            notes: Vec::new(alloc),
         })
     }
 
@@ -88,8 +99,52 @@ impl Player {
         match command {
             Command::Makes(event) => self.happen(line, event),
             Command::Compute(c) => self.compute_at(alloc, line, c),
-            Command::Calm(k, stop) => self.calm(alloc, k, stop),
+            Command::Calm(k, stop) => self.calm_at(alloc, line, k, stop),
+            Command::Drop(packet) => self.lose(packet),
+            Command::Expect(expectation) => self.expect(alloc, line, &expectation),
         }
+    }
+
+    /// Calms, and notes how the calm ended where that is not as the line asks.
+    fn calm_at(
+        &mut self,
+        alloc: Global,
+        line: usize,
+        k: u32,
+        stop: Option<EventName>,
+    ) -> Result<(), SimFault>
+        ensures { Goes self.old (calm_of self.old k stop most_calm) result self.new }
+    {
+        let before = self.world.journal().len();
+        self.calm(alloc, k, stop)?;
+        self.note_calm(line, k, stop, before)?;
+        Ok(())
+    }
+
+    /// From here on no calm delivers the packet at this place of the bag.
+    fn lose(&mut self, packet: u64) -> Result<(), SimFault>
+        ensures { Goes self.old (Some (losing (job_as self.old.job) self.old.world.config (within self.old.world.config) packet (state_in self.old))) result self.new }
+    {
+        self.dropped.insert(packet)?;
+        Ok(())
+    }
+
+    /// Looks whether what a line expects is so now, and tells the line where it is not.
+    fn expect(
+        &mut self,
+        alloc: Global,
+        line: usize,
+        expectation: &Expectation,
+    ) -> Result<(), SimFault>
+        ensures { Goes self.old (Some (expecting (job_as self.old.job) self.old.world.config (within self.old.world.config) line expectation.now (state_in self.old))) result self.new }
+    {
+        let value = value_of(alloc, &self.world, expectation)?;
+        if is_expected(alloc, expectation, &value)? {
+            return Ok(());
+        }
+        print_unmet(&mut self.told, line, expectation, &value)?;
+        self.met = false;
+        Ok(())
     }
 
     /// Notes what made the events since the last note, if there were any.
@@ -135,7 +190,7 @@ impl Player {
         match self.apply(event, stepped)? {
             None => Ok(()),
             Some(why) => {
-                print_refused(&mut self.refused, line, why)?;
+                print_refused(&mut self.told, line, why)?;
                 Ok(())
             }
         }

@@ -25,7 +25,7 @@ pub fn shown_text(player: &Player, shown: Shown, before: Vec<u8>) -> Result<Vec<
     ensures memory { IfErr result (λ e. e ≡ fault.NoMemory) }
 {
     let mut text = before;
-    text.extend_from_slice(&player.refused)?;
+    text.extend_from_slice(&player.told)?;
     print_world(&mut text, &player.world)?;
     if shown.history {
         print_histories(&mut text, &player.world)?;

@@ -1,18 +1,18 @@
 //! The subcommand `play`.
 //! A job text and a script behind it are played in a world, and what came of it is printed.
-ghost use Rattle.std.specs.Prelude.{◌≡◌, ◌++◌, None, IfOk, IfErr};
+ghost use Rattle.std.specs.Prelude.{◌≡◌, None, IfOk, IfErr};
 ghost use Rattle.mr_script.specs.Lines.{after, lines_of};
 ghost use Rattle.mr_script.specs.Script.{AreCommands};
-ghost use Rattle.mr_world.specs.Journal.{world_in};
 ghost use Rattle.mr_world.specs.Limits.{within};
 ghost use Rattle.mr_commands.specs.declared.fault.SimFault.TheVariants as fault;
-ghost use Rattle.mr_play.specs.Text.{job_line, played_of, script_by, world_text, PlayFails, PrintsPlay};
+ghost use Rattle.mr_play.specs.Text.{job_line, played_of, script_by, IsAsExpected, PlayFails, PrintsPlay};
 ghost use Rattle.mr_play.specs.inner.Player.{FullWhere};
 ghost use Rattle.mr_play.specs.inner.PlaySteps.{HasPlayed, IsUnread};
 ghost use Rattle.mr_play.specs.Shown.{HasPrinted, text_in};
 ghost use Rattle.mr_commands.specs.job.Submission.{IsWithinLimits};
 
 use crate::player::Player;
+use crate::printed::Printed;
 use crate::world_text::print_world;
 use mr_commands::{SimFault, Submission, read_job_text};
 use mr_ids::JobId;
@@ -61,14 +61,19 @@ fn player_of(
     Ok(player)
 }
 
-/// What is printed of a player: the lines of refused events, and then of its world.
-fn text_of(player: Player) -> Result<Vec<u8>, SimFault>
-    ensures text { IfOk result (λ text. text.items ≡ player.refused.items ++ world_text player.world.config (world_in player.world)) }
+/// What is printed of a player: what was told of lines, and then of its world.
+fn printed_of(player: Player) -> Result<Printed, SimFault>
+    ensures text { IfOk result (λ printed. printed.text.items ≡ text_in player) }
+    ensures met { IfOk result (λ printed. printed.met ≡ player.met) }
     ensures memory { IfErr result (λ e. e ≡ fault.NoMemory) }
 {
-    let mut text = player.refused;
+    let mut text = player.told;
     print_world(&mut text, &player.world)?;
-    Ok(text)
+    Ok(Printed {
+        text,
+        met: player.met,
+        notes: player.notes,
+    })
 }
 
 #[tactic(auto, using(crate::proofs::Showing::printed))]
@@ -88,9 +93,10 @@ pub fn played(alloc: Global, input: &[u8]) -> Result<Player, SimFault>
 }
 
 /// What `play` prints for a job text and a script, with the faults of `played`.
-pub fn play(alloc: Global, input: &[u8]) -> Result<Vec<u8>, SimFault>
-    ensures ok { IfOk result (λ v. PrintsPlay within input.now v.items) }
+pub fn play(alloc: Global, input: &[u8]) -> Result<Printed, SimFault>
+    ensures ok { IfOk result (λ v. PrintsPlay within input.now v.text.items) }
+    ensures met { IfOk result (λ v. IsAsExpected within input.now v.met) }
     ensures fault { IfErr result (PlayFails within input.now) }
 {
-    text_of(played(alloc, input)?)
+    printed_of(played(alloc, input)?)
 }

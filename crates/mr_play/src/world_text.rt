@@ -5,9 +5,10 @@ ghost use Rattle.mr_world.specs.declared.fault.WorldFault.TheVariants as world;
 ghost use Rattle.mr_world.specs.Journal.{world_in};
 ghost use Rattle.mr_world.specs.VisibleFiles.{as_pair};
 ghost use Rattle.mr_commands.specs.declared.fault.SimFault.TheVariants.{NoMemory};
-ghost use Rattle.mr_play.specs.Text.{line_of_marker, line_of_outcome, line_of_winner, visible_text, world_text};
+ghost use Rattle.mr_play.specs.WorldText.{line_of_marker, line_of_outcome, line_of_winner, visible_text, world_text};
 ghost use Rattle.mr_play.specs.inner.PlaySteps.{winners_text};
 
+use crate::values::{put_marker, put_outcome, put_winner};
 use itoa::Buffer;
 use mr_commands::{SimFault, print_file};
 use mr_ids::AttemptId;
@@ -26,10 +27,7 @@ fn print_winner(
     out.extend_from_slice(b"r ")?;
     out.extend_from_slice(buffer.format(reduce).as_bytes())?;
     out.extend_from_slice(b" ")?;
-    match winner {
-        Some(attempt) => attempt.write(out)?,
-        None => out.extend_from_slice(b"none")?,
-    }
+    put_winner(out, winner)?;
     out.extend_from_slice(b"\n")
 }
 
@@ -47,22 +45,18 @@ fn print_winners(out: &mut Vec<u8>, winners: &[Option<AttemptId>]) -> Result<(),
 fn print_marker(out: &mut Vec<u8>, marker: bool) -> Result<(), AllocError>
     ensures { OnOk result (out.new.items ≡ out.old.items ++ line_of_marker marker) }
 {
-    if marker {
-        out.extend_from_slice(b"marker yes\n")
-    } else {
-        out.extend_from_slice(b"marker no\n")
-    }
+    out.extend_from_slice(b"marker ")?;
+    put_marker(out, marker)?;
+    out.extend_from_slice(b"\n")
 }
 
 /// The outcome that was told.
 fn print_outcome(out: &mut Vec<u8>, outcome: Option<bool>) -> Result<(), AllocError>
     ensures { OnOk result (out.new.items ≡ out.old.items ++ line_of_outcome outcome) }
 {
-    match outcome {
-        None => out.extend_from_slice(b"outcome none\n"),
-        Some(true) => out.extend_from_slice(b"outcome succeeded\n"),
-        Some(false) => out.extend_from_slice(b"outcome failed\n"),
-    }
+    out.extend_from_slice(b"outcome ")?;
+    put_outcome(out, outcome)?;
+    out.extend_from_slice(b"\n")
 }
 
 /// Files, each with its name and its length.
@@ -75,8 +69,8 @@ fn print_files(out: &mut Vec<u8>, files: &[VisibleFile]) -> Result<(), AllocErro
     Ok(())
 }
 
-// What was read of a world, which fails by nothing but an allocation failure.
-fn read<T: Drop>(reading: Result<T, WorldFault>) -> Result<T, SimFault>
+/// What was read of a world, which fails by nothing but an allocation failure.
+pub fn read<T: Drop>(reading: Result<T, WorldFault>) -> Result<T, SimFault>
     requires { IfErr reading (λ fault. fault ≡ world.NoMemory) }
     ensures value { IfOk result (λ value. reading ≡ Ok value) }
     ensures memory { IfErr result (λ fault. fault ≡ NoMemory) }

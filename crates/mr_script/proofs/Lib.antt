@@ -1,3 +1,5 @@
+pub mod Attempts
+pub mod Expected
 pub mod Lines
 pub mod Numbers
 pub mod Readings

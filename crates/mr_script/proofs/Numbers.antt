@@ -7,7 +7,8 @@ use Rattle.std.proofs.lemmas.Fmt.{decimal_is_IsNumeral}
 use Rattle.mr_ids.specs.declared.id.TaskKind.{TaskKind}
 use Rattle.mr_ids.specs.declared.id.TaskKind.TheVariants.{Map, Reduce}
 use Rattle.mr_packet.specs.declared.packet.ContainerId.{ContainerId}
-use Rattle.mr_script.specs.Script.{IsGeneration, IsContainer, container_word, kind_word}
+use Rattle.mr_script.specs.Script.{IsGeneration, IsContainer}
+use Rattle.mr_script.specs.Words.{container_word, kind_word}
 use Rattle.mr_script.proofs.Words.{Lacks}
 
 lacks : (b : ℕ) → (digit_value b < 10 → ⊥) → (ds : List ℕ) → AllDigits 10 ds → Lacks b ds

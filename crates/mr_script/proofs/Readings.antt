@@ -14,29 +14,18 @@ use Rattle.mr_script.specs.declared.command.Command.TheVariants as command
 use Rattle.mr_script.specs.declared.event_name.EventName.{EventName}
 use Rattle.mr_script.specs.Lines.{before, after, is_comment, lines_of}
 use Rattle.mr_script.specs.Names.{name_text}
-use Rattle.mr_script.specs.Script.{with_word, kind_word, task_words, container_word, and_words, fault_word, stop_words, line_of, rest_of, IsGeneration, IsContainer, IsTaskOf, IsCommand, IsLine}
+use Rattle.mr_script.specs.Script.{line_of, rest_of, IsGeneration, IsContainer, IsTaskOf, IsCommand, IsLine}
+use Rattle.mr_script.specs.Words.{with_word, kind_word, task_words, container_word, and_words, fault_word, stop_words}
 use Rattle.mr_script.specs.Verb.{verb_of}
 use Rattle.mr_script.specs.Laws.{OneReading, ReadOrBad, OneFirstBad, CommentsAreNoCommands}
+use Rattle.mr_script.proofs.Expected.{same-expected}
 use Rattle.mr_script.proofs.Lines.{same-lines, not-both, same-first}
-use Rattle.mr_script.proofs.Words.{Lacks, before-by, after-by, none-after}
+use Rattle.mr_script.proofs.Words.{Lacks, after-by, none-after, some-inj, cut-same}
 use Rattle.mr_script.proofs.Numbers.{no-space, no-stop, low, container-no-space, kind-no-space}
 use Rattle.mr_script.proofs.Spellings.{text_of-injective, name_text-injective}
 use Rattle.mr_script.proofs.Verbs.{spelled}
 
-some-inj : {A : Type 0} (a b : A) → Some a ≡ Some b → a ≡ b
-some-inj a b e = cc
-
 -- ---- two words and more
-
-record Parts (a b x y : List ℕ) : Type 0 where
-  front : a ≡ b
-  rest : x ≡ y
-
-cut-same : (s : ℕ) (a b x y : List ℕ) → Lacks s a → Lacks s b → a ++ s ∷ x ≡ b ++ s ∷ y → Parts a b x y
-cut-same s a b x y g h e = record {
-  front = sym (before-by s a x g) ∙ ap (before s) e ∙ before-by s b y h;
-  rest = some-inj x y (sym (after-by s a x g) ∙ ap (after s) e ∙ after-by s b y h);
-}
 
 record Ands (a b : List ℕ) (x y : Option (List ℕ)) : Type 0 where
   front : a ≡ b
@@ -138,6 +127,8 @@ same-parts job (command.Compute a) (command.Compute b) g h v e = ap command.Comp
 same-parts job (command.Calm k s) (command.Calm m t) g h v e =
     let p = ands-same (decimal k) (decimal m) (stop_words s) (stop_words t) (no-space k (low k g)) (no-space m (low m h)) e in
     ap₂ command.Calm (generation-same k m g h p.front) (stop-same s t p.rest)
+same-parts job (command.Drop a) (command.Drop b) g h v e = ap command.Drop (decimal_injective a b g h e)
+same-parts job (command.Expect a) (command.Expect b) g h v e = ap command.Expect (same-expected a b g h e)
 same-parts job (command.Makes (event.Computed c bytes)) d g h v e = absurd g
 same-parts job c (command.Makes (event.Computed d bytes)) g h v e = absurd h
 same-parts job c d g h v e = absurd (cc)
@@ -156,6 +147,8 @@ after-line job (command.Makes (event.NodeRestart n)) h = refl
 after-line job (command.Makes (event.Expire k n)) h = refl
 after-line job (command.Compute c) h = refl
 after-line job (command.Calm k stop) h = refl
+after-line job (command.Drop i) h = refl
+after-line job (command.Expect e) h = refl
 
 same-command : (job : JobId) (line : List ℕ) (c d : Command) → IsLine job line c → IsLine job line d → c ≡ d
 same-command job line c d x y =
@@ -188,6 +181,8 @@ no-comment (command.Makes (event.NodeRestart n)) = refl
 no-comment (command.Makes (event.Expire k n)) = refl
 no-comment (command.Compute c) = refl
 no-comment (command.Calm k stop) = refl
+no-comment (command.Drop i) = refl
+no-comment (command.Expect e) = refl
 
 pub comments_are_no_commands_law : CommentsAreNoCommands
 comments_are_no_commands_law = λ job line c h. ap is_comment h.1 ∙ no-comment c

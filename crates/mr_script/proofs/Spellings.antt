@@ -9,21 +9,23 @@ use Rattle.mr_script.specs.Verb.{text_of}
 
 -- a number that tells the verbs apart
 verb_key : List ℕ → ℕ
-verb_key w = slice_index w 0 + (2 * slice_index w 1 + slice_index w 2)
+verb_key w = slice_index w 0 + (3 * slice_index w 1 + slice_index w 3)
 
 verb_by : ℕ → Verb
 verb_by k =
-    (cond (eqb k 444) verb.Start
-    (cond (eqb k 424) verb.Crash
-    (cond (eqb k 450) verb.Duty
-    (cond (eqb k 419) verb.Launch
-    (cond (eqb k 410) verb.Deliver
-    (cond (eqb k 448) verb.Step
-    (cond (eqb k 430) verb.Compute
-    (cond (eqb k 411) verb.Die
-    (cond (eqb k 431) verb.Restart
-    (cond (eqb k 453) verb.Expire
-    verb.Calm))))))))))
+    (cond (eqb k 577) verb.Start
+    (cond (eqb k 556) verb.Crash
+    (cond (eqb k 572) verb.Duty
+    (cond (eqb k 509) verb.Launch
+    (cond (eqb k 508) verb.Deliver
+    (cond (eqb k 575) verb.Step
+    (cond (eqb k 544) verb.Compute
+    (cond (eqb k 415) verb.Die
+    (cond (eqb k 533) verb.Restart
+    (cond (eqb k 566) verb.Expire
+    (cond (eqb k 499) verb.Calm
+    (cond (eqb k 554) verb.Drop
+    verb.Expect))))))))))))
 
 verb_back : (v : Verb) → verb_by (verb_key (text_of v)) ≡ v
 unfolding verb_key verb_by
@@ -38,6 +40,8 @@ verb_back verb.Die = refl
 verb_back verb.Restart = refl
 verb_back verb.Expire = refl
 verb_back verb.Calm = refl
+verb_back verb.Drop = refl
+verb_back verb.Expect = refl
 
 pub text_of-injective : (v w : Verb) → text_of v ≡ text_of w → v ≡ w
 text_of-injective v w e = sym (verb_back v) ∙ ap (λ t. verb_by (verb_key t)) e ∙ verb_back w

@@ -28,6 +28,8 @@ spelled job (command.Makes (event.NodeRestart n)) h = record { verb = verb.Resta
 spelled job (command.Makes (event.Expire k n)) h = record { verb = verb.Expire; is = refl; first = refl }
 spelled job (command.Compute c) h = record { verb = verb.Compute; is = refl; first = refl }
 spelled job (command.Calm k stop) h = record { verb = verb.Calm; is = refl; first = refl }
+spelled job (command.Drop i) h = record { verb = verb.Drop; is = refl; first = refl }
+spelled job (command.Expect e) h = record { verb = verb.Expect; is = refl; first = refl }
 
 -- a line whose first word is no verb
 pub no-verb : (job : JobId) (line word : List ℕ) → before 32 line ≡ word → ((v : Verb) → word ≡ text_of v → ⊥) → IsBad job line

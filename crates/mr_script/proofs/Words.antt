@@ -4,7 +4,7 @@ use Rattle.std.proofs.Math.Dec.{eqb_refl}
 use Rattle.std.specs.List.{AllByRecursion, All}
 use Rattle.std.proofs.lemmas.List.Elements.{recursion_from_All}
 use Rattle.mr_script.specs.Lines.{before, after}
-use Rattle.mr_script.specs.Script.{and_words}
+use Rattle.mr_script.specs.Words.{and_words}
 
 -- none of the bytes is b
 abbrev pub Lacks : ℕ → List ℕ → Type 0
@@ -64,3 +64,17 @@ one-word line text (Some rest) h f e = absurd (no-cut 32 line text rest h f e)
 pub more-words : (line front rest text : List ℕ) (more : Option (List ℕ)) → Lacks 32 text → before 32 line ≡ front → after 32 line ≡ Some rest → line ≡ and_words text more → (more ≡ Some rest) × (front ≡ text)
 more-words line front rest text None h f g e = let both : None ≡ Some rest = sym (none-after 32 text h) ∙ ap (after 32) (sym e) ∙ g in absurd (cc)
 more-words line front rest text (Some more) h f g e = (ap Some (sym (rest-is 32 line rest text more h g e)), front-is 32 line front text more h f e)
+
+pub some-inj : {A : Type 0} (a b : A) → Some a ≡ Some b → a ≡ b
+some-inj a b e = cc
+
+-- two lines of two words
+pub record Parts (a b x y : List ℕ) : Type 0 where
+  pub front : a ≡ b
+  pub rest : x ≡ y
+
+pub cut-same : (s : ℕ) (a b x y : List ℕ) → Lacks s a → Lacks s b → a ++ s ∷ x ≡ b ++ s ∷ y → Parts a b x y
+cut-same s a b x y g h e = record {
+  front = sym (before-by s a x g) ∙ ap (before s) e ∙ before-by s b y h;
+  rest = some-inj x y (sym (after-by s a x g) ∙ ap (after s) e ∙ after-by s b y h);
+}

@@ -1,54 +1,16 @@
 -- Scripts of a run: one command per line, of words with one space between. The commands are our own.
-use Rattle.std.specs.Prelude.{◌≡◌, ◌≤◌, ◌<◌, ◌^◌, ℕ, List, [], ◌∷◌, ◌++◌, Option, Some, None, codes, decimal}
+use Rattle.std.specs.Prelude.{◌≡◌, ◌≤◌, ◌<◌, ◌^◌, ℕ, List, [], Option, Some, None, decimal}
 use Rattle.mr_ids.specs.declared.id.JobId.{JobId}
 use Rattle.mr_ids.specs.declared.id.TaskId.{TaskId}
-use Rattle.mr_ids.specs.declared.id.TaskKind.{TaskKind}
-use Rattle.mr_ids.specs.declared.id.TaskKind.TheVariants.{Map, Reduce}
 use Rattle.mr_packet.specs.declared.packet.ContainerId.{ContainerId}
-use Rattle.mr_event.specs.declared.event.Weather.{Weather}
-use Rattle.mr_event.specs.declared.event.Weather.TheVariants.{Calm, Unavailable, Unanswered}
 use Rattle.mr_event.specs.declared.event.Event.TheVariants as event
 use Rattle.mr_script.specs.declared.command.Command.{Command}
 use Rattle.mr_script.specs.declared.command.Command.TheVariants as command
-use Rattle.mr_script.specs.declared.event_name.EventName.{EventName}
 use Rattle.mr_script.specs.declared.line.Verb.{Verb}
+use Rattle.mr_script.specs.Expected.{expected_words, IsExpectation}
 use Rattle.mr_script.specs.Lines.{IsNoLine, AreLines, IsFirstNoLine}
-use Rattle.mr_script.specs.Names.{name_text}
 use Rattle.mr_script.specs.Verb.{text_of, verb_of}
-
--- ---- words
-
--- one word, a space, and what follows
-abbrev pub with_word : List ℕ → List ℕ → List ℕ
-with_word word rest = word ++ 32 ∷ rest
-
--- the letter m, the letter r
-abbrev pub kind_word : TaskKind → List ℕ
-kind_word Map = 109 ∷ []
-kind_word Reduce = 114 ∷ []
-
--- the generation of its master, a full stop, and its number
-abbrev pub container_word : ContainerId → List ℕ
-container_word c = decimal c.app ++ 46 ∷ decimal c.number
-
--- a word, and behind it more, if there is more
-abbrev pub and_words : List ℕ → Option (List ℕ) → List ℕ
-and_words word None = word
-and_words word (Some rest) = with_word word rest
-
--- how the store fares, if not well
-abbrev pub fault_word : Weather → Option (List ℕ)
-fault_word Calm = None
-fault_word Unavailable = Some (codes "unavailable")
-fault_word Unanswered = Some (codes "unanswered")
-
--- where a calm stops, if it is told
-abbrev pub stop_words : Option EventName → Option (List ℕ)
-stop_words None = None
-stop_words (Some n) = Some (with_word (codes "before") (name_text n))
-
-abbrev pub task_words : TaskId → List ℕ → List ℕ
-task_words t rest = with_word (kind_word t.kind) (with_word (decimal t.number) rest)
+use Rattle.mr_script.specs.Words.{with_word, task_words, container_word, and_words, fault_word, stop_words}
 
 -- ---- commands
 
@@ -66,6 +28,8 @@ rest_of (command.Makes (event.NodeRestart n)) = decimal n
 rest_of (command.Makes (event.Expire k n)) = with_word (decimal k) (decimal n)
 rest_of (command.Compute c) = container_word c
 rest_of (command.Calm k stop) = and_words (decimal k) (stop_words stop)
+rest_of (command.Drop i) = decimal i
+rest_of (command.Expect e) = expected_words e
 
 -- the line that the command is written as
 abbrev pub line_by : Option Verb → List ℕ → List ℕ
@@ -100,6 +64,8 @@ IsCommand job (command.Makes (event.NodeRestart n)) = n < 2 ^ 32
 IsCommand job (command.Makes (event.Expire k n)) = IsGeneration k × (n < 2 ^ 32)
 IsCommand job (command.Compute c) = IsContainer c
 IsCommand job (command.Calm k stop) = IsGeneration k
+IsCommand job (command.Drop i) = i < 2 ^ 64
+IsCommand job (command.Expect e) = IsExpectation e
 
 -- the line is the command
 abbrev pub IsLine : JobId → List ℕ → Command → Type 0

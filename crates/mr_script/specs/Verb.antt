@@ -18,6 +18,8 @@ text_of verb.Die = codes "die"
 text_of verb.Restart = codes "restart"
 text_of verb.Expire = codes "expire"
 text_of verb.Calm = codes "calm"
+text_of verb.Drop = codes "drop"
+text_of verb.Expect = codes "expect"
 
 -- what the command is written with; computed bytes are written in no way
 abbrev pub verb_of : Command → Option Verb
@@ -33,6 +35,8 @@ verb_of (command.Makes (event.NodeRestart n)) = Some verb.Restart
 verb_of (command.Makes (event.Expire k n)) = Some verb.Expire
 verb_of (command.Compute c) = Some verb.Compute
 verb_of (command.Calm k stop) = Some verb.Calm
+verb_of (command.Drop i) = Some verb.Drop
+verb_of (command.Expect e) = Some verb.Expect
 
 -- whether a master is told, and no node
 abbrev pub is_of_master : Verb → Bool
@@ -48,3 +52,9 @@ is_of_node verb.Launch = true
 is_of_node verb.Restart = true
 is_of_node verb.Expire = true
 is_of_node _ = false
+
+-- whether it is of the play alone: nothing happens in the cluster
+abbrev pub is_of_play : Verb → Bool
+is_of_play verb.Drop = true
+is_of_play verb.Expect = true
+is_of_play _ = false

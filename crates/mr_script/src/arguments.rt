@@ -5,7 +5,8 @@ ghost use Rattle.mr_ids.specs.declared.id.TaskKind as kind;
 ghost use Rattle.mr_packet.specs.declared.packet.ContainerId as container;
 ghost use Rattle.mr_event.specs.declared.event.Weather as weather;
 ghost use Rattle.mr_script.specs.declared.event_name.EventName as name;
-ghost use Rattle.mr_script.specs.Script.{with_word, kind_word, task_words, container_word, and_words, fault_word, stop_words, IsGeneration, IsContainer, IsTaskOf};
+ghost use Rattle.mr_script.specs.Script.{IsGeneration, IsContainer, IsTaskOf};
+ghost use Rattle.mr_script.specs.Words.{with_word, kind_word, task_words, container_word, and_words, fault_word, stop_words};
 
 use crate::event_name::{EventName, event_named};
 use crate::word::{container, generation, long_number, number, split_once};

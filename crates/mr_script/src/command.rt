@@ -1,5 +1,6 @@
-//! What a line of a script says: that an event happens, that a container computes, or that a calm begins.
+//! What a line of a script says: that an event happens, that a container computes, that a calm begins, that a packet is lost, or what is expected.
 use crate::event_name::EventName;
+use crate::expectation::Expectation;
 use mr_event::Event;
 use mr_packet::ContainerId;
 
@@ -13,4 +14,8 @@ pub enum Command {
     /// Events happen without a fault until the master of this generation is through, or, where a name is told, until an event of that
     /// name would be next.
     Calm(u32, Option<EventName>),
+    /// The packet at this place of the bag, from 0, is lost: every later calm passes it over.
+    Drop(u64),
+    /// This is expected to be so now.
+    Expect(Expectation),
 }

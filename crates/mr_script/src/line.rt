@@ -2,10 +2,11 @@
 ghost use Rattle.std.specs.Prelude.{◌≡◌, IfSome, IfNone, Some, true, false};
 ghost use Rattle.mr_script.specs.declared.command.Command as command;
 ghost use Rattle.mr_script.specs.Script.{rest_of, IsCommand, IsLine, IsBad};
-ghost use Rattle.mr_script.specs.Verb.{text_of, verb_of, is_of_master, is_of_node};
+ghost use Rattle.mr_script.specs.Verb.{text_of, verb_of, is_of_master, is_of_node, is_of_play};
 
 use crate::arguments::{calming, launching, stepping, with_fault, with_long, with_number};
 use crate::command::Command;
+use crate::expectation::expected;
 use crate::word::{container, long_number, number, split_once};
 use mr_event::Event;
 use mr_ids::JobId;
@@ -24,6 +25,8 @@ pub enum Verb {
     Restart,
     Expire,
     Calm,
+    Drop,
+    Expect,
 }
 
 /// The verb that the word is.
@@ -53,6 +56,10 @@ fn verb_named(word: &[u8]) -> Option<Verb>
         Some(Verb::Expire)
     } else if word == b"calm".as_slice() {
         Some(Verb::Calm)
+    } else if word == b"drop".as_slice() {
+        Some(Verb::Drop)
+    } else if word == b"expect".as_slice() {
+        Some(Verb::Expect)
     } else {
         None
     }
@@ -125,7 +132,7 @@ fn of_node(job: JobId, verb: Verb, rest: &[u8]) -> Option<Command>
 /// The command of a verb that tells a packet or a container.
 fn of_others(job: JobId, verb: Verb, rest: &[u8]) -> Option<Command>
     ensures some { IfSome result (λ c. IsCommand job c × (verb_of c ≡ Some verb) × (rest_of c ≡ rest.now)) }
-    ensures none { IfNone result (is_of_master verb ≡ false → is_of_node verb ≡ false → (c : command.Command) → IsCommand job c → verb_of c ≡ Some verb → rest_of c ≡ rest.now → ⊥) }
+    ensures none { IfNone result (is_of_master verb ≡ false → is_of_node verb ≡ false → is_of_play verb ≡ false → (c : command.Command) → IsCommand job c → verb_of c ≡ Some verb → rest_of c ≡ rest.now → ⊥) }
 {
     match verb {
         Verb::Deliver => match long_number(rest) {
@@ -150,6 +157,24 @@ fn of_others(job: JobId, verb: Verb, rest: &[u8]) -> Option<Command>
     }
 }
 
+/// The command of a verb of the play alone.
+fn of_play(job: JobId, verb: Verb, rest: &[u8]) -> Option<Command>
+    ensures some { IfSome result (λ c. IsCommand job c × (verb_of c ≡ Some verb) × (rest_of c ≡ rest.now)) }
+    ensures none { IfNone result (is_of_play verb ≡ true → (c : command.Command) → IsCommand job c → verb_of c ≡ Some verb → rest_of c ≡ rest.now → ⊥) }
+{
+    match verb {
+        Verb::Drop => match long_number(rest) {
+            Some(packet) => Some(Command::Drop(packet)),
+            None => None,
+        },
+        Verb::Expect => match expected(rest) {
+            Some(expectation) => Some(Command::Expect(expectation)),
+            None => None,
+        },
+        _ => None,
+    }
+}
+
 /// The command of a verb.
 fn with_rest(job: JobId, verb: Verb, rest: &[u8]) -> Option<Command>
     ensures some { IfSome result (λ c. IsCommand job c × (verb_of c ≡ Some verb) × (rest_of c ≡ rest.now)) }
@@ -159,6 +184,7 @@ fn with_rest(job: JobId, verb: Verb, rest: &[u8]) -> Option<Command>
         Verb::Start | Verb::Crash | Verb::Duty | Verb::Calm => of_master(job, verb, rest),
         Verb::Launch | Verb::Restart | Verb::Expire => of_node(job, verb, rest),
         Verb::Deliver | Verb::Step | Verb::Compute | Verb::Die => of_others(job, verb, rest),
+        Verb::Drop | Verb::Expect => of_play(job, verb, rest),
     }
 }
 

@@ -1,11 +1,14 @@
 //! The words of a line.
 ghost use Rattle.std.specs.Prelude.{◌≡◌, ◌≢◌, ◌<◌, ◌^◌, ℕ, ◌∷◌, ◌++◌, All, IfSome, IfNone, Some, None, decimal};
+ghost use Rattle.mr_ids.specs.Attempt.{Attempt};
+ghost use Rattle.mr_ids.specs.Text.{IsAttempt};
 ghost use Rattle.mr_packet.specs.declared.packet.ContainerId as container;
 ghost use Rattle.mr_script.specs.Lines.{before, after};
-ghost use Rattle.mr_script.specs.Script.{container_word, IsGeneration, IsContainer};
+ghost use Rattle.mr_script.specs.Script.{IsGeneration, IsContainer};
+ghost use Rattle.mr_script.specs.Words.{attempt_word, container_word};
 
 use itoa::Buffer;
-use mr_ids::AppAttempt;
+use mr_ids::{AppAttempt, AttemptId};
 use mr_packet::ContainerId;
 use std::str;
 
@@ -84,4 +87,18 @@ pub fn container(word: &[u8]) -> Option<ContainerId>
         return None;
     };
     Some(ContainerId { app, number })
+}
+
+/// The attempt that the word names, in its canonical spelling.
+pub fn attempt(word: &[u8]) -> Option<AttemptId>
+    ensures found { IfSome result (λ a. IsAttempt a × (word.now ≡ attempt_word a)) }
+    ensures only { (a : Attempt) → IsAttempt a → word.now ≡ attempt_word a → result ≡ Some a }
+{
+    let Ok(text) = str::from_utf8(word) else {
+        return None;
+    };
+    match AttemptId::parse(text) {
+        Ok(attempt) => Some(attempt),
+        Err(_) => None,
+    }
 }

@@ -1,12 +1,14 @@
 -- The faults of each subcommand are faults of the text.
-use Rattle.std.proofs.Common.{ℕ, List, Result, Ok, Err, IfErr}
+use Rattle.std.proofs.Common.{ℕ, Bool, List, Result, Ok, Err, IfErr}
 use Rattle.mr_world.specs.Limits.{within}
 use Rattle.mr_commands.specs.declared.fault.SimFault.{SimFault}
-use Rattle.mr_commands.specs.declared.fault.SimFault.TheVariants.{NoMemory, Read, Write, TooLong, BadCommand, BadRecord, Job, Refused, Full}
+use Rattle.mr_commands.specs.declared.fault.SimFault.TheVariants.{NoMemory, Read, Write, TooLong, BadCommand, BadRecord, Job, Refused, Full, JobFailed, TurnsSpent, JournalMismatch, Thread}
 use Rattle.mr_commands.specs.Faults.{CommitterFails, HistoryFails, SeqFails}
 use Rattle.mr_play.specs.declared.shown.Shown.{Shown}
 use Rattle.mr_play.specs.Text.{PlayFails}
-use Rattle.mr_sim.specs.declared.subcommand.Command.TheVariants.{Committer, Play, PlayShown, PlayDrawn, History, Seq}
+use Rattle.mr_sim.specs.declared.subcommand.Command.TheVariants.{Committer, Play, PlayShown, PlayDrawn, History, Seq, Threads, ThreadsSeen}
+use Rattle.mr_threads.specs.declared.seen.Seen.{Seen}
+use Rattle.mr_threads.specs.Text.{ShownFails, ThreadsFail}
 use Rattle.mr_sim.specs.Printed.{RefusesText}
 
 pub committer_fails : {A : Type 0} (input : List ℕ) (r : Result A SimFault) → IfErr r (CommitterFails input) → IfErr r (RefusesText Committer input)
@@ -20,6 +22,10 @@ committer_fails input (Err (BadRecord n)) h = h
 committer_fails input (Err (Job e)) h = h
 committer_fails input (Err Refused) h = h
 committer_fails input (Err Full) h = h
+committer_fails input (Err JobFailed) h = h
+committer_fails input (Err TurnsSpent) h = h
+committer_fails input (Err JournalMismatch) h = h
+committer_fails input (Err Thread) h = h
 
 pub history_fails : {A : Type 0} (input : List ℕ) (r : Result A SimFault) → IfErr r (HistoryFails input) → IfErr r (RefusesText History input)
 history_fails input (Ok x) h = h
@@ -32,6 +38,10 @@ history_fails input (Err (BadRecord n)) h = h
 history_fails input (Err (Job e)) h = h
 history_fails input (Err Refused) h = h
 history_fails input (Err Full) h = h
+history_fails input (Err JobFailed) h = h
+history_fails input (Err TurnsSpent) h = h
+history_fails input (Err JournalMismatch) h = h
+history_fails input (Err Thread) h = h
 
 pub play_fails : {A : Type 0} (input : List ℕ) (r : Result A SimFault) → IfErr r (PlayFails within input) → IfErr r (RefusesText Play input)
 play_fails input (Ok x) h = h
@@ -44,6 +54,10 @@ play_fails input (Err (BadRecord n)) h = h
 play_fails input (Err (Job e)) h = h
 play_fails input (Err Refused) h = h
 play_fails input (Err Full) h = h
+play_fails input (Err JobFailed) h = h
+play_fails input (Err TurnsSpent) h = h
+play_fails input (Err JournalMismatch) h = h
+play_fails input (Err Thread) h = h
 
 pub shown_fails : {A : Type 0} (shown : Shown) (input : List ℕ) (r : Result A SimFault) → IfErr r (PlayFails within input) → IfErr r (RefusesText (PlayShown shown) input)
 shown_fails shown input (Ok x) h = h
@@ -56,6 +70,10 @@ shown_fails shown input (Err (BadRecord n)) h = h
 shown_fails shown input (Err (Job e)) h = h
 shown_fails shown input (Err Refused) h = h
 shown_fails shown input (Err Full) h = h
+shown_fails shown input (Err JobFailed) h = h
+shown_fails shown input (Err TurnsSpent) h = h
+shown_fails shown input (Err JournalMismatch) h = h
+shown_fails shown input (Err Thread) h = h
 
 pub drawn_fails : {A : Type 0} (input : List ℕ) (r : Result A SimFault) → IfErr r (PlayFails within input) → IfErr r (RefusesText PlayDrawn input)
 drawn_fails input (Ok x) h = h
@@ -68,6 +86,10 @@ drawn_fails input (Err (BadRecord n)) h = h
 drawn_fails input (Err (Job e)) h = h
 drawn_fails input (Err Refused) h = h
 drawn_fails input (Err Full) h = h
+drawn_fails input (Err JobFailed) h = h
+drawn_fails input (Err TurnsSpent) h = h
+drawn_fails input (Err JournalMismatch) h = h
+drawn_fails input (Err Thread) h = h
 
 pub seq_fails : {A : Type 0} (input : List ℕ) (r : Result A SimFault) → IfErr r (SeqFails input) → IfErr r (RefusesText Seq input)
 seq_fails input (Ok x) h = h
@@ -80,3 +102,55 @@ seq_fails input (Err (BadRecord n)) h = h
 seq_fails input (Err (Job e)) h = h
 seq_fails input (Err Refused) h = h
 seq_fails input (Err Full) h = h
+seq_fails input (Err JobFailed) h = h
+seq_fails input (Err TurnsSpent) h = h
+seq_fails input (Err JournalMismatch) h = h
+seq_fails input (Err Thread) h = h
+
+pub threads_fails : {A : Type 0} (turns : ℕ) (hold : Bool) (input : List ℕ) (r : Result A SimFault) → IfErr r (ThreadsFail input) → IfErr r (RefusesText (Threads turns hold) input)
+threads_fails turns hold input (Ok x) h = h
+threads_fails turns hold input (Err NoMemory) h = h
+threads_fails turns hold input (Err Read) h = h
+threads_fails turns hold input (Err Write) h = h
+threads_fails turns hold input (Err TooLong) h = h
+threads_fails turns hold input (Err (BadCommand n)) h = h
+threads_fails turns hold input (Err (BadRecord n)) h = h
+threads_fails turns hold input (Err (Job e)) h = h
+threads_fails turns hold input (Err Refused) h = h
+threads_fails turns hold input (Err Full) h = h
+threads_fails turns hold input (Err JobFailed) h = h
+threads_fails turns hold input (Err TurnsSpent) h = h
+threads_fails turns hold input (Err JournalMismatch) h = h
+threads_fails turns hold input (Err Thread) h = h
+
+pub unrun_fails : {A : Type 0} (turns : ℕ) (hold : Bool) (input : List ℕ) (r : Result A SimFault) → IfErr r (ShownFails input) → IfErr r (RefusesText (Threads turns hold) input)
+unrun_fails turns hold input (Ok x) h = h
+unrun_fails turns hold input (Err NoMemory) h = h
+unrun_fails turns hold input (Err Read) h = h
+unrun_fails turns hold input (Err Write) h = h
+unrun_fails turns hold input (Err TooLong) h = h
+unrun_fails turns hold input (Err (BadCommand n)) h = h
+unrun_fails turns hold input (Err (BadRecord n)) h = h
+unrun_fails turns hold input (Err (Job e)) h = h
+unrun_fails turns hold input (Err Refused) h = h
+unrun_fails turns hold input (Err Full) h = h
+unrun_fails turns hold input (Err JobFailed) h = absurd h
+unrun_fails turns hold input (Err TurnsSpent) h = h
+unrun_fails turns hold input (Err JournalMismatch) h = h
+unrun_fails turns hold input (Err Thread) h = h
+
+pub seen_fails : {A : Type 0} (turns : ℕ) (hold : Bool) (seen : Seen) (input : List ℕ) (r : Result A SimFault) → IfErr r (ShownFails input) → IfErr r (RefusesText (ThreadsSeen turns hold seen) input)
+seen_fails turns hold seen input (Ok x) h = h
+seen_fails turns hold seen input (Err NoMemory) h = h
+seen_fails turns hold seen input (Err Read) h = h
+seen_fails turns hold seen input (Err Write) h = h
+seen_fails turns hold seen input (Err TooLong) h = h
+seen_fails turns hold seen input (Err (BadCommand n)) h = h
+seen_fails turns hold seen input (Err (BadRecord n)) h = h
+seen_fails turns hold seen input (Err (Job e)) h = h
+seen_fails turns hold seen input (Err Refused) h = h
+seen_fails turns hold seen input (Err Full) h = h
+seen_fails turns hold seen input (Err JobFailed) h = h
+seen_fails turns hold seen input (Err TurnsSpent) h = h
+seen_fails turns hold seen input (Err JournalMismatch) h = h
+seen_fails turns hold seen input (Err Thread) h = h

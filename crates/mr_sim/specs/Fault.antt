@@ -3,7 +3,7 @@ use Rattle.std.specs.Prelude.{ℕ}
 use Rattle.mr_sim.specs.declared.ending.Ending.{Ending}
 use Rattle.mr_sim.specs.declared.ending.Ending.TheVariants.{Done, Helped, RefusedWords, Failed}
 use Rattle.mr_commands.specs.declared.fault.SimFault.{SimFault}
-use Rattle.mr_commands.specs.declared.fault.SimFault.TheVariants.{NoMemory, Read, Write, TooLong, BadCommand, BadRecord, Job, Refused, Full}
+use Rattle.mr_commands.specs.declared.fault.SimFault.TheVariants.{NoMemory, Read, Write, TooLong, BadCommand, BadRecord, Job, Refused, Full, JobFailed, TurnsSpent, JournalMismatch, Thread}
 use Rattle.mr_commands.specs.Faults.{status_of}
 
 -- the exit status of the program by how it ended
@@ -24,3 +24,7 @@ IsReadFault (BadRecord n) = ⊥
 IsReadFault (Job e) = ⊥
 IsReadFault Refused = ⊥
 IsReadFault Full = ⊥
+IsReadFault JobFailed = ⊥
+IsReadFault TurnsSpent = ⊥
+IsReadFault JournalMismatch = ⊥
+IsReadFault Thread = ⊥

@@ -1,22 +1,33 @@
 -- Laws of the definitions.
 use Rattle.std.specs.Prelude.{ℕ, List}
 use Rattle.mr_commands.specs.declared.fault.SimFault.{SimFault}
-use Rattle.mr_commands.specs.declared.fault.SimFault.TheVariants.{NoMemory, Read, Write, TooLong, BadCommand, BadRecord, Job, Refused, Full}
+use Rattle.mr_commands.specs.declared.fault.SimFault.TheVariants.{NoMemory, Read, Write, TooLong, BadCommand, BadRecord, Job, Refused, Full, JobFailed, TurnsSpent, JournalMismatch, Thread}
 use Rattle.mr_sim.specs.declared.subcommand.Command.{Command}
+use Rattle.mr_sim.specs.declared.subcommand.Command.TheVariants.{Threads, ThreadsSeen}
 use Rattle.mr_sim.specs.Printed.{IsWithin, Prints, Refuses}
 
--- a fault that is not of the input itself
-abbrev pub IsOutside : SimFault → Type 0
-IsOutside NoMemory = Unit {0}
-IsOutside Read = Unit {0}
-IsOutside Write = Unit {0}
-IsOutside TooLong = ⊥
-IsOutside (BadCommand n) = ⊥
-IsOutside (BadRecord n) = ⊥
-IsOutside (Job e) = ⊥
-IsOutside Refused = ⊥
-IsOutside Full = ⊥
+-- threads run a job
+abbrev pub RunsThreads : Command → Type 0
+RunsThreads (Threads turns hold) = Unit {0}
+RunsThreads (ThreadsSeen turns hold seen) = Unit {0}
+RunsThreads _ = ⊥
+
+-- A fault that is not of the input itself. Where threads run a job, it depends on the schedule whether it fails, and whether there is a run.
+abbrev pub IsOutside : Command → SimFault → Type 0
+IsOutside command NoMemory = Unit {0}
+IsOutside command Read = Unit {0}
+IsOutside command Write = Unit {0}
+IsOutside command TooLong = ⊥
+IsOutside command (BadCommand n) = ⊥
+IsOutside command (BadRecord n) = ⊥
+IsOutside command (Job e) = ⊥
+IsOutside command Refused = ⊥
+IsOutside command Full = RunsThreads command
+IsOutside command JobFailed = RunsThreads command
+IsOutside command TurnsSpent = RunsThreads command
+IsOutside command JournalMismatch = RunsThreads command
+IsOutside command Thread = RunsThreads command
 
 -- No input is both printed and refused: where a subcommand prints a text, it answers no fault of the input itself.
 abbrev pub PrintedOrRefused : Type 0
-PrintedOrRefused = (command : Command) (input text : List ℕ) (f : SimFault) → IsWithin input → Prints command input text → Refuses command input f → IsOutside f
+PrintedOrRefused = (command : Command) (input text : List ℕ) (f : SimFault) → IsWithin input → Prints command input text → Refuses command input f → IsOutside command f

@@ -6,9 +6,9 @@ use Rattle.mr_script.specs.Lines.{lines_of}
 use Rattle.mr_world.specs.Limits.{within}
 use Rattle.mr_commands.specs.declared.fault.JobTextFault.{JobTextFault}
 use Rattle.mr_commands.specs.declared.fault.SimFault.{SimFault}
-use Rattle.mr_commands.specs.declared.fault.SimFault.TheVariants.{NoMemory, Read, Write, TooLong, BadCommand, BadRecord, Job, Refused, Full}
+use Rattle.mr_commands.specs.declared.fault.SimFault.TheVariants.{NoMemory, Read, Write, TooLong, BadCommand, BadRecord, Job, Refused, Full, JobFailed, TurnsSpent, JournalMismatch, Thread}
 use Rattle.mr_sim.specs.declared.subcommand.Command.{Command}
-use Rattle.mr_sim.specs.declared.subcommand.Command.TheVariants.{Committer, Play, PlayShown, PlayDrawn, History, Seq}
+use Rattle.mr_sim.specs.declared.subcommand.Command.TheVariants.{Committer, Play, PlayShown, PlayDrawn, History, Seq, Threads, ThreadsSeen}
 use Rattle.mr_commands.specs.committer.Script.{IsFirstBad}
 use Rattle.mr_commands.specs.committer.Text.{PrintsCommitter}
 use Rattle.mr_commands.specs.history.Text.{PrintsHistory}
@@ -16,6 +16,8 @@ use Rattle.mr_commands.specs.job.Text.{submission_of}
 use Rattle.mr_play.specs.Shown.{Shows, Draws}
 use Rattle.mr_play.specs.Text.{PrintsPlay, IsBadPlayJob, IsBadPlayLine, IsFullPlay}
 use Rattle.mr_commands.specs.seq.Text.{PrintsSeq, RefusesSeq}
+use Rattle.mr_threads.specs.Runs.{IsRead}
+use Rattle.mr_threads.specs.Text.{HasFailed, ShowsRun}
 
 -- ---- what is printed
 
@@ -27,6 +29,8 @@ Prints (PlayShown shown) input text = Shows within shown input text
 Prints PlayDrawn input text = Draws within input
 Prints History input text = PrintsHistory input text
 Prints Seq input text = PrintsSeq input text
+Prints (Threads turns hold) input text = PrintsSeq input text
+Prints (ThreadsSeen turns hold seen) input text = ShowsRun seen input text
 
 -- ---- what is refused
 
@@ -38,6 +42,8 @@ IsBadLine (PlayShown shown) input n = IsBadPlayLine input n
 IsBadLine PlayDrawn input n = IsBadPlayLine input n
 IsBadLine History input n = ⊥
 IsBadLine Seq input n = ⊥
+IsBadLine (Threads turns hold) input n = ⊥
+IsBadLine (ThreadsSeen turns hold seen) input n = ⊥
 
 -- the first whole line of a segment that is neither a record nor the version line at its head
 abbrev pub IsBadRecord : Command → List ℕ → ℕ → Type 0
@@ -47,6 +53,8 @@ IsBadRecord (PlayShown shown) input n = ⊥
 IsBadRecord PlayDrawn input n = ⊥
 IsBadRecord History input n = bad_line input ≡ Some n
 IsBadRecord Seq input n = ⊥
+IsBadRecord (Threads turns hold) input n = ⊥
+IsBadRecord (ThreadsSeen turns hold seen) input n = ⊥
 
 -- what is wrong with a job text
 abbrev pub IsBadJob : Command → List ℕ → JobTextFault → Type 0
@@ -56,6 +64,8 @@ IsBadJob (PlayShown shown) input e = IsBadPlayJob input e
 IsBadJob PlayDrawn input e = IsBadPlayJob input e
 IsBadJob History input e = ⊥
 IsBadJob Seq input e = submission_of input ≡ Err e
+IsBadJob (Threads turns hold) input e = submission_of input ≡ Err e
+IsBadJob (ThreadsSeen turns hold seen) input e = submission_of input ≡ Err e
 
 -- the job of a job text refuses a line of a split
 abbrev pub IsRefused : Command → List ℕ → Type 0
@@ -65,6 +75,8 @@ IsRefused (PlayShown shown) input = ⊥
 IsRefused PlayDrawn input = ⊥
 IsRefused History input = ⊥
 IsRefused Seq input = RefusesSeq input
+IsRefused (Threads turns hold) input = ⊥
+IsRefused (ThreadsSeen turns hold seen) input = ⊥
 
 -- an event of a run, or a work, passes a limit
 abbrev pub IsFull : Command → List ℕ → Type 0
@@ -74,6 +86,19 @@ IsFull (PlayShown shown) input = IsFullPlay within input
 IsFull PlayDrawn input = IsFullPlay within input
 IsFull History input = ⊥
 IsFull Seq input = ⊥
+IsFull (Threads turns hold) input = IsRead input
+IsFull (ThreadsSeen turns hold seen) input = IsRead input
+
+-- threads ran the job, and no success was told
+abbrev pub IsFailed : Command → List ℕ → Type 0
+IsFailed (Threads turns hold) input = HasFailed input
+IsFailed _ input = ⊥
+
+-- the job text is read, and threads are to run its job: whether there is a run depends on the threads
+abbrev pub IsToRun : Command → List ℕ → Type 0
+IsToRun (Threads turns hold) input = IsRead input
+IsToRun (ThreadsSeen turns hold seen) input = IsRead input
+IsToRun _ input = ⊥
 
 -- the text is formed or refused only of an input within the limit
 abbrev pub IsWithin : List ℕ → Type 0
@@ -91,6 +116,10 @@ Refuses command input (BadRecord n) = IsWithin input × IsBadRecord command inpu
 Refuses command input (Job e) = IsWithin input × IsBadJob command input e
 Refuses command input Refused = IsWithin input × IsRefused command input
 Refuses command input Full = IsWithin input × IsFull command input
+Refuses command input JobFailed = IsWithin input × IsFailed command input
+Refuses command input TurnsSpent = IsWithin input × IsToRun command input
+Refuses command input JournalMismatch = IsWithin input × IsToRun command input
+Refuses command input Thread = IsWithin input × IsToRun command input
 
 -- The text was written behind what the writer had.
 abbrev pub Writes : Command → List ℕ → Option (List ℕ) → Option (List ℕ) → Type 0
@@ -107,3 +136,7 @@ RefusesText command input (BadRecord n) = IsBadRecord command input n
 RefusesText command input (Job e) = IsBadJob command input e
 RefusesText command input Refused = IsRefused command input
 RefusesText command input Full = IsFull command input
+RefusesText command input JobFailed = IsFailed command input
+RefusesText command input TurnsSpent = IsToRun command input
+RefusesText command input JournalMismatch = IsToRun command input
+RefusesText command input Thread = IsToRun command input

@@ -47,4 +47,5 @@ pub use ending::{Ending, exit_status};
 pub use laws::printed_or_refused;
 pub use mr_commands::{JobTextFault, SimFault};
 pub use mr_play::Shown;
+pub use mr_threads::Seen;
 pub use subcommand::{Command, answer, run, run_streams};

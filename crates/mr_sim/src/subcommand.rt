@@ -1,12 +1,13 @@
 //! The subcommands, from what they read to what they write.
 ghost use Rattle.std.specs.Prelude.{◌≡◌, ◌≢◌, IfOk, IfErr, IfSome, OnOk};
-ghost use Rattle.std.specs.Io.KnownBytes.{Keeps};
+ghost use Rattle.std.specs.Io.KnownBytes.{Appends, Keeps};
 ghost use Rattle.mr_sim.specs.Printed.{Prints, Refuses, RefusesText, Writes};
 
 use crate::input::read_input;
 use mr_commands::{SimFault, committer_output, history_output, seq_output};
 use mr_picture::{play_drawn, play_shown};
 use mr_play::{Shown, play};
+use mr_threads::{Seen, threads_output, threads_seen, unthreaded};
 use std::alloc::Global;
 use std::io::{Read, Write};
 use std::rt::Clock;
@@ -28,13 +29,18 @@ pub enum Command {
     History,
     /// Runs the job of a job text sequentially, and prints its part files.
     Seq,
+    /// Runs the job of a job text by threads, with the faults that it plans, and prints its part files. Each thread has so many turns; the first map
+    /// work is held until the second has begun, where that is asked for.
+    Threads { turns: u64, hold: bool },
+    /// The same, and shows the run that happened in place of the part files.
+    ThreadsSeen { turns: u64, hold: bool, seen: Seen },
 }
 
 /// What a subcommand prints for its input: bytes to bytes, with no stream and no handle. It returns for every input.
 ///
 /// `BadCommand`, `BadRecord`, `Job`, `Refused` and `Full` come only where the input has that fault; `NoMemory` may come at
-/// any input. The faults of streams, `Read`, `Write` and `TooLong`, never come: what is too long is for whoever reads.
-#[tactic(auto, using(crate::proofs::Failing::committer_fails, crate::proofs::Failing::history_fails, crate::proofs::Failing::play_fails, crate::proofs::Failing::shown_fails, crate::proofs::Failing::drawn_fails, crate::proofs::Failing::seq_fails))]
+/// any input. Where a subcommand runs threads, there is no handle to make one: a job text that can be read is answered by `Thread`. The faults of streams, `Read`, `Write` and `TooLong`, never come: what is too long is for whoever reads.
+#[tactic(auto, using(crate::proofs::Failing::committer_fails, crate::proofs::Failing::history_fails, crate::proofs::Failing::play_fails, crate::proofs::Failing::shown_fails, crate::proofs::Failing::drawn_fails, crate::proofs::Failing::seq_fails, crate::proofs::Failing::unrun_fails, crate::proofs::Failing::seen_fails))]
 pub fn answer(alloc: Global, command: Command, input: &[u8]) -> Result<Vec<u8>, SimFault>
     // Ok: the text is what is printed for the input.
     ensures ok { IfOk result (λ v. Prints command input.now v.items) }
@@ -44,11 +50,43 @@ pub fn answer(alloc: Global, command: Command, input: &[u8]) -> Result<Vec<u8>, 
 {
     match command {
         Command::Committer => committer_output(alloc, input),
-        Command::Play => play(alloc, input),
-        Command::PlayShown(shown) => play_shown(alloc, input, shown),
-        Command::PlayDrawn => play_drawn(alloc, input),
+        Command::Play => Ok(play(alloc, input)?.text),
+        Command::PlayShown(shown) => Ok(play_shown(alloc, input, shown)?.text),
+        Command::PlayDrawn => Ok(play_drawn(alloc, input)?.text),
         Command::History => history_output(alloc, input),
         Command::Seq => seq_output(alloc, input),
+        Command::Threads { .. } | Command::ThreadsSeen { .. } => unthreaded(alloc, input),
+    }
+}
+
+// The same, with a handle that starts threads and waits.
+#[tactic(auto, using(crate::proofs::Failing::threads_fails, crate::proofs::Failing::seen_fails))]
+fn answer_with<H: AllocGlobal + Clock + Threads + Wait + Sync>(
+    rt: &H,
+    command: Command,
+    input: &[u8],
+) -> Result<Vec<u8>, SimFault>
+    ensures ok { IfOk result (λ v. Prints command input.now v.items) }
+    ensures fault { IfErr result (RefusesText command input.now) }
+{
+    match command {
+        Command::Threads { turns, hold } => threads_output(rt, input, turns, hold),
+        Command::ThreadsSeen { turns, hold, seen } => threads_seen(rt, input, turns, hold, seen),
+        _ => answer(rt.alloc(), command, input),
+    }
+}
+
+// Writes a whole text, and flushes it.
+fn write_text<W: Write>(writer: &mut W, text: &[u8]) -> Result<(), SimFault>
+    ensures ok { OnOk result (Appends (W.contents writer.old) (W.contents writer.new) text.now) }
+    ensures kind { IfErr result (λ e. e ≡ SimFault.Write) }
+{
+    match writer.write_all(text) {
+        Ok(()) => match writer.flush() {
+            Ok(()) => Ok(()),
+            Err(_) => Err(SimFault::Write),
+        },
+        Err(_) => Err(SimFault::Write),
     }
 }
 
@@ -77,18 +115,13 @@ pub fn run_streams<R: Read, W: Write>(
 {
     let input = read_input(alloc, reader)?;
     let text = answer(alloc, command, &input)?;
-    match writer.write_all(&text) {
-        Ok(()) => match writer.flush() {
-            Ok(()) => Ok(()),
-            Err(_) => Err(SimFault::Write),
-        },
-        Err(_) => Err(SimFault::Write),
-    }
+    write_text(writer, &text)
 }
 
-/// Runs a subcommand, with a handle that may start threads and wait: hands on to `run_streams`, with the same faults.
+/// Runs a subcommand over streams, with a handle that may start threads and wait: as `run_streams`, but that jobs are run by threads where the subcommand says so.
 ///
-/// A function with a handle that may wait owes no return by its contract; that `run_streams` returns is proved.
+/// There the faults are `JobFailed`, where a failure was told or the newest master stopped, and `TurnsSpent`, `JournalMismatch`, `Thread` and `Full`, as
+/// `mr_drive` has them. A function with a handle that may wait owes no return by its contract; that `run_streams` returns is proved.
 pub fn run<H: AllocGlobal + Clock + Threads + Wait + Sync, R: Read, W: Write>(
     rt: &H,
     command: &Command,
@@ -105,5 +138,7 @@ pub fn run<H: AllocGlobal + Clock + Threads + Wait + Sync, R: Read, W: Write>(
     // Only a failed write leaves anything in the writer.
     ensures nothing { IfErr result (λ e. e ≢ SimFault.Write → Keeps (W.contents writer.old) (W.contents writer.new)) }
 {
-    run_streams(rt.alloc(), *command, reader, writer)
+    let input = read_input(rt.alloc(), reader)?;
+    let text = answer_with(rt, *command, &input)?;
+    write_text(writer, &text)
 }

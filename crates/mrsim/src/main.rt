@@ -7,6 +7,7 @@ ghost use Rattle.mr_sim.specs.Fault.{exit_status_of};
 
 #[cfg(test)]
 mod tests;
+mod threads;
 mod words;
 
 use crate::words::{command_line, command_of, ending_of, file_of};

@@ -1,7 +1,7 @@
 //! What the command line takes, what it refuses, and its help.
 use crate::words::{command_line, command_of, ending_of, file_of};
 use clap::error::ErrorKind;
-use mr_sim::{Ending, Shown, exit_status};
+use mr_sim::{Ending, Seen, Shown, exit_status};
 use std::alloc::Global;
 use std::process::Abort;
 use std::test::Fail;
@@ -95,6 +95,81 @@ fn picture_words(rt: HostRuntime) -> Result<(), Fail> {
 }
 
 #[test]
+fn threads_words(rt: HostRuntime) -> Result<(), Fail> {
+    let alloc = rt.alloc();
+    let plain = named(alloc, &["mrsim", "threads"])?;
+    assert!(rt;
+        plain
+            == mr_sim::Command::Threads {
+                turns: 100_000,
+                hold: false
+            }
+    );
+    let held = named(
+        alloc,
+        &["mrsim", "threads", "--hold", "--turns", "1000000000"],
+    )?;
+    assert!(rt;
+        held == mr_sim::Command::Threads {
+            turns: 1_000_000_000,
+            hold: true
+        }
+    );
+    for turns in [
+        "0",
+        "1000000001",
+        "",
+        "x",
+        "-1",
+        "1.0",
+        "18446744073709551616",
+    ] {
+        refuses(&rt, alloc, &["mrsim", "threads", "--turns", turns]);
+    }
+    refuses(&rt, alloc, &["mrsim", "threads", "--turns"]);
+    refuses(&rt, alloc, &["mrsim", "seq", "--turns", "1"]);
+    Ok(())
+}
+
+#[test]
+fn seen_words(rt: HostRuntime) -> Result<(), Fail> {
+    let alloc = rt.alloc();
+    for (word, seen) in [
+        (
+            "--trace",
+            Seen::Shown(Shown {
+                trace: true,
+                history: false,
+            }),
+        ),
+        (
+            "--history",
+            Seen::Shown(Shown {
+                trace: false,
+                history: true,
+            }),
+        ),
+        ("--diagram", Seen::Drawn),
+        ("--script", Seen::Script),
+    ] {
+        let command = named(alloc, &["mrsim", "threads", word, "--turns", "7"])?;
+        assert!(rt;
+            command
+                == mr_sim::Command::ThreadsSeen {
+                    turns: 7,
+                    hold: false,
+                    seen
+                }
+        );
+    }
+    refuses(&rt, alloc, &["mrsim", "threads", "--diagram", "--script"]);
+    refuses(&rt, alloc, &["mrsim", "threads", "--trace", "--script"]);
+    refuses(&rt, alloc, &["mrsim", "threads", "--history", "--diagram"]);
+    refuses(&rt, alloc, &["mrsim", "play", "--script"]);
+    Ok(())
+}
+
+#[test]
 fn help(rt: HostRuntime) -> Result<(), Fail> {
     let alloc = rt.alloc();
     helps(&rt, alloc, &["mrsim", "--help"], "Statuses:")?;
@@ -107,6 +182,12 @@ fn help(rt: HostRuntime) -> Result<(), Fail> {
     )?;
     helps(&rt, alloc, &["mrsim", "play", "--help"], "calm K")?;
     helps(&rt, alloc, &["mrsim", "history", "--help"], "torn B")?;
+    helps(
+        &rt,
+        alloc,
+        &["mrsim", "threads", "--help"],
+        "mrsim threads --script job.json",
+    )?;
     helps(&rt, alloc, &["mrsim", "seq", "--help"], "== part-r-00001 4")
 }
 
@@ -126,6 +207,10 @@ fn help_in_words(rt: HostRuntime) -> Result<(), Fail> {
             &["mrsim", "history", "--help"],
         ),
         (&["mrsim", "help", "seq"], &["mrsim", "seq", "--help"]),
+        (
+            &["mrsim", "help", "threads"],
+            &["mrsim", "threads", "--help"],
+        ),
     ] {
         let help = told(&rt, alloc, word, ErrorKind::DisplayHelp)?;
         helps(&rt, alloc, option, help.as_str())?;
@@ -173,7 +258,7 @@ fn file_words(rt: HostRuntime) -> Result<(), Fail> {
 fn refused_words(rt: HostRuntime) {
     let alloc = rt.alloc();
     refuses(&rt, alloc, &["mrsim"]);
-    refuses(&rt, alloc, &["mrsim", "threads"]);
+    refuses(&rt, alloc, &["mrsim", "thread"]);
     refuses(&rt, alloc, &["mrsim", "comitter"]);
     refuses(&rt, alloc, &["mrsim", "--turns", "committer"]);
     refuses(&rt, alloc, &["mrsim", "history", "--hold"]);

@@ -2,6 +2,7 @@
 ghost use Rattle.std.specs.Prelude.{◌≡◌, ◌≢◌};
 ghost use Rattle.clap.specs.Words.{kind_of};
 
+use crate::threads::{threads_line, threads_of};
 use clap::error::ErrorKind;
 use clap::{Arg, ArgAction, ArgMatches, Command, Error};
 use mr_sim::{Ending, Shown, SimFault};
@@ -22,12 +23,14 @@ Each subcommand reads standard input, or FILE, to its end, and then writes stand
 
 Statuses:
   0  done
+  1  `mrsim: job failed`
   2  the command line was refused
   3  the input was refused: `mrsim: line N: bad command`, `mrsim: history: bad line N`,
      `mrsim: job: KEY`, `mrsim: refused`, `mrsim: input too long`
   4  a stream failed: `mrsim: read`, `mrsim: write`, or FILE: `mrsim: read: FILE`
   5  `mrsim: no memory`
-  7  `mrsim: full`";
+  6  `mrsim: turns spent`
+  7  `mrsim: full`, `mrsim: thread`, `mrsim: journal mismatch`";
 
 const COMMITTER: &str = "Runs a script of committer calls and lists the directory that they leave";
 
@@ -125,7 +128,8 @@ Reads a job text from standard input, one JSON object with these keys:
             after E events, {\"after\":E,\"master\":B} crashes the master and keeps B bytes of its unflushed history,
             {\"after\":E,\"expire\":N} has the newest master give node N up
   v2from    from which generation of the master on history is of version 2, 1 to 1000 (1 where there is no such key)
-All keys are tested in this order, and the first bad one is told; `seq` uses the first four, `play` all but `faults`.
+All keys are tested in this order, and the first bad one is told; `seq` uses the first four, `play` all but `faults`,
+`threads` all.
 Writes for each reduce a line with the name and the length of its part file, and then the file.
 
 Example:
@@ -136,22 +140,25 @@ prints (with a tab between a word and its count)
   == part-r-00001 4
   a 2";
 
-const HISTORY_SHOWN: &str = "Shows each master's history behind the rest";
+/// What `--history` shows.
+pub const HISTORY_SHOWN: &str = "Shows each master's history behind the rest";
 
-const DRAWN: &str = "Prints a picture of the run (SVG) in place of the rest";
+/// What `--diagram` shows.
+pub const DRAWN: &str = "Prints a picture of the run (SVG) in place of the rest";
 
-const TRACE_SHOWN: &str = "Shows each event, with the packets that it added, before the rest";
+/// What `--trace` shows.
+pub const TRACE_SHOWN: &str = "Shows each event, with the packets that it added, before the rest";
 
-// A word that asks for more.
-fn shows<'a>(alloc: Global, name: &'a str, help: &'a str) -> Arg<'a> {
+/// A word that asks for more.
+pub fn shows<'a>(alloc: Global, name: &'a str, help: &'a str) -> Arg<'a> {
     Arg::new(alloc, name)
         .long(name)
         .action(ArgAction::SetTrue)
         .help(help)
 }
 
-// The file to be read, which may be left out.
-fn read_file<'a>(alloc: Global) -> Arg<'a> {
+/// The file to be read, which may be left out.
+pub fn read_file<'a>(alloc: Global) -> Arg<'a> {
     Arg::new(alloc, FILE).action(ArgAction::Set).help(FILE_HELP)
 }
 
@@ -187,6 +194,7 @@ pub fn command_line<'a>(alloc: Global) -> Result<Command<'a>, AllocError> {
         .subcommand_required(true)
         .subcommand(committer)?
         .subcommand(play)?
+        .subcommand(threads_line(alloc)?)?
         .subcommand(history)?
         .subcommand(seq)
 }
@@ -195,6 +203,7 @@ pub fn command_line<'a>(alloc: Global) -> Result<Command<'a>, AllocError> {
 pub fn command_of(matches: &ArgMatches<'_>) -> mr_sim::Command {
     match matches.subcommand() {
         Some(("play", words)) => play_of(words),
+        Some(("threads", words)) => threads_of(words),
         Some(("history", _)) => mr_sim::Command::History,
         Some(("seq", _)) => mr_sim::Command::Seq,
         _ => mr_sim::Command::Committer,
@@ -229,15 +238,20 @@ pub fn ending_of(error: &Error) -> Ending
     }
 }
 
+/// Whether a trace, and the history, are asked for.
+pub fn shown_of(words: &ArgMatches<'_>) -> Shown {
+    Shown {
+        trace: words.get_flag("trace"),
+        history: words.get_flag("history"),
+    }
+}
+
 // What of a run is shown.
 fn play_of(words: &ArgMatches<'_>) -> mr_sim::Command {
     if words.get_flag("diagram") {
         return mr_sim::Command::PlayDrawn;
     }
-    let shown = Shown {
-        trace: words.get_flag("trace"),
-        history: words.get_flag("history"),
-    };
+    let shown = shown_of(words);
     if shown.trace || shown.history {
         mr_sim::Command::PlayShown(shown)
     } else {

@@ -586,6 +586,10 @@ fn statuses(rt: HostRuntime) -> Result<(), Fail> {
         (SimFault::Write, 4, "mrsim: write"),
         (SimFault::NoMemory, 5, "mrsim: no memory"),
         (SimFault::Full, 7, "mrsim: full"),
+        (SimFault::JobFailed, 1, "mrsim: job failed"),
+        (SimFault::TurnsSpent, 6, "mrsim: turns spent"),
+        (SimFault::JournalMismatch, 7, "mrsim: journal mismatch"),
+        (SimFault::Thread, 7, "mrsim: thread"),
     ];
     for (fault, status, text) in faults {
         assert_eq!(rt; fault.status(), status);

@@ -6,6 +6,8 @@ mod committer;
 #[cfg(test)]
 mod examples;
 #[cfg(test)]
+mod expectations;
+#[cfg(test)]
 mod pictures;
 #[cfg(test)]
 mod play;

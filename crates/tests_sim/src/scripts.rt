@@ -1,9 +1,10 @@
 //! Scripts of a run.
 
 use mr_event::Event;
-use mr_ids::JobId;
+use mr_ids::{AttemptId, JobId};
 use mr_script::{
-    Command, EventName, ScriptFault, commands_of, generation, long_number, number, split_once,
+    Command, EventName, Expectation, ScriptFault, attempt, commands_of, generation, long_number,
+    number, split_once,
 };
 use std::alloc::Global;
 use std::process::Abort;
@@ -82,6 +83,91 @@ fn bad_commands_of_scripts(rt: HostRuntime) {
     ];
     for line in lines {
         assert!(rt; is_bad(rt.alloc(), line, 2));
+    }
+}
+
+#[test]
+fn drops_and_expectations_are_read(rt: HostRuntime) {
+    let text = b"drop 18446744073709551615\n\
+expect r 4294967295 none\n\
+expect r 0 attempt_200707121733_0003_r_000000_999999\n\
+expect marker yes\n\
+expect marker no\n\
+expect outcome succeeded\n\
+expect outcome failed\n\
+expect outcome none";
+    let Ok(commands) = read(rt.alloc(), text.as_slice()) else {
+        panic!(rt; "not read");
+    };
+    assert!(rt; commands.len() == 8 && commands[7].0 == 9);
+    assert!(rt; matches!(&commands[0].1, Command::Drop(u64::MAX)));
+    let last = AttemptId::parse("attempt_200707121733_0003_r_000000_999999").ok();
+    let expected = [
+        Expectation::Winner(u32::MAX, None),
+        Expectation::Winner(0, last),
+        Expectation::Marker(true),
+        Expectation::Marker(false),
+        Expectation::Outcome(Some(true)),
+        Expectation::Outcome(Some(false)),
+        Expectation::Outcome(None),
+    ];
+    for (place, one) in expected.iter().enumerate() {
+        let Some((_, Command::Expect(read))) = commands.get(place + 1) else {
+            panic!(rt; "no expectation");
+        };
+        assert!(rt; read == one);
+    }
+}
+
+// Each word of these commands, misspelt, missing, or one too many.
+#[test]
+fn bad_drops_and_expectations(rt: HostRuntime) {
+    let lines: [&[u8]; 24] = [
+        b"drop",
+        b"dorp 1",
+        b"drop -1",
+        b"drop 01",
+        b"drop 18446744073709551616",
+        b"drop 1 2",
+        b"drop 1.0",
+        b"expect",
+        b"expects marker yes",
+        b"expect reduce 0 none",
+        b"expect r",
+        b"expect r 0",
+        b"expect r 00 none",
+        b"expect r 4294967296 none",
+        b"expect r 0 nobody",
+        b"expect r 0 attempt_200707121733_0003_r_00000_0",
+        b"expect r 0 none none",
+        b"expect m 0 none",
+        b"expect marker",
+        b"expect marker maybe",
+        b"expect marker yes ",
+        b"expect  marker yes",
+        b"expect outcome success",
+        b"expect outcome",
+    ];
+    for line in lines {
+        assert!(rt; is_bad(rt.alloc(), line, 2));
+    }
+}
+
+// An attempt is read in its canonical spelling alone.
+#[test]
+fn attempts_of_words(rt: HostRuntime) {
+    let read = attempt(b"attempt_200707121733_0003_m_000005_0");
+    assert!(rt;
+        read == AttemptId::parse("attempt_200707121733_0003_m_000005_0").ok() && read.is_some()
+    );
+    let words: [&[u8]; 4] = [
+        b"",
+        b"none",
+        b"attempt_200707121733_0003_m_00005_0",
+        b"attempt_200707121733_0003_m_000005_\xff",
+    ];
+    for word in words {
+        assert!(rt; attempt(word).is_none());
     }
 }
 

@@ -5,7 +5,7 @@ use Rattle.mr_ids.specs.Text.{IsTask}
 use Rattle.mr_script.specs.Lines.{before, after}
 use Rattle.mr_commands.specs.committer.Script.{task_word, NamesNone}
 use Rattle.mr_script.proofs.Words.{before-by, after-by, none-after}
-use Rattle.mr_commands.proofs.committer.Attempts.{no_space-task_word}
+use Rattle.mr_commands.proofs.committer.Tasks.{no_space-task_word}
 
 lacks : (more : List ℕ) → None ≡ Some more → ⊥
 lacks more e = absurd (cc)

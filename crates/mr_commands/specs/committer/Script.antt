@@ -3,18 +3,15 @@
 use Rattle.std.specs.Prelude.{◌≡◌, ◌<◌, ◌^◌, ℕ, List, ◌∷◌, ◌++◌, Option, Some, None, codes, decimal}
 use Rattle.mr_ids.specs.Attempt.{Attempt}
 use Rattle.mr_ids.specs.declared.id.TaskId.{TaskId}
-use Rattle.mr_ids.specs.Text.{task_text, attempt_text, IsTask, IsAttempt}
+use Rattle.mr_ids.specs.Text.{task_text, IsTask, IsAttempt}
 use Rattle.mr_ids.specs.declared.id.TaskKind.TheVariants.{Reduce}
 use Rattle.mr_script.specs.Lines.{IsNoLine, AreLines, IsFirstNoLine}
 use Rattle.mr_script.specs.Script.{IsGeneration}
+use Rattle.mr_script.specs.Words.{attempt_word}
 use Rattle.mr_commands.specs.declared.committer.command.ScriptCommand.{ScriptCommand}
 use Rattle.mr_commands.specs.declared.committer.command.ScriptCommand.TheVariants.{As, Raise, Check, Setup, Write, Needs, Commit, Abort, Recover, CommitJob, AbortJob, Bar, By}
 
--- the word that names an attempt: its canonical spelling
-unfoldable pub attempt_word : Attempt → List ℕ
-attempt_word a = attempt_text a
-
--- the word that names a task
+-- the word that names a task: its canonical spelling
 unfoldable pub task_word : TaskId → List ℕ
 task_word t = task_text t
 

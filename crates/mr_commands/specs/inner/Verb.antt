@@ -4,7 +4,8 @@ use Rattle.mr_commands.specs.declared.committer.command.Verb.{Verb}
 use Rattle.mr_commands.specs.declared.committer.command.Verb.TheVariants as verb
 use Rattle.mr_commands.specs.declared.committer.command.ScriptCommand.{ScriptCommand}
 use Rattle.mr_commands.specs.declared.committer.command.ScriptCommand.TheVariants.{As, Raise, Check, Setup, Write, Needs, Commit, Abort, Recover, CommitJob, AbortJob, Bar, By}
-use Rattle.mr_commands.specs.committer.Script.{attempt_word, recovery_words, caller_word}
+use Rattle.mr_script.specs.Words.{attempt_word}
+use Rattle.mr_commands.specs.committer.Script.{recovery_words, caller_word}
 
 abbrev pub verb_text : Verb → List ℕ
 verb_text verb.As = codes "as"

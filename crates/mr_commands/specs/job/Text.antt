@@ -131,6 +131,10 @@ Fails (faults.BadCommand n) said = ⊥
 Fails (faults.BadRecord n) said = ⊥
 Fails faults.Refused said = ⊥
 Fails faults.Full said = ⊥
+Fails faults.JobFailed said = ⊥
+Fails faults.TurnsSpent said = ⊥
+Fails faults.JournalMismatch said = ⊥
+Fails faults.Thread said = ⊥
 
 -- reading gives what the definition says
 abbrev pub Gives : {X : Type 0} → Result X SimFault → Result X JobTextFault → Type 0

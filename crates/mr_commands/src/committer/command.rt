@@ -3,13 +3,14 @@
 ghost use Rattle.std.specs.Prelude.{◌≡◌, ℕ, List, ◌∷◌, ◌++◌, IfSome, IfNone, IfOk, Option, Some, None};
 ghost use Rattle.mr_ids.specs.Attempt.{Attempt};
 ghost use Rattle.mr_ids.specs.Text.{IsTask, IsAttempt};
-ghost use Rattle.mr_commands.specs.committer.Script.{attempt_word, task_word, caller_word, IsCaller, IsCommand, IsLine, IsBad};
+ghost use Rattle.mr_script.specs.Words.{attempt_word};
+ghost use Rattle.mr_commands.specs.committer.Script.{task_word, caller_word, IsCaller, IsCommand, IsLine, IsBad};
 ghost use Rattle.mr_commands.specs.committer.Script.{NamesNone};
 ghost use Rattle.mr_commands.specs.inner.Verb.{verb_of, verb_text, rest_of};
 
 use mr_ids::{AppAttempt, AttemptId, TaskId, TaskKind};
 use mr_names::Bytes;
-use mr_script::{generation, number, split_once};
+use mr_script::{attempt, generation, number, split_once};
 use std::alloc::{AllocError, Global};
 use std::str;
 
@@ -95,20 +96,6 @@ fn verb_named(word: &[u8]) -> Option<Verb>
         Some(Verb::By)
     } else {
         None
-    }
-}
-
-/// The attempt that the word names.
-fn attempt(word: &[u8]) -> Option<AttemptId>
-    ensures found { IfSome result (λ a. IsAttempt a × (word.now ≡ attempt_word a)) }
-    ensures only { (a : Attempt) → IsAttempt a → word.now ≡ attempt_word a → result ≡ Some a }
-{
-    let Ok(text) = str::from_utf8(word) else {
-        return None;
-    };
-    match AttemptId::parse(text) {
-        Ok(attempt) => Some(attempt),
-        Err(_) => None,
     }
 }
 

@@ -11,7 +11,8 @@ use crate::picture::rest::{deliveries, left_out};
 use crate::picture::rows::{
     Facts, event_of, facts_of, name_label, put_consequences, put_detail, sign_of,
 };
-use crate::trace::opened;
+use crate::seats::put_seat;
+use crate::trace::{Makers, opened};
 use crate::trace_words::{put_address, put_packet};
 use mr_commands::SimFault;
 use mr_event::Event;
@@ -20,14 +21,24 @@ use mr_world::World;
 use std::alloc::{AllocError, Global};
 
 /// The drawing of the events of a world's journal, with what came of them.
-pub fn drawing_of(alloc: Global, world: &World, ending: Vec<u8>) -> Result<Drawing, SimFault>
+pub fn drawing_of(
+    alloc: Global,
+    world: &World,
+    makers: &Makers<'_>,
+    ending: Vec<u8>,
+) -> Result<Drawing, SimFault>
     ensures { IfErr result (λ e. e ≡ SimFault.NoMemory) }
 {
-    let drawing = shown(alloc, world, ending)?;
+    let drawing = shown(alloc, world, makers, ending)?;
     Ok(drawing)
 }
 
-fn shown(alloc: Global, world: &World, ending: Vec<u8>) -> Result<Drawing, AllocError> {
+fn shown(
+    alloc: Global,
+    world: &World,
+    makers: &Makers<'_>,
+    ending: Vec<u8>,
+) -> Result<Drawing, AllocError> {
     let journal = world.journal();
     let part = shown_part(alloc, world)?;
     let ways = deliveries(alloc, journal, part.bag().len())?;
@@ -37,7 +48,7 @@ fn shown(alloc: Global, world: &World, ending: Vec<u8>) -> Result<Drawing, Alloc
     let mut again = begun(alloc, world)?;
     live(&mut drawing.lanes, &again, 0, End::Over);
     for event in journal.iter().take(MOST_ROWS) {
-        add(alloc, &mut drawing, &mut again, &ways, event)?;
+        add(alloc, &mut drawing, &mut again, &ways, event, makers)?;
     }
     Ok(drawing)
 }
@@ -90,11 +101,15 @@ fn add(
     world: &mut World,
     ways: &[Delivery],
     event: &Event,
+    makers: &Makers<'_>,
 ) -> Result<(), AllocError> {
     let place = drawing.rows.len();
     let end = end_at(world, event);
     let before = facts_of(world, event)?;
     let mut row = row_of(alloc, &drawing.lanes, world, event)?;
+    if matches!(makers, Makers::Threads) {
+        put_seat(&mut row.words, world, event)?;
+    }
     let first = world.bag().len();
     row.leftwards = arrive(drawing, event, place)?;
     happen(world, event)?;

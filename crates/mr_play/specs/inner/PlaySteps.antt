@@ -10,7 +10,8 @@ use Rattle.mr_commands.specs.declared.fault.SimFault.{SimFault}
 use Rattle.mr_commands.specs.declared.fault.SimFault.TheVariants as fault
 use Rattle.mr_play.specs.declared.player.Player.{Player}
 use Rattle.mr_commands.specs.declared.job.submission.Submission.{Submission}
-use Rattle.mr_play.specs.Text.{config_of, line_of_winner, played_of}
+use Rattle.mr_play.specs.Text.{config_of, played_of}
+use Rattle.mr_play.specs.WorldText.{line_of_winner}
 use Rattle.mr_play.specs.inner.Player.{state_in}
 
 -- a script is not read: its first bad line, where line 2 of the input is its first, or an allocation failure

@@ -1,5 +1,5 @@
 -- What the calls of a player promise: what the definitions say of a script (our own profile).
-use Rattle.std.specs.Prelude.{◌≡◌, ◌<◌, ◌≤◌, ◌+◌, ◌%◌, ◌^◌, ℕ, suc, Bool, true, false, List, [], ◌∷◌, Option, Some, None, Result, Ok, Err, IfSome, length}
+use Rattle.std.specs.Prelude.{◌≡◌, ◌+◌, ◌%◌, ℕ, suc, Bool, true, false, List, [], ◌∷◌, Option, Some, None, Result, Ok, Err, IfSome}
 use Rattle.std.specs.Option.{option_and_then, option_to_list}
 use Rattle.mr_packet.specs.declared.packet.ContainerId.{ContainerId}
 use Rattle.mr_event.specs.declared.why.Why.{Why}
@@ -25,7 +25,7 @@ use Rattle.mr_play.specs.Played.{Played, Next, calmed, calms, computing, taken}
 -- ---- how far a player is
 
 abbrev pub state_in : Player → Played
-state_in p = record { events = p.world.events; cursor = p.cursor; stepped = p.stepped; refused = p.refused.items }
+state_in p = record { events = p.world.events; cursor = p.cursor; dropped = p.dropped.keys; stepped = p.stepped; told = p.told.items; met = p.met }
 
 abbrev pub cluster_in : Player → World
 cluster_in p = world_in p.world

@@ -7,4 +7,4 @@ pub loop-cursor-preserved : goal.loop-cursor-preserved
 loop-cursor-preserved c =
     let w = world_in c.args.world.now in
     let below : c.loop-cursor.cursor < length w.bag = omega (arith, c.loop-cursor-test.true, ap length c.bag.ensures) in
-    cursor_goes w c.loop-cursor.cursor c.in-Some.field-0 below (sym c.undeliverable.ensures ∙ c.in-Some.is) ∙ c.loop-cursor.invariant
+    cursor_goes w c.args.dropped.now.keys c.loop-cursor.cursor below (sym c.is_passed.ensures ∙ c.if-not-is_passed.false) ∙ c.loop-cursor.invariant

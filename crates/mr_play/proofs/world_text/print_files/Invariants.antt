@@ -1,6 +1,6 @@
 use Rattle.std.proofs.Common.{◌≡◌, ◌++◌, map, take, flat_map}
 use Rattle.mr_world.specs.VisibleFiles.{as_pair}
-use Rattle.mr_play.specs.Text.{visible_text}
+use Rattle.mr_play.specs.WorldText.{visible_text}
 use Rattle.mr_play.proofs.world_text.print_files.Given as goal
 
 abbrev pub invariant-loop-file : goal.invariant-loop-file

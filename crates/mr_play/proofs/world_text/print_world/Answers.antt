@@ -2,7 +2,7 @@ use Rattle.std.proofs.Common.{◌++◌, ◌∙◌, ap, map}
 use Rattle.std.specs.List.{flat_map}
 use Rattle.mr_world.specs.Journal.{world_in}
 use Rattle.mr_world.specs.VisibleFiles.{as_pair}
-use Rattle.mr_play.specs.Text.{visible_text}
+use Rattle.mr_play.specs.WorldText.{visible_text}
 use Rattle.mr_play.specs.inner.PlaySteps.{winners_text}
 use Rattle.mr_play.proofs.WorldText.{world-is-printed}
 use Rattle.mr_play.proofs.world_text.print_world.Goals as goal

@@ -1,6 +1,6 @@
 use Rattle.std.specs.Prelude.{◌≡◌, ℕ, List, decimal, Option, Some, None}
 use Rattle.mr_script.specs.declared.event_name.EventName.{EventName}
-use Rattle.mr_script.specs.Script.{stop_words}
+use Rattle.mr_script.specs.Words.{stop_words}
 use Rattle.mr_script.proofs.Words.{one-word, more-words}
 use Rattle.mr_script.proofs.Numbers.{no-space, low}
 use Rattle.mr_script.proofs.arguments.calming.Goals as goal

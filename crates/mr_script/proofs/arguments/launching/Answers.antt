@@ -1,5 +1,5 @@
 use Rattle.std.specs.Prelude.{decimal}
-use Rattle.mr_script.specs.Script.{task_words}
+use Rattle.mr_script.specs.Words.{task_words}
 use Rattle.mr_script.proofs.Words.{front-is, rest-is, no-cut}
 use Rattle.mr_script.proofs.Numbers.{no-space, low}
 use Rattle.mr_script.proofs.arguments.launching.Goals as goal

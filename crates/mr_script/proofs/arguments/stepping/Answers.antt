@@ -1,4 +1,4 @@
-use Rattle.mr_script.specs.Script.{fault_word, container_word}
+use Rattle.mr_script.specs.Words.{fault_word, container_word}
 use Rattle.mr_script.proofs.Words.{one-word, more-words}
 use Rattle.mr_script.proofs.Numbers.{container-no-space}
 use Rattle.mr_script.proofs.arguments.stepping.Goals as goal

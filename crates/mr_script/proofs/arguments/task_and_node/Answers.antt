@@ -1,6 +1,6 @@
 use Rattle.std.proofs.Common.{arith}
 use Rattle.std.specs.Prelude.{decimal, ◌++◌, ◌∷◌}
-use Rattle.mr_script.specs.Script.{kind_word}
+use Rattle.mr_script.specs.Words.{kind_word}
 use Rattle.mr_script.proofs.Words.{front-is, rest-is, no-cut}
 use Rattle.mr_script.proofs.Numbers.{no-space, kind-no-space}
 use Rattle.mr_script.proofs.arguments.task_and_node.Goals as goal

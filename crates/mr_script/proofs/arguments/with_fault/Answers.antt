@@ -1,5 +1,5 @@
 use Rattle.std.specs.Prelude.{decimal}
-use Rattle.mr_script.specs.Script.{fault_word}
+use Rattle.mr_script.specs.Words.{fault_word}
 use Rattle.mr_script.proofs.Words.{one-word, more-words}
 use Rattle.mr_script.proofs.Numbers.{no-space, low}
 use Rattle.mr_script.proofs.arguments.with_fault.Goals as goal

@@ -2,7 +2,7 @@ use Rattle.std.proofs.Common.{◌≡◌, Ok, sym, ◌∙◌, rules}
 use Rattle.std.specs.Prelude.{IsUtf8}
 use Rattle.std.proofs.lemmas.Str.{IsUtf8-from_ascii}
 use Rattle.mr_commands.specs.committer.Script.{task_word}
-use Rattle.mr_commands.proofs.committer.Attempts.{IsAscii-task_word}
+use Rattle.mr_commands.proofs.committer.Tasks.{IsAscii-task_word}
 use Rattle.mr_commands.proofs.committer.command.task.Goals as goal
 
 pub returns-in_default-clause-only : goal.returns-in_default-clause-only

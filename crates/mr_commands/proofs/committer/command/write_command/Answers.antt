@@ -1,7 +1,7 @@
 use Rattle.std.proofs.Common.{◌≡◌, Some, None, sym, ap, ◌∙◌}
 use Rattle.mr_script.specs.Lines.{before, after}
-use Rattle.mr_commands.specs.committer.Script.{attempt_word}
-use Rattle.mr_commands.proofs.committer.Attempts.{no_space-attempt_word}
+use Rattle.mr_script.specs.Words.{attempt_word}
+use Rattle.mr_script.proofs.Attempts.{no_space-attempt_word}
 use Rattle.mr_script.proofs.Words.{before-by, after-by}
 use Rattle.mr_commands.proofs.committer.command.write_command.Goals as goal
 

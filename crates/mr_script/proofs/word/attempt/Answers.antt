@@ -1,9 +1,9 @@
 use Rattle.std.proofs.Common.{◌≡◌, Ok, sym, ◌∙◌, rules}
 use Rattle.std.specs.Prelude.{IsUtf8}
 use Rattle.std.proofs.lemmas.Str.{IsUtf8-from_ascii}
-use Rattle.mr_commands.specs.committer.Script.{attempt_word}
-use Rattle.mr_commands.proofs.committer.Attempts.{IsAscii-attempt_word}
-use Rattle.mr_commands.proofs.committer.command.attempt.Goals as goal
+use Rattle.mr_script.specs.Words.{attempt_word}
+use Rattle.mr_script.proofs.Attempts.{IsAscii-attempt_word}
+use Rattle.mr_script.proofs.word.attempt.Goals as goal
 
 pub returns-in_default-clause-only : goal.returns-in_default-clause-only
 returns-in_default-clause-only c a h e =

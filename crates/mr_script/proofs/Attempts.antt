@@ -8,16 +8,15 @@ use Rattle.std.proofs.lemmas.List.Folds.{list_all-append}
 use Rattle.std.proofs.lemmas.Str.Ascii.{IsAscii-nil, IsAscii-cons}
 use Rattle.std.proofs.lemmas.Bool.Decides.{nat_tests}
 use Rattle.mr_ids.specs.Attempt.{Attempt}
-use Rattle.mr_ids.specs.declared.id.TaskId.{TaskId}
-use Rattle.mr_ids.specs.Text.{numeral, letter, task_text, attempt_text}
+use Rattle.mr_ids.specs.Text.{numeral, letter, attempt_text}
 use Rattle.mr_ids.specs.declared.id.TaskKind.{TaskKind}
 use Rattle.mr_ids.specs.declared.id.TaskKind.TheVariants.{Map, Reduce}
 use Rattle.mr_ids.proofs.Numerals.{numeral_digits}
-use Rattle.mr_ids.proofs.Texts.{task_text_injective, attempt_text_injective}
-use Rattle.mr_commands.specs.committer.Script.{attempt_word, task_word}
+use Rattle.mr_ids.proofs.Texts.{attempt_text_injective}
+use Rattle.mr_script.specs.Words.{attempt_word}
 
 -- more than a space, and ASCII
-abbrev plain : ℕ → Bool
+abbrev pub plain : ℕ → Bool
 plain b = nat_lt 32 b && nat_lt b 128
 
 plain_digit : (b : ℕ) → is_ascii_digit b ≡ true → plain b ≡ true
@@ -40,14 +39,14 @@ plain_digits : (ds : List ℕ) → list_all is_ascii_digit ds ≡ true → list_
 plain_digits [] h = refl
 plain_digits (d ∷ ds) h = both (plain d) (list_all plain ds) (plain_digit d (first (is_ascii_digit d) (list_all is_ascii_digit ds) h)) (plain_digits ds (second (is_ascii_digit d) (list_all is_ascii_digit ds) h))
 
-plain_numeral : (width n : ℕ) → list_all plain (numeral width n) ≡ true
+pub plain_numeral : (width n : ℕ) → list_all plain (numeral width n) ≡ true
 plain_numeral width n = plain_digits (numeral width n) (numeral_digits width n)
 
-plain_letter : (k : TaskKind) → list_all plain (letter k) ≡ true
+pub plain_letter : (k : TaskKind) → list_all plain (letter k) ≡ true
 plain_letter Map = refl
 plain_letter Reduce = refl
 
-more : (xs ys : List ℕ) → list_all plain xs ≡ true → list_all plain ys ≡ true → list_all plain (xs ++ ys) ≡ true
+pub more : (xs ys : List ℕ) → list_all plain xs ≡ true → list_all plain ys ≡ true → list_all plain (xs ++ ys) ≡ true
 more xs ys g h = list_all-append plain xs ys ∙ both _ _ g h
 
 plain_text : (a : Attempt) → list_all plain (attempt_text a) ≡ true
@@ -58,7 +57,7 @@ plain_text a =
     let b = more (numeral 4 a.task.job.number) (95 ∷ (letter a.task.kind ++ 95 ∷ (numeral 6 a.task.number ++ 95 ∷ numeral 1 a.number))) (plain_numeral 4 a.task.job.number) c in
     more (numeral 1 a.task.job.start) (95 ∷ (numeral 4 a.task.job.number ++ 95 ∷ (letter a.task.kind ++ 95 ∷ (numeral 6 a.task.number ++ 95 ∷ numeral 1 a.number)))) (plain_numeral 1 a.task.job.start) b
 
-no_space : (bs : List ℕ) → list_all plain bs ≡ true → AllByRecursion (λ b. b ≢ 32) bs
+pub no_space : (bs : List ℕ) → list_all plain bs ≡ true → AllByRecursion (λ b. b ≢ 32) bs
 no_space [] h = tt
 no_space (b ∷ bs) h = (here b (first (plain b) (list_all plain bs) h), no_space bs (second (plain b) (list_all plain bs) h))
   where
@@ -68,7 +67,7 @@ no_space (b ∷ bs) h = (here b (first (plain b) (list_all plain bs) h), no_spac
 below : (b : ℕ) → plain b ≡ true → b < 128
 below b h = grind (arith, nat_tests)
 
-ascii : (bs : List ℕ) → list_all plain bs ≡ true → IsAscii bs
+pub ascii : (bs : List ℕ) → list_all plain bs ≡ true → IsAscii bs
 ascii [] h = IsAscii-nil
 ascii (b ∷ bs) h = IsAscii-cons b bs (below b (first (plain b) (list_all plain bs) h)) (ascii bs (second (plain b) (list_all plain bs) h))
 
@@ -83,27 +82,6 @@ IsAscii-attempt_word a = ascii (attempt_text a) (plain_text a)
 pub attempt_word-injective : (a b : Attempt) → attempt_word a ≡ attempt_word b → a ≡ b
 unfolding attempt_word
 attempt_word-injective a b e = attempt_text_injective a b e
-
--- ---- the word that names a task
-
-plain_task : (t : TaskId) → list_all plain (task_text t) ≡ true
-plain_task t =
-    let d = plain_numeral 6 t.number in
-    let c = more (letter t.kind) (95 ∷ numeral 6 t.number) (plain_letter t.kind) d in
-    let b = more (numeral 4 t.job.number) (95 ∷ (letter t.kind ++ 95 ∷ numeral 6 t.number)) (plain_numeral 4 t.job.number) c in
-    more (numeral 1 t.job.start) (95 ∷ (numeral 4 t.job.number ++ 95 ∷ (letter t.kind ++ 95 ∷ numeral 6 t.number))) (plain_numeral 1 t.job.start) b
-
-pub no_space-task_word : (t : TaskId) → AllByRecursion (λ b. b ≢ 32) (task_word t)
-unfolding task_word
-no_space-task_word t = no_space (task_text t) (plain_task t)
-
-pub IsAscii-task_word : (t : TaskId) → IsAscii (task_word t)
-unfolding task_word
-IsAscii-task_word t = ascii (task_text t) (plain_task t)
-
-pub task_word-injective : (t u : TaskId) → task_word t ≡ task_word u → t ≡ u
-unfolding task_word
-task_word-injective t u e = task_text_injective t u e
 
 -- no attempt is named as the lack of one is
 pub attempt_word-none : (a : Attempt) → attempt_word a ≢ codes "none"

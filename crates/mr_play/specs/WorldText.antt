@@ -1,0 +1,41 @@
+-- What `play` prints of a cluster (our own profile; the part files' names are Hadoop's).
+use Rattle.std.specs.Prelude.{ℕ, Bool, List, [], ◌∷◌, ◌++◌, Option, codes, decimal}
+use Rattle.std.specs.List.{flat_map, range_with_len}
+use Rattle.mr_ids.specs.Attempt.{Attempt}
+use Rattle.mr_script.specs.Expected.{winner_word, marker_word, outcome_word}
+use Rattle.mr_model.specs.Ids.{Name, marker, reduce_of}
+use Rattle.mr_model.specs.Content.{entry_at, is_file}
+use Rattle.mr_model.specs.Packets.{Config}
+use Rattle.mr_model.specs.World.{World}
+use Rattle.mr_model.specs.Claims.{winner}
+use Rattle.mr_model.specs.Results.{outcome, visible}
+use Rattle.mr_commands.specs.seq.PartFiles.{file_text}
+
+-- a line for a reduce: its winner, if it has one
+abbrev pub line_of_winner : ℕ → Option Attempt → List ℕ
+line_of_winner r found = codes "r " ++ decimal r ++ 32 ∷ winner_word found ++ 10 ∷ []
+
+abbrev pub winner_line : Config → World → ℕ → List ℕ
+winner_line cfg w r = line_of_winner r (winner w (reduce_of cfg.job r))
+
+abbrev pub line_of_marker : Bool → List ℕ
+line_of_marker there = codes "marker " ++ marker_word there ++ 10 ∷ []
+
+abbrev pub marker_line : World → List ℕ
+marker_line w = line_of_marker (is_file (entry_at w.content marker))
+
+abbrev pub line_of_outcome : Option Bool → List ℕ
+line_of_outcome told = codes "outcome " ++ outcome_word told ++ 10 ∷ []
+
+abbrev pub outcome_line : World → List ℕ
+outcome_line w = line_of_outcome (outcome w)
+
+-- a visible file
+abbrev pub visible_text : Name × List ℕ → List ℕ
+visible_text f = file_text f.0 f.1
+
+-- winners by reduce, the marker, the outcome, and the visible files by rising name
+unfoldable pub world_text : Config → World → List ℕ
+world_text cfg w =
+    flat_map (winner_line cfg w) (range_with_len 0 cfg.reduces)
+    ++ marker_line w ++ outcome_line w ++ flat_map visible_text (visible w)

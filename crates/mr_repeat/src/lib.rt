@@ -1,0 +1,18 @@
+//! The script that repeats a run: for each event of a journal the line of a script that makes it again.
+//!
+//! # What is proved
+//!
+//! - **`put_script`**: for every list of events, it writes exactly their commands, a line each (`repeating`). Bytes that were computed are told by `compute`
+//!   alone: a script hands in what the job's definition gives for the container's input.
+//! - `put_comments` writes exactly the lines of a text as comments (`commented`).
+//!
+//! Only tested: that `play` of such a script comes to the same end.
+#![tactic(auto)]
+
+mod comment;
+mod line;
+mod script;
+mod word;
+
+pub use comment::put_comments;
+pub use script::put_script;

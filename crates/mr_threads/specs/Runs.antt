@@ -1,0 +1,43 @@
+-- A run that threads made of a job: a list of events that came to its end, whatever the schedule was (our own profile).
+use Rattle.std.specs.Prelude.{◌≡◌, Bool, true, ℕ, List, map, Some, None, Ok}
+use Rattle.mr_model.specs.Claims.{IsMarked}
+use Rattle.mr_model.specs.Packets.{Config}
+use Rattle.mr_model.specs.Results.{outcome, visible}
+use Rattle.mr_model.specs.Sequential.{Job, IsFaithful}
+use Rattle.mr_sequential.specs.Shown.{ShowsSequential}
+use Rattle.mr_world.specs.Journal.{Journal, world_in}
+use Rattle.mr_world.specs.Limits.{within}
+use Rattle.mr_world.specs.VisibleFiles.{as_pair}
+use Rattle.mr_drive.specs.Reports.{IsThrough}
+use Rattle.mr_drive.specs.declared.report.Report.{Report}
+use Rattle.mr_commands.specs.declared.job.submission.Submission.{Submission}
+use Rattle.mr_commands.specs.job.Submission.{IsWithinLimits}
+use Rattle.mr_commands.specs.job.Text.{submission_of}
+use Rattle.mr_play.specs.Text.{job_as, config_of}
+
+-- a run of a job: each result in it is what the job's functions give, and an outcome was told or the newest master is Stopped
+pub record IsRun (job : Job) (config : Config) (j : Journal) : Type 0 where
+  pub config_is : j.config ≡ config
+  pub faithful : IsFaithful job j.config (within j.config) j.events
+  pub through : IsThrough j
+  -- where the success marker is, a reader sees the files of the sequential execution, and nothing else
+  pub marked : IsMarked (world_in j) → ShowsSequential job j.config (world_in j)
+
+-- a report of a run: it succeeded exactly where success was told, and then with the files of the sequential execution; its files are what a reader sees
+pub record IsReportOf (job : Job) (config : Config) (r : Report) : Type 0 where
+  pub run : IsRun job config r.world
+  pub told : r.succeeded ≡ true → outcome (world_in r.world) ≡ Some true
+  pub tells : outcome (world_in r.world) ≡ Some true → r.succeeded ≡ true
+  pub seen : map as_pair r.files.items ≡ visible (world_in r.world)
+  pub sequential : r.succeeded ≡ true → ShowsSequential job r.world.config (world_in r.world)
+
+-- the job text says a job
+pub record IsRead (input : List ℕ) : Type 0 where
+  pub job : Submission
+  pub said : submission_of input ≡ Ok job
+
+-- a report of a run of the job that the job text says
+pub record Reports (input : List ℕ) (r : Report) : Type 0 where
+  pub job : Submission
+  pub said : submission_of input ≡ Ok job
+  pub is : IsReportOf (job_as job.job) (config_of job) r

@@ -1,0 +1,81 @@
+-- What `threads` shows of a run, and why there is none (our own profile). Where the job succeeded it prints what `seq` prints.
+use Rattle.std.specs.Prelude.{◌≡◌, true, false, ℕ, List, [], ◌++◌, Some, Ok, Err}
+use Rattle.mr_model.specs.Claims.{IsMarked}
+use Rattle.mr_model.specs.Results.{outcome}
+use Rattle.mr_world.specs.Journal.{Journal, world_in}
+use Rattle.mr_commands.specs.declared.fault.SimFault.{SimFault}
+use Rattle.mr_commands.specs.declared.fault.SimFault.TheVariants.{NoMemory, Job, Full, JobFailed, TurnsSpent, JournalMismatch, Thread}
+use Rattle.mr_commands.specs.declared.job.submission.Submission.{Submission}
+use Rattle.mr_commands.specs.job.Text.{submission_of}
+use Rattle.mr_commands.specs.seq.Text.{PrintsSeq}
+use Rattle.mr_play.specs.declared.shown.Shown.{Shown}
+use Rattle.mr_play.specs.Faithful.{IsMarkedText}
+use Rattle.mr_play.specs.Shown.{IsHistory}
+use Rattle.mr_play.specs.Text.{config_of, job_as}
+use Rattle.mr_play.specs.WorldText.{world_text}
+use Rattle.mr_repeat.specs.Repeating.{commented, repeating}
+use Rattle.mr_threads.specs.Runs.{IsRead, IsRun}
+use Rattle.mr_threads.specs.declared.seen.Seen.{Seen}
+use Rattle.mr_threads.specs.declared.seen.Seen.TheVariants as seen
+
+-- ---- what is shown of a run
+
+-- what `play` prints of the run
+abbrev pub text_of_run : Journal → List ℕ
+text_of_run j = world_text j.config (world_in j)
+
+-- with something before it only where a trace is asked for, and behind it the history where that is, else nothing
+pub record TellsRun (shown : Shown) (j : Journal) (text : List ℕ) : Type 0 where
+  pub before : List ℕ
+  pub behind : List ℕ
+  pub untraced : shown.trace ≡ false → before ≡ []
+  pub plain : shown.history ≡ false → behind ≡ []
+  pub history : shown.history ≡ true → IsHistory (world_in j) behind
+  pub is : text ≡ before ++ (text_of_run j ++ behind)
+
+-- Of a picture nothing is said. A script has the commands of the run's events, and then what `play` prints of the run, as comments.
+abbrev pub Tells : Seen → Journal → List ℕ → Type 0
+Tells (seen.Shown shown) j text = TellsRun shown j text
+Tells seen.Drawn j text = Unit {0}
+Tells seen.Script j text = text ≡ repeating j.events ++ commented (text_of_run j)
+
+-- where the marker is, the files that `play` prints of the run are those that `seq` prints for the job text
+pub record TellsFilesOfSeq (input : List ℕ) (j : Journal) : Type 0 where
+  pub files : List ℕ
+  pub prints : PrintsSeq input files
+  pub is : IsMarkedText (text_of_run j) files
+
+-- the text shows a run of the job that the job text says
+pub record ShowsRun (seen : Seen) (input text : List ℕ) : Type 0 where
+  pub job : Submission
+  pub said : submission_of input ≡ Ok job
+  pub run : Journal
+  pub is : IsRun (job_as job.job) (config_of job) run
+  pub tells : Tells seen run text
+  pub files : IsMarked (world_in run) → TellsFilesOfSeq input run
+
+-- ---- why nothing is printed
+
+-- a run of the job in which no success was told
+pub record HasFailed (input : List ℕ) : Type 0 where
+  pub job : Submission
+  pub said : submission_of input ≡ Ok job
+  pub run : Journal
+  pub is : IsRun (job_as job.job) (config_of job) run
+  pub failed : outcome (world_in run) ≡ Some true → ⊥
+
+-- The first bad key of the job text is told, else that there is no run to be shown: turns are spent, the seats do not account for the journal, a thread can't be made or a
+-- limit is passed. An allocation failure may come at any input.
+abbrev pub ShownFails : List ℕ → SimFault → Type 0
+ShownFails input NoMemory = Unit {0}
+ShownFails input (Job e) = submission_of input ≡ Err e
+ShownFails input Full = IsRead input
+ShownFails input TurnsSpent = IsRead input
+ShownFails input JournalMismatch = IsRead input
+ShownFails input Thread = IsRead input
+ShownFails input _ = ⊥
+
+-- the same where only a success is printed
+abbrev pub ThreadsFail : List ℕ → SimFault → Type 0
+ThreadsFail input JobFailed = HasFailed input
+ThreadsFail input e = ShownFails input e

@@ -1,0 +1,119 @@
+//! The job of a job text, run by threads.
+ghost use Rattle.std.specs.Prelude.{◌≡◌, IfOk, IfErr};
+ghost use Rattle.mr_user.specs.Computation.{computation};
+ghost use Rattle.mr_sequential.specs.Jobs.{job_of};
+ghost use Rattle.mr_commands.specs.job.Submission.{IsWithinLimits};
+ghost use Rattle.mr_play.specs.Text.{config_of, job_as};
+ghost use Rattle.mr_threads.specs.Runs.{IsReportOf, Reports};
+ghost use Rattle.mr_threads.specs.Text.{ShownFails};
+ghost use Rattle.mr_threads.specs.inner.{IsOfThreads};
+
+use mr_commands::{JobKind, SimFault, Submission, read_job_text};
+use mr_drive::{DriveFault, PairGate, Plan, Report, drive};
+use mr_sequential::{jobs_have_their_laws, marked_worlds_show_sequential_files};
+use mr_user::{Job, LineIndex, MaxByKey, OpenGate, WordCount};
+use mr_world::Config;
+use std::alloc::AllocGlobal;
+use std::rt::Clock;
+use std::sync::Wait;
+use std::thread::Threads;
+
+/// How the threads are run.
+#[derive(Clone, Copy, Debug, PartialEq, Eq)]
+pub(crate) struct Manner {
+    /// So many turns has each thread.
+    pub(crate) turns: u64,
+    /// Whether the first map work is held until the second has begun, for at most so many looks as there are turns.
+    pub(crate) hold: bool,
+}
+
+/// What came of a job text whose job threads ran.
+pub(crate) fn driven<H: AllocGlobal + Clock + Threads + Wait + Sync>(
+    rt: &H,
+    input: &[u8],
+    manner: Manner,
+) -> Result<Report, SimFault>
+    ensures ok { IfOk result (Reports input.now) }
+    ensures fault { IfErr result (ShownFails input.now) }
+{
+    let submission = read_job_text(rt.alloc(), input)?;
+    let kind = submission.job;
+    driven_as(rt, kind, &plan_of(submission), manner)
+}
+
+// Runs a plan for a job of this kind.
+#[tactic(auto, unfolding(mr_play::specs::Text::job_as))]
+fn driven_as<H: AllocGlobal + Clock + Threads + Wait + Sync>(
+    rt: &H,
+    kind: JobKind,
+    plan: &Plan,
+    manner: Manner,
+) -> Result<Report, SimFault>
+    ensures ok { IfOk result (IsReportOf (job_as kind) plan.now.config) }
+    ensures fault { IfErr result IsOfThreads }
+{
+    match kind {
+        JobKind::WordCount => driven_by(rt, &WordCount, plan, manner),
+        JobKind::MaxByKey => driven_by(rt, &MaxByKey, plan, manner),
+        JobKind::LineIndex => driven_by(rt, &LineIndex, plan, manner),
+    }
+}
+
+// What is to be driven for a submission.
+fn plan_of(submission: Submission) -> Plan
+    requires { IsWithinLimits submission }
+    ensures { result.config ≡ config_of submission }
+{
+    Plan {
+        config: Config {
+            job: submission.id,
+            splits: submission.splits,
+            reduces: submission.reduces,
+            nodes: submission.nodes,
+            limit: submission.limit,
+            v2_from: submission.v2_from,
+        },
+        faults: submission.faults,
+    }
+}
+
+// Runs a plan for a job, with a gate that holds or with one that is open.
+fn driven_by<H: AllocGlobal + Clock + Threads + Wait + Sync, J: Job + Send + Sync>(
+    rt: &H,
+    job: &J,
+    plan: &Plan,
+    manner: Manner,
+) -> Result<Report, SimFault>
+where
+    J::Key: Send + Sync,
+    J::Value: Send + Sync,
+    ensures ok { IfOk result (IsReportOf (job_of (computation J.Key.cmp J.Key.codec J.Value.codec J.functions)) plan.now.config) }
+    ensures fault { IfErr result IsOfThreads }
+{
+    jobs_have_their_laws::<J>();
+    marked_worlds_show_sequential_files();
+    plan.config.ranges();
+    let turns = manner.turns;
+    let ran = if manner.hold {
+        drive(rt, rt.alloc(), job, &PairGate::new(rt, turns), plan, turns)
+    } else {
+        drive(rt, rt.alloc(), job, &OpenGate, plan, turns)
+    };
+    match ran {
+        Ok(report) => Ok(report),
+        Err(fault) => Err(fault_of(fault)),
+    }
+}
+
+// What the program calls a fault of the threads.
+fn fault_of(fault: DriveFault) -> SimFault
+    ensures { IsOfThreads result }
+{
+    match fault {
+        DriveFault::TurnsSpent => SimFault::TurnsSpent,
+        DriveFault::JournalMismatch => SimFault::JournalMismatch,
+        DriveFault::Thread => SimFault::Thread,
+        DriveFault::Full => SimFault::Full,
+        DriveFault::NoMemory => SimFault::NoMemory,
+    }
+}

@@ -1,0 +1,55 @@
+//! What `threads` prints.
+ghost use Rattle.std.specs.Prelude.{◌≡◌, IfOk, IfErr, map};
+ghost use Rattle.std.specs.List.{flat_map};
+ghost use Rattle.mr_world.specs.VisibleFiles.{as_pair};
+ghost use Rattle.mr_commands.specs.seq.Text.{PrintsSeq};
+ghost use Rattle.mr_play.specs.WorldText.{visible_text};
+ghost use Rattle.mr_threads.specs.Text.{ShownFails, ThreadsFail};
+
+use crate::driven::{Manner, driven};
+use mr_commands::{SimFault, print_file, read_job_text};
+use mr_world::VisibleFile;
+use std::alloc::{AllocError, AllocGlobal, Global};
+use std::rt::Clock;
+use std::sync::Wait;
+use std::thread::Threads;
+
+/// What `threads` prints for a job text: the part files of the job, which threads ran. It is what `seq` prints for the text.
+///
+/// `Job` names the first bad key of the job text. `JobFailed`: a failure was told, or the newest master stopped. `TurnsSpent`, `JournalMismatch`, `Thread` and `Full`
+/// are those of `mr_drive`. `NoMemory` may come at any text; no other fault comes.
+pub fn threads_output<H: AllocGlobal + Clock + Threads + Wait + Sync>(
+    rt: &H,
+    input: &[u8],
+    turns: u64,
+    hold: bool,
+) -> Result<Vec<u8>, SimFault>
+    ensures ok { IfOk result (λ v. PrintsSeq input.now v.items) }
+    ensures fault { IfErr result (ThreadsFail input.now) }
+{
+    let report = driven(rt, input, Manner { turns, hold })?;
+    if !report.succeeded {
+        return Err(SimFault::JobFailed);
+    }
+    Ok(files_text(rt.alloc(), &report.files)?)
+}
+
+// Files as they are printed.
+fn files_text(alloc: Global, files: &[VisibleFile]) -> Result<Vec<u8>, AllocError>
+    ensures { IfOk result (λ text. text.items ≡ flat_map visible_text (map as_pair files.now)) }
+{
+    let mut text = Vec::new(alloc);
+    for file in files {
+        print_file(&mut text, file.name.as_bytes(), file.bytes.as_slice())?;
+    }
+    Ok(text)
+}
+
+/// What `threads` answers where there is no handle that starts threads: what is wrong with the job text, else `Thread`.
+pub fn unthreaded(alloc: Global, input: &[u8]) -> Result<Vec<u8>, SimFault>
+    ensures { IfErr result (ShownFails input.now) }
+    ensures none { IfOk result (λ _. ⊥) }
+{
+    let _submission = read_job_text(alloc, input)?;
+    Err(SimFault::Thread)
+}

@@ -1,0 +1,84 @@
+//! What is shown of a run that threads made.
+ghost use Rattle.std.specs.Prelude.{◌≡◌, ◌++◌, IfOk, IfErr};
+ghost use Rattle.mr_commands.specs.declared.fault.SimFault.TheVariants.{NoMemory};
+ghost use Rattle.mr_threads.specs.Text.{ShownFails, ShowsRun, Tells, TellsRun, text_of_run};
+ghost use Rattle.mr_repeat.specs.Repeating.{commented, repeating};
+
+use crate::driven::{Manner, driven};
+use mr_commands::SimFault;
+use mr_picture::{Makers, drawn, trace_of};
+use mr_play::{Shown, print_histories, print_world};
+use mr_repeat::{put_comments, put_script};
+use mr_world::World;
+use std::alloc::{AllocGlobal, Global};
+use std::rt::Clock;
+use std::sync::Wait;
+use std::thread::Threads;
+
+/// What is shown of a run in place of the job's part files.
+#[derive(Clone, Copy, Debug, PartialEq, Eq)]
+pub enum Seen {
+    /// What `play` would print of it, with a trace before it and the history behind it, where they are asked for.
+    Shown(Shown),
+    /// A picture of it.
+    Drawn,
+    /// The script by which `play` repeats it, and behind that what `play` prints then, as comments.
+    Script,
+}
+
+/// What `threads` shows of the run that happened, whether the job succeeded or failed. The faults are those of `threads_output`, without `JobFailed`.
+pub fn threads_seen<H: AllocGlobal + Clock + Threads + Wait + Sync>(
+    rt: &H,
+    input: &[u8],
+    turns: u64,
+    hold: bool,
+    seen: Seen,
+) -> Result<Vec<u8>, SimFault>
+    ensures ok { IfOk result (λ v. ShowsRun seen input.now v.items) }
+    ensures fault { IfErr result (ShownFails input.now) }
+{
+    let report = driven(rt, input, Manner { turns, hold })?;
+    seen_of(rt.alloc(), &report.world, seen)
+}
+
+// What is shown of a world's run.
+fn seen_of(alloc: Global, world: &World, seen: Seen) -> Result<Vec<u8>, SimFault>
+    ensures text { IfOk result (λ v. Tells seen world.now v.items) }
+    ensures memory { IfErr result (λ e. e ≡ NoMemory) }
+{
+    match seen {
+        Seen::Shown(shown) => shown_of(alloc, world, shown),
+        Seen::Drawn => drawn(alloc, world, &Makers::Threads, &[]),
+        Seen::Script => scripted(alloc, world),
+    }
+}
+
+// What `play` prints of a world, with what is asked for before it and behind it.
+fn shown_of(alloc: Global, world: &World, shown: Shown) -> Result<Vec<u8>, SimFault>
+    ensures text { IfOk result (λ v. TellsRun shown world.now v.items) }
+    ensures memory { IfErr result (λ e. e ≡ NoMemory) }
+{
+    let mut text = if shown.trace {
+        trace_of(alloc, world, &Makers::Threads)?
+    } else {
+        Vec::new(alloc)
+    };
+    print_world(&mut text, world)?;
+    if shown.history {
+        print_histories(&mut text, world)?;
+    }
+    Ok(text)
+}
+
+// The script of a world's run, and what `play` prints of it, as comments.
+fn scripted(alloc: Global, world: &World) -> Result<Vec<u8>, SimFault>
+    ensures text { IfOk result (λ v. v.items ≡ repeating world.now.events ++ commented (text_of_run world.now)) }
+    ensures memory { IfErr result (λ e. e ≡ NoMemory) }
+{
+    let mut ending = Vec::new(alloc);
+    print_world(&mut ending, world)?;
+    let mut text = Vec::new(alloc);
+    put_script(&mut text, world.journal())?;
+    put_comments(&mut text, &ending)?;
+    Ok(text)
+}

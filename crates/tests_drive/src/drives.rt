@@ -1,0 +1,223 @@
+ghost use Rattle.mr_commands.specs.job.Submission.{IsWithinLimits};
+
+use mr_commands::{Submission, read_job_text};
+use mr_drive::{DriveFault, PairGate, Plan, Report, drive};
+use mr_event::Event;
+use mr_ids::TaskKind;
+use mr_user::{Gate, GateFault, MaxByKey, OpenGate, WordCount};
+use mr_world::Config;
+use std::alloc::Global;
+use std::process::Abort;
+use std::sync::atomic::{AtomicU64, Ordering};
+use std::test::*;
+use std::thread;
+
+const TURNS: u64 = 100_000;
+
+// The one file of each job of `a`, `a`, `b` here.
+const TEXT: &[u8] = b"a\t2\nb\t1\n";
+
+// The plan of a job text with these parts.
+fn plan(rt: &impl Abort, alloc: Global, parts: &str) -> Plan {
+    let text = format!(in alloc;
+        "{{\"id\":\"job_200707121733_0003\",\"reduces\":1,{parts}}}"
+    ).expect(rt, "no memory");
+    match read_job_text(alloc, text.as_bytes()) {
+        Ok(submission) => planned(submission),
+        Err(_) => panic!(rt; "no job text"),
+    }
+}
+
+// What a submission asks for.
+fn planned(submission: Submission) -> Plan
+    requires { IsWithinLimits submission }
+{
+    Plan {
+        config: Config {
+            job: submission.id,
+            splits: submission.splits,
+            reduces: submission.reduces,
+            nodes: submission.nodes,
+            limit: submission.limit,
+            v2_from: submission.v2_from,
+        },
+        faults: submission.faults,
+    }
+}
+
+fn is_counted(report: &Report) -> bool {
+    report.succeeded && report.files.len() == 1 && report.files[0].bytes.as_slice() == TEXT
+}
+
+#[test]
+fn threads_hold(rt: HostRuntime) -> Result<(), Fail> {
+    let two = plan(
+        &rt,
+        rt.alloc(),
+        r#""job":"wordcount","splits":["a b","a"],"nodes":2"#,
+    );
+    let report = drive(
+        &rt,
+        rt.alloc(),
+        &WordCount,
+        &PairGate::new(&rt, TURNS),
+        &two,
+        TURNS,
+    )
+    .map_err(|_| "a fault")?;
+    assert!(rt; is_counted(&report));
+    let one = plan(&rt, rt.alloc(), r#""job":"wordcount","splits":["a b","a"]"#);
+    let fault = drive(
+        &rt,
+        rt.alloc(),
+        &WordCount,
+        &PairGate::new(&rt, 100),
+        &one,
+        TURNS,
+    )
+    .err();
+    assert!(rt; fault == Some(DriveFault::TurnsSpent));
+    Ok(())
+}
+
+#[test]
+fn threads_with_faults(rt: HostRuntime) -> Result<(), Fail> {
+    let plan = plan(
+        &rt,
+        rt.alloc(),
+        r#""job":"wordcount","splits":["a b a"],"faults":[{"after":12,"node":0}]"#,
+    );
+    let report = drive(&rt, rt.alloc(), &WordCount, &OpenGate, &plan, TURNS).map_err(
+        |_| "a fault",
+    )?;
+    assert!(rt; is_counted(&report));
+    assert!(rt; report.world.journal()[12] == Event::NodeRestart { node: 0 });
+    let fault = drive(&rt, rt.alloc(), &WordCount, &OpenGate, &plan, 1).err();
+    assert!(rt; fault == Some(DriveFault::TurnsSpent));
+    Ok(())
+}
+
+#[test]
+fn a_master_crashes_at_once(rt: HostRuntime) -> Result<(), Fail> {
+    let plan = plan(
+        &rt,
+        rt.alloc(),
+        r#""job":"wordcount","splits":["a b a"],"faults":[{"after":1,"master":0}]"#,
+    );
+    let report = drive(&rt, rt.alloc(), &WordCount, &OpenGate, &plan, TURNS).map_err(
+        |_| "a fault",
+    )?;
+    assert!(rt; is_counted(&report));
+    assert!(rt;
+        report.world.journal()[1]
+            == Event::Crash {
+                generation: 1,
+                kept: 0
+            }
+    );
+    assert!(rt;
+        report.world.journal()[2]
+            == Event::Start {
+                generation: 2,
+                kept: 0
+            }
+    );
+    Ok(())
+}
+
+#[test]
+fn threads_with_expiry(rt: HostRuntime) -> Result<(), Fail> {
+    let plan = plan(
+        &rt,
+        rt.alloc(),
+        r#""job":"wordcount","splits":["a b a"],"faults":[{"after":12,"expire":0}]"#,
+    );
+    let report = drive(&rt, rt.alloc(), &WordCount, &OpenGate, &plan, TURNS).map_err(
+        |_| "a fault",
+    )?;
+    assert!(rt; is_counted(&report));
+    assert!(rt;
+        report.world.journal()[12]
+            == Event::Expire {
+                generation: 1,
+                node: 0
+            }
+    );
+    Ok(())
+}
+
+#[test]
+fn a_fault_that_never_comes_is_dropped(rt: HostRuntime) -> Result<(), Fail> {
+    let plan = plan(
+        &rt,
+        rt.alloc(),
+        r#""job":"wordcount","splits":["a b a"],"faults":[{"after":1000000,"node":0}]"#,
+    );
+    let report = drive(&rt, rt.alloc(), &WordCount, &OpenGate, &plan, TURNS).map_err(
+        |_| "a fault",
+    )?;
+    assert!(rt; is_counted(&report));
+    Ok(())
+}
+
+#[test]
+fn a_job_that_refuses_fails(rt: HostRuntime) -> Result<(), Fail> {
+    let plan = plan(&rt, rt.alloc(), r#""job":"maxbykey","splits":["x"]"#);
+    let report = drive(&rt, rt.alloc(), &MaxByKey, &OpenGate, &plan, TURNS).map_err(|_| "a fault")?;
+    assert!(rt; !report.succeeded);
+    assert!(rt; report.files.is_empty());
+    Ok(())
+}
+
+// Holds each map work until four have entered; counts the reduces.
+#[derive(Drop)]
+struct Meeting {
+    maps: AtomicU64,
+    reduces: AtomicU64,
+}
+
+impl Gate for Meeting {
+    fn enter(&self, kind: TaskKind) -> Result<(), GateFault> {
+        if kind == TaskKind::Reduce {
+            self.reduces.fetch_add(1, Ordering::SeqCst);
+            return Ok(());
+        }
+        self.maps.fetch_add(1, Ordering::SeqCst);
+        for _ in 0..TURNS {
+            if self.maps.load(Ordering::SeqCst) >= 4 {
+                return Ok(());
+            }
+            thread::yield_now();
+        }
+        Err(GateFault::Spent)
+    }
+}
+
+#[test]
+fn four_map_works_at_once(rt: HostRuntime) -> Result<(), Fail> {
+    let gate = Meeting {
+        maps: AtomicU64::new(0),
+        reduces: AtomicU64::new(0),
+    };
+    let four = plan(
+        &rt,
+        rt.alloc(),
+        r#""job":"wordcount","splits":["a","b","a",""],"nodes":4"#,
+    );
+    let report = drive(&rt, rt.alloc(), &WordCount, &gate, &four, TURNS).map_err(|_| "a fault")?;
+    assert!(rt; is_counted(&report));
+    assert_eq!(rt; gate.maps.load(Ordering::SeqCst), 4);
+    assert_eq!(rt; gate.reduces.load(Ordering::SeqCst), 1);
+    let gate = Meeting {
+        maps: AtomicU64::new(0),
+        reduces: AtomicU64::new(0),
+    };
+    let three = plan(
+        &rt,
+        rt.alloc(),
+        r#""job":"wordcount","splits":["a","b","a",""],"nodes":3"#,
+    );
+    let fault = drive(&rt, rt.alloc(), &WordCount, &gate, &three, TURNS).err();
+    assert!(rt; fault == Some(DriveFault::TurnsSpent));
+    Ok(())
+}

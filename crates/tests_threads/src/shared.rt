@@ -1,0 +1,88 @@
+//! Runs of the program, from text to text.
+use mr_sim::{Command, Seen, SimFault, run};
+use std::process::Abort;
+use std::rt::Clock;
+use std::sync::Wait;
+use std::test::Fail;
+use std::thread::Threads;
+
+/// So many turns has a thread that is to have enough.
+pub const TURNS: u64 = 100_000;
+
+/// The files of each job here of two `a` and one `b`, with one reduce and with two.
+pub const FILE: &str = "== part-r-00000 8\na\t2\nb\t1\n";
+
+pub const FILES: &str = "== part-r-00000 4\nb\t1\n== part-r-00001 4\na\t2\n";
+
+/// A job text with these keys beside the job's identifier, on one line.
+pub fn job_text<H: AllocGlobal>(rt: &H, keys: &str) -> Result<String, Fail> {
+    Ok(format!(in rt.alloc(); "{{\"id\":\"job_200707121733_0003\",{keys}}}\n")?)
+}
+
+/// A count of the words of these splits, with more keys behind.
+pub fn words_of<H: AllocGlobal>(rt: &H, splits: &str, keys: &str) -> Result<String, Fail> {
+    Ok(format!(in rt.alloc();
+        "{{\"id\":\"job_200707121733_0003\",\"job\":\"wordcount\",\"reduces\":1,\"splits\":[{splits}]{keys}}}\n"
+    )?)
+}
+
+/// What a command writes for a text, or its fault, with nothing written then.
+pub fn written<H: AllocGlobal + Clock + Threads + Wait + Sync + Abort>(
+    rt: &H,
+    command: Command,
+    text: &[u8],
+) -> Result<Vec<u8>, SimFault> {
+    let mut input = text;
+    let mut output = Vec::new(rt.alloc());
+    match run(rt, &command, &mut input, &mut output) {
+        Ok(()) => Ok(output),
+        Err(fault) => {
+            assert!(rt; output.is_empty());
+            Err(fault)
+        }
+    }
+}
+
+/// A command writes this text.
+pub fn gives<H: AllocGlobal + Clock + Threads + Wait + Sync + Abort>(
+    rt: &H,
+    command: Command,
+    text: &str,
+    expected: &str,
+) -> Result<(), Fail> {
+    match written(rt, command, text.as_bytes()) {
+        Ok(output) => {
+            assert!(rt; output.as_slice() == expected.as_bytes());
+            Ok(())
+        }
+        Err(fault) => panic!(rt; "{fault}"),
+    }
+}
+
+/// A command is refused so.
+pub fn refuses<H: AllocGlobal + Clock + Threads + Wait + Sync + Abort>(
+    rt: &H,
+    command: Command,
+    text: &str,
+    fault: SimFault,
+) -> Result<(), Fail> {
+    assert!(rt; written(rt, command, text.as_bytes()).err() == Some(fault));
+    Ok(())
+}
+
+/// `threads`, with as many turns as are enough.
+pub fn plain() -> Command {
+    Command::Threads {
+        turns: TURNS,
+        hold: false,
+    }
+}
+
+/// The same, and shows this of the run.
+pub fn showing(seen: Seen) -> Command {
+    Command::ThreadsSeen {
+        turns: TURNS,
+        hold: false,
+        seen,
+    }
+}
