@@ -251,6 +251,68 @@ def history(text):
     return 0, "".join(f"{it}\n" for it in [*out, f"torn {len(torn)}"]).encode(), b""
 
 
+def block(chance):
+    """A block of the job of words: words that rise, each with how often it stands."""
+    words = sorted({chance.choice(["a", "b", "c", "the", "é", "x" * 17, ""]).encode() for _ in range(chance.randrange(6))})
+    pairs = [(it, chance.choice([0, 1, 2, 3, 255, 2**63, 2**64 - 1])) for it in words for _ in range(chance.choice([1, 1, 1, 2]))]
+    if chance.random() < 0.1:
+        chance.shuffle(pairs)
+    return b"".join(len(word).to_bytes(4, "big") + word + count.to_bytes(8, "big") for word, count in pairs)
+
+
+def map_output(chance, is_damaged=False):
+    """A map's output, a block for each reduce behind its length, and before it the number of reduces in a byte."""
+    blocks = [block(chance) for _ in range(chance.choice([1, 1, 2, 3]))]
+    if is_damaged:
+        blocks = [mutated(chance, it, [block(chance)]) for it in blocks]
+    return bytes([len(blocks)]) + b"".join(len(it).to_bytes(4, "big") + it for it in blocks)
+
+
+def reduced(block):
+    """What a reduce makes of its block: its text behind its length, or the first fault in it."""
+    pairs, last = {}, None
+    while block:
+        key, value = block[4:][: int.from_bytes(block[:4], "big")], block[4 + int.from_bytes(block[:4], "big") :][:8]
+        if len(block) < 4 or len(key) < int.from_bytes(block[:4], "big") or len(value) < 8:
+            return b"Shuffle Truncated\n"
+        if last is not None and key < last:
+            return b"Shuffle Disorder\n"
+        pairs[key], last, block = pairs.get(key, 0) + int.from_bytes(value, "big"), key, block[12 + len(key) :]
+    text = b"".join(b"%s\t%d\n" % (key, min(count, 2**64 - 1)) for key, count in pairs.items())
+    return b"%d bytes\n%s" % (len(text), text)
+
+
+def reduces(text):
+    """What all reduces make of such an output, or that it is not so many blocks."""
+    made, rest = [], text[1:]
+    for _ in range(text[0]):
+        length = int.from_bytes(rest[:4], "big")
+        if len(rest) < 4 + length:
+            return [b"no blocks\n"]
+        made, rest = [*made, reduced(rest[4:][:length])], rest[4 + length :]
+    return [b"no blocks\n"] if rest else made
+
+
+class Outputs:
+    """Outputs of maps, which are no input of the program: a test of the layer that reads them takes them in and prints what reduces make of them."""
+
+    name, words = "map_outputs", ["outputs::output_of_standard_input"]
+
+    def text(self, chance):
+        made = map_output(chance, is_damaged=chance.random() < 0.7)
+        if chance.random() < 0.7:
+            return made
+        count = made[0] if chance.random() < 0.9 else chance.choice([0, 1, 2, 3, 4, 255])
+        return bytes([count]) + mutated(chance, made[1:], [map_output(chance)])
+
+    def ending(self, text, run):
+        made = reduces(text)
+        if run.status or b"begin\n%send\n" % b"".join(made) not in run.out:
+            return None
+        faults = [it for it in made if not re.match(b"[0-9]", it)]
+        return faults[0].decode().strip().removeprefix("Shuffle ") if faults else "texts"
+
+
 def kinds(folder):
     """The formats, with the examples of this folder."""
 

@@ -1,6 +1,6 @@
 """Runs a program with requests for memory refused, or reads and writes failing, one run in a fraction of a millisecond.
 
-For tools/hostile and tools/refuse_tests. `library` compiles disturb.c, and a `Program` is a program that is loaded once and then
+For tools/hostile, tools/sweeps.py and tools/refuse_tests. `library` compiles disturb.c, and a `Program` is a program that is loaded once and then
 run as often as is asked for, each time in a process of its own. Needs gcc and a program that is linked dynamically.
 """
 import contextlib
@@ -10,7 +10,6 @@ import shutil
 import signal
 import struct
 import subprocess
-import sys
 
 MEMORY, READS, WRITES, SAYINGS, NEVER = 0, 1, 2, 3, -1
 SHORT, NOTHING = -1, -2
@@ -55,6 +54,20 @@ class Run:
     def __str__(self):
         ended = f"status {self.status}" if self.status >= 0 else f"signal {-self.status}"
         return f"{ended}, {len(self.out)} bytes written, said: {self.err[:120].decode(errors='replace').strip()!r}"
+
+
+class Tally:
+    """How many runs there were of a row or a part, and which were wrong."""
+
+    def __init__(self, name):
+        self.name, self.places, self.wrong, self.shown, self.says = name, 0, 0, [], ""
+
+    def count(self, is_right, what, run):
+        self.places += 1
+        if not is_right:
+            self.wrong += 1
+            if len(self.shown) < 10:
+                self.shown.append(f"  {self.name}: {what}: {run}")
 
 
 class Program:
@@ -103,11 +116,6 @@ class Program:
         status, *seen, marks = TOLD.unpack(told)[:6]
         status = os.waitstatus_to_exitcode(status)
         return Run(status, self.read("out"), self.read("err"), seen, TOLD.unpack(told)[6 : 6 + marks])
-
-
-def stop(name, why):
-    print(f"{name}: {why}", file=sys.stderr)
-    return 2
 
 
 def lowered():

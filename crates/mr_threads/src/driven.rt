@@ -28,6 +28,7 @@ pub(crate) struct Manner {
 }
 
 /// What came of a job text whose job threads ran.
+#[tactic(auto, using(crate::proofs::Failing::bad_text, crate::proofs::Failing::no_run, crate::proofs::Reported::reports_of))]
 pub(crate) fn driven<H: AllocGlobal + Clock + Threads + Wait + Sync>(
     rt: &H,
     input: &[u8],
@@ -78,6 +79,7 @@ fn plan_of(submission: Submission) -> Plan
 }
 
 // Runs a plan for a job, with a gate that holds or with one that is open.
+#[tactic(auto, using(crate::proofs::Reported::is_report))]
 fn driven_by<H: AllocGlobal + Clock + Threads + Wait + Sync, J: Job + Send + Sync>(
     rt: &H,
     job: &J,

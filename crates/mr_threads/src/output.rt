@@ -18,6 +18,7 @@ use std::thread::Threads;
 ///
 /// `Job` names the first bad key of the job text. `JobFailed`: a failure was told, or the newest master stopped. `TurnsSpent`, `JournalMismatch`, `Thread` and `Full`
 /// are those of `mr_drive`. `NoMemory` may come at any text; no other fault comes.
+#[tactic(auto, using(crate::proofs::Files::prints, crate::proofs::Failing::nothing_to_print, crate::proofs::Failing::has_failed))]
 pub fn threads_output<H: AllocGlobal + Clock + Threads + Wait + Sync>(
     rt: &H,
     input: &[u8],
@@ -46,6 +47,7 @@ fn files_text(alloc: Global, files: &[VisibleFile]) -> Result<Vec<u8>, AllocErro
 }
 
 /// What `threads` answers where there is no handle that starts threads: what is wrong with the job text, else `Thread`.
+#[tactic(auto, using(crate::proofs::Failing::bad_text))]
 pub fn unthreaded(alloc: Global, input: &[u8]) -> Result<Vec<u8>, SimFault>
     ensures { IfErr result (ShownFails input.now) }
     ensures none { IfOk result (λ _. ⊥) }

@@ -27,6 +27,7 @@ pub enum Seen {
 }
 
 /// What `threads` shows of the run that happened, whether the job succeeded or failed. The faults are those of `threads_output`, without `JobFailed`.
+#[tactic(auto, using(crate::proofs::Files::shows_run))]
 pub fn threads_seen<H: AllocGlobal + Clock + Threads + Wait + Sync>(
     rt: &H,
     input: &[u8],

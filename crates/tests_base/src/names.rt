@@ -275,6 +275,40 @@ fn large_directory_rename(rt: HostRuntime) {
     assert!(rt; told(&rt, names.create(*one, &c, true)) == Ok(()));
 }
 
+// The path of so many directories, one beneath the other.
+fn deep(rt: &impl Abort, alloc: Global, first: &str, count: usize) -> Path {
+    let mut text = String::from_str(alloc, first).expect(rt, "no memory");
+    for _ in 1..count {
+        if text.push_str("/a").is_err() {
+            panic!(rt; "no memory");
+        }
+    }
+    path(rt, alloc, &text)
+}
+
+// As many directories as there may be, one beneath the other: the deepest is found, they are moved, and they are deleted.
+#[test]
+fn deepest_directory(rt: HostRuntime) {
+    let alloc = rt.alloc();
+    let one = &Caller {
+        app: generation(&rt, 1),
+        attempt: None,
+    };
+    let mut names = new_namespace(&rt, alloc);
+    let all = deep(&rt, alloc, "/a", MAX_ENTRIES);
+    assert!(rt; told(&rt, names.mkdirs(*one, &all)) == Ok(()));
+    let more = path(&rt, alloc, "/c");
+    assert!(rt; told(&rt, names.create(*one, &more, true)) == Err(NameFault::Full));
+    assert!(rt; names.exists(*one, &all) == Ok(Some(Kind::Dir)));
+    let (a, b) = (path(&rt, alloc, "/a"), path(&rt, alloc, "/b"));
+    assert!(rt; told(&rt, names.rename(*one, &a, &all)) == Err(NameFault::IntoItself));
+    assert!(rt; told(&rt, names.rename(*one, &a, &b)) == Ok(()));
+    let moved = deep(&rt, alloc, "/b", MAX_ENTRIES);
+    assert!(rt; names.exists(*one, &moved) == Ok(Some(Kind::Dir)));
+    assert!(rt; names.delete(*one, &b) == Ok(()));
+    assert!(rt; told(&rt, names.create(*one, &more, true)) == Ok(()));
+}
+
 // Whether a listing has each file that `fill` makes, by the bytes of their names: each name once, from 0 to 9999.
 fn lists_all(entries: &Entries) -> bool {
     let files = entries.as_slice();

@@ -118,9 +118,8 @@ fn lists_are_exchanged(rt: HostRuntime) {
         generation: 1,
         kept: 0,
     };
-    if other.board.apply_as(&mut other.nodes, event).is_err() {
-        panic!(rt; "refused");
-    }
+    let took = other.board.apply_as(&mut other.nodes, event);
+    assert!(rt; took.expect(&rt, "refused").count == 0);
     let Table {
         board: _,
         masters,

@@ -7,7 +7,7 @@ use mr_event::{Event, Weather};
 use mr_ids::{AppAttempt, JobId, TaskKind};
 use mr_packet::ContainerId;
 use mr_user::{Gate, GateFault, OpenGate, WordCount};
-use mr_world::{Config, Splits, World, WorldFault};
+use mr_world::{Config, Splits, Took, World, WorldFault};
 use std::alloc::Global;
 use std::process::Abort;
 
@@ -115,13 +115,21 @@ pub fn ended(rt: &impl Abort, alloc: Global) -> World {
     }
 }
 
+/// A copy of the event.
+fn copied(rt: &impl Abort, event: &Event) -> Event {
+    match event.copy() {
+        Ok(copy) => copy,
+        Err(_) => event.copy().expect(rt, "no memory"),
+    }
+}
+
 impl Table {
     /// The event is taken from the masters' seat.
     pub fn takes(&mut self, rt: &impl Abort, event: Event) {
         let length = self.board.world().journal().len();
         let made = self.masters.made().len();
-        match self.board.apply_as(&mut self.masters, event) {
-            Ok(_took) => {
+        match self.applied(rt, event) {
+            Ok(_) => {
                 assert!(rt; self.board.world().journal().len() > length);
                 assert!(rt; self.masters.made().len() > made);
             }
@@ -129,18 +137,51 @@ impl Table {
         }
     }
 
-    /// The work of a container, done behind an open gate.
-    pub fn done_at(&self, rt: &impl Abort, alloc: Global, c: ContainerId) -> Finished<WordCount> {
-        match self.board.work(alloc, &c) {
-            Ok(work) => done(rt, alloc, work),
-            Err(_) => panic!(rt; "it does not compute"),
+    /// What comes of the event from the masters' seat. Where memory is refused, world and list are as before, and it is applied again.
+    fn applied(&mut self, rt: &impl Abort, event: Event) -> Result<Took, WorldFault> {
+        let before = self.look();
+        let copy = copied(rt, &event);
+        match self.board.apply_as(&mut self.masters, event) {
+            Err(WorldFault::NoMemory) => {
+                assert!(rt; self.look() == before);
+                self.board.apply_as(&mut self.masters, copy)
+            }
+            answer => answer,
         }
     }
 
-    /// What a work gave is handed in from the nodes' seat.
-    pub fn hands_in(&mut self, work: &Finished<WordCount>) -> Result<usize, WorldFault> {
-        let took = self.board.computed_as(&mut self.nodes, work)?;
-        Ok(took.count)
+    /// How long journal, bag and the two lists are.
+    fn look(&self) -> [usize; 4] {
+        let world = self.board.world();
+        [
+            world.journal().len(),
+            world.bag().len(),
+            self.masters.made().len(),
+            self.nodes.made().len(),
+        ]
+    }
+
+    /// The work of a container, done behind an open gate.
+    pub fn done_at(&self, rt: &impl Abort, alloc: Global, c: ContainerId) -> Finished<WordCount> {
+        let work = self.board.work(alloc, &c).expect(rt, "it does not compute");
+        done(rt, alloc, work)
+    }
+
+    /// What a work gave is handed in from the nodes' seat. Where memory is refused, world and list are as before, and it is handed in again.
+    pub fn hands_in(
+        &mut self,
+        rt: &impl Abort,
+        work: &Finished<WordCount>,
+    ) -> Result<usize, WorldFault> {
+        let before = self.look();
+        match self.board.computed_as(&mut self.nodes, work) {
+            Err(WorldFault::NoMemory) => {
+                assert!(rt; self.look() == before);
+                let took = self.board.computed_as(&mut self.nodes, work)?;
+                Ok(took.count)
+            }
+            answer => Ok(answer?.count),
+        }
     }
 
     /// The first master starts, runs, and launches the map, whose container lives and wishes to compute.
@@ -174,7 +215,7 @@ impl Table {
         if self.delivers(rt) {
             return true;
         }
-        if self.board.world().duty(1).expect(rt, "no memory").is_some() {
+        if self.is_due(rt) {
             self.takes(
                 rt,
                 Event::Duty {
@@ -196,6 +237,15 @@ impl Table {
             },
         );
         true
+    }
+
+    // Whether the first master makes a store call next.
+    fn is_due(&self, rt: &impl Abort) -> bool {
+        let world = self.board.world();
+        match world.duty(1) {
+            Ok(duty) => duty.is_some(),
+            Err(_) => world.duty(1).expect(rt, "no memory").is_some(),
+        }
     }
 
     // The next packet that goes to somebody who is alive is delivered.
@@ -223,7 +273,7 @@ impl Table {
         self.last = Some(c);
         if self.board.world().input(&c).is_some() {
             let work = self.done_at(rt, alloc, c);
-            if self.hands_in(&work).is_err() {
+            if self.hands_in(rt, &work).is_err() {
                 panic!(rt; "refused");
             }
         } else {

@@ -43,13 +43,9 @@ fn are_the_file(files: &[VisibleFile]) -> bool {
 #[test]
 fn winner_is_told_again(rt: HostRuntime) {
     let mut world = ended(&rt, rt.alloc());
-    match winner_stays(&mut world, later(&rt, rt.alloc()), REDUCE) {
-        Ok(told) => {
-            assert!(rt; told.before == AttemptId::new(REDUCE, 0));
-            assert!(rt; told.after == told.before);
-        }
-        Err(_) => panic!(rt; "refused"),
-    }
+    let told = winner_stays(&mut world, later(&rt, rt.alloc()), REDUCE).expect(&rt, "refused");
+    assert!(rt; told.before == AttemptId::new(REDUCE, 0));
+    assert!(rt; told.after == told.before);
 }
 
 // The first packet that tells of a winner.
@@ -64,62 +60,56 @@ fn told_at(world: &World) -> Option<usize> {
 fn told_winner_is_the_recorded_one(rt: HostRuntime) {
     let world = ended(&rt, rt.alloc());
     let place = told_at(&world).expect(&rt, "no winner is told");
-    match told_winner_is_the_winner(&world, place) {
-        Ok(Some(winners)) => {
+    match told_winner_is_the_winner(&world, place).expect(&rt, "refused") {
+        Some(winners) => {
             assert!(rt; winners.1 == AttemptId::new(REDUCE, 0));
             assert!(rt; winners.1 == Some(winners.0));
         }
-        _ => panic!(rt; "none, or refused"),
+        None => panic!(rt; "no winner"),
     }
 }
 
 #[test]
 fn marker_is_seen_again(rt: HostRuntime) {
     let mut world = ended(&rt, rt.alloc());
-    match marker_stays(&mut world, later(&rt, rt.alloc())) {
-        Ok(told) => assert!(rt; told.before && told.after),
-        Err(_) => panic!(rt; "refused"),
-    }
+    let told = marker_stays(&mut world, later(&rt, rt.alloc())).expect(&rt, "refused");
+    assert!(rt; told.before && told.after);
 }
 
 #[test]
 fn marked_files_are_seen_again(rt: HostRuntime) {
     let mut world = ended(&rt, rt.alloc());
-    match marked_files_stay(&mut world, later(&rt, rt.alloc())) {
-        Ok(Some(files)) => {
+    match marked_files_stay(&mut world, later(&rt, rt.alloc())).expect(&rt, "refused") {
+        Some(files) => {
             assert!(rt; are_the_file(&files.before));
             assert!(rt; are_the_file(&files.after));
         }
-        _ => panic!(rt; "no marker, or refused"),
+        None => panic!(rt; "no marker"),
     }
 }
 
 #[test]
 fn files_are_seen_again_after_the_outcome(rt: HostRuntime) {
     let mut world = ended(&rt, rt.alloc());
-    match files_stay_after_the_outcome(&mut world, later(&rt, rt.alloc())) {
-        Ok(Some(files)) => {
+    match files_stay_after_the_outcome(&mut world, later(&rt, rt.alloc())).expect(&rt, "refused") {
+        Some(files) => {
             assert!(rt; are_the_file(&files.before));
             assert!(rt; are_the_file(&files.after));
         }
-        _ => panic!(rt; "no outcome, or refused"),
+        None => panic!(rt; "no outcome"),
     }
 }
 
 #[test]
 fn outcome_is_told_again(rt: HostRuntime) {
     let mut world = ended(&rt, rt.alloc());
-    match outcome_stays(&mut world, later(&rt, rt.alloc())) {
-        Ok(told) => assert!(rt; told.before == Some(true) && told.after == Some(true)),
-        Err(_) => panic!(rt; "refused"),
-    }
+    let told = outcome_stays(&mut world, later(&rt, rt.alloc())).expect(&rt, "refused");
+    assert!(rt; told.before == Some(true) && told.after == Some(true));
 }
 
 #[test]
 fn success_is_told_of_a_marked_world(rt: HostRuntime) {
     let world = ended(&rt, rt.alloc());
-    match success_means_marker(&world) {
-        Ok((outcome, marker)) => assert!(rt; outcome == Some(true) && marker),
-        Err(_) => panic!(rt; "refused"),
-    }
+    let (outcome, marker) = success_means_marker(&world).expect(&rt, "refused");
+    assert!(rt; outcome == Some(true) && marker);
 }

@@ -25,12 +25,12 @@ fn work_is_taken_once(rt: HostRuntime) {
     table.launches_the_map(&rt);
     let c = container(&rt, 0);
     let work = table.done_at(&rt, rt.alloc(), c);
-    assert!(rt; table.hands_in(&work) == Ok(0));
+    assert!(rt; table.hands_in(&rt, &work) == Ok(0));
     assert!(rt; table.nodes.made().len() == 1);
     assert!(rt; is_the_block(&table.nodes.made()[0], c));
     let journal = table.board.world().journal();
     assert!(rt; journal.last().is_some_and(|event| is_the_block(event, c)));
-    assert!(rt; table.hands_in(&work) == Err(WorldFault::NotNow(Why::WrongWish)));
+    assert!(rt; table.hands_in(&rt, &work) == Err(WorldFault::NotNow(Why::WrongWish)));
     assert!(rt; table.nodes.made().len() == 1);
     assert!(rt;
         table
@@ -48,7 +48,7 @@ fn work_of_a_dead_container_is_refused(rt: HostRuntime) {
     let c = container(&rt, 0);
     let work = table.done_at(&rt, rt.alloc(), c);
     table.takes(&rt, Event::Die { container: c });
-    assert!(rt; table.hands_in(&work) == Err(WorldFault::NotNow(Why::NoContainer)));
+    assert!(rt; table.hands_in(&rt, &work) == Err(WorldFault::NotNow(Why::NoContainer)));
     assert!(rt; table.nodes.made().is_empty());
     assert!(rt;
         table
@@ -66,9 +66,9 @@ fn work_of_another_input_is_refused(rt: HostRuntime) {
     let mut other = opened(&rt, rt.alloc(), b"a b b");
     other.launches_the_map(&rt);
     let work = one.done_at(&rt, rt.alloc(), container(&rt, 0));
-    assert!(rt; other.hands_in(&work) == Err(WorldFault::NotNow(Why::WrongWish)));
+    assert!(rt; other.hands_in(&rt, &work) == Err(WorldFault::NotNow(Why::WrongWish)));
     assert!(rt; other.nodes.made().is_empty());
-    assert!(rt; one.hands_in(&work) == Ok(0));
+    assert!(rt; one.hands_in(&rt, &work) == Ok(0));
 }
 
 // Computed bytes are not applied as an event, whatever they are.
@@ -93,13 +93,12 @@ fn computed_is_not_applied(rt: HostRuntime) {
 fn shut_gate_refuses_the_work(rt: HostRuntime) {
     let mut table = opened(&rt, rt.alloc(), b"a b a");
     table.launches_the_map(&rt);
-    match table.board.work(rt.alloc(), &container(&rt, 0)) {
-        Ok(work) => {
-            let answer = work.run(rt.alloc(), &WordCount, &ShutGate);
-            assert!(rt; answer.is_err_and(|fault| fault == WorkFault::Gate(GateFault::Spent)));
-        }
-        Err(_) => panic!(rt; "it does not compute"),
-    }
+    let work = table
+        .board
+        .work(rt.alloc(), &container(&rt, 0))
+        .expect(&rt, "refused");
+    let answer = work.run(rt.alloc(), &WordCount, &ShutGate);
+    assert!(rt; answer.is_err_and(|fault| fault == WorkFault::Gate(GateFault::Spent)));
 }
 
 // An event that the world refuses is refused with the world's answer, and is in no list.

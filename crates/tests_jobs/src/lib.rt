@@ -4,6 +4,8 @@
 #[cfg(test)]
 mod mapside;
 #[cfg(test)]
+mod outputs;
+#[cfg(test)]
 mod shuffle;
 #[cfg(test)]
 mod user;

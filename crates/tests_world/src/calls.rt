@@ -11,7 +11,10 @@ use std::process::Abort;
 
 // The store call of an event.
 fn asked(rt: &impl Abort, world: &World, event: &Event) -> Option<Asked> {
-    world.asks(event).expect(rt, "no memory")
+    match world.asks(event) {
+        Ok(asked) => asked,
+        Err(_) => world.asks(event).expect(rt, "no memory"),
+    }
 }
 
 // The store call of a master's event, with what the master hears.

@@ -1,5 +1,6 @@
 //! Cuts: a journal's first events, in a world of their own.
 
+use crate::again::{applied, copied};
 use crate::fixtures::{Run, begun};
 use mr_world::{Event, WorldFault};
 use std::alloc::Global;
@@ -25,13 +26,13 @@ impl Run {
             }
             _ => {}
         }
-        let event = event.copy().expect(rt, "no memory");
-        assert!(rt; self.world.apply(event).is_ok());
+        let event = copied(rt, event);
+        assert!(rt; applied(rt, &mut self.world, event).is_ok());
     }
 
     /// The event, where it is permitted.
     pub fn passes(&mut self, rt: &impl Abort, event: Event) {
-        match self.world.apply(event) {
+        match applied(rt, &mut self.world, event) {
             Ok(_) | Err(WorldFault::NotNow(_)) => {}
             Err(_) => panic!(rt; "full"),
         }

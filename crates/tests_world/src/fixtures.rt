@@ -1,5 +1,6 @@
 //! What the tests begin with: a job of the words of `a b a`, and a run of it.
 
+use crate::again::{applied, due, foreseen, is_marked, shown, winners};
 use crate::events::{start, store_call};
 use mr_container::Wish;
 use mr_event::{Event, Weather, Why};
@@ -7,7 +8,7 @@ use mr_ids::{AppAttempt, AttemptId, JobId, TaskId, TaskKind};
 use mr_master_model::{DutyName, Phase};
 use mr_packet::{Bytes, ContainerId};
 use mr_world::{Config, Input, Splits, VisibleFile, World, WorldFault};
-use std::alloc::Global;
+use std::alloc::{AllocError, Global};
 use std::process::Abort;
 
 /// What the map of `a b a` makes for one reduce: the length of its block, then `a` with 2 and `b` with 1.
@@ -81,32 +82,28 @@ pub fn container(rt: &impl Abort, number: u32) -> ContainerId {
 
 /// These bytes.
 pub fn bytes(rt: &impl Abort, alloc: Global, items: &[u8]) -> Bytes {
-    Bytes::from_vec(Vec::from_slice(alloc, items).expect(rt, "no memory"))
-}
-
-/// The split of the job.
-fn split(rt: &impl Abort, alloc: Global) -> Vec<u8> {
-    Vec::from_slice(alloc, b"a b a").expect(rt, "no memory")
+    match Vec::from_slice(alloc, items) {
+        Ok(made) => Bytes::from_vec(made),
+        Err(_) => Bytes::from_vec(Vec::from_slice(alloc, items).expect(rt, "no memory")),
+    }
 }
 
 /// A job of one map, of the split `a b a`, and of so many reduces, on so many nodes.
-fn config(rt: &impl Abort, alloc: Global, nodes: u32, reduces: u32) -> Config {
+fn config(rt: &impl Abort, alloc: Global, nodes: u32, reduces: u32) -> Result<Config, AllocError> {
     let mut splits = Vec::new(alloc);
-    let split = split(rt, alloc);
+    let split = Vec::from_slice(alloc, b"a b a")?;
     assert!(rt; split.len() <= 16_777_216);
-    if splits.push(split).is_err() {
-        panic!(rt; "no memory");
-    }
+    splits.push(split)?;
     assert!(rt; nodes >= 1 && nodes <= 64);
     assert!(rt; reduces >= 1 && reduces <= 2);
-    Config {
+    Ok(Config {
         job: task(TaskKind::Map, 0).job,
         splits: Splits::from_vec(splits),
         reduces,
         nodes,
         limit: 4,
         v2_from: 1,
-    }
+    })
 }
 
 /// The opening world of the job of one reduce.
@@ -116,10 +113,15 @@ pub fn world(rt: &impl Abort, alloc: Global, nodes: u32) -> World {
 
 /// The opening world of a job.
 fn opening(rt: &impl Abort, alloc: Global, nodes: u32, reduces: u32) -> World {
-    match World::new(alloc, config(rt, alloc, nodes, reduces)) {
+    match opened(rt, alloc, nodes, reduces) {
         Ok(world) => world,
-        Err(_) => panic!(rt; "no world"),
+        Err(_) => opened(rt, alloc, nodes, reduces).expect(rt, "no memory"),
     }
+}
+
+/// It, or what refuses it.
+fn opened(rt: &impl Abort, alloc: Global, nodes: u32, reduces: u32) -> Result<World, WorldFault> {
+    World::new(alloc, config(rt, alloc, nodes, reduces)?)
 }
 
 /// A run of the job of so many reduces on one node, before its first event.
@@ -156,11 +158,11 @@ pub fn foresees_bytes(
 
 /// The event is taken, as was foreseen. Gives how many packets it added, which are the last ones of the bag.
 pub fn takes(rt: &impl Abort, world: &mut World, event: Event) -> usize {
-    assert!(rt; world.foresee(&event).is_ok());
+    assert!(rt; foreseen(world, &event).is_ok());
     foresees_bytes(rt, world, &event, Ok(()));
     let before = world.bag().len();
     let length = world.journal().len();
-    match world.apply(event) {
+    match applied(rt, world, event) {
         Ok(took) => {
             assert!(rt; took.first == before);
             assert!(rt; world.journal().len() > length);
@@ -172,13 +174,13 @@ pub fn takes(rt: &impl Abort, world: &mut World, event: Event) -> usize {
 
 /// The event is not permitted, as was foreseen, and neither journal nor bag grew. Gives the reason.
 pub fn refuses(rt: &impl Abort, world: &mut World, event: Event) -> Why {
-    let foreseen = world.foresee(&event);
-    foresees_bytes(rt, world, &event, foreseen);
+    let answer = foreseen(world, &event);
+    foresees_bytes(rt, world, &event, answer);
     let before = world.bag().len();
     let length = world.journal().len();
-    match world.apply(event) {
+    match applied(rt, world, event) {
         Err(WorldFault::NotNow(why)) => {
-            assert!(rt; foreseen == Err(WorldFault::NotNow(why)));
+            assert!(rt; answer == Err(WorldFault::NotNow(why)));
             assert!(rt; world.bag().len() == before);
             assert!(rt; world.journal().len() == length);
             why
@@ -249,7 +251,7 @@ impl Run {
         if self.delivers(rt) {
             return true;
         }
-        if let Some(duty) = self.world.duty(k).expect(rt, "no memory") {
+        if let Some(duty) = due(rt, &self.world, k) {
             if stop == Stop::Before(duty) {
                 return false;
             }
@@ -322,8 +324,8 @@ impl Run {
 
     /// The winner of the one reduce is the attempt of this number.
     pub fn is_won_by(&self, rt: &impl Abort, number: u32) {
-        let winners = self.world.winners().expect(rt, "no memory");
-        assert!(rt; winners.as_slice() == [Some(attempt(rt, number))].as_slice());
+        let won = winners(rt, &self.world);
+        assert!(rt; won.as_slice() == [Some(attempt(rt, number))].as_slice());
     }
 
     /// The job of two reduces succeeded: the winners are the attempts of these numbers.
@@ -337,35 +339,35 @@ impl Run {
     pub fn failed(&self, rt: &impl Abort) {
         self.ended(rt, false, false);
         self.are_won_by(rt, 0, None);
-        assert!(rt; self.world.visible().expect(rt, "no memory").is_empty());
+        assert!(rt; shown(rt, &self.world).is_empty());
     }
 
     // The winners of two reduces are the attempts of these numbers.
     fn are_won_by(&self, rt: &impl Abort, first: u32, second: Option<u32>) {
-        let winners = self.world.winners().expect(rt, "no memory");
+        let won = winners(rt, &self.world);
         let second = match second {
             Some(number) => Some(attempt_at(rt, 1, number)),
             None => None,
         };
-        assert!(rt; winners.as_slice() == [Some(attempt(rt, first)), second].as_slice());
+        assert!(rt; won.as_slice() == [Some(attempt(rt, first)), second].as_slice());
     }
 
     /// Whether the success marker is there, and which outcome was told first.
     pub fn ended(&self, rt: &impl Abort, marked: bool, succeeded: bool) {
-        assert!(rt; self.world.marker().expect(rt, "no memory") == marked);
+        assert!(rt; is_marked(rt, &self.world) == marked);
         assert!(rt; self.world.outcome() == Some(succeeded));
     }
 
     /// The visible files of a job of one reduce: its text.
     pub fn shows_the_file(&self, rt: &impl Abort) {
-        let files = self.world.visible().expect(rt, "no memory");
+        let files = shown(rt, &self.world);
         assert!(rt; files.len() == 1);
         assert!(rt; is_part(&files[0], b"part-r-00000", TEXT));
     }
 
     /// The visible files of a job of two reduces: their texts.
     pub fn shows_both_files(&self, rt: &impl Abort) {
-        let files = self.world.visible().expect(rt, "no memory");
+        let files = shown(rt, &self.world);
         assert!(rt; files.len() == 2);
         assert!(rt; is_part(&files[0], b"part-r-00000", FIRST));
         assert!(rt; is_part(&files[1], b"part-r-00001", SECOND));

@@ -1,5 +1,6 @@
 //! What is read of a world, and a list of events.
 
+use crate::again::{due, living, winner};
 use crate::events::{crash, start, store_call};
 use crate::fixtures::{Stop, container, started, task, world};
 use mr_container::Wish;
@@ -7,31 +8,43 @@ use mr_event::Event;
 use mr_ids::TaskKind;
 use mr_master_model::{DutyName, Phase};
 use mr_world::{Input, Splits};
+use std::alloc::{AllocError, Global};
 use std::process::Abort;
 
-fn adds(rt: &impl Abort, events: &mut Vec<Event>, event: Event) {
-    if events.push(event).is_err() {
-        panic!(rt; "no memory");
+// Master 1 starts and crashes, and the next one starts, after a call of one that is not there.
+fn listed(alloc: Global) -> Result<Vec<Event>, AllocError> {
+    let mut events = Vec::with_capacity(alloc, 4)?;
+    events.push(start(1))?;
+    events.push(store_call(2))?;
+    events.push(crash(1, 0))?;
+    events.push(start(2))?;
+    Ok(events)
+}
+
+// It.
+fn list(rt: &impl Abort, alloc: Global) -> Vec<Event> {
+    match listed(alloc) {
+        Ok(events) => events,
+        Err(_) => listed(alloc).expect(rt, "no memory"),
     }
 }
 
-// A list of events: what is not permitted is passed over.
+// A list of events: what is not permitted is passed over. So where memory is refused the same list goes on from there: what was taken of
+// it is passed over.
 #[test]
 fn runs_a_list(rt: HostRuntime) {
     let alloc = rt.alloc();
     let mut world = world(&rt, alloc, 2);
-    let mut events = Vec::new(alloc);
-    adds(&rt, &mut events, start(1));
-    adds(&rt, &mut events, store_call(2));
-    adds(&rt, &mut events, crash(1, 0));
-    adds(&rt, &mut events, start(2));
-    assert!(rt; world.run(events).is_ok());
+    if world.run(list(&rt, alloc)).is_err() {
+        assert!(rt; world.journal().len() < 3);
+        assert!(rt; world.run(list(&rt, alloc)).is_ok());
+    }
     assert!(rt; world.journal().len() == 3);
     assert!(rt; world.newest() == 2);
     assert!(rt; world.config().nodes == 2);
     assert!(rt; world.phase(1).is_none());
     assert!(rt; world.phase(2) == Some(Phase::Opening));
-    assert!(rt; world.duty(2).expect(&rt, "no memory") == Some(DutyName::Marks));
+    assert!(rt; due(&rt, &world, 2) == Some(DutyName::Marks));
 }
 
 // What a config tells of its job, and what its splits give.
@@ -51,7 +64,10 @@ fn config_tells_its_job(rt: HostRuntime) {
 fn configs_are_copied_and_compared(rt: HostRuntime) {
     let alloc = rt.alloc();
     let world = world(&rt, alloc, 2);
-    let copy = world.config().copy().expect(&rt, "no memory");
+    let copy = match world.config().copy() {
+        Ok(copy) => copy,
+        Err(_) => world.config().copy().expect(&rt, "no memory"),
+    };
     assert!(rt; copy == *world.config());
     let other = started(&rt, alloc, 1).world;
     assert!(rt; copy != *other.config());
@@ -60,7 +76,7 @@ fn configs_are_copied_and_compared(rt: HostRuntime) {
 #[test]
 fn splits_are_in_order(rt: HostRuntime) {
     let alloc = rt.alloc();
-    let mut items = Vec::new(alloc);
+    let mut items = Vec::with_capacity(alloc, 2).expect(&rt, "no memory");
     for bytes in [b"a b".as_slice(), b"".as_slice()] {
         let split = Vec::from_slice(alloc, bytes).expect(&rt, "no memory");
         assert!(rt; items.push(split).is_ok());
@@ -89,7 +105,7 @@ fn container_asks(rt: HostRuntime) {
         None => panic!(rt; "no place"),
     }
     assert!(rt; world.place(&container(&rt, 1)).is_none());
-    assert!(rt; world.living().expect(&rt, "no memory").as_slice() == [c].as_slice());
+    assert!(rt; living(&rt, world).as_slice() == [c].as_slice());
     assert!(rt; world.next_living(Some(c)) == Some(c));
     let split = Input::Map {
         split: 0,
@@ -112,10 +128,5 @@ fn records_wait_for_a_flush(rt: HostRuntime) {
     run.calms(&rt, alloc, 1, Stop::Never);
     assert!(rt; run.world.unflushed(1) == Some(0));
     assert!(rt; run.world.stable(1).starts_with(started.as_slice()));
-    assert!(rt;
-        run.world
-            .winner(task(TaskKind::Reduce, 0))
-            .expect(&rt, "no memory")
-            .is_some()
-    );
+    assert!(rt; winner(&rt, &run.world, task(TaskKind::Reduce, 0)).is_some());
 }

@@ -1,5 +1,6 @@
 //! Events that are not permitted: each reason, in order.
 
+use crate::again::{is_marked, winner};
 use crate::events::{crash, expiry, launch, start, store_call};
 use crate::fixtures::{Run, Stop, bytes, computes, container, refuses, started, takes, task};
 use mr_event::{Event, Weather, Why};
@@ -34,13 +35,8 @@ fn after_its_crash(rt: &impl Abort, mut world: World) {
     assert!(rt; refuses(rt, &mut world, launch(map, 0)) == Why::NoMaster);
     assert!(rt; refuses(rt, &mut world, expiry(0)) == Why::NoMaster);
     assert!(rt; world.outcome().is_none());
-    assert!(rt; !world.marker().expect(rt, "no memory"));
-    assert!(rt;
-        world
-            .winner(task(TaskKind::Reduce, 0))
-            .expect(rt, "no memory")
-            .is_none()
-    );
+    assert!(rt; !is_marked(rt, &world));
+    assert!(rt; winner(rt, &world, task(TaskKind::Reduce, 0)).is_none());
 }
 
 // A master that runs, whose map was launched, and its container begins.

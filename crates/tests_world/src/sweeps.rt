@@ -1,5 +1,6 @@
 //! Sweeps: a run is cut after each of its events, and goes on in another way.
 
+use crate::again::is_marked;
 use crate::cuts::cut;
 use crate::events::{crash, expiry, start, store_call};
 use crate::fixtures::{Run, Stop, begun, container, started, takes};
@@ -216,7 +217,7 @@ fn expiry_before_each(rt: &impl Abort, alloc: Global, whole: &World) {
         let mut run = cut(rt, alloc, 1, whole.journal(), length);
         run.passes(rt, expiry(0));
         run.calms(rt, alloc, 1, Stop::Never);
-        assert!(rt; run.world.marker().expect(rt, "no memory"));
+        assert!(rt; is_marked(rt, &run.world));
         run.shows_the_file(rt);
     }
 }

@@ -1,10 +1,7 @@
-#!/usr/bin/env python3
-"""Cuts runs of `mrsim play` after each event, and lets store calls of a run fail, one and two at a time.
+"""Cuts runs of `mrsim play` after each event, and lets store calls of a run fail, one and two at a time: for tools/hostile.
 
-usage: tools/sweeps [--pairs] [--only WORD] [--every N] [--jobs N] [--program FILE]
-
-Takes crates/mrsim/out/mrsim, if no other is told. Each text for `play` is made of events that `play --trace` told of a run before it
-(`deliver I`, `step C`, ..), and then goes on in another way:
+Each text for `play` is made of events that `play --trace` told of a run before it (`deliver I`, `step C`, ..), and then goes on in
+another way, so that what is printed is what is swept:
 
 - job_cut_after_each_event: examples/one_reduce_succeeds.play is cut after each event, and with each number of bytes of the tail that
   stays either the master crashes and another one starts, or another one starts and the first goes on;
@@ -12,32 +9,24 @@ Takes crates/mrsim/out/mrsim, if no other is told. Each text for `play` is made 
 - failing_job_cut_after_each_event: so is examples/job_fails_without_crash.play, from the fourth failure of an attempt on;
 - expiry_before_each_event: the node is given up before each event of two examples;
 - store_calls_fail: in examples/second_reduce_gets_all.play each store call in turn is `unavailable` or `unanswered`; two more masters
-  start behind it, and keep none or all of the history's tail. With --pairs, in each of these runs a second store call is so too, each
+  start behind it, and keep none or all of the history's tail. With pairs, in each of these runs a second store call is so too, each
   one behind the first in turn.
 
-With --only just the sweeps whose names hold WORD; with --every just one of N numbers of bytes, and of N first calls.
-
-The first four have to come to what their cuts say. Of the last, each run that is marked has the files of `seq`, and one that is not
+The first four have to come to what their cuts say. Of the last, each run that is marked has the files of the job, and one that is not
 has none but those, whole. All nodes are told one winner of a reduce, which is the one that is recorded at the end, and a winner, a
-marker and what is marked stay from where the second call fails. Prints a line for each, the first wrong texts, and last
-'N runs, M wrong'. Status 1 where M > 0, 2 where it could not judge. Needs gcc.
+marker and what is marked stay from where the second call fails.
 """
-import argparse
 import json
 import os
 import re
-import sys
-import tempfile
-from concurrent.futures import ProcessPoolExecutor
 
-sys.dont_write_bytecode = True
-import disturb
-from disturb import Broken, Program
+from disturb import Program, Tally
 
 TOP = os.path.dirname(os.path.dirname(os.path.realpath(__file__)))
 A = "attempt_200707121733_0003_r_00000{}_{}"
 ONE = {"part-r-00000": b"a\t2\nb\t1\n"}
 TWO = {"part-r-00000": b"b\t1\n", "part-r-00001": b"a\t2\n"}
+ALL_IN_SECOND = {"part-r-00000": b"", "part-r-00001": b"a\t2\nc\t1\n"}
 ALL = 1_000_000
 WORDS = ("unavailable", "unanswered")
 
@@ -114,12 +103,12 @@ def ends_of(events, k, beginning):
 
 
 class Sweep:
-    """Runs texts of a job, and counts those that come to something else than is wanted."""
+    """Runs texts of a job, and counts those that come to something else than is wanted. Of all cuts it takes each one of so many."""
 
-    def __init__(self, program, library, room, name, job):
-        self.server = Program([program, "play"], library, f"{room}/{name}", stack=1024)
-        self.tracer = Program([program, "play", "--trace"], library, f"{room}/{name}.traced", stack=1024)
-        self.name, self.job, self.runs, self.wrong = name, job, 0, []
+    def __init__(self, program, library, room, tally, job, part, parts):
+        self.server = Program([program, "play"], library, f"{room}/{tally.name}.{part}", stack=1024)
+        self.tracer = Program([program, "play", "--trace"], library, f"{room}/{tally.name}.{part}.traced", stack=1024)
+        self.tally, self.job, self.part, self.parts = tally, job, part, parts
 
     def play(self, lines, traced=True):
         program = self.tracer if traced else self.server
@@ -128,10 +117,12 @@ class Sweep:
 
     def wants(self, lines, is_right, traced=False):
         played = self.play(lines, traced)
-        self.runs += 1
-        if played.said or not is_right(played):
-            self.wrong.append(f"{played.told()} {played.said} of {'; '.join(lines)}")
+        self.tally.count(not played.said and is_right(played), "; ".join(lines), f"{played.told()} {played.said}")
         return played
+
+    def mine(self, cuts):
+        """Of these cuts those of this part."""
+        return [*cuts][self.part :: self.parts]
 
 
 def cut(events, length):
@@ -142,18 +133,13 @@ def is_played(played, winners, marker, outcome, files):
     return played.told() == (dict(enumerate(winners)), marker, outcome) and (marker == "no" or played.files == files)
 
 
-def numbers(tail, every):
-    """How many bytes of a tail may be kept: none, all, and one of so many numbers between."""
-    return sorted({*range(0, tail + 1, every), tail})
-
-
-def job_cut(sweep, every):
+def job_cut(sweep):
     events = sweep.play(["start 1 0", "calm 1"]).events
     begin, marker, success = (next(n for n, it in enumerate(events) if it.name == name) for name in ("started", "marker", "success"))
-    for length in range(1, len(events) + 1):
+    for length in sweep.mine(range(1, len(events) + 1)):
         first = events[:length]
         _, stable, tail = segment(first, 1)
-        for kept in numbers(tail, every):
+        for kept in range(tail + 1):
             is_kept = ends_of(first, 1, '"event":"reduce"') <= stable + kept
             if length <= begin:
                 wanted = ([A.format(0, 0 if is_kept else 1000)], "yes", "succeeded", ONE)
@@ -163,24 +149,24 @@ def job_cut(sweep, every):
                 sweep.wants([*cut(events, length), *way], lambda it: is_played(it, *wanted))
 
 
-def recovery_cut(sweep, every):
+def recovery_cut(sweep):
     events = sweep.play(["start 1 0", "calm 1 before started", "crash 1 0", "start 2 0", "calm 2 before started"]).events
     begin = next(n for n, it in enumerate(events) if it.text() == "start 2 0")
-    for length in range(begin + 1, len(events) + 1):
-        for kept in numbers(segment(events[:length], 2)[2], every):
+    for length in sweep.mine(range(begin + 1, len(events) + 1)):
+        for kept in range(segment(events[:length], 2)[2] + 1):
             way = [f"crash 2 {kept}", "start 3 0", "calm 3"]
             sweep.wants([*cut(events, length), *way], lambda it: is_played(it, [A.format(0, 0), A.format(1, 0)], "yes", "succeeded", TWO))
 
 
-def failing_job_cut(sweep, every):
+def failing_job_cut(sweep):
     with open(f"{TOP}/examples/job_fails_without_crash.play", encoding="utf-8") as it:
         events = sweep.play(it.read().split("\n")[1:]).events
     died = next(n for n, it in enumerate(events) if it.text() == "die 1.5")
     begin = next(n for n, it in enumerate(events) if n > died and it.kind == "deliver")
-    for length in range(begin + 1, len(events) + 1):
+    for length in sweep.mine(range(begin + 1, len(events) + 1)):
         first = events[:length]
         _, stable, tail = segment(first, 1)
-        for kept in numbers(tail, every):
+        for kept in range(tail + 1):
             if ends_of(first, 1, '"event":"unsuccessful"') <= stable + kept:
                 wanted = ([A.format(0, 0), "none"], "no", "failed", {})
             else:
@@ -189,11 +175,11 @@ def failing_job_cut(sweep, every):
             sweep.wants([*cut(events, length), f"crash 1 {kept}", "start 2 0", "calm 2"], is_right)
 
 
-def expiry(sweep, _every):
+def expiry(sweep):
     other = ["start 1 0", "calm 1 before flush", "duty 1", "calm 1 before step", "launch 1 r 0 0", "calm 1"]
     for lines in (["start 1 0", "calm 1"], other):
         events = sweep.play(lines).events
-        for length in range(1, len(events)):
+        for length in sweep.mine(range(1, len(events))):
             sweep.wants([*cut(events, length), "expire 1 0", "calm 1"], lambda it: it.marker == "yes" and it.files == ONE)
 
 
@@ -221,23 +207,18 @@ def goes_on(events, kept):
     return [f"calm {k}", f"start {k + 1} {kept}", f"calm {k + 1}", f"start {k + 2} {ALL}", f"calm {k + 2}"]
 
 
-def store_calls_fail(sweep, _every, files, place=None, pairs=False):
-    """Lets each store call fail, or that of one place; with pairs then each one behind it."""
-    events = sweep.play(["start 1 0", "calm 1"]).events
-    if place is None:
-        return len(calls_of(events))
-    n = calls_of(events)[place]
-    for word in WORDS:
-        for kept in (0, ALL):
-            lines = [*cut(events, n), events[n].text(word), *goes_on(events[:n], kept)]
-            one = sweep.wants(lines, lambda it: kept_promise(it, files), traced=True)
-            for m in [it for it in calls_of(one.events) if it > n] if pairs else []:
-                first = cut(one.events, m)
-                before = sweep.wants(first, lambda it: kept_promise(it, files), traced=True)
-                for second in WORDS:
-                    lines = [*first, one.events[m].text(second), *goes_on(one.events[:m], kept)]
-                    sweep.wants(lines, lambda it: kept_promise(it, files, before), traced=True)
-    return None
+def store_calls_fail(sweep, pairs=False):
+    """Lets each store call fail; with pairs then each one behind it."""
+    events, files = sweep.play(["start 1 0", "calm 1"]).events, ALL_IN_SECOND
+    for n, word, kept in sweep.mine((n, word, kept) for n in calls_of(events) for word in WORDS for kept in (0, ALL)):
+        lines = [*cut(events, n), events[n].text(word), *goes_on(events[:n], kept)]
+        one = sweep.wants(lines, lambda it: kept_promise(it, files), traced=True)
+        for m in [it for it in calls_of(one.events) if it > n] if pairs else []:
+            first = cut(one.events, m)
+            before = sweep.wants(first, lambda it: kept_promise(it, files), traced=True)
+            for second in WORDS:
+                lines = [*first, one.events[m].text(second), *goes_on(one.events[:m], kept)]
+                sweep.wants(lines, lambda it: kept_promise(it, files, before), traced=True)
 
 
 def job_of(name):
@@ -245,59 +226,21 @@ def job_of(name):
         return it.readline()
 
 
-def swept(program, library, room, every, name, play, job, *more):
-    sweep = Sweep(program, library, f"{room}/{'_'.join([name, *map(str, more[1:])])}", name, job)
+# Of each sweep its job, what it does, and in how many parts, where they are to be done side by side.
+SWEEPS = {
+    "job_cut_after_each_event": ("one_reduce_succeeds", job_cut, 8),
+    "recovery_cut_after_each_event": ("job_fails_without_crash", recovery_cut, 1),
+    "failing_job_cut_after_each_event": ("job_fails_without_crash", failing_job_cut, 4),
+    "expiry_before_each_event": ("one_reduce_succeeds", expiry, 1),
+    "store_calls_fail": ("second_reduce_gets_all", store_calls_fail, 16),
+}
+
+
+def swept(name, part, pairs, program, library, room):
+    """What came of a part of a sweep."""
+    tally = Tally(name)
+    job, play, parts = SWEEPS[name]
+    sweep = Sweep(program, library, room, tally, job_of(job), part, parts)
     with sweep.server, sweep.tracer:
-        sweep.given = play(sweep, every, *more)
-    return name, sweep.runs, sweep.wrong, sweep.given
-
-
-def files_of_seq(program, library, room, job):
-    with Program([program, "seq"], library, f"{room}/seq") as it:
-        it.gives(job.encode())
-        return Played(it.run()).files
-
-
-def judge(given):
-    if not os.access(given.program, os.X_OK):
-        raise Broken(f"{given.program} is not there: rt run in crates/mrsim builds it")
-    one, two, other = job_of("one_reduce_succeeds"), job_of("job_fails_without_crash"), job_of("second_reduce_gets_all")
-    parts = [("job_cut_after_each_event", job_cut, one), ("recovery_cut_after_each_event", recovery_cut, two)]
-    parts += [("failing_job_cut_after_each_event", failing_job_cut, two), ("expiry_before_each_event", expiry, one)]
-    near = "/dev/shm" if os.access("/dev/shm", os.W_OK) else None
-    with tempfile.TemporaryDirectory(prefix="sweeps-", dir=near) as room, ProcessPoolExecutor(given.jobs) as pool:
-        library = disturb.library(room)
-        how = (given.program, library, room, given.every)
-        files = files_of_seq(*how[:3], other)
-        calls = swept(*how, "store_calls_fail", store_calls_fail, other, files)[3]
-        parts += [("store_calls_fail", store_calls_fail, other, files, n, given.pairs) for n in range(0, calls, given.every)]
-        parts = [it for it in parts if given.only in it[0]]
-        made = [it.result() for it in [pool.submit(swept, *how, *part) for part in parts]]
-    runs = wrong = 0
-    for name in dict.fromkeys(it[0] for it in made):
-        n, bad = sum(it[1] for it in made if it[0] == name), [line for it in made if it[0] == name for line in it[2]]
-        print(f"{name}: {n} runs, {len(bad)} wrong")
-        for line in bad[:10]:
-            print(f"  {line}")
-        runs, wrong = runs + n, wrong + len(bad)
-    print(f"{runs} runs, {wrong} wrong")
-    return 1 if wrong else 0
-
-
-def main():
-    disturb.lowered()
-    words = argparse.ArgumentParser(description=__doc__, formatter_class=argparse.RawDescriptionHelpFormatter, usage=argparse.SUPPRESS)
-    words.add_argument("--pairs", action="store_true")
-    words.add_argument("--only", default="")
-    words.add_argument("--every", type=int, default=1)
-    words.add_argument("--jobs", type=int, default=os.cpu_count())
-    words.add_argument("--program", default=f"{TOP}/crates/mrsim/out/mrsim", type=os.path.abspath)
-    try:
-        return judge(words.parse_args())
-    except Broken as error:
-        print(f"sweeps: {error}", file=sys.stderr)
-        return 2
-
-
-if __name__ == "__main__":
-    sys.exit(main())
+        play(sweep, *[True] * (pairs and play is store_calls_fail))
+    return tally

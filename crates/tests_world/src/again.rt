@@ -1,0 +1,117 @@
+//! Calls that are made again where memory was refused: the world is as it was, and goes on from there as if nothing had been.
+
+use mr_event::Event;
+use mr_ids::{AttemptId, TaskId};
+use mr_master_model::{DutyName, Phase};
+use mr_packet::ContainerId;
+use mr_world::{Took, VisibleFile, World, WorldFault};
+use std::process::Abort;
+
+/// What is read of a world without memory, of its newest master where it is of a master.
+#[derive(Clone, Copy, PartialEq, Eq)]
+struct Look {
+    journal: usize,
+    bag: usize,
+    newest: u32,
+    phase: Option<Phase>,
+    wanted: Option<TaskId>,
+    stable: usize,
+    unflushed: Option<usize>,
+    outcome: Option<bool>,
+    living: Option<ContainerId>,
+}
+
+impl Look {
+    fn at(world: &World) -> Look {
+        let newest = world.newest();
+        Look {
+            journal: world.journal().len(),
+            bag: world.bag().len(),
+            newest,
+            phase: world.phase(newest),
+            wanted: world.wanted(newest),
+            stable: world.stable(newest).len(),
+            unflushed: world.unflushed(newest),
+            outcome: world.outcome(),
+            living: world.next_living(None),
+        }
+    }
+}
+
+/// A copy of the event.
+pub fn copied(rt: &impl Abort, event: &Event) -> Event {
+    match event.copy() {
+        Ok(copy) => copy,
+        Err(_) => event.copy().expect(rt, "no memory"),
+    }
+}
+
+/// What comes of the event. Where memory is refused, journal, bag and readings are as before, and it is applied again.
+pub fn applied(rt: &impl Abort, world: &mut World, event: Event) -> Result<Took, WorldFault> {
+    let before = Look::at(world);
+    let copy = copied(rt, &event);
+    match world.apply(event) {
+        Err(WorldFault::NoMemory) => {
+            let after = Look::at(world);
+            assert!(rt; after == before);
+            world.apply(copy)
+        }
+        answer => answer,
+    }
+}
+
+/// What is foreseen of the event.
+pub fn foreseen(world: &World, event: &Event) -> Result<(), WorldFault> {
+    match world.foresee(event) {
+        Err(WorldFault::NoMemory) => world.foresee(event),
+        answer => answer,
+    }
+}
+
+/// The store call that a master makes next.
+pub fn due(rt: &impl Abort, world: &World, k: u32) -> Option<DutyName> {
+    match world.duty(k) {
+        Ok(duty) => duty,
+        Err(_) => world.duty(k).expect(rt, "no memory"),
+    }
+}
+
+/// The winner of each reduce.
+pub fn winners(rt: &impl Abort, world: &World) -> Vec<Option<AttemptId>> {
+    match world.winners() {
+        Ok(winners) => winners,
+        Err(_) => world.winners().expect(rt, "no memory"),
+    }
+}
+
+/// The winner of a task.
+pub fn winner(rt: &impl Abort, world: &World, task: TaskId) -> Option<AttemptId> {
+    match world.winner(task) {
+        Ok(winner) => winner,
+        Err(_) => world.winner(task).expect(rt, "no memory"),
+    }
+}
+
+/// The containers that live.
+pub fn living(rt: &impl Abort, world: &World) -> Vec<ContainerId> {
+    match world.living() {
+        Ok(living) => living,
+        Err(_) => world.living().expect(rt, "no memory"),
+    }
+}
+
+/// Whether the success marker is there.
+pub fn is_marked(rt: &impl Abort, world: &World) -> bool {
+    match world.marker() {
+        Ok(marker) => marker,
+        Err(_) => world.marker().expect(rt, "no memory"),
+    }
+}
+
+/// The files that a reader sees.
+pub fn shown(rt: &impl Abort, world: &World) -> Vec<VisibleFile> {
+    match world.visible() {
+        Ok(files) => files,
+        Err(_) => world.visible().expect(rt, "no memory"),
+    }
+}
