@@ -10,6 +10,10 @@ from functools import partial
 JOB_FAULT = rb"mrsim: job: (text|id|job|reduces|splits|nodes|limit|faults|v2from)"
 BAD_COMMAND = rb"mrsim: line ([1-9][0-9]*): bad command"
 FULL = rb"mrsim: full"
+UNMET = b"mrsim: not as expected\n"
+ENDED = rb"(master [1-9][0-9]* (never started|told the outcome|has stopped|is not alive)|it made 10000 events|nothing is left to do)"
+# what may be said behind a text of `play`
+REMARKS = re.compile(rb"(mrsim: line [1-9][0-9]*: calm ended( without [a-z]+)?: " + ENDED + rb"\n)*(" + UNMET + rb")?")
 START, TASKS = "200707121733", ["000000", "000001"]
 NUMBERS = ["0", "1", "2", "3", "7", "63", "64", "65", "100", "101", "999", "1000", "1001", "1000000", "1000001", "4294967295", "4294967296", "16777216", "16777217"]
 NUMBERS += ["18446744073709551615", "18446744073709551616", "-1", "-0", "00", "01", "1.0", "1e0", "1e400", "+1", "0x1"]
@@ -75,7 +79,7 @@ def play_line(chance):
     container = lambda: f"{number(chance, [1, 1, 1, 2, 3])}.{number(chance, range(8))}"
     kept = lambda: number(chance, [0, 0, 1, 14, 70, 1000000])
     fault = lambda: chance.choice(["", "", "", " unavailable", " unanswered"])
-    word = chance.choice(["start", "start", "crash", "duty", "duty", "launch", "deliver", "deliver", "step", "step", "compute", "die", "restart", "expire", "calm", "calm", "before", "before", "before"])
+    word = chance.choice(["start", "start", "crash", "duty", "duty", "launch", "deliver", "deliver", "step", "step", "compute", "die", "restart", "expire", "calm", "calm", "before", "before", "before", "drop", "expect"])
     if word in ("start", "crash"):
         return f"{word} {master()} {kept()}"
     if word == "duty":
@@ -84,8 +88,11 @@ def play_line(chance):
         return f"step {container()}{fault()}"
     if word == "launch":
         return f"launch {master()} {chance.choice('mr')} {number(chance, range(3))} {number(chance, range(2))}"
-    if word == "deliver":
-        return f"deliver {number(chance, range(30))}"
+    if word in ("deliver", "drop"):
+        return f"{word} {number(chance, range(30))}"
+    if word == "expect":
+        winner = f"r {number(chance, range(3))} {chance.choice(['none', attempt(chance)])}"
+        return f"expect {chance.choice([winner, 'marker yes', 'marker no', 'outcome succeeded', 'outcome failed', 'outcome none'])}"
     if word in ("compute", "die"):
         return f"{word} {container()}"
     if word == "restart":
@@ -181,6 +188,9 @@ class Kind:
         """How the run ended, in a word or two; none where it may not end so."""
         if self.exact and (run.status, run.out, run.err) != self.exact(text):
             return None
+        if run.out and self.words == ["play"] and REMARKS.fullmatch(run.err):
+            is_unmet = run.err.endswith(UNMET)
+            return None if run.status != 3 * is_unmet else "not as expected" if is_unmet else "texts"
         if run.status == 0:
             return "texts" if not run.err else None
         if run.out or not self.faults.fullmatch(run.err):

@@ -71,7 +71,7 @@ pub fn drawn(
 }
 
 /// The picture of what `play` plays, with the faults of `play`.
-#[tactic(auto, using(mr_play::proofs::Showing::draws, mr_play::proofs::Showing::as_expected))]
+#[tactic(auto, using(mr_play::proofs::Showing::draws))]
 pub fn play_drawn(alloc: Global, input: &[u8]) -> Result<Printed, SimFault>
     ensures ok { IfOk result (λ v. Draws within input.now) }
     ensures met { IfOk result (λ v. IsAsExpected within input.now v.met) }

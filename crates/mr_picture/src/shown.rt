@@ -22,7 +22,7 @@ fn before_of(alloc: Global, player: &Player, shown: Shown) -> Result<Vec<u8>, Si
     }
 }
 
-#[tactic(auto, using(mr_play::proofs::Showing::shows, mr_play::proofs::Showing::as_expected))]
+#[tactic(auto, using(mr_play::proofs::Showing::shows))]
 /// What `play` prints, with what is shown beside it, and with the faults of `play`.
 pub fn play_shown(alloc: Global, input: &[u8], shown: Shown) -> Result<Printed, SimFault>
     ensures ok { IfOk result (λ v. Shows within shown input.now v.text.items) }

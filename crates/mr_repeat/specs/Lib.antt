@@ -1,2 +1,3 @@
--- The script that repeats a run: all of it in Repeating.
+-- The script that repeats a run: Repeating, and what follows: Laws.
+pub mod Laws
 pub mod Repeating

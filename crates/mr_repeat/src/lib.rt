@@ -5,14 +5,17 @@
 //! - **`put_script`**: for every list of events, it writes exactly their commands, a line each (`repeating`). Bytes that were computed are told by `compute`
 //!   alone: a script hands in what the job's definition gives for the container's input.
 //! - `put_comments` writes exactly the lines of a text as comments (`commented`).
+//! - Such a script, with such comments behind it, is read by mr_script as exactly these commands, where a script can say them (`scripts_are_read_back`).
 //!
 //! Only tested: that `play` of such a script comes to the same end.
 #![tactic(auto)]
 
 mod comment;
+mod laws;
 mod line;
 mod script;
 mod word;
 
 pub use comment::put_comments;
+pub use laws::scripts_are_read_back;
 pub use script::put_script;

@@ -1,7 +1,7 @@
 -- The exit status of the program by how it ended, and which faults reading answers.
 use Rattle.std.specs.Prelude.{ℕ}
 use Rattle.mr_sim.specs.declared.ending.Ending.{Ending}
-use Rattle.mr_sim.specs.declared.ending.Ending.TheVariants.{Done, Helped, RefusedWords, Failed}
+use Rattle.mr_sim.specs.declared.ending.Ending.TheVariants.{Done, Unmet, Helped, RefusedWords, Failed}
 use Rattle.mr_commands.specs.declared.fault.SimFault.{SimFault}
 use Rattle.mr_commands.specs.declared.fault.SimFault.TheVariants.{NoMemory, Read, Write, TooLong, BadCommand, BadRecord, Job, Refused, Full, JobFailed, TurnsSpent, JournalMismatch, Thread}
 use Rattle.mr_commands.specs.Faults.{status_of}
@@ -9,6 +9,7 @@ use Rattle.mr_commands.specs.Faults.{status_of}
 -- the exit status of the program by how it ended
 abbrev pub exit_status_of : Ending → ℕ
 exit_status_of Done = 0
+exit_status_of Unmet = 3
 exit_status_of Helped = 0
 exit_status_of RefusedWords = 2
 exit_status_of (Failed fault) = status_of fault

@@ -1,5 +1,6 @@
--- What each subcommand of `mrsim` prints, and which faults it answers: Printed, whose words stand in mr_commands and mr_play. Fault has the exit
--- statuses, and Laws what follows.
+-- What each subcommand of `mrsim` prints, and which faults it answers: Printed, whose words stand in mr_commands and mr_play. Expected has what
+-- scripts expect, Fault the exit statuses, and Laws what follows.
+pub mod Expected
 pub mod Fault
 pub mod Laws
 pub mod Printed

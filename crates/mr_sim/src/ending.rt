@@ -9,6 +9,8 @@ use mr_commands::SimFault;
 pub enum Ending {
     /// The subcommand read, ran and wrote.
     Done,
+    /// So it did, and the run was not as its script expects.
+    Unmet,
     /// The command line asked for help or the version, which was printed.
     Helped,
     /// The command line was refused.
@@ -17,13 +19,14 @@ pub enum Ending {
     Failed(SimFault),
 }
 
-/// The exit status of the program: 0 where the subcommand was done or what the words asked for was printed, 2 where the
-/// command line was refused, the status of the fault where there is one.
+/// The exit status of the program: 0 where the subcommand was done or what the words asked for was printed, 3 where the run was
+/// not as its script expects, 2 where the command line was refused, the status of the fault where there is one.
 pub fn exit_status(ending: Ending) -> u8
     ensures { result ≡ exit_status_of ending }
 {
     match ending {
         Ending::Done | Ending::Helped => 0,
+        Ending::Unmet => 3,
         Ending::RefusedWords => 2,
         Ending::Failed(fault) => fault.status(),
     }

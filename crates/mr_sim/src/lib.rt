@@ -1,5 +1,5 @@
 //! The simulator: what `mrsim` reads and writes. The subcommands stand beneath it: those that need no cluster in mr_commands, `play` in mr_play,
-//! and what is shown beside it in mr_picture.
+//! what is shown beside it in mr_picture, and `threads` in mr_threads.
 //!
 //! # What is proved
 //!
@@ -25,22 +25,30 @@
 //! - at every fault but `Write` the writer is as it was: a refused input writes nothing (clause `nothing`);
 //! - it returns for every reader and writer whose calls return: after at most 2^25 reads.
 //!
-//! **`run`** hands on to `run_streams` and has its clauses (`printed`, `fault`, `nothing`). It has a handle that may wait, so its
-//! contract does not say that it returns.
+//! **`run`** has the clauses of `run_streams` (`printed`, `fault`, `nothing`), and the handle that starts threads: `threads` prints what `seq` prints for the
+//! job text, and what is shown of a run in its place is what mr_threads says of it. The handle may wait, so the contract does not say that `run` returns.
+//! `answer` and `run_streams` have no such handle, and answer `threads` by the first bad key of its job text, else by `Thread`.
+//!
+//! **`run_with_remarks`** is the call that `mrsim` makes, and `run` hands on to it: it has the clauses of `run`, and hands out whether all is so that the input
+//! expects (clause `met`, by `IsMet`): of a script of `play` whether each `expect` was met (`IsAsExpected` of mr_play), of all else that it is. The ending of the
+//! program follows from that (`Remarks::ending`).
 //!
 //! Each input has at most one text, by the laws of mr_commands and mr_play. No input is both printed and refused, by any subcommand:
 //! where there is a text for an input of at most 2^24 bytes, no fault of the clause `fault` but `NoMemory`, `Read`
-//! and `Write` is left (`printed_or_refused`). `SimFault::status` is exactly the table of statuses, and
-//! `exit_status` is the program's: 0 where it was done or help was asked for, 2 where the words were refused, else that of the fault.
+//! and `Write` is left (`printed_or_refused`); where threads run a job, whether there is a run and whether it fails depends on the schedule too. `SimFault::status` is exactly the table of statuses, and
+//! `exit_status` is the program's: 0 where it was done or help was asked for, 2 where the words were refused, 3 where the run was not as its
+//! script expects, else that of the fault.
 //!
 //! Only tested: the texts of `SimFault` (derived by thiserror), streams that fail at each place, once, or at the flush, 2^24 and
-//! 2^24 + 1 bytes, 2^20 reads of one byte, a reader that is interrupted once or always, the examples. Of the program `mrsim`: its
+//! 2^24 + 1 bytes, 2^20 reads of one byte, a reader that is interrupted once or always, the examples, what `Remarks::write` writes (the notes on calms, and that a run is not as
+//! expected). Of the program `mrsim`: its
 //! stored run, and tests of its command line (subcommands, help, refused words).
 #![tactic(auto)]
 
 mod ending;
 mod input;
 mod laws;
+mod remarks;
 mod subcommand;
 
 pub use ending::{Ending, exit_status};
@@ -48,4 +56,5 @@ pub use laws::printed_or_refused;
 pub use mr_commands::{JobTextFault, SimFault};
 pub use mr_play::Shown;
 pub use mr_threads::Seen;
+pub use remarks::{Remarks, run_with_remarks};
 pub use subcommand::{Command, answer, run, run_streams};

@@ -4,6 +4,7 @@ ghost use Rattle.std.specs.Io.KnownBytes.{Appends, Keeps};
 ghost use Rattle.mr_sim.specs.Printed.{Prints, Refuses, RefusesText, Writes};
 
 use crate::input::read_input;
+use crate::remarks::run_with_remarks;
 use mr_commands::{SimFault, committer_output, history_output, seq_output};
 use mr_picture::{play_drawn, play_shown};
 use mr_play::{Shown, play};
@@ -59,9 +60,9 @@ pub fn answer(alloc: Global, command: Command, input: &[u8]) -> Result<Vec<u8>, 
     }
 }
 
-// The same, with a handle that starts threads and waits.
+/// The same, with a handle that starts threads and waits.
 #[tactic(auto, using(crate::proofs::Failing::threads_fails, crate::proofs::Failing::seen_fails))]
-fn answer_with<H: AllocGlobal + Clock + Threads + Wait + Sync>(
+pub(crate) fn answer_with<H: AllocGlobal + Clock + Threads + Wait + Sync>(
     rt: &H,
     command: Command,
     input: &[u8],
@@ -76,8 +77,8 @@ fn answer_with<H: AllocGlobal + Clock + Threads + Wait + Sync>(
     }
 }
 
-// Writes a whole text, and flushes it.
-fn write_text<W: Write>(writer: &mut W, text: &[u8]) -> Result<(), SimFault>
+/// Writes a whole text, and flushes it.
+pub(crate) fn write_text<W: Write>(writer: &mut W, text: &[u8]) -> Result<(), SimFault>
     ensures ok { OnOk result (Appends (W.contents writer.old) (W.contents writer.new) text.now) }
     ensures kind { IfErr result (λ e. e ≡ SimFault.Write) }
 {
@@ -138,7 +139,6 @@ pub fn run<H: AllocGlobal + Clock + Threads + Wait + Sync, R: Read, W: Write>(
     // Only a failed write leaves anything in the writer.
     ensures nothing { IfErr result (λ e. e ≢ SimFault.Write → Keeps (W.contents writer.old) (W.contents writer.new)) }
 {
-    let input = read_input(rt.alloc(), reader)?;
-    let text = answer_with(rt, *command, &input)?;
-    write_text(writer, &text)
+    run_with_remarks(rt, command, reader, writer)?;
+    Ok(())
 }

@@ -1,7 +1,5 @@
 -- Why threads print nothing.
-use Rattle.std.proofs.Common.{◌≡◌, ℕ, Bool, true, false, List, Some, Ok, sym, ◌∙◌}
-use Rattle.mr_model.specs.Results.{outcome}
-use Rattle.mr_world.specs.Journal.{world_in}
+use Rattle.std.proofs.Common.{◌≡◌, ℕ, Bool, true, false, List}
 use Rattle.mr_drive.specs.declared.report.Report.{Report}
 use Rattle.mr_commands.specs.declared.fault.SimFault.{SimFault}
 use Rattle.mr_commands.specs.declared.fault.SimFault.TheVariants.{NoMemory, Read, Write, TooLong, BadCommand, BadRecord, Job, Refused, Full, JobFailed, TurnsSpent, JournalMismatch, Thread}
@@ -58,14 +56,14 @@ nothing_to_print input JournalMismatch h = h
 nothing_to_print input Thread h = h
 
 not_both : (b : Bool) → b ≡ true → b ≡ false → ⊥
-not_both b yes no = cc
+not_both b is isnt = cc
 
 -- a report without success
 pub has_failed : (input : List ℕ) (r : Report) → Reports input r → r.succeeded ≡ false → HasFailed input
-has_failed input r reports no = record {
+has_failed input r reports isnt = record {
   job = reports.job;
   said = reports.said;
   run = r.world;
   is = reports.is.run;
-  failed = λ told. not_both r.succeeded (reports.is.tells told) no;
+  failed = λ told. not_both r.succeeded (reports.is.tells told) isnt;
 }

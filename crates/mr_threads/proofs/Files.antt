@@ -1,8 +1,6 @@
 -- The files of a run whose marker is there are those that `seq` prints.
-use Rattle.std.proofs.Common.{◌≡◌, ℕ, ◌+◌, true, List, [], ◌∷◌, ◌++◌, length, map, Some, Ok, refl, sym, ap, subst, ◌∙◌, append_assoc}
-use Rattle.std.specs.List.{flat_map, range_with_len, slice_get}
-use Rattle.std.specs.Cmp.Lexicographic.{slice_cmp}
-use Rattle.std.specs.Ordering.{nat_cmp}
+use Rattle.std.proofs.Common.{◌≡◌, ℕ, ◌+◌, true, List, [], ◌∷◌, ◌++◌, map, Ok, refl, sym, ap, subst, ◌∙◌, append_assoc}
+use Rattle.std.specs.List.{flat_map, range_with_len}
 use Rattle.mr_paths.specs.Layout as layout
 use Rattle.mr_model.specs.Claims.{IsMarked}
 use Rattle.mr_model.specs.Packets.{Config}
@@ -17,13 +15,12 @@ use Rattle.mr_commands.specs.declared.job.submission.JobKind.TheVariants.{WordCo
 use Rattle.mr_commands.specs.declared.job.submission.Submission.{Submission}
 use Rattle.mr_commands.specs.job.Text.{submission_of}
 use Rattle.mr_commands.specs.seq.PartFiles.{part_files_text}
-use Rattle.mr_commands.specs.seq.Text.{ArePartFiles, output_of, PrintsSeq}
-use Rattle.mr_play.specs.Faithful.{IsMarkedText}
+use Rattle.mr_commands.specs.seq.Text.{output_of, PrintsSeq}
 use Rattle.mr_play.specs.Text.{job_as, config_of}
 use Rattle.mr_play.specs.WorldText.{visible_text, winner_line, marker_line, outcome_line, line_of_marker, world_text}
 use Rattle.mr_threads.specs.declared.seen.Seen.{Seen}
-use Rattle.mr_threads.specs.Runs.{IsReportOf, IsRun, Reports}
-use Rattle.mr_threads.specs.Text.{text_of_run, HasFailed, ShowsRun, Tells, TellsFilesOfSeq}
+use Rattle.mr_threads.specs.Runs.{IsRun, Reports}
+use Rattle.mr_threads.specs.Text.{ShowsRun, Tells, TellsFilesOfSeq}
 
 same_output : (kind : JobKind) (reduces r : ℕ) (splits : List (List ℕ)) → (job_as kind).sequential reduces r splits ≡ output_of kind reduces r splits
 unfolding job_as output_of
@@ -55,8 +52,8 @@ of_job job cfg w is s = subst (λ c. ShowsSequential (job_as job.job) c w) is s
 
 -- what is printed of a report that succeeded
 pub prints : (input : List ℕ) (r : Report) (text : List ℕ) → Reports input r → r.succeeded ≡ true → text ≡ flat_map visible_text (map as_pair r.files.items) → PrintsSeq input text
-prints input r text reports yes is =
-    let s = of_job reports.job r.world.config (world_in r.world) reports.is.run.config_is (reports.is.sequential yes) in
+prints input r text reports won is =
+    let s = of_job reports.job r.world.config (world_in r.world) reports.is.run.config_is (reports.is.sequential won) in
     subst (PrintsSeq input) (sym (is ∙ ap (flat_map visible_text) reports.is.seen ∙ visible-is input reports.job reports.said (world_in r.world) s))
     (prints-seq input reports.job reports.said (world_in r.world) s)
 

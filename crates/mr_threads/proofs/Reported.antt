@@ -1,11 +1,10 @@
 -- What a report of threads promises of the job that a job text says.
-use Rattle.std.proofs.Common.{◌≡◌, ℕ, Bool, List, Ok, subst, sym}
+use Rattle.std.proofs.Common.{◌≡◌, ℕ, List, Ok, subst, sym}
 use Rattle.mr_user.specs.Computation.{Computation}
 use Rattle.mr_shuffle.specs.SequentialText.{AreSplits}
 use Rattle.mr_model.specs.Packets.{Config}
 use Rattle.mr_sequential.specs.Jobs.{job_of, LawsOf}
-use Rattle.mr_sequential.specs.Shown.{MarkedWorldsShowSequential, ShowsSequential}
-use Rattle.mr_world.specs.Journal.{Journal, world_in}
+use Rattle.mr_sequential.specs.Shown.{MarkedWorldsShowSequential}
 use Rattle.mr_world.specs.Limits.{within}
 use Rattle.mr_world.specs.Ranges.{IsInRange}
 use Rattle.mr_world.proofs.Headlines.{outputs-are-bounded}

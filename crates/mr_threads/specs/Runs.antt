@@ -1,5 +1,5 @@
 -- A run that threads made of a job: a list of events that came to its end, whatever the schedule was (our own profile).
-use Rattle.std.specs.Prelude.{◌≡◌, Bool, true, ℕ, List, map, Some, None, Ok}
+use Rattle.std.specs.Prelude.{◌≡◌, true, ℕ, List, map, Some, Ok}
 use Rattle.mr_model.specs.Claims.{IsMarked}
 use Rattle.mr_model.specs.Packets.{Config}
 use Rattle.mr_model.specs.Results.{outcome, visible}
@@ -11,7 +11,6 @@ use Rattle.mr_world.specs.VisibleFiles.{as_pair}
 use Rattle.mr_drive.specs.Reports.{IsThrough}
 use Rattle.mr_drive.specs.declared.report.Report.{Report}
 use Rattle.mr_commands.specs.declared.job.submission.Submission.{Submission}
-use Rattle.mr_commands.specs.job.Submission.{IsWithinLimits}
 use Rattle.mr_commands.specs.job.Text.{submission_of}
 use Rattle.mr_play.specs.Text.{job_as, config_of}
 

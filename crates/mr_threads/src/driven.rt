@@ -11,7 +11,7 @@ ghost use Rattle.mr_threads.specs.inner.{IsOfThreads};
 use mr_commands::{JobKind, SimFault, Submission, read_job_text};
 use mr_drive::{DriveFault, PairGate, Plan, Report, drive};
 use mr_sequential::{jobs_have_their_laws, marked_worlds_show_sequential_files};
-use mr_user::{Job, LineIndex, MaxByKey, OpenGate, WordCount};
+use mr_user::{Gate, Job, LineIndex, MaxByKey, OpenGate, WordCount};
 use mr_world::Config;
 use std::alloc::AllocGlobal;
 use std::rt::Clock;
@@ -79,7 +79,6 @@ fn plan_of(submission: Submission) -> Plan
 }
 
 // Runs a plan for a job, with a gate that holds or with one that is open.
-#[tactic(auto, using(crate::proofs::Reported::is_report))]
 fn driven_by<H: AllocGlobal + Clock + Threads + Wait + Sync, J: Job + Send + Sync>(
     rt: &H,
     job: &J,
@@ -92,16 +91,36 @@ where
     ensures ok { IfOk result (IsReportOf (job_of (computation J.Key.cmp J.Key.codec J.Value.codec J.functions)) plan.now.config) }
     ensures fault { IfErr result IsOfThreads }
 {
+    if manner.hold {
+        driven_behind(
+            rt,
+            job,
+            &PairGate::new(rt, manner.turns),
+            plan,
+            manner.turns,
+        )
+    } else {
+        driven_behind(rt, job, &OpenGate, plan, manner.turns)
+    }
+}
+
+// Runs a plan for a job, with this gate before each work.
+#[tactic(auto, using(crate::proofs::Reported::is_report))]
+fn driven_behind<
+    H: AllocGlobal + Clock + Threads + Wait + Sync,
+    J: Job + Send + Sync,
+    G: Gate + Send + Sync,
+>(rt: &H, job: &J, gate: &G, plan: &Plan, turns: u64) -> Result<Report, SimFault>
+where
+    J::Key: Send + Sync,
+    J::Value: Send + Sync,
+    ensures ok { IfOk result (IsReportOf (job_of (computation J.Key.cmp J.Key.codec J.Value.codec J.functions)) plan.now.config) }
+    ensures fault { IfErr result IsOfThreads }
+{
     jobs_have_their_laws::<J>();
     marked_worlds_show_sequential_files();
     plan.config.ranges();
-    let turns = manner.turns;
-    let ran = if manner.hold {
-        drive(rt, rt.alloc(), job, &PairGate::new(rt, turns), plan, turns)
-    } else {
-        drive(rt, rt.alloc(), job, &OpenGate, plan, turns)
-    };
-    match ran {
+    match drive(rt, rt.alloc(), job, gate, plan, turns) {
         Ok(report) => Ok(report),
         Err(fault) => Err(fault_of(fault)),
     }

@@ -49,7 +49,7 @@ fn files_text(alloc: Global, files: &[VisibleFile]) -> Result<Vec<u8>, AllocErro
 /// What `threads` answers where there is no handle that starts threads: what is wrong with the job text, else `Thread`.
 #[tactic(auto, using(crate::proofs::Failing::bad_text))]
 pub fn unthreaded(alloc: Global, input: &[u8]) -> Result<Vec<u8>, SimFault>
-    ensures { IfErr result (ShownFails input.now) }
+    ensures fault { IfErr result (ShownFails input.now) }
     ensures none { IfOk result (λ _. ⊥) }
 {
     let _submission = read_job_text(alloc, input)?;

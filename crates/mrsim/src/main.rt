@@ -11,7 +11,7 @@ mod threads;
 mod words;
 
 use crate::words::{command_line, command_of, ending_of, file_of};
-use mr_sim::{Ending, SimFault, run};
+use mr_sim::{Ending, SimFault, run_with_remarks};
 use std::alloc::Global;
 use std::fs::File;
 use std::process::ExitCode;
@@ -79,14 +79,18 @@ fn main(rt: HostRuntime) -> ExitCode {
     };
     let (command, file) = (command_of(&matches), file_of(&matches));
     let ran = match file {
-        None => run(&rt, &command, &mut rt.reader(), &mut io::writer(&rt)),
+        None => run_with_remarks(&rt, &command, &mut rt.reader(), &mut io::writer(&rt)),
         Some(name) => match File::open(&rt, name) {
-            Ok(mut reader) => run(&rt, &command, &mut reader, &mut io::writer(&rt)),
+            Ok(mut reader) => run_with_remarks(&rt, &command, &mut reader, &mut io::writer(&rt)),
             Err(error) => Err(open_fault(&error)),
         },
     };
     match ran {
-        Ok(()) => code_of(&rt, Ending::Done, file),
+        Ok(remarks) => {
+            // Where they cannot be printed they are dropped, and the exit status says whether all is as expected.
+            let _ = remarks.write(&mut rt.stderr());
+            code_of(&rt, remarks.ending(), file)
+        }
         Err(fault) => code_of(&rt, Ending::Failed(fault), file),
     }
 }

@@ -180,7 +180,15 @@ fn help(rt: HostRuntime) -> Result<(), Fail> {
         &["mrsim", "committer", "--help"],
         "write A TEXT",
     )?;
+    helps(&rt, alloc, &["mrsim", "--help"], "mrsim: not as expected")?;
     helps(&rt, alloc, &["mrsim", "play", "--help"], "calm K")?;
+    helps(&rt, alloc, &["mrsim", "play", "--help"], "drop I")?;
+    helps(
+        &rt,
+        alloc,
+        &["mrsim", "play", "--help"],
+        "expect marker yes",
+    )?;
     helps(&rt, alloc, &["mrsim", "history", "--help"], "torn B")?;
     helps(
         &rt,

@@ -26,7 +26,8 @@ Statuses:
   1  `mrsim: job failed`
   2  the command line was refused
   3  the input was refused: `mrsim: line N: bad command`, `mrsim: history: bad line N`,
-     `mrsim: job: KEY`, `mrsim: refused`, `mrsim: input too long`
+     `mrsim: job: KEY`, `mrsim: refused`, `mrsim: input too long`; or `mrsim: not as expected`,
+     where the output was written, and an `expect` of a script of `play` was not met
   4  a stream failed: `mrsim: read`, `mrsim: write`, or FILE: `mrsim: read: FILE`
   5  `mrsim: no memory`
   6  `mrsim: turns spent`
@@ -97,10 +98,15 @@ Reads a job text (see `seq`) from the first line of standard input, and a script
   restart N                  node N restarts
   expire K N                 master K gives node N up
   calm K [before NAME]       all goes on without a fault until master K is through, or until an event of that name is next
+  drop I                     the packet at place I of the bag is lost: no calm delivers it
+  expect r T A, .. none      reduce T is to have the attempt A for its winner now, or none
+  expect marker yes, .. no   the success marker is to be there now, or not
+  expect outcome WORD        the outcome is to be `succeeded`, `failed` or `none` now
   # ..                       is a comment
 C is a container: its master, a full stop and its number, as 1.0. FAULT is `unavailable` (the call is not made) or
-`unanswered` (its answer is lost). Writes a line for each event that is refused, then each reduce's winner, whether the
-marker is there, the outcome, and the files that a reader of the destination sees.
+`unanswered` (its answer is lost). Writes a line for each event that is refused and each `expect` that is not met, then each
+reduce's winner, whether the marker is there, the outcome, and the files that a reader of the destination sees. Standard error
+tells a calm that ended otherwise than its line asks, and last `mrsim: not as expected` where an `expect` was not met.
 
 Example:
   {\"id\":\"job_200707121733_0003\",\"job\":\"wordcount\",\"reduces\":1,\"splits\":[\"a b a\"]}

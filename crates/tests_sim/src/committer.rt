@@ -572,6 +572,7 @@ fn parts_of_a_run(rt: HostRuntime) -> Result<(), Fail> {
 #[test]
 fn endings(rt: HostRuntime) {
     assert_eq!(rt; exit_status(Ending::Done), 0);
+    assert_eq!(rt; exit_status(Ending::Unmet), 3);
     assert_eq!(rt; exit_status(Ending::Helped), 0);
     assert_eq!(rt; exit_status(Ending::RefusedWords), 2);
 }

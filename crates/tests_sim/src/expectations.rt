@@ -2,10 +2,13 @@
 use crate::committer::gives;
 use crate::rows::{count, in_order, traced};
 use mr_play::{Printed, play};
-use mr_sim::{Command, SimFault};
+use mr_sim::{Command, Ending, Shown, SimFault, run_with_remarks};
 use std::alloc::Global;
 use std::process::Abort;
+use std::rt::Clock;
+use std::sync::Wait;
 use std::test::Fail;
+use std::thread::Threads;
 
 // One map and one reduce.
 const ONE: &str =
@@ -197,4 +200,61 @@ fn calms_that_ended_as_asked(rt: HostRuntime) -> Result<(), Fail> {
 fn scripts_without_expectations(rt: HostRuntime) -> Result<(), Fail> {
     let input = format!(in rt.alloc(); "{ONE}\nstart 1 0\ncalm 1")?;
     gives(&rt, Command::Play, input.as_bytes(), WON.as_bytes())
+}
+
+// The subcommand runs the script, of the job of one reduce, the program ends so, and this is said on standard error.
+fn remarks<H: AllocGlobal + Clock + Threads + Wait + Sync + Abort>(
+    rt: &H,
+    command: Command,
+    script: &str,
+    ending: Ending,
+    said: &str,
+) -> Result<(), Fail> {
+    let input = format!(in rt.alloc(); "{ONE}\n{script}")?;
+    let mut printed = Vec::new(rt.alloc());
+    match run_with_remarks(rt, &command, &mut input.as_bytes(), &mut printed) {
+        Ok(remarks) => {
+            let mut told = Vec::new(rt.alloc());
+            if remarks.write(&mut told).is_err() {
+                panic!(rt; "not written");
+            }
+            assert!(rt; told.as_slice() == said.as_bytes(), "{script}");
+            assert!(rt; remarks.ending() == ending, "{script}");
+            assert!(rt; remarks.met == (ending == Ending::Done), "{script}");
+        }
+        Err(fault) => panic!(rt; "{fault}"),
+    }
+    assert!(rt; !printed.is_empty(), "{script}");
+    Ok(())
+}
+
+// The notes on calms come first, and where an expectation was not met, that stands last. It is so whatever is shown of the run.
+#[test]
+fn unmet_run_is_remarked(rt: HostRuntime) -> Result<(), Fail> {
+    let shown = Shown {
+        trace: true,
+        history: true,
+    };
+    let unmet = "mrsim: not as expected\n";
+    let both =
+        "mrsim: line 4: calm ended without poll: master 1 told the outcome\nmrsim: not as expected\n";
+    for command in [Command::Play, Command::PlayShown(shown), Command::PlayDrawn] {
+        let script = "start 1 0\nexpect marker yes\ncalm 1";
+        remarks(&rt, command, script, Ending::Unmet, unmet)?;
+        let script = "start 1 0\nexpect marker yes\ncalm 1 before poll";
+        remarks(&rt, command, script, Ending::Unmet, both)?;
+    }
+    Ok(())
+}
+
+// A calm's note alone changes no ending, and of a run as expected without notes nothing is said.
+#[test]
+fn met_run_is_done(rt: HostRuntime) -> Result<(), Fail> {
+    let never = "mrsim: line 2: calm ended: master 1 never started\n";
+    remarks(&rt, Command::Play, "calm 1", Ending::Done, never)?;
+    let script = "start 1 0\ncalm 1\nexpect marker yes";
+    remarks(&rt, Command::Play, script, Ending::Done, "")?;
+    remarks(&rt, Command::PlayDrawn, script, Ending::Done, "")?;
+    // Whatever expects nothing is as expected.
+    remarks(&rt, Command::Seq, "", Ending::Done, "")
 }
