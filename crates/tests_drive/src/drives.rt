@@ -45,6 +45,14 @@ fn planned(submission: Submission) -> Plan
     }
 }
 
+// Whether this event stands at this place of the report's journal.
+fn happens_at(report: &Report, place: usize, event: &Event) -> bool {
+    match report.world.journal().get(place) {
+        Some(made) => made == event,
+        None => false,
+    }
+}
+
 fn is_counted(report: &Report) -> bool {
     report.succeeded && report.files.len() == 1 && report.files[0].bytes.as_slice() == TEXT
 }
@@ -91,7 +99,7 @@ fn threads_with_faults(rt: HostRuntime) -> Result<(), Fail> {
         |_| "a fault",
     )?;
     assert!(rt; is_counted(&report));
-    assert!(rt; report.world.journal()[12] == Event::NodeRestart { node: 0 });
+    assert!(rt; happens_at(&report, 12, &Event::NodeRestart { node: 0 }));
     let fault = drive(&rt, rt.alloc(), &WordCount, &OpenGate, &plan, 1).err();
     assert!(rt; fault == Some(DriveFault::TurnsSpent));
     Ok(())
@@ -109,18 +117,24 @@ fn a_master_crashes_at_once(rt: HostRuntime) -> Result<(), Fail> {
     )?;
     assert!(rt; is_counted(&report));
     assert!(rt;
-        report.world.journal()[1]
-            == Event::Crash {
+        happens_at(
+            &report,
+            1,
+            &Event::Crash {
                 generation: 1,
                 kept: 0
             }
+        )
     );
     assert!(rt;
-        report.world.journal()[2]
-            == Event::Start {
+        happens_at(
+            &report,
+            2,
+            &Event::Start {
                 generation: 2,
                 kept: 0
             }
+        )
     );
     Ok(())
 }
@@ -137,11 +151,14 @@ fn threads_with_expiry(rt: HostRuntime) -> Result<(), Fail> {
     )?;
     assert!(rt; is_counted(&report));
     assert!(rt;
-        report.world.journal()[12]
-            == Event::Expire {
+        happens_at(
+            &report,
+            12,
+            &Event::Expire {
                 generation: 1,
                 node: 0
             }
+        )
     );
     Ok(())
 }
