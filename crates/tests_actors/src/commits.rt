@@ -32,20 +32,19 @@ fn computed(rt: &impl Abort, alloc: Global) -> ContainerMachine {
 }
 
 fn layout(rt: &impl Abort, alloc: Global) -> Layout {
-    match Path::parse(alloc, "/out") {
-        Ok(dest) => Layout { dest },
-        Err(_) => panic!(rt; "no path"),
+    Layout {
+        dest: Path::parse(alloc, "/out").expect(rt, "no path"),
     }
 }
 
 // The container makes the call that it wishes to make.
 fn calls(rt: &impl Abort, names: &mut Namespace, layout: &Layout, machine: &mut ContainerMachine) {
-    match machine.call(layout) {
-        Ok(Some(op)) => {
-            let answer = names.perform(machine.caller(), &op);
-            machine.on(Reply::Answered(answer));
-        }
-        _ => panic!(rt; "no call"),
+    let Some(op) = machine.call(layout).expect(rt, "no memory") else {
+        panic!(rt; "no call");
+    };
+    match names.perform(machine.caller(), &op) {
+        Err(NameFault::NoMemory) => panic!(rt; "no memory"),
+        answer => machine.on(Reply::Answered(answer)),
     }
 }
 

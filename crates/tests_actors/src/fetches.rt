@@ -121,8 +121,8 @@ fn asks(rt: &impl Abort, node: &mut NodeMachine, machine: &mut ContainerMachine)
         Some(ask) => ask,
         None => panic!(rt; "it asks for nothing"),
     };
-    match node.hear(&ask.body) {
-        Ok(Reaction::Adds(answer)) => hears(rt, machine, answer.body),
+    match node.hear(&ask.body).expect(rt, "no memory") {
+        Reaction::Adds(answer) => hears(rt, machine, answer.body),
         _ => panic!(rt; "no answer"),
     }
 }

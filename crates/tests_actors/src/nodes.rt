@@ -95,9 +95,11 @@ fn node_with(rt: &impl Abort, alloc: Global, output: &[u8]) -> NodeMachine
     requires { length output.now ≤ 16777216 }
 {
     let mut node = NodeMachine::new(alloc, 0, 1);
-    if let Ok(output) = Vec::from_slice(alloc, output) {
-        let put = node.put(attempt(rt, TaskKind::Map, 0), MapOutput::from_vec(output));
-        assert!(rt; put.is_ok());
+    match Vec::from_slice(alloc, output) {
+        Ok(output) => node
+            .put(attempt(rt, TaskKind::Map, 0), MapOutput::from_vec(output))
+            .expect(rt, "no memory"),
+        Err(_) => panic!(rt; "no memory"),
     }
     node
 }

@@ -111,8 +111,9 @@ fn setup_by_halves(rt: HostRuntime) {
         panic!(rt; "over");
     };
     let answer = names.perform(*caller, call);
-    let Ok(following) = setup.follow(&answer) else {
-        panic!(rt; "refused");
+    let following = match setup.follow(&answer) {
+        Ok(following) => following,
+        Err(fault) => panic!(rt; "{fault}"),
     };
     assert!(rt; following.done() == StepDone::Finished);
     let mut copy = made(&rt, setup.copy());
@@ -125,8 +126,9 @@ fn setup_by_halves(rt: HostRuntime) {
 // A task's commit goes on where it hears, in two halves, that its attempt's directory is there.
 fn goes_on_by_halves(rt: &impl Abort, step: &Step) {
     let mut sure = made(rt, step.copy());
-    let Ok(following) = sure.follow(&Ok(Answer::Found(Some(Kind::Dir)))) else {
-        panic!(rt; "refused");
+    let following = match sure.follow(&Ok(Answer::Found(Some(Kind::Dir)))) {
+        Ok(following) => following,
+        Err(fault) => panic!(rt; "{fault}"),
     };
     assert!(rt; following.done() == StepDone::More);
     sure.go_on(following);
@@ -202,8 +204,9 @@ fn is_heard_alike(
         panic!(rt; "over");
     };
     let answer = names.perform(*caller, call);
-    let Ok(following) = halves.follow(&answer) else {
-        panic!(rt; "refused");
+    let following = match halves.follow(&answer) {
+        Ok(following) => following,
+        Err(fault) => panic!(rt; "{fault}"),
     };
     halves.go_on(following);
     assert!(rt; told(rt, step.took(answer)) == Ok(StepDone::More));
@@ -357,8 +360,9 @@ fn task_abort_by_steps(rt: HostRuntime) {
         panic!(rt; "over");
     };
     let answer = names.perform(*caller, call);
-    let Ok(following) = again.follow(&answer) else {
-        panic!(rt; "refused");
+    let following = match again.follow(&answer) {
+        Ok(following) => following,
+        Err(fault) => panic!(rt; "{fault}"),
     };
     assert!(rt; told(&rt, step.took(answer)) == Ok(StepDone::Finished));
     assert!(rt; stands(&rt, alloc, &names, *caller, written) == None);
@@ -380,8 +384,9 @@ fn job_abort_by_steps(rt: HostRuntime) {
         panic!(rt; "over");
     };
     let answer = names.perform(*caller, call);
-    let Ok(following) = again.follow(&answer) else {
-        panic!(rt; "refused");
+    let following = match again.follow(&answer) {
+        Ok(following) => following,
+        Err(fault) => panic!(rt; "{fault}"),
     };
     assert!(rt; told(&rt, step.took(answer)) == Ok(StepDone::Finished));
     assert!(rt; stands(&rt, alloc, &names, *caller, "/out/_temporary") == None);
@@ -401,8 +406,9 @@ fn recovery_begins_alike(
         panic!(rt; "over");
     };
     let answer = names.perform(*caller, call);
-    let Ok(following) = halves.follow(&answer) else {
-        panic!(rt; "refused");
+    let following = match halves.follow(&answer) {
+        Ok(following) => following,
+        Err(fault) => panic!(rt; "{fault}"),
     };
     halves.go_on(following);
     assert!(rt; halves.call().is_some());

@@ -15,6 +15,7 @@ use mr_task::{DoneReply, TaskMachine};
 use mr_user::MAX_SPLIT_LEN;
 use mr_world::{Config, Splits, World};
 use std::alloc::Global;
+use std::fmt::Debug;
 use std::process::Abort;
 
 const TASK: TaskId = TaskId {
@@ -26,7 +27,7 @@ const TASK: TaskId = TaskId {
     number: 0,
 };
 
-// What is there, where only an allocation failure can take it away.
+// What is there.
 fn there<T>(rt: &impl Abort, value: Option<T>) -> T {
     match value {
         Some(value) => value,
@@ -34,11 +35,9 @@ fn there<T>(rt: &impl Abort, value: Option<T>) -> T {
     }
 }
 
-fn well<T, E: Drop>(rt: &impl Abort, answer: Result<T, E>) -> T {
-    match answer {
-        Ok(value) => value,
-        Err(_) => panic!(rt; "a fault"),
-    }
+// What an answer holds. A fault is told by its name, so that want of memory is told apart.
+fn well<T, E: Debug>(rt: &impl Abort, answer: Result<T, E>) -> T {
+    answer.expect(rt, "a fault")
 }
 
 fn generation(rt: &impl Abort, number: u32) -> AppAttempt {
@@ -82,9 +81,9 @@ fn attempts_and_tasks(rt: HostRuntime) {
     let alloc = rt.alloc();
     let (a0, a1) = (attempt(&rt, 0), attempt(&rt, 1));
     assert!(rt; begin::killed_attempt(a0) == AttemptState::Killed);
-    assert!(rt; begin::passes_on(alloc, a0, a1) == Ok(true));
+    assert!(rt; well(&rt, begin::passes_on(alloc, a0, a1)));
     let mut task = TaskMachine::new(alloc, TASK, generation(&rt, 1));
-    assert!(rt; stores::one_wins(&mut task) == Ok(DoneReply::Accepted));
+    assert!(rt; well(&rt, stores::one_wins(&mut task)) == DoneReply::Accepted);
     assert!(rt; task.winner() == Some(a1));
 }
 
@@ -94,7 +93,7 @@ fn jobs(rt: HostRuntime) {
     let files = well(&rt, begin::count_words(alloc, b"a b\na\n"));
     assert!(rt; files.len() == 2 && same(&files[0], b"b\t1\n") && same(&files[1], b"a\t2\n"));
     // b goes to reduce 0: its length, its byte, and the number 1 in eight bytes
-    assert!(rt; begin::first_block(alloc, b"a b\na\n") == Ok(13));
+    assert!(rt; well(&rt, begin::first_block(alloc, b"a b\na\n")) == 13);
     let block = b"\0\0\0\x01b\0\0\0\0\0\0\0\x01";
     let text = well(
         &rt,
@@ -120,12 +119,15 @@ fn committer_over_a_store(rt: HostRuntime) {
     let spare = path(&rt, alloc, "/spare");
     let spare_file = path(&rt, alloc, "/spare/part");
     let moved = path(&rt, alloc, "/moved");
-    assert!(rt; begin::move_directory(&mut names, &caller, &spare, &spare_file, &moved) == Ok(()));
-    assert!(rt;
-        names.mkdirs(caller, &work) == Ok(()) && names.create(caller, &file, true) == Ok(())
+    well(
+        &rt,
+        begin::move_directory(&mut names, &caller, &spare, &spare_file, &moved),
     );
+    well(&rt, names.mkdirs(caller, &work));
+    well(&rt, names.create(caller, &file, true));
     let mut step = well(&rt, Step::commit_task(&layout, k, attempt(&rt, 0)));
-    assert!(rt; stores::commit(&mut names, caller, &mut step, 10) == Ok(StepDone::Finished));
+    let done = well(&rt, stores::commit(&mut names, caller, &mut step, 10));
+    assert!(rt; done == StepDone::Finished);
     let committed = well(&rt, layout.committed(k, TASK));
     assert!(rt; names.exists(caller, &committed) == Ok(Some(Kind::Dir)));
 }
@@ -150,9 +152,12 @@ fn history_after_a_crash(rt: HostRuntime) {
         attempt: attempt(&rt, 0),
         bytes: Some(4),
     };
-    assert!(rt; stores::write(&mut history, generation(&rt, 1), won) == Ok(true));
-    match stores::take_over(alloc, &mut history, generation(&rt, 2), none) {
-        Ok(Some(Recovery::Resume(winners))) => {
+    assert!(rt; well(&rt, stores::write(&mut history, generation(&rt, 1), won)));
+    match well(
+        &rt,
+        stores::take_over(alloc, &mut history, generation(&rt, 2), none),
+    ) {
+        Some(Recovery::Resume(winners)) => {
             assert!(rt; winners.len() == 1 && winners.as_slice()[0].attempt == attempt(&rt, 0));
         }
         _ => panic!(rt; "no plan"),
@@ -185,7 +190,10 @@ fn containers_and_nodes(rt: HostRuntime) {
     let layout = Layout {
         dest: path(&rt, alloc, "/out"),
     };
-    assert!(rt; stores::container_step(&mut names, &layout, &mut bag, &mut container) == Ok(()));
+    well(
+        &rt,
+        stores::container_step(&mut names, &layout, &mut bag, &mut container),
+    );
     let body = Packet::NodeUp {
         n: 0,
         incarnation: 2,
@@ -194,7 +202,8 @@ fn containers_and_nodes(rt: HostRuntime) {
         to: Address::Master(generation(&rt, 1)),
         body,
     };
-    assert!(rt; begin::put_packet(&mut bag, envelope) == Ok(()) && bag.len() == 1);
+    well(&rt, begin::put_packet(&mut bag, envelope));
+    assert!(rt; bag.len() == 1);
 }
 
 // One map of `a b a`, and one reduce. The map makes one block behind its length: a with 2, b with 1.
@@ -204,9 +213,7 @@ fn a_job_in_a_world(rt: HostRuntime) {
     let mut splits = Vec::new(alloc);
     let split = bytes(&rt, alloc, b"a b a");
     assert!(rt; split.len() <= MAX_SPLIT_LEN);
-    if splits.push(split).is_err() {
-        panic!(rt; "no memory");
-    }
+    splits.push(split).expect(&rt, "no memory");
     let config = Config {
         job: TASK.job,
         splits: Splits::from_vec(splits),
@@ -217,6 +224,9 @@ fn a_job_in_a_world(rt: HostRuntime) {
     };
     let mut world = well(&rt, World::new(alloc, config));
     let made = b"\0\0\0\x1a\0\0\0\x01a\0\0\0\0\0\0\0\x02\0\0\0\x01b\0\0\0\0\0\0\0\x01";
-    let outcome = worlds::run_job(alloc, &mut world, made, b"a\t2\nb\t1\n");
-    assert!(rt; outcome == Ok(Some(true)));
+    let outcome = well(
+        &rt,
+        worlds::run_job(alloc, &mut world, made, b"a\t2\nb\t1\n"),
+    );
+    assert!(rt; outcome == Some(true));
 }

@@ -53,8 +53,9 @@ fn told(alloc: Global, reduces: u32, output: &[u8]) -> Result<Vec<u8>, AllocErro
 #[test]
 fn output_of_standard_input(rt: HostRuntime) {
     let mut input = Vec::new(rt.alloc());
-    let read = rt.reader().read_to_end(&mut input);
-    assert!(rt; read.is_ok());
+    if let Err(fault) = rt.reader().read_to_end(&mut input) {
+        panic!(rt; "{fault}");
+    }
     let Some((reduces, output)) = input.split_first() else {
         return;
     };

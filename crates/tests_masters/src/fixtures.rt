@@ -86,6 +86,16 @@ pub fn generation_of(
     MasterMachine::new(alloc, setting).expect(rt, "no memory")
 }
 
+/// An attempt at the task is launched on the node. Gives the packet that is sent.
+pub fn launched(rt: &impl Abort, master: &mut MasterMachine, task: TaskId, node: u32) -> Envelope {
+    master.launch(task, node).expect(rt, "not launched")
+}
+
+/// The node is given up. Gives the packets that are sent.
+pub fn given_up(rt: &impl Abort, master: &mut MasterMachine, node: u32) -> Vec<Envelope> {
+    master.expire(node).expect(rt, "not given up")
+}
+
 /// The master hears a packet. Gives the packets that are sent for it.
 pub fn hears(rt: &impl Abort, master: &mut MasterMachine, packet: &Packet) -> Vec<Envelope> {
     let packets = master.hear_packets(packet).expect(rt, "no memory");

@@ -1,6 +1,8 @@
 //! What a running master hears.
 
-use crate::fixtures::{answered, attempt, container, due, first, hears, master_of, opens, task};
+use crate::fixtures::{
+    answered, attempt, container, due, first, hears, launched, master_of, opens, task,
+};
 use crate::running::{finishes, first_attempt, launches, reduce, running};
 use mr_history::Records;
 use mr_ids::{AttemptId, TaskId, TaskKind};
@@ -71,7 +73,7 @@ fn is_answer(rt: &impl Abort, packets: &[Envelope], number: u32, may: bool) -> b
 fn one_may_commit(rt: HostRuntime) {
     let mut master = running(&rt, rt.alloc());
     launches(&rt, &mut master);
-    assert!(rt; master.launch(reduce(), 0).is_ok());
+    launched(&rt, &mut master, reduce(), 0);
     finishes(&rt, &mut master);
     let poll = Packet::Poll {
         a: second_attempt(&rt),
@@ -94,7 +96,7 @@ fn map() -> TaskId {
 fn mapped(rt: &impl Abort, alloc: Global) -> MasterMachine {
     let mut master = master_of(rt, alloc, 1, 2);
     opens(rt, &mut master, Records::new(alloc));
-    assert!(rt; master.launch(map(), 0).is_ok());
+    launched(rt, &mut master, map(), 0);
     let done = Packet::Done {
         a: attempt(rt, map()),
         bytes: None,
@@ -105,7 +107,7 @@ fn mapped(rt: &impl Abort, alloc: Global) -> MasterMachine {
         assert!(rt; answered(rt, &mut master, StoreAnswer::Wrote(Ok(()))).len() == 0);
     }
     assert!(rt; master.wanted() == Some(reduce()));
-    assert!(rt; master.launch(reduce(), 1).is_ok());
+    launched(rt, &mut master, reduce(), 1);
     master
 }
 

@@ -1,6 +1,6 @@
 //! More launches at one master than a task has numbers: each container gets the next number.
 
-use crate::fixtures::{master_of, opens, task};
+use crate::fixtures::{launched, master_of, opens, task};
 use mr_history::Records;
 use mr_ids::TaskKind;
 use mr_master::MasterMachine;
@@ -9,12 +9,8 @@ use std::process::Abort;
 
 // The map of this number is launched on node 0, in the container of the same number.
 fn launches_map(rt: &impl Abort, master: &mut MasterMachine, number: u32) {
-    match master.launch(task(TaskKind::Map, number), 0) {
-        Ok(packet) => {
-            assert!(rt; matches!(&packet.body, Packet::Launch { c, .. } if c.number == number))
-        }
-        Err(_) => panic!(rt; "not launched"),
-    }
+    let packet = launched(rt, master, task(TaskKind::Map, number), 0);
+    assert!(rt; matches!(&packet.body, Packet::Launch { c, .. } if c.number == number));
 }
 
 #[test]

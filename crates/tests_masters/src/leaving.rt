@@ -1,19 +1,12 @@
 //! A node is given up.
 
-use crate::fixtures::{does, due, first, master_of, opens, task};
+use crate::fixtures::{does, due, first, given_up, launched, master_of, opens, task};
 use mr_history::Records;
-use mr_ids::{TaskId, TaskKind};
+use mr_ids::TaskKind;
 use mr_master::MasterMachine;
 use mr_master_model::{DutyName, StoreAnswer};
 use mr_packet::{Address, ContainerId, Envelope, Packet};
 use std::process::Abort;
-
-// An attempt of the task is launched on node 0.
-fn launches(rt: &impl Abort, master: &mut MasterMachine, task: TaskId) {
-    if master.launch(task, 0).is_err() {
-        panic!(rt; "not launched");
-    }
-}
 
 // Whether node 0 is asked to stop the container of this number, and nothing else is sent.
 fn is_kill(rt: &impl Abort, packets: &[Envelope], number: u32) -> bool {
@@ -36,15 +29,13 @@ fn is_kill(rt: &impl Abort, packets: &[Envelope], number: u32) -> bool {
 fn node_is_given_up(rt: HostRuntime) {
     let mut master = master_of(&rt, rt.alloc(), 1, 2);
     opens(&rt, &mut master, Records::new(rt.alloc()));
-    launches(&rt, &mut master, task(TaskKind::Map, 0));
-    launches(&rt, &mut master, task(TaskKind::Reduce, 0));
+    launched(&rt, &mut master, task(TaskKind::Map, 0), 0);
+    launched(&rt, &mut master, task(TaskKind::Reduce, 0), 0);
     assert!(rt; master.wanted().is_none());
     let told = master.expire_packets(0).expect(&rt, "no memory");
     assert!(rt; is_kill(&rt, &told, 0));
-    match master.expire(0) {
-        Ok(sent) => assert!(rt; is_kill(&rt, &sent, 0)),
-        Err(_) => panic!(rt; "not given up"),
-    }
+    let sent = given_up(&rt, &mut master, 0);
+    assert!(rt; is_kill(&rt, &sent, 0));
     assert!(rt; master.wanted() == Some(task(TaskKind::Map, 0)));
     bars(&rt, &master);
 }
@@ -64,10 +55,8 @@ fn bars(rt: &impl Abort, master: &MasterMachine) {
 fn what_is_made_ready_changes_nothing(rt: HostRuntime) {
     let mut master = master_of(&rt, rt.alloc(), 1, 2);
     opens(&rt, &mut master, Records::new(rt.alloc()));
-    launches(&rt, &mut master, task(TaskKind::Reduce, 0));
-    if master.expire(0).is_err() {
-        panic!(rt; "not given up");
-    }
+    launched(&rt, &mut master, task(TaskKind::Reduce, 0), 0);
+    given_up(&rt, &mut master, 0);
     let ready = master.ready(StoreAnswer::Fault).expect(&rt, "no memory");
     assert!(rt; ready.packets().len() == 0);
     assert!(rt; due(&rt, &master) == Some(DutyName::Bar));

@@ -1,6 +1,6 @@
 //! A master that comes to the end of its job, and one that goes on with what an earlier one did.
 
-use crate::fixtures::{answered, does, due, generation_of, hears, lists_nothing, opens};
+use crate::fixtures::{answered, does, due, generation_of, hears, launched, lists_nothing, opens};
 use crate::running::{finishes, first_attempt, is_started, is_win, launches, reduce, running};
 use mr_history::{Record, Records};
 use mr_ids::{AppAttempt, AttemptId};
@@ -48,9 +48,7 @@ fn job_is_committed(rt: HostRuntime) {
 
 // The attempt of this number is launched and fails.
 pub fn fails(rt: &impl Abort, master: &mut MasterMachine, number: u32) {
-    if master.launch(reduce(), 0).is_err() {
-        panic!(rt; "not launched");
-    }
+    launched(rt, master, reduce(), 0);
     let Some(a) = AttemptId::new(reduce(), number) else {
         panic!(rt; "no attempt of this number");
     };

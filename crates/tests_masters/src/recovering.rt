@@ -1,6 +1,6 @@
 //! A second master that takes over what maps left on nodes.
 
-use crate::fixtures::{generation_of, hears, opens, task};
+use crate::fixtures::{generation_of, hears, launched, opens, task};
 use mr_history::{Record, Records};
 use mr_ids::{AppAttempt, AttemptId, TaskKind};
 use mr_packet::{Address, ContainerId, Envelope, Packet};
@@ -69,7 +69,7 @@ fn newest_success_is_taken_over(rt: HostRuntime) {
     opens(&rt, &mut master, successes(&rt, rt.alloc()));
     let reduce = task(TaskKind::Reduce, 0);
     assert!(rt; master.wanted() == Some(reduce));
-    assert!(rt; master.launch(reduce, 0).is_ok());
+    launched(&rt, &mut master, reduce, 0);
     let asks = Packet::Where {
         c: first_container(&rt),
         map: 0,

@@ -1,6 +1,6 @@
 //! Why a master would launch nothing, or would not give a node up: told without a try.
 
-use crate::fixtures::{master, task};
+use crate::fixtures::{launched, master, task};
 use crate::running::{launches, reduce, running};
 use mr_ids::TaskKind;
 use mr_master_model::LaunchFault;
@@ -16,7 +16,7 @@ fn refusals_of_a_launch_are_told(rt: HostRuntime) {
     assert!(rt; master.launch_refusal(reduce(), 0).is_none());
     launches(&rt, &mut master);
     assert!(rt; master.launch_refusal(reduce(), 0).is_none());
-    assert!(rt; master.launch(reduce(), 0).is_ok());
+    launched(&rt, &mut master, reduce(), 0);
     let live = Some(LaunchFault::Task(TaskFault::TooManyLive));
     assert!(rt; master.launch_refusal(reduce(), 0) == live);
     assert!(rt; master.launch(reduce(), 0).is_err());

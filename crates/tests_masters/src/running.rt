@@ -1,6 +1,6 @@
 //! A master that comes to Running: it launches its one reduce, names its attempt, and tells the node of its win.
 
-use crate::fixtures::{answered, attempt, container, due, hears, master_of, opens, task};
+use crate::fixtures::{answered, attempt, container, due, hears, launched, master_of, opens, task};
 use mr_history::{Record, Records};
 use mr_ids::{AttemptId, TaskId, TaskKind};
 use mr_master::{Duty, MasterMachine};
@@ -105,10 +105,8 @@ pub fn is_started(rt: &impl Abort, alloc: Global, master: &MasterMachine) -> boo
 
 // The reduce is launched on node 0.
 pub fn launches(rt: &impl Abort, master: &mut MasterMachine) {
-    match master.launch(reduce(), 0) {
-        Ok(packet) => assert!(rt; is_launch(rt, &packet)),
-        Err(_) => panic!(rt; "not launched"),
-    }
+    let packet = launched(rt, master, reduce(), 0);
+    assert!(rt; is_launch(rt, &packet));
 }
 
 #[test]

@@ -1,6 +1,6 @@
 //! What makes a master Stopped, and what else ends its job.
 
-use crate::fixtures::{answered, does, due, generation_of, hears, master, opens};
+use crate::fixtures::{answered, does, due, generation_of, given_up, hears, master, opens};
 use crate::running::{finishes, first_attempt, launches, running};
 use mr_history::{HistoryFault, Record, Records};
 use mr_ids::AppAttempt;
@@ -147,7 +147,7 @@ fn fault_stops_an_append(rt: HostRuntime) {
 fn refusal_stops_a_bar(rt: HostRuntime) {
     let mut master = running(&rt, rt.alloc());
     launches(&rt, &mut master);
-    assert!(rt; master.expire(0).is_ok());
+    given_up(&rt, &mut master, 0);
     stops(&rt, &mut master, DutyName::Bar, missing());
 }
 

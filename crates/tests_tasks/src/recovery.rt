@@ -56,7 +56,7 @@ fn winner(task: TaskId, attempt: AttemptId, bytes: Option<u32>) -> TaskWinner {
 #[test]
 fn the_first_winners_by_rising_task(rt: HostRuntime) {
     let plan = Recovery::plan(rt.alloc(), &records(&rt), marks(false, false, false));
-    let Ok(Recovery::Resume(winners)) = plan else {
+    let Recovery::Resume(winners) = plan.expect(&rt, "a fault") else {
         panic!(rt; "no plan");
     };
     let list = winners.as_slice();
