@@ -128,6 +128,20 @@ impl<J: Job> Board<J> {
         }
     }
 
+    /// As `computed_as`, of a work that is given away: its bytes go into the journal and into the seat's list without another copy.
+    ///
+    /// Refusals are those of `computed_as`, in its order. Nothing has changed then; the work is dropped.
+    pub fn hand_in_as(&mut self, seat: &mut Seat, done: Finished<J>) -> Result<Took, WorldFault>
+        ensures hands { Hands self.old seat.old done result self.new seat.new }
+        ensures headline { HeadlineHolds self.old.world self.new.world }
+    {
+        if !self.is_due(&done) {
+            return Err(WorldFault::NotNow(self.why_not_due(&done.container())));
+        }
+        let (event, copy) = done.into_events();
+        self.make_noted(seat, event, copy)
+    }
+
     /// The world, where the seats account for its journal: their numbers differ, their lists have as many events together as the journal, and each
     /// list is the journal's events of its number, in order. Else `Mismatch`, and nothing is handed back. It takes no memory.
     pub fn close(self, seats: Vec<Seat>) -> Result<World, Mismatch>
@@ -177,14 +191,28 @@ impl<J: Job> Board<J> {
         }
     }
 
-    // Makes an event that carries the definition's bytes, if any. Where there is no room for a note of it, it is refused as it would be, were there memory; else for
-    // want of memory.
+    // Makes an event that carries the definition's bytes, if any. Where there is no memory for a copy, it is refused as it would be, were there memory; else for want
+    // of memory.
     fn make(&mut self, seat: &mut Seat, event: Event) -> Result<Took, WorldFault>
         requires carries { CarriesDefinition (job_of (computation J.Key.cmp J.Key.codec J.Value.codec J.functions)) self.old.world.config (world_in self.old.world) event }
         ensures makes { Makes self.old seat.old event result self.new seat.new }
         ensures headline { HeadlineHolds self.old.world self.new.world }
     {
-        match copy_with_room(&mut self.by, &mut seat.made, &event) {
+        match event.copy() {
+            Ok(copy) => self.make_noted(seat, event, copy),
+            Err(AllocError) => Err(refusal(&self.world, event)),
+        }
+    }
+
+    // Makes an event, of which there is a copy for the seat's list. Where there is no room for a note of it, it is refused as it would be, were there memory; else for
+    // want of memory.
+    fn make_noted(&mut self, seat: &mut Seat, event: Event, copy: Event) -> Result<Took, WorldFault>
+        requires carries { CarriesDefinition (job_of (computation J.Key.cmp J.Key.codec J.Value.codec J.functions)) self.old.world.config (world_in self.old.world) event }
+        requires same { copy ≡ event }
+        ensures makes { Makes self.old seat.old event result self.new seat.new }
+        ensures headline { HeadlineHolds self.old.world self.new.world }
+    {
+        match with_room(&mut self.by, &mut seat.made, copy) {
             Ok(copy) => {
                 let took = self.world.apply(event)?;
                 self.by.push_reserved(seat.number);
@@ -206,20 +234,16 @@ fn refusal(world: &World, event: Event) -> WorldFault
     }
 }
 
-// A copy of an event for a seat's list, and room for it there, and for a number more.
-fn copy_with_room(
-    by: &mut Vec<u32>,
-    made: &mut Vec<Event>,
-    event: &Event,
-) -> Result<Event, AllocError>
+// An event for a seat's list, once there is room for it there, and for a number more.
+fn with_room(by: &mut Vec<u32>, made: &mut Vec<Event>, event: Event) -> Result<Event, AllocError>
     ensures by { by.new.items ≡ by.old.items }
     ensures made { made.new.items ≡ made.old.items }
     ensures room { OnOk result ((vec_len by.new < vec_capacity by.new) × (vec_len made.new < vec_capacity made.new)) }
-    ensures copy { IfOk result (λ copy. copy ≡ event.now) }
+    ensures event { IfOk result (λ kept. kept ≡ event) }
 {
     by.reserve(1)?;
     made.reserve(1)?;
-    event.copy()
+    Ok(event)
 }
 
 // Whether an event hands in what was computed.

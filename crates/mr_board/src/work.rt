@@ -3,12 +3,14 @@ ghost use Rattle.std.specs.Prelude.{◌≡◌, ◌↔◌, ◌≤◌, IfOk, IfErr
 ghost use Rattle.mr_ids.specs.declared.id.TaskKind.{TaskKind};
 ghost use Rattle.mr_user.specs.Computation.{computation};
 ghost use Rattle.mr_model.specs.Packets.{Config};
+ghost use Rattle.mr_model.specs.World.{Compute};
 ghost use Rattle.mr_model.specs.Sequential.{made_of};
 ghost use Rattle.mr_sequential.specs.Jobs.{job_of};
 ghost use Rattle.mr_work.specs.Works.{as_input, FaultIs, IsShort};
 ghost use Rattle.mr_world.specs.Readings.{as_input as as_lent};
 ghost use Rattle.mr_board.specs.Boards.{IsMeant, kind_of};
 
+use mr_event::Event;
 use mr_ids::Bytes;
 use mr_mapside::WorkFault;
 use mr_packet::ContainerId;
@@ -44,10 +46,13 @@ pub struct Finished<J: Job> {
     input: Input,
     reduces: u32,
     bytes: Bytes,
+    // The same bytes again, for a seat's list.
+    copy: Bytes,
     of: PhantomData<J>,
 }
 
 impl<J: Job> Model for Finished<J> {
+    ghost use Rattle.std.specs.Prelude.{◌≡◌};
     ghost use Rattle.mr_user.specs.Computation.{computation};
     ghost use Rattle.mr_sequential.specs.Jobs.{job_of};
     ghost use Rattle.mr_work.specs.Works.{as_input};
@@ -57,7 +62,7 @@ impl<J: Job> Model for Finished<J> {
 
     ghost view = { λ f. record { container = f.container; input = as_input f.input; reduces = f.reduces; bytes = f.bytes } };
 
-    ghost invariant = { λ f. IsMeant (job_of (computation J.Key.cmp J.Key.codec J.Value.codec J.functions)) f.reduces (as_input f.input) f.bytes };
+    ghost invariant = { λ f. IsMeant (job_of (computation J.Key.cmp J.Key.codec J.Value.codec J.functions)) f.reduces (as_input f.input) f.bytes × (f.copy ≡ f.bytes) };
 }
 
 impl Work {
@@ -91,6 +96,7 @@ impl Work {
             IfErr result (FaultIs (G.refuses gate.now (kind_of self.input)) all self.reduces self.input) }
     {
         let bytes = work(alloc, job, gate, &self.input, self.reduces)?;
+        let copy = bytes.copy()?;
         let Work {
             container,
             input,
@@ -101,6 +107,7 @@ impl Work {
             input,
             reduces,
             bytes,
+            copy,
             of: PhantomData,
         })
     }
@@ -122,11 +129,38 @@ impl<J: Job> Finished<J> {
         &self.bytes
     }
 
+    // The event that hands its bytes in, twice.
+    pub(crate) fn into_events(self) -> (Event, Event)
+        ensures event { result.0 ≡ Compute self.container self.bytes }
+        ensures same { result.1 ≡ result.0 }
+        ensures meant { IsMeant (job_of (computation J.Key.cmp J.Key.codec J.Value.codec J.functions)) self.reduces self.input self.bytes }
+    {
+        let Finished {
+            container,
+            input: _,
+            reduces: _,
+            bytes,
+            copy,
+            of: _,
+        } = self;
+        (computed(&container, bytes), computed(&container, copy))
+    }
+
     // Whether it was made of what is lent here, for so many reduces.
     pub(crate) fn is_of(&self, lent: mr_world::Input<'_>, reduces: u32) -> bool
         ensures { IsTrue result ↔ ((self.now.input ≡ as_lent lent.entry) × (self.now.reduces ≡ reduces)) }
     {
         self.reduces == reduces && is_copy_of(&self.input, lent)
+    }
+}
+
+// The event that hands these bytes in.
+fn computed(container: &ContainerId, bytes: Bytes) -> Event
+    ensures { result ≡ Compute container.now bytes }
+{
+    Event::Computed {
+        container: *container,
+        bytes,
     }
 }
 

@@ -20,6 +20,8 @@ pub(crate) struct Actor {
     pub(crate) role: Role,
     passed: usize,
     ready: Vec<ContainerId>,
+    // Reduces whose works wait until no reduce fetches any longer.
+    held: Vec<ContainerId>,
     round: u64,
 }
 
@@ -29,6 +31,7 @@ impl Actor {
             role,
             passed: 0,
             ready: Vec::new(alloc),
+            held: Vec::new(alloc),
             round: 0,
         }
     }
@@ -73,6 +76,26 @@ impl Actor {
         self.ready.pop()
     }
 
+    /// Whether no round has begun yet. From the first round on no work waits.
+    pub(crate) fn is_early(&self) -> bool {
+        self.round == 0
+    }
+
+    /// The work of a reduce waits.
+    pub(crate) fn hold(&mut self, c: &ContainerId) -> Result<(), AllocError> {
+        Ok(self.held.push(*c)?)
+    }
+
+    /// Whether the work of a reduce waits.
+    pub(crate) fn holds(&self) -> bool {
+        !self.held.is_empty()
+    }
+
+    /// The reduce whose work began to wait last. It waits no longer from then on.
+    pub(crate) fn next_held(&mut self) -> Option<ContainerId> {
+        self.held.pop()
+    }
+
     /// In a new round each living container of the node is ready: whoever waits for an answer asks again.
     pub(crate) fn begin(&mut self, world: &World, n: u32, round: u64) -> Result<(), AllocError> {
         if self.round == round {
@@ -80,6 +103,7 @@ impl Actor {
         }
         self.round = round;
         self.ready.clear();
+        self.held.clear();
         let first = world.next_living(None);
         let mut at = first;
         for _ in 0..mr_world::MAX_CONTAINERS {

@@ -2,6 +2,7 @@
 use crate::actor::{Actor, Role};
 use crate::fault::DriveFault;
 use crate::fault_turns::Coming;
+use crate::fetching::Fetching;
 use crate::hand_in::hand_in;
 use crate::master_turns::master_turn;
 use crate::node_turns::node_turn;
@@ -18,6 +19,7 @@ use std::alloc::Global;
 pub(crate) struct Floor<J: Job> {
     board: Board<J>,
     coming: Coming,
+    fetching: Fetching,
     stop: Option<DriveFault>,
     // Whether an outcome was told, or the newest master is Stopped, and how many packets were looked at for that.
     over: bool,
@@ -35,6 +37,7 @@ impl<J: Job> Floor<J> {
         Floor {
             board,
             coming,
+            fetching: Fetching::new(),
             stop: None,
             over: false,
             looked: 0,
@@ -51,6 +54,7 @@ impl<J: Job> Floor<J> {
         let Floor {
             board,
             coming: _,
+            fetching: _,
             stop,
             over: _,
             looked: _,
@@ -175,9 +179,9 @@ impl<J: Job> Floor<J> {
         match actor.role {
             Role::Node(n) => {
                 actor.begin(self.board.world(), n, self.round)?;
-                node_turn(alloc, &mut self.board, seat, actor)
+                node_turn(alloc, &mut self.board, &mut self.fetching, seat, actor)
             }
-            Role::Master(k) => master_turn(&mut self.board, seat, actor, k),
+            Role::Master(k) => master_turn(&mut self.board, &mut self.fetching, seat, actor, k),
             Role::Faults => self.coming.turn(&mut self.board, seat),
         }
     }

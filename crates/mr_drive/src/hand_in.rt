@@ -15,7 +15,7 @@ pub(crate) fn hand_in<J: Job>(
     done: Result<Finished<J>, WorkFault>,
 ) -> Result<(), DriveFault> {
     match done {
-        Ok(done) => match board.computed_as(seat, &done) {
+        Ok(done) => match board.hand_in_as(seat, done) {
             Ok(_) => Ok(()),
             Err(fault) => match stopping(fault) {
                 None => Ok(()),

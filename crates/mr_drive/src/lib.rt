@@ -17,6 +17,7 @@ mod actor;
 mod driver;
 mod fault;
 mod fault_turns;
+mod fetching;
 mod floor;
 mod hand_in;
 mod made;

@@ -1,6 +1,7 @@
 //! The turns of a master: it hears, makes its store calls, launches.
 use crate::actor::Actor;
 use crate::fault::DriveFault;
+use crate::fetching::Fetching;
 use crate::made::made;
 use crate::turn::Turn;
 use mr_board::{Board, Seat};
@@ -11,6 +12,7 @@ use mr_world::World;
 /// At most one event of the master of generation `k`: a packet for it, else its store call, else its launch.
 pub(crate) fn master_turn<J: Job>(
     board: &mut Board<J>,
+    fetching: &mut Fetching,
     seat: &mut Seat,
     actor: &mut Actor,
     k: u32,
@@ -20,7 +22,14 @@ pub(crate) fn master_turn<J: Job>(
         return made(board, seat, Event::Deliver { packet });
     }
     match next_of_master(board.world(), k)? {
-        Some(event) => made(board, seat, event),
+        Some(event) => {
+            let launches = matches!(event, Event::LaunchOn { .. });
+            let turn = made(board, seat, event)?;
+            if launches && matches!(turn, Turn::Made) {
+                fetching.launched();
+            }
+            Ok(turn)
+        }
         None => Ok(Turn::Nothing),
     }
 }

@@ -1,35 +1,69 @@
 //! The turns of a node: deliveries to it and to its containers, steps of its containers, works.
 use crate::actor::Actor;
 use crate::fault::{DriveFault, stopping};
+use crate::fetching::Fetching;
 use crate::made::made;
 use crate::turn::Turn;
 use mr_board::{Board, Seat};
 use mr_event::{Event, Weather};
+use mr_ids::TaskKind;
 use mr_packet::ContainerId;
 use mr_user::Job;
+use mr_world::{Input, World};
 use std::alloc::Global;
 
-/// At most one event of a node, or a work of one of its containers.
+/// At most one event of a node, or a work of one of its containers. The node answers fetches before it computes: the work of a reduce waits while
+/// another reduce fetches, until a round begins.
 pub(crate) fn node_turn<J: Job>(
     alloc: Global,
     board: &mut Board<J>,
+    fetching: &mut Fetching,
     seat: &mut Seat,
     actor: &mut Actor,
 ) -> Result<Turn, DriveFault> {
     if let Some(place) = actor.next_packet(board.world()) {
         if let Some(envelope) = board.world().bag().get(place) {
+            fetching.heard(envelope);
             actor.heard(envelope)?;
         }
         let packet = place as u64;
         return made(board, seat, Event::Deliver { packet });
     }
     let Some(c) = actor.next_ready() else {
-        return Ok(Turn::Nothing);
+        return held_work(alloc, board, fetching, actor);
     };
-    if board.world().input(&c).is_some() {
-        return work_of(alloc, board, c);
+    let Some(kind) = kind_of_work(board.world(), &c) else {
+        return step(board, seat, actor, c);
+    };
+    if kind == TaskKind::Reduce && actor.is_early() && fetching.goes_on(board.world()) {
+        actor.hold(&c)?;
+        return Ok(Turn::Made);
     }
-    step(board, seat, actor, c)
+    work_of(alloc, board, c)
+}
+
+// Whose work a container is to compute now, if it is to compute.
+fn kind_of_work(world: &World, c: &ContainerId) -> Option<TaskKind> {
+    match world.input(c)? {
+        Input::Map { .. } => Some(TaskKind::Map),
+        Input::Reduce { .. } => Some(TaskKind::Reduce),
+    }
+}
+
+// The work of a reduce that waited, once no reduce fetches.
+fn held_work<J: Job>(
+    alloc: Global,
+    board: &Board<J>,
+    fetching: &mut Fetching,
+    actor: &mut Actor,
+) -> Result<Turn, DriveFault> {
+    if !actor.holds() || fetching.goes_on(board.world()) {
+        return Ok(Turn::Nothing);
+    }
+    match actor.next_held() {
+        Some(c) => work_of(alloc, board, c),
+        None => Ok(Turn::Nothing),
+    }
 }
 
 // The work of a container.

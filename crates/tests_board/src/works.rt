@@ -40,6 +40,25 @@ fn work_is_taken_once(rt: HostRuntime) {
     );
 }
 
+// A work is given away: its event stands in the journal and in the list of the seat. One that comes too late changes nothing.
+#[test]
+fn work_is_given_away_once(rt: HostRuntime) {
+    let mut table = opened(&rt, rt.alloc(), b"a b a");
+    table.launches_the_map(&rt);
+    let c = container(&rt, 0);
+    let work = table.done_at(&rt, rt.alloc(), c);
+    let late = table.done_at(&rt, rt.alloc(), c);
+    let answer = table.board.hand_in_as(&mut table.nodes, work);
+    assert!(rt; answer.is_ok_and(|took| took.count == 0));
+    assert!(rt; table.nodes.made().len() == 1);
+    assert!(rt; is_the_block(&table.nodes.made()[0], c));
+    let journal = table.board.world().journal();
+    assert!(rt; journal.last().is_some_and(|event| is_the_block(event, c)));
+    let answer = table.board.hand_in_as(&mut table.nodes, late);
+    assert!(rt; answer == Err(WorldFault::NotNow(Why::WrongWish)));
+    assert!(rt; table.nodes.made().len() == 1);
+}
+
 // A container that died takes nothing.
 #[test]
 fn work_of_a_dead_container_is_refused(rt: HostRuntime) {

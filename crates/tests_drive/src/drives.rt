@@ -24,7 +24,7 @@ fn plan(rt: &impl Abort, alloc: Global, parts: &str) -> Plan {
     ).expect(rt, "no memory");
     match read_job_text(alloc, text.as_bytes()) {
         Ok(submission) => planned(submission),
-        Err(_) => panic!(rt; "no job text"),
+        Err(fault) => panic!(rt; "{fault}"),
     }
 }
 
@@ -71,8 +71,7 @@ fn threads_hold(rt: HostRuntime) -> Result<(), Fail> {
         &PairGate::new(&rt, TURNS),
         &two,
         TURNS,
-    )
-    .map_err(|_| "a fault")?;
+    )?;
     assert!(rt; is_counted(&report));
     let one = plan(&rt, rt.alloc(), r#""job":"wordcount","splits":["a b","a"]"#);
     let fault = drive(
@@ -84,7 +83,7 @@ fn threads_hold(rt: HostRuntime) -> Result<(), Fail> {
         TURNS,
     )
     .err();
-    assert!(rt; fault == Some(DriveFault::TurnsSpent));
+    assert!(rt; fault == Some(DriveFault::TurnsSpent), "{fault:?}");
     Ok(())
 }
 
@@ -95,13 +94,11 @@ fn threads_with_faults(rt: HostRuntime) -> Result<(), Fail> {
         rt.alloc(),
         r#""job":"wordcount","splits":["a b a"],"faults":[{"after":12,"node":0}]"#,
     );
-    let report = drive(&rt, rt.alloc(), &WordCount, &OpenGate, &plan, TURNS).map_err(
-        |_| "a fault",
-    )?;
+    let report = drive(&rt, rt.alloc(), &WordCount, &OpenGate, &plan, TURNS)?;
     assert!(rt; is_counted(&report));
     assert!(rt; happens_at(&report, 12, &Event::NodeRestart { node: 0 }));
     let fault = drive(&rt, rt.alloc(), &WordCount, &OpenGate, &plan, 1).err();
-    assert!(rt; fault == Some(DriveFault::TurnsSpent));
+    assert!(rt; fault == Some(DriveFault::TurnsSpent), "{fault:?}");
     Ok(())
 }
 
@@ -112,9 +109,7 @@ fn a_master_crashes_at_once(rt: HostRuntime) -> Result<(), Fail> {
         rt.alloc(),
         r#""job":"wordcount","splits":["a b a"],"faults":[{"after":1,"master":0}]"#,
     );
-    let report = drive(&rt, rt.alloc(), &WordCount, &OpenGate, &plan, TURNS).map_err(
-        |_| "a fault",
-    )?;
+    let report = drive(&rt, rt.alloc(), &WordCount, &OpenGate, &plan, TURNS)?;
     assert!(rt; is_counted(&report));
     assert!(rt;
         happens_at(
@@ -146,9 +141,7 @@ fn threads_with_expiry(rt: HostRuntime) -> Result<(), Fail> {
         rt.alloc(),
         r#""job":"wordcount","splits":["a b a"],"faults":[{"after":12,"expire":0}]"#,
     );
-    let report = drive(&rt, rt.alloc(), &WordCount, &OpenGate, &plan, TURNS).map_err(
-        |_| "a fault",
-    )?;
+    let report = drive(&rt, rt.alloc(), &WordCount, &OpenGate, &plan, TURNS)?;
     assert!(rt; is_counted(&report));
     assert!(rt;
         happens_at(
@@ -170,9 +163,7 @@ fn a_fault_that_never_comes_is_dropped(rt: HostRuntime) -> Result<(), Fail> {
         rt.alloc(),
         r#""job":"wordcount","splits":["a b a"],"faults":[{"after":1000000,"node":0}]"#,
     );
-    let report = drive(&rt, rt.alloc(), &WordCount, &OpenGate, &plan, TURNS).map_err(
-        |_| "a fault",
-    )?;
+    let report = drive(&rt, rt.alloc(), &WordCount, &OpenGate, &plan, TURNS)?;
     assert!(rt; is_counted(&report));
     Ok(())
 }
@@ -180,28 +171,46 @@ fn a_fault_that_never_comes_is_dropped(rt: HostRuntime) -> Result<(), Fail> {
 #[test]
 fn a_job_that_refuses_fails(rt: HostRuntime) -> Result<(), Fail> {
     let plan = plan(&rt, rt.alloc(), r#""job":"maxbykey","splits":["x"]"#);
-    let report = drive(&rt, rt.alloc(), &MaxByKey, &OpenGate, &plan, TURNS).map_err(|_| "a fault")?;
+    let report = drive(&rt, rt.alloc(), &MaxByKey, &OpenGate, &plan, TURNS)?;
     assert!(rt; !report.succeeded);
     assert!(rt; report.files.is_empty());
     Ok(())
 }
 
-// Holds each map work until four have entered; counts the reduces.
+// Holds each work of a kind until four have entered; counts the works of both.
 #[derive(Drop)]
 struct Meeting {
+    held: TaskKind,
     maps: AtomicU64,
     reduces: AtomicU64,
 }
 
+impl Meeting {
+    fn of(held: TaskKind) -> Meeting {
+        Meeting {
+            held,
+            maps: AtomicU64::new(0),
+            reduces: AtomicU64::new(0),
+        }
+    }
+
+    // How many works of a kind have entered.
+    fn entered(&self, kind: TaskKind) -> &AtomicU64 {
+        match kind {
+            TaskKind::Map => &self.maps,
+            TaskKind::Reduce => &self.reduces,
+        }
+    }
+}
+
 impl Gate for Meeting {
     fn enter(&self, kind: TaskKind) -> Result<(), GateFault> {
-        if kind == TaskKind::Reduce {
-            self.reduces.fetch_add(1, Ordering::SeqCst);
+        self.entered(kind).fetch_add(1, Ordering::SeqCst);
+        if kind != self.held {
             return Ok(());
         }
-        self.maps.fetch_add(1, Ordering::SeqCst);
         for _ in 0..TURNS {
-            if self.maps.load(Ordering::SeqCst) >= 4 {
+            if self.entered(kind).load(Ordering::SeqCst) >= 4 {
                 return Ok(());
             }
             thread::yield_now();
@@ -212,29 +221,57 @@ impl Gate for Meeting {
 
 #[test]
 fn four_map_works_at_once(rt: HostRuntime) -> Result<(), Fail> {
-    let gate = Meeting {
-        maps: AtomicU64::new(0),
-        reduces: AtomicU64::new(0),
-    };
+    let gate = Meeting::of(TaskKind::Map);
     let four = plan(
         &rt,
         rt.alloc(),
         r#""job":"wordcount","splits":["a","b","a",""],"nodes":4"#,
     );
-    let report = drive(&rt, rt.alloc(), &WordCount, &gate, &four, TURNS).map_err(|_| "a fault")?;
+    let report = drive(&rt, rt.alloc(), &WordCount, &gate, &four, TURNS)?;
     assert!(rt; is_counted(&report));
     assert_eq!(rt; gate.maps.load(Ordering::SeqCst), 4);
     assert_eq!(rt; gate.reduces.load(Ordering::SeqCst), 1);
-    let gate = Meeting {
-        maps: AtomicU64::new(0),
-        reduces: AtomicU64::new(0),
-    };
+    let gate = Meeting::of(TaskKind::Map);
     let three = plan(
         &rt,
         rt.alloc(),
         r#""job":"wordcount","splits":["a","b","a",""],"nodes":3"#,
     );
     let fault = drive(&rt, rt.alloc(), &WordCount, &gate, &three, TURNS).err();
+    assert!(rt; fault == Some(DriveFault::TurnsSpent), "{fault:?}");
+    Ok(())
+}
+
+// While a reduce still fetches, no node computes: a node that computes answers no fetch.
+#[test]
+fn four_reduce_works_at_once(rt: HostRuntime) -> Result<(), Fail> {
+    let gate = Meeting::of(TaskKind::Reduce);
+    let four = plan(
+        &rt,
+        rt.alloc(),
+        r#""job":"wordcount","splits":["a","b","a",""],"nodes":4,"reduces":4"#,
+    );
+    let report = drive(&rt, rt.alloc(), &WordCount, &gate, &four, TURNS).map_err(|_| "a fault")?;
+    assert!(rt; report.succeeded && report.files.len() == 4);
+    assert_eq!(rt; gate.maps.load(Ordering::SeqCst), 4);
+    assert_eq!(rt; gate.reduces.load(Ordering::SeqCst), 4);
+    Ok(())
+}
+
+// Lets no work pass.
+#[derive(Drop)]
+struct ShutGate;
+
+impl Gate for ShutGate {
+    fn enter(&self, _kind: TaskKind) -> Result<(), GateFault> {
+        Err(GateFault::Spent)
+    }
+}
+
+#[test]
+fn a_gate_that_refuses_ends_the_run(rt: HostRuntime) -> Result<(), Fail> {
+    let plan = plan(&rt, rt.alloc(), r#""job":"wordcount","splits":["a b a"]"#);
+    let fault = drive(&rt, rt.alloc(), &WordCount, &ShutGate, &plan, TURNS).err();
     assert!(rt; fault == Some(DriveFault::TurnsSpent));
     Ok(())
 }
