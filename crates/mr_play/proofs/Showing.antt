@@ -3,8 +3,8 @@ use Rattle.std.proofs.Common.{◌≡◌, ℕ, suc, Bool, List, ◌++◌, Ok, ref
 use Rattle.mr_history.specs.Reading.{records_of}
 use Rattle.mr_script.specs.declared.command.Command.{Command}
 use Rattle.mr_script.specs.Script.{AreCommands}
-use Rattle.mr_model.specs.World.{World}
-use Rattle.mr_world.specs.Journal.{run_of}
+use Rattle.mr_world.specs.Histories.{stable_bytes}
+use Rattle.mr_world.specs.Journal.{Journal, history_in, run_of, world_in}
 use Rattle.mr_world.specs.Limits.{within}
 use Rattle.mr_play.specs.declared.shown.Shown.{Shown}
 use Rattle.mr_play.specs.declared.player.Player.{Player}
@@ -19,11 +19,13 @@ use Rattle.mr_play.proofs.Playing.{one_end}
 use Rattle.mr_play.specs.Shown.{AddsSegments, Draws, HasPrinted, HasText, IsHistory, IsSegment, Shows, segment_text, text_in}
 
 -- one segment more was written
-pub adds-one : (w : World) (n k : ℕ) (old mid new bytes : List ℕ) → k ≡ suc n → AddsSegments w n old mid → records_of bytes ≡ (w.history k).stable → new ≡ mid ++ segment_text k bytes → AddsSegments w k old new
-adds-one w n k old mid new bytes is (more, are, so) tells written =
-    let text = segment_text k bytes in
-    subst (λ j. AddsSegments w j old new) (sym is)
-    (more ++ text, (more, text, are, subst (λ j. IsSegment w j text) is (record { bytes = bytes; tells = tells; is = refl }), refl), written ∙ ap (λ xs. xs ++ text) so ∙ append_assoc old more text)
+pub adds-one : (j : Journal) (n k : ℕ) (old mid new bytes : List ℕ) → k ≡ suc n → AddsSegments j n old mid → bytes ≡ stable_bytes (history_in j) k → records_of bytes ≡ ((world_in j).history k).stable → new ≡ mid ++ segment_text k bytes → AddsSegments j k old new
+adds-one j n k old mid new bytes is (more, are, so) all tells written =
+    let text = segment_text k (stable_bytes (history_in j) k) in
+    let told = subst (λ xs. records_of xs ≡ ((world_in j).history k).stable) all tells in
+    let says = ap (λ xs. mid ++ segment_text k xs) all in
+    subst (λ i. AddsSegments j i old new) (sym is)
+    (more ++ text, (more, text, are, subst (λ i. IsSegment j i text) is (record { tells = told; is = refl }), refl), written ∙ says ∙ ap (λ xs. xs ++ text) so ∙ append_assoc old more text)
 
 -- what is printed of a player that has played what an input says
 pub printed : (input : List ℕ) (job : Submission) (commands : List (ℕ × Command)) (p : Player) → submission_of (job_line input) ≡ Ok job → AreCommands job.id 2 (script_lines input) commands → HasPlayed job commands p → HasPrinted input p
@@ -39,6 +41,7 @@ printed input job commands p said read h = record {
   };
   met = refl;
   cluster = ap (λ cfg. run_of cfg p.world.events) (sym h.config);
+  journal = ap (λ cfg. record { config = cfg; events = p.world.events }) (sym h.config);
 }
 
 pub shows : (shown : Shown) (input text : List ℕ) (p : Player) → HasPrinted input p → HasText p shown text → Shows within shown input text
@@ -49,7 +52,7 @@ shows shown input text p is h = record {
   untraced = h.untraced;
   plain = h.plain;
   prints = is.prints;
-  history = λ asked. subst (λ (w : World). IsHistory w h.behind) (sym is.cluster) (h.history asked);
+  history = λ asked. subst (λ (j : Journal). IsHistory j h.behind) (sym is.journal) (h.history asked);
   is = h.is;
 }
 

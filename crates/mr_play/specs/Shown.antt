@@ -2,37 +2,36 @@
 use Rattle.std.specs.Prelude.{◌≡◌, ℕ, zero, suc, true, false, List, [], ◌∷◌, ◌++◌, length, codes, decimal}
 use Rattle.mr_history.specs.Reading.{records_of}
 use Rattle.mr_model.specs.Packets.{Config}
-use Rattle.mr_model.specs.World.{World}
 use Rattle.mr_model.specs.Claims.{Limits}
-use Rattle.mr_world.specs.Journal.{world_in}
+use Rattle.mr_world.specs.Histories.{stable_bytes}
+use Rattle.mr_world.specs.Journal.{Journal, history_in, world_in}
 use Rattle.mr_world.specs.Limits.{within}
 use Rattle.mr_play.specs.declared.shown.Shown.{Shown}
 use Rattle.mr_play.specs.declared.player.Player.{Player}
-use Rattle.mr_play.specs.Text.{PrintsPlay, printed_world}
+use Rattle.mr_play.specs.Text.{PrintsPlay, printed_journal, printed_world}
 use Rattle.mr_play.specs.WorldText.{world_text}
 
 -- a segment: its generation and how many bytes are stable, and then these
 abbrev pub segment_text : ℕ → List ℕ → List ℕ
 segment_text k bytes = codes "== history " ++ decimal k ++ codes " " ++ decimal (length bytes) ++ 10 ∷ bytes
 
--- that of generation k: the records of its bytes are those that are stable
-pub record IsSegment (w : World) (k : ℕ) (text : List ℕ) : Type 0 where
-  pub bytes : List ℕ
-  pub tells : records_of bytes ≡ (w.history k).stable
-  pub is : text ≡ segment_text k bytes
+-- that of generation k: all bytes of it that are stable, a torn end too; the records of these are those that are stable
+pub record IsSegment (j : Journal) (k : ℕ) (text : List ℕ) : Type 0 where
+  pub tells : records_of (stable_bytes (history_in j) k) ≡ ((world_in j).history k).stable
+  pub is : text ≡ segment_text k (stable_bytes (history_in j) k)
 
 -- the segments of the first n generations, in order
-abbrev pub AreSegments : World → ℕ → List ℕ → Type 0
-AreSegments w zero text = text ≡ []
-AreSegments w (suc n) text = (older newest : List ℕ) × AreSegments w n older × IsSegment w (suc n) newest × (text ≡ older ++ newest)
+abbrev pub AreSegments : Journal → ℕ → List ℕ → Type 0
+AreSegments j zero text = text ≡ []
+AreSegments j (suc n) text = (older newest : List ℕ) × AreSegments j n older × IsSegment j (suc n) newest × (text ≡ older ++ newest)
 
--- the segment of each generation that was started, in order
-abbrev pub IsHistory : World → List ℕ → Type 0
-IsHistory w text = AreSegments w w.fence text
+-- the segment of each generation that was started, in order, after the events of a journal
+abbrev pub IsHistory : Journal → List ℕ → Type 0
+IsHistory j text = AreSegments j (world_in j).fence text
 
 -- the segments of the first n generations were written behind
-abbrev pub AddsSegments : World → ℕ → List ℕ → List ℕ → Type 0
-AddsSegments w n old new = (more : List ℕ) × AreSegments w n more × (new ≡ old ++ more)
+abbrev pub AddsSegments : Journal → ℕ → List ℕ → List ℕ → Type 0
+AddsSegments j n old new = (more : List ℕ) × AreSegments j n more × (new ≡ old ++ more)
 
 -- what is printed of a player: what was told of lines, and then of its world
 abbrev pub text_in : Player → List ℕ
@@ -43,6 +42,7 @@ pub record HasPrinted (input : List ℕ) (p : Player) : Type 0 where
   pub prints : PrintsPlay within input (text_in p)
   pub met : prints.left.met ≡ p.met
   pub cluster : printed_world within input (text_in p) prints ≡ world_in p.world
+  pub journal : printed_journal within input (text_in p) prints ≡ p.world
 
 -- a text that has it: with something before it only where a trace is asked for, and behind it the history where that is, else nothing
 pub record HasText (p : Player) (shown : Shown) (text : List ℕ) : Type 0 where
@@ -50,10 +50,10 @@ pub record HasText (p : Player) (shown : Shown) (text : List ℕ) : Type 0 where
   pub behind : List ℕ
   pub untraced : shown.trace ≡ false → before ≡ []
   pub plain : shown.history ≡ false → behind ≡ []
-  pub history : shown.history ≡ true → IsHistory (world_in p.world) behind
+  pub history : shown.history ≡ true → IsHistory p.world behind
   pub is : text ≡ before ++ (text_in p ++ behind)
 
--- The text has what `play` prints: with something before it only where a trace is asked for, and behind it, where the history is, exactly that of the cluster of which
+-- The text has what `play` prints: with something before it only where a trace is asked for, and behind it, where the history is, exactly that of the run of which
 -- it is printed, else nothing.
 pub record Shows (within : Config → Limits) (shown : Shown) (input text : List ℕ) : Type 0 where
   pub before : List ℕ
@@ -62,7 +62,7 @@ pub record Shows (within : Config → Limits) (shown : Shown) (input text : List
   pub untraced : shown.trace ≡ false → before ≡ []
   pub plain : shown.history ≡ false → behind ≡ []
   pub prints : PrintsPlay within input printed
-  pub history : shown.history ≡ true → IsHistory (printed_world within input printed prints) behind
+  pub history : shown.history ≡ true → IsHistory (printed_journal within input printed prints) behind
   pub is : text ≡ before ++ (printed ++ behind)
 
 -- there is a text that `play` prints: what a picture of the run shows is said nowhere

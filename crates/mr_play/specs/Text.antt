@@ -12,6 +12,7 @@ use Rattle.mr_model.specs.World.{World}
 use Rattle.mr_model.specs.Claims.{Limits}
 use Rattle.mr_model.specs.Sequential.{Job}
 use Rattle.mr_sequential.specs.Jobs.{job_of}
+use Rattle.mr_world.specs.Journal.{Journal}
 use Rattle.mr_script.specs.declared.command.Command.{Command}
 use Rattle.mr_script.specs.Lines.{before, after, lines_of}
 use Rattle.mr_script.specs.Script.{AreCommands, IsFirstBad}
@@ -79,6 +80,10 @@ module _ (within : Config → Limits) where
   -- the cluster of which it is printed
   abbrev pub printed_world : (input text : List ℕ) → PrintsPlay input text → World
   printed_world input text p = Rattle.mr_play.specs.Played.world (job_as p.job.job) (config_of p.job) (within (config_of p.job)) p.left
+
+  -- the events of the run of which it is printed, those that were taken
+  abbrev pub printed_journal : (input text : List ℕ) → PrintsPlay input text → Journal
+  printed_journal input text p = record { config = config_of p.job; events = p.left.events }
 
   -- whether all that the script expects is so where it expects it
   abbrev pub IsAsExpected : List ℕ → Bool → Type 0

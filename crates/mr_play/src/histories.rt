@@ -23,7 +23,7 @@ fn print_segment(out: &mut Vec<u8>, k: u32, bytes: &[u8]) -> Result<(), AllocErr
 
 /// The segment of each generation that was started, by rising generation.
 pub fn print_histories(out: &mut Vec<u8>, world: &World) -> Result<(), AllocError>
-    ensures { OnOk result (AddsSegments (world_in world.now) (world_in world.now).fence out.old.items out.new.items) }
+    ensures { OnOk result (AddsSegments world.now (world_in world.now).fence out.old.items out.new.items) }
 {
     for older in 0..world.newest() {
         let k = older + 1;

@@ -12,8 +12,8 @@
 //! printed (`HasPrinted`). The crate above shows more of it.
 //!
 //! **What stands beside the text** (`shown_text`): something before it only where a trace is asked for, and the history behind it only where
-//! that is (`HasText`, and so `Shows`): for each generation that was started, in order, its head line `== history K LENGTH` and as many bytes,
-//! whose records are those that are stable in its segment.
+//! that is (`HasText`, and so `Shows`): for each generation that was started, in order, its head line `== history K LENGTH` and the
+//! bytes that are stable in its segment, all of them, a torn end too.
 //!
 //! **Where `play` prints `marker yes`, the files that it prints are those that `seq` prints for the same job text** (`marked_files_are_those_of_seq`), and a job text that
 //! `seq` refuses is never marked: the events of every script are faithful (`scripts_are_faithful`), since a script has no words for bytes.
