@@ -5,18 +5,21 @@ ghost use Rattle.mr_play.specs.Shown.{Draws};
 ghost use Rattle.mr_play.specs.Text.{IsAsExpected, PlayFails};
 ghost use Rattle.mr_world.specs.Limits.{within};
 
+mod cast;
 mod draw;
 mod drawing;
 mod lanes;
+mod notes;
 mod render;
 mod rest;
 mod rows;
 mod signs;
 mod svg;
 
+use crate::makers::Makers;
+use crate::part::Part;
 use crate::picture::draw::drawing_of;
 use crate::picture::render::picture_of;
-use crate::trace::Makers;
 use mr_commands::SimFault;
 use mr_play::{Printed, played, print_world};
 use mr_world::World;
@@ -55,30 +58,32 @@ fn is_of_job(line: &[u8]) -> bool {
     line.starts_with(b"marker ") || line.starts_with(b"outcome ")
 }
 
-/// The picture of a world's run, with who made each event where that is not a script, and the lines of refused events among what came of it.
+/// The picture of a part of a world's run, with who made each event where that is not a script, and the lines of refused events among what came of
+/// the whole run.
 pub fn drawn(
     alloc: Global,
     world: &World,
     makers: &Makers<'_>,
+    part: Part,
     refused: &[u8],
 ) -> Result<Vec<u8>, SimFault>
     ensures { IfErr result (λ e. e ≡ SimFault.NoMemory) }
 {
     let ending = ending_of(alloc, world, refused)?;
-    let drawing = drawing_of(alloc, world, makers, ending)?;
+    let drawing = drawing_of(alloc, world, makers, part, ending)?;
     let picture = picture_of(alloc, &drawing)?;
     Ok(picture)
 }
 
-/// The picture of what `play` plays, with the faults of `play`.
+/// The picture of a part of what `play` plays, with the faults of `play`.
 #[tactic(auto, using(mr_play::proofs::Showing::draws))]
-pub fn play_drawn(alloc: Global, input: &[u8]) -> Result<Printed, SimFault>
+pub fn play_drawn(alloc: Global, input: &[u8], part: Part) -> Result<Printed, SimFault>
     ensures ok { IfOk result (λ v. Draws within input.now) }
     ensures met { IfOk result (λ v. IsAsExpected within input.now v.met) }
     ensures fault { IfErr result (PlayFails within input.now) }
 {
     let player = played(alloc, input)?;
     let makers = Makers::Lines(&player.stretches);
-    let picture = drawn(alloc, &player.world, &makers, &player.told)?;
+    let picture = drawn(alloc, &player.world, &makers, part, &player.told)?;
     Ok(player.printed(picture))
 }

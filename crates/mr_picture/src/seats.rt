@@ -1,45 +1,98 @@
 //! Which thread makes an event, where threads run a job: that of a node makes what befalls the node and its containers, that of a master what the master
 //! does and hears, and one makes starts and faults.
-use crate::trace_words::{put_address, put_small};
+ghost use Rattle.std.specs.Prelude.{◌≡◌, ◌++◌, OnOk};
+ghost use Rattle.mr_picture.specs.Happened.{host_of, node_of, seat_of};
+ghost use Rattle.mr_picture.specs.Trace.{maker_text, seat_text};
+ghost use Rattle.mr_picture.specs.declared.makers.Maker.TheVariants.{Thread};
+ghost use Rattle.mr_world.specs.Journal.{world_in};
+ghost use Rattle.mr_world.specs.Readings.{place_in};
+
+use crate::trace_words::put_small;
 use mr_event::Event;
 use mr_packet::{Address, ContainerId};
 use mr_world::World;
 use std::alloc::AllocError;
 
-/// The thread that makes an event in this world, in brackets: `(node 0)`, `(master 1)` or `(faults)`.
-pub fn put_seat(out: &mut Vec<u8>, world: &World, event: &Event) -> Result<(), AllocError> {
-    out.extend_from_slice(b" (")?;
+/// A thread, by what it makes the events of.
+#[derive(Clone, Copy, Debug, PartialEq, Eq)]
+pub enum Seat {
+    /// That of starts and faults.
+    Faults,
+    /// That of the master of this generation.
+    Master(u32),
+    /// That of the node of this number.
+    Node(u32),
+    /// Nobody's: such an event would not be taken.
+    Nobody,
+}
+
+/// The thread that makes an event in this world.
+pub fn seat_of(world: &World, event: &Event) -> Seat
+    ensures { result ≡ seat_of (world_in world.now) event.now }
+{
     match event {
         Event::Start { .. }
         | Event::Crash { .. }
         | Event::NodeRestart { .. }
-        | Event::Expire { .. } => out.extend_from_slice(b"faults")?,
+        | Event::Expire { .. } => Seat::Faults,
         Event::Duty { generation: k, .. } | Event::LaunchOn { generation: k, .. } => {
-            put_small(out, b"master ", *k)?
+            Seat::Master(*k)
         }
         Event::Deliver { packet } => match world.bag().get(*packet as usize) {
-            Some(envelope) => put_host(out, world, &envelope.to)?,
-            None => {}
+            Some(envelope) => host_of(world, &envelope.to),
+            None => Seat::Nobody,
         },
         Event::ContainerStep { container: c, .. }
         | Event::Computed { container: c, .. }
-        | Event::Die { container: c } => put_node_of(out, world, c)?,
+        | Event::Die { container: c } => node_of(world, c),
     }
-    out.extend_from_slice(b")")
 }
 
 // The thread of an addressee.
-fn put_host(out: &mut Vec<u8>, world: &World, to: &Address) -> Result<(), AllocError> {
+fn host_of(world: &World, to: &Address) -> Seat
+    ensures { result ≡ host_of (world_in world.now) to.now }
+{
     match to {
-        Address::Container(c) => put_node_of(out, world, c),
-        Address::Master(_) | Address::Node(_) => put_address(out, to),
+        Address::Master(k) => Seat::Master(k.number()),
+        Address::Container(c) => node_of(world, c),
+        Address::Node(n) => Seat::Node(*n),
     }
 }
 
 // The thread of the node that a container runs on.
-fn put_node_of(out: &mut Vec<u8>, world: &World, c: &ContainerId) -> Result<(), AllocError> {
+fn node_of(world: &World, c: &ContainerId) -> Seat
+    ensures { result ≡ node_of (place_in (world_in world.now) c.now) }
+{
     match world.place(c) {
-        Some(place) => put_small(out, b"node ", place.node),
-        None => Ok(()),
+        Some(place) => Seat::Node(place.node),
+        None => Seat::Nobody,
+    }
+}
+
+/// The thread that makes an event in this world, in brackets: `(node 0)`, `(master 1)` or `(faults)`.
+pub fn put_seat(out: &mut Vec<u8>, world: &World, event: &Event) -> Result<(), AllocError>
+    ensures { OnOk result (out.new.items ≡ out.old.items ++ maker_text (Thread (seat_of (world_in world.now) event.now))) }
+{
+    put_in_brackets(out, seat_of(world, event))
+}
+
+/// A thread in brackets.
+pub fn put_in_brackets(out: &mut Vec<u8>, seat: Seat) -> Result<(), AllocError>
+    ensures { OnOk result (out.new.items ≡ out.old.items ++ maker_text (Thread seat)) }
+{
+    out.extend_from_slice(b" (")?;
+    put_name(out, seat)?;
+    out.extend_from_slice(b")")
+}
+
+// A thread's name.
+fn put_name(out: &mut Vec<u8>, seat: Seat) -> Result<(), AllocError>
+    ensures { OnOk result (out.new.items ≡ out.old.items ++ seat_text seat) }
+{
+    match seat {
+        Seat::Faults => out.extend_from_slice(b"faults"),
+        Seat::Master(k) => put_small(out, b"master ", k),
+        Seat::Node(n) => put_small(out, b"node ", n),
+        Seat::Nobody => Ok(()),
     }
 }

@@ -5,7 +5,8 @@ ghost use Rattle.mr_play.specs.Shown.{Shows};
 ghost use Rattle.mr_play.specs.Text.{IsAsExpected, PlayFails};
 ghost use Rattle.mr_world.specs.Limits.{within};
 
-use crate::trace::{Makers, trace_of};
+use crate::makers::Makers;
+use crate::trace::trace_of;
 use mr_commands::SimFault;
 use mr_play::{Player, Printed, Shown, played, shown_text};
 use std::alloc::Global;

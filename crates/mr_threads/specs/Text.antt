@@ -30,13 +30,13 @@ pub record TellsRun (shown : Shown) (j : Journal) (text : List ℕ) : Type 0 whe
   pub behind : List ℕ
   pub untraced : shown.trace ≡ false → before ≡ []
   pub plain : shown.history ≡ false → behind ≡ []
-  pub history : shown.history ≡ true → IsHistory (world_in j) behind
+  pub history : shown.history ≡ true → IsHistory j behind
   pub is : text ≡ before ++ (text_of_run j ++ behind)
 
 -- Of a picture nothing is said. A script has the commands of the run's events, and then what `play` prints of the run, as comments.
 abbrev pub Tells : Seen → Journal → List ℕ → Type 0
 Tells (seen.Shown shown) j text = TellsRun shown j text
-Tells seen.Drawn j text = Unit {0}
+Tells (seen.Drawn part) j text = Unit {0}
 Tells seen.Script j text = text ≡ repeating j.events ++ commented (text_of_run j)
 
 -- where the marker is, the files that `play` prints of the run are those that `seq` prints for the job text

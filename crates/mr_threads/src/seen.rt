@@ -6,7 +6,7 @@ ghost use Rattle.mr_repeat.specs.Repeating.{commented, repeating};
 
 use crate::driven::{Manner, driven};
 use mr_commands::SimFault;
-use mr_picture::{Makers, drawn, trace_of};
+use mr_picture::{Makers, Part, drawn, trace_of};
 use mr_play::{Shown, print_histories, print_world};
 use mr_repeat::{put_comments, put_script};
 use mr_world::World;
@@ -20,8 +20,8 @@ use std::thread::Threads;
 pub enum Seen {
     /// What `play` would print of it, with a trace before it and the history behind it, where they are asked for.
     Shown(Shown),
-    /// A picture of it.
-    Drawn,
+    /// A picture of this part of it.
+    Drawn(Part),
     /// The script by which `play` repeats it, and behind that what `play` prints then, as comments.
     Script,
 }
@@ -49,7 +49,7 @@ fn seen_of(alloc: Global, world: &World, seen: Seen) -> Result<Vec<u8>, SimFault
 {
     match seen {
         Seen::Shown(shown) => shown_of(alloc, world, shown),
-        Seen::Drawn => drawn(alloc, world, &Makers::Threads, &[]),
+        Seen::Drawn(part) => drawn(alloc, world, &Makers::Threads, part, &[]),
         Seen::Script => scripted(alloc, world),
     }
 }

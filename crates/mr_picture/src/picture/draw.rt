@@ -2,34 +2,39 @@
 ghost use Rattle.std.specs.Prelude.{◌≡◌, IfErr};
 ghost use Rattle.mr_commands.specs.declared.fault.SimFault.TheVariants.{NoMemory};
 
+use crate::makers::Makers;
+use crate::part::Part;
+use crate::picture::cast::{join_actor, join_addressees, living};
 use crate::picture::drawing::{
-    Arrow, Delivery, Drawing, End, Lane, MOST_ROWS, Row, Sign, Tone, container_lane, lane_of,
+    Arrow, Delivery, Drawing, End, Lane, Row, Sending, Sign, Tone, container_lane, lane_of,
     master_lane,
 };
-use crate::picture::lanes::{end_at, lanes_of, live};
+use crate::picture::lanes::{end_at, lanes_of, live, live_on};
 use crate::picture::rest::{deliveries, left_out};
 use crate::picture::rows::{
     Facts, event_of, facts_of, name_label, put_consequences, put_detail, sign_of,
 };
 use crate::seats::put_seat;
-use crate::trace::{Makers, opened};
-use crate::trace_words::{put_address, put_packet};
+use crate::trace::opened;
+use crate::trace_words::{put_address, put_number, put_packet};
 use mr_commands::SimFault;
 use mr_event::Event;
 use mr_packet::{Address, Envelope, Packet};
 use mr_world::World;
 use std::alloc::{AllocError, Global};
+use std::ops::Range;
 
-/// The drawing of the events of a world's journal, with what came of them.
+/// The drawing of a part of the events of a world's journal, with what came of them all.
 pub fn drawing_of(
     alloc: Global,
     world: &World,
     makers: &Makers<'_>,
+    part: Part,
     ending: Vec<u8>,
 ) -> Result<Drawing, SimFault>
     ensures { IfErr result (λ e. e ≡ SimFault.NoMemory) }
 {
-    let drawing = shown(alloc, world, makers, ending)?;
+    let drawing = shown(alloc, world, makers, part, ending)?;
     Ok(drawing)
 }
 
@@ -37,20 +42,27 @@ fn shown(
     alloc: Global,
     world: &World,
     makers: &Makers<'_>,
+    part: Part,
     ending: Vec<u8>,
 ) -> Result<Drawing, AllocError> {
     let journal = world.journal();
-    let part = shown_part(alloc, world)?;
-    let ways = deliveries(alloc, journal, part.bag().len())?;
-    let mut drawing = blank(alloc, &part, ending)?;
-    drawing.more = journal.len().saturating_sub(MOST_ROWS);
-    drawing.left_out = left_out(alloc, journal)?;
+    let places = part.places(journal.len());
+    let mut drawing = blank(alloc, world, part, &places, ending)?;
+    let ways = deliveries(alloc, journal, world.bag().len(), &places)?;
     let mut again = begun(alloc, world)?;
-    live(&mut drawing.lanes, &again, 0, End::Over);
-    for event in journal.iter().take(MOST_ROWS) {
+    for (place, event) in journal.iter().enumerate().take(places.start) {
+        send_before(&mut drawing, &mut again, &ways, place, event)?;
+    }
+    live_on(&mut drawing.lanes, &again);
+    for event in events_at(journal, &places) {
         add(alloc, &mut drawing, &mut again, &ways, event, makers)?;
     }
     Ok(drawing)
+}
+
+// The events at these places of a journal.
+fn events_at<'a>(journal: &'a [Event], places: &Range<usize>) -> &'a [Event] {
+    journal.get(places.start..places.end).unwrap_or(&[])
 }
 
 // A world at its beginning, of the config of this one.
@@ -61,13 +73,20 @@ fn begun(alloc: Global, world: &World) -> Result<World, AllocError> {
     }
 }
 
-// A world in which the events that are shown have happened.
-fn shown_part(alloc: Global, world: &World) -> Result<World, AllocError> {
-    let mut part = begun(alloc, world)?;
-    for event in world.journal().iter().take(MOST_ROWS) {
-        happen(&mut part, event)?;
+// The lanes of those who take part in the events at these places of a world's journal.
+fn lanes_at(alloc: Global, world: &World, places: &Range<usize>) -> Result<Vec<Lane>, AllocError> {
+    let mut again = begun(alloc, world)?;
+    for event in world.journal().iter().take(places.start) {
+        happen(&mut again, event)?;
     }
-    Ok(part)
+    let mut cast = living(alloc, &again)?;
+    for event in events_at(world.journal(), places) {
+        let first = again.bag().len();
+        join_actor(&mut cast, &again, event)?;
+        happen(&mut again, event)?;
+        join_addressees(&mut cast, &again, first)?;
+    }
+    lanes_of(alloc, &again, &cast)
 }
 
 // An event of the journal happens once more.
@@ -78,20 +97,44 @@ fn happen(world: &mut World, event: &Event) -> Result<(), AllocError> {
     }
 }
 
-// A drawing with the lanes of a world, and nothing in them.
-fn blank(alloc: Global, world: &World, ending: Vec<u8>) -> Result<Drawing, AllocError> {
+// A drawing with the lanes of those who take part, and nothing in them.
+fn blank(
+    alloc: Global,
+    world: &World,
+    part: Part,
+    places: &Range<usize>,
+    ending: Vec<u8>,
+) -> Result<Drawing, AllocError> {
+    let journal = world.journal();
+    let before = left_out(alloc, journal.get(..places.start).unwrap_or(&[]))?;
+    let behind = left_out(alloc, journal.get(places.end..).unwrap_or(&[]))?;
+    let lanes = lanes_at(alloc, world, places)?;
     let mut job = Vec::new(alloc);
     world.config().job.write(&mut job)?;
     Ok(Drawing {
         job,
-        lanes: lanes_of(alloc, world)?,
+        lanes,
         rows: Vec::new(alloc),
         arrows: Vec::new(alloc),
         repeats: Vec::new(alloc),
-        more: 0,
-        left_out: Vec::new(alloc),
+        part,
+        before,
+        behind,
         ending,
     })
+}
+
+// The event happens before the rows, at this place of the journal: only its packets are drawn, where they arrive.
+fn send_before(
+    drawing: &mut Drawing,
+    world: &mut World,
+    ways: &[Delivery],
+    place: usize,
+    event: &Event,
+) -> Result<(), AllocError> {
+    let from = actor_of(&drawing.lanes, world, event);
+    happen(world, event)?;
+    send(drawing, from, Sending::Before(place), world, ways)
 }
 
 // The event happens, and is drawn. Each packet is delivered where its place tells.
@@ -112,9 +155,10 @@ fn add(
     }
     let first = world.bag().len();
     row.leftwards = arrive(drawing, event, place)?;
+    put_sending(&mut row.detail, drawing, event)?;
     happen(world, event)?;
     live(&mut drawing.lanes, world, place, end);
-    send(drawing, row.lane, world, ways)?;
+    send(drawing, row.lane, Sending::At(place), world, ways)?;
     put_lost(&mut row.detail, world, ways, first)?;
     let after = facts_of(world, event)?;
     finish(&mut row, event, &before, &after)?;
@@ -188,14 +232,30 @@ fn arrive(drawing: &mut Drawing, event: &Event, row: usize) -> Result<bool, Allo
     Ok(leftwards)
 }
 
-// An arrow from a lane for each packet that has none yet. The row is the next one.
+// Where the packet that the event delivers was sent, if that was before the rows.
+fn put_sending(out: &mut Vec<u8>, drawing: &Drawing, event: &Event) -> Result<(), AllocError> {
+    let Event::Deliver { packet: i } = event else {
+        return Ok(());
+    };
+    match drawing.arrows.get(*i as usize) {
+        Some(
+            Arrow {
+                sent: Sending::Before(place),
+                ..
+            },
+        ) => put_number(out, b"; sent before, at event ", *place as u64),
+        _ => Ok(()),
+    }
+}
+
+// An arrow from a lane for each packet that has none yet.
 fn send(
     drawing: &mut Drawing,
     from: Option<usize>,
+    sent: Sending,
     world: &World,
     ways: &[Delivery],
 ) -> Result<(), AllocError> {
-    let sent = drawing.rows.len();
     let first = drawing.arrows.len();
     for (place, envelope) in world.bag().iter().enumerate().skip(first) {
         let arrow = Arrow {
@@ -234,7 +294,7 @@ fn put_lost(
 ) -> Result<(), AllocError> {
     for (place, envelope) in world.bag().iter().enumerate().skip(first) {
         match delivery_of(ways, place) {
-            Delivery::At(_) => {}
+            Delivery::Before | Delivery::At(_) => {}
             Delivery::Later => put_undrawn(out, b"delivered later to ", envelope)?,
             Delivery::Never => put_undrawn(out, b"not delivered to ", envelope)?,
         }

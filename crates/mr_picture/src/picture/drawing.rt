@@ -1,9 +1,16 @@
 //! A run as a drawing: its lanes, rows and arrows, apart from how they are written.
+use crate::part::Part;
 use mr_ids::AppAttempt;
 use mr_packet::{Address, ContainerId};
 
-/// Most events that a drawing shows.
-pub const MOST_ROWS: usize = 400;
+/// Where the life of a lane begins.
+#[derive(Clone, Copy, Debug, PartialEq, Eq)]
+pub enum Begin {
+    /// Before the rows that are drawn.
+    Before,
+    /// In this row.
+    At(usize),
+}
 
 /// How the life of a lane ends.
 #[derive(Clone, Copy, Debug, PartialEq, Eq)]
@@ -23,8 +30,8 @@ pub struct Lane {
     pub name: Vec<u8>,
     /// The attempt that a container runs, without its job; else nothing.
     pub attempt: Vec<u8>,
-    /// The row in which it begins.
-    pub begins: Option<usize>,
+    /// Where it begins.
+    pub begins: Option<Begin>,
     /// The row in which it ends, and how.
     pub ends: Option<(usize, End)>,
 }
@@ -96,9 +103,20 @@ pub enum Tone {
     No,
 }
 
+/// Where in a run a packet is sent.
+#[derive(Clone, Copy, Debug, PartialEq, Eq)]
+pub enum Sending {
+    /// Before the rows that are drawn, at this place of the journal.
+    Before(usize),
+    /// In this row.
+    At(usize),
+}
+
 /// Where in a run a packet is delivered.
 #[derive(Clone, Copy, Debug, PartialEq, Eq)]
 pub enum Delivery {
+    /// Before the rows that are drawn.
+    Before,
     /// In this row.
     At(usize),
     /// Behind the rows that are drawn.
@@ -107,14 +125,23 @@ pub enum Delivery {
     Never,
 }
 
-/// A packet, from the row and the lane that it was sent from to the lane that it goes to, and where it is delivered.
+/// A packet: from which lane it was sent and where, to which lane it goes, and where it is delivered.
 #[derive(Clone, Copy, Debug, PartialEq, Eq)]
 pub struct Arrow {
     pub from: Option<usize>,
-    pub sent: usize,
+    pub sent: Sending,
     pub to: Option<usize>,
     pub delivery: Delivery,
     pub tone: Tone,
+}
+
+/// Events of a run that are not drawn.
+#[derive(Drop)]
+pub struct Rest {
+    /// How many there are.
+    pub count: usize,
+    /// How many of each kind, in words.
+    pub kinds: Vec<u8>,
 }
 
 /// A run as it is drawn.
@@ -124,16 +151,18 @@ pub struct Drawing {
     pub job: Vec<u8>,
     /// Masters, then nodes, then containers.
     pub lanes: Vec<Lane>,
-    /// The events, in order.
+    /// The events that are drawn, in order.
     pub rows: Vec<Row>,
-    /// The packets, in the order of their sending.
+    /// The packets that were sent before the end of the rows, in the order of their sending.
     pub arrows: Vec<Arrow>,
-    /// Deliveries of packets that had been delivered before.
+    /// Deliveries, in the rows, of packets that had been delivered before.
     pub repeats: Vec<Arrow>,
-    /// How many more events there were.
-    pub more: usize,
-    /// How many of these there were of each kind, in words.
-    pub left_out: Vec<u8>,
+    /// Which part of the run was asked for.
+    pub part: Part,
+    /// The events before the rows.
+    pub before: Rest,
+    /// The events behind the rows.
+    pub behind: Rest,
     /// What came of the whole run, a line each.
     pub ending: Vec<u8>,
 }

@@ -1,5 +1,5 @@
 //! The lanes of a drawing: who takes part in a run, and from when to when.
-use crate::picture::drawing::{End, Lane};
+use crate::picture::drawing::{Begin, End, Lane};
 use crate::trace_words::{put_address, put_small};
 use mr_event::Event;
 use mr_ids::{AppAttempt, AttemptId, TaskKind};
@@ -8,19 +8,27 @@ use mr_packet::{Address, Packet};
 use mr_world::World;
 use std::alloc::{AllocError, Global};
 
-/// A lane for each master of the world, each node, and each container that was launched.
-pub fn lanes_of(alloc: Global, world: &World) -> Result<Vec<Lane>, AllocError> {
+/// A lane for each master of the world that is of the cast, each node, and each container of the cast that was launched.
+pub fn lanes_of(alloc: Global, world: &World, cast: &[Address]) -> Result<Vec<Lane>, AllocError> {
     let mut lanes = Vec::new(alloc);
-    push_masters(alloc, &mut lanes, world.newest())?;
+    push_masters(alloc, &mut lanes, world.newest(), cast)?;
     push_nodes(alloc, &mut lanes, world.config().nodes)?;
-    push_containers(alloc, &mut lanes, world)?;
+    push_containers(alloc, &mut lanes, world, cast)?;
     Ok(lanes)
 }
 
-fn push_masters(alloc: Global, lanes: &mut Vec<Lane>, newest: u32) -> Result<(), AllocError> {
+fn push_masters(
+    alloc: Global,
+    lanes: &mut Vec<Lane>,
+    newest: u32,
+    cast: &[Address],
+) -> Result<(), AllocError> {
     for k in 1..=newest {
         if let Some(app) = AppAttempt::new(k) {
-            lanes.push(lane(alloc, Address::Master(app))?)?;
+            let who = Address::Master(app);
+            if cast.contains(&who) {
+                lanes.push(lane(alloc, who)?)?;
+            }
         }
     }
     Ok(())
@@ -33,15 +41,27 @@ fn push_nodes(alloc: Global, lanes: &mut Vec<Lane>, nodes: u32) -> Result<(), Al
     Ok(())
 }
 
-fn push_containers(alloc: Global, lanes: &mut Vec<Lane>, world: &World) -> Result<(), AllocError> {
+fn push_containers(
+    alloc: Global,
+    lanes: &mut Vec<Lane>,
+    world: &World,
+    cast: &[Address],
+) -> Result<(), AllocError> {
     for envelope in world.bag() {
         if let Packet::Launch { c, a, .. } = &envelope.body {
-            let mut lane = lane(alloc, Address::Container(*c))?;
-            put_short(&mut lane.attempt, a)?;
-            lanes.push(lane)?;
+            let who = Address::Container(*c);
+            if cast.contains(&who) {
+                lanes.push(container_lane(alloc, who, a)?)?;
+            }
         }
     }
     Ok(())
+}
+
+fn container_lane(alloc: Global, who: Address, a: &AttemptId) -> Result<Lane, AllocError> {
+    let mut lane = lane(alloc, who)?;
+    put_short(&mut lane.attempt, a)?;
+    Ok(lane)
 }
 
 // A lane whose life has not begun.
@@ -67,12 +87,21 @@ pub fn put_short(out: &mut Vec<u8>, a: &AttemptId) -> Result<(), AllocError> {
     put_small(out, b" attempt ", a.number())
 }
 
+/// The lanes whose life began before the rows, where the world is this before the first one.
+pub fn live_on(lanes: &mut [Lane], world: &World) {
+    for lane in lanes.iter_mut() {
+        if is_alive(world, &lane.who) {
+            lane.begins = Some(Begin::Before);
+        }
+    }
+}
+
 /// The lanes whose life begins or ends in this row, behind which the world is this.
 pub fn live(lanes: &mut [Lane], world: &World, row: usize, end: End) {
     for lane in lanes.iter_mut() {
         let alive = is_alive(world, &lane.who);
         if alive && lane.begins.is_none() {
-            lane.begins = Some(row);
+            lane.begins = Some(Begin::At(row));
         }
         if !alive && lane.begins.is_some() && lane.ends.is_none() {
             lane.ends = Some((row, end));
@@ -80,7 +109,8 @@ pub fn live(lanes: &mut [Lane], world: &World, row: usize, end: End) {
     }
 }
 
-fn is_alive(world: &World, who: &Address) -> bool {
+/// Whether somebody is alive in a world, and can still do something.
+pub fn is_alive(world: &World, who: &Address) -> bool {
     match who {
         Address::Master(app) => match world.phase(app.number()) {
             Some(Phase::Ended | Phase::Stopped) | None => false,

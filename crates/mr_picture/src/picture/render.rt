@@ -1,8 +1,11 @@
 //! The picture of a drawing: where its parts stand, and how they are written.
 //! It is written as SVG, for `drawn`.
-use crate::picture::drawing::{Arrow, Delivery, Drawing, End, Lane, Row, Sign, Tone};
+use crate::picture::drawing::{
+    Arrow, Begin, Delivery, Drawing, End, Lane, Row, Sending, Sign, Tone,
+};
+use crate::picture::notes::{foot_lines, is_later, put_before, put_ending, title_of};
 use crate::picture::signs::{
-    put_begin, put_dead, put_given_up, put_key, put_later_key, put_over, put_sign,
+    put_begin, put_dead, put_earlier_key, put_given_up, put_key, put_later_key, put_over, put_sign,
 };
 use crate::picture::svg::{Point, close, line, noted, open, rectangle, text};
 use itoa::Buffer;
@@ -14,17 +17,19 @@ const LANE: u64 = 112;
 
 const ROW: u64 = 20;
 
-// Where the first row stands.
+// Where the first row stands, and how much lower it does where a note above it tells what is left out.
 const TOP: u64 = 152;
 
-// Most letters of what stands behind the lanes, and most lines of the end.
-const MOST_LETTERS: usize = 200;
+const NOTE: u64 = 44;
 
-const MOST_LINES: usize = 24;
+// Most letters of what stands behind the lanes.
+const MOST_LETTERS: usize = 200;
 
 /// Where the parts of a picture stand.
 #[derive(Clone, Copy, Debug, PartialEq, Eq)]
 struct Places {
+    /// The first row.
+    top: u64,
     /// The first lane.
     lanes: u64,
     /// What stands behind the lanes.
@@ -46,14 +51,15 @@ pub fn picture_of(alloc: Global, drawing: &Drawing) -> Result<Vec<u8>, AllocErro
     put_arrows(&mut out, &drawing.repeats, true, &places)?;
     put_signs(&mut out, drawing, &places)?;
     put_words(&mut out, drawing, &places)?;
-    put_heads(&mut out, drawing, &places, TOP.saturating_sub(36))?;
+    put_heads(&mut out, drawing, &places, places.top.saturating_sub(36))?;
     put_heads(&mut out, drawing, &places, places.below)?;
-    put_ending(&mut out, drawing, &places)?;
+    put_ending(&mut out, drawing, places.below.saturating_add(40))?;
     close(&mut out)?;
     Ok(out.into_bytes())
 }
 
 fn places_of(drawing: &Drawing) -> Places {
+    let top = if is_later(drawing) { TOP + NOTE } else { TOP };
     let lanes = letters(longest_words(&drawing.rows)).saturating_add(134);
     let count = drawing.lanes.len() as u64;
     let details = lanes.saturating_add(count.saturating_mul(LANE));
@@ -61,9 +67,10 @@ fn places_of(drawing: &Drawing) -> Places {
         .saturating_add(letters(longest_detail(&drawing.rows)))
         .saturating_add(20);
     Places {
+        top,
         lanes,
         details,
-        below: row_at(drawing.rows.len()).saturating_add(14),
+        below: below(top, drawing.rows.len()).saturating_add(14),
         width: width.max(1300),
     }
 }
@@ -91,8 +98,13 @@ fn longest_detail(rows: &[Row]) -> u64 {
     most
 }
 
-fn row_at(row: usize) -> u64 {
-    (row as u64).saturating_mul(ROW).saturating_add(TOP)
+fn row_at(places: &Places, row: usize) -> u64 {
+    below(places.top, row)
+}
+
+// So many rows below a place.
+fn below(top: u64, rows: usize) -> u64 {
+    (rows as u64).saturating_mul(ROW).saturating_add(top)
 }
 
 // Where a row and a lane meet.
@@ -101,7 +113,7 @@ fn place(places: &Places, lane: usize, row: usize) -> Point {
         x: places
             .lanes
             .saturating_add((lane as u64).saturating_mul(LANE)),
-        y: row_at(row),
+        y: row_at(places, row),
     }
 }
 
@@ -117,27 +129,20 @@ fn put_top(out: &mut String, drawing: &Drawing, places: &Places) -> Result<(), A
     open(out, at(places.width, height), &title)?;
     text(out, "title", at(16, 26), &title)?;
     put_key(out, at(24, 50))?;
-    if drawing.more > 0 {
+    if drawing.behind.count > 0 {
         put_later_key(out, at(24, 94))?;
     }
+    if is_later(drawing) {
+        put_earlier_key(out, at(396, 94))?;
+        put_before(out, drawing)?;
+    }
     Ok(())
-}
-
-fn title_of(alloc: Global, drawing: &Drawing) -> Result<Vec<u8>, AllocError> {
-    let mut title = Vec::new(alloc);
-    let mut buffer = Buffer::new();
-    title.extend_from_slice(&drawing.job)?;
-    title.extend_from_slice(b": a run of ")?;
-    let events = drawing.rows.len().saturating_add(drawing.more);
-    title.extend_from_slice(buffer.format(events).as_bytes())?;
-    title.extend_from_slice(b" events, time goes down")?;
-    Ok(title)
 }
 
 // Rows that stand out.
 fn put_bands(out: &mut String, drawing: &Drawing, places: &Places) -> Result<(), AllocError> {
     for (number, row) in drawing.rows.iter().enumerate() {
-        let y = row_at(number);
+        let y = row_at(places, number);
         if let Some(class) = band_of(row.sign) {
             let upper = at(0, y.saturating_sub(ROW / 2));
             rectangle(out, class, upper, at(places.width, ROW))?;
@@ -167,7 +172,7 @@ fn put_guides(out: &mut String, drawing: &Drawing, places: &Places) -> Result<()
     let left = places.lanes.saturating_sub(LANE / 2);
     let right = places.details.saturating_sub(LANE);
     for number in 0..drawing.rows.len() {
-        let y = row_at(number);
+        let y = row_at(places, number);
         line(out, "rule", at(left, y), at(right, y))?;
     }
     for number in 0..drawing.lanes.len() {
@@ -175,7 +180,7 @@ fn put_guides(out: &mut String, drawing: &Drawing, places: &Places) -> Result<()
         line(
             out,
             "guide",
-            at(x, TOP.saturating_sub(16)),
+            at(x, places.top.saturating_sub(16)),
             at(x, places.below.saturating_sub(16)),
         )?;
     }
@@ -198,26 +203,26 @@ fn put_life(
     places: &Places,
     number: usize,
     lane: &Lane,
-    begins: usize,
+    begins: Begin,
 ) -> Result<(), AllocError> {
-    let first = place(places, number, begins);
+    let first = match begins {
+        Begin::At(row) => place(places, number, row),
+        Begin::Before => at(place(places, number, 0).x, upper_edge(drawing, places)),
+    };
     let last = match lane.ends {
         Some((row, _)) => place(places, number, row),
         None => at(first.x, places.below.saturating_sub(16)),
     };
     line(out, class_of(&lane.who), first, last)?;
-    match lane.who {
-        Address::Node(_) => {}
-        _ => {
-            put_cause(out, drawing, places, begins, first)?;
-            put_begin(out, first)?;
-            text(
-                out,
-                "label",
-                at(first.x.saturating_add(9), first.y.saturating_sub(3)),
-                &lane.attempt,
-            )?;
-        }
+    if let Begin::At(row) = begins {
+        put_cause(out, drawing, places, row, first)?;
+        put_begin(out, first)?;
+        text(
+            out,
+            "label",
+            at(first.x.saturating_add(9), first.y.saturating_sub(3)),
+            &lane.attempt,
+        )?;
     }
     match lane.ends {
         Some((row, End::Over)) => put_over(out, place(places, number, row)),
@@ -226,6 +231,15 @@ fn put_life(
             put_dead(out, last)
         }
         None => Ok(()),
+    }
+}
+
+// Where what began before the rows comes in: above the first one, where the run has events before it.
+fn upper_edge(drawing: &Drawing, places: &Places) -> u64 {
+    if is_later(drawing) {
+        places.top.saturating_sub(16)
+    } else {
+        places.top
     }
 }
 
@@ -266,19 +280,54 @@ fn put_arrows(
     places: &Places,
 ) -> Result<(), AllocError> {
     for arrow in arrows {
-        if let (Some(from), Some(to)) = (arrow.from, arrow.to) {
-            let start = place(places, from, arrow.sent);
-            match arrow.delivery {
-                Delivery::At(row) => {
-                    let class = arrow_class(arrow.tone, again);
-                    put_arrow(out, class, start, place(places, to, row))?;
-                }
-                Delivery::Later => put_stub(out, "later", start, from < to)?,
-                Delivery::Never => put_stub(out, "lost", start, from < to)?,
-            }
+        match arrow.sent {
+            Sending::At(row) => put_sent(out, arrow, row, again, places)?,
+            Sending::Before(_) => put_earlier(out, arrow, again, places)?,
         }
     }
     Ok(())
+}
+
+// A packet that is sent in a row.
+fn put_sent(
+    out: &mut String,
+    arrow: &Arrow,
+    sent: usize,
+    again: bool,
+    places: &Places,
+) -> Result<(), AllocError> {
+    let (Some(from), Some(to)) = (arrow.from, arrow.to) else {
+        return Ok(());
+    };
+    let start = place(places, from, sent);
+    match arrow.delivery {
+        Delivery::At(row) => {
+            let class = arrow_class(arrow.tone, again);
+            put_arrow(out, class, start, place(places, to, row))
+        }
+        Delivery::Later => put_stub(out, "later", start, from < to),
+        Delivery::Never => put_stub(out, "lost", start, from < to),
+        Delivery::Before => Ok(()),
+    }
+}
+
+// A packet that was sent before the rows: a short stroke to where it is delivered, if that is in a row.
+fn put_earlier(
+    out: &mut String,
+    arrow: &Arrow,
+    again: bool,
+    places: &Places,
+) -> Result<(), AllocError> {
+    let (Some(to), Delivery::At(row)) = (arrow.to, arrow.delivery) else {
+        return Ok(());
+    };
+    let end = place(places, to, row);
+    let x = match arrow.from {
+        Some(from) if from > to => end.x.saturating_add(30),
+        _ => end.x.saturating_sub(30),
+    };
+    let class = if again { "repeat" } else { "earlier" };
+    put_arrow(out, class, at(x, end.y.saturating_sub(12)), end)
 }
 
 fn arrow_class(tone: Tone, again: bool) -> &'static str {
@@ -343,9 +392,10 @@ fn put_label(out: &mut String, row: &Row, here: Point) -> Result<(), AllocError>
 // The number and the words of each row, and what it called or delivered.
 fn put_words(out: &mut String, drawing: &Drawing, places: &Places) -> Result<(), AllocError> {
     for (number, row) in drawing.rows.iter().enumerate() {
-        let y = row_at(number).saturating_add(3);
+        let y = row_at(places, number).saturating_add(3);
         let mut buffer = Buffer::new();
-        text(out, "number", at(30, y), buffer.format(number).as_bytes())?;
+        let event = drawing.before.count.saturating_add(number);
+        text(out, "number", at(30, y), buffer.format(event).as_bytes())?;
         text(out, "words", at(38, y), &row.words)?;
         put_row_detail(out, row, at(places.details, y))?;
     }
@@ -373,62 +423,6 @@ fn put_heads(
         let x = place(places, number, 0).x;
         text(out, "head", at(x, y), &lane.name)?;
         text(out, "under", at(x, y.saturating_add(13)), &lane.attempt)?;
-    }
-    Ok(())
-}
-
-// How many lines tell what came of the run, with the empty one behind the last line feed.
-fn line_count(drawing: &Drawing) -> usize {
-    drawing.ending.split(|byte| *byte == b'\n').count()
-}
-
-// How many of them are left out. Empty ones don't count.
-fn hidden_lines(drawing: &Drawing) -> usize {
-    let mut hidden = 0usize;
-    for words in drawing.ending.split(|byte| *byte == b'\n').skip(MOST_LINES) {
-        if !words.is_empty() {
-            hidden = hidden.saturating_add(1);
-        }
-    }
-    hidden
-}
-
-// How many lines stand below the rows, with those that tell what is left out.
-fn foot_lines(drawing: &Drawing) -> usize {
-    line_count(drawing)
-        .min(MOST_LINES)
-        .saturating_add(usize::from(drawing.more > 0))
-        .saturating_add(usize::from(hidden_lines(drawing) > 0))
-}
-
-// That so many of something are left out.
-fn cut_note(alloc: Global, count: usize, behind: &[u8]) -> Result<Vec<u8>, AllocError> {
-    let mut note = Vec::new(alloc);
-    let mut buffer = Buffer::new();
-    note.extend_from_slice(b"cut here: ")?;
-    note.extend_from_slice(buffer.format(count).as_bytes())?;
-    note.extend_from_slice(behind)?;
-    Ok(note)
-}
-
-// Which events are left out, and what came of the run.
-fn put_ending(out: &mut String, drawing: &Drawing, places: &Places) -> Result<(), AllocError> {
-    let alloc = *out.allocator();
-    let mut y = places.below.saturating_add(40);
-    if drawing.more > 0 {
-        let note = cut_note(alloc, drawing.more, b" more events are not drawn")?;
-        text(out, "title", at(16, y), &note)?;
-        y = y.saturating_add(14);
-        text(out, "words", at(38, y), &drawing.left_out)?;
-    }
-    for words in drawing.ending.split(|byte| *byte == b'\n').take(MOST_LINES) {
-        y = y.saturating_add(14);
-        text(out, "words", at(38, y), words)?;
-    }
-    let hidden = hidden_lines(drawing);
-    if hidden > 0 {
-        let note = cut_note(alloc, hidden, b" more lines are not shown")?;
-        text(out, "words", at(38, y.saturating_add(14)), &note)?;
     }
     Ok(())
 }

@@ -1,8 +1,9 @@
-//! The events of a run behind those that are drawn: what they are, and what they deliver.
-use crate::picture::drawing::{Delivery, MOST_ROWS};
+//! The events of a run before and behind those that are drawn: what they are, and what they deliver.
+use crate::picture::drawing::{Delivery, Rest};
 use itoa::Buffer;
 use mr_event::Event;
 use std::alloc::{AllocError, Global};
+use std::ops::Range;
 
 // The kinds of events, by the first word of their commands.
 const KINDS: [&[u8]; 10] = [
@@ -25,22 +26,24 @@ fn kind_of(event: &Event) -> &'static [u8] {
     }
 }
 
-/// The events of a journal that are not drawn, how many there are of each kind: `2 deliver, 1 restart`.
-pub fn left_out(alloc: Global, journal: &[Event]) -> Result<Vec<u8>, AllocError> {
-    let mut out = Vec::new(alloc);
-    let rest = journal.get(MOST_ROWS..).unwrap_or(&[]);
+/// Events that are not drawn: how many there are, and how many of each kind, as `2 deliver, 1 restart`.
+pub fn left_out(alloc: Global, events: &[Event]) -> Result<Rest, AllocError> {
+    let mut kinds = Vec::new(alloc);
     for kind in KINDS {
         let mut count = 0u64;
-        for event in rest {
+        for event in events {
             if kind_of(event) == kind {
                 count = count.saturating_add(1);
             }
         }
         if count > 0 {
-            put_count(&mut out, count, kind)?;
+            put_count(&mut kinds, count, kind)?;
         }
     }
-    Ok(out)
+    Ok(Rest {
+        count: events.len(),
+        kinds,
+    })
 }
 
 fn put_count(out: &mut Vec<u8>, count: u64, kind: &[u8]) -> Result<(), AllocError> {
@@ -53,33 +56,41 @@ fn put_count(out: &mut Vec<u8>, count: u64, kind: &[u8]) -> Result<(), AllocErro
     out.extend_from_slice(kind)
 }
 
-/// Where the journal first delivers each of so many packets, by their places in the bag.
+/// Where the journal first delivers each of so many packets, by their places in the bag, where these places of it are drawn.
 pub fn deliveries(
     alloc: Global,
     journal: &[Event],
     packets: usize,
+    drawn: &Range<usize>,
 ) -> Result<Vec<Delivery>, AllocError> {
     let mut first = Vec::new(alloc);
     for _ in 0..packets {
         first.push(Delivery::Never)?;
     }
-    for (row, event) in journal.iter().enumerate() {
+    for (place, event) in journal.iter().enumerate() {
         if let Event::Deliver { packet: i } = event {
-            deliver(&mut first, *i as usize, row);
+            deliver(&mut first, *i as usize, delivery_at(place, drawn));
         }
     }
     Ok(first)
 }
 
-// The packet at this place is delivered in this row, if it was not before.
-fn deliver(first: &mut [Delivery], place: usize, row: usize) {
-    if let Some(delivery) = first.get_mut(place) {
+// Where the event at this place of the journal delivers a packet.
+fn delivery_at(place: usize, drawn: &Range<usize>) -> Delivery {
+    if place < drawn.start {
+        Delivery::Before
+    } else if place < drawn.end {
+        Delivery::At(place - drawn.start)
+    } else {
+        Delivery::Later
+    }
+}
+
+// The packet at this place of the bag is delivered there, if it was not before.
+fn deliver(first: &mut [Delivery], packet: usize, at: Delivery) {
+    if let Some(delivery) = first.get_mut(packet) {
         if *delivery == Delivery::Never {
-            *delivery = if row < MOST_ROWS {
-                Delivery::At(row)
-            } else {
-                Delivery::Later
-            };
+            *delivery = at;
         }
     }
 }

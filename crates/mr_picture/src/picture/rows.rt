@@ -1,5 +1,5 @@
 //! What the row of an event says in a drawing.
-use crate::call_words::put_call;
+use crate::asked::put_call;
 use crate::picture::drawing::Sign;
 use crate::picture::lanes::put_short;
 use crate::trace::name_of;

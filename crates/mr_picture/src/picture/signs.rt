@@ -1,7 +1,7 @@
 //! The signs of a picture, and what they mean.
 //! `picture` puts one at each event, and their key at the top.
 use crate::picture::drawing::Sign;
-use crate::picture::svg::{Point, later_style, line, shape, text};
+use crate::picture::svg::{Point, earlier_style, later_style, line, shape, text};
 use std::alloc::AllocError;
 
 const DOT: &str = "M-3 0a3 3 0 1 0 6 0a3 3 0 1 0 -6 0";
@@ -82,6 +82,13 @@ pub fn put_later_key(out: &mut String, at: Point) -> Result<(), AllocError> {
         right(at),
         b"delivered later, behind the events that are drawn",
     )
+}
+
+/// The same of a packet's stroke that only a picture has that does not begin with the run.
+pub fn put_earlier_key(out: &mut String, at: Point) -> Result<(), AllocError> {
+    earlier_style(out)?;
+    put_stroke(out, "earlier", at)?;
+    meaning(out, right(at), b"sent before the events that are drawn")
 }
 
 fn put_lives_key(out: &mut String, at: Point) -> Result<(), AllocError> {

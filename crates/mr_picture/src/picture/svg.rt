@@ -77,9 +77,18 @@ pub fn open(out: &mut String, size: Point, title: &[u8]) -> Result<(), AllocErro
     out.push_str("<rect width=\"100%\" height=\"100%\" fill=\"#fff\"/>\n")
 }
 
+// How a packet looks that was sent before the rows.
+const EARLIER_STYLE: &str =
+    "<style>.earlier{stroke:#444;stroke-dasharray:2 2;marker-end:url(#head)}</style>\n";
+
 /// How the elements look that stand in no picture but one that is cut.
 pub fn later_style(out: &mut String) -> Result<(), AllocError> {
     out.push_str(LATER_STYLE)
+}
+
+/// How the elements look that stand in no picture but one that does not begin with the run.
+pub fn earlier_style(out: &mut String) -> Result<(), AllocError> {
+    out.push_str(EARLIER_STYLE)
 }
 
 /// The end of a picture.
