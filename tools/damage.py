@@ -11,6 +11,9 @@ JOB_FAULT = rb"mrsim: job: (text|id|job|reduces|splits|nodes|limit|faults|v2from
 BAD_COMMAND = rb"mrsim: line ([1-9][0-9]*): bad command"
 FULL = rb"mrsim: full"
 UNMET = b"mrsim: not as expected\n"
+# behind these a line tells what was expected
+HELPED = re.compile(rb"mrsim: (line [0-9]+: bad command|job: [a-z0-9]+|history: bad line [0-9]+)\n")
+TROUBLE = re.compile(rb"  (the line ends with a carriage return|word [1-9][0-9]* (is no command|does not fit|is missing|is one too many|is empty, by a space too many): expected [ -~]+)\n")
 ENDED = rb"(master [1-9][0-9]* (never started|told the outcome|has stopped|is not alive)|it made 10000 events|nothing is left to do)"
 # what may be said behind a text of `play`
 REMARKS = re.compile(rb"(mrsim: line [1-9][0-9]*: calm ended( without [a-z]+)?: " + ENDED + rb"\n)*(" + UNMET + rb")?")
@@ -169,6 +172,14 @@ def mutated(chance, text, others):
     return bytes(text)
 
 
+def is_helped(run):
+    """Whether a fault of the input that can be helped has its line of help, and nothing else has one. Of a bad command it tells which word is wrong."""
+    helped = run.err[len(run.fault) :]
+    if not HELPED.fullmatch(run.fault):
+        return not helped
+    return bool(TROUBLE.fullmatch(helped) if b"bad command" in run.fault else helped)
+
+
 class Kind:
     """A format: its name, the program's words, its examples, how a text of it is generated, and what the program may say of one."""
 
@@ -186,16 +197,18 @@ class Kind:
 
     def ending(self, text, run):
         """How the run ended, in a word or two; none where it may not end so."""
-        if self.exact and (run.status, run.out, run.err) != self.exact(text):
+        if self.exact and (run.status, run.out, run.fault) != self.exact(text):
+            return None
+        if not is_helped(run):
             return None
         if run.out and self.words == ["play"] and REMARKS.fullmatch(run.err):
             is_unmet = run.err.endswith(UNMET)
             return None if run.status != 3 * is_unmet else "not as expected" if is_unmet else "texts"
         if run.status == 0:
             return "texts" if not run.err else None
-        if run.out or not self.faults.fullmatch(run.err):
+        if run.out or not self.faults.fullmatch(run.fault):
             return None
-        said = run.err.decode().strip()
+        said = run.fault.decode().strip()
         line = re.search(r"line ([0-9]+)", said)
         if line and int(line[1]) > text.count(b"\n") + 1:
             return None

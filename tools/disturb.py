@@ -5,6 +5,7 @@ run as often as is asked for, each time in a process of its own. Needs gcc and a
 """
 import contextlib
 import os
+import re
 import resource
 import shutil
 import signal
@@ -17,6 +18,8 @@ EVERY = (1 << 62) - 1
 ORDER, TOLD = struct.Struct("<6q"), struct.Struct("<10q")
 HERE = os.path.dirname(os.path.realpath(__file__))
 SECONDS = 20  # of a processor
+# the line that may stand behind the text of a fault: how it is put is the program's own
+HELP = re.compile(rb"  [ -~]+\n")
 
 
 class Broken(Exception):
@@ -47,6 +50,12 @@ class Run:
 
     def __init__(self, status, out, err, seen=(), marks=()):
         self.status, self.out, self.err, self.seen, self.marks = status, out, err, seen, marks
+
+    @property
+    def fault(self):
+        """What it said, without the line of help that may stand behind a fault of the input."""
+        first, _, behind = self.err.partition(b"\n")
+        return first + b"\n" if HELP.fullmatch(behind) else self.err
 
     def __eq__(self, other):
         return (self.status, self.out, self.err) == (other.status, other.out, other.err)

@@ -4,6 +4,7 @@ use Rattle.mr_world.specs.Limits.{within}
 use Rattle.mr_commands.specs.declared.fault.SimFault.{SimFault}
 use Rattle.mr_commands.specs.declared.fault.SimFault.TheVariants.{NoMemory, Read, Write, TooLong, BadCommand, BadRecord, Job, Refused, Full, JobFailed, TurnsSpent, JournalMismatch, Thread}
 use Rattle.mr_commands.specs.Faults.{CommitterFails, HistoryFails, SeqFails}
+use Rattle.mr_picture.specs.declared.part.Part.{Part}
 use Rattle.mr_play.specs.declared.shown.Shown.{Shown}
 use Rattle.mr_play.specs.Text.{PlayFails}
 use Rattle.mr_sim.specs.declared.subcommand.Command.TheVariants.{Committer, Play, PlayShown, PlayDrawn, History, Seq, Threads, ThreadsSeen}
@@ -75,21 +76,21 @@ shown_fails shown input (Err TurnsSpent) h = h
 shown_fails shown input (Err JournalMismatch) h = h
 shown_fails shown input (Err Thread) h = h
 
-pub drawn_fails : {A : Type 0} (input : List ℕ) (r : Result A SimFault) → IfErr r (PlayFails within input) → IfErr r (RefusesText PlayDrawn input)
-drawn_fails input (Ok x) h = h
-drawn_fails input (Err NoMemory) h = h
-drawn_fails input (Err Read) h = h
-drawn_fails input (Err Write) h = h
-drawn_fails input (Err TooLong) h = h
-drawn_fails input (Err (BadCommand n)) h = h
-drawn_fails input (Err (BadRecord n)) h = h
-drawn_fails input (Err (Job e)) h = h
-drawn_fails input (Err Refused) h = h
-drawn_fails input (Err Full) h = h
-drawn_fails input (Err JobFailed) h = h
-drawn_fails input (Err TurnsSpent) h = h
-drawn_fails input (Err JournalMismatch) h = h
-drawn_fails input (Err Thread) h = h
+pub drawn_fails : {A : Type 0} (part : Part) (input : List ℕ) (r : Result A SimFault) → IfErr r (PlayFails within input) → IfErr r (RefusesText (PlayDrawn part) input)
+drawn_fails part input (Ok x) h = h
+drawn_fails part input (Err NoMemory) h = h
+drawn_fails part input (Err Read) h = h
+drawn_fails part input (Err Write) h = h
+drawn_fails part input (Err TooLong) h = h
+drawn_fails part input (Err (BadCommand n)) h = h
+drawn_fails part input (Err (BadRecord n)) h = h
+drawn_fails part input (Err (Job e)) h = h
+drawn_fails part input (Err Refused) h = h
+drawn_fails part input (Err Full) h = h
+drawn_fails part input (Err JobFailed) h = h
+drawn_fails part input (Err TurnsSpent) h = h
+drawn_fails part input (Err JournalMismatch) h = h
+drawn_fails part input (Err Thread) h = h
 
 pub seq_fails : {A : Type 0} (input : List ℕ) (r : Result A SimFault) → IfErr r (SeqFails input) → IfErr r (RefusesText Seq input)
 seq_fails input (Ok x) h = h

@@ -16,7 +16,7 @@ printed_or_refused_law command input text TooLong short p h = omega (arith, shor
 printed_or_refused_law Committer input text (BadCommand n) short p h = read_or_bad_law input p.0 n p.1 h.1
 printed_or_refused_law Play input text (BadCommand n) short p h = one_play_text_law.not_bad_line limits.within input text n p h.1
 printed_or_refused_law (PlayShown shown) input text (BadCommand n) short p h = one_play_text_law.not_bad_line limits.within input p.printed n p.prints h.1
-printed_or_refused_law PlayDrawn input text (BadCommand n) short p h = one_play_text_law.not_bad_line limits.within input p.0 n p.1 h.1
+printed_or_refused_law (PlayDrawn part) input text (BadCommand n) short p h = one_play_text_law.not_bad_line limits.within input p.0 n p.1 h.1
 printed_or_refused_law History input text (BadCommand n) short p h = h.1
 printed_or_refused_law Seq input text (BadCommand n) short p h = h.1
 printed_or_refused_law (Threads turns hold) input text (BadCommand n) short p h = h.1
@@ -24,7 +24,7 @@ printed_or_refused_law (ThreadsSeen turns hold seen) input text (BadCommand n) s
 printed_or_refused_law Committer input text (BadRecord n) short p h = h.1
 printed_or_refused_law Play input text (BadRecord n) short p h = h.1
 printed_or_refused_law (PlayShown shown) input text (BadRecord n) short p h = h.1
-printed_or_refused_law PlayDrawn input text (BadRecord n) short p h = h.1
+printed_or_refused_law (PlayDrawn part) input text (BadRecord n) short p h = h.1
 printed_or_refused_law History input text (BadRecord n) short p h = let y : Some n ≡ None = sym h.1 ∙ p.good in absurd (cc)
 printed_or_refused_law Seq input text (BadRecord n) short p h = h.1
 printed_or_refused_law (Threads turns hold) input text (BadRecord n) short p h = h.1
@@ -32,7 +32,7 @@ printed_or_refused_law (ThreadsSeen turns hold seen) input text (BadRecord n) sh
 printed_or_refused_law Committer input text (Job e) short p h = h.1
 printed_or_refused_law Play input text (Job e) short p h = one_play_text_law.not_bad_job limits.within input text e p h.1
 printed_or_refused_law (PlayShown shown) input text (Job e) short p h = one_play_text_law.not_bad_job limits.within input p.printed e p.prints h.1
-printed_or_refused_law PlayDrawn input text (Job e) short p h = one_play_text_law.not_bad_job limits.within input p.0 e p.1 h.1
+printed_or_refused_law (PlayDrawn part) input text (Job e) short p h = one_play_text_law.not_bad_job limits.within input p.0 e p.1 h.1
 printed_or_refused_law History input text (Job e) short p h = h.1
 printed_or_refused_law Seq input text (Job e) short p h = let y : Ok p.job ≡ Err e = sym p.said ∙ h.1 in absurd (cc)
 printed_or_refused_law (Threads turns hold) input text (Job e) short p h = let y : Ok p.job ≡ Err e = sym p.said ∙ h.1 in absurd (cc)
@@ -40,7 +40,7 @@ printed_or_refused_law (ThreadsSeen turns hold seen) input text (Job e) short p 
 printed_or_refused_law Committer input text Refused short p h = h.1
 printed_or_refused_law Play input text Refused short p h = h.1
 printed_or_refused_law (PlayShown shown) input text Refused short p h = h.1
-printed_or_refused_law PlayDrawn input text Refused short p h = h.1
+printed_or_refused_law (PlayDrawn part) input text Refused short p h = h.1
 printed_or_refused_law History input text Refused short p h = h.1
 printed_or_refused_law Seq input text Refused short p h = seq_not_both input text p h.1
 printed_or_refused_law (Threads turns hold) input text Refused short p h = h.1
@@ -48,7 +48,7 @@ printed_or_refused_law (ThreadsSeen turns hold seen) input text Refused short p 
 printed_or_refused_law Committer input text Full short p h = h.1
 printed_or_refused_law Play input text Full short p h = one_play_text_law.not_full limits.within input text p h.1
 printed_or_refused_law (PlayShown shown) input text Full short p h = one_play_text_law.not_full limits.within input p.printed p.prints h.1
-printed_or_refused_law PlayDrawn input text Full short p h = one_play_text_law.not_full limits.within input p.0 p.1 h.1
+printed_or_refused_law (PlayDrawn part) input text Full short p h = one_play_text_law.not_full limits.within input p.0 p.1 h.1
 printed_or_refused_law History input text Full short p h = h.1
 printed_or_refused_law Seq input text Full short p h = h.1
 printed_or_refused_law (Threads turns hold) input text Full short p h = tt
@@ -56,7 +56,7 @@ printed_or_refused_law (ThreadsSeen turns hold seen) input text Full short p h =
 printed_or_refused_law Committer input text JobFailed short p h = h.1
 printed_or_refused_law Play input text JobFailed short p h = h.1
 printed_or_refused_law (PlayShown shown) input text JobFailed short p h = h.1
-printed_or_refused_law PlayDrawn input text JobFailed short p h = h.1
+printed_or_refused_law (PlayDrawn part) input text JobFailed short p h = h.1
 printed_or_refused_law History input text JobFailed short p h = h.1
 printed_or_refused_law Seq input text JobFailed short p h = h.1
 printed_or_refused_law (Threads turns hold) input text JobFailed short p h = tt
@@ -64,7 +64,7 @@ printed_or_refused_law (ThreadsSeen turns hold seen) input text JobFailed short 
 printed_or_refused_law Committer input text TurnsSpent short p h = h.1
 printed_or_refused_law Play input text TurnsSpent short p h = h.1
 printed_or_refused_law (PlayShown shown) input text TurnsSpent short p h = h.1
-printed_or_refused_law PlayDrawn input text TurnsSpent short p h = h.1
+printed_or_refused_law (PlayDrawn part) input text TurnsSpent short p h = h.1
 printed_or_refused_law History input text TurnsSpent short p h = h.1
 printed_or_refused_law Seq input text TurnsSpent short p h = h.1
 printed_or_refused_law (Threads turns hold) input text TurnsSpent short p h = tt
@@ -72,7 +72,7 @@ printed_or_refused_law (ThreadsSeen turns hold seen) input text TurnsSpent short
 printed_or_refused_law Committer input text JournalMismatch short p h = h.1
 printed_or_refused_law Play input text JournalMismatch short p h = h.1
 printed_or_refused_law (PlayShown shown) input text JournalMismatch short p h = h.1
-printed_or_refused_law PlayDrawn input text JournalMismatch short p h = h.1
+printed_or_refused_law (PlayDrawn part) input text JournalMismatch short p h = h.1
 printed_or_refused_law History input text JournalMismatch short p h = h.1
 printed_or_refused_law Seq input text JournalMismatch short p h = h.1
 printed_or_refused_law (Threads turns hold) input text JournalMismatch short p h = tt
@@ -80,7 +80,7 @@ printed_or_refused_law (ThreadsSeen turns hold seen) input text JournalMismatch 
 printed_or_refused_law Committer input text Thread short p h = h.1
 printed_or_refused_law Play input text Thread short p h = h.1
 printed_or_refused_law (PlayShown shown) input text Thread short p h = h.1
-printed_or_refused_law PlayDrawn input text Thread short p h = h.1
+printed_or_refused_law (PlayDrawn part) input text Thread short p h = h.1
 printed_or_refused_law History input text Thread short p h = h.1
 printed_or_refused_law Seq input text Thread short p h = h.1
 printed_or_refused_law (Threads turns hold) input text Thread short p h = tt

@@ -12,7 +12,7 @@ abbrev pub IsMet : Command → List ℕ → Bool → Type 0
 IsMet Committer input met = met ≡ true
 IsMet Play input met = IsAsExpected within input met
 IsMet (PlayShown shown) input met = IsAsExpected within input met
-IsMet PlayDrawn input met = IsAsExpected within input met
+IsMet (PlayDrawn part) input met = IsAsExpected within input met
 IsMet History input met = met ≡ true
 IsMet Seq input met = met ≡ true
 IsMet (Threads turns hold) input met = met ≡ true

@@ -26,7 +26,7 @@ abbrev pub Prints : Command → List ℕ → List ℕ → Type 0
 Prints Committer input text = PrintsCommitter input text
 Prints Play input text = PrintsPlay within input text
 Prints (PlayShown shown) input text = Shows within shown input text
-Prints PlayDrawn input text = Draws within input
+Prints (PlayDrawn part) input text = Draws within input
 Prints History input text = PrintsHistory input text
 Prints Seq input text = PrintsSeq input text
 Prints (Threads turns hold) input text = PrintsSeq input text
@@ -39,7 +39,7 @@ abbrev pub IsBadLine : Command → List ℕ → ℕ → Type 0
 IsBadLine Committer input n = IsFirstBad 1 (lines_of input) n
 IsBadLine Play input n = IsBadPlayLine input n
 IsBadLine (PlayShown shown) input n = IsBadPlayLine input n
-IsBadLine PlayDrawn input n = IsBadPlayLine input n
+IsBadLine (PlayDrawn part) input n = IsBadPlayLine input n
 IsBadLine History input n = ⊥
 IsBadLine Seq input n = ⊥
 IsBadLine (Threads turns hold) input n = ⊥
@@ -50,7 +50,7 @@ abbrev pub IsBadRecord : Command → List ℕ → ℕ → Type 0
 IsBadRecord Committer input n = ⊥
 IsBadRecord Play input n = ⊥
 IsBadRecord (PlayShown shown) input n = ⊥
-IsBadRecord PlayDrawn input n = ⊥
+IsBadRecord (PlayDrawn part) input n = ⊥
 IsBadRecord History input n = bad_line input ≡ Some n
 IsBadRecord Seq input n = ⊥
 IsBadRecord (Threads turns hold) input n = ⊥
@@ -61,7 +61,7 @@ abbrev pub IsBadJob : Command → List ℕ → JobTextFault → Type 0
 IsBadJob Committer input e = ⊥
 IsBadJob Play input e = IsBadPlayJob input e
 IsBadJob (PlayShown shown) input e = IsBadPlayJob input e
-IsBadJob PlayDrawn input e = IsBadPlayJob input e
+IsBadJob (PlayDrawn part) input e = IsBadPlayJob input e
 IsBadJob History input e = ⊥
 IsBadJob Seq input e = submission_of input ≡ Err e
 IsBadJob (Threads turns hold) input e = submission_of input ≡ Err e
@@ -72,7 +72,7 @@ abbrev pub IsRefused : Command → List ℕ → Type 0
 IsRefused Committer input = ⊥
 IsRefused Play input = ⊥
 IsRefused (PlayShown shown) input = ⊥
-IsRefused PlayDrawn input = ⊥
+IsRefused (PlayDrawn part) input = ⊥
 IsRefused History input = ⊥
 IsRefused Seq input = RefusesSeq input
 IsRefused (Threads turns hold) input = ⊥
@@ -83,7 +83,7 @@ abbrev pub IsFull : Command → List ℕ → Type 0
 IsFull Committer input = ⊥
 IsFull Play input = IsFullPlay within input
 IsFull (PlayShown shown) input = IsFullPlay within input
-IsFull PlayDrawn input = IsFullPlay within input
+IsFull (PlayDrawn part) input = IsFullPlay within input
 IsFull History input = ⊥
 IsFull Seq input = ⊥
 IsFull (Threads turns hold) input = IsRead input

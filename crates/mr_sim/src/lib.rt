@@ -29,9 +29,12 @@
 //! job text, and what is shown of a run in its place is what mr_threads says of it. The handle may wait, so the contract does not say that `run` returns.
 //! `answer` and `run_streams` have no such handle, and answer `threads` by the first bad key of its job text, else by `Thread`.
 //!
-//! **`run_with_remarks`** is the call that `mrsim` makes, and `run` hands on to it: it has the clauses of `run`, and hands out whether all is so that the input
+//! **`run_with_remarks`** is the call that `run` hands on to: it has the clauses of `run`, and hands out whether all is so that the input
 //! expects (clause `met`, by `IsMet`): of a script of `play` whether each `expect` was met (`IsAsExpected` of mr_play), of all else that it is. The ending of the
 //! program follows from that (`Remarks::ending`).
+//!
+//! **`run_with_help`** is the call that `mrsim` makes, and `run_with_remarks` hands on to it: it has its clauses, and where there is a fault it hands out beside it
+//! what was expected in place of what is bad (`Refusal`). The fault is the contract. What the help says is in no clause, and takes no memory.
 //!
 //! Each input has at most one text, by the laws of mr_commands and mr_play. No input is both printed and refused, by any subcommand:
 //! where there is a text for an input of at most 2^24 bytes, no fault of the clause `fault` but `NoMemory`, `Read`
@@ -41,20 +44,23 @@
 //!
 //! Only tested: the texts of `SimFault` (derived by thiserror), streams that fail at each place, once, or at the flush, 2^24 and
 //! 2^24 + 1 bytes, 2^20 reads of one byte, a reader that is interrupted once or always, the examples, what `Remarks::write` writes (the notes on calms, and that a run is not as
-//! expected). Of the program `mrsim`: its
+//! expected), and what is told behind a fault. Of the program `mrsim`: its
 //! stored run, and tests of its command line (subcommands, help, refused words).
 #![tactic(auto)]
 
 mod ending;
 mod input;
 mod laws;
+mod refusal;
 mod remarks;
 mod subcommand;
 
 pub use ending::{Ending, exit_status};
 pub use laws::printed_or_refused;
 pub use mr_commands::{JobTextFault, SimFault};
+pub use mr_picture::Part;
 pub use mr_play::Shown;
 pub use mr_threads::Seen;
-pub use remarks::{Remarks, run_with_remarks};
+pub use refusal::{Help, Refusal};
+pub use remarks::{Remarks, run_with_help, run_with_remarks};
 pub use subcommand::{Command, answer, run, run_streams};

@@ -6,6 +6,7 @@ ghost use Rattle.mr_sim.specs.Printed.{Prints, Refuses, RefusesText, Writes};
 
 use crate::ending::Ending;
 use crate::input::read_input;
+use crate::refusal::Refusal;
 use crate::subcommand::{Command, answer_with, write_text};
 use mr_commands::SimFault;
 use mr_picture::{play_drawn, play_shown};
@@ -65,7 +66,7 @@ fn printed_with<H: AllocGlobal + Clock + Threads + Wait + Sync>(
     match command {
         Command::Play => play(rt.alloc(), input),
         Command::PlayShown(shown) => play_shown(rt.alloc(), input, shown),
-        Command::PlayDrawn => play_drawn(rt.alloc(), input),
+        Command::PlayDrawn(part) => play_drawn(rt.alloc(), input, part),
         Command::Committer
         | Command::History
         | Command::Seq
@@ -76,6 +77,52 @@ fn printed_with<H: AllocGlobal + Clock + Threads + Wait + Sync>(
             notes: Vec::new(rt.alloc()),
         }),
     }
+}
+
+// The same, with help beside a fault.
+fn helped_with<H: AllocGlobal + Clock + Threads + Wait + Sync>(
+    rt: &H,
+    command: &Command,
+    input: &[u8],
+) -> Result<Printed, Refusal>
+    ensures ok { IfOk result (λ v. Prints command.now input.now v.text.items) }
+    ensures met { IfOk result (λ v. IsMet command.now input.now v.met) }
+    ensures fault { IfErr result (λ e. RefusesText command.now input.now e.fault) }
+{
+    match printed_with(rt, *command, input) {
+        Ok(printed) => Ok(printed),
+        Err(fault) => Err(Refusal::of(command, input, fault)),
+    }
+}
+
+/// Runs a subcommand over streams, as `run` does with the same faults, and hands out what is to be told beside the output, and beside a fault what was
+/// expected in place of what is bad.
+pub fn run_with_help<H: AllocGlobal + Clock + Threads + Wait + Sync, R: Read, W: Write>(
+    rt: &H,
+    command: &Command,
+    reader: &mut R,
+    writer: &mut W,
+) -> Result<Remarks, Refusal>
+    // Ok: the writer has what it had, then what is printed for what was read, and nothing else.
+    ensures printed { IfOk result (λ v. IfSome (R.remaining reader.old) (λ input.
+        Writes command.now input (W.contents writer.old) (W.contents writer.new))) }
+
+    // Whether all is so that the input expects.
+    ensures met { IfOk result (λ v. IfSome (R.remaining reader.old) (λ input. IsMet command.now input v.met)) }
+
+    // A fault about the input is one that the input has.
+    ensures fault { IfErr result (λ e. IfSome (R.remaining reader.old) (λ input. Refuses command.now input e.fault)) }
+
+    // Only a failed write leaves anything in the writer.
+    ensures nothing { IfErr result (λ e. e.fault ≢ SimFault.Write → Keeps (W.contents writer.old) (W.contents writer.new)) }
+{
+    let input = read_input(rt.alloc(), reader)?;
+    let printed = helped_with(rt, command, &input)?;
+    write_text(writer, &printed.text)?;
+    Ok(Remarks {
+        met: printed.met,
+        notes: printed.notes,
+    })
 }
 
 /// Runs a subcommand over streams, as `run` does with the same faults, and hands out what is to be told beside the output.
@@ -98,11 +145,8 @@ pub fn run_with_remarks<H: AllocGlobal + Clock + Threads + Wait + Sync, R: Read,
     // Only a failed write leaves anything in the writer.
     ensures nothing { IfErr result (λ e. e ≢ SimFault.Write → Keeps (W.contents writer.old) (W.contents writer.new)) }
 {
-    let input = read_input(rt.alloc(), reader)?;
-    let printed = printed_with(rt, *command, &input)?;
-    write_text(writer, &printed.text)?;
-    Ok(Remarks {
-        met: printed.met,
-        notes: printed.notes,
-    })
+    match run_with_help(rt, command, reader, writer) {
+        Ok(remarks) => Ok(remarks),
+        Err(refusal) => Err(refusal.fault),
+    }
 }

@@ -6,7 +6,7 @@ ghost use Rattle.mr_sim.specs.Printed.{Prints, Refuses, RefusesText, Writes};
 use crate::input::read_input;
 use crate::remarks::run_with_remarks;
 use mr_commands::{SimFault, committer_output, history_output, seq_output};
-use mr_picture::{play_drawn, play_shown};
+use mr_picture::{Part, play_drawn, play_shown};
 use mr_play::{Shown, play};
 use mr_threads::{Seen, threads_output, threads_seen, unthreaded};
 use std::alloc::Global;
@@ -24,8 +24,8 @@ pub enum Command {
     Play,
     /// The same, and shows more of the run beside it.
     PlayShown(Shown),
-    /// The same, and prints a picture of the run in place of what came of it.
-    PlayDrawn,
+    /// The same, and prints a picture of this part of the run in place of what came of it.
+    PlayDrawn(Part),
     /// Prints the records of one segment of a job history, and how many bytes after the last whole line were dropped.
     History,
     /// Runs the job of a job text sequentially, and prints its part files.
@@ -53,7 +53,7 @@ pub fn answer(alloc: Global, command: Command, input: &[u8]) -> Result<Vec<u8>, 
         Command::Committer => committer_output(alloc, input),
         Command::Play => Ok(play(alloc, input)?.text),
         Command::PlayShown(shown) => Ok(play_shown(alloc, input, shown)?.text),
-        Command::PlayDrawn => Ok(play_drawn(alloc, input)?.text),
+        Command::PlayDrawn(part) => Ok(play_drawn(alloc, input, part)?.text),
         Command::History => history_output(alloc, input),
         Command::Seq => seq_output(alloc, input),
         Command::Threads { .. } | Command::ThreadsSeen { .. } => unthreaded(alloc, input),

@@ -11,30 +11,47 @@ mod threads;
 mod words;
 
 use crate::words::{command_line, command_of, ending_of, file_of};
-use mr_sim::{Ending, SimFault, run_with_remarks};
+use mr_sim::{Ending, Help, Refusal, SimFault, run_with_help};
 use std::alloc::Global;
 use std::fs::File;
 use std::process::ExitCode;
 use std::{env, io};
 
-// The exit code of a program that ended so, when it has said what failed. The file is the one that it was to read, if not
-// standard input.
-fn code_of(rt: &impl Eprint, ending: Ending, file: Option<&str>) -> ExitCode
+// The exit code of a program that ended so, when it has said what failed.
+fn code_of(rt: &impl Eprint, ending: Ending) -> ExitCode
     ensures { exit_status result ≡ exit_status_of ending }
 {
     if let Ending::Failed(fault) = ending {
-        say(rt, fault, file);
+        let _ = rt.eprintln(fault);
     }
     ExitCode::from(mr_sim::exit_status(ending))
 }
 
+// The exit code of a run that has no output, when it has said why, and then what helps. The file is the one that it was to read, if not
+// standard input.
+fn code_of_refusal(rt: &impl Eprint, refusal: Refusal, file: Option<&str>) -> ExitCode
+    ensures { exit_status result ≡ exit_status_of (Ending.Failed refusal.fault) }
+{
+    if say(rt, refusal.fault, file).is_ok() {
+        say_help(rt, refusal.help);
+    }
+    ExitCode::from(mr_sim::exit_status(Ending::Failed(refusal.fault)))
+}
+
 // Says what failed on standard error: the fault's text, and behind that of a failed read the name of the file that was to be read.
 // Where it cannot be printed it is dropped, and the exit status says it.
-fn say(rt: &impl Eprint, fault: SimFault, file: Option<&str>) {
-    let _ = match (fault, file) {
+fn say(rt: &impl Eprint, fault: SimFault, file: Option<&str>) -> io::Result<()> {
+    match (fault, file) {
         (SimFault::Read, Some(name)) => eprintln!(rt; "{fault}: {name}"),
         _ => rt.eprintln(fault),
-    };
+    }
+}
+
+// Says what helps, if anything does, in a line behind the fault. Where it cannot be printed it is dropped.
+fn say_help(rt: &impl Eprint, help: Option<Help>) {
+    if let Some(help) = help {
+        let _ = eprintln!(rt; "  {help}");
+    }
 }
 
 // What it is that a file could not be opened.
@@ -42,6 +59,15 @@ fn open_fault(error: &io::Error) -> SimFault {
     match error.kind() {
         io::ErrorKind::OutOfMemory => SimFault::NoMemory,
         _ => SimFault::Read,
+    }
+}
+
+// Why a file could not be opened, where that is known.
+fn open_help(error: &io::Error) -> Option<Help> {
+    match error.kind() {
+        io::ErrorKind::NotFound => Some(Help::Words("there is no such file")),
+        io::ErrorKind::PermissionDenied => Some(Help::Words("it may not be read")),
+        _ => None,
     }
 }
 
@@ -63,34 +89,37 @@ fn main(rt: HostRuntime) -> ExitCode {
     let args = match env::args(&rt) {
         Ok(args) => args,
         Err(error) if error.kind() == io::ErrorKind::OutOfMemory => {
-            return code_of(&rt, Ending::Failed(SimFault::NoMemory), None);
+            return code_of(&rt, Ending::Failed(SimFault::NoMemory));
         }
-        Err(_) => return code_of(&rt, Ending::RefusedWords, None),
+        Err(_) => return code_of(&rt, Ending::RefusedWords),
     };
     let Ok(words): Result<Vec<String>, _> = args.collect(alloc) else {
-        return code_of(&rt, Ending::Failed(SimFault::NoMemory), None);
+        return code_of(&rt, Ending::Failed(SimFault::NoMemory));
     };
     let Ok(command) = command_line(alloc) else {
-        return code_of(&rt, Ending::Failed(SimFault::NoMemory), None);
+        return code_of(&rt, Ending::Failed(SimFault::NoMemory));
     };
     let matches = match command.try_get_matches_from(words.as_slice()) {
         Ok(matches) => matches,
-        Err(error) => return code_of(&rt, print_words(&rt, &error, ending_of(&error)), None),
+        Err(error) => return code_of(&rt, print_words(&rt, &error, ending_of(&error))),
     };
     let (command, file) = (command_of(&matches), file_of(&matches));
     let ran = match file {
-        None => run_with_remarks(&rt, &command, &mut rt.reader(), &mut io::writer(&rt)),
+        None => run_with_help(&rt, &command, &mut rt.reader(), &mut io::writer(&rt)),
         Some(name) => match File::open(&rt, name) {
-            Ok(mut reader) => run_with_remarks(&rt, &command, &mut reader, &mut io::writer(&rt)),
-            Err(error) => Err(open_fault(&error)),
+            Ok(mut reader) => run_with_help(&rt, &command, &mut reader, &mut io::writer(&rt)),
+            Err(error) => Err(Refusal {
+                fault: open_fault(&error),
+                help: open_help(&error),
+            }),
         },
     };
     match ran {
         Ok(remarks) => {
             // Where they cannot be printed they are dropped, and the exit status says whether all is as expected.
             let _ = remarks.write(&mut rt.stderr());
-            code_of(&rt, remarks.ending(), file)
+            code_of(&rt, remarks.ending())
         }
-        Err(fault) => code_of(&rt, Ending::Failed(fault), file),
+        Err(refusal) => code_of_refusal(&rt, refusal, file),
     }
 }

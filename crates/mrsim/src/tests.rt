@@ -1,7 +1,7 @@
 //! What the command line takes, what it refuses, and its help.
 use crate::words::{command_line, command_of, ending_of, file_of};
 use clap::error::ErrorKind;
-use mr_sim::{Ending, Seen, Shown, exit_status};
+use mr_sim::{Ending, Part, Seen, Shown, exit_status};
 use std::alloc::Global;
 use std::process::Abort;
 use std::test::Fail;
@@ -87,10 +87,54 @@ fn shown_words(rt: HostRuntime) -> Result<(), Fail> {
 #[test]
 fn picture_words(rt: HostRuntime) -> Result<(), Fail> {
     let alloc = rt.alloc();
-    assert!(rt; named(alloc, &["mrsim", "play", "--diagram"])? == mr_sim::Command::PlayDrawn);
+    let first = mr_sim::Command::PlayDrawn(Part { from: 0, rows: 400 });
+    assert!(rt; named(alloc, &["mrsim", "play", "--diagram"])? == first);
     refuses(&rt, alloc, &["mrsim", "play", "--diagram", "--trace"]);
     refuses(&rt, alloc, &["mrsim", "play", "--history", "--diagram"]);
     refuses(&rt, alloc, &["mrsim", "seq", "--diagram"]);
+    Ok(())
+}
+
+// `--from` and `--rows` stand beside `--diagram` alone.
+#[test]
+fn part_words(rt: HostRuntime) -> Result<(), Fail> {
+    let alloc = rt.alloc();
+    for (words, from, rows) in [
+        (&["--from", "400"][..], 400, 400),
+        (&["--rows", "1"], 0, 1),
+        (&["--rows", "10000", "--from", "0"], 0, 10000),
+        (&["--from=18446744073709551615"], u64::MAX, 400),
+    ] {
+        let mut all = vec![in alloc; "mrsim", "play", "--diagram"]?;
+        all.extend_from_slice(words)?;
+        assert!(rt;
+            named(alloc, all.as_slice())? == mr_sim::Command::PlayDrawn(Part { from, rows })
+        );
+    }
+    for (word, number) in [
+        ("--rows", "0"),
+        ("--rows", "10001"),
+        ("--rows", "x"),
+        ("--from", "-1"),
+        ("--from", "18446744073709551616"),
+    ] {
+        refuses(&rt, alloc, &["mrsim", "play", "--diagram", word, number]);
+    }
+    refuses(&rt, alloc, &["mrsim", "play", "--from", "400"]);
+    refuses(&rt, alloc, &["mrsim", "play", "--rows", "9", "--trace"]);
+    refuses(&rt, alloc, &["mrsim", "play", "--from", "9", "--history"]);
+    refuses(&rt, alloc, &["mrsim", "threads", "--rows", "9", "--script"]);
+    refuses(&rt, alloc, &["mrsim", "threads", "--from", "400"]);
+    refuses(&rt, alloc, &["mrsim", "seq", "--rows", "9"]);
+    let drawn = named(alloc, &["mrsim", "threads", "--diagram", "--from", "7"])?;
+    assert!(rt;
+        drawn
+            == mr_sim::Command::ThreadsSeen {
+                turns: 100_000,
+                hold: false,
+                seen: Seen::Drawn(Part { from: 7, rows: 400 })
+            }
+    );
     Ok(())
 }
 
@@ -149,7 +193,7 @@ fn seen_words(rt: HostRuntime) -> Result<(), Fail> {
                 history: true,
             }),
         ),
-        ("--diagram", Seen::Drawn),
+        ("--diagram", Seen::Drawn(Part { from: 0, rows: 400 })),
         ("--script", Seen::Script),
     ] {
         let command = named(alloc, &["mrsim", "threads", word, "--turns", "7"])?;
@@ -188,6 +232,12 @@ fn help(rt: HostRuntime) -> Result<(), Fail> {
         alloc,
         &["mrsim", "play", "--help"],
         "expect marker yes",
+    )?;
+    helps(
+        &rt,
+        alloc,
+        &["mrsim", "play", "--help"],
+        "--diagram --from 400 --rows 100",
     )?;
     helps(&rt, alloc, &["mrsim", "history", "--help"], "torn B")?;
     helps(

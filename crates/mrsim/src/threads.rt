@@ -1,5 +1,7 @@
 //! The words of `threads`.
-use crate::words::{DRAWN, HISTORY_SHOWN, TRACE_SHOWN, read_file, shown_of, shows};
+use crate::words::{
+    DRAWN, HISTORY_SHOWN, TRACE_SHOWN, first_drawn, most_drawn, part_of, read_file, shown_of, shows,
+};
 use clap::{Arg, ArgAction, ArgMatches, Command, value_parser};
 use mr_sim::Seen;
 use std::alloc::{AllocError, Global};
@@ -17,7 +19,7 @@ thread finds anything to do. What it shows of a run differs from one time to the
 
   --trace     each event with the thread that made it, then what `play` writes of the run
   --history   what `play` writes of the run, then each master's history
-  --diagram   a picture of the run
+  --diagram   a picture of the run, of its first 400 events or of those that --from and --rows tell
   --script    the script by which `play` repeats the run, then what `play` writes of it, as comments
 With these a run whose job failed is shown too, with status 0.
 
@@ -67,6 +69,8 @@ pub fn threads_line<'a>(alloc: Global) -> Result<Command<'a>, AllocError> {
                 .conflicts_with("trace")?
                 .conflicts_with("script")?,
         )?
+        .arg(first_drawn(alloc)?.conflicts_with("script")?)?
+        .arg(most_drawn(alloc)?.conflicts_with("script")?)?
         .arg(
             shows(alloc, "script", SCRIPT_SHOWN)
                 .conflicts_with("history")?
@@ -90,7 +94,7 @@ pub fn threads_of(words: &ArgMatches<'_>) -> mr_sim::Command {
 // What is shown in place of the part files, if that is asked for.
 fn seen_of(words: &ArgMatches<'_>) -> Option<Seen> {
     if words.get_flag("diagram") {
-        return Some(Seen::Drawn);
+        return Some(Seen::Drawn(part_of(words)));
     }
     if words.get_flag("script") {
         return Some(Seen::Script);

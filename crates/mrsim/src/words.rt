@@ -4,8 +4,8 @@ ghost use Rattle.clap.specs.Words.{kind_of};
 
 use crate::threads::{threads_line, threads_of};
 use clap::error::ErrorKind;
-use clap::{Arg, ArgAction, ArgMatches, Command, Error};
-use mr_sim::{Ending, Shown, SimFault};
+use clap::{Arg, ArgAction, ArgMatches, Command, Error, value_parser};
+use mr_sim::{Ending, Part, Shown, SimFault};
 use std::alloc::{AllocError, Global};
 
 const ABOUT: &str =
@@ -31,7 +31,8 @@ Statuses:
   4  a stream failed: `mrsim: read`, `mrsim: write`, or FILE: `mrsim: read: FILE`
   5  `mrsim: no memory`
   6  `mrsim: turns spent`
-  7  `mrsim: full`, `mrsim: thread`, `mrsim: journal mismatch`";
+  7  `mrsim: full`, `mrsim: thread`, `mrsim: journal mismatch`
+Where an input is refused, a second line on standard error says what was expected, and of a bad command which word is wrong.";
 
 const COMMITTER: &str = "Runs a script of committer calls and lists the directory that they leave";
 
@@ -118,7 +119,9 @@ prints (with a tab between a word and its count)
   outcome succeeded
   == part-r-00000 8
   a 2
-  b 1";
+  b 1
+A picture has the first 400 events of the run. Of a longer run, in a file long.play, this draws the events 400 to 499:
+  mrsim play --diagram --from 400 --rows 100 long.play > part.svg";
 
 const SEQ: &str = "Runs a job sequentially and prints its part files";
 
@@ -155,12 +158,59 @@ pub const DRAWN: &str = "Prints a picture of the run (SVG) in place of the rest"
 /// What `--trace` shows.
 pub const TRACE_SHOWN: &str = "Shows each event, with the packets that it added, before the rest";
 
+const FIRST_DRAWN: &str =
+    "With --diagram: the first event that is drawn, by its place in the trace (0 if it is not told)";
+
+const MOST_DRAWN: &str =
+    "With --diagram: how many events are drawn, 1 to 10000 (400 if it is not told)";
+
+const FROM_WORD: &str = "from";
+
+const ROWS_WORD: &str = "rows";
+
+const DIAGRAM_WORD: &str = "diagram";
+
 /// A word that asks for more.
 pub fn shows<'a>(alloc: Global, name: &'a str, help: &'a str) -> Arg<'a> {
     Arg::new(alloc, name)
         .long(name)
         .action(ArgAction::SetTrue)
         .help(help)
+}
+
+/// From which event on a picture is drawn: any number, since a run that has no such event is drawn with a note that says so. It stands beside
+/// `--diagram` alone. `clap` does not ask for that where `--diagram` is itself ruled out, so what rules it out is named here too.
+pub fn first_drawn<'a>(alloc: Global) -> Result<Arg<'a>, AllocError> {
+    Arg::new(alloc, FROM_WORD)
+        .long(FROM_WORD)
+        .value_name("N")
+        .action(ArgAction::Set)
+        .value_parser(value_parser!(u64))
+        .help(FIRST_DRAWN)
+        .conflicts_with("history")?
+        .conflicts_with("trace")?
+        .requires_arg(DIAGRAM_WORD)
+}
+
+/// How many events a picture draws. It stands where `--from` may.
+pub fn most_drawn<'a>(alloc: Global) -> Result<Arg<'a>, AllocError> {
+    Arg::new(alloc, ROWS_WORD)
+        .long(ROWS_WORD)
+        .value_name("N")
+        .action(ArgAction::Set)
+        .value_parser(value_parser!(u64).range(1..=10_000))
+        .help(MOST_DRAWN)
+        .conflicts_with("history")?
+        .conflicts_with("trace")?
+        .requires_arg(DIAGRAM_WORD)
+}
+
+/// The part of a run that is to be drawn.
+pub fn part_of(words: &ArgMatches<'_>) -> Part {
+    Part {
+        from: words.get_one::<u64>(FROM_WORD).unwrap_or(Part::FIRST.from),
+        rows: words.get_one::<u64>(ROWS_WORD).unwrap_or(Part::FIRST.rows),
+    }
 }
 
 /// The file to be read, which may be left out.
@@ -186,10 +236,12 @@ pub fn command_line<'a>(alloc: Global) -> Result<Command<'a>, AllocError> {
         .about(PLAY)
         .after_help(PLAY_HELP)
         .arg(
-            shows(alloc, "diagram", DRAWN)
+            shows(alloc, DIAGRAM_WORD, DRAWN)
                 .conflicts_with("history")?
                 .conflicts_with("trace")?,
         )?
+        .arg(first_drawn(alloc)?)?
+        .arg(most_drawn(alloc)?)?
         .arg(shows(alloc, "history", HISTORY_SHOWN))?
         .arg(shows(alloc, "trace", TRACE_SHOWN))?
         .arg(read_file(alloc))?;
@@ -255,7 +307,7 @@ pub fn shown_of(words: &ArgMatches<'_>) -> Shown {
 // What of a run is shown.
 fn play_of(words: &ArgMatches<'_>) -> mr_sim::Command {
     if words.get_flag("diagram") {
-        return mr_sim::Command::PlayDrawn;
+        return mr_sim::Command::PlayDrawn(part_of(words));
     }
     let shown = shown_of(words);
     if shown.trace || shown.history {

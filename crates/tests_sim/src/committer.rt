@@ -509,8 +509,8 @@ fn one_failure_is_answered(rt: HostRuntime) {
         let mut output = FaultyWriter::new(3, good);
         output.fails_once = true;
         match run(&rt, &Command::Committer, &mut input, &mut output) {
-            Err(SimFault::Write) => {}
-            _ => panic!(rt; "not answered"),
+            Ok(()) => panic!(rt; "not answered"),
+            Err(fault) => assert!(rt; fault == SimFault::Write, "{fault}"),
         }
         let taken = output.len.min(HELLO_TEXT.len());
         assert!(rt; taken < HELLO_TEXT.len() && output.took(&HELLO_TEXT[..taken]));
@@ -519,8 +519,11 @@ fn one_failure_is_answered(rt: HostRuntime) {
     let mut output = FaultyWriter::new(512, 1000);
     output.flushes = false;
     match run(&rt, &Command::Committer, &mut input, &mut output) {
-        Err(SimFault::Write) => assert!(rt; output.took(HELLO_TEXT)),
-        _ => panic!(rt; "not answered"),
+        Ok(()) => panic!(rt; "not answered"),
+        Err(fault) => assert!(rt;
+            fault == SimFault::Write && output.took(HELLO_TEXT),
+            "{fault}"
+        ),
     }
 }
 
@@ -557,7 +560,7 @@ fn parts_of_a_run(rt: HostRuntime) -> Result<(), Fail> {
     }
     match answer(rt.alloc(), Command::Committer, b"setup\nset\n") {
         Ok(_) => panic!(rt; "not refused"),
-        Err(fault) => assert_eq!(rt; fault, SimFault::BadCommand(2)),
+        Err(fault) => assert!(rt; fault == SimFault::BadCommand(2), "{fault}"),
     }
     let mut input = HELLO;
     let mut output = FaultyWriter::new(512, 1000);

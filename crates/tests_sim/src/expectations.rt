@@ -1,8 +1,8 @@
 //! Packets that a script drops, and what it expects of its run.
 use crate::committer::gives;
-use crate::rows::{count, in_order, traced};
+use crate::rows::{ROOM, count, in_order, traced};
 use mr_play::{Printed, play};
-use mr_sim::{Command, Ending, Shown, SimFault, run_with_remarks};
+use mr_sim::{Command, Ending, Part, Shown, SimFault, run_with_remarks};
 use std::alloc::Global;
 use std::process::Abort;
 use std::rt::Clock;
@@ -211,10 +211,10 @@ fn remarks<H: AllocGlobal + Clock + Threads + Wait + Sync + Abort>(
     said: &str,
 ) -> Result<(), Fail> {
     let input = format!(in rt.alloc(); "{ONE}\n{script}")?;
-    let mut printed = Vec::new(rt.alloc());
+    let mut printed = Vec::with_capacity(rt.alloc(), ROOM)?;
     match run_with_remarks(rt, &command, &mut input.as_bytes(), &mut printed) {
         Ok(remarks) => {
-            let mut told = Vec::new(rt.alloc());
+            let mut told = Vec::with_capacity(rt.alloc(), ROOM)?;
             if remarks.write(&mut told).is_err() {
                 panic!(rt; "not written");
             }
@@ -238,7 +238,11 @@ fn unmet_run_is_remarked(rt: HostRuntime) -> Result<(), Fail> {
     let unmet = "mrsim: not as expected\n";
     let both =
         "mrsim: line 4: calm ended without poll: master 1 told the outcome\nmrsim: not as expected\n";
-    for command in [Command::Play, Command::PlayShown(shown), Command::PlayDrawn] {
+    for command in [
+        Command::Play,
+        Command::PlayShown(shown),
+        Command::PlayDrawn(Part::FIRST),
+    ] {
         let script = "start 1 0\nexpect marker yes\ncalm 1";
         remarks(&rt, command, script, Ending::Unmet, unmet)?;
         let script = "start 1 0\nexpect marker yes\ncalm 1 before poll";
@@ -254,7 +258,13 @@ fn met_run_is_done(rt: HostRuntime) -> Result<(), Fail> {
     remarks(&rt, Command::Play, "calm 1", Ending::Done, never)?;
     let script = "start 1 0\ncalm 1\nexpect marker yes";
     remarks(&rt, Command::Play, script, Ending::Done, "")?;
-    remarks(&rt, Command::PlayDrawn, script, Ending::Done, "")?;
+    remarks(
+        &rt,
+        Command::PlayDrawn(Part::FIRST),
+        script,
+        Ending::Done,
+        "",
+    )?;
     // Whatever expects nothing is as expected.
     remarks(&rt, Command::Seq, "", Ending::Done, "")
 }

@@ -8,6 +8,8 @@ mod examples;
 #[cfg(test)]
 mod expectations;
 #[cfg(test)]
+mod hints;
+#[cfg(test)]
 mod pictures;
 #[cfg(test)]
 mod play;
@@ -21,5 +23,7 @@ mod segments;
 mod seq;
 #[cfg(test)]
 mod shown;
+#[cfg(test)]
+mod traced;
 #[cfg(test)]
 mod traces;

@@ -1,6 +1,7 @@
 //! What the picture of a run has, and when there is none.
 use crate::committer::is_refused;
-use mr_sim::{Command, JobTextFault, SimFault, run};
+use crate::rows::ROOM;
+use mr_sim::{Command, JobTextFault, Part, SimFault, run};
 use std::process::Abort;
 use std::rt::Clock;
 use std::sync::Wait;
@@ -25,9 +26,18 @@ fn drawn_of<H: AllocGlobal + Clock + Threads + Wait + Sync + Abort>(
     rt: &H,
     input: &str,
 ) -> Result<String, Fail> {
+    part_drawn(rt, input, Part::FIRST)
+}
+
+/// The picture of a part of the input's run.
+fn part_drawn<H: AllocGlobal + Clock + Threads + Wait + Sync + Abort>(
+    rt: &H,
+    input: &str,
+    part: Part,
+) -> Result<String, Fail> {
     let mut reader = input.as_bytes();
-    let mut writer = Vec::new(rt.alloc());
-    if let Err(fault) = run(rt, &Command::PlayDrawn, &mut reader, &mut writer) {
+    let mut writer = Vec::with_capacity(rt.alloc(), ROOM)?;
+    if let Err(fault) = run(rt, &Command::PlayDrawn(part), &mut reader, &mut writer) {
         panic!(rt; "{fault}");
     }
     match str::from_utf8(&writer) {
@@ -188,14 +198,189 @@ fn refused_scripts_have_no_picture(rt: HostRuntime) -> Result<(), Fail> {
     let script = format!(in rt.alloc(); "{ONE}\nstart 1 0\nbegin")?;
     is_refused(
         &rt,
-        Command::PlayDrawn,
+        Command::PlayDrawn(Part::FIRST),
         script.as_bytes(),
         SimFault::BadCommand(3),
     )?;
     is_refused(
         &rt,
-        Command::PlayDrawn,
+        Command::PlayDrawn(Part::FIRST),
         b"start 1 0",
         SimFault::Job(JobTextFault::Text),
     )
+}
+
+/// The picture of a part of a run of 401 events: of three packets of the node to the master, 0 is sent at event 1 and delivered at 400, 1 is
+/// never delivered, 2 is sent at 3 and delivered at 4.
+fn restarts_drawn<H: AllocGlobal + Clock + Threads + Wait + Sync + Abort>(
+    rt: &H,
+    from: u64,
+    rows: u64,
+) -> Result<String, Fail> {
+    let mut input = format!(in rt.alloc();
+        "{ONE}\nstart 1 0\nrestart 0\nrestart 0\nrestart 0\ndeliver 2\n"
+    )?;
+    for _ in 0..395 {
+        input.push_str("restart 0\n")?;
+    }
+    input.push_str("deliver 0\n")?;
+    part_drawn(rt, &input, Part { from, rows })
+}
+
+/// The picture has each of these words so often.
+fn has(rt: &impl Abort, picture: &str, words: &[(&str, usize)]) {
+    for (words, often) in words {
+        assert!(rt; count(picture, words) == *often, "{words}");
+    }
+}
+
+// Three events in the midst of a run. The master's lane comes in from above, and so does the packet that was sent before.
+#[test]
+fn part_in_the_midst(rt: HostRuntime) -> Result<(), Fail> {
+    let picture = restarts_drawn(&rt, 4, 3)?;
+    has(
+        &rt,
+        &picture,
+        &[
+            ("a run of 401 events, time goes down", 2),
+            (">cut here: 4 events before these are not drawn<", 1),
+            (">1 start, 3 restart<", 1),
+            (">cut here: 394 more events are not drawn<", 1),
+            (">1 deliver, 393 restart<", 1),
+            (">deliver 2<", 1),
+            (">restart 0<", 2),
+            (">3</text>", 0),
+            (">4</text>", 1),
+            (">6</text>", 1),
+            (">7</text>", 0),
+            ("NodeUp 0 incarnation 4; sent before, at event 3<", 1),
+            ("class=\"earlier\"", 2),
+            ("class=\"lost\"", 3),
+            ("class=\"begin\"", 1),
+            (
+                "<line class=\"earlier\" x1=\"218\" y1=\"184\" x2=\"193\" y2=\"196\"/>",
+                1,
+            ),
+            (
+                "<line class=\"master\" x1=\"188\" y1=\"180\" x2=\"188\" y2=\"254\"/>",
+                1,
+            ),
+        ],
+    );
+    Ok(())
+}
+
+// Packets that are sent in the part: one comes behind it, one never.
+#[test]
+fn part_before_a_delivery(rt: HostRuntime) -> Result<(), Fail> {
+    let picture = restarts_drawn(&rt, 1, 2)?;
+    has(
+        &rt,
+        &picture,
+        &[
+            ("delivered later to master 1: NodeUp 0 incarnation 2<", 1),
+            ("not delivered to master 1: NodeUp 0 incarnation 3<", 1),
+            ("incarnation 4", 0),
+            ("class=\"later\"", 2),
+            ("class=\"earlier\"", 1),
+            (">cut here: 1 events before these are not drawn<", 1),
+            (">cut here: 398 more events are not drawn<", 1),
+        ],
+    );
+    Ok(())
+}
+
+// The last part, and one behind it, which says that it has nothing. What came of the run stands below each.
+#[test]
+fn parts_at_the_end(rt: HostRuntime) -> Result<(), Fail> {
+    let last = restarts_drawn(&rt, 400, 400)?;
+    has(
+        &rt,
+        &last,
+        &[
+            (">cut here: 400 events before these are not drawn<", 1),
+            (">1 start, 1 deliver, 398 restart<", 1),
+            ("more events are not drawn", 0),
+            (">deliver 0<", 1),
+            ("NodeUp 0 incarnation 2; sent before, at event 1<", 1),
+            (">marker no<", 1),
+            (">outcome none<", 1),
+        ],
+    );
+    for from in [401, u64::MAX] {
+        let note = format!(in rt.alloc();
+            ">no event is drawn: the run has 401 events, and none at {from} or behind it (the first is 0)<"
+        )?;
+        let none = restarts_drawn(&rt, from, 400)?;
+        has(
+            &rt,
+            &none,
+            &[
+                (note.as_str(), 1),
+                (">1 start, 2 deliver, 398 restart<", 1),
+                ("cut here", 0),
+                (">marker no<", 1),
+                (">outcome none<", 1),
+            ],
+        );
+    }
+    Ok(())
+}
+
+// A delivery once more of a packet that was sent and delivered before the part.
+#[test]
+fn part_with_a_repeat(rt: HostRuntime) -> Result<(), Fail> {
+    let input = format!(in rt.alloc(); "{ONE}\nstart 1 0\nrestart 0\ndeliver 0\ndeliver 0")?;
+    let picture = part_drawn(&rt, &input, Part { from: 3, rows: 1 })?;
+    has(
+        &rt,
+        &picture,
+        &[
+            (
+                "<line class=\"repeat\" x1=\"218\" y1=\"184\" x2=\"193\" y2=\"196\"/>",
+                1,
+            ),
+            ("; sent before, at event 1<", 1),
+            ("class=\"earlier\"", 1),
+        ],
+    );
+    Ok(())
+}
+
+// Who was over before the part has no lane, but where the part names it.
+#[test]
+fn lanes_of_a_part(rt: HostRuntime) -> Result<(), Fail> {
+    let input = format!(in rt.alloc(); "{ONE}\nstart 1 0\ncrash 1 0\nstart 2 0\nduty 2")?;
+    let later = part_drawn(&rt, &input, Part { from: 2, rows: 2 })?;
+    has(
+        &rt,
+        &later,
+        &[
+            (">master 1</text>", 0),
+            (">master 2</text>", 2),
+            (">node 0</text>", 2),
+            ("class=\"head\"", 4),
+        ],
+    );
+    let crash = part_drawn(&rt, &input, Part { from: 1, rows: 1 })?;
+    has(
+        &rt,
+        &crash,
+        &[(">master 1</text>", 2), (">master 2</text>", 0)],
+    );
+    Ok(())
+}
+
+// Parts that meet show each event once.
+#[test]
+fn parts_meet(rt: HostRuntime) -> Result<(), Fail> {
+    let first = restarts_drawn(&rt, 0, 400)?;
+    assert_eq!(rt; count(&first, "class=\"number\""), 400);
+    let mut events = 0usize;
+    for from in [0, 200, 400] {
+        let part = restarts_drawn(&rt, from, 200)?;
+        events = events.saturating_add(count(&part, "class=\"number\""));
+    }
+    assert_eq!(rt; events, 401);
+    Ok(())
 }

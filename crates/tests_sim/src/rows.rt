@@ -14,6 +14,9 @@ const ONE: &str =
 const TWO: &str =
     "{\"id\":\"job_200707121733_0003\",\"job\":\"wordcount\",\"reduces\":2,\"splits\":[\"a b a\"]}";
 
+/// Room for what is printed, so that no write asks for memory.
+pub const ROOM: usize = 1 << 20;
+
 /// What this command prints for the input.
 pub fn printed<H: AllocGlobal + Clock + Threads + Wait + Sync + Abort>(
     rt: &H,
@@ -21,7 +24,7 @@ pub fn printed<H: AllocGlobal + Clock + Threads + Wait + Sync + Abort>(
     input: &str,
 ) -> Result<String, Fail> {
     let mut reader = input.as_bytes();
-    let mut writer = Vec::new(rt.alloc());
+    let mut writer = Vec::with_capacity(rt.alloc(), ROOM)?;
     if let Err(fault) = run(rt, &command, &mut reader, &mut writer) {
         panic!(rt; "{fault}");
     }

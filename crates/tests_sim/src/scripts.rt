@@ -21,46 +21,43 @@ fn read(alloc: Global, text: &[u8]) -> Result<Vec<(usize, Command)>, ScriptFault
     commands_of(alloc, JOB, text, 2)
 }
 
-fn is_bad(alloc: Global, text: &[u8], line: usize) -> bool {
-    read(alloc, text).is_err_and(|fault| fault == ScriptFault::BadCommand(line))
+// Whether this line of the text is refused.
+fn is_bad(rt: &impl Abort, alloc: Global, text: &[u8], line: usize) -> bool {
+    match read(alloc, text) {
+        Ok(_) => false,
+        Err(ScriptFault::NoMemory) => panic!(rt; "no memory"),
+        Err(fault) => fault == ScriptFault::BadCommand(line),
+    }
 }
 
 #[test]
 fn scripts_are_read_whole(rt: HostRuntime) {
     let text =
         b"start 1 18446744073709551615\n\ncalm 1 before launch\nlaunch 1 r 4294967295 0\nstep 1000.7 unanswered";
-    match read(rt.alloc(), text.as_slice()) {
-        Ok(commands) => {
-            assert!(rt; commands.len() == 4 && commands[1].0 == 4 && commands[3].0 == 6);
-            assert!(rt;
-                matches!(
-                    &commands[0].1,
-                    Command::Makes(Event::Start {
-                        generation: 1,
-                        kept: u64::MAX
-                    })
-                )
-            );
-            assert!(rt; matches!(&commands[1].1, Command::Calm(1, Some(EventName::Launch))));
-        }
-        Err(_) => panic!(rt; "not read"),
-    }
+    let commands = read(rt.alloc(), text.as_slice()).expect(&rt, "not read");
+    assert!(rt; commands.len() == 4 && commands[1].0 == 4 && commands[3].0 == 6);
+    assert!(rt;
+        matches!(
+            &commands[0].1,
+            Command::Makes(Event::Start {
+                generation: 1,
+                kept: u64::MAX
+            })
+        )
+    );
+    assert!(rt; matches!(&commands[1].1, Command::Calm(1, Some(EventName::Launch))));
 }
 
 // A line that begins with `#` is skipped and counted, whatever else it says. A `#` further on begins no comment.
 #[test]
 fn comments_are_skipped(rt: HostRuntime) {
     let text = b"# two masters\nstart 1 0\n\n#crash 1 0\n#\ncalm 1\n# \xff";
-    match read(rt.alloc(), text.as_slice()) {
-        Ok(commands) => {
-            assert!(rt; commands.len() == 2 && commands[0].0 == 3 && commands[1].0 == 7);
-            assert!(rt; matches!(&commands[1].1, Command::Calm(1, None)));
-        }
-        Err(_) => panic!(rt; "not read"),
-    }
-    assert!(rt; is_bad(rt.alloc(), b"#\n # two masters", 3));
-    assert!(rt; is_bad(rt.alloc(), b"#\nstart 1 0 # a master", 3));
-    assert!(rt; is_bad(rt.alloc(), b"#\n\n/ a master", 4));
+    let commands = read(rt.alloc(), text.as_slice()).expect(&rt, "not read");
+    assert!(rt; commands.len() == 2 && commands[0].0 == 3 && commands[1].0 == 7);
+    assert!(rt; matches!(&commands[1].1, Command::Calm(1, None)));
+    assert!(rt; is_bad(&rt, rt.alloc(), b"#\n # two masters", 3));
+    assert!(rt; is_bad(&rt, rt.alloc(), b"#\nstart 1 0 # a master", 3));
+    assert!(rt; is_bad(&rt, rt.alloc(), b"#\n\n/ a master", 4));
 }
 
 #[test]
@@ -82,7 +79,7 @@ fn bad_commands_of_scripts(rt: HostRuntime) {
         b"deliver 1\r",
     ];
     for line in lines {
-        assert!(rt; is_bad(rt.alloc(), line, 2));
+        assert!(rt; is_bad(&rt, rt.alloc(), line, 2));
     }
 }
 
@@ -96,9 +93,7 @@ expect marker no\n\
 expect outcome succeeded\n\
 expect outcome failed\n\
 expect outcome none";
-    let Ok(commands) = read(rt.alloc(), text.as_slice()) else {
-        panic!(rt; "not read");
-    };
+    let commands = read(rt.alloc(), text.as_slice()).expect(&rt, "not read");
     assert!(rt; commands.len() == 8 && commands[7].0 == 9);
     assert!(rt; matches!(&commands[0].1, Command::Drop(u64::MAX)));
     let last = AttemptId::parse("attempt_200707121733_0003_r_000000_999999").ok();
@@ -149,7 +144,7 @@ fn bad_drops_and_expectations(rt: HostRuntime) {
         b"expect outcome",
     ];
     for line in lines {
-        assert!(rt; is_bad(rt.alloc(), line, 2));
+        assert!(rt; is_bad(&rt, rt.alloc(), line, 2));
     }
 }
 

@@ -1,7 +1,7 @@
 //! What `play --history`, `play --trace` and `play --diagram` show of runs that go wrong.
 use crate::rows::{count, printed, traced};
 use mr_event::Why;
-use mr_sim::{Command, Shown};
+use mr_sim::{Command, Part, Shown};
 use std::process::Abort;
 use std::rt::Clock;
 use std::sync::Wait;
@@ -160,7 +160,7 @@ fn failing_job_is_traced(rt: HostRuntime) -> Result<(), Fail> {
 #[test]
 fn failing_job_is_drawn(rt: HostRuntime) -> Result<(), Fail> {
     let input = format!(in rt.alloc(); "{STRICT}\n{FAILS}")?;
-    let picture = printed(&rt, Command::PlayDrawn, &input)?;
+    let picture = printed(&rt, Command::PlayDrawn(Part::FIRST), &input)?;
     for (words, often) in [
         (">permission to commit<", 1),
         ("class=\"yes\"", 2),

@@ -22,13 +22,22 @@ fn traces<H: AllocGlobal + Clock + Threads + Wait + Sync + Abort>(
 ) -> Result<(), Fail> {
     let input = format!(in rt.alloc(); "{JOB}\n{script}")?;
     let printed = format!(in rt.alloc(); "{trace}{refused}{REST}")?;
+    prints(rt, input.as_bytes(), printed.as_bytes())
+}
+
+/// For this job text and script this is printed, the trace and the rest.
+pub fn prints<H: AllocGlobal + Clock + Threads + Wait + Sync + Abort>(
+    rt: &H,
+    input: &[u8],
+    printed: &[u8],
+) -> Result<(), Fail> {
     let shown = Shown {
         trace: true,
         history: false,
     };
-    let mut reader = input.as_bytes();
+    let mut reader = input;
     let mut writer = Expecting {
-        left: printed.as_bytes(),
+        left: printed,
         same: true,
     };
     match run(rt, &Command::PlayShown(shown), &mut reader, &mut writer) {

@@ -24,14 +24,10 @@ fn repeats<H: AllocGlobal + Clock + Threads + Wait + Sync + Abort>(
     rt: &H,
     job: &str,
 ) -> Result<(), Fail> {
-    let Ok(script) = written(rt, showing(Seen::Script), job.as_bytes()) else {
-        panic!(rt; "no script");
-    };
+    let script = written(rt, showing(Seen::Script), job.as_bytes())?;
     let mut input = Vec::from_slice(rt.alloc(), job.as_bytes())?;
     input.extend_from_slice(&script)?;
-    let Ok(played) = written(rt, Command::Play, &input) else {
-        panic!(rt; "not played");
-    };
+    let played = written(rt, Command::Play, &input)?;
     let told = told(rt, &script)?;
     assert!(rt; played.as_slice() == told.as_slice());
     assert!(rt; played.starts_with(b"r 0 "));

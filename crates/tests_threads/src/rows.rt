@@ -93,12 +93,8 @@ fn threads_print_what_seq_prints(rt: HostRuntime) -> Result<(), Fail> {
         "\"job\":\"wordcount\",\"reduces\":3,\"splits\":[]",
     ] {
         let text = job_text(&rt, keys)?;
-        let Ok(files) = written(&rt, Command::Seq, text.as_bytes()) else {
-            panic!(rt; "no files");
-        };
-        let Ok(printed) = written(&rt, plain(), text.as_bytes()) else {
-            panic!(rt; "no run");
-        };
+        let files = written(&rt, Command::Seq, text.as_bytes())?;
+        let printed = written(&rt, plain(), text.as_bytes())?;
         assert!(rt; files.as_slice() == printed.as_slice());
     }
     let two = job_text(
@@ -126,8 +122,8 @@ fn bad_job_texts(rt: HostRuntime) -> Result<(), Fail> {
     ] {
         let text = job_text(&rt, keys)?;
         refuses(&rt, plain(), text.as_str(), SimFault::Job(fault))?;
-        let alone = answer(rt.alloc(), plain(), text.as_bytes());
-        assert!(rt; alone.err() == Some(SimFault::Job(fault)));
+        let alone = answer(rt.alloc(), plain(), text.as_bytes()).err();
+        assert!(rt; alone == Some(SimFault::Job(fault)), "{alone:?}");
     }
     refuses(&rt, plain(), "[]", SimFault::Job(JobTextFault::Text))
 }
@@ -142,7 +138,8 @@ fn no_handle(rt: HostRuntime) -> Result<(), Fail> {
         seen: Seen::Script,
     };
     for command in [plain(), seen] {
-        assert!(rt; answer(rt.alloc(), command, text.as_bytes()).err() == Some(SimFault::Thread));
+        let alone = answer(rt.alloc(), command, text.as_bytes()).err();
+        assert!(rt; alone == Some(SimFault::Thread), "{alone:?}");
     }
     Ok(())
 }

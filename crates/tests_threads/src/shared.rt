@@ -9,6 +9,9 @@ use std::thread::Threads;
 /// So many turns has a thread that is to have enough.
 pub const TURNS: u64 = 100_000;
 
+// Room for what is written, so that no write asks for memory.
+const ROOM: usize = 1 << 20;
+
 /// The files of each job here of two `a` and one `b`, with one reduce and with two.
 pub const FILE: &str = "== part-r-00000 8\na\t2\nb\t1\n";
 
@@ -33,7 +36,9 @@ pub fn written<H: AllocGlobal + Clock + Threads + Wait + Sync + Abort>(
     text: &[u8],
 ) -> Result<Vec<u8>, SimFault> {
     let mut input = text;
-    let mut output = Vec::new(rt.alloc());
+    let Ok(mut output) = Vec::with_capacity(rt.alloc(), ROOM) else {
+        return Err(SimFault::NoMemory);
+    };
     match run(rt, &command, &mut input, &mut output) {
         Ok(()) => Ok(output),
         Err(fault) => {
@@ -66,7 +71,8 @@ pub fn refuses<H: AllocGlobal + Clock + Threads + Wait + Sync + Abort>(
     text: &str,
     fault: SimFault,
 ) -> Result<(), Fail> {
-    assert!(rt; written(rt, command, text.as_bytes()).err() == Some(fault));
+    let told = written(rt, command, text.as_bytes()).err();
+    assert!(rt; told == Some(fault), "{told:?}");
     Ok(())
 }
 

@@ -1,6 +1,6 @@
 //! What is shown of a run: its trace, its history, its picture.
 use crate::shared::{FILE, showing, words_of, written};
-use mr_sim::{Seen, Shown};
+use mr_sim::{Part, Seen, Shown};
 use std::process::Abort;
 use std::rt::Clock;
 use std::str;
@@ -16,9 +16,7 @@ fn shown_of<H: AllocGlobal + Clock + Threads + Wait + Sync + Abort>(
     seen: Seen,
 ) -> Result<String, Fail> {
     let job = words_of(rt, "\"a b a\"", "")?;
-    let Ok(text) = written(rt, showing(seen), job.as_bytes()) else {
-        panic!(rt; "no run");
-    };
+    let text = written(rt, showing(seen), job.as_bytes())?;
     match String::from_utf8(text) {
         Ok(text) => Ok(text),
         Err(_) => panic!(rt; "no text"),
@@ -58,7 +56,7 @@ fn history_stands_behind(rt: HostRuntime) -> Result<(), Fail> {
 
 #[test]
 fn picture_tells_who_made_each_event(rt: HostRuntime) -> Result<(), Fail> {
-    let text = shown_of(&rt, Seen::Drawn)?;
+    let text = shown_of(&rt, Seen::Drawn(Part::FIRST))?;
     assert!(rt; text.starts_with("<svg "));
     assert!(rt; text.contains("start 1 0 (faults)"));
     assert!(rt; text.contains("marker (master 1)"));
