@@ -1,0 +1,2 @@
+mod Coming
+mod Turning

@@ -1,0 +1,9 @@
+//! Runs that are at their ends.
+
+/// A run at its end.
+#[derive(Debug, Drop)]
+pub struct Ended<R> {
+    pub run: R,
+    /// How many faults more it might have had.
+    pub spare: u32,
+}
