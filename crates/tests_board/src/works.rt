@@ -48,8 +48,11 @@ fn work_is_given_away_once(rt: HostRuntime) {
     let c = container(&rt, 0);
     let work = table.done_at(&rt, rt.alloc(), c);
     let late = table.done_at(&rt, rt.alloc(), c);
-    let answer = table.board.hand_in_as(&mut table.nodes, work);
-    assert!(rt; answer.is_ok_and(|took| took.count == 0));
+    let took = table
+        .board
+        .hand_in_as(&mut table.nodes, work)
+        .expect(&rt, "not taken");
+    assert!(rt; took.count == 0);
     assert!(rt; table.nodes.made().len() == 1);
     assert!(rt; is_the_block(&table.nodes.made()[0], c));
     let journal = table.board.world().journal();

@@ -251,7 +251,7 @@ fn four_reduce_works_at_once(rt: HostRuntime) -> Result<(), Fail> {
         rt.alloc(),
         r#""job":"wordcount","splits":["a","b","a",""],"nodes":4,"reduces":4"#,
     );
-    let report = drive(&rt, rt.alloc(), &WordCount, &gate, &four, TURNS).map_err(|_| "a fault")?;
+    let report = drive(&rt, rt.alloc(), &WordCount, &gate, &four, TURNS)?;
     assert!(rt; report.succeeded && report.files.len() == 4);
     assert_eq!(rt; gate.maps.load(Ordering::SeqCst), 4);
     assert_eq!(rt; gate.reduces.load(Ordering::SeqCst), 4);
@@ -272,6 +272,6 @@ impl Gate for ShutGate {
 fn a_gate_that_refuses_ends_the_run(rt: HostRuntime) -> Result<(), Fail> {
     let plan = plan(&rt, rt.alloc(), r#""job":"wordcount","splits":["a b a"]"#);
     let fault = drive(&rt, rt.alloc(), &WordCount, &ShutGate, &plan, TURNS).err();
-    assert!(rt; fault == Some(DriveFault::TurnsSpent));
+    assert!(rt; fault == Some(DriveFault::TurnsSpent), "{fault:?}");
     Ok(())
 }
