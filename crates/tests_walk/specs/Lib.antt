@@ -1,0 +1,2 @@
+-- The run of the tests.
+pub mod Counting
