@@ -95,3 +95,4 @@ pub mod Wanted
 pub mod Lying
 pub mod Addressed
 pub mod Results
+pub mod bridge

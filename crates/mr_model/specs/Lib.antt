@@ -28,3 +28,4 @@ pub mod Stored
 pub mod Acts
 pub mod Addressed
 pub mod Made
+pub mod bridge

@@ -45,12 +45,15 @@
 //!   `containers_act`, `maps_act`, `nodes_act`); a packet to a node goes to one of the cluster's (`packets_find_their_nodes`); bytes are handed in only as wished (`pasts_are_wished`), and no
 //!   container begins twice (`begins_once`), or is placed elsewhere than on one of the cluster's nodes (`places_are_nodes`).
 //!
+//! - the bridge to the machine of a master (`specs/bridge`, `src/machines.rt`): at every point of a past a master here acts as its machine
+//!   (`mr_master_model`): what it calls next, refuses, launches next and sends (`masters_agree`).
+//!
 //! What each word means: [docs/MODEL.md](../../../docs/MODEL.md). Why it holds:
-//! [docs/INVARIANT.md](../../../docs/INVARIANT.md). That a master's machine acts as these masters do is said in
-//! `mr_agree` (`masters_agree`), that a world of machines which is run is one of these in `mr_world`.
+//! [docs/INVARIANT.md](../../../docs/INVARIANT.md). That a world of machines which is run is one of these is said in `mr_world`.
 #![tactic(auto)]
 
 mod actors;
+mod machines;
 
 ghost use Rattle.mr_model.specs.Claims.{Limits, WinnerStays, NodesAreToldTheWinner, MarkerMeansWholeFiles, MarkerIsFinal, OneOutcome, RecoveryFindsTheWinners, WrongSuspicionDoesNoHarm};
 ghost use Rattle.mr_model.specs.Claims.{OneAttemptIsRecorded, OneContainerWasToldYes, CommittedFileIsTheWinners, PublishedFilesAreTheWinners, OneWholeOutput, LengthsAreRight};
@@ -68,6 +71,11 @@ pub use actors::{
     answers_are_heard, begins_once, containers_act, containers_agree, containers_say, maps_act,
     masters_act, nodes_act, nodes_agree, packets_find_their_nodes, pasts_are_wished,
     places_are_nodes, stores_go_on,
+};
+pub use machines::{
+    beginnings_agree, ends_early, late_steps_keep, launches_agree, masters_agree, masters_go_on,
+    masters_send, points_agree, reduces_are_recorded, running_begins, steps_keep,
+    store_calls_agree, tasks_stay_alike, turns_agree,
 };
 
 // The headline

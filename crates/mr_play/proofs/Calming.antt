@@ -23,7 +23,7 @@ use Rattle.mr_model.specs.Wanted.{wanted}
 use Rattle.mr_model.proofs.Cluster.{open_place}
 use Rattle.mr_model.proofs.Ranges.{always-placed}
 use Rattle.mr_model.proofs.Wanted.{wanted_may_be_launched}
-use Rattle.mr_agree.specs.Works.{named}
+use Rattle.mr_model.specs.bridge.Works.{named}
 use Rattle.mr_world.specs.Readings.{living, launched_by, is_behind, next_living}
 use Rattle.mr_play.specs.Played.{Next, is_dropped, passed, cursor_at, has_ended, is_through, result_of, computed_of, computing, stepping, next_packet, next_duty, next_launch, next_step, next_of}
 use Rattle.mr_play.specs.Laws.{CalmsArePermitted}

@@ -17,7 +17,7 @@ use Rattle.mr_model.specs.Effect.{addressee, wants_compute}
 use Rattle.mr_model.specs.Claims.{Limits}
 use Rattle.mr_model.specs.Sequential.{Job}
 use Rattle.mr_model.specs.Wanted.{wanted}
-use Rattle.mr_agree.specs.Works.{named}
+use Rattle.mr_model.specs.bridge.Works.{named}
 use Rattle.mr_world.specs.Readings.{due_in, wanted_in, wish_by, wish_in, living, launched_by, next_living}
 use Rattle.mr_play.specs.declared.calm.Coming.{Coming}
 use Rattle.mr_play.specs.declared.calm.Coming.TheVariants as coming

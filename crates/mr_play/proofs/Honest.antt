@@ -23,7 +23,7 @@ use Rattle.mr_model.specs.Wanted.{wanted}
 use Rattle.mr_model.proofs.Lists.{Each}
 use Rattle.mr_model.proofs.Cluster.{open_place}
 use Rattle.mr_model.proofs.Ranges.{always-placed}
-use Rattle.mr_agree.specs.Works.{named}
+use Rattle.mr_model.specs.bridge.Works.{named}
 use Rattle.mr_world.specs.declared.limits.TheConstants.{MAX_EVENTS}
 use Rattle.mr_world.specs.Readings.{input_in, living, next_living}
 use Rattle.mr_play.specs.EventNames.{stops_at}

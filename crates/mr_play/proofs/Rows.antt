@@ -5,7 +5,7 @@ use Rattle.mr_model.specs.Effect.{run, happens, not_now, node_past_after}
 use Rattle.mr_model.specs.Sending.{sent}
 use Rattle.mr_model.specs.Hearing.{heard}
 use Rattle.mr_model.specs.Duties.{seen, next_seen, duty_of, phase_told, told}
-use Rattle.mr_agree.specs.Works.{duty_name}
+use Rattle.mr_model.specs.bridge.Works.{duty_name}
 use Rattle.mr_play.specs.Played.{most_calm}
 use Rattle.mr_play.specs.Rows.{PlayedRows}
 

@@ -17,7 +17,7 @@ use Rattle.mr_model.specs.Effect.{addressee, not_now, wants_compute}
 use Rattle.mr_model.specs.Claims.{Limits, world_of}
 use Rattle.mr_model.specs.Sequential.{Job, Input, made_of, most_output}
 use Rattle.mr_model.specs.Wanted.{wanted}
-use Rattle.mr_agree.specs.Works.{named}
+use Rattle.mr_model.specs.bridge.Works.{named}
 use Rattle.mr_world.specs.declared.limits.TheConstants.{MAX_EVENTS}
 use Rattle.mr_world.specs.Readings.{input_in, living, next_living, wish_by}
 use Rattle.mr_script.specs.declared.command.Command.{Command}

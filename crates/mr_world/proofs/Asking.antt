@@ -27,10 +27,10 @@ use Rattle.mr_model.specs.World.{World, Weather, Calm, Unavailable, Unanswered, 
 use Rattle.mr_model.proofs.Exactly.{always-counted}
 use Rattle.mr_model.proofs.Fitting.{appended_records_fit}
 use Rattle.mr_model.proofs.Living.{masters_are_raised}
-use Rattle.mr_agree.specs.Steps.{setting, steps, store_call}
-use Rattle.mr_agree.specs.Stores.{CallAgrees, told_in}
-use Rattle.mr_agree.specs.Works.{named}
-use Rattle.mr_agree.proofs.Stores.{store_calls_agree}
+use Rattle.mr_model.specs.bridge.Steps.{setting, steps, store_call}
+use Rattle.mr_model.specs.bridge.Stores.{CallAgrees, told_in}
+use Rattle.mr_model.specs.bridge.Works.{named}
+use Rattle.mr_model.proofs.bridge.Stores.{store_calls_agree}
 use Rattle.mr_world.specs.declared.duty.Due.{Due}
 use Rattle.mr_world.specs.declared.fault.WorldFault.{WorldFault}
 use Rattle.mr_world.specs.declared.fault.WorldFault.TheVariants as fault

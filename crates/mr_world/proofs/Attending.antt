@@ -22,9 +22,9 @@ use Rattle.mr_model.specs.Effect.{effect, not_now}
 use Rattle.mr_model.specs.Sending.{sent}
 use Rattle.mr_model.specs.Stores.{call_of_history, HasRoom}
 use Rattle.mr_model.specs.Stored.{StoresStand, left_in}
-use Rattle.mr_agree.specs.Steps.{setting, steps, answer_of}
-use Rattle.mr_agree.specs.Stores.{CallAgrees, told_of, told_in}
-use Rattle.mr_agree.proofs.Stores.{store_calls_agree, masters_send}
+use Rattle.mr_model.specs.bridge.Steps.{setting, steps, answer_of}
+use Rattle.mr_model.specs.bridge.Stores.{CallAgrees, told_of, told_in}
+use Rattle.mr_model.proofs.bridge.Stores.{store_calls_agree, masters_send}
 use Rattle.mr_world.specs.declared.fault.WorldFault.{WorldFault}
 use Rattle.mr_world.specs.declared.fault.WorldFault.TheVariants as fault
 use Rattle.mr_world.specs.declared.masters.Masters.{Masters}

@@ -30,7 +30,7 @@ use Rattle.mr_model.specs.Actors.{is_finished}
 use Rattle.mr_model.specs.Acts.{Went}
 use Rattle.mr_model.proofs.Acts.{containers_act}
 use Rattle.mr_model.proofs.Stored.{stores_go_on}
-use Rattle.mr_agree.proofs.Stores.{masters_go_on}
+use Rattle.mr_model.proofs.bridge.Stores.{masters_go_on}
 use Rattle.mr_cluster.specs.declared.living.Living.{Living}
 use Rattle.mr_cluster.specs.Living.{kept, Changes}
 use Rattle.mr_world.specs.declared.parts.Parts.{Parts}

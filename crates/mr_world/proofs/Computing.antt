@@ -24,7 +24,7 @@ use Rattle.mr_model.specs.Actors.{is_finished}
 use Rattle.mr_model.proofs.Acts.{containers_act, maps_act}
 use Rattle.mr_model.proofs.Stored.{stores_go_on}
 use Rattle.mr_model.proofs.Places.{places_are_nodes}
-use Rattle.mr_agree.proofs.Stores.{masters_go_on}
+use Rattle.mr_model.proofs.bridge.Stores.{masters_go_on}
 use Rattle.mr_cluster.specs.declared.living.Living.{Living}
 use Rattle.mr_cluster.specs.declared.nodes.Nodes.{Nodes}
 use Rattle.mr_cluster.specs.Living.{kept, Changes, stepped}

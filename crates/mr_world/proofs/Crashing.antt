@@ -10,7 +10,7 @@ use Rattle.mr_model.specs.Effect.{effect, not_now, NoMaster}
 use Rattle.mr_model.specs.Sending.{sent}
 use Rattle.mr_model.specs.Stored.{StoresStand}
 use Rattle.mr_model.proofs.Stored.{stores_go_on}
-use Rattle.mr_agree.proofs.Stores.{masters_go_on}
+use Rattle.mr_model.proofs.bridge.Stores.{masters_go_on}
 use Rattle.mr_world.specs.declared.masters.Masters.{Masters}
 use Rattle.mr_world.specs.declared.parts.Parts.{Parts}
 use Rattle.mr_world.specs.Machines.{master_of}

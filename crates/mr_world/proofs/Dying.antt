@@ -9,7 +9,7 @@ use Rattle.mr_model.specs.Effect.{effect, not_now, NoContainer}
 use Rattle.mr_model.specs.Sending.{sent}
 use Rattle.mr_model.proofs.Acts.{nodes_act}
 use Rattle.mr_model.proofs.Stored.{stores_go_on}
-use Rattle.mr_agree.proofs.Stores.{masters_go_on}
+use Rattle.mr_model.proofs.bridge.Stores.{masters_go_on}
 use Rattle.mr_cluster.specs.declared.living.Living.{Living}
 use Rattle.mr_cluster.specs.Living.{kept, Changes}
 use Rattle.mr_world.specs.declared.fault.WorldFault.TheVariants as fault

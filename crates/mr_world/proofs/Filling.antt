@@ -35,7 +35,7 @@ use Rattle.mr_model.specs.Stored.{StoresStand, master}
 use Rattle.mr_model.specs.Stores.{NamesStand}
 use Rattle.mr_model.specs.World.{World, Weather, Calm, Unavailable, Unanswered, is_applied}
 use Rattle.mr_model.proofs.Lists.{attempt_eq-true, attempt_eq-refl}
-use Rattle.mr_agree.specs.Steps.{store_call}
+use Rattle.mr_model.specs.bridge.Steps.{store_call}
 use Rattle.mr_world.specs.inner.Asking.{is_segment_full, finds_full}
 use Rattle.mr_world.specs.inner.Calling.{is_made}
 use Rattle.mr_world.specs.Limits.{barred_of, is_full, length_with, fits_store}

@@ -16,8 +16,8 @@ use Rattle.mr_model.specs.Stored.{StoresStand}
 use Rattle.mr_model.specs.Actors as actors
 use Rattle.mr_model.proofs.Basic.{run-append}
 use Rattle.mr_model.proofs.Closed.{container_eq-true}
-use Rattle.mr_agree.specs.Steps.{setting, steps}
-use Rattle.mr_agree.specs.Stores.{MastersRest}
+use Rattle.mr_model.specs.bridge.Steps.{setting, steps}
+use Rattle.mr_model.specs.bridge.Stores.{MastersRest}
 use Rattle.mr_cluster.specs.declared.living.Living.{Living}
 use Rattle.mr_cluster.specs.declared.nodes.Nodes.{Nodes}
 use Rattle.mr_cluster.specs.Living.{kept, Changes}

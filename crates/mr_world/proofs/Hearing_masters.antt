@@ -14,8 +14,8 @@ use Rattle.mr_model.specs.World.{World, Deliver, call_of}
 use Rattle.mr_model.specs.Effect.{effect, not_now, NoAddressee}
 use Rattle.mr_model.specs.Sending.{sent}
 use Rattle.mr_model.proofs.Stored.{stores_go_on}
-use Rattle.mr_agree.specs.Steps.{setting, steps}
-use Rattle.mr_agree.proofs.Stores.{masters_go_on, masters_send}
+use Rattle.mr_model.specs.bridge.Steps.{setting, steps}
+use Rattle.mr_model.proofs.bridge.Stores.{masters_go_on, masters_send}
 use Rattle.mr_world.specs.declared.fault.WorldFault.TheVariants as fault
 use Rattle.mr_world.proofs.Launching.{still}
 use Rattle.mr_world.specs.declared.masters.Masters.{Masters}

@@ -31,7 +31,7 @@ use Rattle.mr_model.proofs.Closed.{container_eq-true}
 use Rattle.mr_model.proofs.Nodes.{nodes_agree}
 use Rattle.mr_model.proofs.Runs.{begins_once}
 use Rattle.mr_model.proofs.Stored.{stores_go_on}
-use Rattle.mr_agree.proofs.Stores.{masters_go_on}
+use Rattle.mr_model.proofs.bridge.Stores.{masters_go_on}
 use Rattle.mr_cluster.specs.declared.living.Living.{Living}
 use Rattle.mr_cluster.specs.declared.nodes.Nodes.{Nodes}
 use Rattle.mr_cluster.specs.Living.{kept, Same}

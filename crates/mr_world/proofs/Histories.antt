@@ -13,7 +13,7 @@ use Rattle.mr_model.specs.World.{World, Event, Duty, Weather, Calm, Unavailable,
 use Rattle.mr_model.specs.Effect.{happens, run}
 use Rattle.mr_model.specs.Stored.{left_in}
 use Rattle.mr_model.specs.Stores.{call_of_history}
-use Rattle.mr_agree.specs.Steps.{store_call}
+use Rattle.mr_model.specs.bridge.Steps.{store_call}
 use Rattle.mr_world.specs.declared.fault.WorldFault.{WorldFault}
 use Rattle.mr_world.specs.declared.parts.Parts.{Parts}
 use Rattle.mr_world.specs.Applying.{LeavesHistory}

@@ -18,9 +18,9 @@ use Rattle.mr_model.specs.Hearing.{Seen, is_running}
 use Rattle.mr_model.specs.Effect.{effect, not_now, is_task, task_fault, NoMaster, NotRunning, NoTask, NoNode, Task, AlreadyWon, TooManyLive, TooManyAttempts, Why, WrongGeneration, NoDuty, NoPacket, NoAddressee, NoContainer, WrongWish, NoStoreCall, NotBlocks, unless}
 use Rattle.mr_model.specs.Sending.{sent}
 use Rattle.mr_model.proofs.Stored.{stores_go_on}
-use Rattle.mr_agree.specs.Steps.{setting, steps}
-use Rattle.mr_agree.specs.Points.{refusal_as, launch_why}
-use Rattle.mr_agree.proofs.Stores.{masters_go_on, masters_send}
+use Rattle.mr_model.specs.bridge.Steps.{setting, steps}
+use Rattle.mr_model.specs.bridge.Points.{refusal_as, launch_why}
+use Rattle.mr_model.proofs.bridge.Stores.{masters_go_on, masters_send}
 use Rattle.mr_world.specs.declared.fault.WorldFault.TheVariants as fault
 use Rattle.mr_world.specs.declared.limits.TheConstants.{MAX_CONTAINERS}
 use Rattle.mr_world.specs.declared.masters.Masters.{Masters}

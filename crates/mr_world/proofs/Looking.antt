@@ -12,7 +12,7 @@ use Rattle.mr_model.specs.Packets.{Caller}
 use Rattle.mr_model.specs.Stored.{heard_in}
 use Rattle.mr_model.specs.World.{World, Event, Weather, duty, op_of, caller_of}
 use Rattle.mr_model.proofs.Stored.{stores_go_on}
-use Rattle.mr_agree.specs.Steps.{store_call}
+use Rattle.mr_model.specs.bridge.Steps.{store_call}
 use Rattle.mr_world.specs.declared.asked.Asked.{Asked}
 use Rattle.mr_world.specs.declared.asked.Asked.TheVariants.{Master, Container}
 use Rattle.mr_world.specs.declared.call.StoreCall as container

@@ -14,7 +14,7 @@ use Rattle.mr_model.specs.Sending.{sent}
 use Rattle.mr_model.specs.Stored.{StoresStand}
 use Rattle.mr_model.specs.Actors.{is_of_masters}
 use Rattle.mr_model.proofs.Acts.{masters_act}
-use Rattle.mr_agree.specs.Steps.{setting, steps}
+use Rattle.mr_model.specs.bridge.Steps.{setting, steps}
 use Rattle.mr_world.specs.declared.masters.Masters.{Masters}
 use Rattle.mr_world.specs.declared.parts.Parts.{Parts}
 use Rattle.mr_world.specs.inner.Masters.{SameMasters}

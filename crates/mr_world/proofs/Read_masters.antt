@@ -14,8 +14,8 @@ use Rattle.mr_master_model.specs.Past as past
 use Rattle.mr_master_model.specs.Readings as read
 use Rattle.mr_model.specs.World.{World, duty, seen_by}
 use Rattle.mr_model.specs.Wanted.{wanted}
-use Rattle.mr_agree.specs.Steps.{setting, steps}
-use Rattle.mr_agree.specs.Works.{phase_of, named}
+use Rattle.mr_model.specs.bridge.Steps.{setting, steps}
+use Rattle.mr_model.specs.bridge.Works.{phase_of, named}
 use Rattle.mr_world.specs.declared.parts.Parts.{Parts}
 use Rattle.mr_world.specs.Machines.{master_of}
 use Rattle.mr_world.specs.Readings.{phase_in, wanted_in, due_in, unflushed_in}

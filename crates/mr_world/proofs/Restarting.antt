@@ -23,7 +23,7 @@ use Rattle.mr_model.proofs.Acts.{nodes_act}
 use Rattle.mr_model.proofs.Basic.{unless_parts}
 use Rattle.mr_model.proofs.Nodes.{nodes_agree}
 use Rattle.mr_model.proofs.Stored.{stores_go_on}
-use Rattle.mr_agree.proofs.Stores.{masters_go_on}
+use Rattle.mr_model.proofs.bridge.Stores.{masters_go_on}
 use Rattle.mr_cluster.specs.declared.living.Living.{Living}
 use Rattle.mr_cluster.specs.declared.nodes.Nodes.{Nodes}
 use Rattle.mr_cluster.specs.Living.{kept, unless_on}

@@ -21,7 +21,7 @@ use Rattle.mr_model.specs.Actors.{is_finished}
 use Rattle.mr_model.specs.Acts.{Went}
 use Rattle.mr_model.proofs.Acts.{containers_act}
 use Rattle.mr_model.proofs.Stored.{stores_go_on}
-use Rattle.mr_agree.proofs.Stores.{masters_go_on}
+use Rattle.mr_model.proofs.bridge.Stores.{masters_go_on}
 use Rattle.mr_cluster.specs.declared.letters.Letters.TheVariants.{Nothing, One, Last}
 use Rattle.mr_cluster.specs.declared.living.Living.{Living}
 use Rattle.mr_cluster.specs.Letters.{is_last, letters_by, letters_of, count_of}

@@ -15,9 +15,9 @@ use Rattle.mr_model.specs.Sending.{sent}
 use Rattle.mr_model.specs.Stored.{StoresStand}
 use Rattle.mr_model.proofs.Basic.{unless_parts}
 use Rattle.mr_model.proofs.Stored.{stores_go_on}
-use Rattle.mr_agree.specs.Steps.{setting, steps}
-use Rattle.mr_agree.specs.Stores.{MasterStarts}
-use Rattle.mr_agree.proofs.Stores.{masters_go_on}
+use Rattle.mr_model.specs.bridge.Steps.{setting, steps}
+use Rattle.mr_model.specs.bridge.Stores.{MasterStarts}
+use Rattle.mr_model.proofs.bridge.Stores.{masters_go_on}
 use Rattle.mr_world.specs.declared.fault.WorldFault.TheVariants as fault
 use Rattle.mr_world.specs.declared.masters.Masters.{Masters}
 use Rattle.mr_world.specs.declared.parts.Parts.{Parts}

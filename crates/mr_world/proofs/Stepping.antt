@@ -11,11 +11,11 @@ use Rattle.mr_model.specs.World.{World, Event, seen_by}
 use Rattle.mr_model.specs.Effect.{effect}
 use Rattle.mr_model.specs.Claims.{world_of}
 use Rattle.mr_model.proofs.Made.{pasts_are_made}
-use Rattle.mr_agree.specs.Steps.{setting, step_of, steps}
-use Rattle.mr_agree.specs.Agreement.{machine_seen}
-use Rattle.mr_agree.specs.MastersAgree.{MasterAgrees}
-use Rattle.mr_agree.specs.Stores.{MasterMoves}
-use Rattle.mr_agree.proofs.Whole.{masters_agree}
+use Rattle.mr_model.specs.bridge.Steps.{setting, step_of, steps}
+use Rattle.mr_model.specs.bridge.Agreement.{machine_seen}
+use Rattle.mr_model.specs.bridge.MastersAgree.{MasterAgrees}
+use Rattle.mr_model.specs.bridge.Stores.{MasterMoves}
+use Rattle.mr_model.proofs.bridge.Whole.{masters_agree}
 use Rattle.mr_world.specs.declared.masters.Masters.{Masters}
 use Rattle.mr_world.specs.Machines.{master_of}
 use Rattle.mr_world.specs.inner.Masters.{Ceases, Returns}

@@ -5,7 +5,7 @@ use Rattle.mr_model.specs.Ids.{ContainerId}
 use Rattle.mr_model.specs.Packets.{Config, Store, Names}
 use Rattle.mr_model.specs.World.{World, Event, Duty, ContainerStep, Weather, duty, op_of, caller_of, reply_of, reply_to, reply_under, as_heard}
 use Rattle.mr_model.specs.Effect.{not_now}
-use Rattle.mr_agree.specs.Steps.{store_call, answer_of}
+use Rattle.mr_model.specs.bridge.Steps.{store_call, answer_of}
 use Rattle.mr_world.specs.declared.asked.Asked.{Asked}
 use Rattle.mr_world.specs.declared.asked.Asked.TheVariants.{Master, Container}
 use Rattle.mr_world.specs.declared.fault.WorldFault.{WorldFault}

@@ -15,7 +15,7 @@ use Rattle.mr_model.specs.Pasts.{Place, Step}
 use Rattle.mr_model.specs.World.{World, duty, seen_by}
 use Rattle.mr_model.specs.Sequential as sequential
 use Rattle.mr_model.specs.Wanted.{wanted}
-use Rattle.mr_agree.specs.Works.{phase_of, named}
+use Rattle.mr_model.specs.bridge.Works.{phase_of, named}
 -- the next living container after another, in cyclic order
 pub use Rattle.mr_cluster.specs.Order.{is_behind, next_living}
 use Rattle.mr_world.specs.declared.inputs.Input.{Input}

@@ -13,7 +13,7 @@ use Rattle.mr_model.specs.Effect.{not_now, effect}
 use Rattle.mr_model.specs.Claims.{world_of}
 use Rattle.mr_model.specs.Stored.{StoresStand}
 use Rattle.mr_model.specs.Actors.{ContainerIn, NodeIn}
-use Rattle.mr_agree.specs.Steps.{setting, steps}
+use Rattle.mr_model.specs.bridge.Steps.{setting, steps}
 use Rattle.mr_cluster.specs.declared.living.Living.{Living}
 use Rattle.mr_cluster.specs.declared.nodes.Nodes.{Nodes}
 use Rattle.mr_cluster.specs.Living.{kept}

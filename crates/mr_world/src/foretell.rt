@@ -5,7 +5,7 @@ ghost use Rattle.mr_history.specs.Calls as segments;
 ghost use Rattle.mr_history.specs.Line.{InRange, IsIn32};
 ghost use Rattle.mr_ids.specs.Text.{IsAttempt};
 ghost use Rattle.mr_model.specs.Stored.{master};
-ghost use Rattle.mr_agree.specs.Stores.{told_of, told_in};
+ghost use Rattle.mr_model.specs.bridge.Stores.{told_of, told_in};
 ghost use Rattle.mr_world.specs.inner.Asking.{answer_to, finds_full, passes, is_segment_full, written_as, IsRanged};
 ghost use Rattle.mr_world.specs.Standing.{Refuses};
 

@@ -3,7 +3,7 @@ ghost use Rattle.std.specs.Prelude.{◌≡◌, IfOk, OnOk, OnErr};
 ghost use Rattle.mr_history.specs.Calls.{raised};
 ghost use Rattle.mr_model.specs.World.{Start};
 ghost use Rattle.mr_model.specs.Effect.{version_of};
-ghost use Rattle.mr_agree.specs.Steps.{setting};
+ghost use Rattle.mr_model.specs.bridge.Steps.{setting};
 ghost use Rattle.mr_world.specs.Standing.{Foresees, Tries};
 
 use crate::config::Config;

@@ -17,7 +17,7 @@ use Rattle.mr_master_model.specs.Next as next
 use Rattle.mr_master.specs.State.{Master, Answers}
 use Rattle.mr_model.specs.World.{World, Weather, Duty}
 use Rattle.mr_model.specs.Stored.{master, left_in}
-use Rattle.mr_agree.specs.Stores.{told_of, told_in}
+use Rattle.mr_model.specs.bridge.Stores.{told_of, told_in}
 use Rattle.mr_world.specs.declared.duty.Due.{Due}
 use Rattle.mr_world.specs.declared.fault.WorldFault.{WorldFault}
 use Rattle.mr_world.specs.declared.masters.Masters.{Masters}

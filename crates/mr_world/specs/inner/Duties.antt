@@ -11,7 +11,7 @@ use Rattle.mr_master.specs.State.{Master, StandsStill, Stands, Answers}
 use Rattle.mr_master.specs.Ready.{Ready, IsReady}
 use Rattle.mr_model.specs.Packets.{Config}
 use Rattle.mr_model.specs.World.{World, duty}
-use Rattle.mr_agree.specs.Steps.{setting, steps, store_call}
+use Rattle.mr_model.specs.bridge.Steps.{setting, steps, store_call}
 use Rattle.mr_world.specs.declared.fault.WorldFault.{WorldFault}
 use Rattle.mr_world.specs.declared.masters.Masters.{Masters}
 use Rattle.mr_world.specs.declared.parts.Parts.{Parts}

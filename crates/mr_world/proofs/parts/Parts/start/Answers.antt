@@ -3,7 +3,7 @@ use Rattle.mr_names.specs.Calls as names
 use Rattle.mr_history.specs.Calls as segments
 use Rattle.mr_model.specs.World.{Start}
 use Rattle.mr_model.specs.Effect.{version_of}
-use Rattle.mr_agree.specs.Steps.{setting}
+use Rattle.mr_model.specs.bridge.Steps.{setting}
 use Rattle.mr_world.proofs.Refusals.{memory-tried}
 use Rattle.mr_world.proofs.Starting.{stands}
 use Rattle.mr_world.proofs.Mastering.{stood, masters-stay}

@@ -1,5 +1,0 @@
-use Rattle.mr_agree.proofs.Stores as laws
-use Rattle.mr_agree.proofs.masters_go_on.Goals as goal
-
-pub returns : goal.returns
-returns c = laws.masters_go_on
