@@ -1,4 +1,4 @@
--- One attempt and its state: what a contract sees of an attempt machine.
+-- One attempt and its state: what a contract sees of an attempt machine. Our own: where code and definitions meet.
 use Rattle.std.specs.Prelude.{is_some, if◌then◌else◌}
 use Rattle.mr_ids.specs.declared.id.TaskKind.{TaskKind}
 use Rattle.mr_ids.specs.Attempt.{Attempt}

@@ -21,7 +21,7 @@
 //!
 //! # What is proved
 //!
-//! - **`AttemptMachine::on`** is exactly the table of docs/MODEL.md (`moved`, `reaction`): where the table has a
+//! - **`AttemptMachine::on`** is exactly the table of the crate's README (`moved`, `reaction`): where the table has a
 //!   next state for the event, the attempt is in it and the answer is `Moved`; else nothing changes and the answer
 //!   is `Ignored`. It takes no memory. `AttemptState::next` is the table itself, for a program that asks without
 //!   moving. `new` is in `New`, `copy` is equal, `attempt`, `state`, `is_live`, `is_won` and `is_over` are what

@@ -1,4 +1,4 @@
--- The machines of nodes, by number, and what a packet makes a node do.
+-- The machines of nodes, by number, and what a packet makes a node do. Our own: where code and definitions meet.
 use Rattle.std.specs.Prelude.{◌≡◌, ℕ, nat_eq, Option, Some, None, if◌then◌else◌, slice_get}
 use Rattle.std.specs.Option.{option_map}
 use Rattle.mr_node.specs.State as node

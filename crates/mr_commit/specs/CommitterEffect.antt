@@ -1,4 +1,6 @@
 -- The committer effect: the calls of a table made in order until it is over.
+-- The tables that are made are those of FileOutputCommitter, algorithm version 1; that each of their calls is a step, which may be refused
+-- memory, is our own profile.
 use Rattle.std.specs.Prelude.{◌≡◌, ℕ, zero, suc, ◌+◌, ◌-◌, ◌*◌, ◌⊎◌, Bool, List, [], ◌∷◌, length, max, Option, Some, None, Result, Ok, Err, is_some}
 use Rattle.std.specs.FinMap as finite
 use Rattle.mr_names.specs.declared.op.Caller.{Caller}

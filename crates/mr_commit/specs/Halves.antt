@@ -1,4 +1,5 @@
 -- The answer of a step value's next call in two halves: what follows is made ready, and then put in the place of the first line.
+-- Our own: for a master, which asks what a step will do before it makes the call.
 use Rattle.std.specs.Prelude.{◌≡◌, ◌<◌, ◌+◌, ◌^◌, List, [], ◌++◌, length, drop, Result, Ok, Err}
 use Rattle.mr_names.specs.declared.fault.NameFault.{NameFault}
 use Rattle.mr_names.specs.declared.op.Answer.{Answer}

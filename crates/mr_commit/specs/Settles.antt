@@ -1,5 +1,5 @@
 -- Why a whole form ends: its lines only bring entries up and take them away, until lines of one call each are left.
--- A whole form is an operation of the committer that is made to its end, as `commit_job`; a step value makes it call by call.
+-- A whole form is an operation of the committer that is made to its end, as `commit_job`; a step value makes it call by call. Our own.
 use Rattle.std.specs.Prelude.{◌≡◌, ◌≤◌, Bool, true, false, List, [], ◌∷◌, length, ◌⊎◌}
 use Rattle.mr_names.specs.declared.op.Op.{Op}
 use Rattle.mr_names.specs.declared.op.Op.TheVariants as op

@@ -1,4 +1,5 @@
 -- A step value is the lines of its table that are left: what is called next, and what becomes of the answer.
+-- That a committer is cut into single calls is our own profile: its master may crash between any two.
 use Rattle.std.specs.Prelude.{◌≡◌, Bool, true, false, List, [], ◌∷◌, ◌++◌, Option, Some, None, Result, Ok, Err}
 use Rattle.mr_names.specs.declared.op.Caller.{Caller}
 use Rattle.mr_names.specs.Calls.{State, call_of, refused}

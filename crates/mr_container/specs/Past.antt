@@ -1,4 +1,4 @@
--- What a container's past is made of.
+-- What a container's past is made of. Our own: an actor has no other state than what came to it and what it did.
 use Rattle.std.specs.Prelude.{ℕ, List, [], ◌∷◌}
 use Rattle.mr_names.specs.declared.op.Op.{Op}
 use Rattle.mr_packet.specs.declared.packet.Packet.{Packet}

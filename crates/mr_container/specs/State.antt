@@ -1,4 +1,4 @@
--- Which past the machine of a container stands for.
+-- Which past the machine of a container stands for. Our own: where code and definitions meet.
 use Rattle.std.specs.Prelude.{◌≡◌, ℕ}
 use Rattle.mr_packet.specs.declared.packet.ContainerId.{ContainerId}
 use Rattle.mr_container.specs.declared.place.Place.{Place}

@@ -34,7 +34,7 @@
 //! step (clause `stands`), and the new value is the function `after` of the old one and the step (clause `after`).
 //! So, for every past:
 //!
-//! - `wish` is the first wish of the table in docs/MODEL.md whose answer is not in the past; `call` is exactly its
+//! - `wish` is the first wish of the table in the crate's README whose answer is not in the past; `call` is exactly its
 //!   namespace call, `caller` who makes it, `packet` exactly its packet, and none where the wish is another;
 //! - `send` adds to the bag exactly the packet of the wish, and `Ended` behind it if it was the last; `tell_end`
 //!   adds `Ended` exactly where the container is over;

@@ -1,4 +1,4 @@
--- Which events take memory to copy: those that carry bytes.
+-- Which events take memory to copy: those that carry bytes. Our own profile.
 use Rattle.std.specs.Prelude.{Bool, false, length, nat_lt}
 use Rattle.mr_event.specs.declared.event.Event.{Event}
 use Rattle.mr_event.specs.declared.event.Event.TheVariants.{Computed}

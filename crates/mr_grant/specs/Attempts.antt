@@ -1,4 +1,4 @@
--- Attempts in order of arrival: which are one, which is the first.
+-- Attempts in order of arrival: which are one, which is the first. Our own.
 use Rattle.std.specs.Prelude.{Bool, false, not, List, [], ◌∷◌, ◌++◌, Option, Some, None, if◌then◌else◌, filter}
 use Rattle.std.specs.List.{list_any}
 use Rattle.mr_ids.specs.Attempt.{Attempt}

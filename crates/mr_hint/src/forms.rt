@@ -1,6 +1,6 @@
 //! How the commands of scripts are written, and which words stand where.
 use mr_ids::{TaskId, TaskKind};
-use mr_script::{attempt, generation, long_number, number, split_once};
+use mr_script::{attempt, event_named, generation, long_number, number, split_once};
 use std::str;
 
 /// Which scripts there are.
@@ -45,14 +45,6 @@ const PLAY: [&str; 13] = [
     "expect r T A|expect r T none|expect marker yes|expect marker no|expect outcome WORD",
 ];
 
-// The names of events that a calm can be told.
-const NAMES: [&str; 32] = [
-    "marks", "read", "setup", "recover", "bar", "append", "flush", "started", "merge", "cleanup",
-    "marker", "success", "fail", "abort", "compute", "where", "fetch", "lost", "mkdirs", "create",
-    "write", "close", "needs", "pending", "poll", "look", "clear", "rename", "report", "failed",
-    "launch", "step",
-];
-
 impl Script {
     /// The forms of each of its commands.
     pub fn commands(&self) -> &'static [&'static str] {
@@ -72,7 +64,7 @@ impl Script {
             "A" => takes_attempt(form, word),
             "C" => is_container(word),
             "FAULT" => is_one_of(&["unavailable", "unanswered"], word),
-            "NAME" => is_one_of(&NAMES, word),
+            "NAME" => event_named(word).is_some(),
             "WORD" => is_one_of(&["succeeded", "failed", "none"], word),
             _ => word == part.as_bytes(),
         }

@@ -1,4 +1,5 @@
 -- The record as a JSON value: its line is that value's compact text, and nothing else is.
+-- Our own profile: how a record of Hadoop's job history is written here.
 use Rattle.std.specs.Prelude.{List, ℕ, codes, Some, None}
 use Rattle.serde_json.specs.Data.{Data, number, unsigned, string, object, Members, member, no_members}
 use Rattle.mr_ids.specs.Attempt.{Attempt}

@@ -1,4 +1,4 @@
--- A segment as its records: what the layers above speak of.
+-- A segment as its records: what the layers above speak of. Our own: it ties bytes to records.
 use Rattle.std.specs.Prelude.{ℕ, ◌-◌, ◌+◌, Bool, false, true, List, [], ◌∷◌, ◌++◌, length, sum_by, if◌then◌else◌}
 use Rattle.mr_history.specs.declared.record.Record.{Record}
 use Rattle.mr_history.specs.State.{SegmentState}

@@ -1,4 +1,6 @@
 -- A segment and a history as what they hold.
+-- A segment for each application attempt is Hadoop's job history file, which a later attempt reads; a stable part and a tail that a crash cuts
+-- are those of any write-ahead log. The fence is our own profile.
 use Rattle.std.specs.Prelude.{ℕ, Bool, List}
 
 -- the version, stable bytes, the unflushed tail, and whether the segment is sealed

@@ -1,4 +1,4 @@
--- An attempt as its numbers, and whether it is a reduce's: what sets and maps of attempts are made with.
+-- An attempt as its numbers, and whether it is a reduce's: what sets and maps of attempts are made with. Our own: an order of attempts.
 use Rattle.std.specs.Prelude.{◌≡◌, refl, ℕ, Bool, true, false}
 use Rattle.std.specs.Coded.{Coded, code_by, coded×, coded_ℕ, coded_bool}
 use Rattle.mr_ids.specs.Attempt.{Attempt}

@@ -1,4 +1,4 @@
--- Of which kind a task is.
+-- Of which kind a task is. Hadoop's task types, map and reduce alone.
 use Rattle.std.specs.Prelude.{Bool, true, false}
 use Rattle.mr_ids.specs.declared.id.TaskKind.{TaskKind}
 use Rattle.mr_ids.specs.declared.id.TaskKind.TheVariants.{Map, Reduce}

@@ -1,4 +1,4 @@
--- What reading a text gives.
+-- What reading a text gives. That a text has one reading, and which fault is told first, is our own profile.
 use Rattle.std.specs.Prelude.{◌≡◌, ℕ, List, [], ◌++◌, Option, Some, None, Result, Ok, Err, IfOk, IfErr}
 use Rattle.std.specs.List.{slice_split}
 use Rattle.std.specs.Borrow.{Bor}

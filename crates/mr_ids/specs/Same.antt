@@ -1,4 +1,4 @@
--- Whether two kinds, two tasks, or two attempts are one.
+-- Whether two kinds, two tasks, or two attempts are one. Hadoop's identifiers are one where all their parts are.
 use Rattle.std.specs.Prelude.{Bool, true, false, ◌&&◌, ◌==◌}
 use Rattle.mr_ids.specs.Attempt.{Attempt}
 use Rattle.mr_ids.specs.declared.id.TaskKind.{TaskKind}

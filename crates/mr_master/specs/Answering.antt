@@ -1,4 +1,4 @@
--- What an answer changes and sends, where a call was due.
+-- What an answer changes and sends, where a call was due. Our own: where code and definitions meet.
 use Rattle.std.specs.Prelude.{List, ◌++◌, ◌≡◌, true}
 use Rattle.std.specs.Option.{is_some}
 use Rattle.mr_master_model.specs.Duty.{duty}

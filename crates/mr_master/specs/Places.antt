@@ -1,5 +1,5 @@
 -- Where the machines of a master's tasks stand, in order: maps first.
--- A place is an index in the list of these machines.
+-- A place is an index in the list of these machines. Our own: where code and definitions meet.
 use Rattle.std.specs.Prelude.{ℕ, ◌+◌}
 use Rattle.mr_ids.specs.declared.id.TaskId.{TaskId}
 use Rattle.mr_ids.specs.declared.id.TaskKind.{TaskKind}

@@ -1,4 +1,4 @@
--- What is ready before an answer is heard: the packets, and what will change.
+-- What is ready before an answer is heard: the packets, and what will change. Our own: where code and definitions meet.
 use Rattle.std.specs.Prelude.{◌≡◌, ◌<◌, List, [], ◌∷◌, ◌++◌, drop}
 use Rattle.mr_packet.specs.declared.packet.Envelope.{Envelope}
 use Rattle.mr_master_model.specs.declared.setting.Setting.{Setting}

@@ -1,4 +1,4 @@
--- Which past the machine of a master stands for.
+-- Which past the machine of a master stands for. Our own: where code and definitions meet.
 use Rattle.std.specs.Prelude.{◌≡◌, ℕ, List, ◌∷◌, ◌++◌}
 use Rattle.mr_ids.specs.Attempt.{Attempt}
 use Rattle.mr_history.specs.declared.record.Record.{Record}

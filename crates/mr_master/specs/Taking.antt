@@ -1,4 +1,4 @@
--- Attempts that succeeded under earlier masters are taken over.
+-- Attempts that succeeded under earlier masters are taken over. Our own: where code and definitions meet.
 use Rattle.std.specs.Prelude.{◌≡◌, ◌<◌, ℕ, Bool, true, Option, Some, None, List, [], length, slice_get, if◌then◌else◌}
 use Rattle.mr_ids.specs.Attempt.{Attempt}
 use Rattle.mr_ids.specs.declared.id.TaskId.{TaskId}

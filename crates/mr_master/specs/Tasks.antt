@@ -1,4 +1,4 @@
--- What is stored of the tasks, and which calls it stands for.
+-- What is stored of the tasks, and which calls it stands for. Our own: where code and definitions meet.
 use Rattle.std.specs.Prelude.{◌≡◌, ◌<◌, ◌+◌, ℕ, true, false, List, [], ◌∷◌, length, slice_get, Some, Result, Ok, Err, if◌then◌else◌}
 use Rattle.mr_ids.specs.Same.{same_task}
 use Rattle.mr_ids.specs.declared.id.TaskId.{TaskId}

@@ -1,5 +1,5 @@
 -- Some attempts' tasks are told something, one attempt after another.
--- So the machines of these tasks get a call for each, as that an attempt dies or that its output is lost.
+-- So the machines of these tasks get a call for each, as that an attempt dies or that its output is lost. Our own: where code and definitions meet.
 use Rattle.std.specs.Prelude.{Bool, ◌&&◌, List, [], ◌∷◌, if◌then◌else◌}
 use Rattle.mr_ids.specs.Attempt.{Attempt}
 use Rattle.mr_ids.specs.Same.{same_task}

@@ -1,5 +1,5 @@
 -- Kinds of work, and what the answer of a committer's call changes of one.
--- Work is what a master is at in its phase.
+-- Work is what a master is at in its phase. Our own: where code and definitions meet.
 use Rattle.std.specs.Prelude.{Bool, true, false, Option, Some, None, Ok, Err, List, [], if◌then◌else◌}
 use Rattle.mr_commit.specs.Line.{Line, is_done}
 use Rattle.mr_commit.specs.Steps.{MayWantOn}

@@ -1,4 +1,6 @@
 -- What each packet, a launch and an expiry change.
+-- commitPending, canCommit and done restate Hadoop's task umbilical protocol, lost outputs Dean and Ghemawat 3.3; expiry and bars are our own
+-- profile.
 use Rattle.std.specs.Prelude.{ℕ, Bool, true, false, ◌&&◌, not, nat_eq, nat_lt, nat_le, List, [], ◌∷◌, ◌++◌, filter, flat_map, Option, Some, None, is_none, if◌then◌else◌}
 use Rattle.mr_ids.specs.Attempt.{Attempt}
 use Rattle.mr_ids.specs.declared.id.TaskId.{TaskId}

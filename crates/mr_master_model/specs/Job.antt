@@ -1,4 +1,5 @@
 -- The tasks of a master's job, in order: maps, then reduces, each by rising number.
+-- Dean and Ghemawat 3.1: M map tasks and R reduce tasks. Their order is our own.
 use Rattle.std.specs.Prelude.{ℕ, Bool, ◌&&◌, ◌==◌, nat_lt, zero, suc, List, [], ◌∷◌, ◌++◌}
 use Rattle.mr_ids.specs.declared.id.TaskId.{TaskId}
 use Rattle.mr_ids.specs.declared.id.TaskKind.{TaskKind}

@@ -1,4 +1,4 @@
--- What is read off a master's past, step by step, and what it sent at each.
+-- What is read off a master's past, step by step, and what it sent at each. Our own: a past and its readings.
 use Rattle.std.specs.Prelude.{List, [], ◌∷◌, if◌then◌else◌}
 use Rattle.mr_packet.specs.declared.packet.Envelope.{Envelope}
 use Rattle.mr_master_model.specs.declared.setting.Setting.{Setting}

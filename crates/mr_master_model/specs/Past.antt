@@ -1,4 +1,6 @@
 -- What a master's past is made of, and where it has come to. A past is a list of steps, the newest first.
+-- Our own: an actor has no other state than what came to it and what it did. The phases are those of a job in Hadoop's application master, as
+-- far as a commit needs them.
 use Rattle.std.specs.Prelude.{ℕ, Bool, List}
 use Rattle.mr_ids.specs.declared.id.TaskId.{TaskId}
 use Rattle.mr_packet.specs.declared.packet.Packet.{Packet}

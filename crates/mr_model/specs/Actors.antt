@@ -1,4 +1,5 @@
 -- What the machines of a running cluster's containers and nodes stand for, and what each event changes of it: for whoever runs them.
+-- Our own: it ties the cluster to the crates beneath it.
 use Rattle.std.specs.Prelude.{◌≡◌, ◌<◌, ◌^◌, ℕ, Bool, true, false, ◌&&◌, not, List, [], Some, None, length, slice_get, Result}
 use Rattle.mr_names.specs.declared.fault.NameFault as faults
 use Rattle.mr_names.specs.declared.op.Answer as answers

@@ -1,4 +1,5 @@
 -- What each kind of event changes of the machines of containers and nodes, and the packets that it adds to the bag.
+-- Our own: it ties the cluster to the crates beneath it.
 use Rattle.std.specs.Prelude.{◌≡◌, ℕ, Bool, true, false, ◌&&◌, ◌||◌, not, List, [], ◌∷◌, Some, None, length}
 use Rattle.mr_packet.specs.Sends as sends
 use Rattle.mr_container.specs.Past as container_past

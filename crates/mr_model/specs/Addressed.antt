@@ -1,5 +1,5 @@
 -- Whom packets to nodes go to.
--- They go to nodes that are there: for whoever keeps the cluster's nodes by their numbers.
+-- They go to nodes that are there: for whoever keeps the cluster's nodes by their numbers. Our own: it ties the cluster to the crates beneath it.
 use Rattle.std.specs.Prelude.{◌≡◌, ℕ, true, List, Some, nat_lt, slice_get}
 use Rattle.mr_model.specs.Packets.{Config, Packet, Node}
 use Rattle.mr_model.specs.World.{Event}

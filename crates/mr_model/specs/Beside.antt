@@ -1,5 +1,5 @@
 -- What the four facts need beside them, each of every run: which container may still change a reduce's committed directory, what a container's directory
--- holds, that an end is an end, and how a job commit begins and fails.
+-- holds, that an end is an end, and how a job commit begins and fails. Our own.
 use Rattle.std.specs.Prelude.{ℕ, Bool, true, false, List, [], ◌∷◌, ◌++◌, ◌≡◌, ◌≤◌, ◌||◌, Option, Some, None, ◌⊎◌, is_some}
 use Rattle.mr_container.specs.declared.reply.Reply as reply
 use Rattle.mr_container.specs.Readings.{is_fine}

@@ -1,5 +1,5 @@
 -- What the machine of each task is told: the calls that the steps of a master make of it. What is read off these calls by the
--- words of tasks is what is read off the master's past: Agreement.
+-- words of tasks is what is read off the master's past: Agreement. Our own: it ties the cluster to the crates beneath it.
 use Rattle.std.specs.Prelude.{◌≡◌, ℕ, ◌+◌, count_by, Bool, true, false, ◌&&◌, not, nat_eq, nat_lt, List, [], ◌∷◌, Option, Some, None, is_some, if◌then◌else◌}
 use Rattle.mr_ids.specs.Generations.{first_attempt_number}
 use Rattle.mr_grant.specs.Attempts as grant

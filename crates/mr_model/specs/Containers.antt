@@ -1,4 +1,5 @@
 -- What is read off a container's past is what mr_container reads, over which its machine is proved.
+-- Our own: it ties the cluster to the crates beneath it.
 use Rattle.std.specs.Prelude.{◌≡◌, ◌<◌, ◌^◌, ℕ, true, List, [], ◌∷◌, Some, length}
 use Rattle.mr_container.specs.declared.wish.Wish as container_wish
 use Rattle.mr_container.specs.Readings as container

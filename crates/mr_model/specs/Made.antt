@@ -1,5 +1,6 @@
 -- What each step of a master's past is, in every run.
 -- What a packet asks and what is launched is the job's, and a store call is the one that was due: for whoever reasons about a master's past alone.
+-- Our own: it ties the cluster to the crates beneath it.
 use Rattle.std.specs.Prelude.{◌≡◌, ℕ, ◌-◌, ◌*◌, ◌≤◌, ◌<◌, true, false, nat_lt, List, [], ◌∷◌, Some, None, length}
 use Rattle.mr_model.specs.Ids.{Attempt, is_reduce}
 use Rattle.mr_model.specs.Records.{Record, AttemptStarted, MapSucceeded, ReduceSucceeded, AttemptFailed, JobUnsuccessful}

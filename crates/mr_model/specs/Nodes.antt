@@ -1,4 +1,4 @@
--- What is read off a node's past is what mr_node reads, over which its machine is proved.
+-- What is read off a node's past is what mr_node reads, over which its machine is proved. Our own: it ties the cluster to the crates beneath it.
 use Rattle.std.specs.Prelude.{◌≡◌, ℕ, List, [], ◌∷◌, Option, Some, None}
 use Rattle.mr_packet.specs.declared.packet.Packet.{Packet}
 use Rattle.mr_packet.specs.declared.packet.Envelope.{Envelope}

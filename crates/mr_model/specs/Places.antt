@@ -1,4 +1,4 @@
--- Where containers run: for whoever keeps the cluster's nodes by their numbers.
+-- Where containers run: for whoever keeps the cluster's nodes by their numbers. Our own: it ties the cluster to the crates beneath it.
 use Rattle.std.specs.Prelude.{◌≡◌, true, List, Some, nat_lt}
 use Rattle.mr_model.specs.Ids.{ContainerId}
 use Rattle.mr_model.specs.Packets.{Config}

@@ -1,4 +1,4 @@
--- That the claims are not said of nothing: the events of a whole job are possible.
+-- That the claims are not said of nothing: the events of a whole job are possible. Our own.
 use Rattle.std.specs.Prelude.{ℕ, ◌≡◌, ◌<◌, true, List, ◌∷◌, Some}
 use Rattle.mr_model.specs.Ids.{Attempt, reduce_of, part}
 use Rattle.mr_model.specs.Content.{File, entry_at}

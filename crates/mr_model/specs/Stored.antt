@@ -1,4 +1,5 @@
 -- What both stores of a running cluster stand for, and what each event leaves of them: for whoever runs them.
+-- Our own: it ties the cluster to the crates beneath it.
 use Rattle.std.specs.Prelude.{◌≡◌, ◌≤◌, ℕ, true, false, Bool, List, replicate, Some, None, is_none, Result}
 use Rattle.mr_names.specs.declared.fault.NameFault as faults
 use Rattle.mr_names.specs.declared.op.Answer as answers

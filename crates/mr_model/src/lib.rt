@@ -48,7 +48,7 @@
 //! - the bridge to the machine of a master (`specs/bridge`, `src/machines.rt`): at every point of a past a master here acts as its machine
 //!   (`mr_master_model`): what it calls next, refuses, launches next and sends (`masters_agree`).
 //!
-//! What each word means: [docs/MODEL.md](../../../docs/MODEL.md). Why it holds:
+//! What each word means: [README.md](../README.md#its-words). Why it holds:
 //! [docs/INVARIANT.md](../../../docs/INVARIANT.md). That a world of machines which is run is one of these is said in `mr_world`.
 #![tactic(auto)]
 

@@ -1,4 +1,4 @@
--- An order of attempts: what a finite set of them is made with. Nothing else asks for this order.
+-- An order of attempts: what a finite set of them is made with. Nothing else asks for this order. Our own.
 use Rattle.std.specs.Prelude.{◌≡◌, ℕ, refl}
 use Rattle.std.specs.declared.cmp.Ordering.{Ordering}
 use Rattle.std.specs.declared.cmp.Ordering.TheVariants.{Less, Equal, Greater}

@@ -1,5 +1,6 @@
 -- What a path holds.
 -- A directory, a file or nothing: the words in which calls and their refusals are defined.
+-- Our own profile, after the file system that Hadoop's committer document asks for.
 use Rattle.std.specs.Prelude.{ℕ, Bool, true, false, List, [], length, filter, Option, Some, None, is_some, is_none, if◌then◌else◌}
 use Rattle.std.specs.List.{list_any}
 use Rattle.std.specs.FinMap as finite

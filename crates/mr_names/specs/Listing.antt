@@ -1,4 +1,4 @@
--- What a directory lists.
+-- What a directory lists. A listing names the entries directly beneath, as a file system's does; their order is our own profile.
 use Rattle.std.specs.Prelude.{ℕ, List, Option}
 use Rattle.std.specs.List.{filter_map}
 use Rattle.std.specs.Option.{option_map}

@@ -1,4 +1,4 @@
--- What stands at a path.
+-- What stands at a path. Directories and files, as Hadoop's committer document asks of a file system; that a file is closed once is our own profile.
 use Rattle.std.specs.Prelude.{◌≡◌, ℕ, Bool, true, List, ◌++◌, Option, Some, None, refl}
 use Rattle.std.specs.Coded.{Coded, code_by, coded×, coded_ℕ, coded_list, coded_bool, coded_option}
 use Rattle.mr_names.specs.declared.node.Node.{Node}

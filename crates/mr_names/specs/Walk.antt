@@ -1,4 +1,4 @@
--- What a content holds, path by path.
+-- What a content holds, path by path. Our own format.
 use Rattle.std.specs.Prelude.{ℕ, List, length, map, Option, Some, None}
 use Rattle.std.specs.FinMap as finite
 use Rattle.mr_names.specs.declared.node.Node.{Node}

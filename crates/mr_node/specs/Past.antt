@@ -1,5 +1,5 @@
 -- What a node's past is made of. A past is a list of steps, the newest first, and only grows. The packets that a node adds are read off it
--- (`reaction`), as those of its restarts are.
+-- (`reaction`), as those of its restarts are. Our own: an actor has no other state than what came to it and what it did.
 use Rattle.std.specs.Prelude.{ℕ, List}
 use Rattle.mr_ids.specs.Attempt.{Attempt}
 use Rattle.mr_packet.specs.declared.packet.ContainerId.{ContainerId}

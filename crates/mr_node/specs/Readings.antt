@@ -1,4 +1,6 @@
 -- What is read off a node's past, and what the node answers.
+-- That a node's restart loses its maps' outputs is Dean and Ghemawat's (3.3); launching, killing and serving blocks stand for Hadoop's
+-- container launcher and shuffle handler. Incarnations, pieces and a node's memory of its containers are our own profile.
 use Rattle.std.specs.Prelude.{ℕ, ◌+◌, ◌==◌, nat_le, List, [], ◌∷◌, ◌++◌, Option, Some, None, if◌then◌else◌, length, take, drop}
 use Rattle.mr_ids.specs.Attempt.{Attempt}
 use Rattle.mr_packet.specs.declared.packet.ContainerId.{ContainerId}

@@ -1,4 +1,4 @@
--- Paths as lists of names, and names as lists of bytes.
+-- Paths as lists of names, and names as lists of bytes. Our own profile, after the absolute paths of a file system.
 use Rattle.std.specs.Prelude.{◌≡◌, ◌≢◌, ◌<◌, ◌≤◌, ◌⊎◌, ℕ, false, List, [], ◌∷◌, ◌++◌, length, All, Option, Some, None, if◌then◌else◌, nat_eq, take, map, ◌-◌}
 use Rattle.std.specs.Cmp.Lexicographic.{slice_cmp, pointwise, lists_total, lists_ties, nat_list_cmp_total, texts_ties}
 use Rattle.std.specs.Cmp.{IsTotalOrder}

@@ -32,7 +32,7 @@
 //! - `{}` shows a path as its text; a part of a name that is no UTF-8 is shown as U+FFFD (proved for `Name` and for
 //!   `Path`).
 //! - `Layout { dest }`: `temporary`, `job_attempt`, `task_attempt`, `committed`, `marker` and the free
-//!   `part_name` and `staging` give exactly the table of docs/MODEL.md; `is_hidden` is exactly whether the first
+//!   `part_name` and `staging` give exactly the table of the crate's README; `is_hidden` is exactly whether the first
 //!   byte is `_` or `.`. They take no other fault than an allocation failure.
 //! - Proved laws, on functions that do nothing, for the layers above: no two paths have one text
 //!   (`texts_are_distinct`); what it is to stand at or beneath a path, and on what a path stands

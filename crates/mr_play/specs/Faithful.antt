@@ -1,5 +1,5 @@
 -- Whatever a script does, it is faithful: what it hands in is what the job's definition gives. So where the success marker is printed, the files that are printed are those of the
--- sequential execution, as `seq` prints them.
+-- sequential execution, as `seq` prints them. The sequential execution is Dean and Ghemawat's (3.3); scripts are our own.
 use Rattle.std.specs.Prelude.{◌≡◌, ℕ, Bool, true, List, ◌++◌, Option, Some}
 use Rattle.mr_script.specs.declared.command.Command.{Command}
 use Rattle.mr_script.specs.Script.{AreCommands}

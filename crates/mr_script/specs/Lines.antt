@@ -1,4 +1,4 @@
--- A text cut into lines, a line cut at its first byte of a kind, and lines that are read as commands, whatever the commands are.
+-- A text cut into lines, a line cut at its first byte of a kind, and lines that are read as commands, whatever the commands are. Our own format.
 use Rattle.std.specs.Prelude.{◌≡◌, ◌⊎◌, ◌+◌, Bool, false, ℕ, List, [], ◌∷◌, ◌==◌, cond, map, Option, Some, None}
 
 -- the bytes before the first b

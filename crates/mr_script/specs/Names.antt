@@ -1,4 +1,4 @@
--- The names of events: those of a master's duties and of a container's wishes, and two more.
+-- The names of events: those of a master's duties and of a container's wishes, and two more. Our own format.
 use Rattle.std.specs.Prelude.{ℕ, List, codes}
 use Rattle.mr_script.specs.declared.event_name.EventName.{EventName}
 use Rattle.mr_script.specs.declared.event_name.EventName.TheVariants as name

@@ -1,4 +1,4 @@
--- Why a script is not read.
+-- Why a script is not read. Our own format.
 use Rattle.std.specs.Prelude.{ℕ, List}
 use Rattle.mr_script.specs.declared.script.ScriptFault.{ScriptFault}
 use Rattle.mr_script.specs.declared.script.ScriptFault.TheVariants.{NoMemory, BadCommand}

@@ -1,4 +1,4 @@
--- The first word of a command, and what stands after it.
+-- The first word of a command, and what stands after it. Our own format.
 use Rattle.std.specs.Prelude.{Bool, true, false, ℕ, List, codes, Option, Some, None}
 use Rattle.mr_event.specs.declared.event.Event.TheVariants as event
 use Rattle.mr_script.specs.declared.command.Command.{Command}

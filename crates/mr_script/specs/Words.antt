@@ -1,4 +1,4 @@
--- The words of a command, one space between.
+-- The words of a command, one space between. Our own format.
 use Rattle.std.specs.Prelude.{ℕ, List, [], ◌∷◌, ◌++◌, Option, Some, None, codes, decimal}
 use Rattle.mr_ids.specs.Attempt.{Attempt}
 use Rattle.mr_ids.specs.Text.{attempt_text}

@@ -32,7 +32,8 @@
 //! - `commands_of` is that for the commands of the table: a line is a command exactly where it is the line that the command is written
 //!   as (`IsLine`).
 //! - `split_once` cuts at the first byte of a kind; `number`, `long_number` and `generation` read a word exactly where it is the decimal of
-//!   a number below 2^32, below 2^64, from 1 to 1,000; `attempt` exactly where it is an attempt's name. None of these takes memory.
+//!   a number below 2^32, below 2^64, from 1 to 1,000; `attempt` exactly where it is an attempt's name; `event_named` exactly where it is
+//!   the name of an event. None of these takes memory.
 //! - Laws, on functions that do nothing: a script has at most one reading (`one_reading`), is not both read and bad (`read_or_bad`), and
 //!   has at most one first bad line (`one_first_bad`). No command is a comment (`comments_are_no_commands`).
 //! - Only tested: that it succeeds with ample memory.
@@ -49,7 +50,7 @@ mod script;
 mod word;
 
 pub use command::Command;
-pub use event_name::EventName;
+pub use event_name::{EventName, event_named};
 pub use expectation::Expectation;
 pub use laws::{comments_are_no_commands, one_first_bad, one_reading, read_or_bad};
 pub use run::commands_of;

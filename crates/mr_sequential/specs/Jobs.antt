@@ -1,4 +1,4 @@
--- A job of the crates, as the model of the cluster asks for it.
+-- A job of the crates, as the model of the cluster asks for it. The sequential execution is Dean and Ghemawat's (3.3).
 use Rattle.std.specs.Prelude.{Option, Some, None, Result, Ok, Err}
 use Rattle.mr_user.specs.Computation.{Computation}
 use Rattle.mr_user.specs.Sequential.{output}

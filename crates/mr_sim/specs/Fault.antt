@@ -1,4 +1,4 @@
--- The exit status of the program by how it ended, and which faults reading answers.
+-- The exit status of the program by how it ended, and which faults reading answers. Our own profile.
 use Rattle.std.specs.Prelude.{ℕ}
 use Rattle.mr_sim.specs.declared.ending.Ending.{Ending}
 use Rattle.mr_sim.specs.declared.ending.Ending.TheVariants.{Done, Unmet, Helped, RefusedWords, Failed}

@@ -1,4 +1,4 @@
--- What a subcommand prints for its input, and which faults it answers: a case for each subcommand, whose words stand in its folder.
+-- What a subcommand prints for its input, and which faults it answers: a case for each subcommand, whose words stand in its folder. Our own profile.
 use Rattle.std.specs.Prelude.{◌≡◌, ◌<◌, ◌≤◌, ◌^◌, Option, Some, ℕ, List, Err, length}
 use Rattle.std.specs.Io.KnownBytes.{Appends}
 use Rattle.mr_history.specs.Reading.{bad_line}

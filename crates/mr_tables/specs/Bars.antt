@@ -1,4 +1,4 @@
--- Attempts whose bars come due, each once.
+-- Attempts whose bars come due, each once. Our own: where code and definitions meet.
 use Rattle.std.specs.Prelude.{List, [], ◌∷◌}
 use Rattle.mr_ids.specs.Attempt.{Attempt}
 use Rattle.mr_grant.specs.Attempts.{with_last}

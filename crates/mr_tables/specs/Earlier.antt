@@ -1,4 +1,4 @@
--- What is answered of the records of earlier masters.
+-- What is answered of the records of earlier masters. Our own: where code and definitions meet.
 use Rattle.std.specs.Prelude.{◌≡◌, ◌<◌, ◌≤◌, ℕ, true, false, nat_eq, List, [], ◌∷◌, Option, Some, None}
 use Rattle.std.specs.Map.{lookup}
 use Rattle.std.specs.Option.{option_map}

@@ -1,4 +1,4 @@
--- That a node is given up, or was restarted: which launches and which outputs are gone with it.
+-- That a node is given up, or was restarted: which launches and which outputs are gone with it. Our own: where code and definitions meet.
 use Rattle.std.specs.Prelude.{Bool, Option, List, [], ◌∷◌, if◌then◌else◌}
 use Rattle.mr_ids.specs.Attempt.{Attempt}
 use Rattle.mr_ids.specs.declared.id.TaskId.{TaskId}

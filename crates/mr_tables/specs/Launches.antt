@@ -1,4 +1,4 @@
--- What is stored of the launches: by the numbers of their containers, from 0.
+-- What is stored of the launches: by the numbers of their containers, from 0. Our own: where code and definitions meet.
 use Rattle.std.specs.Prelude.{◌≡◌, ◌<◌, ◌||◌, ℕ, Bool, nat_eq, List, length, Some, slice_get}
 use Rattle.mr_ids.specs.Attempt.{Attempt}
 use Rattle.mr_packet.specs.declared.packet.Envelope.{Envelope}

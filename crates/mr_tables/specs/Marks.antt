@@ -1,5 +1,5 @@
 -- Places that are marked, kept as a tree of truth values. The children of node k are the nodes 2k and 2k + 1, the root is node 1,
--- and the last nodes are the places.
+-- and the last nodes are the places. Our own: where code and definitions meet.
 use Rattle.std.specs.Prelude.{◌≡◌, ℕ, ◌+◌, ◌*◌, ◌^◌, ◌<◌, ◌≤◌, Bool, true, false, ◌||◌, List, length, slice_index_or}
 
 -- whether place i is marked

@@ -1,4 +1,4 @@
--- What is stored of the nodes: the incarnation of each that was heard of in one above the first.
+-- What is stored of the nodes: the incarnation of each that was heard of in one above the first. Our own: where code and definitions meet.
 use Rattle.std.specs.Prelude.{◌≡◌, ℕ, nat_eq, List}
 use Rattle.std.specs.Map.{lookup}
 use Rattle.std.specs.Option.{unwrap_or}

@@ -1,4 +1,5 @@
 -- What is stored of the records that are to be appended, and of those that were appended and are not flushed.
+-- Our own: where code and definitions meet.
 use Rattle.std.specs.Prelude.{◌≡◌, ℕ, Bool, true, false, List}
 use Rattle.std.specs.List.{list_any}
 use Rattle.mr_history.specs.declared.record.Record.{Record}

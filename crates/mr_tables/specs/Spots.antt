@@ -1,4 +1,4 @@
--- The tasks of which attempts were launched on a node: at least these, by node and number.
+-- The tasks of which attempts were launched on a node: at least these, by node and number. Our own: where code and definitions meet.
 use Rattle.std.specs.Prelude.{◌≡◌, ◌<◌, ◌≤◌, ℕ, min, Bool, true, false, nat_eq, List, Option, Some, None}
 use Rattle.std.specs.BTreeSet.{BTreeSet, contains}
 use Rattle.std.specs.Map.{lookup}

@@ -1,4 +1,4 @@
--- The calls that the machine of one task gets. A list of them is the past of the task, the newest first.
+-- The calls that the machine of one task gets. A list of them is the past of the task, the newest first. Our own: a past and its readings.
 use Rattle.std.specs.Prelude.{Bool}
 use Rattle.mr_ids.specs.Attempt.{Attempt}
 

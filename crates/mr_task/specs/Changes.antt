@@ -1,4 +1,5 @@
 -- What each call changes of what was heard before it: who is over, who is accepted, who is live. For the layers above.
+-- Our own: it follows from Readings.
 use Rattle.std.specs.Prelude.{◌≡◌, ℕ, Bool, true, false, ◌&&◌, ◌||◌, not, List, [], ◌∷◌, ◌++◌, filter, count_by, Option, Some, None, is_some, if◌then◌else◌}
 use Rattle.mr_ids.specs.Attempt.{Attempt}
 use Rattle.mr_ids.specs.declared.id.TaskId.{TaskId}

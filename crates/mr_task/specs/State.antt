@@ -1,4 +1,4 @@
--- Which calls the machine of one task stands for.
+-- Which calls the machine of one task stands for. Our own: where code and definitions meet.
 use Rattle.std.specs.Prelude.{◌≡◌, ℕ, false, List, [], ◌∷◌, Option, Some, None, ⊤, Result, Ok, Err, if◌then◌else◌}
 use Rattle.mr_ids.specs.Attempt.{Attempt}
 use Rattle.mr_ids.specs.declared.id.TaskId.{TaskId}

@@ -1,4 +1,4 @@
--- What each call does to what a machine stores: for its proofs. What the calls mean is in Readings.
+-- What each call does to what a machine stores: for its proofs. What the calls mean is in Readings. Our own: where code and definitions meet.
 use Rattle.std.specs.Prelude.{ℕ, Bool, true, false, ◌&&◌, not, List, [], ◌∷◌, Option, Some, None, is_some, ⊤, Result, Ok, Err, if◌then◌else◌}
 use Rattle.std.specs.List.{list_any}
 use Rattle.std.specs.Map.{lookup}

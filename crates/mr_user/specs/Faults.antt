@@ -1,4 +1,4 @@
--- Which fault may stand in the place of an answer.
+-- Which fault may stand in the place of an answer. Our own profile.
 use Rattle.mr_user.specs.declared.fault.UserFault.{UserFault}
 use Rattle.mr_user.specs.declared.fault.UserFault.TheVariants.{Refused, BadWire, NoMemory}
 

@@ -1,4 +1,4 @@
--- Pairs by their keys.
+-- Pairs by their keys. Dean and Ghemawat 2 and 4.2: the values of a key are reduced together, keys in rising order.
 use Rattle.std.specs.Prelude.{cond, List, [], ◌∷◌, ◌++◌, map, filter}
 use Rattle.std.specs.Ordering.{eq_by_cmp}
 use Rattle.std.specs.declared.cmp.Ordering.{Ordering}

@@ -1,5 +1,5 @@
 -- What the lines of a split and the rising keys of a list are, told by what they are made of.
--- These laws bear the definitions in Sequential and Groups out.
+-- These laws bear the definitions in Sequential and Groups out. Our own: it follows from Sequential and Groups.
 use Rattle.std.specs.Prelude.{◌≡◌, ◌≢◌, ℕ, true, false, not, List, [], ◌∷◌, ◌++◌, map, filter}
 use Rattle.std.specs.List.{AllByRecursion, list_any}
 use Rattle.std.specs.FinMap.{IsAntisymmetric}

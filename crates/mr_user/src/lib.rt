@@ -21,7 +21,7 @@
 //!   the type alone; each method is proved to give exactly that, an allocation failure aside. A job owes the *job laws*;
 //!   one that breaks them is not proved and so not built. docs/USING.md is for who writes one.
 //! - **Three jobs** are proved with all their laws: `WordCount`, `MaxByKey`, `LineIndex`.
-//! - **Forms**: `Text`, `u64` and `Position` are written as the tables of docs/MODEL.md say; what was written is
+//! - **Forms**: `Text`, `u64` and `Position` are written as the tables of the crate's README say; what was written is
 //!   read again whatever follows; what is read fits and was written so; `read` answers `BadWire` exactly where the
 //!   bytes begin with no value.
 //! - `next_line`, `sort_pairs`, `shares` and `write_lines`, of which the sequential execution and the works of a cluster

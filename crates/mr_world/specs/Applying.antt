@@ -1,4 +1,4 @@
--- What the calls of a world promise.
+-- What the calls of a world promise. Our own: where code and definitions meet.
 use Rattle.std.specs.Prelude.{◌≡◌, ℕ, Bool, true, false, ◌&&◌, nat_lt, List, [], ◌∷◌, ◌++◌, Option, Some, None, Result, Ok, Err, length}
 use Rattle.mr_event.specs.declared.why.Why.{Why}
 use Rattle.mr_model.specs.Packets.{Config}

@@ -1,4 +1,5 @@
 -- The job history in bytes, as a journal's events leave it. When a master starts, crashes or calls is mr_model's, and what that makes of the history is mr_history's: mr_model itself keeps of a segment its records alone.
+-- Our own: where code and definitions meet.
 use Rattle.std.specs.Prelude.{ℕ, ◌&&◌, nat_lt, nat_le, List, [], ◌∷◌, Option, Some, None, if◌then◌else◌, replicate}
 use Rattle.std.specs.Option.{option_and_then, option_map}
 use Rattle.mr_history.specs.State.{State}

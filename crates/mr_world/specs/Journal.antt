@@ -1,4 +1,5 @@
 -- What contracts see of a world, its config and its journal, and the world of the definitions that these lead to.
+-- Our own: where code and definitions meet.
 use Rattle.std.specs.Prelude.{◌≡◌, ◌≤◌, Bool, ◌&&◌, nat_lt, List, [], ◌∷◌, ◌++◌, if◌then◌else◌, length}
 use Rattle.mr_history.specs.State.{State}
 use Rattle.mr_model.specs.Packets.{Config}

@@ -1,4 +1,4 @@
--- The machines of masters, by generation.
+-- The machines of masters, by generation. Our own: where code and definitions meet.
 use Rattle.std.specs.Prelude.{ℕ, zero, suc, Option, None, length, slice_get}
 use Rattle.std.specs.Option.{option_and_then}
 use Rattle.mr_master.specs.State as master

@@ -1,4 +1,4 @@
--- What programs read of a world: of masters and containers that are alive, and nothing of others.
+-- What programs read of a world: of masters and containers that are alive, and nothing of others. Our own profile.
 use Rattle.std.specs.Prelude.{ℕ, List, map, filter, length, Option, Some, None, if◌then◌else◌}
 use Rattle.std.specs.Option.{option_map}
 use Rattle.std.specs.List.{flat_map, range_with_len}

@@ -1,4 +1,5 @@
 -- Which world the parts of a simulator stand for, and what an event's call promises. Here code and definitions meet.
+-- Our own: where code and definitions meet.
 use Rattle.std.specs.Prelude.{◌≡◌, ℕ, Bool, true, false, nat_lt, List, Option, Some, None, Result, Ok, Err, ◌⊎◌, is_some, slice_get}
 use Rattle.mr_packet.specs.declared.packet.Address.{Address}
 use Rattle.mr_packet.specs.declared.packet.Packet.{Packet}

@@ -1,4 +1,4 @@
--- What a reader sees of a directory.
+-- What a reader sees of a directory. That hidden names are no output is Hadoop's committer document's.
 use Rattle.std.specs.Prelude.{ℕ, Bool, true, false, List, [], ◌∷◌, ◌++◌, Option, Some, None, if◌then◌else◌}
 use Rattle.mr_names.specs.declared.node.Kind.{Kind}
 use Rattle.mr_names.specs.declared.node.Kind.TheVariants as kind

@@ -1,4 +1,4 @@
--- The listing of a content.
+-- The listing of a content. Our own format.
 use Rattle.std.specs.Prelude.{ℕ, List, [], ◌∷◌, ◌++◌, codes, decimal, Option, Some, None}
 use Rattle.std.specs.List.{flat_map, join_with_byte}
 use Rattle.mr_names.specs.declared.walk.Found.{Found}

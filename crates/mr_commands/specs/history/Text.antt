@@ -1,4 +1,4 @@
--- What `history` prints for the bytes of a segment.
+-- What `history` prints for the bytes of a segment. Our own format.
 use Rattle.std.specs.Prelude.{◌≡◌, ℕ, List, [], ◌∷◌, ◌++◌, length, flat_map, codes, decimal, nat_eq, Option, Some, None, if◌then◌else◌}
 use Rattle.mr_ids.specs.Text.{attempt_text}
 use Rattle.mr_history.specs.declared.record.Record.{Record}

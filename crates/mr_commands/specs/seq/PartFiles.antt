@@ -1,4 +1,4 @@
--- Files as they are printed.
+-- Files as they are printed. The names are those of Hadoop's FileOutputFormat, the format is our own.
 use Rattle.std.specs.Prelude.{◌+◌, ℕ, List, [], ◌∷◌, ◌++◌, length, codes, decimal}
 use Rattle.mr_paths.specs.Layout.{part}
 

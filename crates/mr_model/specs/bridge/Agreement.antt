@@ -1,4 +1,4 @@
--- What is read off a master's past in the cluster is what is read off the same past of its machine.
+-- What is read off a master's past in the cluster is what is read off the same past of its machine. Our own: it ties two sets of definitions.
 use Rattle.std.specs.Prelude.{◌≡◌, ℕ, true, List, map, Some}
 use Rattle.std.specs.List.{find}
 use Rattle.mr_master_model.specs.Job.{all_reduces}

@@ -1,5 +1,5 @@
 -- What keeps two tasks alike, whatever else they heard.
--- Two are alike where the same is read of both (Points); these are the calls after which they still are.
+-- Two are alike where the same is read of both (Points); these are the calls after which they still are. Our own: it ties two sets of definitions.
 use Rattle.std.specs.Prelude.{◌≡◌, ℕ, Bool, true, false, ◌&&◌, not}
 use Rattle.mr_ids.specs.Attempt.{Attempt}
 use Rattle.mr_ids.specs.declared.id.TaskId.{TaskId}

@@ -1,5 +1,6 @@
 -- What the tasks are told where a master begins to run.
 -- Nothing before that; then the master of the cluster and its machine take over the same newest successes of what was read.
+-- Our own: it ties two sets of definitions.
 use Rattle.std.specs.Prelude.{◌≡◌, ℕ, true, List, [], ◌∷◌, if◌then◌else◌}
 use Rattle.mr_ids.specs.Attempt.{Attempt}
 use Rattle.mr_ids.specs.declared.id.TaskId.{TaskId}

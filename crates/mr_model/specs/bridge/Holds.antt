@@ -1,5 +1,6 @@
 -- What a machine holds beside what its tasks have heard.
 -- Its launches, the nodes that it knows, what it read and whom it sent a Kill are the master's, and stay so step by step.
+-- Our own: it ties two sets of definitions.
 use Rattle.std.specs.Prelude.{◌≡◌, ℕ, true, false, List, ◌∷◌}
 use Rattle.std.specs.Option.{option_map}
 use Rattle.mr_ids.specs.Attempt.{Attempt}

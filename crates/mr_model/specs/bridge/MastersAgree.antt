@@ -1,4 +1,4 @@
--- At every point of its past a master of the cluster acts as its machine, which has seen the same.
+-- At every point of its past a master of the cluster acts as its machine, which has seen the same. Our own: it ties two sets of definitions.
 use Rattle.std.specs.Prelude.{◌≡◌, ℕ, List}
 use Rattle.mr_master_model.specs.Readings as read
 use Rattle.mr_master_model.specs.Next as next

@@ -1,4 +1,5 @@
 -- At one point of a past: where the tasks of a machine have heard alike, it refuses, names and asks for what the master does.
+-- Our own: it ties two sets of definitions.
 use Rattle.std.specs.Prelude.{◌≡◌, ℕ, Bool, true, nat_lt, List, [], ◌∷◌, ◌++◌, Option, Some, None}
 use Rattle.mr_ids.specs.Attempt.{Attempt}
 use Rattle.mr_ids.specs.declared.id.TaskId.{TaskId}

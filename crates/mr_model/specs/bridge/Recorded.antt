@@ -1,4 +1,4 @@
--- What is recorded of a reduce.
+-- What is recorded of a reduce. Our own: it ties two sets of definitions.
 use Rattle.std.specs.Prelude.{◌≡◌, ℕ, true, ◌||◌, List, is_some}
 use Rattle.mr_task.specs.Readings as task
 use Rattle.mr_model.specs.Ids.{TaskId, of_reduces}

@@ -1,4 +1,5 @@
 -- A master's past in the cluster, as the past of a master's machine: its setting, its store calls, their answers and its steps.
+-- Our own: it ties two sets of definitions.
 use Rattle.std.specs.Prelude.{ℕ, List, [], ◌∷◌, length, Ok, Err}
 use Rattle.mr_names.specs.declared.op.Op.{Op}
 use Rattle.mr_names.specs.declared.op.Op.TheVariants as op
