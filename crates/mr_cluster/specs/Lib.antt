@@ -3,3 +3,4 @@ pub mod Living
 pub mod Order
 pub mod Letters
 pub mod Nodes
+pub mod Ending

@@ -10,7 +10,7 @@
 //! - `Living::end_on` ends the containers that were launched on a node, and no other.
 //! - `Living::all` lists who lives, by generation, then number; `Living::next` is the next one after another, in cyclic order.
 //! - `Living::letters` tells the packet of a container's step, and whether it is its last; `Living::would_end` and `Nodes::would_answer` tell
-//!   beforehand what a packet would lead to, and change nothing.
+//!   beforehand what a packet would lead to, change nothing, and take no memory.
 #![tactic(auto)]
 
 mod letters;

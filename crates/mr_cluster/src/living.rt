@@ -10,12 +10,14 @@ ghost use Rattle.mr_container.specs.Wished.{wished_packet};
 ghost use Rattle.mr_container.specs.State.{after};
 ghost use Rattle.mr_model.specs.Actors.{is_finished};
 ghost use Rattle.mr_model.specs.Ids.{ContainerId};
+ghost use Rattle.mr_cluster.specs.Ending.{acknowledges};
 ghost use Rattle.mr_cluster.specs.Letters.{letters_by, letters_of, is_last};
 ghost use Rattle.mr_cluster.specs.Living.{container_cmp, kept, Changes, Same, stepped, is_over, stays, unless_on};
 ghost use Rattle.mr_cluster.specs.Order.{in_order, is_behind, next_living};
 
 use crate::letters::Letters;
 use mr_container::{ContainerMachine, Reply, Wish};
+use mr_ids::AttemptId;
 use mr_packet::{Bytes, ContainerId, Packet};
 use std::alloc::{AllocError, Global};
 use std::collections::BTreeMap;
@@ -140,17 +142,14 @@ impl Living {
         }
     }
 
-    /// Whether the container, if it lives, would come to its end by a packet. Its only error is an allocation failure.
+    /// Whether the container, if it lives, would come to its end by a packet. It takes no memory.
     #[tactic(auto, unfolding(crate::specs::Living::kept))]
-    pub fn would_end(&self, c: &ContainerId, packet: &Packet) -> Result<bool, AllocError>
-        ensures { IfOk result (λ over. over ≡ is_over (stepped self.now c.now (Hears packet.now))) }
+    pub fn would_end(&self, c: &ContainerId, packet: &Packet) -> bool
+        ensures { result ≡ is_over (stepped self.now c.now (Hears packet.now)) }
     {
         match self.machines.get(c) {
-            Some(machine) => {
-                let mut copy = machine.copy()?;
-                hear(&mut copy, packet)
-            }
-            None => Ok(false),
+            Some(machine) => would_end(machine, packet),
+            None => false,
         }
     }
 }
@@ -218,6 +217,26 @@ fn hear(machine: &mut ContainerMachine, packet: &Packet) -> Result<bool, AllocEr
 {
     machine.hear(packet)?;
     Ok(is_finished(&machine.wish()))
+}
+
+// Whether the container would come to its end by a packet: by the answer to its report.
+#[tactic(auto, using(crate::proofs::Ends::ends_by_answer))]
+fn would_end(machine: &ContainerMachine, packet: &Packet) -> bool
+    ensures { result ≡ is_finished (after machine.now (Hears packet.now)).seen.wish }
+{
+    let wish = machine.wish();
+    is_finished(&wish) || (wish.is_reporting() && acknowledges(machine.place().attempt, packet))
+}
+
+// Whether the packet is the answer to what is done of this attempt.
+#[tactic(auto, using(mr_container::proofs::Same::eq_same))]
+fn acknowledges(attempt: AttemptId, packet: &Packet) -> bool
+    ensures { result ≡ acknowledges attempt packet.now }
+{
+    match packet {
+        Packet::DoneAck { a } => attempt == *a,
+        _ => false,
+    }
 }
 
 fn is_finished(wish: &Wish) -> bool

@@ -63,14 +63,14 @@ impl Nodes {
         }
     }
 
-    /// Whether a node would answer a packet with one. Only for a launch it may allocate; its only error is an allocation failure.
+    /// Whether a node would answer a packet with one. It takes no memory.
     #[tactic(auto, unfolding(crate::specs::Nodes::node_of))]
-    pub fn would_answer(&self, n: u32, packet: &Packet) -> Result<bool, AllocError>
-        ensures { IfOk result (λ answers. answers ≡ is_some (added_by (reaction_of (node_of self.now n) packet.now))) }
+    pub fn would_answer(&self, n: u32, packet: &Packet) -> bool
+        ensures { result ≡ is_some (added_by (reaction_of (node_of self.now n) packet.now)) }
     {
         match self.machines.get(n as usize) {
             Some(machine) => would_answer(machine, packet),
-            None => Ok(false),
+            None => false,
         }
     }
 
@@ -86,17 +86,19 @@ impl Nodes {
     }
 }
 
-// Whether a node would answer a packet with one. It always answers who asks it to kill or to send.
-#[tactic(auto, unfolding(mr_node::specs::Readings::reaction))]
-fn would_answer(machine: &NodeMachine, packet: &Packet) -> Result<bool, AllocError>
-    ensures { IfOk result (λ answers. answers ≡ is_some (added_by (reaction machine.now.number machine.now.seen packet.now))) }
+// Whether a node would answer a packet with one. It always answers who asks it to kill or to send; whose launch comes for another
+// incarnation is told of the node's, unless it knows the container.
+#[tactic(auto, unfolding(mr_node::specs::Readings::reaction), using(crate::proofs::Replying::answers_launch))]
+fn would_answer(machine: &NodeMachine, packet: &Packet) -> bool
+    ensures { result ≡ is_some (added_by (reaction machine.now.number machine.now.seen packet.now)) }
 {
     match packet {
-        Packet::Kill { .. } | Packet::Fetch { .. } => Ok(true),
-        Packet::Launch { .. } => {
-            let mut copy = machine.copy()?;
-            Ok(matches!(copy.hear(packet)?, Reaction::Adds(_)))
-        }
-        _ => Ok(false),
+        Packet::Kill { .. } | Packet::Fetch { .. } => true,
+        Packet::Launch {
+            c,
+            a: _,
+            incarnation,
+        } => !machine.knows(c) && *incarnation != machine.incarnation(),
+        _ => false,
     }
 }

@@ -94,6 +94,13 @@ impl NodeMachine {
         self.incarnation
     }
 
+    /// Whether it launched this container or was asked to kill it, in whichever incarnation. It takes no memory.
+    pub fn knows(&self, c: &ContainerId) -> bool
+        ensures { result ≡ has self.now.seen.known c.now }
+    {
+        self.known.has(c)
+    }
+
     /// It is asked to launch a container for an attempt, in this incarnation. A container that it knows is not launched, and one for another
     /// incarnation is not either: then the container's master is told of the node's.
     ///

@@ -38,7 +38,7 @@ use Rattle.mr_world.specs.declared.call.StoreCall.{StoreCall}
 use Rattle.mr_world.specs.declared.fault.WorldFault.{WorldFault}
 use Rattle.mr_world.specs.declared.fault.WorldFault.TheVariants as fault
 use Rattle.mr_world.specs.inner.Calling.{is_call, is_made, step_fault, permitted, ForeseesCall, HasCalled, IsAlone}
-use Rattle.mr_world.specs.Limits.{within, fits_bag, fits_call, is_full, barred_of}
+use Rattle.mr_world.specs.Limits.{within, fits_counted, fits_bag, fits_call, is_full, barred_of}
 use Rattle.mr_world.specs.Standing.{Standing, IsTaken, Refuses, RefusesEvent}
 use Rattle.mr_world.proofs.Refusals.{bag-fits, refuses-now, refuses-full, refuses-memory}
 use Rattle.mr_world.proofs.Saying.{says}
@@ -205,9 +205,9 @@ unfolding not_now
 absent p c f e w s = let dead : w.is_alive c ≡ false = sym (s.living.alive c) ∙ ap is_some e in refuses-now _ _ (rw dead refl)
 
 -- refused for the wish, or permitted
-refused-by : (o : Option Why) (fits at_once : Bool) (e : WorldFault) → Err e ≡ permitted o → Refuses o fits at_once e
-refused-by None fits at_once e is = cc
-refused-by (Some why) fits at_once e is = cc
+refused-by : (o : Option Why) (fits counted : Bool) (e : WorldFault) → Err e ≡ permitted o → Refuses o fits counted e
+refused-by None fits counted e is = cc
+refused-by (Some why) fits counted e is = cc
 
 allowed-by : (o : Option Why) → Ok tt ≡ permitted o → o ≡ None
 allowed-by None is = refl
@@ -215,7 +215,7 @@ allowed-by (Some why) is = cc
 
 pub wrong-step : (p : Parts) (c : ContainerId) (f : Weather) (m : container.Container) (e : WorldFault) → kept p.living c ≡ Some m → Err e ≡ permitted (step_fault m.seen.wish f)
     → (w : World) → Standing p w → RefusesEvent p.config w (ContainerStep c f) e
-wrong-step p c f m e there is w s = subst (λ o. Refuses o (within p.config w (ContainerStep c f)) true e) (sym (now-is p w c f m s there)) (refused-by (step_fault m.seen.wish f) _ true e is)
+wrong-step p c f m e there is w s = subst (λ o. Refuses o (within p.config w (ContainerStep c f)) (fits_counted p.config w (ContainerStep c f)) e) (sym (now-is p w c f m s there)) (refused-by (step_fault m.seen.wish f) _ _ e is)
 
 pub right-step : (p : Parts) (c : ContainerId) (f : Weather) (m : container.Container) → kept p.living c ≡ Some m → Ok tt ≡ permitted (step_fault m.seen.wish f) → (w : World) → Standing p w → not_now p.config w (ContainerStep c f) ≡ None
 right-step p c f m there is w s = now-is p w c f m s there ∙ allowed-by _ is
@@ -248,9 +248,26 @@ pub no-call : (p : Parts) (c : ContainerId) (f : Weather) (m : container.Contain
     → None ≡ wished_op p.layout.dest m.id.app m.place.attempt m.seen.result m.seen.wish → (w : World) → Standing p w → (not_now p.config w (ContainerStep c f) ≡ None) × (op_of p.config w c ≡ None)
 no-call p c f m there now is w s = (right-step p c f m there now w s, wished p c m None there is w s)
 
-pub memory-wanted : (p : Parts) (c : ContainerId) (f : Weather) (r : Result (Option StoreCall) WorldFault) → ((w : World) → Standing p w → not_now p.config w (ContainerStep c f) ≡ None)
-    → IsErrAnd r (λ g. g ≡ fault.NoMemory) → ForeseesCall p c f r
-memory-wanted p c f r now g = fault-foreseen p c f r fault.NoMemory (λ w s. refuses-memory _ (now w s) refl) g
+-- who makes a store call sends nothing
+some-op : (o : Option Op) → is_some o ≡ true → (x : Op) × (o ≡ Some x)
+some-op (Some x) e = (x, refl)
+some-op None e = cc
+
+quiet : (p : Parts) (w : World) (c : ContainerId) (f : Weather) (m : container.Container) → Standing p w → kept p.living c ≡ Some m → length p.bag.packets ≤ MAX_PACKETS → is_call m.seen.wish ≡ true → fits_bag p.config w (ContainerStep c f) ≡ true
+quiet p w c f m s there few is = let o = some-op (op_of p.config w c) (ap is_some (says p w c m s there).call ∙ (call-is _ m.id.app m.place.attempt m.seen.result m.seen.wish ∙ is)) in
+    bag-fits p w (ContainerStep c f) 0 s (ap length (went p w c f o.0 m s there o.1).sends) (omega (arith, few))
+
+-- no op is made of another wish
+pub calls-not : (d : List (List ℕ)) (k : ℕ) (x : Attempt) (bytes : List ℕ) (v : Wish) → is_call v ≡ false → None ≡ wished_op d k x bytes v
+calls-not d k x bytes v is = none-op (wished_op d k x bytes v) (call-is d k x bytes v ∙ is)
+  where
+    none-op : (o : Option Op) → is_some o ≡ false → None ≡ o
+    none-op None e = refl
+    none-op (Some y) e = cc
+
+pub memory-wanted : (p : Parts) (c : ContainerId) (f : Weather) (m : container.Container) (r : Result (Option StoreCall) WorldFault) → kept p.living c ≡ Some m → length p.bag.packets ≤ MAX_PACKETS
+    → Ok tt ≡ permitted (step_fault m.seen.wish f) → is_call m.seen.wish ≡ true → IsErrAnd r (λ g. g ≡ fault.NoMemory) → ForeseesCall p c f r
+memory-wanted p c f m r there few now is g = fault-foreseen p c f r fault.NoMemory (λ w s. refuses-memory _ (right-step p c f m there now w s) (quiet p w c f m s there few is)) g
 
 -- ---- what the parts stand for once the call was made
 

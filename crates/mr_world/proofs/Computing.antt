@@ -33,7 +33,7 @@ use Rattle.mr_world.specs.declared.fault.WorldFault.{WorldFault}
 use Rattle.mr_world.specs.declared.fault.WorldFault.TheVariants as fault
 use Rattle.mr_world.specs.declared.parts.Parts.{Parts}
 use Rattle.mr_world.specs.inner.Computing.{fault_by, bytes_fault, unless_fault, Computes}
-use Rattle.mr_world.specs.Limits.{within, fits_bytes, fits_bag, fits_at_once}
+use Rattle.mr_world.specs.Limits.{within, fits_bytes, fits_bag, fits_counted}
 use Rattle.mr_world.specs.Standing.{Standing, IsTaken, Refuses, Foresees, RefusesEvent}
 use Rattle.mr_world.proofs.Refusals.{bag-fits, refuses-now}
 use Rattle.mr_world.proofs.Saying.{says}
@@ -145,6 +145,12 @@ within-is p w c bytes m s there few =
     let room : fits_bag p.config w (Compute c bytes) ≡ true = bag-fits p w (Compute c bytes) 0 s (sends-none p.config w c bytes) (omega (arith, few)) in
     ap (λ b. fits_bytes (w.place c) (length bytes) && b) room ∙ (and-true _ ∙ ap (λ o. fits_bytes o (length bytes)) (says p w c m s there).place)
 
+counted-is : (p : Parts) (w : World) (c : ContainerId) (bytes : List ℕ) (m : container.Container) → Standing p w → kept p.living c ≡ Some m → length p.bag.packets ≤ MAX_PACKETS
+    → fits_counted p.config w (Compute c bytes) ≡ fits_bytes (Some m.place) (length bytes)
+counted-is p w c bytes m s there few =
+    let room : fits_bag p.config w (Compute c bytes) ≡ true = bag-fits p w (Compute c bytes) 0 s (sends-none p.config w c bytes) (omega (arith, few)) in
+    ap (λ b. fits_bytes (w.place c) (length bytes) && b) room ∙ (and-true _ ∙ ap (λ o. fits_bytes o (length bytes)) (says p w c m s there).place)
+
 judged : (k : TaskKind) (blocks small short : Bool) (e : WorldFault) → Err e ≡ unless_fault (fault_by k blocks small short) → Refuses (unless (of_reduces k || blocks) NotBlocks None) (if of_reduces k then short else small) (if of_reduces k then short else small) e
 judged kind.Map true true short e is = cc
 judged kind.Map true false short e is = cc
@@ -161,9 +167,9 @@ passed kind.Reduce blocks small false is = cc
 
 pub refused : (p : Parts) (c : ContainerId) (bytes : List ℕ) (m : container.Container) (e : WorldFault) → kept p.living c ≡ Some m → is_computing m.seen.wish ≡ true → length p.bag.packets ≤ MAX_PACKETS
     → Err e ≡ unless_fault (bytes_fault m.place.attempt.task.kind p.config.reduces bytes) → (w : World) → Standing p w → RefusesEvent p.config w (Compute c bytes) e
-refused p c bytes m e there wish few is w s = subst (λ o. Refuses o (within p.config w (Compute c bytes)) (fits_at_once p.config w (Compute c bytes)) e) (sym (now-is p w c bytes m s there wish))
-    (subst (λ b. Refuses (unless (of_reduces m.place.attempt.task.kind || is_some (cut p.config.reduces bytes)) NotBlocks None) b (fits_at_once p.config w (Compute c bytes)) e) (sym (within-is p w c bytes m s there few))
-    (subst (λ o. Refuses (unless (of_reduces m.place.attempt.task.kind || is_some (cut p.config.reduces bytes)) NotBlocks None) (fits_bytes (Some m.place) (length bytes)) (fits_bytes o (length bytes)) e) (sym (says p w c m s there).place)
+refused p c bytes m e there wish few is w s = subst (λ o. Refuses o (within p.config w (Compute c bytes)) (fits_counted p.config w (Compute c bytes)) e) (sym (now-is p w c bytes m s there wish))
+    (subst (λ b. Refuses (unless (of_reduces m.place.attempt.task.kind || is_some (cut p.config.reduces bytes)) NotBlocks None) b (fits_counted p.config w (Compute c bytes)) e) (sym (within-is p w c bytes m s there few))
+    (subst (λ b. Refuses (unless (of_reduces m.place.attempt.task.kind || is_some (cut p.config.reduces bytes)) NotBlocks None) (fits_bytes (Some m.place) (length bytes)) b e) (sym (counted-is p w c bytes m s there few))
     (judged m.place.attempt.task.kind (is_some (cut p.config.reduces bytes)) _ _ e is)))
 
 pub taken : (p : Parts) (c : ContainerId) (bytes : List ℕ) (m : container.Container) → kept p.living c ≡ Some m → is_computing m.seen.wish ≡ true → length p.bag.packets ≤ MAX_PACKETS

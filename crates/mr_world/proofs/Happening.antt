@@ -12,7 +12,7 @@ use Rattle.mr_world.specs.declared.took.Took.{Took}
 use Rattle.mr_world.specs.Applying.{Counts, Takes}
 use Rattle.mr_world.specs.Histories.{change_of, changed}
 use Rattle.mr_world.specs.Journal.{Journal, Keeps, run_of}
-use Rattle.mr_world.specs.Limits.{within, fits_at_once}
+use Rattle.mr_world.specs.Limits.{within, fits_counted}
 use Rattle.mr_world.specs.Standing.{Standing, IsTaken, Refuses, RefusesEvent}
 use Rattle.mr_world.proofs.Journals.{journal_of, keeps-one, takes}
 
@@ -50,5 +50,5 @@ same-journal p q j es fs view same config = ap (λ (hs : List Event). record { c
 
 -- where the journal has room, an event is refused as the parts refuse it
 pub refused-by : (p : Parts) (es : List Event) (e : Event) (f : WorldFault) (w : World) → length es < MAX_EVENTS → RefusesEvent p.config w e f
-    → Refuses (not_now p.config w e) (nat_lt (length es) MAX_EVENTS && within p.config w e) (nat_lt (length es) MAX_EVENTS && fits_at_once p.config w e) f
-refused-by p es e f w few r = subst (λ b. Refuses (not_now p.config w e) (b && within p.config w e) (b && fits_at_once p.config w e) f) (sym (lt-ltb (length es) MAX_EVENTS few)) r
+    → Refuses (not_now p.config w e) (nat_lt (length es) MAX_EVENTS && within p.config w e) (nat_lt (length es) MAX_EVENTS && fits_counted p.config w e) f
+refused-by p es e f w few r = subst (λ b. Refuses (not_now p.config w e) (b && within p.config w e) (b && fits_counted p.config w e) f) (sym (lt-ltb (length es) MAX_EVENTS few)) r

@@ -1,5 +1,5 @@
 -- A packet is delivered to a master: when it can, and what the parts stand for then.
-use Rattle.std.proofs.Common.{◌≡◌, ℕ, ◌+◌, refl, sym, ◌∙◌, ap, subst, true, false, List, ◌++◌, Some, None, is_some, length, slice_get, arith}
+use Rattle.std.proofs.Common.{◌≡◌, ℕ, ◌+◌, refl, sym, ◌∙◌, ap, subst, true, false, ◌||◌, List, ◌++◌, Some, None, is_some, length, slice_get, arith}
 use Rattle.mr_packet.specs.Bag.{Held}
 use Rattle.mr_packet.specs.declared.packet.Envelope.{Envelope}
 use Rattle.mr_master_model.specs.Past as machine
@@ -22,7 +22,7 @@ use Rattle.mr_world.specs.declared.masters.Masters.{Masters}
 use Rattle.mr_world.specs.declared.parts.Parts.{Parts}
 use Rattle.mr_world.specs.Machines.{master_of}
 use Rattle.mr_world.specs.inner.Masters.{Ceases, Returns}
-use Rattle.mr_world.specs.Limits.{within, fits_bag, launch_count}
+use Rattle.mr_world.specs.Limits.{within, fits_counted, goes_to_master, fits_bag, launch_count}
 use Rattle.mr_world.specs.Standing.{Standing, Reached, IsTaken, IsTo, RefusesEvent}
 use Rattle.mr_world.proofs.Refusals.{NeedsRoom, refuses-now, lacks-memory}
 use Rattle.mr_world.proofs.Mastering.{not-kept, is-generation}
@@ -47,6 +47,10 @@ dead p i k to e w s = refuses-now _ _ (not-alive p.config w i k to.0 (carried p 
 
 pub allowed : (p : Parts) (i k : ℕ) (m : master.Master) → IsTo p i (Master k) → master_of p.masters k ≡ Some m → (w : World) → Standing p w → not_now p.config w (Deliver i) ≡ None
 allowed p i k m to at w s = alive p.config w i k to.0 (carried p w i k to.0 s to.1) (sym (s.masters.alive k) ∙ ap is_some at)
+
+-- what a master hears is a step of a master
+pub of-master : (p : Parts) (w : World) (i k : ℕ) → Standing p w → IsTo p i (Master k) → fits_counted p.config w (Deliver i) ≡ true
+of-master p w i k s to = ap (λ o. goes_to_master o || fits_bag p.config w (Deliver i)) (carried p w i k to.0 s to.1)
 
 limit-is : (cfg : Config) (w : World) (i : ℕ) → within cfg w (Deliver i) ≡ fits_bag cfg w (Deliver i)
 unfolding within call_of

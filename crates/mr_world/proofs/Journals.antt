@@ -94,17 +94,17 @@ takes p q es e took same t few counts = record {
 }
 
 -- a reason is the one of the definitions
-pub refused-now : (o : Option Why) (fits at_once : Bool) (why : Why) → Refuses o fits at_once (fault.NotNow why) → o ≡ Some why
-refused-now (Some x) fits at_once why r = cc
-refused-now None true at_once why r = absurd (cc r)
+pub refused-now : (o : Option Why) (fits counted : Bool) (why : Why) → Refuses o fits counted (fault.NotNow why) → o ≡ Some why
+refused-now (Some x) fits counted why r = cc
+refused-now None true counted why r = absurd (cc r)
 refused-now None false false why r = absurd (cc r)
 refused-now None false true why (inl e) = absurd (cc e)
 refused-now None false true why (inr e) = absurd (cc e)
 
 -- any other fault answers an event that is permitted
-pub permitted-by : (o : Option Why) (fits at_once : Bool) (f : WorldFault) → ((why : Why) → f ≡ fault.NotNow why → ⊥) → Refuses o fits at_once f → o ≡ None
-permitted-by (Some x) fits at_once f other r = absurd (other x r)
-permitted-by None fits at_once f other r = refl
+pub permitted-by : (o : Option Why) (fits counted : Bool) (f : WorldFault) → ((why : Why) → f ≡ fault.NotNow why → ⊥) → Refuses o fits counted f → o ≡ None
+permitted-by (Some x) fits counted f other r = absurd (other x r)
+permitted-by None fits counted f other r = refl
 
 -- ---- events in turn
 

@@ -24,19 +24,19 @@ use Rattle.mr_world.specs.inner.Asking.{IsForeseen}
 use Rattle.mr_world.specs.Asks.{asked_by, asked_in, by_container, by_master, Looks}
 use Rattle.mr_world.specs.inner.Calling.{ForeseesCall, answer_of}
 use Rattle.mr_world.specs.Journal.{Journal, world_in, fits, fits_first}
-use Rattle.mr_world.specs.Limits.{within, fits_at_once}
+use Rattle.mr_world.specs.Limits.{within, fits_counted}
 use Rattle.mr_world.specs.Standing.{Standing, IsTaken, Refuses, RefusesEvent}
 use Rattle.mr_world.proofs.Asking.{asks}
 
 -- ---- what would be taken is refused for an allocation failure alone
 
-wants : (o : Option Why) (b at_once : Bool) (f : WorldFault) → o ≡ None → b ≡ true → Refuses o b at_once f → f ≡ fault.NoMemory
-wants o b at_once f now fits r = subst (λ c. Refuses None c at_once f) fits (subst (λ x. Refuses x b at_once f) now r)
+wants : (o : Option Why) (b counted : Bool) (f : WorldFault) → o ≡ None → b ≡ true → Refuses o b counted f → f ≡ fault.NoMemory
+wants o b counted f now fits r = subst (λ c. Refuses None c counted f) fits (subst (λ x. Refuses x b counted f) now r)
 
 pub looks-refused : (p : Parts) (e : Event) (r : Result (Option Asked) WorldFault) (f : WorldFault) → ((w : World) → Standing p w → RefusesEvent p.config w e f)
     → IsErrAnd r (λ x. x ≡ f) → Looks p e r
 looks-refused p e r f why is = let q = err_from_is_err_and r is in
-    subst (Looks p e) (sym q.1) (λ w s t. q.2 ∙ wants (not_now p.config w e) (within p.config w e) (fits_at_once p.config w e) f t.now t.fits (why w s))
+    subst (Looks p e) (sym q.1) (λ w s t. q.2 ∙ wants (not_now p.config w e) (within p.config w e) (fits_counted p.config w e) f t.now t.fits (why w s))
 
 pub looks-in-vain : (p : Parts) (e : Event) (r : Result (Option Asked) WorldFault) → IsErrAnd r (λ x. x ≡ fault.NoMemory) → Looks p e r
 looks-in-vain p e r is = let q = err_from_is_err_and r is in subst (Looks p e) (sym q.1) (λ w s t. q.2)
@@ -64,18 +64,18 @@ by-container p c f call r fore is w s = let g = fore w s in
 
 -- ---- of an event that is looked at
 
-away : (o : Option Why) (b at_once : Bool) (why : Why) (x : Option Asked) → Refuses o b at_once (fault.NotNow why) → None ≡ (if is_none o && b then x else None)
-away (Some y) b at_once why x r = refl
-away None true at_once why x r = cc
-away None false at_once why x r = refl
+away : (o : Option Why) (b counted : Bool) (why : Why) (x : Option Asked) → Refuses o b counted (fault.NotNow why) → None ≡ (if is_none o && b then x else None)
+away (Some y) b counted why x r = refl
+away None true counted why x r = cc
+away None false counted why x r = refl
 
 pub not-now : (j : Journal) (e : Event) (f : WorldFault) (why : Why) → f ≡ fault.NotNow why → IsRefused j e f → None ≡ asked_in j e
 not-now j e f why is r = away (not_now j.config (world_in j) e) (fits j e) (fits_first j e) why (asked_by j.config (world_in j) e) (subst (IsRefused j e) is r)
 
-too-much : (o : Option Why) (b at_once : Bool) (x : Option Asked) → Refuses o b at_once fault.Full → None ≡ (if is_none o && b then x else None)
-too-much (Some y) b at_once x r = refl
-too-much None true at_once x r = cc
-too-much None false at_once x r = refl
+too-much : (o : Option Why) (b counted : Bool) (x : Option Asked) → Refuses o b counted fault.Full → None ≡ (if is_none o && b then x else None)
+too-much (Some y) b counted x r = refl
+too-much None true counted x r = cc
+too-much None false counted x r = refl
 
 pub no-room : (j : Journal) (e : Event) (f : WorldFault) → f ≡ fault.Full → IsRefused j e f → None ≡ asked_in j e
 no-room j e f is r = too-much (not_now j.config (world_in j) e) (fits j e) (fits_first j e) (asked_by j.config (world_in j) e) (subst (IsRefused j e) is r)

@@ -11,30 +11,30 @@ use Rattle.mr_model.specs.Sending.{sent}
 use Rattle.mr_world.specs.declared.fault.WorldFault.{WorldFault}
 use Rattle.mr_world.specs.declared.fault.WorldFault.TheVariants as fault
 use Rattle.mr_world.specs.declared.parts.Parts.{Parts}
-use Rattle.mr_world.specs.Limits.{within, fits_at_once, fits_bag}
+use Rattle.mr_world.specs.Limits.{within, fits_counted, fits_bag}
 use Rattle.mr_world.specs.Standing.{Standing, IsTaken, Refuses, RefusesEvent, Foresees, Tries}
 
-pub refuses-now : {o : Option Why} {why : Why} (fits at_once : Bool) → o ≡ Some why → Refuses o fits at_once (fault.NotNow why)
-refuses-now {o} {why} fits at_once e = subst (λ z. Refuses z fits at_once (fault.NotNow why)) (sym e) refl
+pub refuses-now : {o : Option Why} {why : Why} (fits counted : Bool) → o ≡ Some why → Refuses o fits counted (fault.NotNow why)
+refuses-now {o} {why} fits counted e = subst (λ z. Refuses z fits counted (fault.NotNow why)) (sym e) refl
 
-too-much : (at_once : Bool) → Refuses None false at_once fault.Full
+too-much : (counted : Bool) → Refuses None false counted fault.Full
 too-much false = refl
 too-much true = inl refl
 
-pub refuses-full : {o : Option Why} {fits : Bool} (at_once : Bool) → o ≡ None → fits ≡ false → Refuses o fits at_once fault.Full
-refuses-full {o} {fits} at_once e f = subst (λ z. Refuses z fits at_once fault.Full) (sym e) (subst (λ b. Refuses None b at_once fault.Full) (sym f) (too-much at_once))
+pub refuses-full : {o : Option Why} {fits : Bool} (counted : Bool) → o ≡ None → fits ≡ false → Refuses o fits counted fault.Full
+refuses-full {o} {fits} counted e f = subst (λ z. Refuses z fits counted fault.Full) (sym e) (subst (λ b. Refuses None b counted fault.Full) (sym f) (too-much counted))
 
 no-memory : (fits : Bool) → Refuses None fits true fault.NoMemory
 no-memory true = refl
 no-memory false = inr refl
 
--- where no limit is passed that is seen at once
-pub refuses-memory : {o : Option Why} {at_once : Bool} (fits : Bool) → o ≡ None → at_once ≡ true → Refuses o fits at_once fault.NoMemory
-refuses-memory {o} {at_once} fits e l = subst (λ z. Refuses z fits at_once fault.NoMemory) (sym e) (subst (λ b. Refuses None fits b fault.NoMemory) (sym l) (no-memory fits))
+-- where no limit is passed that is found without memory
+pub refuses-memory : {o : Option Why} {counted : Bool} (fits : Bool) → o ≡ None → counted ≡ true → Refuses o fits counted fault.NoMemory
+refuses-memory {o} {counted} fits e l = subst (λ z. Refuses z fits counted fault.NoMemory) (sym e) (subst (λ b. Refuses None fits b fault.NoMemory) (sym l) (no-memory fits))
 
 -- an event that could be taken
 pub lacks-memory : {cfg : Config} {w : World} {e : Event} → IsTaken cfg w e → RefusesEvent cfg w e fault.NoMemory
-lacks-memory {cfg} {w} {e} t = subst (λ z. Refuses z (within cfg w e) (fits_at_once cfg w e) fault.NoMemory) (sym t.now) (subst (λ b. Refuses None b (fits_at_once cfg w e) fault.NoMemory) (sym t.fits) refl)
+lacks-memory {cfg} {w} {e} t = subst (λ z. Refuses z (within cfg w e) (fits_counted cfg w e) fault.NoMemory) (sym t.now) (subst (λ b. Refuses None b (fits_counted cfg w e) fault.NoMemory) (sym t.fits) refl)
 
 -- so many packets find room in the bag, or do not
 pub bag-fits : (p : Parts) (w : World) (e : Event) (n : ℕ) → Standing p w → length (sent p.config w e) ≡ n → length p.bag.packets + n ≤ MAX_PACKETS → fits_bag p.config w e ≡ true
@@ -63,10 +63,10 @@ pub full-by : {p : Parts} {w : World} {e : Event} {n : ℕ} → Standing p w →
 full-by {p} {w} {e} {n} s i room = refuses-full _ i.now (i.limit ∙ bag-full p w e n s i.count room)
 
 -- what the exit of a `?` answers where memory was refused
-pub memory-foreseen : {A : Type 0} (p : Parts) (e : Event) (r : Result A WorldFault) → ((w : World) → Standing p w → not_now p.config w e ≡ None) → ((w : World) → Standing p w → fits_at_once p.config w e ≡ true)
+pub memory-foreseen : {A : Type 0} (p : Parts) (e : Event) (r : Result A WorldFault) → ((w : World) → Standing p w → not_now p.config w e ≡ None) → ((w : World) → Standing p w → fits_counted p.config w e ≡ true)
     → IsErrAnd r (λ f. f ≡ fault.NoMemory) → Foresees p e r
-memory-foreseen {A} p e r now at_once g = let q = err_from_is_err_and r g in
-    subst (λ (z : Result A WorldFault). Foresees {A = A} p e z) (sym q.1) (subst (λ f. Foresees {A = A} p e (Err f)) (sym q.2) (λ w s. refuses-memory _ (now w s) (at_once w s)))
+memory-foreseen {A} p e r now counted g = let q = err_from_is_err_and r g in
+    subst (λ (z : Result A WorldFault). Foresees {A = A} p e z) (sym q.1) (subst (λ f. Foresees {A = A} p e (Err f)) (sym q.2) (λ w s. refuses-memory _ (now w s) (counted w s)))
 
 pub memory-tried : {A : Type 0} (p q : Parts) (e : Event) (r : Result A WorldFault) → ((w : World) → Standing p w → IsTaken p.config w e) → ((w : World) → Standing p w → Standing q w) → IsErrAnd r (λ f. f ≡ fault.NoMemory) → Tries p e r q
 memory-tried {A} p q e r taken same g = let z = err_from_is_err_and r g in

@@ -1,9 +1,10 @@
 -- A node restarts: when it can, and what the parts stand for then.
-use Rattle.std.proofs.Common.{◌≡◌, ℕ, zero, suc, ◌+◌, ◌-◌, ◌^◌, ◌<◌, refl, sym, ◌∙◌, ap, subst, Bool, true, false, ◌&&◌, not, nat_eq, nat_lt, List, [], ◌∷◌, ◌++◌, append-nil, Option, Some, None, if◌then◌else◌, is_some, length, arith}
+use Rattle.std.proofs.Common.{◌≡◌, ℕ, zero, suc, ◌+◌, ◌-◌, ◌^◌, ◌<◌, refl, sym, ◌∙◌, ap, subst, Bool, true, false, ◌&&◌, not, nat_eq, nat_lt, List, [], ◌∷◌, ◌++◌, append-nil, length-append, ◌≤◌, Option, Some, None, if◌then◌else◌, is_some, length, arith}
 use Rattle.std.proofs.lemmas.Bool.{lt-ltb}
 use Rattle.std.proofs.lemmas.Bool.Decides.{nat_tests}
 use Rattle.std.specs.Option.{option_map}
 use Rattle.mr_packet.specs.Bag.{Held}
+use Rattle.mr_packet.specs.declared.bag.TheConstants.{MAX_PACKETS}
 use Rattle.mr_packet.specs.declared.packet.Packet.{Packet}
 use Rattle.mr_packet.specs.declared.packet.Packet.TheVariants.{NodeUp}
 use Rattle.mr_packet.specs.declared.packet.Envelope.{Envelope}
@@ -30,11 +31,11 @@ use Rattle.mr_cluster.specs.Living.{kept, unless_on}
 use Rattle.mr_cluster.specs.Nodes.{node_of, node_stepped, ChangesNode}
 use Rattle.mr_world.specs.declared.fault.WorldFault.TheVariants as fault
 use Rattle.mr_world.specs.declared.parts.Parts.{Parts}
-use Rattle.mr_world.specs.Limits.{within, fits_at_once, fits_bag}
+use Rattle.mr_world.specs.Limits.{within, fits_counted, fits_bag}
 use Rattle.mr_world.specs.Machines.{master_of}
 use Rattle.mr_world.specs.Standing.{Standing, IsTaken, LivingStand, RefusesEvent}
 use Rattle.mr_world.proofs.Frames.{rests, nodes-moved}
-use Rattle.mr_world.proofs.Refusals.{NeedsRoom, refuses-now, refuses-full}
+use Rattle.mr_world.proofs.Refusals.{NeedsRoom, refuses-now, refuses-full, taken-by}
 use Rattle.mr_world.proofs.Saying.{says}
 
 -- ---- who is told
@@ -73,6 +74,35 @@ one-more f k j p es e next is = subst (λ i. Some e ≡ letter (f i) i p → es 
 
 pub no-more : (f : ℕ → Bool) (k j : ℕ) (p : Packet) (es : List Envelope) → j ≡ suc k → es ≡ to_masters f k p → None ≡ letter (f j) j p → es ≡ to_masters f j p
 no-more f k j p es next is = subst (λ i. None ≡ letter (f i) i p → es ≡ to_masters f i p) (sym next) (same-told f k p es is)
+
+-- ---- how many are told
+
+-- so many as are alive
+abbrev pub Count : (ℕ → Bool) → ℕ → ℕ → Type 0
+Count f k n = (n ≤ k) × ((p : Packet) → n ≡ length (to_masters f k p))
+
+pub none-counted : (f : ℕ → Bool) → Count f 0 0
+unfolding to_masters
+none-counted f = (omega arith, λ p. refl)
+
+one-if : (b : Bool) (k : ℕ) (p : Packet) → length (if b then to_app k p ∷ [] else []) ≡ (if b then 1 else 0)
+one-if true k p = refl
+one-if false k p = refl
+
+more-counted : (f : ℕ → Bool) (k n : ℕ) → Count f k n → Count f (suc k) (n + (if f (suc k) then 1 else 0))
+unfolding to_masters
+more-counted f k n is = (by (f (suc k)), λ p. omega (arith, is.1 p, length-append (to_masters f k p) (if f (suc k) then to_app (suc k) p ∷ [] else []), one-if (f (suc k)) (suc k) p))
+  where
+    by : (b : Bool) → n + (if b then 1 else 0) ≤ suc k
+    by true = omega (arith, is.0)
+    by false = omega (arith, is.0)
+
+pub one-counted : (f : ℕ → Bool) (k j n : ℕ) → j ≡ suc k → Count f k n → f j ≡ true → Count f j (n + 1)
+one-counted f k j n next is e = subst (λ i. f i ≡ true → Count f i (n + 1)) (sym next) (λ b. subst (λ (b : Bool). Count f (suc k) (n + (if b then 1 else 0))) b (more-counted f k n is)) e
+
+pub none-more : (f : ℕ → Bool) (k j n : ℕ) → j ≡ suc k → Count f k n → f j ≡ false → Count f j n
+none-more f k j n next is e = let same : n + 0 ≡ n = omega arith in
+    subst (λ i. f i ≡ false → Count f i n) (sym next) (λ b. subst (λ m. Count f (suc k) m) same (subst (λ (b : Bool). Count f (suc k) (n + (if b then 1 else 0))) b (more-counted f k n is))) e
 
 -- ---- what is sent
 
@@ -129,17 +159,25 @@ pub last : (p : Parts) (n : ℕ) (m : node.Node) → node_of p.nodes n ≡ Some 
 last p n m at is w s = refuses-full _ (present p n m at w s)
     (limit-is p.config w n ∙ ap (λ b. b && fits_bag p.config w (NodeRestart n)) (not-less _ _ (incarnation-is p w n m s at) is))
 
--- it has a next incarnation
-pub rises : (p : Parts) (n : ℕ) (m : node.Node) → node_of p.nodes n ≡ Some m → m.seen.incarnation < 2 ^ 32 - 1 → (w : World) → Standing p w → fits_at_once p.config w (NodeRestart n) ≡ true
-rises p n m at l w s = less _ _ (incarnation-is p w n m s at) l
+-- so many masters are told
+abbrev pub TellsMany : Parts → ℕ → Type 0
+TellsMany p count = (packet : Packet) → count ≡ length (to_masters (λ k. is_some (master_of p.masters k)) p.names.fence packet)
 
-pub needs : (p : Parts) (n : ℕ) (m : node.Node) (packets : List Envelope) → node_of p.nodes n ≡ Some m → m.seen.incarnation < 2 ^ 32 - 1 → Told p n m packets
-    → (w : World) → Standing p w → NeedsRoom p w (NodeRestart n) (length packets)
-needs p n m packets at l is w s = record {
+pub many-told : (p : Parts) (newest count : ℕ) → newest ≡ p.names.fence → ((packet : Packet) → count ≡ length (to_masters (λ k. is_some (master_of p.masters k)) newest packet)) → TellsMany p count
+many-told p newest count fence is = subst (λ k. (packet : Packet) → count ≡ length (to_masters (λ j. is_some (master_of p.masters j)) k packet)) fence is
+
+pub needs : (p : Parts) (n : ℕ) (m : node.Node) (count : ℕ) → node_of p.nodes n ≡ Some m → m.seen.incarnation < 2 ^ 32 - 1 → TellsMany p count
+    → (w : World) → Standing p w → NeedsRoom p w (NodeRestart n) count
+needs p n m count at l is w s = record {
   now = present p n m at w s;
   limit = limit-is p.config w n ∙ ap (λ b. b && fits_bag p.config w (NodeRestart n)) (less _ _ (incarnation-is p w n m s at) l);
-  count = ap length (sym (told p n m packets at is w s));
+  count = ap length (sym (told p n m _ at refl w s)) ∙ sym (is (NodeUp n (m.seen.incarnation + 1)));
 }
+
+-- that there is room is found out without memory
+pub counted : (p : Parts) (n : ℕ) (m : node.Node) (count : ℕ) → node_of p.nodes n ≡ Some m → m.seen.incarnation < 2 ^ 32 - 1 → TellsMany p count → length p.bag.packets + count ≤ MAX_PACKETS
+    → (w : World) → Standing p w → fits_counted p.config w (NodeRestart n) ≡ true
+counted p n m count at l is room w s = sym (limit-is p.config w n) ∙ (taken-by s (needs p n m count at l is w s) room).fits
 
 -- ---- what stands then
 

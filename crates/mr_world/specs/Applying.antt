@@ -11,7 +11,7 @@ use Rattle.mr_world.specs.declared.limits.TheConstants.{MAX_EVENTS}
 use Rattle.mr_world.specs.declared.parts.Parts.{Parts}
 use Rattle.mr_world.specs.declared.took.Took.{Took}
 use Rattle.mr_world.specs.Histories.{change_of, changed}
-use Rattle.mr_world.specs.Limits.{within, fits_at_once}
+use Rattle.mr_world.specs.Limits.{within, fits_counted}
 use Rattle.mr_world.specs.Standing.{Standing, IsTaken, Refuses}
 use Rattle.mr_world.specs.Journal.{Journal, world_in, run_of, taken, fits, fits_first}
 
@@ -20,7 +20,7 @@ pub record CanHappen (j : Journal) (e : Event) : Type 0 where
   pub now : not_now j.config (world_in j) e ≡ None
   pub fits : fits j e ≡ true
 
--- the first reason why an event is not permitted, or else that it would pass a limit, or else an allocation failure, which may also come while it is found out whether it would pass one that is not seen at once
+-- the first reason why an event is not permitted, or else that it would pass a limit, or else an allocation failure, which may also come while it is found out whether it would pass one that takes memory to find
 abbrev pub IsRefused : Journal → Event → WorldFault → Type 0
 IsRefused j e f = Refuses (not_now j.config (world_in j) e) (fits j e) (fits_first j e) f
 
@@ -85,7 +85,7 @@ Runs old es (Err f) new = StopsAt old es f new
 -- ---- what is said of the parts, where a journal of so many events goes with them
 
 abbrev pub RefusesAt : Parts → ℕ → Event → WorldFault → Type 0
-RefusesAt p n e f = (w : World) → Standing p w → Refuses (not_now p.config w e) (nat_lt n MAX_EVENTS && within p.config w e) (nat_lt n MAX_EVENTS && fits_at_once p.config w e) f
+RefusesAt p n e f = (w : World) → Standing p w → Refuses (not_now p.config w e) (nat_lt n MAX_EVENTS && within p.config w e) (nat_lt n MAX_EVENTS && fits_counted p.config w e) f
 
 abbrev pub ForetellsAt : {A : Type 0} → Parts → ℕ → Event → Result A WorldFault → Type 0
 ForetellsAt p n e (Ok a) = (nat_lt n MAX_EVENTS ≡ true) × ((w : World) → Standing p w → IsTaken p.config w e)

@@ -10,7 +10,7 @@ use Rattle.mr_model.specs.Sequential.{is_taken}
 use Rattle.mr_world.specs.declared.limits.TheConstants.{MAX_EVENTS}
 use Rattle.mr_world.specs.declared.parts.Parts.{Parts}
 use Rattle.mr_world.specs.Histories.{history_of}
-use Rattle.mr_world.specs.Limits.{within, fits_at_once}
+use Rattle.mr_world.specs.Limits.{within, fits_counted}
 use Rattle.mr_world.specs.Standing.{Standing}
 
 -- the events are those that were taken, in order
@@ -50,6 +50,6 @@ pub record Keeps (p : Parts) (es : List Event) : Type 0 where
 abbrev pub fits : Journal → Event → Bool
 fits j e = nat_lt (length j.events) MAX_EVENTS && within j.config (world_in j) e
 
--- of these limits those that are seen at once
+-- of these limits those that are found without memory
 abbrev pub fits_first : Journal → Event → Bool
-fits_first j e = nat_lt (length j.events) MAX_EVENTS && fits_at_once j.config (world_in j) e
+fits_first j e = nat_lt (length j.events) MAX_EVENTS && fits_counted j.config (world_in j) e

@@ -1,5 +1,5 @@
 -- The limits of a world: whether an event can be taken without passing one (our own profile).
-use Rattle.std.specs.Prelude.{ℕ, zero, suc, ◌+◌, ◌-◌, ◌^◌, Bool, true, false, ◌&&◌, ◌||◌, not, nat_lt, nat_le, List, [], ◌∷◌, Option, Some, None, if◌then◌else◌, length, sum_by}
+use Rattle.std.specs.Prelude.{ℕ, zero, suc, ◌+◌, ◌-◌, ◌^◌, Bool, true, false, ◌&&◌, ◌||◌, not, nat_lt, nat_le, List, [], ◌∷◌, Option, Some, None, if◌then◌else◌, length, sum_by, slice_get}
 use Rattle.std.specs.FinSet as set
 use Rattle.mr_ids.specs.declared.id.TheConstants.{MAX_APP_ATTEMPTS}
 use Rattle.mr_names.specs.Attempts.{attempt_cmp}
@@ -9,13 +9,16 @@ use Rattle.mr_history.specs.Line.{head, width, as_written}
 use Rattle.mr_history.specs.declared.segment.TheConstants.{MAX_SEGMENT_LEN}
 use Rattle.mr_mapside.specs.declared.TheConstants.{MAX_OUTPUT_LEN}
 use Rattle.mr_packet.specs.declared.bag.TheConstants.{MAX_PACKETS}
+use Rattle.mr_packet.specs.declared.packet.Address.{Address}
+use Rattle.mr_packet.specs.declared.packet.Address.TheVariants.{Master}
+use Rattle.mr_packet.specs.declared.packet.Envelope.{Envelope}
 use Rattle.mr_model.specs.Ids.{is_reduce}
 use Rattle.mr_model.specs.Content.{NameFault, Full, refusal}
 use Rattle.mr_model.specs.Records.{Record, Segment}
 use Rattle.mr_model.specs.Packets.{Config, Store, Names, Append_record, Flush, Read_history}
 use Rattle.mr_model.specs.Pasts.{Place, incarnation_of}
 use Rattle.mr_model.specs.Duties.{Master_step, Came, Launches, Expires, Asks}
-use Rattle.mr_model.specs.World.{World, Event, Start, LaunchOn, Compute, Die, NodeRestart, Made, call_of, is_applied}
+use Rattle.mr_model.specs.World.{World, Event, Start, Duty, LaunchOn, Deliver, Compute, NodeRestart, Expire, Made, call_of, is_applied}
 use Rattle.mr_model.specs.Sending.{sent}
 use Rattle.mr_model.specs.Claims.{Limits}
 use Rattle.mr_world.specs.declared.limits.TheConstants.{MAX_CONTAINERS}
@@ -81,12 +84,26 @@ fits_own w _ = true
 abbrev pub fits_bag : Config → World → Event → Bool
 fits_bag cfg w e = nat_le (length w.bag + length (sent cfg w e)) MAX_PACKETS
 
--- The limits that are seen before anything is computed: an event's own, and room for the one packet of a launch or a death. Of all other packets, and of store calls, it takes memory to
--- find out what they are.
-abbrev pub fits_at_once : Config → World → Event → Bool
-fits_at_once cfg w (LaunchOn k t n) = fits_own w (LaunchOn k t n) && fits_bag cfg w (LaunchOn k t n)
-fits_at_once cfg w (Die c) = fits_bag cfg w (Die c)
-fits_at_once cfg w e = fits_own w e
+-- ---- which limits are found without memory
+
+abbrev pub is_master : Address → Bool
+is_master (Master k) = true
+is_master _ = false
+
+abbrev pub goes_to_master : Option Envelope → Bool
+goes_to_master None = false
+goes_to_master (Some e) = is_master e.to
+
+-- a master takes a step: it takes memory to find out what it sends then
+abbrev pub is_of_master : World → Event → Bool
+is_of_master w (Deliver i) = goes_to_master (slice_get w.bag i)
+is_of_master w (Duty k f) = true
+is_of_master w (Expire k n) = true
+is_of_master w _ = false
+
+-- The limits that are found without memory: an event's own, and room in the bag, but for what a master sends. (Whether a store call finds its store full takes the call's paths to find out.)
+abbrev pub fits_counted : Config → World → Event → Bool
+fits_counted cfg w e = fits_own w e && (is_of_master w e || fits_bag cfg w e)
 
 -- whether an event passes no limit
 unfoldable pub within : Config → Limits

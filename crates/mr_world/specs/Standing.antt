@@ -23,7 +23,7 @@ use Rattle.mr_world.specs.declared.fault.WorldFault.{WorldFault}
 use Rattle.mr_world.specs.declared.fault.WorldFault.TheVariants as fault
 use Rattle.mr_world.specs.declared.masters.Masters.{Masters}
 use Rattle.mr_world.specs.declared.parts.Parts.{Parts}
-use Rattle.mr_world.specs.Limits.{within, fits_at_once, launch_count}
+use Rattle.mr_world.specs.Limits.{within, fits_counted, launch_count}
 use Rattle.mr_world.specs.Machines.{master_of, master_count}
 
 -- w is the world after some events
@@ -74,16 +74,16 @@ pub record IsTaken (cfg : Config) (w : World) (e : Event) : Type 0 where
   pub fits : within cfg w e ≡ true
 
 -- The fault that is answered: the first reason why an event is not permitted, or else that it would pass a limit, or else an allocation failure. Where it passes none of
--- the limits that are seen at once, an allocation failure may also come while it is found out whether it passes another.
+-- the limits that are found without memory, an allocation failure may also come while it is found out whether it passes another.
 abbrev pub Refuses : Option Why → Bool → Bool → WorldFault → Type 0
-Refuses (Some why) fits at_once f = f ≡ fault.NotNow why
-Refuses None true at_once f = f ≡ fault.NoMemory
+Refuses (Some why) fits counted f = f ≡ fault.NotNow why
+Refuses None true counted f = f ≡ fault.NoMemory
 Refuses None false false f = f ≡ fault.Full
 Refuses None false true f = (f ≡ fault.Full) ⊎ (f ≡ fault.NoMemory)
 
 -- an event is refused so
 abbrev pub RefusesEvent : Config → World → Event → WorldFault → Type 0
-RefusesEvent cfg w e f = Refuses (not_now cfg w e) (within cfg w e) (fits_at_once cfg w e) f
+RefusesEvent cfg w e f = Refuses (not_now cfg w e) (within cfg w e) (fits_counted cfg w e) f
 
 -- a look at an event: it would be taken, or is refused so
 abbrev pub Foresees : {A : Type 0} → Parts → Event → Result A WorldFault → Type 0

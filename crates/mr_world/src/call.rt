@@ -38,7 +38,11 @@ impl Parts {
             Some(machine) => machine,
             None => return Err(WorldFault::NotNow(Why::NoContainer)),
         };
-        check_step(&machine.wish(), weather)?;
+        let wish = machine.wish();
+        check_step(&wish, weather)?;
+        if !is_call(&wish) {
+            return Ok(None);
+        }
         let call = match machine.call(&self.layout)? {
             Some(op) => StoreCall {
                 caller: machine.caller(),

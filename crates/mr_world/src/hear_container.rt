@@ -31,7 +31,7 @@ impl Parts {
         if self.bag.len() < MAX_PACKETS {
             return Ok(());
         }
-        let ends = would_end(&self.bag, i, &self.living, c)?;
+        let ends = would_end(&self.bag, i, &self.living, c);
         if ends {
             return Err(WorldFault::Full);
         }
@@ -57,9 +57,9 @@ impl Parts {
 }
 
 // Whether the packet at this place would end the container.
-fn would_end(bag: &Bag, i: usize, living: &Living, c: &ContainerId) -> Result<bool, AllocError>
+fn would_end(bag: &Bag, i: usize, living: &Living, c: &ContainerId) -> bool
     requires { IsSome (slice_get bag.now.packets i) }
-    ensures { IfOk result (λ ends. ends ≡ ends_by living.now c.now (slice_get bag.now.packets i)) }
+    ensures { result ≡ ends_by living.now c.now (slice_get bag.now.packets i) }
 {
     match bag.get(i) {
         Some(envelope) => living.would_end(c, &envelope.body),

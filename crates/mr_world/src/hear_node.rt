@@ -32,7 +32,7 @@ impl Parts {
         if self.bag.len() < MAX_PACKETS {
             return Ok(());
         }
-        let answers = would_answer(&self.bag, i, &self.nodes, n)?;
+        let answers = would_answer(&self.bag, i, &self.nodes, n);
         if answers {
             return Err(WorldFault::Full);
         }
@@ -68,9 +68,9 @@ impl Parts {
 }
 
 // Whether the node would answer the packet at this place.
-fn would_answer(bag: &Bag, i: usize, nodes: &Nodes, n: u32) -> Result<bool, AllocError>
+fn would_answer(bag: &Bag, i: usize, nodes: &Nodes, n: u32) -> bool
     requires { IsSome (slice_get bag.now.packets i) }
-    ensures { IfOk result (λ answers. answers ≡ answers_at nodes.now n (slice_get bag.now.packets i)) }
+    ensures { result ≡ answers_at nodes.now n (slice_get bag.now.packets i) }
 {
     match bag.get(i) {
         Some(envelope) => nodes.would_answer(n, &envelope.body),

@@ -96,9 +96,9 @@
 //! A world's invariant is that its parts (`Parts`) *stand for* the world of its journal (`specs/Standing`): one clause a part, each machine for its past there. Each event's
 //! call keeps it (`Tries`), and everything that can fail comes before the first change that can't be taken back.
 //!
-//! An allocation failure comes in place of neither a reason nor `Full` where a limit is passed that is seen at once (`fits_at_once` of `specs/Limits`: a journal's events, a start, a launch, a
-//! death, the bytes of a work, an incarnation). Whether any other limit is passed takes memory to find out, and where that was refused an allocation failure may be answered. A master is told what a
-//! store answers, a refusal too; only where a store is full the whole event is refused.
+//! An allocation failure never comes in place of a reason, nor of `Full`. One exception: it takes memory to find out which packets a step of a master would send (a packet that it hears, a duty,
+//! an expiry), and which paths a container's store call names; where that was refused, an allocation failure may be answered though a limit of the bag or of a store is passed. All other
+//! limits are found without memory (`fits_counted` of `specs/Limits`). A master is told what a store answers, a refusal too; only where a store is full the whole event is refused.
 #![tactic(auto)]
 
 mod alive;

@@ -1,5 +1,6 @@
 //! The event by which a node restarts: its containers end, its shelf is empty, and the living masters are told of its next incarnation.
 ghost use Rattle.std.specs.Prelude.{◌≡◌, ◌<◌, ◌≤◌, ◌+◌, ◌-◌, ◌^◌, length, is_some, IfOk, IfSome, if◌then◌else◌, Some, None};
+ghost use Rattle.mr_packet.specs.declared.packet.Packet.{Packet};
 ghost use Rattle.mr_packet.specs.declared.packet.Packet.TheVariants.{NodeUp};
 ghost use Rattle.mr_model.specs.Sending.{sent, to_app, to_masters};
 ghost use Rattle.mr_model.specs.World.{World, NodeRestart};
@@ -40,11 +41,12 @@ impl Parts {
         if incarnation == u32::MAX {
             return Err(WorldFault::Full);
         }
+        let newest = self.names.fence();
+        self.check_room(self.masters.count_alive(newest))?;
         let alloc = self.layout.dest.allocator();
         let packets = self
             .masters
-            .told_of_node(alloc, self.names.fence(), n, incarnation + 1)?;
-        self.check_room(packets.len())?;
+            .told_of_node(alloc, newest, n, incarnation + 1)?;
         Ok(packets)
     }
 
@@ -64,6 +66,20 @@ impl Parts {
 }
 
 impl Masters {
+    /// How many masters, up to this generation, are alive. It takes no memory.
+    pub fn count_alive(&self, newest: u32) -> usize
+        requires few { newest ≤ 1000 }
+        ensures { (p : Packet) → result ≡ length (to_masters (λ k. is_some (master_of self.now k)) newest p) }
+    {
+        let mut count = 0;
+        for older in 0..newest {
+            if self.contains(older + 1) {
+                count += 1;
+            }
+        }
+        count
+    }
+
     /// The packets by which the living masters, up to this generation, are told of a node's incarnation.
     pub fn told_of_node(
         &self,

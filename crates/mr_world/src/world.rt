@@ -77,8 +77,8 @@ impl World {
     /// The event happens: it is the last of the journal from then on.
     ///
     /// Refusals in order: `NotNow` with the first reason why the event is not permitted, `Full` where it would pass a limit or the journal has
-    /// `MAX_EVENTS` events, `NoMemory`. One exception: where it takes memory to find out whether a limit would be passed, `NoMemory` may come
-    /// in place of `Full`. Nothing has changed then.
+    /// `MAX_EVENTS` events, `NoMemory`. One exception: of a step of a master (a packet that it hears, a duty, an expiry) and of a container's store
+    /// call, `NoMemory` may come in place of `Full`. Nothing has changed then.
     pub fn apply(&mut self, event: Event) -> Result<Took, WorldFault>
         ensures applies { Applies self.old event result self.new }
         ensures headline { HeadlineHolds self.old self.new }

@@ -1,8 +1,8 @@
-use Rattle.std.proofs.Common.{refl, sym, ◌∙◌, ap, slice_get, arith}
+use Rattle.std.proofs.Common.{sym, ◌∙◌, ap, slice_get, arith}
 use Rattle.mr_model.specs.World.{Deliver}
 use Rattle.mr_world.specs.inner.Replying.{one_if, ends_by}
 use Rattle.mr_world.proofs.Hearing_containers.{refused, needs, one_if-most}
-use Rattle.mr_world.proofs.Refusals.{taken-by, full-by, memory-foreseen}
+use Rattle.mr_world.proofs.Refusals.{taken-by, full-by}
 use Rattle.mr_world.proofs.parts.Parts.check_hear_container.Goals as goal
 
 pub returns-then-not-contains-clause-foresees : goal.returns-then-not-contains-clause-foresees
@@ -11,13 +11,10 @@ returns-then-not-contains-clause-foresees c = refused c.args.self.now c.args.i c
 pub returns-then-len-lt-MAX_PACKETS-clause-foresees : goal.returns-then-len-lt-MAX_PACKETS-clause-foresees
 returns-then-len-lt-MAX_PACKETS-clause-foresees c = λ w s. taken-by s (needs c.args.self.now c.args.i c.args.c.now c.requires (sym c.contains.ensures ∙ c.if-not-contains.false) w s) (omega (arith, one_if-most (ends_by c.args.self.now.living c.args.c.now (slice_get c.args.self.now.bag.packets c.args.i))))
 
-pub returns-in_err-ends-clause-foresees : goal.returns-in_err-ends-clause-foresees
-returns-in_err-ends-clause-foresees c = memory-foreseen c.args.self.now (Deliver c.args.i) c.from_residual.result (λ w s. (needs c.args.self.now c.args.i c.args.c.now c.requires (sym c.contains.ensures ∙ c.if-not-contains.false) w s).now) (λ w s. refl) c.from_residual.ensures.1
-
 pub returns-then-ends-clause-foresees : goal.returns-then-ends-clause-foresees
 returns-then-ends-clause-foresees c = λ w s. full-by s (needs c.args.self.now c.args.i c.args.c.now c.requires (sym c.contains.ensures ∙ c.if-not-contains.false) w s)
-    (let e = ap one_if (sym c.in_ok-ends.ensures ∙ c.if-ends.true) in omega arith)
+    (let e = ap one_if (sym c.would_end-ends.ensures ∙ c.if-ends.true) in omega arith)
 
 pub returns-clause-foresees : goal.returns-clause-foresees
 returns-clause-foresees c = λ w s. taken-by s (needs c.args.self.now c.args.i c.args.c.now c.requires (sym c.contains.ensures ∙ c.if-not-contains.false) w s)
-    (let e = ap one_if (sym c.in_ok-ends.ensures ∙ c.if-ends.false) in omega arith)
+    (let e = ap one_if (sym c.would_end-ends.ensures ∙ c.if-ends.false) in omega arith)

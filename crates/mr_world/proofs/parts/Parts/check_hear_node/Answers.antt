@@ -1,21 +1,18 @@
-use Rattle.std.proofs.Common.{refl, sym, ◌∙◌, ap, slice_get, arith}
+use Rattle.std.proofs.Common.{sym, ◌∙◌, ap, slice_get, arith}
 use Rattle.mr_model.specs.World.{Deliver}
 use Rattle.mr_world.specs.inner.Replying.{answers_at, one_if}
 use Rattle.mr_world.proofs.Hearing_containers.{one_if-most}
 use Rattle.mr_world.proofs.Hearing_nodes.{needs}
-use Rattle.mr_world.proofs.Refusals.{taken-by, full-by, memory-foreseen}
+use Rattle.mr_world.proofs.Refusals.{taken-by, full-by}
 use Rattle.mr_world.proofs.parts.Parts.check_hear_node.Goals as goal
 
 pub returns-then-len-lt-MAX_PACKETS-clause-foresees : goal.returns-then-len-lt-MAX_PACKETS-clause-foresees
 returns-then-len-lt-MAX_PACKETS-clause-foresees c = λ w s. taken-by s (needs c.args.self.now c.args.i c.args.n c.requires w s) (omega (arith, one_if-most (answers_at c.args.self.now.nodes c.args.n (slice_get c.args.self.now.bag.packets c.args.i))))
 
-pub returns-in_err-answers-clause-foresees : goal.returns-in_err-answers-clause-foresees
-returns-in_err-answers-clause-foresees c = memory-foreseen c.args.self.now (Deliver c.args.i) c.from_residual.result (λ w s. (needs c.args.self.now c.args.i c.args.n c.requires w s).now) (λ w s. refl) c.from_residual.ensures.1
-
 pub returns-then-answers-clause-foresees : goal.returns-then-answers-clause-foresees
 returns-then-answers-clause-foresees c = λ w s. full-by s (needs c.args.self.now c.args.i c.args.n c.requires w s)
-    (let e = ap one_if (sym c.in_ok-answers.ensures ∙ c.if-answers.true) in omega arith)
+    (let e = ap one_if (sym c.would_answer-answers.ensures ∙ c.if-answers.true) in omega arith)
 
 pub returns-clause-foresees : goal.returns-clause-foresees
 returns-clause-foresees c = λ w s. taken-by s (needs c.args.self.now c.args.i c.args.n c.requires w s)
-    (let e = ap one_if (sym c.in_ok-answers.ensures ∙ c.if-answers.false) in omega arith)
+    (let e = ap one_if (sym c.would_answer-answers.ensures ∙ c.if-answers.false) in omega arith)
