@@ -12,7 +12,7 @@ use Rattle.mr_commands.specs.declared.job.submission.JobKind.{JobKind}
 use Rattle.mr_play.specs.EventNames.{stops_at}
 use Rattle.mr_play.specs.Text.{job_as}
 use Rattle.mr_play.specs.Played.{calmed_by, calms, cursor_at, is_through, most_calm, next_of}
-use Rattle.mr_play.specs.inner.Player.{calm_of, cluster_in, made_then, names_of, next_in, state_in, CalmsOnce, FullWhere, MakesNext, Reaches, SameJob}
+use Rattle.mr_play.specs.Players.{calm_of, cluster_in, made_then, names_of, next_in, state_in, CalmsOnce, FullWhere, MakesNext, Reaches, SameJob}
 
 names_are : (p : Player) (k : ℕ) (c : Coming) → (next_in p k c).names ≡ names_of c
 names_are p k coming.Deliver = refl
@@ -65,43 +65,43 @@ module _ (old : Player) (k : ℕ) (stop : Option EventName) (on : is_through old
       (subst (λ (m : Player). MakesNext m (next_in m k c) r new) e h) where
         by : (r : Result Bool SimFault) → ((most : ℕ) → calm_of old k stop (suc most) ≡ made_then mid (next_in mid k c) (calms (job_as old.job) old.world.config (within old.world.config) k stop most)) →
             MakesNext mid (next_in mid k c) r new → CalmsOnce old k stop r new
-        by (Ok true) go h = (record { job = h.0.job; config = h.0.config }, λ most. go most ∙ h.1 (calms (job_as old.job) old.world.config (within old.world.config) k stop most) ∙ same_calm new most h.0)
-        by (Ok false) go h = (record { job = h.0.job; config = h.0.config }, λ most. go most ∙ h.1 (calms (job_as old.job) old.world.config (within old.world.config) k stop most))
+        by (Ok true) go h = (record { job = h.0.job; config = h.0.config; noted = h.0.noted }, λ most. go most ∙ h.1 (calms (job_as old.job) old.world.config (within old.world.config) k stop most) ∙ same_calm new most h.0)
+        by (Ok false) go h = (record { job = h.0.job; config = h.0.config; noted = h.0.noted }, λ most. go most ∙ h.1 (calms (job_as old.job) old.world.config (within old.world.config) k stop most))
         by (Err f) go h = full_then f _ _ (λ all most. go most ∙ all (calms (job_as old.job) old.world.config (within old.world.config) k stop most)) h
 
 -- ---- a whole calm
 
-most_is : most_calm ≡ 10000
+pub most_is : most_calm ≡ 10000
 unfolding most_calm
 most_is = refl
 
 -- of a calm that began at one player so many events were made, and another player is where they led
-pub record Left (begin now : Player) (k : ℕ) (stop : Option EventName) (made : ℕ) : Type 0 where
+pub record Left (begin now : Player) (k : ℕ) (stop : Option EventName) (total made : ℕ) : Type 0 where
   pub same : SameJob begin now
-  pub few : made ≤ 10000
-  pub left : (most : ℕ) → made + most ≡ 10000 → calm_of begin k stop most_calm ≡ calm_of now k stop most
+  pub few : made ≤ total
+  pub left : (most : ℕ) → made + most ≡ total → calm_of begin k stop total ≡ calm_of now k stop most
 
-pub none_made : (p : Player) (k : ℕ) (stop : Option EventName) → Left p p k stop 0
-none_made p k stop = record { same = record { job = refl; config = refl }; few = omega arith; left = λ most e. ap (calm_of p k stop) (most_is ∙ (let z : 10000 ≡ most = omega (arith, e) in z)) }
+pub none_made : (p : Player) (k : ℕ) (stop : Option EventName) (total : ℕ) → Left p p k stop total 0
+none_made p k stop total = record { same = record { job = refl; config = refl; noted = refl }; few = omega arith; left = λ most e. ap (calm_of p k stop) (let z : total ≡ most = omega (arith, e) in z) }
 
-module _ (begin now new : Player) (k : ℕ) (stop : Option EventName) (made : ℕ) (l : Left begin now k stop made) where
-  all_is : made < 10000 → (most : ℕ) → suc (made + most) ≡ 10000 → calm_of begin k stop most_calm ≡ calm_of now k stop (suc most)
+module _ (begin now new : Player) (k : ℕ) (stop : Option EventName) (total made : ℕ) (l : Left begin now k stop total made) where
+  all_is : made < total → (most : ℕ) → suc (made + most) ≡ total → calm_of begin k stop total ≡ calm_of now k stop (suc most)
   all_is few most e = l.left (suc most) (omega (arith, e))
 
-  rest : made < 10000 → (most : ℕ) × (suc (made + most) ≡ 10000)
-  rest few = (10000 - suc made, omega (arith, few))
+  rest : made < total → (most : ℕ) × (suc (made + most) ≡ total)
+  rest few = (total - suc made, omega (arith, few))
 
   both : SameJob now new → SameJob begin new
-  both same = record { job = same.job ∙ l.same.job; config = same.config ∙ l.same.config }
+  both same = record { job = same.job ∙ l.same.job; config = same.config ∙ l.same.config; noted = same.noted ∙ l.same.noted }
 
-  pub one_made : made < 10000 → CalmsOnce now k stop (Ok true) new → Left begin new k stop (made + 1)
+  pub one_made : made < total → CalmsOnce now k stop (Ok true) new → Left begin new k stop total (made + 1)
   one_made few h = record { same = both h.0; few = omega (arith, few); left = λ most e. all_is few most (omega (arith, e)) ∙ h.1 most }
 
-  pub ended : made < 10000 → CalmsOnce now k stop (Ok false) new → Reaches begin (calm_of begin k stop most_calm) new
+  pub ended : made < total → CalmsOnce now k stop (Ok false) new → Reaches begin (calm_of begin k stop total) new
   ended few h = let r = rest few in record { same = both h.0; state = all_is few r.0 r.1 ∙ h.1 r.0 }
 
-  pub failed : made < 10000 → (f : SimFault) → CalmsOnce now k stop (Err f) new → FullWhere f (calm_of begin k stop most_calm ≡ None)
+  pub failed : made < total → (f : SimFault) → CalmsOnce now k stop (Err f) new → FullWhere f (calm_of begin k stop total ≡ None)
   failed few f h = let r = rest few in full_then f _ _ (λ all. all_is few r.0 r.1 ∙ all r.0) h
 
-  pub all_made : 10000 ≤ made → Reaches begin (calm_of begin k stop most_calm) now
-  all_made many = let z : made + 0 ≡ 10000 = omega (arith, many, l.few) in record { same = l.same; state = l.left 0 z }
+  pub all_made : total ≤ made → Reaches begin (calm_of begin k stop total) now
+  all_made many = let z : made + 0 ≡ total = omega (arith, many, l.few) in record { same = l.same; state = l.left 0 z }

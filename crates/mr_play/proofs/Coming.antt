@@ -23,7 +23,7 @@ use Rattle.mr_play.specs.declared.calm.Coming.{Coming}
 use Rattle.mr_play.specs.declared.calm.Coming.TheVariants as coming
 use Rattle.mr_play.specs.EventNames.{duty_event, wish_event}
 use Rattle.mr_play.specs.Played.{Next, computing, cursor_at, has_ended, is_dropped, is_through, next_duty, next_launch, next_of, next_step, passed, stepping}
-use Rattle.mr_play.specs.inner.Player.{next_as}
+use Rattle.mr_play.specs.Players.{next_as}
 use Rattle.mr_play.proofs.Calming.{all_pass, next_has}
 
 some_is : {A : Type 0} (x y : A) → Some x ≡ Some y → x ≡ y

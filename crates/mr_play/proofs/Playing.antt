@@ -26,6 +26,7 @@ use Rattle.mr_commands.specs.declared.job.submission.Submission.{Submission}
 use Rattle.mr_play.specs.EventNames.{duty_event, wish_event, stops_at}
 use Rattle.mr_play.specs.Expectations.{is_met, unmet_line, value_in}
 use Rattle.mr_play.specs.Played.{Played, Next, world, computing, taken, unless_refused, made, calmed, calmed_by, calms, is_through, cursor_at, next_of, stepped_by, most_calm, losing, expecting, obeyed, played}
+use Rattle.mr_play.specs.Sources.{noted, stretch_of, stretches}
 use Rattle.mr_script.specs.Lines.{after}
 use Rattle.mr_script.specs.Script.{AreCommands, IsFirstBad}
 use Rattle.mr_commands.specs.declared.fault.JobTextFault.{JobTextFault}
@@ -213,6 +214,16 @@ module _ (job : Job) (cfg : Config) (within : Limits) where
     by : (o : Option Played) → ((u : Played) → played job cfg within cs u ≡ Some s → played job cfg within (cs ++ ds) u ≡ played job cfg within ds s) → option_and_then (played job cfg within cs) o ≡ Some s → option_and_then (played job cfg within (cs ++ ds)) o ≡ played job cfg within ds s
     by None go h = absurd (none_is s h)
     by (Some u) go h = go u h
+
+  -- and what they make is noted behind
+  pub noted_then : (cs ds : List (ℕ × Command)) (begin s : Played) → played job cfg within cs begin ≡ Some s → stretches job cfg within (cs ++ ds) begin ≡ stretches job cfg within cs begin ++ stretches job cfg within ds s
+  noted_then [] ds begin s h = ap (stretches job cfg within ds) (some_is begin s h)
+  noted_then (c ∷ cs) ds begin s h = by (obeyed job cfg within c.0 c.1 begin) (λ u h. noted_then cs ds u s h) h where
+    by : (o : Option Played) → ((u : Played) → played job cfg within cs u ≡ Some s → stretches job cfg within (cs ++ ds) u ≡ stretches job cfg within cs u ++ stretches job cfg within ds s) →
+        option_and_then (played job cfg within cs) o ≡ Some s →
+        noted job cfg within (stretches job cfg within (cs ++ ds)) c o ≡ noted job cfg within (stretches job cfg within cs) c o ++ stretches job cfg within ds s
+    by None go h = absurd (none_is s h)
+    by (Some u) go h = ap (λ xs. stretch_of c.0 c.1 (length u.events) ∷ xs) (go u h)
 
   goes_on : (s t : Played) → Longer s t → GoesOn job cfg within s t
   unfolding Longer

@@ -7,9 +7,10 @@ use Rattle.mr_commands.specs.declared.fault.SimFault.{SimFault}
 use Rattle.mr_commands.specs.declared.fault.SimFault.TheVariants as fault
 use Rattle.mr_play.specs.declared.player.Player.{Player}
 use Rattle.mr_commands.specs.declared.job.submission.Submission.{Submission}
-use Rattle.mr_play.specs.Text.{config_of, job_as, played_of}
+use Rattle.mr_play.specs.Sources.{stretches}
+use Rattle.mr_play.specs.Text.{config_of, job_as, played_of, stretches_of}
 use Rattle.mr_play.specs.Played.{begun, played}
-use Rattle.mr_play.specs.inner.Player.{FullWhere, state_in}
+use Rattle.mr_play.specs.Players.{FullWhere, state_in}
 
 -- what a player that begins makes of commands is what is made of them in the cluster of its job
 pub from-begin : (job : Submission) (cs : List (ℕ × Command)) (p : Player) → p.job ≡ job.job → p.world.config ≡ config_of job → state_in p ≡ begun
@@ -19,6 +20,15 @@ from-begin job cs p kind config state =
     ap (λ k. played (job_as k) p.world.config (within p.world.config) cs (state_in p)) kind
     ∙ ap (λ c. played (job_as job.job) c (within c) cs (state_in p)) config
     ∙ ap (played (job_as job.job) (config_of job) (within (config_of job)) cs) state
+
+-- and what it notes of them is what is said of them
+pub noted-from-begin : (job : Submission) (cs : List (ℕ × Command)) (p : Player) → p.job ≡ job.job → p.world.config ≡ config_of job → state_in p ≡ begun
+    → stretches (job_as p.job) p.world.config (within p.world.config) cs (state_in p) ≡ stretches_of within job cs
+unfolding stretches_of
+noted-from-begin job cs p kind config state =
+    ap (λ k. stretches (job_as k) p.world.config (within p.world.config) cs (state_in p)) kind
+    ∙ ap (λ c. stretches (job_as job.job) c (within c) cs (state_in p)) config
+    ∙ ap (stretches (job_as job.job) (config_of job) (within (config_of job)) cs) state
 
 full-weaker : {P Q : Type 0} (f : SimFault) → (P → Q) → FullWhere f P → FullWhere f Q
 full-weaker fault.NoMemory g h = tt

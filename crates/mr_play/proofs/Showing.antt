@@ -12,11 +12,11 @@ use Rattle.mr_commands.specs.declared.job.submission.Submission.{Submission}
 use Rattle.mr_commands.specs.job.Text.{submission_of}
 use Rattle.mr_play.specs.Text.{job_line, script_lines, IsAsExpected}
 use Rattle.mr_play.specs.WorldText.{world_text}
-use Rattle.mr_play.specs.inner.Player.{state_in}
+use Rattle.mr_play.specs.Players.{state_in}
 use Rattle.mr_play.specs.inner.PlaySteps.{HasPlayed}
 use Rattle.mr_play.specs.Played.{Played}
 use Rattle.mr_play.proofs.Playing.{one_end}
-use Rattle.mr_play.specs.Shown.{AddsSegments, Draws, HasPrinted, HasText, IsHistory, IsSegment, Shows, segment_text, text_in}
+use Rattle.mr_play.specs.Shown.{AddsSegments, Draws, HasPrinted, IsSegment, segment_text, text_in}
 
 -- one segment more was written
 pub adds-one : (j : Journal) (n k : ℕ) (old mid new bytes : List ℕ) → k ≡ suc n → AddsSegments j n old mid → bytes ≡ stable_bytes (history_in j) k → records_of bytes ≡ ((world_in j).history k).stable → new ≡ mid ++ segment_text k bytes → AddsSegments j k old new
@@ -42,18 +42,7 @@ printed input job commands p said read h = record {
   met = refl;
   cluster = ap (λ cfg. run_of cfg p.world.events) (sym h.config);
   journal = ap (λ cfg. record { config = cfg; events = p.world.events }) (sym h.config);
-}
-
-pub shows : (shown : Shown) (input text : List ℕ) (p : Player) → HasPrinted input p → HasText p shown text → Shows within shown input text
-shows shown input text p is h = record {
-  before = h.before;
-  printed = text_in p;
-  behind = h.behind;
-  untraced = h.untraced;
-  plain = h.plain;
-  prints = is.prints;
-  history = λ asked. subst (λ (j : Journal). IsHistory j h.behind) (sym is.journal) (h.history asked);
-  is = h.is;
+  noted = h.noted;
 }
 
 pub draws : (input : List ℕ) (p : Player) → HasPrinted input p → Draws within input

@@ -8,7 +8,7 @@ use Rattle.mr_work.specs.Works as works
 use Rattle.mr_work.proofs.Inputs as given
 use Rattle.mr_world.specs.Ranges.{IsInRange}
 use Rattle.mr_world.specs.Readings.{input_in}
-use Rattle.mr_play.specs.inner.Player.{IsShort}
+use Rattle.mr_play.specs.Players.{IsShort}
 
 -- what a container of a cluster is given is a split that is not too long, or one piece for each map
 pub inputs_are_short : (cfg : Config) (w : World) (c : ContainerId) → IsInRange cfg → IsShort (input_in cfg w c)

@@ -1,4 +1,4 @@
--- What `play` shows beyond what came of a script, where it is asked to (our own profile). Of a trace nothing is said but where it stands.
+-- What `play` shows behind what came of a script, where it is asked to: the history (our own profile). What stands before it is a trace, which the crate above says.
 use Rattle.std.specs.Prelude.{◌≡◌, ℕ, zero, suc, true, false, List, [], ◌∷◌, ◌++◌, length, codes, decimal}
 use Rattle.mr_history.specs.Reading.{records_of}
 use Rattle.mr_model.specs.Packets.{Config}
@@ -8,7 +8,7 @@ use Rattle.mr_world.specs.Journal.{Journal, history_in, world_in}
 use Rattle.mr_world.specs.Limits.{within}
 use Rattle.mr_play.specs.declared.shown.Shown.{Shown}
 use Rattle.mr_play.specs.declared.player.Player.{Player}
-use Rattle.mr_play.specs.Text.{PrintsPlay, printed_journal, printed_world}
+use Rattle.mr_play.specs.Text.{PrintsPlay, printed_journal, printed_stretches, printed_world}
 use Rattle.mr_play.specs.WorldText.{world_text}
 
 -- a segment: its generation and how many bytes are stable, and then these
@@ -37,33 +37,21 @@ AddsSegments j n old new = (more : List ℕ) × AreSegments j n more × (new ≡
 abbrev pub text_in : Player → List ℕ
 text_in p = p.told.items ++ world_text p.world.config (world_in p.world)
 
--- a player has played what an input says: its text is printed, of its cluster, and it knows whether all is as expected
+-- a player has played what an input says: its text is printed, of its cluster, and it knows whether all is as expected, and
+-- which line made which events
 pub record HasPrinted (input : List ℕ) (p : Player) : Type 0 where
   pub prints : PrintsPlay within input (text_in p)
   pub met : prints.left.met ≡ p.met
   pub cluster : printed_world within input (text_in p) prints ≡ world_in p.world
   pub journal : printed_journal within input (text_in p) prints ≡ p.world
+  pub noted : printed_stretches within input (text_in p) prints ≡ p.stretches.items
 
--- a text that has it: with something before it only where a trace is asked for, and behind it the history where that is, else nothing
-pub record HasText (p : Player) (shown : Shown) (text : List ℕ) : Type 0 where
-  pub before : List ℕ
+-- a text that has it: with this before it, and behind it the history where that is asked for, else nothing
+pub record HasText (p : Player) (shown : Shown) (before text : List ℕ) : Type 0 where
   pub behind : List ℕ
-  pub untraced : shown.trace ≡ false → before ≡ []
   pub plain : shown.history ≡ false → behind ≡ []
   pub history : shown.history ≡ true → IsHistory p.world behind
   pub is : text ≡ before ++ (text_in p ++ behind)
-
--- The text has what `play` prints: with something before it only where a trace is asked for, and behind it, where the history is, exactly that of the run of which
--- it is printed, else nothing.
-pub record Shows (within : Config → Limits) (shown : Shown) (input text : List ℕ) : Type 0 where
-  pub before : List ℕ
-  pub printed : List ℕ
-  pub behind : List ℕ
-  pub untraced : shown.trace ≡ false → before ≡ []
-  pub plain : shown.history ≡ false → behind ≡ []
-  pub prints : PrintsPlay within input printed
-  pub history : shown.history ≡ true → IsHistory (printed_journal within input printed prints) behind
-  pub is : text ≡ before ++ (printed ++ behind)
 
 -- there is a text that `play` prints: what a picture of the run shows is said nowhere
 abbrev pub Draws : (Config → Limits) → List ℕ → Type 0

@@ -24,7 +24,9 @@ use Rattle.mr_commands.specs.declared.job.submission.JobKind.{JobKind}
 use Rattle.mr_commands.specs.declared.job.submission.JobKind.TheVariants.{WordCount, MaxByKey, LineIndex}
 use Rattle.mr_commands.specs.declared.job.submission.Submission.{Submission}
 use Rattle.mr_commands.specs.job.Text.{submission_of}
+use Rattle.mr_play.specs.declared.sources.Stretch.{Stretch}
 use Rattle.mr_play.specs.Played.{Played, begun, played}
+use Rattle.mr_play.specs.Sources.{stretches}
 use Rattle.mr_play.specs.WorldText.{world_text}
 
 -- ---- of an input
@@ -64,6 +66,10 @@ module _ (within : Config → Limits) where
   unfoldable pub played_of : Submission → List (ℕ × Command) → Option Played
   played_of job cs = played (job_as job.job) (config_of job) (within (config_of job)) cs begun
 
+  -- which of their lines made which events
+  unfoldable pub stretches_of : Submission → List (ℕ × Command) → List Stretch
+  stretches_of job cs = stretches (job_as job.job) (config_of job) (within (config_of job)) cs begun
+
   -- what was told of lines, and then what came of it all
   abbrev pub played_text : Submission → Played → List ℕ
   played_text job s = s.told ++ world_text (config_of job) (Rattle.mr_play.specs.Played.world (job_as job.job) (config_of job) (within (config_of job)) s)
@@ -84,6 +90,10 @@ module _ (within : Config → Limits) where
   -- the events of the run of which it is printed, those that were taken
   abbrev pub printed_journal : (input text : List ℕ) → PrintsPlay input text → Journal
   printed_journal input text p = record { config = config_of p.job; events = p.left.events }
+
+  -- which line of the script made which of them
+  abbrev pub printed_stretches : (input text : List ℕ) → PrintsPlay input text → List Stretch
+  printed_stretches input text p = stretches_of p.job p.commands
 
   -- whether all that the script expects is so where it expects it
   abbrev pub IsAsExpected : List ℕ → Bool → Type 0

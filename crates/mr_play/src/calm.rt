@@ -10,7 +10,7 @@ ghost use Rattle.mr_commands.specs.declared.fault.SimFault.TheVariants.{NoMemory
 ghost use Rattle.mr_play.specs.EventNames.{stops_at};
 ghost use Rattle.mr_play.specs.Text.{job_as};
 ghost use Rattle.mr_play.specs.Played.{cursor_at, is_dropped, is_through, most_calm, next_of, next_step};
-ghost use Rattle.mr_play.specs.inner.Player.{calm_of, cluster_in, next_in, CalmsOnce, Goes, HappensAs, MakesNext, names_of};
+ghost use Rattle.mr_play.specs.Players.{calm_of, cluster_in, next_in, CalmsOnce, Goes, HappensAs, MakesNext, names_of};
 
 use crate::event_names::{duty_event, wish_event};
 use crate::player::Player;
@@ -25,7 +25,7 @@ use std::alloc::Global;
 use std::collections::BTreeSet;
 
 /// Most events of a calm.
-pub const MOST_CALM: u32 = 10_000;
+pub const MOST_CALM: u64 = 10_000;
 
 /// What a calm makes next.
 #[derive(Clone, Copy, Debug, PartialEq, Eq)]
@@ -71,7 +71,20 @@ impl Player {
     ) -> Result<(), SimFault>
         ensures { Goes self.old (calm_of self.old k stop most_calm) result self.new }
     {
-        for _ in 0..MOST_CALM {
+        self.calm_for(alloc, k, stop, MOST_CALM)
+    }
+
+    /// The same, where at most so many events are made. A calm goes on where the last one was.
+    pub fn calm_for(
+        &mut self,
+        alloc: Global,
+        k: u32,
+        stop: Option<EventName>,
+        most: u64,
+    ) -> Result<(), SimFault>
+        ensures { Goes self.old (calm_of self.old k stop most) result self.new }
+    {
+        for _ in 0..most {
             if !self.calm_once(alloc, k, stop)? {
                 return Ok(());
             }

@@ -8,11 +8,11 @@
 //! run, since an event or a work passes a limit; an allocation failure may come at any of these (`PlayFails`). What a container computes is what the
 //! job's definition makes of its input (`computed`).
 //!
-//! **A player** (`played`): a job's world in which the script was played; its text is what `play` prints, and its world is the cluster of which it is
-//! printed (`HasPrinted`). The crate above shows more of it.
+//! **A player** (`played`): a job's world in which the script was played; its text is what `play` prints, its world is the cluster of which it is
+//! printed, and it knows which line made which events (`stretches` of `specs/Sources`; `HasPrinted`). The crate above shows more of it.
 //!
-//! **What stands beside the text** (`shown_text`): something before it only where a trace is asked for, and the history behind it only where
-//! that is (`HasText`, and so `Shows`): for each generation that was started, in order, its head line `== history K LENGTH` and the
+//! **What stands beside the text** (`shown_text`): before it what is handed in, and the history behind it only where that is asked for
+//! (`HasText`): for each generation that was started, in order, its head line `== history K LENGTH` and the
 //! bytes that are stable in its segment, all of them, a torn end too.
 //!
 //! **Where `play` prints `marker yes`, the files that it prints are those that `seq` prints for the same job text** (`marked_files_are_those_of_seq`), and a job text that
@@ -24,9 +24,10 @@
 //! jobs that keep their laws). The names that a calm can stop before are those of duties and wishes,
 //! `launch` and `step` (`names_are_of_duties_and_wishes`). Four small scripts are worked out (`played_rows`).
 //!
-//! Only tested: which line of a script made which events (`Source`, `source_of`), which a trace tells.
+//! Only tested: the notes on calms that ended otherwise than their lines ask.
 #![tactic(auto)]
 
+mod branches;
 mod calm;
 mod calm_notes;
 mod event_names;
@@ -44,6 +45,7 @@ mod values;
 mod works;
 mod world_text;
 
+pub use calm::MOST_CALM;
 pub use event_names::{duty_event, name_word, wish_event};
 pub use faithful::{marked_files_are_those_of_seq, scripts_are_faithful};
 pub use histories::print_histories;
@@ -53,6 +55,6 @@ pub use laws::{
 pub use player::Player;
 pub use printed::Printed;
 pub use shown::{Shown, shown_text};
-pub use sources::{Source, Stretch, source_of};
+pub use sources::{Source, Stretch};
 pub use subcommand::{play, played};
 pub use world_text::print_world;

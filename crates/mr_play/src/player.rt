@@ -1,9 +1,10 @@
 //! A script that is played: a world, and how far the script is.
-ghost use Rattle.std.specs.Prelude.{◌≡◌, [], ◌∷◌, Some, OnOk, IfOk, IfErr};
+ghost use Rattle.std.specs.Prelude.{◌≡◌, [], ◌∷◌, ◌++◌, length, Some, OnOk, IfOk, IfErr};
 ghost use Rattle.mr_commands.specs.declared.fault.SimFault.TheVariants.{NoMemory};
 ghost use Rattle.mr_play.specs.Text.{config_of, job_as, played_of};
 ghost use Rattle.mr_play.specs.Played.{begun, computing, expecting, losing, made, most_calm, obeyed, played, stepped_by};
-ghost use Rattle.mr_play.specs.inner.Player.{calm_of, cluster_in, state_in, Goes, IsEvent, Applies};
+ghost use Rattle.mr_play.specs.Players.{calm_of, cluster_in, state_in, Goes, GoesNoting, IsEvent, Applies};
+ghost use Rattle.mr_play.specs.Sources.{is_calm, stretch_of, stretches};
 ghost use Rattle.mr_commands.specs.job.Submission.{IsWithinLimits};
 ghost use Rattle.mr_world.specs.Limits.{within};
 
@@ -48,6 +49,7 @@ impl Player {
         ensures job { IfOk result (λ player. player.job ≡ submission.job) }
         ensures config { IfOk result (λ player. player.world.config ≡ config_of submission) }
         ensures state { IfOk result (λ player. state_in player ≡ begun) }
+        ensures noted { IfOk result (λ player. player.stretches.items ≡ []) }
         ensures memory { IfErr result (λ fault. fault ≡ SimFault.NoMemory) }
     {
         let job = submission.job;
@@ -65,13 +67,14 @@ impl Player {
         })
     }
 
-    /// Plays commands in turn, each with the number of its line.
+    /// Plays commands in turn, each with the number of its line, and notes which events each made.
     pub(crate) fn play(
         &mut self,
         alloc: Global,
         commands: Vec<(usize, Command)>,
     ) -> Result<(), SimFault>
-        ensures { Goes self.old (played (job_as self.old.job) self.old.world.config (within self.old.world.config) commands.items (state_in self.old)) result self.new }
+        ensures { GoesNoting self.old (played (job_as self.old.job) self.old.world.config (within self.old.world.config) commands.items (state_in self.old))
+            (stretches (job_as self.old.job) self.old.world.config (within self.old.world.config) commands.items (state_in self.old)) result self.new }
     {
         for (line, command) in commands {
             self.play_line(alloc, line, command)?;
@@ -81,11 +84,12 @@ impl Player {
 
     /// Plays the command of a line, and notes which events it made.
     fn play_line(&mut self, alloc: Global, line: usize, command: Command) -> Result<(), SimFault>
-        ensures { Goes self.old (obeyed (job_as self.old.job) self.old.world.config (within self.old.world.config) line command (state_in self.old)) result self.new }
+        ensures { GoesNoting self.old (obeyed (job_as self.old.job) self.old.world.config (within self.old.world.config) line command (state_in self.old))
+            (stretch_of line command (length self.new.world.events) ∷ []) result self.new }
     {
         let source = Source {
             line: line as u64,
-            is_calm: matches!(command, Command::Calm(..)),
+            is_calm: is_calm(&command),
         };
         self.carry_out(alloc, line, command)?;
         self.note(source)?;
@@ -122,7 +126,7 @@ impl Player {
     }
 
     /// From here on no calm delivers the packet at this place of the bag.
-    fn lose(&mut self, packet: u64) -> Result<(), SimFault>
+    pub(crate) fn lose(&mut self, packet: u64) -> Result<(), SimFault>
         ensures { Goes self.old (Some (losing (job_as self.old.job) self.old.world.config (within self.old.world.config) packet (state_in self.old))) result self.new }
     {
         self.dropped.insert(packet)?;
@@ -147,18 +151,13 @@ impl Player {
         Ok(())
     }
 
-    /// Notes what made the events since the last note, if there were any.
+    /// Notes what made the events since the last note.
     fn note(&mut self, source: Source) -> Result<(), AllocError>
-        ensures { self.new ≡ record self.old { stretches = self.new.stretches } }
+        ensures rests { self.new ≡ record self.old { stretches = self.new.stretches } }
+        ensures noted { OnOk result (self.new.stretches.items ≡ self.old.stretches.items ++ record { source = source; end = length self.old.world.events } ∷ []) }
     {
-        let before = match self.stretches.last() {
-            Some(stretch) => stretch.end,
-            None => 0,
-        };
         let end = self.world.journal().len() as u64;
-        if before < end {
-            self.stretches.push(Stretch { source, end })?;
-        }
+        self.stretches.push(Stretch { source, end })?;
         Ok(())
     }
 
@@ -216,7 +215,7 @@ impl Player {
     }
 
     /// Who has stepped last, after an event of the script.
-    fn stepped_by(&self, event: &Event) -> Option<ContainerId>
+    pub(crate) fn stepped_by(&self, event: &Event) -> Option<ContainerId>
         ensures { result ≡ stepped_by (job_as self.now.job) self.now.world.config (within self.now.world.config) event.now self.now.stepped }
     {
         match event {
@@ -234,6 +233,13 @@ impl Player {
         config.ranges();
         computed(alloc, self.job, config, *c, self.world.input(c))
     }
+}
+
+// Whether the command is a calm.
+fn is_calm(command: &Command) -> bool
+    ensures { result ≡ is_calm command.now }
+{
+    matches!(command, Command::Calm(..))
 }
 
 fn open_world(alloc: Global, submission: Submission) -> Result<World, SimFault>

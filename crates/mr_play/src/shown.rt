@@ -1,5 +1,5 @@
 //! What is shown beside what `play` prints.
-ghost use Rattle.std.specs.Prelude.{◌≡◌, [], false, IfOk, IfErr};
+ghost use Rattle.std.specs.Prelude.{◌≡◌, IfOk, IfErr};
 ghost use Rattle.mr_commands.specs.declared.fault.SimFault.TheVariants as fault;
 ghost use Rattle.mr_play.specs.Shown.{HasText};
 
@@ -17,11 +17,9 @@ pub struct Shown {
     pub history: bool,
 }
 
-/// What is printed of a player, with what is shown beside it: behind the text `before`, which is empty where no trace is asked for, and
-/// before its history, where that is. It fails by nothing but an allocation failure.
+/// What is printed of a player, with what is shown beside it: behind the text `before`, and before its history, where that is asked for. It fails by nothing but an allocation failure.
 pub fn shown_text(player: &Player, shown: Shown, before: Vec<u8>) -> Result<Vec<u8>, SimFault>
-    requires untraced { shown.trace ≡ false → before.items ≡ [] }
-    ensures text { IfOk result (λ text. HasText player.now shown text.items) }
+    ensures text { IfOk result (λ text. HasText player.now shown before.items text.items) }
     ensures memory { IfErr result (λ e. e ≡ fault.NoMemory) }
 {
     let mut text = before;

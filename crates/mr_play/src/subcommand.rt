@@ -6,7 +6,7 @@ ghost use Rattle.mr_script.specs.Script.{AreCommands};
 ghost use Rattle.mr_world.specs.Limits.{within};
 ghost use Rattle.mr_commands.specs.declared.fault.SimFault.TheVariants as fault;
 ghost use Rattle.mr_play.specs.Text.{job_line, played_of, script_by, IsAsExpected, PlayFails, PrintsPlay};
-ghost use Rattle.mr_play.specs.inner.Player.{FullWhere};
+ghost use Rattle.mr_play.specs.Players.{FullWhere};
 ghost use Rattle.mr_play.specs.inner.PlaySteps.{HasPlayed, IsUnread};
 ghost use Rattle.mr_play.specs.Shown.{HasPrinted, text_in};
 ghost use Rattle.mr_commands.specs.job.Submission.{IsWithinLimits};

@@ -8,7 +8,7 @@ ghost use Rattle.mr_user.specs.Computation.{computation};
 ghost use Rattle.mr_world.specs.Readings.{as_input};
 ghost use Rattle.mr_play.specs.Text.{job_as};
 ghost use Rattle.mr_play.specs.Played.{computed_of};
-ghost use Rattle.mr_play.specs.inner.Player.{IsEvent, IsShort, Works};
+ghost use Rattle.mr_play.specs.Players.{IsEvent, IsShort, Works};
 
 use mr_commands::{JobKind, SimFault};
 use mr_event::Event;

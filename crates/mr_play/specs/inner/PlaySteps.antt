@@ -10,9 +10,9 @@ use Rattle.mr_commands.specs.declared.fault.SimFault.{SimFault}
 use Rattle.mr_commands.specs.declared.fault.SimFault.TheVariants as fault
 use Rattle.mr_play.specs.declared.player.Player.{Player}
 use Rattle.mr_commands.specs.declared.job.submission.Submission.{Submission}
-use Rattle.mr_play.specs.Text.{config_of, played_of}
+use Rattle.mr_play.specs.Text.{config_of, played_of, stretches_of}
 use Rattle.mr_play.specs.WorldText.{line_of_winner}
-use Rattle.mr_play.specs.inner.Player.{state_in}
+use Rattle.mr_play.specs.Players.{state_in}
 
 -- a script is not read: its first bad line, where line 2 of the input is its first, or an allocation failure
 abbrev pub IsUnread : JobId → List ℕ → SimFault → Type 0
@@ -24,6 +24,7 @@ IsUnread job script _ = ⊥
 pub record HasPlayed (job : Submission) (commands : List (ℕ × Command)) (p : Player) : Type 0 where
   pub config : p.world.config ≡ config_of job
   pub comes : played_of within job commands ≡ Some (state_in p)
+  pub noted : stretches_of within job commands ≡ p.stretches.items
 
 -- ---- what is printed, piece by piece
 

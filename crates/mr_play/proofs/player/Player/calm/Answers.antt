@@ -1,31 +1,7 @@
-use Rattle.std.proofs.Common.{◌<◌, ◌≤◌, Bool, Ok, subst, arith}
-use Rattle.mr_play.specs.inner.Player.{CalmsOnce}
-use Rattle.mr_play.proofs.Calmly.{none_made, one_made, ended, failed, all_made}
-use Rattle.mr_play.proofs.Players.{failed_goes}
+use Rattle.std.proofs.Common.{sym, subst, ℕ}
+use Rattle.mr_play.specs.Players.{calm_of, Goes}
+use Rattle.mr_play.proofs.Calmly.{most_is}
 use Rattle.mr_play.proofs.player.Player.calm.Goals as goal
 
-pub loop-init : goal.loop-init
-loop-init c = none_made c.args.self.now c.args.k c.args.stop
-
-pub returns-in_err-calm_once : goal.returns-in_err-calm_once
-returns-in_err-calm_once c =
-    let few : c.loop.counter < 10000 = omega (arith, c.loop-test.true) in
-    failed_goes c.args.self.now c.calm_once.new.self _ c.in_err-calm_once.field-0.0 c.from_residual.result
-    (failed c.args.self.now c.loop.self c.calm_once.new.self c.args.k c.args.stop c.loop.counter c.loop.invariant few c.in_err-calm_once.field-0.0 c.in_err-calm_once.ensures) c.from_residual.ensures.1
-
-pub returns-then-not-branch : goal.returns-then-not-branch
-returns-then-not-branch c =
-    let few : c.loop.counter < 10000 = omega (arith, c.loop-test.true) in
-    ended c.args.self.now c.loop.self c.calm_once.new.self c.args.k c.args.stop c.loop.counter c.loop.invariant few
-    (subst (λ (b : Bool). CalmsOnce c.loop.self c.args.k c.args.stop (Ok b) c.calm_once.new.self) c.if-not-branch.true c.in_ok-calm_once.ensures)
-
-pub loop-preserved : goal.loop-preserved
-loop-preserved c =
-    let few : c.loop.counter < 10000 = omega (arith, c.loop-test.true) in
-    one_made c.args.self.now c.loop.self c.calm_once.new.self c.args.k c.args.stop c.loop.counter c.loop.invariant few
-    (subst (λ (b : Bool). CalmsOnce c.loop.self c.args.k c.args.stop (Ok b) c.calm_once.new.self) c.if-not-branch.false c.in_ok-calm_once.ensures)
-
 pub returns : goal.returns
-returns c =
-    let many : 10000 ≤ c.loop.counter = omega (arith, c.loop-test.false) in
-    all_made c.args.self.now c.loop.self c.loop.self c.args.k c.args.stop c.loop.counter c.loop.invariant many
+returns c = subst (λ (most : ℕ). Goes c.args.self.now (calm_of c.args.self.now c.args.k c.args.stop most) c.calm_for.result c.calm_for.new.self) (sym most_is) c.calm_for.ensures

@@ -1,5 +1,5 @@
 use Rattle.std.proofs.Common.{option_map, sym, ap, ◌∙◌}
-use Rattle.mr_play.specs.inner.Player.{next_in}
+use Rattle.mr_play.specs.Players.{next_in}
 use Rattle.mr_play.proofs.Calmly.{calmed_once}
 use Rattle.mr_play.proofs.player.Player.calm_once.Goals as goal
 

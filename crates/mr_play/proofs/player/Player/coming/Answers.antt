@@ -1,7 +1,7 @@
 use Rattle.std.proofs.Common.{◌≤◌, length, sym, ap, ◌∙◌, arith}
 use Rattle.mr_world.specs.Limits.{within}
 use Rattle.mr_play.specs.Text.{job_as}
-use Rattle.mr_play.specs.inner.Player.{cluster_in}
+use Rattle.mr_play.specs.Players.{cluster_in}
 use Rattle.mr_play.proofs.Coming.{step_is}
 use Rattle.mr_play.proofs.player.Player.coming.Goals as goal
 

@@ -6,7 +6,7 @@ use Rattle.mr_world.specs.Limits.{within}
 use Rattle.mr_world.specs.Readings.{as_input}
 use Rattle.mr_play.specs.Text.{job_as}
 use Rattle.mr_play.specs.Played.{computed_of}
-use Rattle.mr_play.specs.inner.Player.{IsEvent}
+use Rattle.mr_play.specs.Players.{IsEvent}
 use Rattle.mr_play.proofs.player.Player.computing.Goals as goal
 
 pub returns : goal.returns

@@ -2,8 +2,8 @@ use Rattle.std.proofs.Common.{◌∙◌, sym, subst, length, drop, suc}
 use Rattle.std.proofs.lemmas.Iterator.Adapters.{YieldsList-from_vec}
 use Rattle.std.proofs.lemmas.Iterator.Consumers.{YieldsList-so_far, YieldsList-turn, YieldsList-end}
 use Rattle.std.proofs.lemmas.List.{map-id}
-use Rattle.mr_play.specs.inner.Player.{Reaches}
-use Rattle.mr_play.proofs.Players.{played_by, none_obeyed, one_obeyed, one_failed, split_by}
+use Rattle.mr_play.specs.Players.{Notes}
+use Rattle.mr_play.proofs.Players.{noted_by, played_by, none_obeyed, one_obeyed, one_failed, split_by}
 use Rattle.mr_play.proofs.player.Player.play.Goals as goal
 
 pub loop-line-init : goal.loop-line-init
@@ -27,4 +27,4 @@ returns c =
     let gives = c.into_iter-line-iterator.ensures.into_iter_gives in
     let all = YieldsList-from_vec c.args.commands.items gives.0 (gives.1 ∙ c.args.commands.ok.0) in
     let end = YieldsList-end all c.loop-line.yielded c.loop-line.line-iterator c.loop-line.yielded_by c.next.result c.next.new.self c.in-None.is c.next.ensures.steps in
-    subst (λ cs. Reaches c.args.self.now (played_by c.args.self.now cs) c.loop-line.self) (sym (map-id c.loop-line.yielded) ∙ end.0) c.loop-line.invariant
+    subst (λ cs. Notes c.args.self.now (played_by c.args.self.now cs) (noted_by c.args.self.now cs) c.loop-line.self) (sym (map-id c.loop-line.yielded) ∙ end.0) c.loop-line.invariant

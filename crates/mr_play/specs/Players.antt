@@ -1,5 +1,5 @@
 -- What the calls of a player promise: what the definitions say of a script (our own profile).
-use Rattle.std.specs.Prelude.{◌≡◌, ◌+◌, ◌%◌, ℕ, suc, Bool, true, false, List, [], ◌∷◌, Option, Some, None, Result, Ok, Err, IfSome}
+use Rattle.std.specs.Prelude.{◌≡◌, ◌+◌, ◌%◌, ℕ, suc, Bool, true, false, List, [], ◌∷◌, ◌++◌, Option, Some, None, Result, Ok, Err, IfSome}
 use Rattle.std.specs.Option.{option_and_then, option_to_list}
 use Rattle.mr_packet.specs.declared.packet.ContainerId.{ContainerId}
 use Rattle.mr_event.specs.declared.why.Why.{Why}
@@ -19,6 +19,7 @@ use Rattle.mr_play.specs.declared.calm.Coming.TheVariants as coming
 use Rattle.mr_commands.specs.declared.fault.SimFault.{SimFault}
 use Rattle.mr_commands.specs.declared.fault.SimFault.TheVariants as fault
 use Rattle.mr_play.specs.declared.player.Player.{Player}
+use Rattle.mr_play.specs.declared.sources.Stretch.{Stretch}
 use Rattle.mr_play.specs.Text.{job_as}
 use Rattle.mr_play.specs.Played.{Played, Next, calmed, calms, computing, taken}
 
@@ -30,10 +31,11 @@ state_in p = record { events = p.world.events; cursor = p.cursor; dropped = p.dr
 abbrev pub cluster_in : Player → World
 cluster_in p = world_in p.world
 
--- its job and its config stay
+-- its job and its config stay, and what it noted of lines
 pub record SameJob (old new : Player) : Type 0 where
   pub job : new.job ≡ old.job
   pub config : new.world.config ≡ old.world.config
+  pub noted : new.stretches ≡ old.stretches
 
 -- it is as far as is said
 pub record Reaches (old : Player) (said : Option Played) (new : Player) : Type 0 where
@@ -50,6 +52,18 @@ FullWhere _ full = ⊥
 abbrev pub Goes : {A : Type 0} → Player → Option Played → Result A SimFault → Player → Type 0
 Goes old said (Ok a) new = Reaches old said new
 Goes old said (Err f) new = FullWhere f (said ≡ None)
+
+-- it is as far as is said, and noted these stretches behind those that it had
+pub record Notes (old : Player) (said : Option Played) (more : List Stretch) (new : Player) : Type 0 where
+  pub job : new.job ≡ old.job
+  pub config : new.world.config ≡ old.world.config
+  pub state : said ≡ Some (state_in new)
+  pub noted : new.stretches.items ≡ old.stretches.items ++ more
+
+-- a player went as far as is said and noted this; nothing is said where a limit is passed
+abbrev pub GoesNoting : {A : Type 0} → Player → Option Played → List Stretch → Result A SimFault → Player → Type 0
+GoesNoting old said more (Ok a) new = Notes old said more new
+GoesNoting old said more (Err f) new = FullWhere f (said ≡ None)
 
 -- ---- events
 

@@ -1,0 +1,38 @@
+-- What the calls of a player promise that is taken further by parts.
+use Rattle.std.specs.Prelude.{◌≡◌, Bool, true, false, Option, Some, None, Result, Ok, Err, is_none, if◌then◌else◌}
+use Rattle.mr_packet.specs.declared.packet.ContainerId.{ContainerId}
+use Rattle.mr_model.specs.World.{Event}
+use Rattle.mr_model.specs.Effect.{not_now}
+use Rattle.mr_world.specs.Limits.{within}
+use Rattle.mr_commands.specs.declared.fault.SimFault.{SimFault}
+use Rattle.mr_commands.specs.declared.fault.SimFault.TheVariants as fault
+use Rattle.mr_play.specs.declared.player.Player.{Player}
+use Rattle.mr_play.specs.Text.{job_as}
+use Rattle.mr_play.specs.Played.{Played, stepped_by, taken}
+use Rattle.mr_play.specs.Players.{SameJob, cluster_in, state_in}
+
+-- a player of the same job that is as far
+pub record Forks (old new : Player) : Type 0 where
+  pub job : new.job ≡ old.job
+  pub config : new.world.config ≡ old.world.config
+  pub state : state_in new ≡ state_in old
+
+-- an allocation failure; or the events of a journal could not happen once more
+abbrev pub Refuses : SimFault → Type 0
+Refuses fault.NoMemory = Unit {0}
+Refuses fault.Full = Unit {0}
+Refuses fault.JournalMismatch = Unit {0}
+Refuses _ = ⊥
+
+-- what an event makes that happens as that of a line; none where it is not permitted or passes a limit
+abbrev pub told_by : Player → Event → Option Played
+told_by p e =
+    if is_none (not_now p.world.config (cluster_in p) e)
+    then taken (job_as p.job) p.world.config (within p.world.config) e (stepped_by (job_as p.job) p.world.config (within p.world.config) e p.stepped) (state_in p)
+    else None
+
+-- what is tried is done where it can be; nothing is said of the player where it can't
+abbrev pub Tries : Player → Option Played → Result Bool SimFault → Player → Type 0
+Tries old said (Ok true) new = SameJob old new × (said ≡ Some (state_in new))
+Tries old said (Ok false) new = said ≡ None
+Tries old said (Err f) new = f ≡ fault.NoMemory

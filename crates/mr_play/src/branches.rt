@@ -1,0 +1,88 @@
+//! Players of which others are forked, and that are taken further by parts, for whoever tries what may befall a run.
+ghost use Rattle.std.specs.Prelude.{◌≡◌, ◌∷◌, ◌++◌, [], Some, OnOk, IfOk, IfErr};
+ghost use Rattle.mr_world.specs.Limits.{within};
+ghost use Rattle.mr_play.specs.Branches.{Forks, Refuses, Tries, told_by};
+ghost use Rattle.mr_play.specs.Text.{job_as};
+ghost use Rattle.mr_play.specs.Played.{losing};
+ghost use Rattle.mr_play.specs.Players.{state_in, Goes};
+
+use crate::player::Player;
+use mr_commands::SimFault;
+use mr_event::Event;
+use mr_world::{World, WorldFault};
+use std::alloc::Global;
+
+// A world of its own, of the same events.
+fn repeated(alloc: Global, world: &World) -> Result<World, SimFault>
+    ensures is { IfOk result (λ again. again ≡ world.now) }
+    ensures fault { IfErr result Refuses }
+{
+    let config = world.config().copy()?;
+    let mut again = match World::new(alloc, config) {
+        Ok(again) => again,
+        Err(_) => return Err(SimFault::NoMemory),
+    };
+    let events = world.journal();
+    for event in events {
+        repeat(&mut again, event)?;
+    }
+    Ok(again)
+}
+
+// The event happens in this world too.
+fn repeat(world: &mut World, event: &Event) -> Result<(), SimFault>
+    ensures is { OnOk result (world.new ≡ record { config = world.old.config; events = world.old.events ++ event.now ∷ [] }) }
+    ensures fault { IfErr result Refuses }
+{
+    match world.apply(event.copy()?) {
+        Ok(_took) => Ok(()),
+        Err(WorldFault::NotNow(_)) => Err(SimFault::JournalMismatch),
+        Err(WorldFault::Full) => Err(SimFault::Full),
+        Err(WorldFault::NoMemory) => Err(SimFault::NoMemory),
+    }
+}
+
+impl Player {
+    /// A player of its own that is as far as this one: the same events happen in a world of its own. Which line made which events, and the lines for standard
+    /// error, it does not have.
+    ///
+    /// It fails by an allocation failure; `Full` and `JournalMismatch` are answered where the events can't happen once more, which no world comes to.
+    pub fn fork(&self, alloc: Global) -> Result<Player, SimFault>
+        ensures is { IfOk result (Forks self.now) }
+        ensures fault { IfErr result Refuses }
+    {
+        let world = repeated(alloc, &self.world)?;
+        let dropped = self.dropped.clone()?;
+        let told = Vec::from_slice(alloc, &self.told)?;
+        Ok(Player {
+            job: self.job,
+            world,
+            cursor: self.cursor,
+            dropped,
+            stepped: self.stepped,
+            told,
+            met: self.met,
+            stretches: Vec::new(alloc),
+            notes: Vec::new(alloc),
+        })
+    }
+
+    /// From here on no calm delivers the packet at this place of the bag.
+    pub fn drop_packet(&mut self, packet: u64) -> Result<(), SimFault>
+        ensures { Goes self.old (Some (losing (job_as self.old.job) self.old.world.config (within self.old.world.config) packet (state_in self.old))) result self.new }
+    {
+        self.lose(packet)
+    }
+
+    /// The event happens as that of a line; whether it did. Where it is not permitted, or would pass a limit, it does not. It fails by an allocation failure.
+    pub fn tell(&mut self, event: Event) -> Result<bool, SimFault>
+        ensures { Tries self.old (told_by self.old event) result self.new }
+    {
+        let stepped = self.stepped_by(&event);
+        match self.apply(event, stepped) {
+            Ok(None) => Ok(true),
+            Ok(Some(_)) | Err(SimFault::Full) => Ok(false),
+            Err(fault) => Err(fault),
+        }
+    }
+}
