@@ -5,23 +5,11 @@ ghost use Rattle.mr_play.specs.Shown.{Draws};
 ghost use Rattle.mr_play.specs.Text.{IsAsExpected, PlayFails};
 ghost use Rattle.mr_world.specs.Limits.{within};
 
-mod cast;
-mod draw;
-mod drawing;
-mod lanes;
-mod notes;
-mod render;
-mod rest;
-mod rows;
-mod signs;
-mod svg;
-
-use crate::makers::Makers;
-use crate::part::Part;
-use crate::picture::draw::drawing_of;
-use crate::picture::render::picture_of;
+use crate::draw::drawing_of;
 use mr_commands::SimFault;
+use mr_drawing::{Part, picture_of};
 use mr_play::{Printed, played, print_world};
+use mr_trace::Makers;
 use mr_world::World;
 use std::alloc::{AllocError, Global};
 

@@ -1,4 +1,0 @@
--- What a trace says of a run. The words of events, calls and packets: Words. What happened, event by event: Happened. The text of it: Trace.
-pub mod Words
-pub mod Happened
-pub mod Trace

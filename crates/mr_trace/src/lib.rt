@@ -1,0 +1,32 @@
+//! What happened in a run, event by event, and the trace that tells it.
+//!
+//! # What is proved
+//!
+//! For every input:
+//!
+//! - **`trace_of`**: the trace of a world's run, with who made its events, is exactly the text of what happened in it (`trace_text` of `specs/Trace`): for each event
+//!   of the journal its place, the event in the words of its command, what the duty or the wish was, who made it, its store call with what the caller
+//!   heard, and the packets that it added (`Happened` of `specs/Happened`). It fails by nothing but an allocation failure;
+//! - **`play_shown`**: the text has what `play` prints; before it stands exactly the trace of the run of which that is printed, each event with the line of the
+//!   script that made it, and behind it exactly the history: each where it is asked for, else nothing (`Shows`). Its faults are those of `play` (`PlayFails`).
+//!
+//! What tells one event is given on, for whoever shows a run in another way, each by its clause: `maker_of` and `left_at` (who made it), `name_of` (its duty or wish),
+//! `opened` and `happen` (a world in which the events happen once more), and the words of `specs/Words`.
+#![tactic(auto)]
+
+mod asked;
+mod call_words;
+mod makers;
+mod packet_words;
+mod seats;
+mod shown;
+mod trace;
+mod trace_words;
+
+pub use asked::{put_call, put_call_of, put_heard};
+pub use makers::{Maker, Makers, left_at, maker_of};
+pub use packet_words::put_packet;
+pub use seats::{Seat, put_seat, put_thread};
+pub use shown::play_shown;
+pub use trace::{happen, name_of, opened, trace_of};
+pub use trace_words::{put_address, put_container, put_event, put_number, put_small};
