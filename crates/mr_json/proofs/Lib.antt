@@ -1,0 +1,5 @@
+mod Members
+mod Telling
+mod Ended
+mod Records
+mod Playing
