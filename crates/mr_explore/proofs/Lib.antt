@@ -1,0 +1,4 @@
+mod Beginning
+mod Lengths
+mod Making
+mod Trying

@@ -1,0 +1,114 @@
+-- What one fault is, and where it may befall a run (our own profile). Where there is none, a run goes on as a calm of the newest master does.
+use Rattle.std.specs.Prelude.{ℕ, suc, ◌-◌, List, [], ◌∷◌, ◌++◌, drop, length, map, slice_get, Option, Some, None, is_none, if◌then◌else◌}
+use Rattle.std.specs.List.{flat_map, range_with_len}
+use Rattle.std.specs.Option.{option_and_then}
+use Rattle.mr_event.specs.declared.event.Weather.TheVariants.{Calm, Unavailable, Unanswered}
+use Rattle.mr_ids.specs.declared.id.TaskKind.TheVariants.{Map, Reduce}
+use Rattle.mr_model.specs.Packets.{Config}
+use Rattle.mr_model.specs.World.{Event, Start, Crash, Duty, LaunchOn, Deliver, ContainerStep, Die, NodeRestart, Expire}
+use Rattle.mr_model.specs.Effect.{not_now}
+use Rattle.mr_model.specs.Claims.{Limits}
+use Rattle.mr_model.specs.Sequential.{Job}
+use Rattle.mr_world.specs.Histories.{history_of, stable_bytes}
+use Rattle.mr_world.specs.Readings.{living, unflushed_in}
+use Rattle.mr_play.specs.Played.{Played, calms, losing, most_calm, stepped_by, taken, world}
+use Rattle.mr_faults.specs.declared.fault.Fault.{Fault}
+use Rattle.mr_faults.specs.declared.fault.Fault.TheVariants as fault
+use Rattle.mr_faults.specs.Kinds.{ends_from, of_delivered, of_kept, of_node, of_packet, of_tasks}
+use Rattle.mr_faults.specs.Next.{without_next}
+
+-- of bytes that these go on from: how many of those behind them there are up to each line feed
+abbrev pub ends_behind : List ℕ → List ℕ → List ℕ
+ends_behind before after = ends_from 0 (drop (length before) after)
+
+module _ (job : Job) (cfg : Config) (within : Limits) where
+  abbrev pub newest : Played → ℕ
+  newest s = (world job cfg within s).fence
+
+  -- at most so many events of the calm of the newest master; none where a limit is passed
+  abbrev pub calm : ℕ → Played → Option Played
+  calm most s = calms job cfg within (newest s) None most s
+
+  -- an event happens, as that of a line; none where it is not permitted or passes a limit
+  abbrev pub told : Event → Played → Option Played
+  told e s = if is_none (not_now cfg (world job cfg within s) e) then taken job cfg within e (stepped_by job cfg within e s.stepped) s else None
+
+  -- ---- what a fault does, where master k is the newest; none where it can't befall the run
+
+  abbrev pub befallen_by : ℕ → Fault → Played → Option Played
+  befallen_by k (fault.Duty weather) s = told (Duty k weather) s
+  befallen_by k (fault.Step c weather) s = told (ContainerStep c weather) s
+  befallen_by k (fault.Lost i) s = Some (losing job cfg within i s)
+  befallen_by k (fault.Late i events) s = option_and_then (told (Deliver i)) (calm events (losing job cfg within i s))
+  befallen_by k (fault.Again i) s = told (Deliver i) s
+  befallen_by k (fault.Crash kept) s = option_and_then (told (Start (suc k) 0)) (told (Crash k kept) s)
+  befallen_by k (fault.Superseded kept) s = told (Start (suc k) kept) s
+  befallen_by k (fault.SupersededLate kept) s = option_and_then (told (Duty k Calm)) (told (Start (suc k) kept) s)
+  befallen_by k (fault.Death c) s = told (Die c) s
+  befallen_by k (fault.Restart n) s = told (NodeRestart n) s
+  befallen_by k (fault.Expiry n) s = told (Expire k n) s
+  befallen_by k (fault.Attempt t n) s = told (LaunchOn k t n) s
+
+  abbrev pub befallen : Fault → Played → Option Played
+  befallen f s = befallen_by (newest s) f s
+
+  -- ---- what may befall a run where it is
+
+  -- the event that the calm makes next
+  abbrev pub last_of : ℕ → Option Played → Option Event
+  last_of n None = None
+  last_of n (Some t) = slice_get t.events n
+
+  abbrev pub next_event : Played → Option Event
+  next_event s = last_of (length s.events) (calm 1 s)
+
+  -- how many events the calm makes; none are counted where a limit is passed
+  abbrev pub made_since : ℕ → Option Played → ℕ
+  made_since n None = 0
+  made_since n (Some t) = length t.events - n
+
+  abbrev pub calm_length : Played → ℕ
+  calm_length s = made_since (length s.events) (calm most_calm s)
+
+  abbrev pub of_event : Option Event → Played → List Fault
+  of_event (Some (Duty k weather)) s = fault.Duty Unavailable ∷ fault.Duty Unanswered ∷ []
+  of_event (Some (ContainerStep c weather)) s = fault.Step c Unavailable ∷ fault.Step c Unanswered ∷ []
+  of_event (Some (Deliver i)) s = of_packet i (calm_length (losing job cfg within i s))
+  of_event _ s = []
+
+  abbrev pub stable_in : ℕ → Played → List ℕ
+  stable_in k s = stable_bytes (history_of cfg s.events) k
+
+  abbrev pub kept_in : ℕ → Played → Option Played → List ℕ
+  kept_in k s None = []
+  kept_in k s (Some t) = ends_behind (stable_in k s) (stable_in k t)
+
+  -- Of what the newest master did not flush nothing may stay, or all up to the end of one of its records. What it did not flush is what stays after a crash that keeps all.
+  abbrev pub kept_all : ℕ → Played → Option ℕ → List ℕ
+  kept_all k s None = []
+  kept_all k s (Some bytes) = kept_in k s (told (Crash k bytes) s)
+
+  abbrev pub kept : Played → List ℕ
+  kept s = kept_all (newest s) s (unflushed_in (world job cfg within s) (newest s))
+
+  -- a packet that was delivered, a container, a node, a task
+  abbrev pub of_world : Played → List Fault
+  of_world s =
+      flat_map (of_delivered s.events) (range_with_len 0 (length (world job cfg within s).bag))
+      ++ map fault.Death (living cfg (world job cfg within s))
+      ++ flat_map of_node (range_with_len 0 cfg.nodes)
+      ++ of_tasks cfg.job Map (length cfg.splits) cfg.nodes
+      ++ of_tasks cfg.job Reduce cfg.reduces cfg.nodes
+
+  abbrev pub of_crashes : Played → List Fault
+  of_crashes s = of_kept 0 ++ flat_map of_kept (kept s)
+
+  abbrev pub listed : Option Event → Played → List Fault
+  listed next s = of_event next s ++ of_world s ++ of_crashes s
+
+  -- All that may be tried. What the calm makes next anyway is no fault, and what can't befall the run there is none either.
+  abbrev pub faults_by : Option Event → Played → List Fault
+  faults_by next s = without_next next (listed next s)
+
+  abbrev pub faults_at : Played → List Fault
+  faults_at s = faults_by (next_event s) s

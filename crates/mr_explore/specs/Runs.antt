@@ -1,0 +1,70 @@
+-- Which runs there are of an input (our own profile): all that come of it by at most so many faults, as mr_walk says it, where a run goes on as a calm of the newest master.
+use Rattle.std.specs.Prelude.{◌≡◌, ◌≢◌, ◌⊎◌, ℕ, nat_lt, List, length, Option, Some, None, if◌then◌else◌}
+use Rattle.std.specs.Option.{option_map}
+use Rattle.mr_model.specs.Packets.{Config}
+use Rattle.mr_model.specs.World.{World, Start}
+use Rattle.mr_world.specs.Limits.{within}
+use Rattle.mr_commands.specs.declared.job.submission.JobKind.{JobKind}
+use Rattle.mr_play.specs.Played.{Played, most_calm, world}
+use Rattle.mr_play.specs.Text.{PrintsPlay, job_as, printed_journal}
+use Rattle.mr_walk.specs.Steps.{Onward, Goes, Ends, Full, Steps}
+use Rattle.mr_walk.specs.Runs.{Found, runs}
+use Rattle.mr_faults.specs.declared.fault.Fault.{Fault}
+use Rattle.mr_explore.specs.Faults.{befallen, calm, faults_at, newest, told}
+
+-- a run of a job's cluster, as far as it is
+pub record Exploring : Type 0 where
+  pub job : JobKind
+  pub config : Config
+  pub played : Played
+
+abbrev pub world_of : Exploring → World
+world_of e = world (job_as e.job) e.config (within e.config) e.played
+
+abbrev pub with : Exploring → Played → Exploring
+with e s = record e { played = s }
+
+-- the calm made an event, or it has ended
+abbrev pub onward_to : Exploring → Option Played → Onward Exploring
+onward_to e None = Full
+onward_to e (Some s) = if nat_lt (length e.played.events) (length s.events) then Goes (with e s) else Ends (with e s)
+
+abbrev pub explored : Steps Exploring Fault
+explored = record {
+  onward = λ e. onward_to e (calm (job_as e.job) e.config (within e.config) 1 e.played);
+  faults = λ e. faults_at (job_as e.job) e.config (within e.config) e.played;
+  befallen = λ f e. option_map (with e) (befallen (job_as e.job) e.config (within e.config) f e.played);
+}
+
+-- what the first master's start makes
+abbrev pub start_first : Exploring → Option Played
+start_first e = told (job_as e.job) e.config (within e.config) (Start 1 0) e.played
+
+abbrev pub newest_in : Exploring → ℕ
+newest_in e = newest (job_as e.job) e.config (within e.config) e.played
+
+-- it is as far as the first one, or its first master starts there, if there is none
+abbrev pub StartsFrom : Exploring → Exploring → Type 0
+StartsFrom e new = ((newest_in e ≡ 0) × (option_map (with e) (start_first e) ≡ Some new)) ⊎ ((newest_in e ≢ 0) × (new ≡ e))
+
+-- What a script left: of its run are the config and the events those of which `play` prints. What it computes, and how far its calms are, are not told here.
+pub record IsLeftBy (input : List ℕ) (e : Exploring) : Type 0 where
+  pub text : List ℕ
+  pub prints : PrintsPlay within input text
+  pub journal : printed_journal within input text prints ≡ record { config = e.config; events = e.played.events }
+
+-- the run of an input, which is a job text and a script behind it
+pub record IsRunOf (input : List ℕ) (e : Exploring) : Type 0 where
+  pub before : Exploring
+  pub left : IsLeftBy input before
+  pub starts : StartsFrom before e
+
+-- the script starts no master, and a limit forbids that the first one starts
+pub record CannotStart (input : List ℕ) : Type 0 where
+  pub before : Exploring
+  pub left : IsLeftBy input before
+  pub none : start_first before ≡ None
+
+-- all its runs with at most so many faults
+abbrev pub runs_with : ℕ → Exploring → List (Found Exploring)
+runs_with faults e = runs explored most_calm faults e

@@ -1,0 +1,75 @@
+-- The definitions, of a player.
+use Rattle.std.specs.Prelude.{◌≡◌, ℕ, List, Option, None}
+use Rattle.mr_model.specs.World.{Event, Crash}
+use Rattle.mr_world.specs.Limits.{within}
+use Rattle.mr_play.specs.declared.player.Player.{Player}
+use Rattle.mr_play.specs.Played.{Played, losing}
+use Rattle.mr_play.specs.Text.{job_as}
+use Rattle.mr_play.specs.Players.{state_in}
+use Rattle.mr_faults.specs.declared.fault.Fault.{Fault}
+use Rattle.mr_explore.specs.Faults.{befallen_by, calm, calm_length, faults_at, faults_by, kept, kept_in, listed, next_event, of_crashes, of_event, of_world, told}
+use Rattle.mr_commands.specs.declared.fault.SimFault.{SimFault}
+use Rattle.mr_commands.specs.declared.fault.SimFault.TheVariants as fault
+use Rattle.mr_walk.specs.declared.fault.WalkFault.{WalkFault}
+use Rattle.mr_walk.specs.declared.fault.WalkFault.TheVariants as walk_fault
+use Rattle.mr_explore.specs.Runs.{Exploring, start_first}
+
+abbrev pub view_of : Player → Exploring
+view_of p = record { job = p.job; config = p.world.config; played = state_in p }
+
+abbrev pub told_in : Player → Event → Played → Option Played
+told_in p e s = told (job_as p.job) p.world.config (within p.world.config) e s
+
+abbrev pub calm_in : Player → ℕ → Played → Option Played
+calm_in p most s = calm (job_as p.job) p.world.config (within p.world.config) most s
+
+abbrev pub befallen_in : Player → ℕ → Fault → Option Played
+befallen_in p k f = befallen_by (job_as p.job) p.world.config (within p.world.config) k f (state_in p)
+
+abbrev pub faults_in : Player → List Fault
+faults_in p = faults_at (job_as p.job) p.world.config (within p.world.config) (state_in p)
+
+abbrev pub next_in : Player → Option Event
+next_in p = next_event (job_as p.job) p.world.config (within p.world.config) (state_in p)
+
+abbrev pub of_event_in : Player → Option Event → List Fault
+of_event_in p e = of_event (job_as p.job) p.world.config (within p.world.config) e (state_in p)
+
+-- how many events the calm makes without a packet
+abbrev pub length_in : Player → ℕ → ℕ
+length_in p i = calm_length (job_as p.job) p.world.config (within p.world.config) (losing (job_as p.job) p.world.config (within p.world.config) i (state_in p))
+
+abbrev pub kept_of : Player → List ℕ
+kept_of p = kept (job_as p.job) p.world.config (within p.world.config) (state_in p)
+
+abbrev pub faults_from : Player → Option Event → List Fault
+faults_from p next = faults_by (job_as p.job) p.world.config (within p.world.config) next (state_in p)
+
+abbrev pub listed_in : Player → Option Event → List Fault
+listed_in p next = listed (job_as p.job) p.world.config (within p.world.config) next (state_in p)
+
+abbrev pub of_world_in : Player → List Fault
+of_world_in p = of_world (job_as p.job) p.world.config (within p.world.config) (state_in p)
+
+abbrev pub of_crashes_in : Player → List Fault
+of_crashes_in p = of_crashes (job_as p.job) p.world.config (within p.world.config) (state_in p)
+
+-- the fault of a walk, as that of an exploration
+abbrev pub fault_of : WalkFault → SimFault
+fault_of walk_fault.NoMemory = fault.NoMemory
+fault_of walk_fault.Full = fault.Full
+fault_of walk_fault.Mismatch = fault.JournalMismatch
+
+-- how many events the calm makes
+abbrev pub calm_length_in : Player → ℕ
+calm_length_in p = calm_length (job_as p.job) p.world.config (within p.world.config) (state_in p)
+
+-- no memory; or a limit forbids that the first master starts
+abbrev pub CannotBegin : Exploring → SimFault → Type 0
+CannotBegin e fault.NoMemory = Unit {0}
+CannotBegin e fault.Full = start_first e ≡ None
+CannotBegin e _ = ⊥
+
+-- what may stay of so many bytes that master k did not flush
+abbrev pub kept_after : Player → ℕ → ℕ → List ℕ
+kept_after p k bytes = kept_in (job_as p.job) p.world.config (within p.world.config) k (state_in p) (told (job_as p.job) p.world.config (within p.world.config) (Crash k bytes) (state_in p))

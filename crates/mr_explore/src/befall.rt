@@ -1,0 +1,105 @@
+//! A fault befalls a run.
+ghost use Rattle.std.specs.Prelude.{suc};
+ghost use Rattle.mr_model.specs.World.{Start};
+ghost use Rattle.mr_world.specs.Journal.{world_in};
+ghost use Rattle.mr_play.specs.Branches.{Tries};
+ghost use Rattle.mr_play.specs.Players.{state_in};
+ghost use Rattle.mr_faults.specs.declared.fault.Fault.TheVariants as fault;
+ghost use Rattle.mr_explore.specs.inner.Players.{befallen_in, told_in};
+
+use mr_commands::SimFault;
+use mr_event::{Event, Weather};
+use mr_faults::Fault;
+use mr_play::Player;
+use std::alloc::Global;
+
+/// The fault befalls the run; whether it can. It fails by an allocation failure.
+pub fn befall(alloc: Global, player: &mut Player, fault: Fault) -> Result<bool, SimFault>
+    ensures { Tries player.old (befallen_in player.old (world_in player.old.world).fence fault) result player.new }
+{
+    let k = player.world.newest();
+    match fault {
+        Fault::Duty(weather) => player.tell(Event::Duty {
+            generation: k,
+            weather,
+        }),
+        Fault::Step(container, weather) => player.tell(Event::ContainerStep { container, weather }),
+        Fault::Lost(packet) => {
+            player.drop_packet(packet)?;
+            Ok(true)
+        }
+        Fault::Late(packet, events) => deliver_late(alloc, player, packet, events),
+        Fault::Again(packet) => player.tell(Event::Deliver { packet }),
+        Fault::Crash(kept) => crash(player, k, kept),
+        Fault::Superseded(kept) => start(player, k, kept),
+        Fault::SupersededLate(kept) => supersede_late(player, k, kept),
+        Fault::Death(container) => player.tell(Event::Die { container }),
+        Fault::Restart(node) => player.tell(Event::NodeRestart { node }),
+        Fault::Expiry(node) => player.tell(Event::Expire {
+            generation: k,
+            node,
+        }),
+        Fault::Attempt(task, node) => player.tell(Event::LaunchOn {
+            generation: k,
+            task,
+            node,
+        }),
+    }
+}
+
+// The packet is held back while the calm makes so many events, and then delivered.
+fn deliver_late(
+    alloc: Global,
+    player: &mut Player,
+    packet: u64,
+    events: u64,
+) -> Result<bool, SimFault>
+    ensures { Tries player.old (befallen_in player.old (world_in player.old.world).fence (fault.Late packet events)) result player.new }
+{
+    player.drop_packet(packet)?;
+    let newest = player.world.newest();
+    match player.calm_for(alloc, newest, None, events) {
+        Ok(()) => player.tell(Event::Deliver { packet }),
+        Err(SimFault::Full) => Ok(false),
+        Err(fault) => Err(fault),
+    }
+}
+
+// Master `k` crashes, and the next one starts.
+fn crash(player: &mut Player, k: u32, kept: u64) -> Result<bool, SimFault>
+    ensures { Tries player.old (befallen_in player.old k (fault.Crash kept)) result player.new }
+{
+    let crashed = player.tell(Event::Crash {
+        generation: k,
+        kept,
+    })?;
+    if crashed {
+        start(player, k, 0)
+    } else {
+        Ok(false)
+    }
+}
+
+// The next master starts, and `k` makes the store call that is due.
+fn supersede_late(player: &mut Player, k: u32, kept: u64) -> Result<bool, SimFault>
+    ensures { Tries player.old (befallen_in player.old k (fault.SupersededLate kept)) result player.new }
+{
+    if start(player, k, kept)? {
+        player.tell(Event::Duty {
+            generation: k,
+            weather: Weather::Calm,
+        })
+    } else {
+        Ok(false)
+    }
+}
+
+// The master behind `k` starts.
+fn start(player: &mut Player, k: u32, kept: u64) -> Result<bool, SimFault>
+    ensures { Tries player.old (told_in player.old (Start (suc k) kept) (state_in player.old)) result player.new }
+{
+    match k.checked_add(1) {
+        Some(generation) => player.tell(Event::Start { generation, kept }),
+        None => Ok(false),
+    }
+}

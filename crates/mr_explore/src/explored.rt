@@ -1,0 +1,143 @@
+//! A job's run that goes on as a calm, and that faults may befall.
+ghost use Rattle.std.specs.Prelude.{◌≡◌, Some, IfOk, IfErr};
+ghost use Rattle.std.specs.Option.{option_map};
+ghost use Rattle.mr_play.specs.Players.{state_in};
+ghost use Rattle.mr_walk.specs.Steps.{GoesOn, IsNotFull};
+ghost use Rattle.mr_explore.specs.Exploring.{ExploreFails};
+ghost use Rattle.mr_explore.specs.Runs.{IsRunOf, StartsFrom, explored, onward_to, start_first, with};
+ghost use Rattle.mr_explore.specs.inner.Players.{CannotBegin, calm_in, view_of};
+
+use crate::befall::befall;
+use crate::faults_at::faults_at;
+use mr_commands::SimFault;
+use mr_event::Event;
+use mr_faults::Fault;
+use mr_play::{Player, played};
+use mr_walk::{Run, WalkFault};
+use mr_world::World;
+use std::alloc::Global;
+use std::collections::LinkedList;
+use std::marker::Model;
+
+/// A run of a job. Contracts see it as its job, its config, and how far it is.
+#[derive(Drop)]
+pub struct Explored {
+    player: Player,
+}
+
+impl Model for Explored {
+    ghost use Rattle.mr_play.specs.Players.{state_in};
+    ghost use Rattle.mr_explore.specs.Runs.{Exploring};
+
+    ghost Value = { Exploring };
+
+    ghost view = { λ e. record { job = e.player.job; config = e.player.world.config; played = state_in e.player } };
+}
+
+impl Explored {
+    /// The run of an input, which is a job text and a script behind it. Where no master was started, `start 1 0` comes first.
+    ///
+    /// The faults of `mr_play::played`.
+    pub fn new(alloc: Global, input: &[u8]) -> Result<Explored, SimFault>
+        ensures run { IfOk result (IsRunOf input.now) }
+        ensures fault { IfErr result (ExploreFails input.now) }
+    {
+        let player = played(alloc, input)?;
+        match started(player) {
+            Ok(player) => Ok(Explored { player }),
+            Err(fault) => Err(fault),
+        }
+    }
+
+    /// Its world.
+    pub fn world(&self) -> &World
+        ensures { result.now ≡ record { config = self.now.config; events = self.now.played.events } }
+    {
+        &self.player.world
+    }
+}
+
+impl Run for Explored {
+    type Fault = Fault;
+
+    ghost steps = { explored };
+
+    fn fork(&self, alloc: Global) -> Result<Explored, WalkFault> {
+        match self.player.fork(alloc) {
+            Ok(player) => Ok(Explored { player }),
+            Err(fault) => Err(walk_fault(fault)),
+        }
+    }
+
+    fn go_on(&mut self, alloc: Global) -> Result<bool, WalkFault> {
+        go_further(alloc, &mut self.player)
+    }
+
+    fn faults(&self, alloc: Global) -> Result<LinkedList<Fault>, WalkFault> {
+        match faults_at(alloc, &self.player) {
+            Ok(faults) => Ok(faults),
+            Err(fault) => Err(walk_fault(fault)),
+        }
+    }
+
+    fn befall(&mut self, alloc: Global, fault: Fault) -> Result<bool, WalkFault> {
+        match befall(alloc, &mut self.player, fault) {
+            Ok(befell) => Ok(befell),
+            Err(fault) => Err(walk_fault(fault)),
+        }
+    }
+}
+
+// The calm makes an event more; whether there was one.
+fn go_further(alloc: Global, player: &mut Player) -> Result<bool, WalkFault>
+    ensures { GoesOn (onward_to (view_of player.old) (calm_in player.old 1 (state_in player.old))) result (view_of player.new) }
+{
+    let before = player.world.journal().len();
+    let newest = player.world.newest();
+    match player.calm_for(alloc, newest, None, 1) {
+        Ok(()) => {
+            let after = player.world.journal().len();
+            Ok(before < after)
+        }
+        Err(SimFault::Full) => Err(WalkFault::Full),
+        Err(_) => Err(WalkFault::NoMemory),
+    }
+}
+
+// The first master starts, where none was.
+fn started(player: Player) -> Result<Player, SimFault>
+    ensures is { IfOk result (λ new. StartsFrom (view_of player) (view_of new)) }
+    ensures fault { IfErr result (CannotBegin (view_of player)) }
+{
+    if player.world.newest() == 0 {
+        start_first(player)
+    } else {
+        Ok(player)
+    }
+}
+
+// The first master starts. A limit may forbid it.
+fn start_first(mut player: Player) -> Result<Player, SimFault>
+    ensures is { IfOk result (λ new. option_map (with (view_of player)) (start_first (view_of player)) ≡ Some (view_of new)) }
+    ensures fault { IfErr result (CannotBegin (view_of player)) }
+{
+    let start = Event::Start {
+        generation: 1,
+        kept: 0,
+    };
+    if player.tell(start)? {
+        Ok(player)
+    } else {
+        Err(SimFault::Full)
+    }
+}
+
+// Why a run that was made once could not be made once more.
+fn walk_fault(fault: SimFault) -> WalkFault
+    ensures { IsNotFull result }
+{
+    match fault {
+        SimFault::NoMemory => WalkFault::NoMemory,
+        _ => WalkFault::Mismatch,
+    }
+}

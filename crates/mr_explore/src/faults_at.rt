@@ -1,0 +1,226 @@
+//! What may befall a run where it is.
+ghost use Rattle.std.specs.Prelude.{◌≡◌, ◌++◌, slice_get, IfOk, OnOk};
+ghost use Rattle.std.specs.List.{flat_map};
+ghost use Rattle.mr_faults.specs.Kinds.{of_kept};
+ghost use Rattle.mr_world.specs.Histories.{stable_bytes};
+ghost use Rattle.mr_world.specs.Journal.{history_in, world_in};
+ghost use Rattle.mr_explore.specs.Faults.{ends_behind};
+ghost use Rattle.mr_world.specs.Readings.{living};
+ghost use Rattle.mr_explore.specs.inner.Players.{faults_in, calm_length_in, kept_after, kept_of, length_in, listed_in, next_in, of_crashes_in, of_event_in, of_world_in};
+
+use mr_commands::SimFault;
+use mr_event::{Event, Weather};
+use mr_faults::{
+    Fault, add_of_bag, add_of_containers, add_of_ends, add_of_kept, add_of_nodes, add_of_packet,
+    add_of_tasks, without_next,
+};
+use mr_ids::TaskKind;
+use mr_packet::ContainerId;
+use mr_play::{MOST_CALM, Player};
+use mr_world::World;
+use std::alloc::Global;
+use std::collections::LinkedList;
+
+/// All that may be tried where the run is, in the order in which it is tried.
+pub fn faults_at(alloc: Global, player: &Player) -> Result<LinkedList<Fault>, SimFault>
+    ensures { IfOk result (λ faults. faults ≡ faults_in player.now) }
+{
+    let next = next_event(alloc, player)?;
+    let faults = listed(alloc, player, &next)?;
+    Ok(without_next(alloc, faults, &next)?)
+}
+
+// The same, and what comes next anyway.
+fn listed(
+    alloc: Global,
+    player: &Player,
+    next: &Option<Event>,
+) -> Result<LinkedList<Fault>, SimFault>
+    ensures { IfOk result (λ faults. faults ≡ listed_in player.now next.now) }
+{
+    let mut faults = LinkedList::new(alloc);
+    add_of_event(alloc, &mut faults, player, next)?;
+    add_of_world(&mut faults, player)?;
+    add_of_crashes(alloc, &mut faults, player)?;
+    Ok(faults)
+}
+
+// A packet once more, the end of a container, faults of a node, and attempts of a task.
+fn add_of_world(faults: &mut LinkedList<Fault>, player: &Player) -> Result<(), SimFault>
+    ensures { OnOk result (faults.new ≡ faults.old ++ of_world_in player.now) }
+{
+    let world = &player.world;
+    add_of_bag(faults, world.journal(), world.bag().len() as u64)?;
+    add_of_containers(faults, &living(world)?)?;
+    let config = world.config();
+    config.ranges();
+    add_of_nodes(faults, config.nodes)?;
+    let maps = config.splits.len() as u32;
+    add_of_tasks(faults, &config.job, TaskKind::Map, maps, config.nodes)?;
+    add_of_tasks(
+        faults,
+        &config.job,
+        TaskKind::Reduce,
+        config.reduces,
+        config.nodes,
+    )?;
+    Ok(())
+}
+
+// A crash of the newest master, and its being superseded.
+fn add_of_crashes(
+    alloc: Global,
+    faults: &mut LinkedList<Fault>,
+    player: &Player,
+) -> Result<(), SimFault>
+    ensures { OnOk result (faults.new ≡ faults.old ++ of_crashes_in player.now) }
+{
+    add_of_kept(faults, 0)?;
+    add_of_unflushed(alloc, faults, player)
+}
+
+fn living(world: &World) -> Result<Vec<ContainerId>, SimFault>
+    ensures { IfOk result (λ all. all.items ≡ living world.now.config (world_in world.now)) }
+{
+    match world.living() {
+        Ok(living) => Ok(living),
+        Err(_) => Err(SimFault::NoMemory),
+    }
+}
+
+// A store call that fails, or a packet that is lost or late.
+fn add_of_event(
+    alloc: Global,
+    faults: &mut LinkedList<Fault>,
+    player: &Player,
+    next: &Option<Event>,
+) -> Result<(), SimFault>
+    ensures { OnOk result (faults.new ≡ faults.old ++ of_event_in player.now next.now) }
+{
+    match next {
+        Some(Event::Duty { .. }) => {
+            faults.push_back(Fault::Duty(Weather::Unavailable))?;
+            faults.push_back(Fault::Duty(Weather::Unanswered))?;
+            Ok(())
+        }
+        Some(Event::ContainerStep { container, .. }) => {
+            faults.push_back(Fault::Step(*container, Weather::Unavailable))?;
+            faults.push_back(Fault::Step(*container, Weather::Unanswered))?;
+            Ok(())
+        }
+        Some(Event::Deliver { packet }) => {
+            let events = length_without(alloc, player, *packet)?;
+            add_of_packet(faults, *packet, events)?;
+            Ok(())
+        }
+        _ => Ok(()),
+    }
+}
+
+// The event that the calm makes next.
+fn next_event(alloc: Global, player: &Player) -> Result<Option<Event>, SimFault>
+    ensures { IfOk result (λ event. event ≡ next_in player.now) }
+{
+    let mut ahead = player.fork(alloc)?;
+    next_of(alloc, &mut ahead)
+}
+
+// The same. The player makes it.
+fn next_of(alloc: Global, ahead: &mut Player) -> Result<Option<Event>, SimFault>
+    ensures { IfOk result (λ event. event ≡ next_in ahead.old) }
+{
+    let place = ahead.world.journal().len();
+    let newest = ahead.world.newest();
+    match ahead.calm_for(alloc, newest, None, 1) {
+        Ok(()) => event_at(&ahead.world, place),
+        Err(SimFault::Full) => Ok(None),
+        Err(fault) => Err(fault),
+    }
+}
+
+fn event_at(world: &World, place: usize) -> Result<Option<Event>, SimFault>
+    ensures { IfOk result (λ event. event ≡ slice_get world.now.events place) }
+{
+    match world.journal().get(place) {
+        Some(event) => Ok(Some(event.copy()?)),
+        None => Ok(None),
+    }
+}
+
+// How many events the calm makes without the packet.
+fn length_without(alloc: Global, player: &Player, packet: u64) -> Result<u64, SimFault>
+    ensures { IfOk result (λ events. events ≡ length_in player.now packet) }
+{
+    let mut ahead = player.fork(alloc)?;
+    ahead.drop_packet(packet)?;
+    calm_length(alloc, &mut ahead)
+}
+
+// How many events the calm makes. The player makes them.
+fn calm_length(alloc: Global, ahead: &mut Player) -> Result<u64, SimFault>
+    ensures { IfOk result (λ events. events ≡ calm_length_in ahead.old) }
+{
+    let before = ahead.world.journal().len();
+    let newest = ahead.world.newest();
+    match ahead.calm_for(alloc, newest, None, MOST_CALM) {
+        Ok(()) => {
+            let after = ahead.world.journal().len();
+            Ok(after.saturating_sub(before) as u64)
+        }
+        Err(SimFault::Full) => Ok(0),
+        Err(fault) => Err(fault),
+    }
+}
+
+// What the newest master did not flush stays up to the end of one of its records.
+fn add_of_unflushed(
+    alloc: Global,
+    faults: &mut LinkedList<Fault>,
+    player: &Player,
+) -> Result<(), SimFault>
+    ensures { OnOk result (faults.new ≡ faults.old ++ flat_map of_kept (kept_of player.now)) }
+{
+    let k = player.world.newest();
+    match player.world.unflushed(k) {
+        Some(unflushed) => add_of_tail(alloc, faults, player, k, unflushed as u64),
+        None => Ok(()),
+    }
+}
+
+// The same, where master `k` is alive and did not flush so many bytes.
+fn add_of_tail(
+    alloc: Global,
+    faults: &mut LinkedList<Fault>,
+    player: &Player,
+    k: u32,
+    unflushed: u64,
+) -> Result<(), SimFault>
+    ensures { OnOk result (faults.new ≡ faults.old ++ flat_map of_kept (kept_after player.now k unflushed)) }
+{
+    let mut ahead = player.fork(alloc)?;
+    let crash = Event::Crash {
+        generation: k,
+        kept: unflushed,
+    };
+    if ahead.tell(crash)? {
+        add_of_stable(faults, &player.world, &ahead.world, k)
+    } else {
+        Ok(())
+    }
+}
+
+// The same, of what is stable in a world and was not in another.
+fn add_of_stable(
+    faults: &mut LinkedList<Fault>,
+    before: &World,
+    after: &World,
+    k: u32,
+) -> Result<(), SimFault>
+    ensures { OnOk result (faults.new ≡ faults.old ++ flat_map of_kept (ends_behind (stable_bytes (history_in before.now) k) (stable_bytes (history_in after.now) k))) }
+{
+    let whole = before.stable(k).len();
+    match after.stable(k).get(whole..) {
+        Some(bytes) => Ok(add_of_ends(faults, bytes)?),
+        None => Ok(()),
+    }
+}
