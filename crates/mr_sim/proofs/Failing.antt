@@ -4,10 +4,10 @@ use Rattle.mr_world.specs.Limits.{within}
 use Rattle.mr_commands.specs.declared.fault.SimFault.{SimFault}
 use Rattle.mr_commands.specs.declared.fault.SimFault.TheVariants.{NoMemory, Read, Write, TooLong, BadCommand, BadRecord, Job, Refused, Full, JobFailed, TurnsSpent, JournalMismatch, Thread}
 use Rattle.mr_commands.specs.Faults.{CommitterFails, HistoryFails, SeqFails}
-use Rattle.mr_picture.specs.declared.part.Part.{Part}
+use Rattle.mr_drawing.specs.declared.part.Part.{Part}
 use Rattle.mr_play.specs.declared.shown.Shown.{Shown}
 use Rattle.mr_play.specs.Text.{PlayFails}
-use Rattle.mr_sim.specs.declared.subcommand.Command.TheVariants.{Committer, Play, PlayShown, PlayDrawn, History, Seq, Threads, ThreadsSeen}
+use Rattle.mr_sim.specs.declared.subcommand.Command.TheVariants.{Committer, Play, PlayShown, PlayDrawn, PlayJson, History, HistoryJson, Seq, Threads, ThreadsSeen}
 use Rattle.mr_threads.specs.declared.seen.Seen.{Seen}
 use Rattle.mr_threads.specs.Text.{ShownFails, ThreadsFail}
 use Rattle.mr_sim.specs.Printed.{RefusesText}
@@ -155,3 +155,35 @@ seen_fails turns hold seen input (Err JobFailed) h = h
 seen_fails turns hold seen input (Err TurnsSpent) h = h
 seen_fails turns hold seen input (Err JournalMismatch) h = h
 seen_fails turns hold seen input (Err Thread) h = h
+
+pub json_fails : {A : Type 0} (input : List ℕ) (r : Result A SimFault) → IfErr r (PlayFails within input) → IfErr r (RefusesText PlayJson input)
+json_fails input (Ok x) h = h
+json_fails input (Err NoMemory) h = h
+json_fails input (Err Read) h = h
+json_fails input (Err Write) h = h
+json_fails input (Err TooLong) h = h
+json_fails input (Err (BadCommand n)) h = h
+json_fails input (Err (BadRecord n)) h = h
+json_fails input (Err (Job e)) h = h
+json_fails input (Err Refused) h = h
+json_fails input (Err Full) h = h
+json_fails input (Err JobFailed) h = h
+json_fails input (Err TurnsSpent) h = h
+json_fails input (Err JournalMismatch) h = h
+json_fails input (Err Thread) h = h
+
+pub history_json_fails : {A : Type 0} (input : List ℕ) (r : Result A SimFault) → IfErr r (HistoryFails input) → IfErr r (RefusesText HistoryJson input)
+history_json_fails input (Ok x) h = h
+history_json_fails input (Err NoMemory) h = h
+history_json_fails input (Err Read) h = h
+history_json_fails input (Err Write) h = h
+history_json_fails input (Err TooLong) h = h
+history_json_fails input (Err (BadCommand n)) h = h
+history_json_fails input (Err (BadRecord n)) h = h
+history_json_fails input (Err (Job e)) h = h
+history_json_fails input (Err Refused) h = h
+history_json_fails input (Err Full) h = h
+history_json_fails input (Err JobFailed) h = h
+history_json_fails input (Err TurnsSpent) h = h
+history_json_fails input (Err JournalMismatch) h = h
+history_json_fails input (Err Thread) h = h

@@ -8,12 +8,15 @@ use Rattle.mr_commands.specs.declared.fault.JobTextFault.{JobTextFault}
 use Rattle.mr_commands.specs.declared.fault.SimFault.{SimFault}
 use Rattle.mr_commands.specs.declared.fault.SimFault.TheVariants.{NoMemory, Read, Write, TooLong, BadCommand, BadRecord, Job, Refused, Full, JobFailed, TurnsSpent, JournalMismatch, Thread}
 use Rattle.mr_sim.specs.declared.subcommand.Command.{Command}
-use Rattle.mr_sim.specs.declared.subcommand.Command.TheVariants.{Committer, Play, PlayShown, PlayDrawn, History, Seq, Threads, ThreadsSeen}
+use Rattle.mr_sim.specs.declared.subcommand.Command.TheVariants.{Committer, Play, PlayShown, PlayDrawn, PlayJson, History, HistoryJson, Seq, Threads, ThreadsSeen}
 use Rattle.mr_commands.specs.committer.Script.{IsFirstBad}
 use Rattle.mr_commands.specs.committer.Text.{PrintsCommitter}
 use Rattle.mr_commands.specs.history.Text.{PrintsHistory}
 use Rattle.mr_commands.specs.job.Text.{submission_of}
-use Rattle.mr_play.specs.Shown.{Shows, Draws}
+use Rattle.mr_json.specs.Plays.{TellsPlay}
+use Rattle.mr_json.specs.Segments.{TellsHistory}
+use Rattle.mr_play.specs.Shown.{Draws}
+use Rattle.mr_trace.specs.Shown.{Shows}
 use Rattle.mr_play.specs.Text.{PrintsPlay, IsBadPlayJob, IsBadPlayLine, IsFullPlay}
 use Rattle.mr_commands.specs.seq.Text.{PrintsSeq, RefusesSeq}
 use Rattle.mr_threads.specs.Runs.{IsRead}
@@ -27,7 +30,9 @@ Prints Committer input text = PrintsCommitter input text
 Prints Play input text = PrintsPlay within input text
 Prints (PlayShown shown) input text = Shows within shown input text
 Prints (PlayDrawn part) input text = Draws within input
+Prints PlayJson input text = TellsPlay within input text
 Prints History input text = PrintsHistory input text
+Prints HistoryJson input text = TellsHistory input text
 Prints Seq input text = PrintsSeq input text
 Prints (Threads turns hold) input text = PrintsSeq input text
 Prints (ThreadsSeen turns hold seen) input text = ShowsRun seen input text
@@ -40,7 +45,9 @@ IsBadLine Committer input n = IsFirstBad 1 (lines_of input) n
 IsBadLine Play input n = IsBadPlayLine input n
 IsBadLine (PlayShown shown) input n = IsBadPlayLine input n
 IsBadLine (PlayDrawn part) input n = IsBadPlayLine input n
+IsBadLine PlayJson input n = IsBadPlayLine input n
 IsBadLine History input n = ⊥
+IsBadLine HistoryJson input n = ⊥
 IsBadLine Seq input n = ⊥
 IsBadLine (Threads turns hold) input n = ⊥
 IsBadLine (ThreadsSeen turns hold seen) input n = ⊥
@@ -51,7 +58,9 @@ IsBadRecord Committer input n = ⊥
 IsBadRecord Play input n = ⊥
 IsBadRecord (PlayShown shown) input n = ⊥
 IsBadRecord (PlayDrawn part) input n = ⊥
+IsBadRecord PlayJson input n = ⊥
 IsBadRecord History input n = bad_line input ≡ Some n
+IsBadRecord HistoryJson input n = bad_line input ≡ Some n
 IsBadRecord Seq input n = ⊥
 IsBadRecord (Threads turns hold) input n = ⊥
 IsBadRecord (ThreadsSeen turns hold seen) input n = ⊥
@@ -62,7 +71,9 @@ IsBadJob Committer input e = ⊥
 IsBadJob Play input e = IsBadPlayJob input e
 IsBadJob (PlayShown shown) input e = IsBadPlayJob input e
 IsBadJob (PlayDrawn part) input e = IsBadPlayJob input e
+IsBadJob PlayJson input e = IsBadPlayJob input e
 IsBadJob History input e = ⊥
+IsBadJob HistoryJson input e = ⊥
 IsBadJob Seq input e = submission_of input ≡ Err e
 IsBadJob (Threads turns hold) input e = submission_of input ≡ Err e
 IsBadJob (ThreadsSeen turns hold seen) input e = submission_of input ≡ Err e
@@ -73,7 +84,9 @@ IsRefused Committer input = ⊥
 IsRefused Play input = ⊥
 IsRefused (PlayShown shown) input = ⊥
 IsRefused (PlayDrawn part) input = ⊥
+IsRefused PlayJson input = ⊥
 IsRefused History input = ⊥
+IsRefused HistoryJson input = ⊥
 IsRefused Seq input = RefusesSeq input
 IsRefused (Threads turns hold) input = ⊥
 IsRefused (ThreadsSeen turns hold seen) input = ⊥
@@ -84,7 +97,9 @@ IsFull Committer input = ⊥
 IsFull Play input = IsFullPlay within input
 IsFull (PlayShown shown) input = IsFullPlay within input
 IsFull (PlayDrawn part) input = IsFullPlay within input
+IsFull PlayJson input = IsFullPlay within input
 IsFull History input = ⊥
+IsFull HistoryJson input = ⊥
 IsFull Seq input = ⊥
 IsFull (Threads turns hold) input = IsRead input
 IsFull (ThreadsSeen turns hold seen) input = IsRead input

@@ -1,5 +1,5 @@
 //! The simulator: what `mrsim` reads and writes. The subcommands stand beneath it: those that need no cluster in mr_commands, `play` in mr_play,
-//! what is shown beside it in mr_picture, and `threads` in mr_threads.
+//! what is shown beside it in mr_trace, mr_picture and mr_json, and `threads` in mr_threads.
 //!
 //! # What is proved
 //!
@@ -16,7 +16,8 @@
 //!   subcommand: `committer` by the committer effect and the listing of what it leaves, `play` by the run of the cluster
 //!   that a script and its calms make, `history` by the records of the segment's whole lines and the number of torn bytes,
 //!   `seq` by the sequential execution of the job that the text submits: for each reduce, by rising name, `== `, the part
-//!   file's name and length, and its bytes; `play` with a trace or the history shown, or with a picture, by what mr_play and mr_picture say of it);
+//!   file's name and length, and its bytes; `play` with a trace or the history shown, or with a picture, by what mr_play, mr_trace and mr_picture say of it;
+//!   `play` and `history` as lines of JSON by what mr_json says of the run and of the segment);
 //! - a fault about the input is one that the input has: `TooLong` only above 2^24 bytes, `BadCommand(n)` only where
 //!   line n is the first that is no command, `BadRecord(n)` only where whole line n is the first that is no record,
 //!   `Job(key)` only where that key is the first bad one of the job text (or the text is no JSON object), `Refused`
@@ -56,11 +57,12 @@ mod remarks;
 mod subcommand;
 
 pub use ending::{Ending, exit_status};
+pub use input::read_input;
 pub use laws::printed_or_refused;
 pub use mr_commands::{JobTextFault, SimFault};
-pub use mr_picture::Part;
+pub use mr_drawing::Part;
 pub use mr_play::Shown;
 pub use mr_threads::Seen;
 pub use refusal::{Help, Refusal};
 pub use remarks::{Remarks, run_with_help, run_with_remarks};
-pub use subcommand::{Command, answer, run, run_streams};
+pub use subcommand::{Command, answer, run, run_streams, write_text};

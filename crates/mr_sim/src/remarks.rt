@@ -9,8 +9,10 @@ use crate::input::read_input;
 use crate::refusal::Refusal;
 use crate::subcommand::{Command, answer_with, write_text};
 use mr_commands::SimFault;
-use mr_picture::{play_drawn, play_shown};
+use mr_json::play_json;
+use mr_picture::play_drawn;
 use mr_play::{Printed, play};
+use mr_trace::play_shown;
 use std::io;
 use std::io::{Read, Write};
 use std::rt::Clock;
@@ -53,7 +55,7 @@ impl Remarks {
 }
 
 // What a subcommand prints, with its remarks.
-#[tactic(auto, using(crate::proofs::Failing::play_fails, crate::proofs::Failing::shown_fails, crate::proofs::Failing::drawn_fails))]
+#[tactic(auto, using(crate::proofs::Failing::play_fails, crate::proofs::Failing::shown_fails, crate::proofs::Failing::drawn_fails, crate::proofs::Failing::json_fails))]
 fn printed_with<H: AllocGlobal + Clock + Threads + Wait + Sync>(
     rt: &H,
     command: Command,
@@ -67,8 +69,10 @@ fn printed_with<H: AllocGlobal + Clock + Threads + Wait + Sync>(
         Command::Play => play(rt.alloc(), input),
         Command::PlayShown(shown) => play_shown(rt.alloc(), input, shown),
         Command::PlayDrawn(part) => play_drawn(rt.alloc(), input, part),
+        Command::PlayJson => play_json(rt.alloc(), input),
         Command::Committer
         | Command::History
+        | Command::HistoryJson
         | Command::Seq
         | Command::Threads { .. }
         | Command::ThreadsSeen { .. } => Ok(Printed {

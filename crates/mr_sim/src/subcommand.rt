@@ -6,9 +6,12 @@ ghost use Rattle.mr_sim.specs.Printed.{Prints, Refuses, RefusesText, Writes};
 use crate::input::read_input;
 use crate::remarks::run_with_remarks;
 use mr_commands::{SimFault, committer_output, history_output, seq_output};
-use mr_picture::{Part, play_drawn, play_shown};
+use mr_drawing::Part;
+use mr_json::{history_json, play_json};
+use mr_picture::play_drawn;
 use mr_play::{Shown, play};
 use mr_threads::{Seen, threads_output, threads_seen, unthreaded};
+use mr_trace::play_shown;
 use std::alloc::Global;
 use std::io::{Read, Write};
 use std::rt::Clock;
@@ -26,8 +29,12 @@ pub enum Command {
     PlayShown(Shown),
     /// The same, and prints a picture of this part of the run in place of what came of it.
     PlayDrawn(Part),
+    /// The same, and prints lines of JSON: each event, and what came of the run.
+    PlayJson,
     /// Prints the records of one segment of a job history, and how many bytes after the last whole line were dropped.
     History,
+    /// The same as lines of JSON.
+    HistoryJson,
     /// Runs the job of a job text sequentially, and prints its part files.
     Seq,
     /// Runs the job of a job text by threads, with the faults that it plans, and prints its part files. Each thread has so many turns; the first map
@@ -41,7 +48,7 @@ pub enum Command {
 ///
 /// `BadCommand`, `BadRecord`, `Job`, `Refused` and `Full` come only where the input has that fault; `NoMemory` may come at
 /// any input. Where a subcommand runs threads, there is no handle to make one: a job text that can be read is answered by `Thread`. The faults of streams, `Read`, `Write` and `TooLong`, never come: what is too long is for whoever reads.
-#[tactic(auto, using(crate::proofs::Failing::committer_fails, crate::proofs::Failing::history_fails, crate::proofs::Failing::play_fails, crate::proofs::Failing::shown_fails, crate::proofs::Failing::drawn_fails, crate::proofs::Failing::seq_fails, crate::proofs::Failing::unrun_fails, crate::proofs::Failing::seen_fails))]
+#[tactic(auto, using(crate::proofs::Failing::committer_fails, crate::proofs::Failing::history_fails, crate::proofs::Failing::play_fails, crate::proofs::Failing::shown_fails, crate::proofs::Failing::drawn_fails, crate::proofs::Failing::json_fails, crate::proofs::Failing::history_json_fails, crate::proofs::Failing::seq_fails, crate::proofs::Failing::unrun_fails, crate::proofs::Failing::seen_fails))]
 pub fn answer(alloc: Global, command: Command, input: &[u8]) -> Result<Vec<u8>, SimFault>
     // Ok: the text is what is printed for the input.
     ensures ok { IfOk result (λ v. Prints command input.now v.items) }
@@ -54,7 +61,9 @@ pub fn answer(alloc: Global, command: Command, input: &[u8]) -> Result<Vec<u8>, 
         Command::Play => Ok(play(alloc, input)?.text),
         Command::PlayShown(shown) => Ok(play_shown(alloc, input, shown)?.text),
         Command::PlayDrawn(part) => Ok(play_drawn(alloc, input, part)?.text),
+        Command::PlayJson => Ok(play_json(alloc, input)?.text),
         Command::History => history_output(alloc, input),
+        Command::HistoryJson => history_json(alloc, input),
         Command::Seq => seq_output(alloc, input),
         Command::Threads { .. } | Command::ThreadsSeen { .. } => unthreaded(alloc, input),
     }
@@ -78,7 +87,7 @@ pub(crate) fn answer_with<H: AllocGlobal + Clock + Threads + Wait + Sync>(
 }
 
 /// Writes a whole text, and flushes it.
-pub(crate) fn write_text<W: Write>(writer: &mut W, text: &[u8]) -> Result<(), SimFault>
+pub fn write_text<W: Write>(writer: &mut W, text: &[u8]) -> Result<(), SimFault>
     ensures ok { OnOk result (Appends (W.contents writer.old) (W.contents writer.new) text.now) }
     ensures kind { IfErr result (λ e. e ≡ SimFault.Write) }
 {

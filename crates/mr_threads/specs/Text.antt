@@ -13,7 +13,10 @@ use Rattle.mr_play.specs.Faithful.{IsMarkedText}
 use Rattle.mr_play.specs.Shown.{IsHistory}
 use Rattle.mr_play.specs.Text.{config_of, job_as}
 use Rattle.mr_play.specs.WorldText.{world_text}
+use Rattle.mr_trace.specs.Happened.{by_threads}
+use Rattle.mr_trace.specs.Trace.{trace_text}
 use Rattle.mr_repeat.specs.Repeating.{commented, repeating}
+use Rattle.mr_json.specs.Endings.{json_text}
 use Rattle.mr_threads.specs.Runs.{IsRead, IsRun}
 use Rattle.mr_threads.specs.declared.seen.Seen.{Seen}
 use Rattle.mr_threads.specs.declared.seen.Seen.TheVariants as seen
@@ -24,19 +27,21 @@ use Rattle.mr_threads.specs.declared.seen.Seen.TheVariants as seen
 abbrev pub text_of_run : Journal → List ℕ
 text_of_run j = world_text j.config (world_in j)
 
--- with something before it only where a trace is asked for, and behind it the history where that is, else nothing
+-- before it the trace of the run, with the thread that made each event, and behind it the history: each where it is asked for, else nothing
 pub record TellsRun (shown : Shown) (j : Journal) (text : List ℕ) : Type 0 where
   pub before : List ℕ
   pub behind : List ℕ
   pub untraced : shown.trace ≡ false → before ≡ []
+  pub traced : shown.trace ≡ true → before ≡ trace_text by_threads j
   pub plain : shown.history ≡ false → behind ≡ []
   pub history : shown.history ≡ true → IsHistory j behind
   pub is : text ≡ before ++ (text_of_run j ++ behind)
 
--- Of a picture nothing is said. A script has the commands of the run's events, and then what `play` prints of the run, as comments.
+-- Of a picture nothing is said. Lines of JSON are exactly those of the run, with who made its events; nothing is told of it beside them. A script has the commands of the run's events, and then what `play` prints of the run, as comments.
 abbrev pub Tells : Seen → Journal → List ℕ → Type 0
 Tells (seen.Shown shown) j text = TellsRun shown j text
 Tells (seen.Drawn part) j text = Unit {0}
+Tells seen.Json j text = text ≡ json_text by_threads [] j
 Tells seen.Script j text = text ≡ repeating j.events ++ commented (text_of_run j)
 
 -- where the marker is, the files that `play` prints of the run are those that `seq` prints for the job text

@@ -1,14 +1,19 @@
 //! What is shown of a run that threads made.
-ghost use Rattle.std.specs.Prelude.{◌≡◌, ◌++◌, IfOk, IfErr};
+ghost use Rattle.std.specs.Prelude.{◌≡◌, ◌++◌, [], true, false, IfOk, IfErr};
 ghost use Rattle.mr_commands.specs.declared.fault.SimFault.TheVariants.{NoMemory};
 ghost use Rattle.mr_threads.specs.Text.{ShownFails, ShowsRun, Tells, TellsRun, text_of_run};
 ghost use Rattle.mr_repeat.specs.Repeating.{commented, repeating};
+ghost use Rattle.mr_trace.specs.Happened.{by_threads};
+ghost use Rattle.mr_trace.specs.Trace.{trace_text};
 
 use crate::driven::{Manner, driven};
 use mr_commands::SimFault;
-use mr_picture::{Makers, Part, drawn, trace_of};
+use mr_drawing::Part;
+use mr_json::json_of;
+use mr_picture::drawn;
 use mr_play::{Shown, print_histories, print_world};
 use mr_repeat::{put_comments, put_script};
+use mr_trace::{Makers, trace_of};
 use mr_world::World;
 use std::alloc::{AllocGlobal, Global};
 use std::rt::Clock;
@@ -22,6 +27,8 @@ pub enum Seen {
     Shown(Shown),
     /// A picture of this part of it.
     Drawn(Part),
+    /// The same as lines of JSON.
+    Json,
     /// The script by which `play` repeats it, and behind that what `play` prints then, as comments.
     Script,
 }
@@ -50,7 +57,21 @@ fn seen_of(alloc: Global, world: &World, seen: Seen) -> Result<Vec<u8>, SimFault
     match seen {
         Seen::Shown(shown) => shown_of(alloc, world, shown),
         Seen::Drawn(part) => drawn(alloc, world, &Makers::Threads, part, &[]),
+        Seen::Json => json_of(alloc, world, &Makers::Threads, &[]),
         Seen::Script => scripted(alloc, world),
+    }
+}
+
+// The trace of a world's run, with the threads that made it, where it is asked for, else nothing.
+fn before_of(alloc: Global, world: &World, shown: Shown) -> Result<Vec<u8>, SimFault>
+    ensures untraced { IfOk result (λ v. shown.trace ≡ false → v.items ≡ []) }
+    ensures traced { IfOk result (λ v. shown.trace ≡ true → v.items ≡ trace_text by_threads world.now) }
+    ensures memory { IfErr result (λ e. e ≡ NoMemory) }
+{
+    if shown.trace {
+        trace_of(alloc, world, &Makers::Threads)
+    } else {
+        Ok(Vec::new(alloc))
     }
 }
 
@@ -59,11 +80,7 @@ fn shown_of(alloc: Global, world: &World, shown: Shown) -> Result<Vec<u8>, SimFa
     ensures text { IfOk result (λ v. TellsRun shown world.now v.items) }
     ensures memory { IfErr result (λ e. e ≡ NoMemory) }
 {
-    let mut text = if shown.trace {
-        trace_of(alloc, world, &Makers::Threads)?
-    } else {
-        Vec::new(alloc)
-    };
+    let mut text = before_of(alloc, world, shown)?;
     print_world(&mut text, world)?;
     if shown.history {
         print_histories(&mut text, world)?;

@@ -5,11 +5,13 @@ ghost use Rattle.std.specs.Prelude.{◌≡◌, ◌⊎◌};
 ghost use Rattle.std.specs.Process.{exit_status};
 ghost use Rattle.mr_sim.specs.Fault.{exit_status_of};
 
+mod explore;
 #[cfg(test)]
 mod tests;
 mod threads;
 mod words;
 
+use crate::explore::{Wanted, explore, wanted_of};
 use crate::words::{command_line, command_of, ending_of, file_of};
 use mr_sim::{Ending, Help, Refusal, SimFault, run_with_help};
 use std::alloc::Global;
@@ -84,6 +86,24 @@ fn print_words(rt: &(impl Print + Eprint), error: &clap::Error, ending: Ending) 
     }
 }
 
+// The exit code of `explore`, when it has written what came of the runs, or has said why not.
+fn explored(rt: &HostRuntime, wanted: &Wanted<'_>, file: Option<&str>) -> ExitCode {
+    let done = match file {
+        None => explore(rt, wanted, &mut rt.reader(), &mut io::writer(rt)),
+        Some(name) => match File::open(rt, name) {
+            Ok(mut reader) => explore(rt, wanted, &mut reader, &mut io::writer(rt)),
+            Err(error) => Err(Refusal {
+                fault: open_fault(&error),
+                help: open_help(&error),
+            }),
+        },
+    };
+    match done {
+        Ok(()) => code_of(rt, Ending::Done),
+        Err(refusal) => code_of_refusal(rt, refusal, file),
+    }
+}
+
 fn main(rt: HostRuntime) -> ExitCode {
     let alloc: Global = rt.alloc();
     let args = match env::args(&rt) {
@@ -104,6 +124,9 @@ fn main(rt: HostRuntime) -> ExitCode {
         Err(error) => return code_of(&rt, print_words(&rt, &error, ending_of(&error))),
     };
     let (command, file) = (command_of(&matches), file_of(&matches));
+    if let Some(wanted) = wanted_of(&matches) {
+        return explored(&rt, &wanted, file);
+    }
     let ran = match file {
         None => run_with_help(&rt, &command, &mut rt.reader(), &mut io::writer(&rt)),
         Some(name) => match File::open(&rt, name) {

@@ -67,6 +67,7 @@ fn subcommands(rt: HostRuntime) -> Result<(), Fail> {
 fn shown_words(rt: HostRuntime) -> Result<(), Fail> {
     let alloc = rt.alloc();
     let traced = named(alloc, &["mrsim", "play", "--trace"])?;
+    let kept = named(alloc, &["mrsim", "play", "--history"])?;
     let both = named(alloc, &["mrsim", "play", "--history", "--trace"])?;
     assert!(rt;
         traced
@@ -74,6 +75,12 @@ fn shown_words(rt: HostRuntime) -> Result<(), Fail> {
                 trace: true,
                 history: false
             })
+    );
+    assert!(rt;
+        kept == mr_sim::Command::PlayShown(Shown {
+            trace: false,
+            history: true
+        })
     );
     assert!(rt;
         both == mr_sim::Command::PlayShown(Shown {
@@ -135,6 +142,29 @@ fn part_words(rt: HostRuntime) -> Result<(), Fail> {
                 seen: Seen::Drawn(Part { from: 7, rows: 400 })
             }
     );
+    Ok(())
+}
+
+#[test]
+fn json_words(rt: HostRuntime) -> Result<(), Fail> {
+    let alloc = rt.alloc();
+    assert!(rt; named(alloc, &["mrsim", "play", "--json"])? == mr_sim::Command::PlayJson);
+    assert!(rt; named(alloc, &["mrsim", "history", "--json"])? == mr_sim::Command::HistoryJson);
+    assert!(rt;
+        named(alloc, &["mrsim", "threads", "--json"])?
+            == mr_sim::Command::ThreadsSeen {
+                turns: 100_000,
+                hold: false,
+                seen: Seen::Json
+            }
+    );
+    for word in ["--trace", "--history", "--diagram"] {
+        refuses(&rt, alloc, &["mrsim", "play", "--json", word]);
+        refuses(&rt, alloc, &["mrsim", "threads", word, "--json"]);
+    }
+    refuses(&rt, alloc, &["mrsim", "threads", "--script", "--json"]);
+    refuses(&rt, alloc, &["mrsim", "seq", "--json"]);
+    refuses(&rt, alloc, &["mrsim", "committer", "--json"]);
     Ok(())
 }
 

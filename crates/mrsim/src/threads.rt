@@ -1,6 +1,7 @@
 //! The words of `threads`.
 use crate::words::{
-    DRAWN, HISTORY_SHOWN, TRACE_SHOWN, first_drawn, most_drawn, part_of, read_file, shown_of, shows,
+    DRAWN, HISTORY_SHOWN, JSON_SHOWN, TRACE_SHOWN, first_drawn, most_drawn, part_of, read_file,
+    shown_of, shows,
 };
 use clap::{Arg, ArgAction, ArgMatches, Command, value_parser};
 use mr_sim::Seen;
@@ -20,6 +21,7 @@ thread finds anything to do. What it shows of a run differs from one time to the
   --trace     each event with the thread that made it, then what `play` writes of the run
   --history   what `play` writes of the run, then each master's history
   --diagram   a picture of the run, of its first 400 events or of those that --from and --rows tell
+  --json      lines of JSON: each event with the thread that made it, then what came of the run
   --script    the script by which `play` repeats the run, then what `play` writes of it, as comments
 With these a run whose job failed is shown too, with status 0.
 
@@ -77,6 +79,13 @@ pub fn threads_line<'a>(alloc: Global) -> Result<Command<'a>, AllocError> {
                 .conflicts_with("trace")?,
         )?
         .arg(shows(alloc, "history", HISTORY_SHOWN))?
+        .arg(
+            shows(alloc, "json", JSON_SHOWN)
+                .conflicts_with("diagram")?
+                .conflicts_with("history")?
+                .conflicts_with("script")?
+                .conflicts_with("trace")?,
+        )?
         .arg(shows(alloc, "trace", TRACE_SHOWN))?
         .arg(read_file(alloc))
 }
@@ -95,6 +104,9 @@ pub fn threads_of(words: &ArgMatches<'_>) -> mr_sim::Command {
 fn seen_of(words: &ArgMatches<'_>) -> Option<Seen> {
     if words.get_flag("diagram") {
         return Some(Seen::Drawn(part_of(words)));
+    }
+    if words.get_flag("json") {
+        return Some(Seen::Json);
     }
     if words.get_flag("script") {
         return Some(Seen::Script);

@@ -2,6 +2,7 @@
 ghost use Rattle.std.specs.Prelude.{◌≡◌, ◌≢◌};
 ghost use Rattle.clap.specs.Words.{kind_of};
 
+use crate::explore::explore_line;
 use crate::threads::{threads_line, threads_of};
 use clap::error::ErrorKind;
 use clap::{Arg, ArgAction, ArgMatches, Command, Error, value_parser};
@@ -155,6 +156,12 @@ pub const HISTORY_SHOWN: &str = "Shows each master's history behind the rest";
 /// What `--diagram` shows.
 pub const DRAWN: &str = "Prints a picture of the run (SVG) in place of the rest";
 
+/// What `--json` shows.
+pub const JSON_SHOWN: &str =
+    "Prints lines of JSON in place of the rest: each event, then what came of the run";
+
+const HISTORY_JSON: &str = "Prints lines of JSON in place of the rest";
+
 /// What `--trace` shows.
 pub const TRACE_SHOWN: &str = "Shows each event, with the packets that it added, before the rest";
 
@@ -218,21 +225,9 @@ pub fn read_file<'a>(alloc: Global) -> Arg<'a> {
     Arg::new(alloc, FILE).action(ArgAction::Set).help(FILE_HELP)
 }
 
-/// The program's command line.
-pub fn command_line<'a>(alloc: Global) -> Result<Command<'a>, AllocError> {
-    let committer = Command::new(alloc, "committer")
-        .about(COMMITTER)
-        .after_help(COMMITTER_HELP)
-        .arg(read_file(alloc))?;
-    let history = Command::new(alloc, "history")
-        .about(HISTORY)
-        .after_help(HISTORY_HELP)
-        .arg(read_file(alloc))?;
-    let seq = Command::new(alloc, "seq")
-        .about(SEQ)
-        .after_help(SEQ_HELP)
-        .arg(read_file(alloc))?;
-    let play = Command::new(alloc, "play")
+// The command line of `play`.
+fn play_line<'a>(alloc: Global) -> Result<Command<'a>, AllocError> {
+    Command::new(alloc, "play")
         .about(PLAY)
         .after_help(PLAY_HELP)
         .arg(
@@ -243,7 +238,34 @@ pub fn command_line<'a>(alloc: Global) -> Result<Command<'a>, AllocError> {
         .arg(first_drawn(alloc)?)?
         .arg(most_drawn(alloc)?)?
         .arg(shows(alloc, "history", HISTORY_SHOWN))?
+        .arg(
+            shows(alloc, "json", JSON_SHOWN)
+                .conflicts_with("diagram")?
+                .conflicts_with("history")?
+                .conflicts_with("trace")?,
+        )?
         .arg(shows(alloc, "trace", TRACE_SHOWN))?
+        .arg(read_file(alloc))
+}
+
+// The command line of `history`.
+fn history_line<'a>(alloc: Global) -> Result<Command<'a>, AllocError> {
+    Command::new(alloc, "history")
+        .about(HISTORY)
+        .after_help(HISTORY_HELP)
+        .arg(shows(alloc, "json", HISTORY_JSON))?
+        .arg(read_file(alloc))
+}
+
+/// The program's command line.
+pub fn command_line<'a>(alloc: Global) -> Result<Command<'a>, AllocError> {
+    let committer = Command::new(alloc, "committer")
+        .about(COMMITTER)
+        .after_help(COMMITTER_HELP)
+        .arg(read_file(alloc))?;
+    let seq = Command::new(alloc, "seq")
+        .about(SEQ)
+        .after_help(SEQ_HELP)
         .arg(read_file(alloc))?;
     Command::new(alloc, "mrsim")
         .version(VERSION)
@@ -251,9 +273,10 @@ pub fn command_line<'a>(alloc: Global) -> Result<Command<'a>, AllocError> {
         .after_help(STATUSES)
         .subcommand_required(true)
         .subcommand(committer)?
-        .subcommand(play)?
+        .subcommand(play_line(alloc)?)?
+        .subcommand(explore_line(alloc)?)?
         .subcommand(threads_line(alloc)?)?
-        .subcommand(history)?
+        .subcommand(history_line(alloc)?)?
         .subcommand(seq)
 }
 
@@ -262,7 +285,7 @@ pub fn command_of(matches: &ArgMatches<'_>) -> mr_sim::Command {
     match matches.subcommand() {
         Some(("play", words)) => play_of(words),
         Some(("threads", words)) => threads_of(words),
-        Some(("history", _)) => mr_sim::Command::History,
+        Some(("history", words)) => history_of(words),
         Some(("seq", _)) => mr_sim::Command::Seq,
         _ => mr_sim::Command::Committer,
     }
@@ -304,10 +327,22 @@ pub fn shown_of(words: &ArgMatches<'_>) -> Shown {
     }
 }
 
+// How the records of a segment are printed.
+fn history_of(words: &ArgMatches<'_>) -> mr_sim::Command {
+    if words.get_flag("json") {
+        mr_sim::Command::HistoryJson
+    } else {
+        mr_sim::Command::History
+    }
+}
+
 // What of a run is shown.
 fn play_of(words: &ArgMatches<'_>) -> mr_sim::Command {
     if words.get_flag("diagram") {
         return mr_sim::Command::PlayDrawn(part_of(words));
+    }
+    if words.get_flag("json") {
+        return mr_sim::Command::PlayJson;
     }
     let shown = shown_of(words);
     if shown.trace || shown.history {
