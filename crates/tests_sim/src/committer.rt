@@ -38,6 +38,26 @@ impl Read for FaultyReader<'_> {
     }
 }
 
+/// Is interrupted so many times, and then gives its bytes.
+#[derive(Drop)]
+struct OftenInterrupted<'a> {
+    bytes: &'a [u8],
+    left: u32,
+}
+
+impl Read for OftenInterrupted<'_> {
+    fn read(&mut self, buf: &mut [u8]) -> io::Result<usize> {
+        if self.left > 0 {
+            self.left -= 1;
+            return Err(Error::from(ErrorKind::Interrupted));
+        }
+        let mut bytes = self.bytes;
+        let n = bytes.read(buf)?;
+        self.bytes = bytes;
+        Ok(n)
+    }
+}
+
 /// Gives one byte a read, and is interrupted once, at the read of this number.
 #[derive(Drop)]
 struct OnceInterrupted<'a> {
@@ -450,20 +470,27 @@ fn each_stream_fails(rt: HostRuntime) {
     each_write_fails(&rt);
 }
 
+// 2^25 reads are made, interrupted ones with them: the last but one gives the bytes here, and the last the end; with one interruption
+// more there is none for the end. Fails where fewer reads or more are made.
 #[test]
-fn always_interrupted(rt: HostRuntime) -> Result<(), Fail> {
-    let mut input = FaultyReader {
-        bytes: HELLO,
-        piece: 3,
-        good: 2,
-        error: ErrorKind::Interrupted,
-    };
-    let mut output = FaultyWriter::new(3, 1000);
-    let answer = run(&rt, &Command::Committer, &mut input, &mut output);
-    if answer == Err(SimFault::NoMemory) {
-        panic!(rt; "no memory");
+fn most_reads(rt: HostRuntime) -> Result<(), Fail> {
+    for (interruptions, is_read) in [((1 << 25) - 2, true), ((1 << 25) - 1, false)] {
+        let mut input = OftenInterrupted {
+            bytes: HELLO,
+            left: interruptions,
+        };
+        let mut output = FaultyWriter::new(512, 1000);
+        let answer = run(&rt, &Command::Committer, &mut input, &mut output);
+        if answer == Err(SimFault::NoMemory) {
+            panic!(rt; "no memory");
+        }
+        if is_read {
+            assert!(rt; answer == Ok(()));
+            assert!(rt; output.took(HELLO_TEXT));
+        } else {
+            assert!(rt; answer == Err(SimFault::Read));
+        }
     }
-    assert!(rt; answer == Err(SimFault::Read));
     Ok(())
 }
 

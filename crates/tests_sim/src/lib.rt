@@ -10,6 +10,8 @@ mod expectations;
 #[cfg(test)]
 mod hints;
 #[cfg(test)]
+mod json;
+#[cfg(test)]
 mod pictures;
 #[cfg(test)]
 mod play;

@@ -55,6 +55,26 @@ fn history_stands_behind(rt: HostRuntime) -> Result<(), Fail> {
 }
 
 #[test]
+fn json_tells_who_made_each_event(rt: HostRuntime) -> Result<(), Fail> {
+    let text = shown_of(&rt, Seen::Json)?;
+    assert!(rt;
+        text.starts_with(
+            "{\"event\":\"start\",\"generation\":1,\"kept\":0,\"packets\":[],\"place\":0,\"thread\":\"faults\"}\n"
+        )
+    );
+    assert!(rt;
+        text.contains("{\"bytes\":30,\"container\":\"1.0\",\"event\":\"compute\",\"packets\":[],")
+    );
+    assert!(rt; text.contains("\"thread\":\"node 0\"}\n"));
+    assert!(rt;
+        text.ends_with(
+            "\"marker\":true,\"outcome\":\"succeeded\",\"told\":\"\",\"winners\":[\"attempt_200707121733_0003_r_000000_0\"]}\n"
+        )
+    );
+    Ok(())
+}
+
+#[test]
 fn picture_tells_who_made_each_event(rt: HostRuntime) -> Result<(), Fail> {
     let text = shown_of(&rt, Seen::Drawn(Part::FIRST))?;
     assert!(rt; text.starts_with("<svg "));

@@ -2,7 +2,7 @@
 
 use crate::events::{start, store_call};
 use crate::fixtures::{Stop, attempt, container, started, takes, world};
-use mr_container::{Reply, Wish};
+use mr_container::Reply;
 use mr_event::{Event, Weather};
 use mr_master_model::{StoreAnswer, StoreCall};
 use mr_names::{Answer, NameFault, Op};

@@ -44,6 +44,8 @@ pub enum Stop {
     Never,
     Before(DutyName),
     BeforeStep,
+    BeforeCompute,
+    BeforeWrite,
     BeforeRename,
 }
 
@@ -246,6 +248,16 @@ impl Run {
         }
     }
 
+    // Whether it stops before what the container wishes.
+    fn stops_before(&self, stop: &Stop, c: &ContainerId) -> bool {
+        match stop {
+            Stop::BeforeCompute => self.world.wish(c) == Some(Wish::Compute),
+            Stop::BeforeWrite => self.world.wish(c) == Some(Wish::Write),
+            Stop::BeforeRename => self.world.wish(c) == Some(Wish::Rename),
+            Stop::Never | Stop::Before(_) | Stop::BeforeStep => false,
+        }
+    }
+
     // One event, the first that is there of a packet, a store call, a launch and a step of a container; false where it stops or none is there.
     fn goes_on(&mut self, rt: &impl Abort, alloc: Global, k: u32, stop: Stop) -> bool {
         if self.delivers(rt) {
@@ -296,7 +308,7 @@ impl Run {
         let Some(c) = self.world.next_living(self.last) else {
             return false;
         };
-        if stop == Stop::BeforeRename && self.world.wish(&c) == Some(Wish::Rename) {
+        if self.stops_before(&stop, &c) {
             return false;
         }
         self.last = Some(c);

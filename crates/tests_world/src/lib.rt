@@ -12,6 +12,8 @@ mod events;
 #[cfg(test)]
 mod fixtures;
 #[cfg(test)]
+mod limits;
+#[cfg(test)]
 mod readings;
 #[cfg(test)]
 mod refusals;
