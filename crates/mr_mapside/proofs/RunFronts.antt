@@ -1,6 +1,6 @@
 -- The first pairs of runs, in a heap.
 use Rattle.std.proofs.Common.{◌≡◌, ℕ, zero, suc, ◌+◌, ◌<◌, ◌≤◌, Bool, true, false, not, ◌||◌, cond, eqb, ltb, ◌≢◌, List, [], ◌∷◌, ◌++◌, map, filter, length, drop, get_or, take, Option, Some, None, Result, Ok, Err, OnOk, Bor, ◌-◌, length-drop, refl, sym, ap, subst, ◌∙◌, arith}
-use Rattle.std.proofs.lemmas.List.{append-nil, take_all}
+use Rattle.std.proofs.lemmas.List.{append-nil, take_all, take-set, set-set}
 use Rattle.std.proofs.lemmas.Option.{get_or_from_slice_get, slice_get_past, slice_get-get_or, slice_get-map}
 use borrow.Author.Tests.{eqb-true, eqb-false, ltb-true, ltb-false}
 use Rattle.std.proofs.lemmas.Bool.{lt-ltb, le-ltb}
@@ -14,7 +14,7 @@ use Rattle.std.specs.Cmp.{IsTotalOrder, nat_cmp_is}
 use Rattle.std.specs.FinMap.{IsAntisymmetric}
 use Rattle.std.specs.List.{AllByRecursion, slice_get, sum_by, list_any}
 use Rattle.std.specs.List.Sorted.{IsPermutation}
-use Rattle.std.specs.Option.{option_map, option_map_or}
+use Rattle.std.specs.Option.{option_map, option_map_or, IfSome}
 use Rattle.std.specs.Ordering.{eq_by_cmp, is_eq, is_gt, is_lt, nat_cmp, ordering_then, ordering_reverse}
 use Rattle.std.specs.declared.cmp.Ordering.{Ordering}
 use Rattle.std.specs.declared.cmp.Ordering.TheVariants.{Less, Equal, Greater}
@@ -26,7 +26,7 @@ use Rattle.mr_mapside.specs.Runs.{pair_at, pairs_in, ArePairs, IsRun, AreRuns, p
 use Rattle.mr_user.specs.Groups.{values_of, groups_of}
 use Rattle.mr_user.specs.Meaning.{others_of}
 use Rattle.mr_user.proofs.LeastGroup.{least_first}
-use Rattle.mr_mapside.specs.inner.Fronts.{at, left_at, front_cmp, IsFirst, AreFronts, Holds, Adds, rest_at, with_rest, NotBelow, Without, AreNotBelow, Passes}
+use Rattle.mr_mapside.specs.inner.Fronts.{at, left_at, front_cmp, IsFirst, AreFronts, Holds, Adds, rest_at, BeginWith, NotBelow, Without, AreNotBelow, Passes}
 use Rattle.mr_mapside.proofs.RunReading.{first_pair, pairs_behind}
 use Rattle.mr_mapside.proofs.RunMerging.{all_joined, each_place, each_before, at_place, set_each, fails_off, passes_off, no_values, all_others, turned, not_below_first, itself_not_below, without_above}
 
@@ -52,6 +52,11 @@ pub get-set_same : {A : Type 0} (xs : List A) (i : ℕ) (a x : A) → slice_get 
 get-set_same [] i a x e = absurd cc
 get-set_same (y ∷ xs) zero a x e = refl
 get-set_same (y ∷ xs) (suc i) a x e = get-set_same xs i a x e
+
+set_itself : {A : Type 0} (xs : List A) (i : ℕ) (a : A) → slice_get xs i ≡ Some a → set xs i a ≡ xs
+set_itself [] i a e = refl
+set_itself (y ∷ xs) zero a e = ap (λ z. z ∷ xs) (sym (some_is y a e))
+set_itself (y ∷ xs) (suc i) a e = ap (λ ys. y ∷ ys) (set_itself xs i a e)
 
 pub get-set_other : {A : Type 0} (xs : List A) (i j : ℕ) (x : A) → eqb i j ≡ false → slice_get (set xs i x) j ≡ slice_get xs j
 get-set_other [] i j x e = refl
@@ -213,20 +218,8 @@ module _ {K V : Type 0} (job : Computation K V) (key_laws : CodecLaws job.key) (
   least_is lists fronts f holds upper = each_place (λ bytes. NotBelow job.cmp f.0.key (pairs_in job bytes)) lists (λ j bytes e. (bounded lists fronts f holds upper j bytes e).0)
 
   -- the rest of a list behind its first pair
-  rest_is : (lists : List (List ℕ)) (f : Front K V) (first : IsFirst job lists f) → rest_at lists f.list f.len ≡ drop f.len first.bytes
+  pub rest_is : (lists : List (List ℕ)) (f : Front K V) (first : IsFirst job lists f) → rest_at lists f.list f.len ≡ drop f.len first.bytes
   rest_is lists f first = ap (drop f.len) (get_or_from_slice_get lists f.list first.bytes [] first.there)
-
-  -- the first pair of a list is given: the greatest front's
-  pub passed : (lists : List (List ℕ)) (fronts : List F) (f : F) → Holds job lists fronts → IsUpperBound (front_cmp job) f fronts → IsFirst job lists f.0 → Passes job f.0.key f.0.value lists (with_rest lists f.0.list f.0.len)
-  passed lists fronts f holds upper first =
-      let rest = rest_at lists f.0.list f.0.len in
-      let pairs : pairs_in job first.bytes ≡ (f.0.key, f.0.value) ∷ pairs_in job rest = first_pair job key_laws value_laws first.bytes ((f.0.key, f.0.value), f.0.len) first.pair ∙ ap (λ (bytes : List ℕ). (f.0.key, f.0.value) ∷ pairs_in job bytes) (sym (rest_is lists f.0 first)) in
-      let itself : eq_by_cmp job.cmp f.0.key f.0.key ≡ true = ap is_eq (tied_itself order f.0.key) in
-      record {
-        values = ap (map (λ (p : K × V). p.1)) (passes_off (pairs_in job) (λ (p : K × V). eq_by_cmp job.cmp f.0.key p.0) lists f.0.list first.bytes rest (f.0.key, f.0.value) first.there pairs itself
-            (each_before (λ bytes. Without job.cmp f.0.key (pairs_in job bytes)) lists f.0.list (λ j bytes l e. (bounded lists fronts f holds upper j bytes e).1 l)));
-        others = fails_off (pairs_in job) (λ (p : K × V). not (eq_by_cmp job.cmp f.0.key p.0)) lists f.0.list first.bytes rest (f.0.key, f.0.value) first.there pairs (ap not itself);
-      }
 
   -- behind its first pair a list is pairs to its end
   pub pairs_left : (lists : List (List ℕ)) (f : Front K V) → AreRuns job lists → IsFirst job lists f → ArePairs job (rest_at lists f.list f.len)
@@ -234,34 +227,74 @@ module _ {K V : Type 0} (job : Computation K V) (key_laws : CodecLaws job.key) (
       let here = at_place (λ (bytes : List ℕ). ArePairs job bytes × IsRun job (pairs_in job bytes)) lists f.list first.bytes first.there runs in
       subst (ArePairs job) (sym (rest_is lists f first)) (pairs_behind job key_laws value_laws first.bytes ((f.key, f.value), f.len) first.pair here.0)
 
-  -- the lists without a pair that was given, and the fronts with the next one
-  pub settled : (lists : List (List ℕ)) (fronts rest after : List F) (f : F) → Holds job lists fronts → IsPermutation fronts (f ∷ rest) → IsHeap (front_cmp job) rest → Adds job f.0.list (rest_at lists f.0.list f.0.len) rest after →
-      Holds job (with_rest lists f.0.list f.0.len) after
-  settled lists fronts rest after f holds moved heap adds =
-      let popped = fronts_popped lists fronts rest f holds.all moved heap in
-      let bytes = rest_at lists f.0.list f.0.len in
-      let now = with_rest lists f.0.list f.0.len in
-      let first = popped.1 in
-      let pairs : pairs_in job first.bytes ≡ (f.0.key, f.0.value) ∷ pairs_in job bytes = first_pair job key_laws value_laws first.bytes ((f.0.key, f.0.value), f.0.len) first.pair ∙ ap (λ (bytes : List ℕ). (f.0.key, f.0.value) ∷ pairs_in job bytes) (sym (rest_is lists f.0 first)) in
-      let here = at_place (λ (bytes : List ℕ). ArePairs job bytes × IsRun job (pairs_in job bytes)) lists f.0.list first.bytes first.there holds.runs in
-      let run : IsRun job ((f.0.key, f.0.value) ∷ pairs_in job bytes) = subst (IsRun job) pairs here.1 in
-      record {
-        all = fronts_added (λ j. cond (eqb f.0.list j) 0 (left_at now j)) (left_at now) now f.0.list bytes rest after
-            (fronts_moved lists f.0.list bytes rest popped.0) (get-set_same lists f.0.list first.bytes bytes first.there) adds
-            (λ j. elim (eqb f.0.list j) as (λ b. eqb f.0.list j ≡ b → left_at now j ≡ cond b 0 (left_at now j) + cond b (left_at now f.0.list) 0) [
-              | true ↦ λ t. let same : left_at now j ≡ left_at now f.0.list = ap (left_at now) (sym (eqb-true f.0.list j t)) in omega arith
-              | false ↦ λ _. omega arith
-            ] refl);
-        runs = set_each (λ (bytes : List ℕ). ArePairs job bytes × IsRun job (pairs_in job bytes)) lists f.0.list bytes (pairs_left lists f.0 holds.runs first, run.1) holds.runs;
-      }
+  -- The list at a place has bytes and no front. No list has a key below k, and none of those before it has k.
+  pub record Opened (k : K) (i : ℕ) (bytes : List ℕ) (lists : List (List ℕ)) (fronts : List F) : Type 0 where
+    pub there : slice_get lists i ≡ Some bytes
+    pub all : AreFronts job (λ j. cond (eqb i j) 0 (left_at lists j)) lists fronts
+    pub runs : AreRuns job lists
+    pub low : AreNotBelow job k lists
+    pub before : AllByRecursion (λ (bytes : List ℕ). Without job.cmp k (pairs_in job bytes)) (take i lists)
 
-  -- nothing below a key stays so
-  pub not_below_kept : (k : K) (lists : List (List ℕ)) (f : Front K V) → IsFirst job lists f → AreNotBelow job k lists → AreNotBelow job k (with_rest lists f.list f.len)
-  not_below_kept k lists f first h =
-      let bytes = rest_at lists f.list f.len in
-      let pairs : pairs_in job first.bytes ≡ (f.key, f.value) ∷ pairs_in job bytes = first_pair job key_laws value_laws first.bytes ((f.key, f.value), f.len) first.pair ∙ ap (λ (bytes : List ℕ). (f.key, f.value) ∷ pairs_in job bytes) (sym (rest_is lists f first)) in
-      let all : NotBelow job.cmp k ((f.key, f.value) ∷ pairs_in job bytes) = subst (NotBelow job.cmp k) pairs (at_place (λ (bytes : List ℕ). NotBelow job.cmp k (pairs_in job bytes)) lists f.list first.bytes first.there h) in
-      set_each (λ (bytes : List ℕ). NotBelow job.cmp k (pairs_in job bytes)) lists f.list bytes all.1 h
+  -- the list of the greatest front, which was popped
+  pub opened : (lists : List (List ℕ)) (fronts rest : List F) (f : F) → Holds job lists fronts → IsUpperBound (front_cmp job) f fronts → IsPermutation fronts (f ∷ rest) → IsHeap (front_cmp job) rest →
+      (first : IsFirst job lists f.0) × Opened f.0.key f.0.list first.bytes lists rest
+  opened lists fronts rest f holds upper moved heap =
+      let popped = fronts_popped lists fronts rest f holds.all moved heap in (
+        popped.1,
+        record {
+          there = popped.1.there;
+          all = popped.0;
+          runs = holds.runs;
+          low = least_is lists fronts f holds upper;
+          before = each_before (λ bytes. Without job.cmp f.0.key (pairs_in job bytes)) lists f.0.list (λ j bytes l e. (bounded lists fronts f holds upper j bytes e).1 l);
+        },
+      )
+
+  -- a pair of the key is taken off it
+  taken_off : (k : K) (v : V) (i len : ℕ) (bytes : List ℕ) (lists : List (List ℕ)) (fronts : List F) → Opened k i bytes lists fronts → pair_at job bytes ≡ Some ((k, v), len) →
+      Opened k i (drop len bytes) (set lists i (drop len bytes)) fronts × Passes job k (v ∷ []) lists (set lists i (drop len bytes))
+  taken_off k v i len bytes lists fronts o first =
+      let rest = drop len bytes in
+      let pairs : pairs_in job bytes ≡ (k, v) ∷ pairs_in job rest = first_pair job key_laws value_laws bytes ((k, v), len) first in
+      let here = at_place (λ (bytes : List ℕ). ArePairs job bytes × IsRun job (pairs_in job bytes)) lists i bytes o.there o.runs in
+      let run : IsRun job ((k, v) ∷ pairs_in job rest) = subst (IsRun job) pairs here.1 in
+      let low : NotBelow job.cmp k ((k, v) ∷ pairs_in job rest) = subst (NotBelow job.cmp k) pairs (at_place (λ (bytes : List ℕ). NotBelow job.cmp k (pairs_in job bytes)) lists i bytes o.there o.low) in
+      let itself : eq_by_cmp job.cmp k k ≡ true = ap is_eq (tied_itself order k) in (
+        record {
+          there = get-set_same lists i bytes rest o.there;
+          all = fronts_moved lists i rest fronts o.all;
+          runs = set_each (λ (bytes : List ℕ). ArePairs job bytes × IsRun job (pairs_in job bytes)) lists i rest (pairs_behind job key_laws value_laws bytes ((k, v), len) first here.0, run.1) o.runs;
+          low = set_each (λ (bytes : List ℕ). NotBelow job.cmp k (pairs_in job bytes)) lists i rest low.1 o.low;
+          before = subst (AllByRecursion (λ (bytes : List ℕ). Without job.cmp k (pairs_in job bytes))) (sym (take-set lists i rest)) o.before;
+        },
+        record {
+          values = ap (map (λ (p : K × V). p.1)) (passes_off (pairs_in job) (λ (p : K × V). eq_by_cmp job.cmp k p.0) lists i bytes rest (k, v) o.there pairs itself o.before);
+          others = fails_off (pairs_in job) (λ (p : K × V). not (eq_by_cmp job.cmp k p.0)) lists i bytes rest (k, v) o.there pairs (ap not itself);
+        },
+      )
+
+  -- so many pairs of the key are
+  pub run_taken : (k : K) (vs : List V) (i : ℕ) (bytes rest : List ℕ) (lists : List (List ℕ)) (fronts : List F) → Opened k i bytes lists fronts → BeginWith job k vs bytes rest →
+      Opened k i rest (set lists i rest) fronts × Passes job k vs lists (set lists i rest)
+  run_taken k [] i bytes rest lists fronts o is =
+      subst (λ (rest : List ℕ). Opened k i rest (set lists i rest) fronts × Passes job k [] lists (set lists i rest)) is
+      (subst (λ (now : List (List ℕ)). Opened k i bytes now fronts × Passes job k [] lists now) (sym (set_itself lists i bytes o.there)) (o, record { values = refl; others = refl }))
+  run_taken k (v ∷ vs) i bytes rest lists fronts o (len, first, more) =
+      let one = taken_off k v i len bytes lists fronts o first in
+      let all = run_taken k vs i (drop len bytes) rest (set lists i (drop len bytes)) fronts one.0 more in
+      subst (λ (now : List (List ℕ)). Opened k i rest now fronts × Passes job k (v ∷ vs) lists now) (set-set lists i (drop len bytes) rest)
+      (all.0, record { values = one.1.values ∙ ap (λ (ws : List V). v ∷ ws) all.1.values; others = one.1.others ∙ all.1.others })
+
+  -- its front is added
+  pub settled : (k : K) (i : ℕ) (bytes : List ℕ) (lists : List (List ℕ)) (fronts after : List F) → Opened k i bytes lists fronts → Adds job i bytes fronts after → Holds job lists after
+  settled k i bytes lists fronts after o adds = record {
+    all = fronts_added (λ j. cond (eqb i j) 0 (left_at lists j)) (left_at lists) lists i bytes fronts after o.all o.there adds
+        (λ j. elim (eqb i j) as (λ b. eqb i j ≡ b → left_at lists j ≡ cond b 0 (left_at lists j) + cond b (left_at lists i) 0) [
+          | true ↦ λ t. let same : left_at lists j ≡ left_at lists i = ap (left_at lists) (sym (eqb-true i j t)) in omega arith
+          | false ↦ λ _. omega arith
+        ] refl);
+    runs = o.runs;
+  }
 
   -- the key of a front is not below
   pub front_not_below : (k : K) (lists : List (List ℕ)) (f : Front K V) → IsFirst job lists f → AreNotBelow job k lists → is_gt (job.cmp k f.key) ≡ false
@@ -326,16 +359,25 @@ module _ {K V : Type 0} (job : Computation K V) where
     first = ((place, pair), tt);
   }
 
-pub on_ok_always : {A E : Type 0} (r : Result A E) (P : Type 0) → P → OnOk r P
-on_ok_always (Ok x) P h = h
-on_ok_always (Err e) P h = tt
+pub at_some : {A : Type 0} (o : Option A) (P : A → Type 0) (x : A) → o ≡ Some x → IfSome o P → P x
+at_some None P x e h = absurd cc
+at_some (Some y) P x e h = subst P (some_is y x e) h
 
--- a list of bytes was cut at its front
-pub rest_set : (xs : List (Bor (List ℕ))) (i len : ℕ) (b new : Bor (List ℕ)) → i < length xs → b.now ≡ (get_or xs i b).now → new.now ≡ take (length b.now - len) (drop len b.now) → map (λ (b : Bor (List ℕ)). b.now) (set xs i new) ≡ with_rest (map (λ (b : Bor (List ℕ)). b.now) xs) i len
-rest_set [] i len b new l at is = absurd (omega arith)
-rest_set (x ∷ xs) zero len b new l at is =
-    ap (λ (r : List ℕ). r ∷ map (λ (b : Bor (List ℕ)). b.now) xs) (is ∙ take_all (length b.now - len) (drop len b.now) (omega (arith, length-drop len b.now)) ∙ ap (drop len) at)
-rest_set (x ∷ xs) (suc i) len b new l at is = ap (λ (rs : List (List ℕ)). x.now ∷ rs) (rest_set xs i len b new (omega arith) at is)
+pub on_ok_then : {A E : Type 0} (r : Result A E) {P Q : Type 0} → (P → Q) → OnOk r P → OnOk r Q
+on_ok_then (Ok x) f h = f h
+on_ok_then (Err e) f h = tt
+
+-- a list of bytes was put
+pub lent_set : (xs : List (Bor (List ℕ))) (i : ℕ) (new : Bor (List ℕ)) → map (λ (b : Bor (List ℕ)). b.now) (set xs i new) ≡ set (map (λ (b : Bor (List ℕ)). b.now) xs) i new.now
+lent_set [] i new = refl
+lent_set (x ∷ xs) zero new = refl
+lent_set (x ∷ xs) (suc i) new = ap (λ (rs : List (List ℕ)). x.now ∷ rs) (lent_set xs i new)
+
+-- a list of bytes, cut at its front
+pub lent_rest : (xs : List (Bor (List ℕ))) (i len : ℕ) (b : Bor (List ℕ)) → i < length xs → b.now ≡ (get_or xs i b).now → take (length b.now - len) (drop len b.now) ≡ rest_at (map (λ (b : Bor (List ℕ)). b.now) xs) i len
+lent_rest [] i len b l at = absurd (omega arith)
+lent_rest (x ∷ xs) zero len b l at = take_all (length b.now - len) (drop len b.now) (omega (arith, length-drop len b.now)) ∙ ap (drop len) at
+lent_rest (x ∷ xs) (suc i) len b l at = lent_rest xs i len b (omega arith) at
 
 module _ {K V : Type 0} (job : Computation K V) (key_laws : CodecLaws job.key) (value_laws : CodecLaws job.value) (order : IsTotalOrder job.cmp) where
   -- the fronts of the first lists

@@ -1,11 +1,16 @@
 -- The pairs that bytes begin with, one by one.
-use Rattle.std.proofs.Common.{◌≡◌, ℕ, zero, suc, ◌+◌, ◌<◌, ◌≤◌, List, [], ◌∷◌, ◌++◌, length, drop, Option, Some, None, refl, sym, ap, ◌∙◌, arith, length-drop, length-append, append_assoc}
+use Rattle.std.proofs.Common.{◌≡◌, ◌≢◌, ℕ, IsTrue, true, false, eqb, cond, zero, suc, ◌+◌, ◌<◌, ◌≤◌, List, [], ◌∷◌, ◌++◌, length, drop, Option, Some, None, refl, sym, ap, ◌∙◌, arith, length-drop, length-append, append_assoc}
 use Rattle.std.proofs.lemmas.List.{drop_at}
 use Rattle.std.specs.Option.{option_map, option_map_or, option_and_then}
+use Rattle.std.specs.List.{starts_with}
 use Rattle.mr_user.specs.Computation.{Computation}
+use Rattle.mr_user.specs.Faults.{BadWireIf}
+use Rattle.mr_user.specs.declared.fault.UserFault.{UserFault}
+use Rattle.mr_user.specs.declared.fault.UserFault.TheVariants as user
 use Rattle.mr_user.specs.Laws.{CodecLaws, PairFits, PairsFit}
 use Rattle.mr_mapside.specs.Block.{spelled_pair, spelled}
-use Rattle.mr_mapside.specs.Runs.{pair_at, pairs_upto, pairs_in, unread_upto, ArePairs}
+use Rattle.mr_mapside.specs.Runs.{pair_at, named_at, pairs_upto, pairs_in, unread_upto, ArePairs}
+use Rattle.mr_mapside.specs.inner.Fronts.{BeginWith}
 
 module _ {K V : Type 0} (job : Computation K V) (key_laws : CodecLaws job.key) (value_laws : CodecLaws job.value) where
   some_is : {A : Type 0} (x y : A) → Some x ≡ Some y → x ≡ y
@@ -111,6 +116,22 @@ module _ {K V : Type 0} (job : Computation K V) (key_laws : CodecLaws job.key) (
       let left : unread_upto job (length (b ∷ bytes)) (b ∷ bytes) ≡ b ∷ bytes = ap (λ o. option_map_or (λ (found : (K × V) × ℕ). unread_upto job (length bytes) (drop found.1 (b ∷ bytes))) o (b ∷ bytes)) none in
       cc
 
+  -- bytes that begin with a key as it is written begin with a pair of that key, if its value can be read
+  pub named_pair : (k : K) (name bytes : List ℕ) → IsTrue (job.key.fits k) × (name ≡ job.key.written k) → bytes ≡ name ++ drop (length name) bytes →
+      pair_at job bytes ≡ option_map (λ (value : V × ℕ). ((k, value.0), length name + value.1)) (job.value.read_at (drop (length name) bytes))
+  named_pair k name bytes is begins =
+      let read : job.key.read_at bytes ≡ Some (k, length name) =
+      ap job.key.read_at (begins ∙ ap (λ (front : List ℕ). front ++ drop (length name) bytes) is.1) ∙ key_laws.read_written k (drop (length name) bytes) is.0 ∙ ap (λ (front : List ℕ). Some (k, length front)) (sym is.1) in
+      ap (option_and_then (λ (key : K × ℕ). option_map (λ (value : V × ℕ). ((key.0, value.0), key.1 + value.1)) (job.value.read_at (drop key.1 bytes)))) read
+
+  -- such a pair, if it was read
+  pub named_some : (k : K) (name bytes : List ℕ) (found : Option (V × ℕ)) (value : V × ℕ) → found ≡ Some value → option_map (λ (value : V × ℕ). ((k, value.0), value.1)) found ≡ named_at job name bytes → pair_at job bytes ≡ Some ((k, value.0), value.1)
+  named_some k name bytes found value is e =
+      elim (starts_with eqb bytes name) as (λ b. option_map (λ (value : V × ℕ). ((k, value.0), value.1)) found ≡ cond b (pair_at job bytes) None → pair_at job bytes ≡ Some ((k, value.0), value.1)) [
+        | true ↦ λ e. sym e ∙ ap (option_map (λ (value : V × ℕ). ((k, value.0), value.1))) is
+        | false ↦ λ e. absurd (let none = sym (ap (option_map (λ (value : V × ℕ). ((k, value.0), value.1))) is) ∙ e in cc)
+      ] e
+
   -- a pair that was written is read again, whatever follows it
   pub pair_again : (p : K × V) (rest : List ℕ) → PairFits job p → pair_at job (spelled_pair job p ++ rest) ≡ Some (p, length (spelled_pair job p))
   pair_again p rest h =
@@ -139,3 +160,15 @@ module _ {K V : Type 0} (job : Computation K V) (key_laws : CodecLaws job.key) (
       unread_first (spelled job (p ∷ ps)) (p, length (spelled_pair job p)) (pair_again p (spelled job ps) fit.0)
       ∙ ap (λ bytes. unread_upto job (length bytes) bytes) (drop_at (spelled_pair job p) (spelled job ps) (length (spelled_pair job p)) refl)
       ∙ pairs_written ps fit.1
+
+-- bytes that can't be read, where memory was not wanting
+pub bad_wire : (fault : UserFault) {P : Type 0} → fault ≢ user.NoMemory → BadWireIf fault P → P
+bad_wire user.NoMemory n h = absurd (n refl)
+bad_wire user.Refused n h = absurd h
+bad_wire user.BadWire n h = h
+
+module _ {K V : Type 0} (job : Computation K V) where
+  -- one pair more of a key
+  pub begins_more : (k : K) (v : V) (len : ℕ) (vs : List V) (bytes rest : List ℕ) → BeginWith job k vs bytes rest → pair_at job rest ≡ Some ((k, v), len) → BeginWith job k (vs ++ v ∷ []) bytes (drop len rest)
+  begins_more k v len [] bytes rest is first = (len, ap (pair_at job) is ∙ first, ap (drop len) is)
+  begins_more k v len (w ∷ vs) bytes rest (n, begun, more) first = (n, begun, begins_more k v len vs (drop n bytes) rest more first)

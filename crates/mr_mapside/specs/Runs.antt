@@ -1,16 +1,24 @@
 -- Runs: pairs by rising keys, kept as they are written, and merged by key (our own profile; the values of a key come by run and
 -- then by place).
-use Rattle.std.specs.Prelude.{◌≡◌, ℕ, zero, suc, ◌+◌, false, List, [], ◌∷◌, length, drop, Option, Some, None}
+use Rattle.std.specs.Prelude.{◌≡◌, ℕ, IsTrue, zero, suc, ◌+◌, nat_eq, cond, false, List, [], ◌∷◌, length, drop, Option, Some, None}
 use Rattle.std.specs.Option.{option_map, option_map_or, option_and_then}
-use Rattle.std.specs.List.{flat_map, AllByRecursion}
+use Rattle.std.specs.List.{flat_map, starts_with, AllByRecursion}
 use Rattle.std.specs.Ordering.{is_lt}
-use Rattle.mr_user.specs.Computation.{Computation}
+use Rattle.mr_user.specs.Computation.{Codec, Computation}
 use Rattle.mr_user.specs.Groups.{groups_of}
+
+-- a key that fits, as it is written
+abbrev pub IsName : {K : Type 0} → Codec K → K → List ℕ → Type 0
+IsName codec k name = IsTrue (codec.fits k) × (name ≡ codec.written k)
 
 module _ {K V : Type 0} (job : Computation K V) where
   -- the pair at the front of bytes, and its length
   abbrev pub pair_at : List ℕ → Option ((K × V) × ℕ)
   pair_at bytes = option_and_then (λ key. option_map (λ value. ((key.0, value.0), key.1 + value.1)) (job.value.read_at (drop key.1 bytes))) (job.key.read_at bytes)
+
+  -- the pair at the front of bytes that begin with a name, and its length
+  abbrev pub named_at : List ℕ → List ℕ → Option ((K × V) × ℕ)
+  named_at name bytes = cond (starts_with nat_eq bytes name) (pair_at bytes) None
 
   -- the pairs that bytes begin with, up to a number of them
   abbrev pub pairs_upto : ℕ → List ℕ → List (K × V)

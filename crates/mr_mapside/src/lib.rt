@@ -29,7 +29,8 @@
 //! - **`RunGroups`** merges lists of written pairs, each by rising keys: `next_group` gives the groups of all their pairs, by
 //!   rising keys, each key's values by list and then by place. Its condition asks that each list is pairs to its end,
 //!   so nothing but an allocation failure is answered, and that only where a growth was refused; after it nothing comes. It
-//!   holds one pair of each list, beside the group that it gives. `read_pair` is the pair that bytes begin with.
+//!   holds one pair of each list, beside the group that it gives. `read_pair` is the pair that bytes begin with;
+//!   `read_value` is its value, read behind a key whose bytes are known.
 //! - **`blocks`** cuts bytes into so many blocks and takes no memory: some exactly where the bytes are so many
 //!   blocks behind their lengths and nothing else, and then it is those. `OutputBlocks::get` is the block at a
 //!   place, `count` how many there are.
@@ -57,7 +58,7 @@ pub use cut_output::CutOutput;
 pub use cutting::{OutputBlocks, blocks};
 pub use fault::{ShuffleFault, WorkFault};
 pub use laws::{blocks_are_one, output_is_its_blocks};
-pub use merging::{RunGroups, read_pair};
+pub use merging::{RunGroups, read_pair, read_value};
 pub use output::MapOutput;
 pub use work::map_work;
 

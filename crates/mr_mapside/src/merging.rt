@@ -1,10 +1,13 @@
 //! Runs, merged by key.
-ghost use Rattle.std.specs.Prelude.{◌≡◌, ◌≢◌, ◌≤◌, ◌<◌, [], length, map, get_or, vec_len, Some, IfOk, IfErr, OnOk, OnErr};
+ghost use Rattle.std.specs.Prelude.{◌≡◌, ◌≢◌, ◌≤◌, ◌<◌, [], length, map, nat_eq, get_or, vec_len, Some, IfOk, IfErr, IfSome, OnOk, OnErr};
 ghost use Rattle.std.specs.BinaryHeap.{heap_items};
+ghost use Rattle.std.specs.List.{starts_with};
+ghost use Rattle.std.specs.Option.{option_map};
+ghost use Rattle.mr_user.specs.declared.fault.UserFault.TheVariants as user;
 ghost use Rattle.mr_user.specs.Computation.{computation};
 ghost use Rattle.mr_user.specs.Faults.{BadWireIf};
-ghost use Rattle.mr_mapside.specs.Runs.{pair_at, ArePairs, AreRuns, merged, GivesGroup};
-ghost use Rattle.mr_mapside.specs.inner.Fronts.{Adds, Holds, AreNotBelow, Takes, rest_at, with_rest};
+ghost use Rattle.mr_mapside.specs.Runs.{IsName, pair_at, named_at, ArePairs, AreRuns, merged, GivesGroup};
+ghost use Rattle.mr_mapside.specs.inner.Fronts.{Adds, Holds, AreNotBelow, Takes, TakesRun, rest_at};
 
 use crate::front::Front;
 use mr_user::{Job, UserFault, Wire};
@@ -57,53 +60,112 @@ fn add_front<J: Job>(
     }
 }
 
-// Takes the first bytes of a list off it, and adds the pair that is then its first.
-fn refill<'a, J: Job>(
+/// The value of the pair at the front of bytes, and the pair's length, where the bytes begin with a key as it is written: the key is not
+/// read. None where they do not, and where no value follows it. Answers no fault but an allocation failure.
+pub fn read_value<J: Job>(
+    alloc: Global,
+    key: &J::Key,
+    name: &[u8],
+    bytes: &[u8],
+) -> Result<Option<(J::Value, usize)>, AllocError>
+    requires { IsName J.Key.codec key.now name.now }
+    ensures pair { IfOk result (λ found. option_map (λ value. ((key.now, value.0), value.1)) found ≡ named_at (computation J.Key.cmp J.Key.codec J.Value.codec J.functions) name.now bytes.now) }
+    ensures within { IfOk result (λ found. IfSome found (λ value. value.1 ≤ length bytes.now)) }
+{
+    if !begins_with(bytes, name) {
+        return Ok(None);
+    }
+    match J::Value::read(alloc, &bytes[name.len()..]) {
+        Ok((value, len)) => Ok(Some((value, name.len() + len))),
+        Err(fault) => {
+            no_memory(fault)?;
+            Ok(None)
+        }
+    }
+}
+
+// Whether bytes begin with a name. Most of those that do not differ in its last byte, so that one is looked at first.
+fn begins_with(bytes: &[u8], name: &[u8]) -> bool
+    ensures { result ≡ starts_with nat_eq bytes.now name.now }
+{
+    let len = name.len();
+    if len <= bytes.len() && 0 < len && bytes[len - 1] != name[len - 1] {
+        return false;
+    }
+    bytes.starts_with(name)
+}
+
+// An allocation failure, where a fault is one.
+fn no_memory(fault: UserFault) -> Result<(), AllocError>
+    ensures { OnOk result (fault ≢ user.NoMemory) }
+{
+    match fault {
+        UserFault::NoMemory => Err(AllocError),
+        UserFault::Refused | UserFault::BadWire => Ok(()),
+    }
+}
+
+// Takes the first bytes of a list off it, then the pairs of a key that follow them, and adds the pair that is then its first.
+fn take_run<'a, J: Job>(
     alloc: Global,
     lists: &mut Vec<&'a [u8]>,
     fronts: &mut BinaryHeap<Reverse<Front<J::Key, J::Value>>>,
+    key: &J::Key,
+    name: &[u8],
     list: usize,
     len: usize,
+    values: &mut Vec<J::Value>,
 ) -> Result<(), AllocError>
+    requires name { IsName J.Key.codec key.now name.now }
     requires there { list < vec_len lists.old }
     requires within { len ≤ length (get_or (map (λ bytes. bytes.now) lists.old.items) list []) }
     requires pairs { ArePairs (computation J.Key.cmp J.Key.codec J.Value.codec J.functions) (rest_at (map (λ bytes. bytes.now) lists.old.items) list len) }
-    ensures lists { OnOk result (map (λ bytes. bytes.now) lists.new.items ≡ with_rest (map (λ bytes. bytes.now) lists.old.items) list len) }
-    ensures fronts { OnOk result (Adds (computation J.Key.cmp J.Key.codec J.Value.codec J.functions) list (rest_at (map (λ bytes. bytes.now) lists.old.items) list len) (heap_items fronts.old) (heap_items fronts.new)) }
+    ensures { OnOk result (TakesRun (computation J.Key.cmp J.Key.codec J.Value.codec J.functions) key.now list (rest_at (map (λ bytes. bytes.now) lists.old.items) list len)
+        (map (λ bytes. bytes.now) lists.old.items) (heap_items fronts.old) values.old.items (map (λ bytes. bytes.now) lists.new.items) (heap_items fronts.new) values.new.items) }
 {
-    let rest = &lists[list][len..];
+    let mut rest = &lists[list][len..];
+    while let Some((value, len)) = read_value::<J>(alloc, key, name, rest)? {
+        values.push(value)?;
+        rest = &rest[len..];
+    }
     lists[list] = rest;
     add_front::<J>(alloc, fronts, list, rest)
 }
 
-// Takes the first value of a key off the lists, if they have one.
+// Takes the values of a key off one of the lists, if one of them begins with the key. Whether one did.
 fn take_tied<'a, J: Job>(
     alloc: Global,
     lists: &mut Vec<&'a [u8]>,
     fronts: &mut BinaryHeap<Reverse<Front<J::Key, J::Value>>>,
     key: &J::Key,
-) -> Result<Option<J::Value>, AllocError>
+    name: &[u8],
+    values: &mut Vec<J::Value>,
+) -> Result<bool, AllocError>
+    requires name { IsName J.Key.codec key.now name.now }
     requires holds { Holds (computation J.Key.cmp J.Key.codec J.Value.codec J.functions) (map (λ bytes. bytes.now) lists.old.items) (heap_items fronts.old) }
     requires least { AreNotBelow (computation J.Key.cmp J.Key.codec J.Value.codec J.functions) key.now (map (λ bytes. bytes.now) lists.old.items) }
     ensures holds { OnOk result (Holds (computation J.Key.cmp J.Key.codec J.Value.codec J.functions) (map (λ bytes. bytes.now) lists.new.items) (heap_items fronts.new)) }
     ensures least { OnOk result (AreNotBelow (computation J.Key.cmp J.Key.codec J.Value.codec J.functions) key.now (map (λ bytes. bytes.now) lists.new.items)) }
-    ensures takes { IfOk result (λ value. Takes (computation J.Key.cmp J.Key.codec J.Value.codec J.functions) key.now (map (λ bytes. bytes.now) lists.old.items) value (map (λ bytes. bytes.now) lists.new.items)) }
+    ensures takes { IfOk result (λ some. Takes (computation J.Key.cmp J.Key.codec J.Value.codec J.functions) key.now (map (λ bytes. bytes.now) lists.old.items) values.old.items some (map (λ bytes. bytes.now) lists.new.items) values.new.items) }
 {
     match fronts.peek() {
         Some(front) => {
             if key.cmp(&front.0.key) == Ordering::Less {
-                return Ok(None);
+                return Ok(false);
             }
         }
-        None => return Ok(None),
+        None => return Ok(false),
     }
     match fronts.pop() {
         Some(front) => {
             let front = front.0;
-            refill::<J>(alloc, lists, fronts, front.list, front.len)?;
-            Ok(Some(front.value))
+            values.push(front.value)?;
+            take_run::<J>(
+                alloc, lists, fronts, key, name, front.list, front.len, values,
+            )?;
+            Ok(true)
         }
-        None => Ok(None),
+        None => Ok(false),
     }
 }
 
@@ -129,12 +191,13 @@ fn take_group<'a, J: Job>(
         value,
         len,
     } = front;
-    refill::<J>(alloc, lists, fronts, list, len)?;
+    let mut name = Vec::new(alloc);
+    key.fits();
+    key.write(&mut name)?;
     let mut values = Vec::new(alloc);
     values.push(value)?;
-    while let Some(value) = take_tied::<J>(alloc, lists, fronts, &key)? {
-        values.push(value)?;
-    }
+    take_run::<J>(alloc, lists, fronts, &key, &name, list, len, &mut values)?;
+    while take_tied::<J>(alloc, lists, fronts, &key, &name, &mut values)? {}
     Ok(Some((key, values)))
 }
 

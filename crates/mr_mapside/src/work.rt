@@ -85,26 +85,30 @@ fn merged_block<J: Job>(alloc: Global, job: &J, runs: &KeptRuns) -> Result<Vec<u
 {
     let mut groups = RunGroups::<J>::new(alloc, runs.lent(alloc)?)?;
     let mut block = Vec::new(alloc);
+    let mut name = Vec::new(alloc);
     while let Some((key, values)) = groups.next_group(alloc)? {
-        spell_group(alloc, job, &key, &values, &mut block)?;
+        spell_group(alloc, job, &key, &values, &mut name, &mut block)?;
     }
     Ok(block)
 }
 
-// Appends the combined pairs of a key.
+// Appends the combined pairs of a key. The key is written once, to where the name of the key before stood.
 fn spell_group<J: Job>(
     alloc: Global,
     job: &J,
     key: &J::Key,
     values: &[J::Value],
+    name: &mut Vec<u8>,
     out: &mut Vec<u8>,
 ) -> Result<(), AllocError>
     requires { values.now ≢ [] }
     ensures { let all = computation J.Key.cmp J.Key.codec J.Value.codec J.functions in
         OnOk result (out.new.items ≡ out.old.items ++ spelled all (combined_group all (key.now, values.now))) }
 {
+    name.clear();
+    key.write(name)?;
     for value in &job.combine(alloc, key, values)? {
-        key.write(out)?;
+        out.extend_from_slice(name)?;
         value.write(out)?;
     }
     Ok(())

@@ -1,6 +1,10 @@
 -- A piece is read pair by pair.
-use Rattle.std.proofs.Common.{◌≡◌, ℕ, zero, suc, ◌<◌, ◌≤◌, true, false, cond, List, [], ◌∷◌, ◌++◌, length, drop, Option, Some, None, Result, Ok, Err, refl, sym, ap, ◌∙◌, arith, length-drop}
-use Rattle.std.specs.Result.{result_err}
+use Rattle.std.proofs.Common.{◌≡◌, ℕ, zero, suc, ◌<◌, ◌≤◌, true, false, cond, List, [], ◌∷◌, ◌++◌, length, drop, Option, Some, None, Result, Ok, Err, refl, sym, ap, subst, ◌∙◌, arith, length-drop}
+use Rattle.std.proofs.lemmas.Cmp.{tied_itself}
+use Rattle.std.specs.Cmp.{IsTotalOrder}
+use Rattle.std.specs.Ordering.{is_lt}
+use Rattle.std.proofs.lemmas.Result.{err_from_is_err_and}
+use Rattle.std.specs.Result.{result_err, IfErr, IsErrAnd}
 use Rattle.std.specs.Option.{option_map_or}
 use Rattle.mr_user.specs.Computation.{Computation}
 use Rattle.mr_user.specs.Laws.{CodecLaws}
@@ -8,8 +12,10 @@ use Rattle.mr_user.specs.Faults.{BadWireIf}
 use Rattle.mr_user.specs.declared.fault.UserFault.{UserFault}
 use Rattle.mr_user.specs.declared.fault.UserFault.TheVariants as user
 use Rattle.mr_shuffle.specs.inner.Fault.{ReadFaultIs, read_fault}
+use Rattle.mr_shuffle.specs.inner.Reading.{ReadsPair, NoPairIs}
 use Rattle.mr_mapside.specs.declared.fault.ShuffleFault.{ShuffleFault}
 use Rattle.mr_mapside.specs.declared.fault.ShuffleFault.TheVariants.{Truncated, Disorder}
+use Rattle.mr_mapside.specs.declared.fault.ShuffleFault.TheVariants as shuffle
 use Rattle.mr_mapside.specs.Runs.{pair_at}
 use Rattle.mr_mapside.proofs.RunReading.{pair_some}
 use Rattle.mr_shuffle.specs.Part.{in_front, goes_down, pairs_at}
@@ -59,6 +65,10 @@ in_front-fault : {A E : Type 0} (x : A) (r : Result (List A) E) → result_err (
 in_front-fault x (Ok ys) = refl
 in_front-fault x (Err e) = refl
 
+-- a fault that a `?` hands on
+pub on_exit : {A E : Type 0} (P : E → Type 0) (r : Result A E) (e : E) → IsErrAnd r (λ f. f ≡ e) → P e → IfErr r P
+on_exit P r e is h = let at = err_from_is_err_and r is in subst (λ s. IfErr s P) (sym at.1) (subst P (sym at.2) h)
+
 -- a result whose fault is known
 pub err_only : {A E : Type 0} (r : Result A E) (e : E) → result_err r ≡ Some e → r ≡ Err e
 err_only (Ok x) e h = cc
@@ -91,7 +101,18 @@ module _ {K V : Type 0} (job : Computation K V) (key_laws : CodecLaws job.key) (
   read_whole all before (b ∷ bytes) was e = absurd (omega arith)
 
   -- a reading gave no pair
-  pub not_read : (all : Result (List (K × V)) ShuffleFault) (before : Option K) (rest : List ℕ) (fault : UserFault) → result_err all ≡ result_err (pairs_at job (length rest) before rest) → 0 < length rest → BadWireIf fault (pair_at job rest ≡ None) → ReadFaultIs (read_fault fault) all
-  not_read all before rest user.NoMemory was some bad = tt
-  not_read all before rest user.Refused was some bad = absurd bad
-  not_read all before rest user.BadWire was some bad = cut_short all before rest was some bad
+  pub no_pair : (all : Result (List (K × V)) ShuffleFault) (before : Option K) (rest : List ℕ) (fault : ShuffleFault) → result_err all ≡ result_err (pairs_at job (length rest) before rest) → 0 < length rest → NoPairIs fault job before rest → ReadFaultIs fault all
+  no_pair all before rest shuffle.NoMemory was some bad = tt
+  no_pair all before rest shuffle.WrongPiece was some bad = bad
+  no_pair all before rest shuffle.Truncated was some bad = cut_short all before rest was some bad
+  no_pair all before rest shuffle.Disorder was some (pair, len, found, down) = gone_down all before rest pair len was some found down
+
+  -- what a reading of one pair answers
+  pub not_read : (before : Option K) (bytes : List ℕ) (fault : UserFault) → BadWireIf fault (pair_at job bytes ≡ None) → NoPairIs (read_fault fault) job before bytes
+  not_read before bytes user.NoMemory bad = tt
+  not_read before bytes user.Refused bad = absurd bad
+  not_read before bytes user.BadWire bad = bad
+
+  -- a pair of the key before it
+  pub same_again : IsTotalOrder job.cmp → (key : K) (value : V) (bytes : List ℕ) (len : ℕ) → pair_at job bytes ≡ Some ((key, value), len) → ReadsPair job (Some key) bytes len (Some key)
+  same_again order key value bytes len read = record { pair = (key, value); read = read; level = ap is_lt (tied_itself order key); is_last = refl }

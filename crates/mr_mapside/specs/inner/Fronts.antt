@@ -1,5 +1,5 @@
 -- The first pairs of lists, in a heap.
-use Rattle.std.specs.Prelude.{◌≡◌, ℕ, nat_eq, cond, List, [], ◌∷◌, ◌++◌, length, drop, get_or, Option, Some, None, false}
+use Rattle.std.specs.Prelude.{◌≡◌, ℕ, Bool, true, false, nat_eq, cond, List, [], ◌∷◌, ◌++◌, length, drop, get_or, Some}
 use Rattle.std.specs.Option.{option_map_or}
 use Rattle.std.specs.List.{AllByRecursion, slice_get, sum_by}
 use Rattle.std.specs.List.Sorted.{IsPermutation}
@@ -65,20 +65,32 @@ module _ {K V : Type 0} (job : Computation K V) where
 abbrev pub rest_at : List (List ℕ) → ℕ → ℕ → List ℕ
 rest_at lists i len = drop len (get_or lists i [])
 
-abbrev pub with_rest : List (List ℕ) → ℕ → ℕ → List (List ℕ)
-with_rest lists i len = set lists i (rest_at lists i len)
-
 module _ {K V : Type 0} (job : Computation K V) where
+  -- bytes begin with pairs of a key that have these values, and the rest follows
+  abbrev pub BeginWith : K → List V → List ℕ → List ℕ → Type 0
+  BeginWith k [] bytes rest = bytes ≡ rest
+  BeginWith k (v ∷ vs) bytes rest = (len : ℕ) × (pair_at job bytes ≡ Some ((k, v), len)) × BeginWith k vs (drop len bytes) rest
+
+  -- The list at a place becomes what follows some pairs of a key that bytes begin with: their values are taken, and the front of
+  -- what follows is added.
+  pub record TakesRun (k : K) (i : ℕ) (bytes : List ℕ) (lists : List (List ℕ)) (fronts : List (Reverse (Front K V))) (values : List V) (lists_then : List (List ℕ)) (fronts_then : List (Reverse (Front K V))) (values_then : List V) : Type 0 where
+    pub taken : List V
+    pub rest : List ℕ
+    pub begins : BeginWith k taken bytes rest
+    pub now : lists_then ≡ set lists i rest
+    pub more : values_then ≡ values ++ taken
+    pub front : Adds job i rest fronts fronts_then
+
   -- no list has a key below k
   abbrev pub AreNotBelow : K → List (List ℕ) → Type 0
   AreNotBelow k lists = AllByRecursion (λ bytes. NotBelow job.cmp k (pairs_in job bytes)) lists
 
-  -- the first value of a key is taken off the lists, and nothing of other keys
-  pub record Passes (k : K) (v : V) (before after : List (List ℕ)) : Type 0 where
-    pub values : values_of job.cmp k (pairs_in_all job before) ≡ v ∷ values_of job.cmp k (pairs_in_all job after)
+  -- the first values of a key are taken off the lists, and nothing of other keys
+  pub record Passes (k : K) (vs : List V) (before after : List (List ℕ)) : Type 0 where
+    pub values : values_of job.cmp k (pairs_in_all job before) ≡ vs ++ values_of job.cmp k (pairs_in_all job after)
     pub others : others_of job.cmp k (pairs_in_all job before) ≡ others_of job.cmp k (pairs_in_all job after)
 
-  -- the first value of a key is taken off the lists, if they have one
-  abbrev pub Takes : K → List (List ℕ) → Option V → List (List ℕ) → Type 0
-  Takes k before None after = (after ≡ before) × Without job.cmp k (pairs_in_all job before)
-  Takes k before (Some v) after = Passes k v before after
+  -- the first values of a key are taken off the lists, one at least, if they have one
+  abbrev pub Takes : K → List (List ℕ) → List V → Bool → List (List ℕ) → List V → Type 0
+  Takes k before values false after then = (after ≡ before) × (then ≡ values) × Without job.cmp k (pairs_in_all job before)
+  Takes k before values true after then = (v : V) × (vs : List V) × (then ≡ values ++ v ∷ vs) × Passes k (v ∷ vs) before after

@@ -6,8 +6,8 @@ use Rattle.mr_mapside.specs.Runs.{merged, pairs_in_all}
 use Rattle.mr_mapside.proofs.Keeping.{groups_some}
 use Rattle.mr_mapside.proofs.work.merged_block.Goals as goal
 
-pub loop-block-init : goal.loop-block-init
-loop-block-init g c =
+pub loop-name-init : goal.loop-name-init
+loop-name-init g c =
     let all = computation g.J.Key.Ord.cmp g.J.Key.Wire.codec g.J.Value.Wire.codec g.J.Job.functions in
     let same = c.in_ok-groups.ensures ∙ ap (merged all) c.in_ok-lent.ensures in
     record {

@@ -5,13 +5,13 @@ use Rattle.mr_mapside.specs.Block.{combined_group, spelled}
 use Rattle.mr_mapside.specs.Runs.{merged}
 use Rattle.mr_mapside.proofs.work.merged_block.Given as goal
 
-abbrev pub invariant-loop-block : goal.invariant-loop-block
-invariant-loop-block g l =
+abbrev pub invariant-loop-name : goal.invariant-loop-name
+invariant-loop-name g l =
     let all = computation g.J.Key.Ord.cmp g.J.Key.Wire.codec g.J.Value.Wire.codec g.J.Job.functions in
     record {
       block : spelled all (flat_map (combined_group all) (merged all l.runs)) ≡ l.block.items ++ spelled all (flat_map (combined_group all) l.groups);
       some : AllByRecursion (λ g. g.1 ≢ []) l.groups;
     }
 
-abbrev pub decreases-loop-block : goal.decreases-loop-block
-decreases-loop-block g l = length l.groups
+abbrev pub decreases-loop-name : goal.decreases-loop-name
+decreases-loop-name g l = length l.groups
