@@ -1,5 +1,5 @@
 -- The same of asking and of Done.
-use Rattle.std.proofs.Common.{◌≡◌, ℕ, Bool, true, false, ◌&&◌, ◌||◌, not, cond, List, [], ◌∷◌, ◌++◌, Option, Some, None, Result, Ok, Err, refl, sym, ap, ◌∙◌, true≢false, subst}
+use Rattle.std.proofs.Common.{◌≡◌, ℕ, Bool, true, false, ◌&&◌, ◌||◌, not, cond, List, [], ◌∷◌, ◌++◌, Option, Some, None, Result, Ok, Err, refl, sym, ap, ◌∙◌, ◌⊎◌, inl, inr, true≢false, subst}
 use Rattle.std.specs.List.{list_any}
 use Rattle.mr_ids.specs.Attempt.{Attempt}
 use Rattle.mr_ids.specs.declared.id.TaskId.{TaskId}
@@ -17,7 +17,7 @@ use Rattle.mr_task.specs.declared.reply.DoneReply.{DoneReply}
 use Rattle.mr_task.specs.declared.reply.DoneReply.TheVariants as reply
 use Rattle.mr_task.specs.Calls.{TaskCall, Asks, Reports}
 use Rattle.mr_task.specs.Readings.{Seen, seen, next_seen, is_over, is_reduce, is_won, stands, may_accept, may_accept_of, waiting_in, named, named_in, events_by, events_of, state_of}
-use Rattle.mr_task.specs.State.{StandsFor, entry_of, kept, done_answer}
+use Rattle.mr_task.specs.State.{StandsFor, StandsForSome, entry_of, kept, done_answer, reply_or}
 use Rattle.mr_task.specs.Steps as step
 use Rattle.mr_task.specs.Steps.{Task, entry_in, with_entry, if_there, entry_after, with_event, noted, with_end, ended, with_asker, asked, accepted_entry, with_done, done, any_won, is_failed}
 use Rattle.mr_task.proofs.Lists.{kept-same, any-same, first-is}
@@ -247,3 +247,45 @@ done-keeps m t k h a st = let s = done_settles m t k h a st in to_stands (done m
 
 pub done-answers : (m : Task) (t : TaskId) (k : ℕ) (h : List TaskCall) (a : Attempt) → StandsFor m t k h → (done m a).0 ≡ done_answer a t k h
 done-answers m t k h a st = let s = done_settles m t k h a st in s.answered
+
+-- what Done is answered, where a refusal stands for Ignored, tells whether it is accepted, and where it is not nothing changes
+abbrev is_accepted : DoneReply → Bool
+is_accepted reply.Accepted = true
+is_accepted reply.Again = false
+is_accepted reply.Ignored = false
+
+accepted : (x : Result DoneReply TaskFault) → is_accepted (reply_or x reply.Ignored) ≡ true → x ≡ Ok reply.Accepted
+accepted (Ok reply.Accepted) e = refl
+accepted (Ok reply.Again) e = absurd (true≢false (sym e))
+accepted (Ok reply.Ignored) e = absurd (true≢false (sym e))
+accepted (Err f) e = absurd (true≢false (sym e))
+
+pub accepts-now : (m : Task) (a : Attempt) (r : DoneReply) → StandsForSome m
+    → ((t : TaskId) (k : ℕ) (h : List TaskCall) → StandsFor m t k h → r ≡ reply_or (done_answer a t k h) reply.Ignored)
+    → r ≡ reply.Accepted → (done m a).0 ≡ Ok reply.Accepted
+accepts-now m a r some answers is =
+    done-answers m m.task m.app some.0 a some.1 ∙ accepted (done_answer a m.task m.app some.0) (ap is_accepted (sym (answers m.task m.app some.0 some.1) ∙ is))
+
+abbrev chosen : Task → Task → (was may : Bool) → Result DoneReply TaskFault × Task
+chosen m changed was may = cond was (Ok reply.Again, m) (cond may (Ok reply.Accepted, changed) (Ok reply.Ignored, m))
+
+unmoved : (m : Task) (a : Attempt) (o : Option Entry) → is_accepted (reply_or (with_done m a o).0 reply.Ignored) ≡ false → (with_done m a o).1 ≡ m
+unmoved m a None e = refl
+unmoved m a (Some x) e = by-bits x.accepted (step.may_accept a.task.kind m a x) e
+  where
+    changed : Task
+    changed = record m { attempts = with_entry m.attempts a (accepted_entry x); grant = step.grant_after a.task.kind m a }
+
+    by-bits : (was may : Bool) → is_accepted (reply_or (chosen m changed was may).0 reply.Ignored) ≡ false → (chosen m changed was may).1 ≡ m
+    by-bits true may e = refl
+    by-bits false false e = refl
+    by-bits false true e = absurd (true≢false e)
+
+pub stays-unless-accepted : (m : Task) (t : TaskId) (k : ℕ) (h : List TaskCall) (a : Attempt) (r : DoneReply) → StandsFor m t k h
+    → r ≡ reply_or (done_answer a t k h) reply.Ignored → (r ≡ reply.Again) ⊎ (r ≡ reply.Ignored) → (done m a).1 ≡ m
+stays-unless-accepted m t k h a r st is other =
+    unmoved m a (entry_in m.attempts a) (ap (λ x. is_accepted (reply_or x reply.Ignored)) (done-answers m t k h a st) ∙ ap is_accepted (sym is) ∙ not-now other)
+  where
+    not-now : (r ≡ reply.Again) ⊎ (r ≡ reply.Ignored) → is_accepted r ≡ false
+    not-now (inl e) = ap is_accepted e
+    not-now (inr e) = ap is_accepted e

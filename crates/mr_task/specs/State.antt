@@ -75,6 +75,11 @@ done_answer a t k calls =
     if may_accept (seen t k calls) a then Accepted else Ignored)
     else Err Unknown
 
+-- an answer, where a refusal stands for this one
+abbrev pub reply_or : {A : Type 0} → Result A TaskFault → A → A
+reply_or (Ok x) y = x
+reply_or (Err f) y = y
+
 -- the state of an attempt that the machine has
 abbrev pub state_answer : Attempt → TaskId → ℕ → List TaskCall → Option AttemptState
 state_answer a t k calls = if has (seen t k calls).arrived a then Some (state_of t k calls a) else None

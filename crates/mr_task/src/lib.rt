@@ -35,7 +35,8 @@
 //!   without a change and without memory;
 //! - `can_commit(a)` is yes exactly where a is the named attempt: of those that asked and are not over, the one
 //!   that asked first;
-//! - `done(a)` is `Unknown`, `Again`, `Accepted` or `Ignored` as the readings say; `state`, `winner`, `failures`,
+//! - `done(a)` is `Unknown`, `Again`, `Accepted` or `Ignored` as the readings say; `done_reply(a)` finds the same
+//!   without a change, and `report(a, reply)` is `done(a)` without finding it again; `state`, `winner`, `failures`,
 //!   `is_won`, `numbered`, `arrived` are readings;
 //! - all but `launch`, `pending`, `recovered` and `copy` take no memory; `copy` is equal.
 //!
@@ -59,6 +60,7 @@
 mod attempts;
 mod fault;
 mod laws;
+mod numbers;
 mod reply;
 mod task;
 

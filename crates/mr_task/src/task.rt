@@ -4,11 +4,12 @@ ghost use Rattle.mr_attempt.specs.Table.{is_live};
 ghost use Rattle.mr_grant.specs.Attempts.{has, is_first};
 ghost use Rattle.mr_task.specs.Calls.{Launches, Hears, Asks, Reports, Fails, Ends, Dies, Records, Recovers, Loses};
 ghost use Rattle.mr_task.specs.Readings.{seen, named, is_named, failures, first_attempt_number, is_won, winner, launch_refusal, next_attempt, refusal_of, numbered_up_to};
-ghost use Rattle.mr_task.specs.State.{StandsFor, StandsForSome, StandsAfterSome, Stands, Answers, known, launch_answer, done_answer, state_answer, fault_or};
+ghost use Rattle.mr_task.specs.State.{StandsFor, StandsForSome, StandsAfterSome, Stands, Answers, known, launch_answer, done_answer, state_answer, fault_or, reply_or};
 ghost use Rattle.mr_task.specs.Steps.{entry_in, if_there, noted, ended, asked, done};
 
 use crate::attempts::{Attempts, Entry};
 use crate::fault::TaskFault;
+use crate::numbers::numbered_up_to;
 use crate::reply::DoneReply;
 use mr_attempt::{AttemptEvent, AttemptMachine, AttemptState, Reaction};
 use mr_grant::Grant;
@@ -218,6 +219,19 @@ impl TaskMachine {
         ensures refused { OnErr result (self.new ≡ self.old) }
     {
         self.take_done(&attempt)
+    }
+
+    /// The attempt says that it is done, as [`TaskMachine::done`], where what it is answered was found before, by
+    /// [`TaskMachine::done_reply`]: it is not looked for again. Of an attempt that the machine never had, that is `Ignored`.
+    pub fn report(&mut self, attempt: AttemptId, reply: DoneReply)
+        requires { Answers self.old (λ t k calls. reply_or (done_answer attempt t k calls) DoneReply.Ignored) reply }
+        ensures { Stands self.old (Reports attempt) self.new }
+    {
+        let _ = &self.task;
+        match reply {
+            DoneReply::Accepted => self.accept(&attempt),
+            DoneReply::Again | DoneReply::Ignored => {}
+        }
     }
 
     /// The attempt failed: this counts towards the task's limit, where the attempt was live.
@@ -435,9 +449,17 @@ impl TaskMachine {
         ensures left { self.new ≡ (done self.old attempt.now).1 }
     {
         let reply = self.reply_to_done(attempt)?;
-        if reply != DoneReply::Accepted {
-            return Ok(reply);
+        if reply == DoneReply::Accepted {
+            self.accept(attempt);
         }
+        Ok(reply)
+    }
+
+    // The attempt, whose Done is answered so, is accepted.
+    fn accept(&mut self, attempt: &AttemptId)
+        requires { (done self.old attempt.now).0 ≡ Ok DoneReply.Accepted }
+        ensures { self.new ≡ (done self.old attempt.now).1 }
+    {
         let Some(mut entry) = self.attempts.get(attempt) else {
             unreachable!();
         };
@@ -447,7 +469,6 @@ impl TaskMachine {
         entry.machine.on(AttemptEvent::Done);
         entry.accepted = true;
         self.attempts.set(attempt, entry);
-        Ok(DoneReply::Accepted)
     }
 }
 
@@ -464,19 +485,5 @@ fn refusal(won: bool, live: usize, numbered: u32) -> Option<TaskFault>
         Some(TaskFault::TooManyAttempts)
     } else {
         None
-    }
-}
-
-// How many numbers of the generation a recovered attempt shows to be given away.
-fn numbered_up_to(app: AppAttempt, attempt: &AttemptId) -> u32
-    ensures count { result ≡ numbered_up_to app attempt.now }
-    ensures range { result ≤ 1000 }
-{
-    let first = app.first_attempt_number();
-    let number = attempt.number();
-    if first <= number && number < first + MAX_LAUNCHES {
-        number - first + 1
-    } else {
-        0
     }
 }

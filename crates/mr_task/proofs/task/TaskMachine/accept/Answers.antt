@@ -5,8 +5,8 @@ use Rattle.mr_task.specs.Steps.{Task, done}
 use Rattle.mr_task.specs.State.{StandsForSome}
 use Rattle.mr_task.proofs.Keeps.{some-after}
 use Rattle.mr_task.proofs.Moves.{done-keeps}
-use Rattle.mr_task.proofs.task.TaskMachine.take_done.Goals as goal
-use Rattle.mr_task.proofs.task.TaskMachine.take_done.Goals.{then-eq, else-eq}
+use Rattle.mr_task.proofs.task.TaskMachine.accept.Goals as goal
+use Rattle.mr_task.proofs.task.TaskMachine.accept.Goals.{then-eq, else-eq}
 
 pub invariant_of-self : goal.invariant_of-self
 invariant_of-self c =
