@@ -21,24 +21,8 @@ use Rattle.mr_master.proofs.Replies.{quiet, after_named, named_sends, due-named,
 
 pub abort-after : (w : Setting) (s : Seen) (a : StoreAnswer) (b : Bool) → aborted a ≡ failing_after w s a b (Some name.Abort)
 abort-after w s (answer.Names (Ok said.Done)) b = refl
-abort-after w s (answer.Names (Ok (said.Listed es))) b = refl
-abort-after w s (answer.Names (Ok (said.Found there))) b = refl
-abort-after w s (answer.Names (Ok (said.Contents bytes))) b = refl
 abort-after w s (answer.Names (Err names.Missing)) b = refl
-abort-after w s (answer.Names (Err (names.Superseded f))) b = refl
-abort-after w s (answer.Names (Err names.Barred)) b = refl
-abort-after w s (answer.Names (Err names.Exists)) b = refl
-abort-after w s (answer.Names (Err names.NotDir)) b = refl
-abort-after w s (answer.Names (Err names.NotFile)) b = refl
-abort-after w s (answer.Names (Err names.Closed)) b = refl
-abort-after w s (answer.Names (Err names.NoParent)) b = refl
-abort-after w s (answer.Names (Err names.IntoItself)) b = refl
-abort-after w s (answer.Names (Err names.Full)) b = refl
-abort-after w s (answer.Names (Err names.NoMemory)) b = refl
-abort-after w s (answer.Wrote r) b = refl
-abort-after w s (answer.Told rs) b = refl
-abort-after w s (answer.Unread f) b = refl
-abort-after w s answer.Fault b = refl
+abort-after w s _ b = refl
 
 aborted-rests : (a : StoreAnswer) → is_running (aborted a) ≡ false
 aborted-rests a = by (passes_abort a)

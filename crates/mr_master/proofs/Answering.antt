@@ -3,7 +3,7 @@ use Rattle.std.proofs.Common.{ℕ, None, ◌⊎◌, inl, inr, ◌≡◌, refl, s
 use Rattle.mr_ids.specs.Attempt.{Attempt}
 use Rattle.mr_grant.specs.Attempts.{has}
 use Rattle.mr_task.specs.Calls.{TaskCall, Asks, Reports}
-use Rattle.mr_task.specs.State.{done_answer}
+use Rattle.mr_task.specs.State.{done_answer, reply_or}
 use Rattle.mr_task.specs.declared.fault.TaskFault.TheVariants.{Unknown}
 use Rattle.mr_task.specs.declared.reply.DoneReply.{DoneReply}
 use Rattle.mr_task.specs.declared.reply.DoneReply.TheVariants as reply
@@ -15,7 +15,6 @@ use Rattle.mr_master_model.specs.declared.setting.Setting.{Setting}
 use Rattle.mr_master_model.specs.Readings.{Seen, of_task, launch_of, tell, with_due}
 use Rattle.mr_master_model.specs.Sends.{ack_to, answer_to, pending_answer}
 use Rattle.mr_master_model.specs.Hearing.{after_ask, after_done, success_of}
-use Rattle.mr_master.specs.Tasks.{reply_or}
 use Rattle.mr_master.proofs.Keeping.{told-it}
 
 abbrev pub reply_to : Seen → Setting → Attempt → DoneReply

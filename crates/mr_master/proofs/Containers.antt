@@ -1,5 +1,5 @@
 -- Which attempt a container was launched for.
-use Rattle.std.proofs.Common.{ℕ, ◌<◌, ◌≤◌, ◌⊎◌, inl, inr, length, get_or, ◌≡◌, refl, sym, ◌∙◌, ap, subst, Bool, true, false, ◌&&◌, nat_eq, Option, Some, None, Result, Ok, Err, IfOk, OnOk, slice_get, if◌then◌else◌}
+use Rattle.std.proofs.Common.{ℕ, ◌<◌, ◌≤◌, ◌⊎◌, inl, inr, length, get_or, ◌≡◌, refl, sym, ◌∙◌, ap, subst, Bool, true, false, nat_eq, Option, Some, None, Result, Ok, Err, IfOk, OnOk, slice_get, if◌then◌else◌}
 use Rattle.std.proofs.lemmas.Option.{slice_get_cases, get_or_from_slice_get}
 use Rattle.std.specs.Option.{option_map}
 use Rattle.std.proofs.lemmas.Bool.{and_parts}
@@ -12,6 +12,7 @@ use Rattle.mr_master_model.specs.Job.{is_task}
 use Rattle.mr_master_model.specs.Readings.{Seen, of_task, is_known, if_known, launched_in}
 use Rattle.mr_master.specs.Places.{place_of}
 use Rattle.mr_master.specs.State.{Master, Keeps}
+use Rattle.mr_master.proofs.Keeping.{some-is}
 
 -- ---- the place of a known attempt
 
@@ -21,52 +22,14 @@ known-place w s a i e at = ap (λ (j : ℕ). Some j) at ∙ ap (λ b. if b then 
 pub unknown-place : (w : Setting) (s : Seen) (a : Attempt) → is_known w s a ≡ false → ◌≡◌ {A = Option ℕ} None (if is_known w s a then Some (place_of w a.task) else None)
 unknown-place w s a e = ap (λ b. if b then Some (place_of w a.task) else None) (sym e)
 
-pub unplaced : (w : Setting) (s : Seen) (a : Attempt) → is_task w a.task ≡ false → is_known w s a ≡ false
-unplaced w s a e = ap (λ b. b && has (of_task w s a.task).arrived a) e
-
-some-place : (b : Bool) (i j : ℕ) → Some i ≡ (if b then Some j else None) → (b ≡ true) × (i ≡ j)
-some-place true i j e = (refl, cc)
-some-place false i j e = cc
-
 no-place : (b : Bool) (j : ℕ) → ◌≡◌ {A = Option ℕ} None (if b then Some j else None) → b ≡ false
 no-place true j e = cc
 no-place false j e = refl
 
 -- ---- what a container was launched for
 
-abbrev with_place : Setting → Attempt × Launch → ℕ × (Attempt × Launch)
-with_place w p = (place_of w p.0.task, p)
-
 abbrev pub with-place : Setting → Option (Attempt × Launch) → Option (ℕ × (Attempt × Launch))
 with-place w o = option_map (λ p. (place_of w p.0.task, p)) o
-
-pub of-another : (w : Setting) (s : Seen) (c : ContainerId) → nat_eq c.app w.app ≡ false → None ≡ with-place w (launched_in w s c)
-of-another w s c e = ap (λ b. with-place w (if b then if_known w s (slice_get s.launched c.number) else None)) (sym e)
-
-pub never-launched : (w : Setting) (s : Seen) (c : ContainerId) → slice_get s.launched c.number ≡ None → None ≡ with-place w (launched_in w s c)
-never-launched w s c e = by (nat_eq c.app w.app) ∙ ap (λ o. with-place w (if nat_eq c.app w.app then if_known w s o else None)) (sym e)
-  where
-    by : (b : Bool) → None ≡ with-place w (if b then None else None)
-    by true = refl
-    by false = refl
-
-pub not-known-in : (w : Setting) (s : Seen) (c : ContainerId) (p : Attempt × Launch) → slice_get s.launched c.number ≡ Some p → None ≡ (if is_known w s p.0 then Some (place_of w p.0.task) else None) → None ≡ with-place w (launched_in w s c)
-not-known-in w s c p at none =
-    by (nat_eq c.app w.app) ∙ ap (λ d. with-place w (if nat_eq c.app w.app then (if d then Some p else None) else None)) (sym (no-place (is_known w s p.0) (place_of w p.0.task) none))
-    ∙ ap (λ o. with-place w (if nat_eq c.app w.app then if_known w s o else None)) (sym at)
-  where
-    by : (b : Bool) → None ≡ with-place w (if b then None else None)
-    by true = refl
-    by false = refl
-
-pub launched-there : (w : Setting) (s : Seen) (c : ContainerId) (a : Attempt) (l : Launch) (i : ℕ) → nat_eq c.app w.app ≡ true → slice_get s.launched c.number ≡ Some (a, l)
-    → Some i ≡ (if is_known w s a then Some (place_of w a.task) else None) → ◌≡◌ {A = Option (ℕ × (Attempt × Launch))} (Some (i, (a, l))) (with-place w (launched_in w s c))
-launched-there w s c a l i app at there =
-    let is = some-place (is_known w s a) i (place_of w a.task) there in
-    ap (λ (j : ℕ). Some (j, (a, l))) is.1
-    ∙ ap (λ d. with-place w (if d then Some (a, l) else None)) (sym is.0)
-    ∙ ap (λ o. with-place w (if_known w s o)) (sym at)
-    ∙ ap (λ b. with-place w (if b then if_known w s (slice_get s.launched c.number) else None)) (sym app)
 
 -- ---- what that tells
 
@@ -76,16 +39,13 @@ pub record IsLaunched (w : Setting) (s : Seen) (c : ContainerId) (i : ℕ) (a : 
   pub is_of_job : is_task w a.task ≡ true
   pub arrived : has (of_task w s a.task).arrived a ≡ true
 
-some-pair : {A : Type 0} {x y : A} → Some x ≡ Some y → x ≡ y
-some-pair e = cc
-
 if-found : (w : Setting) (s : Seen) (b : Bool) (o : Option (Attempt × Launch)) (p : Attempt × Launch) → (if b then if_known w s o else None) ≡ Some p → is_known w s p.0 ≡ true
 if-found w s false o p e = cc
 if-found w s true None p e = cc
 if-found w s true (Some q) p e = by (is_known w s q.0) refl e
   where
     by : (d : Bool) → is_known w s q.0 ≡ d → (if d then Some q else None) ≡ Some p → is_known w s p.0 ≡ true
-    by true f g = subst (λ (r : Attempt × Launch). is_known w s r.0 ≡ true) (some-pair g) f
+    by true f g = subst (λ (r : Attempt × Launch). is_known w s r.0 ≡ true) (some-is g) f
     by false f g = cc
 
 pub launched-is : (w : Setting) (s : Seen) (c : ContainerId) (i : ℕ) (a : Attempt) (l : Launch) → ◌≡◌ {A = Option (ℕ × (Attempt × Launch))} (Some (i, (a, l))) (with-place w (launched_in w s c)) → IsLaunched w s c i a l
@@ -94,7 +54,7 @@ launched-is w s c i a l e = by (launched_in w s c) refl e
     by : (o : Option (Attempt × Launch)) → launched_in w s c ≡ o → ◌≡◌ {A = Option (ℕ × (Attempt × Launch))} (Some (i, (a, l))) (with-place w o) → IsLaunched w s c i a l
     by None q f = cc
     by (Some p) q f =
-        let g : ◌≡◌ {A = ℕ × (Attempt × Launch)} (i, (a, l)) (place_of w p.0.task, p) = some-pair f in
+        let g : ◌≡◌ {A = ℕ × (Attempt × Launch)} (i, (a, l)) (place_of w p.0.task, p) = some-is f in
         let is : p ≡ (a, l) = sym (ap (λ (x : ℕ × (Attempt × Launch)). x.1) g) in
         let there = q ∙ ap (λ (x : Attempt × Launch). Some x) is in
         let both = and_parts _ _ (if-found w s (nat_eq c.app w.app) (slice_get s.launched c.number) (a, l) there) in

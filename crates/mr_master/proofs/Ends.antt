@@ -26,7 +26,10 @@ use Rattle.mr_master_model.specs.Hearing.{is_spent, after_failure}
 use Rattle.mr_master_model.specs.Sends.{kill_at, kill_of, kill_all}
 use Rattle.mr_master.specs.declared.ending.Ending.{Ending}
 use Rattle.mr_master.specs.declared.ending.Ending.TheVariants.{Failure, Exit}
-use Rattle.mr_master.specs.inner.Ends.{call_of, is_failure, is_last_of, fails_job, ended, end_sends, kills_but}
+use Rattle.mr_master.specs.declared.ending.Blame.{Blame}
+use Rattle.mr_master.specs.declared.ending.Blame.TheVariants as blame
+use Rattle.mr_master.specs.Told.{blamed}
+use Rattle.mr_master.specs.inner.Ends.{call_of, is_failure, is_last_of, fails_job, ended, end_sends, kills_but, kills_by, blame_of}
 use Rattle.mr_master.proofs.Keeping.{told-it, told-elsewhere}
 use Rattle.mr_master.proofs.Gathering.{passing}
 use Rattle.mr_master.proofs.Telling.{filter-by}
@@ -196,3 +199,37 @@ quiet-sends w s a e runs no' = by (is_failure e) (is_live w s a) (is_last_of w (
     by true false d f g h n = quiet s1 runs (not-live-is w s a e g)
     by true true false f g h n = quiet (one_failure s1 a) runs (failure-is w s a e f g ∙ unspent-is w s1 a (spent-told w s a e f g ∙ h))
     by true true true f g h n = absurd (true≢false n)
+
+-- ---- by whose failure it is
+
+blame-as : (w : Setting) (s : Seen) (a : Attempt) (e : Ending) (b c d : Bool) → is_failure e ≡ b → is_live w s a ≡ c → is_last_of w (of_task w s a.task) ≡ d
+    → blame_of w s a e ≡ (if b && c then (if d then blame.Job else blame.Attempt) else blame.Nobody)
+blame-as w s a e b c d f g h = λ i. if f i && g i then (if h i then blame.Job else blame.Attempt) else blame.Nobody
+
+pub blamed-is : (w : Setting) (s : Seen) (a : Attempt) (e : Ending) → blamed (tell s a.task (call_of e a)) a (blame_of w s a e) ≡ ended w s a e
+blamed-is w s a e = by (is_failure e) (is_live w s a) (is_last_of w (of_task w s a.task)) refl refl refl
+  where
+    s1 : Seen
+    s1 = tell s a.task (call_of e a)
+
+    by : (b c d : Bool) → is_failure e ≡ b → is_live w s a ≡ c → is_last_of w (of_task w s a.task) ≡ d → blamed s1 a (blame_of w s a e) ≡ ended w s a e
+    by false c d f g h = ap (λ (x : Blame). blamed s1 a x) (blame-as w s a e false c d f g h) ∙ sym (no-failure-is w s a e f)
+    by true false d f g h = ap (λ (x : Blame). blamed s1 a x) (blame-as w s a e true false d f g h) ∙ sym (not-live-is w s a e g)
+    by true true true f g h = ap (λ (x : Blame). blamed s1 a x) (blame-as w s a e true true true f g h) ∙ sym (failure-is w s a e f g ∙ spent-is w s1 a (spent-told w s a e f g ∙ h))
+    by true true false f g h = ap (λ (x : Blame). blamed s1 a x) (blame-as w s a e true true false f g h) ∙ sym (failure-is w s a e f g ∙ unspent-is w s1 a (spent-told w s a e f g ∙ h))
+
+pub kills-by-is : (w : Setting) (s : Seen) (a : Attempt) (e : Ending) → is_running s.work ≡ true → kills_by w s a (blame_of w s a e) ≡ end_sends w s a e
+kills-by-is w s a e runs = by (is_failure e) (is_live w s a) (is_last_of w (of_task w s a.task)) refl refl refl
+  where
+    by : (b c d : Bool) → is_failure e ≡ b → is_live w s a ≡ c → is_last_of w (of_task w s a.task) ≡ d → kills_by w s a (blame_of w s a e) ≡ end_sends w s a e
+    by false c d f g h = ap (λ (x : Blame). kills_by w s a x) (blame-as w s a e false c d f g h) ∙ quiet-sends w s a e runs (λ i. f i && (g i && h i))
+    by true false d f g h = ap (λ (x : Blame). kills_by w s a x) (blame-as w s a e true false d f g h) ∙ quiet-sends w s a e runs (λ i. f i && (g i && h i))
+    by true true true f g h = ap (λ (x : Blame). kills_by w s a x) (blame-as w s a e true true true f g h) ∙ loud-sends w s a e runs (λ i. f i && (g i && h i))
+    by true true false f g h = ap (λ (x : Blame). kills_by w s a x) (blame-as w s a e true true false f g h) ∙ quiet-sends w s a e runs (λ i. f i && (g i && h i))
+
+pub nobodys : (w : Setting) (s : Seen) (a : Attempt) (e : Ending) → (is_failure e && is_live w s a) ≡ false → blame.Nobody ≡ blame_of w s a e
+nobodys w s a e none = ap (λ b. if b then (if is_last_of w (of_task w s a.task) then blame.Job else blame.Attempt) else blame.Nobody) (sym none)
+
+-- the job's, if the task failed as often as the limit
+pub whose : (w : Setting) (s : Seen) (a : Attempt) (e : Ending) (d : Bool) → is_failure e ≡ true → is_live w s a ≡ true → (is_live w s a && is_last_of w (of_task w s a.task)) ≡ d → (if d then blame.Job else blame.Attempt) ≡ blame_of w s a e
+whose w s a e d f g h = ap (λ b. if b then blame.Job else blame.Attempt) (sym h ∙ ap (λ b. b && is_last_of w (of_task w s a.task)) g) ∙ sym (blame-as w s a e true true (is_last_of w (of_task w s a.task)) f g refl)

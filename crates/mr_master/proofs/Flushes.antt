@@ -1,5 +1,5 @@
 -- What is seen once all that was appended is stable.
-use Rattle.std.proofs.Common.{ℕ, ◌+◌, ◌<◌, ◌≤◌, ◌≡◌, refl, sym, ◌∙◌, ap, subst, true, false, cond, List, [], ◌∷◌, ◌++◌, append-nil, append_assoc, take, drop, length, get_or, add-one, Some}
+use Rattle.std.proofs.Common.{ℕ, ◌+◌, ◌<◌, ◌≤◌, ◌≡◌, refl, sym, ◌∙◌, ap, subst, true, cond, List, [], ◌∷◌, ◌++◌, append-nil, append_assoc, take, drop, length, get_or, add-one, Some}
 use Rattle.std.proofs.Math.Seq.{take-suc}
 use Rattle.std.proofs.lemmas.List.{take_all}
 use Rattle.mr_ids.specs.Attempt.{Attempt}
@@ -38,9 +38,6 @@ pub success-keeps : (m : Master) (w : Setting) (s : Seen) (a : Attempt) (i : ℕ
     → Keeps (record m { tasks = new }) w (tell_recorded w s (Some a))
 success-keeps m w s a i new k p takes = subst (λ b. Keeps (record m { tasks = new }) w (cond b (tell s a.task (Records a)) s)) (sym p.0) (tell-keeps m w s a.task i (Records a) new k p.0 p.1 takes)
 
-pub other-success : {m : Master} (w : Setting) (s : Seen) (a : Attempt) → is_task w a.task ≡ false → Keeps m w s → Keeps m w (tell_recorded w s (Some a))
-other-success {m} w s a e k = subst (λ b. Keeps m w (cond b (tell s a.task (Records a)) s)) (sym e) k
-
 pub first-moved : (s : Seen) (due : List Record) → due ≡ s.due → record s { due = drop 1 due; tail = s.tail ++ take 1 due } ≡ moved_first s due
 first-moved s [] e = λ i. record s { due = e i; tail = append-nil s.tail i }
 first-moved s (r ∷ due) e = refl
@@ -49,6 +46,3 @@ first-moved s (r ∷ due) e = refl
 
 pub told-more : (old mid one new : List Envelope) (x y : List Envelope) → mid ≡ old → one ≡ mid ++ x → new ≡ one ++ y → new ≡ old ++ (x ++ y)
 told-more old mid one new x y e f g = g ∙ ap (λ l. l ++ y) (f ∙ ap (λ l. l ++ x) e) ∙ append_assoc old x y
-
-pub nothing-more : (l : List Envelope) → l ≡ l ++ []
-nothing-more l = sym (append-nil l)

@@ -215,9 +215,8 @@ same-itself Reduce = refl
 
 same-is : (a b : TaskKind) → same_kind a b ≡ true → a ≡ b
 same-is Map Map e = refl
-same-is Map Reduce e = absurd (true≢false (sym e))
-same-is Reduce Map e = absurd (true≢false (sym e))
 same-is Reduce Reduce e = refl
+same-is _ _ e = absurd (true≢false (sym e))
 
 is-there : {A : Type 0} (o : Option A) → is_none o ≡ false → is_some o ≡ true
 is-there None e = absurd (true≢false e)

@@ -1,8 +1,7 @@
 -- A list that a loop gathers, item by item.
-use Rattle.std.proofs.Common.{ℕ, ◌+◌, ◌<◌, ◌≤◌, length, take, get_or, add-one, append-nil, append_assoc, ◌≡◌, refl, sym, ap, ◌∙◌, Bool, true, false, List, [], ◌∷◌, ◌++◌, filter, cond, Some, None, slice_get, subst}
+use Rattle.std.proofs.Common.{ℕ, ◌+◌, ◌<◌, ◌≤◌, length, take, add-one, append-nil, append_assoc, ◌≡◌, refl, sym, ap, ◌∙◌, Bool, true, false, List, [], ◌∷◌, ◌++◌, filter, cond, Some, None, slice_get, subst}
 use Rattle.std.specs.List.{flat_map}
 use Rattle.std.proofs.lemmas.Grind.{flat_map-append}
-use Rattle.std.proofs.Math.Seq.{take-suc}
 use Rattle.std.proofs.lemmas.List.{take_all}
 use Rattle.mr_ids.specs.Attempt.{Attempt}
 use Rattle.mr_ids.specs.declared.id.TaskId.{TaskId}
@@ -18,17 +17,8 @@ use Rattle.mr_tables.specs.declared.gone.Gone.{Gone}
 use Rattle.mr_tables.specs.Gone.{is_gone, gone_of, if_gone, of_job}
 use Rattle.mr_master.specs.Places.{place_of}
 use Rattle.mr_master.specs.Tasks.{Tasks, KeepsTasks}
-use Rattle.mr_master.proofs.Keeping.{machine-of}
+use Rattle.mr_master.proofs.Keeping.{some-is, machine-of}
 use Rattle.mr_master.proofs.Telling.{task-of-is}
-
--- one item more
-pub gather-step : {X Y : Type 0} (f : X → List Y) (xs : List X) (i : ℕ) (x : X) (old mid new : List Y) → i < length xs → x ≡ get_or xs i x
-    → mid ≡ old ++ flat_map f (take i xs) → new ≡ mid ++ f x → new ≡ old ++ flat_map f (take (i + 1) xs)
-gather-step {X} {Y} f xs i x old mid new within is before now =
-    let more : take (i + 1) xs ≡ take i xs ++ x ∷ [] = ap (λ (n : ℕ). take n xs) (add-one i) ∙ take-suc xs i x within ∙ ap (λ (y : X). take i xs ++ y ∷ []) (sym is) in
-    let both : flat_map f (take (i + 1) xs) ≡ flat_map f (take i xs) ++ f x =
-    ap (λ (l : List X). flat_map f l) more ∙ flat_map-append f (take i xs) (x ∷ []) ∙ ap (λ (l : List Y). flat_map f (take i xs) ++ l) (append-nil (f x)) in
-    now ∙ ap (λ (l : List Y). l ++ f x) before ∙ append_assoc old (flat_map f (take i xs)) (f x) ∙ ap (λ (l : List Y). old ++ l) (sym both)
 
 -- what is done for those that pass a test
 pub passing : {X Y : Type 0} (p : X → Bool) (f : X → List Y) (xs : List X) → flat_map (λ x. cond (p x) (f x) []) xs ≡ flat_map f (filter p xs)
@@ -61,12 +51,6 @@ gone-all w s g t xs i all e is =
     ∙ singles (λ a. is_gone g (launch_of w s a)) (task.live (of_task w s t))
     ∙ ap (λ b. cond b (gone_of w s g t) []) (sym e)
 
-pub one-live : {Y : Type 0} (f : List Y) (b c : Bool) → b ≡ true → b ≡ c → f ≡ cond c f []
-one-live f b c e q = ap (λ d. cond d f []) (sym e ∙ q)
-
-pub one-dead : {Y : Type 0} (f mid : List Y) (b c : Bool) → b ≡ false → b ≡ c → mid ≡ mid ++ cond c f []
-one-dead f mid b c e q = sym (append-nil mid) ∙ ap (λ d. mid ++ cond d f []) (sym e ∙ q)
-
 -- ---- of the tasks of a kind
 
 pub next-task : {Y : Type 0} (w : Setting) (kind : TaskKind) (f : TaskId → List Y) (n : ℕ) (old mid new : List Y) → n < count_of w kind
@@ -84,9 +68,6 @@ next-task {Y} w kind f n old mid new within before now =
 pub no-task : {Y : Type 0} (w : Setting) (kind : TaskKind) (f : TaskId → List Y) (old : List Y) → old ≡ old ++ flat_map f (first_tasks w kind 0)
 unfolding first_tasks
 no-task w kind f old = sym (append-nil old)
-
-some-is : {A : Type 0} {x y : A} → Some x ≡ Some y → x ≡ y
-some-is e = cc
 
 -- the machine that was found at a task's place
 pub found-at : (m : Tasks) (w : Setting) (calls : TaskId → List TaskCall) (t : TaskId) (i : ℕ) (y : Task) → KeepsTasks m w calls → is_task w t ≡ true → i ≡ place_of w t → Some y ≡ slice_get m.machines i → state.StandsFor y t w.app (calls t)

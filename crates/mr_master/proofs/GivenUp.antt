@@ -1,38 +1,41 @@
--- A node is given up: what is sent, and which past the machine stands for then.
-use Rattle.std.proofs.Common.{ℕ, ◌≡◌, sym, ◌∙◌, ap, subst, List, [], Option, Some, None, is_none, if◌then◌else◌}
+-- A node is given up: what is planned, and what is sent.
+use Rattle.std.proofs.Common.{ℕ, ◌≡◌, refl, sym, ◌∙◌, ap, List, [], Option, None, is_none, flat_map, if◌then◌else◌}
+use Rattle.mr_ids.specs.Attempt.{Attempt}
 use Rattle.mr_packet.specs.declared.packet.Envelope.{Envelope}
 use Rattle.mr_master_model.specs.declared.phase.LaunchFault.{LaunchFault}
 use Rattle.mr_master_model.specs.declared.setting.Setting.{Setting}
-use Rattle.mr_master_model.specs.Past.{Step, Expires}
+use Rattle.mr_master_model.specs.Past.{Expires}
+use Rattle.mr_master_model.specs.Job.{all_maps, all_reduces}
 use Rattle.mr_master_model.specs.Readings.{Seen, expire_refusal}
 use Rattle.mr_master_model.specs.Hearing.{expired}
-use Rattle.mr_master_model.specs.Sends.{expiry_sends}
-use Rattle.mr_master_model.specs.Next.{moved, sent_by, next_seen, seen, sent, with_kills}
-use Rattle.mr_master.specs.inner.Expiring.{kills_on, Expired, HasExpired}
-use Rattle.mr_master.specs.State.{Master, Keeps, Reads, StandsFor, Stands}
+use Rattle.mr_master_model.specs.Sends.{kill_of}
+use Rattle.mr_master_model.specs.Next.{moved, sent_by}
+use Rattle.mr_tables.specs.Bars.{all_added}
+use Rattle.mr_tables.specs.declared.gone.Gone.TheVariants.{GivenUp}
+use Rattle.mr_tables.specs.Gone.{gone_of, lost_of}
+use Rattle.mr_master.specs.inner.Expiring.{kills_on}
+use Rattle.mr_master.specs.Told.{with_deaths, with_losses}
+use Rattle.mr_master.specs.Prepared.{Prepared, Plans, PlansFor}
+use Rattle.mr_master.specs.State.{Master, Keeps}
+use Rattle.mr_master.proofs.Distinct.{bars-added}
+use Rattle.mr_master.proofs.Losing.{given-same, given-up-is}
+use Rattle.mr_master.proofs.Made.{plans-as}
 
-pub given-up : {m : Master} (w : Setting) (s : Seen) (n : ℕ) (packets : List Envelope) → expire_refusal w s n ≡ None → packets ≡ kills_on w s n → Keeps m w (with_kills (kills_on w s n) (expired w s n)) → Expired n packets m w s
-given-up {m} w s n packets none e k = record {
-  allowed = none;
-  sent = e ∙ sym (ap (λ (o : Option LaunchFault). if is_none o then kills_on w s n else []) none);
-  keeps = subst (λ (o : Option LaunchFault). Keeps m w (with_kills (if is_none o then kills_on w s n else []) (if is_none o then expired w s n else s))) (sym none) k;
-}
+-- the Kills to the maps' live attempts there
+pub kills-are : (w : Setting) (s : Seen) (n : ℕ) (dead : List Attempt) (packets : List Envelope) → packets ≡ flat_map (kill_of w s) dead → dead ≡ flat_map (gone_of w s (GivenUp n)) (all_maps w) → packets ≡ kills_on w s n
+kills-are w s n dead packets e f = e ∙ ap (λ (l : List Attempt). flat_map (kill_of w s) l) (f ∙ given-same w s n w.maps)
 
-pub stands-expired : (old new : Master) (n : ℕ) (packets : List Envelope) → HasExpired old n packets new → Stands old (Expires n) new
-unfolding seen next_seen moved sent_by
-stands-expired old new n packets h w past k = (h w (seen w past) k).keeps
+-- what is seen then
+pub expired-is : (w : Setting) (s : Seen) (n : ℕ) (dead lost late : List Attempt) → dead ≡ flat_map (gone_of w s (GivenUp n)) (all_maps w) → lost ≡ flat_map (lost_of w s (GivenUp n)) (all_maps w)
+    → late ≡ flat_map (gone_of w s (GivenUp n)) (all_reduces w) → record (with_losses w (with_deaths w s dead) lost) { bars = all_added s.bars late } ≡ expired w s n
+expired-is w s n dead lost late e f g =
+    let told = given-up-is w s n dead lost e f in
+    let barred = bars-added w s n s.bars late (all_added s.bars late) refl g refl in
+    λ i. record (told i) { bars = barred i }
 
-pub sent-expired : (old new : Master) (n : ℕ) (packets : List Envelope) → HasExpired old n packets new → (w : Setting) (past : List Step) → StandsFor old w past → packets ≡ sent w past (Expires n)
-unfolding sent_by
-sent-expired old new n packets h w past k = (h w (seen w past) k).sent
-
--- what is sent, by the refusal
-pub expiry-none : (w : Setting) (s : Seen) (n : ℕ) → expire_refusal w s n ≡ None → kills_on w s n ≡ expiry_sends w s n
-expiry-none w s n e = ap (λ (o : Option LaunchFault). if is_none o then kills_on w s n else []) (sym e)
-
-pub expiry-some : (w : Setting) (s : Seen) (n : ℕ) (f : LaunchFault) → Some f ≡ expire_refusal w s n → [] ≡ expiry_sends w s n
-expiry-some w s n f e = ap (λ (o : Option LaunchFault). if is_none o then kills_on w s n else []) e
-
-pub sent-expiry : (m : Master) (n : ℕ) (packets : List Envelope) → Reads m (λ w s. expiry_sends w s n) packets → (w : Setting) (past : List Step) → StandsFor m w past → packets ≡ sent w past (Expires n)
-unfolding sent_by
-sent-expiry m n packets reads w past k = reads w (seen w past) k
+-- by the refusal
+pub plan-expiry : {m : Master} {r : Prepared} (n : ℕ) → ((w : Setting) (s : Seen) → Keeps m w s → expire_refusal w s n ≡ None) → Plans m r (λ w s. kills_on w s n) (λ w s. expired w s n) → PlansFor m (Expires n) r
+unfolding moved sent_by
+plan-expiry n none x = plans-as
+    (λ w s k. ap (λ (o : Option LaunchFault). if is_none o then kills_on w s n else []) (sym (none w s k)))
+    (λ w s k. ap (λ (o : Option LaunchFault). if is_none o then expired w s n else s) (sym (none w s k))) x

@@ -3,7 +3,7 @@ use Rattle.std.proofs.Common.{ℕ, ◌+◌, ◌<◌, ◌≡◌, refl, sym, ◌�
 use Rattle.std.specs.Option.{option_map}
 use Rattle.std.specs.Map.{lookup}
 use Rattle.std.proofs.lemmas.Bool.{and_parts, ltb-true}
-use Rattle.std.proofs.lemmas.Option.{slice_get_cases, get_or_from_slice_get}
+use Rattle.std.proofs.lemmas.Option.{slice_get_cases}
 use Rattle.mr_ids.specs.Attempt.{Attempt}
 use Rattle.mr_ids.specs.Same.{same_task}
 use Rattle.mr_ids.specs.declared.id.TaskId.{TaskId}
@@ -63,6 +63,10 @@ takes_keeps old new i call takes w calls t there at k = record {
         apart : u ≡ t → ⊥
         apart q = true≢false (sym (ap (λ (v : TaskId). same_task v t) q ∙ task-itself t) ∙ e)
 
+-- the same where these machines are the tasks'
+pub takes-so : {m : Tasks} (old new : List Task) (i : ℕ) (call : TaskCall) → record { machines = old } ≡ m → TakesAt old i call new → Takes m i call (record { machines = new })
+takes-so old new i call is takes = subst (λ (x : Tasks). Takes x i call (record { machines = new })) is (takes_keeps (record { machines = old }) (record { machines = new }) i call takes)
+
 -- ---- what is answered of a task is what is read off its calls
 
 place-within : (w : Setting) (t : TaskId) → is_task w t ≡ true → place_of w t < w.maps + w.reduces
@@ -92,13 +96,6 @@ read-at m w calls t i read answer k e at answers =
     let x = machine-of m w calls t k e in
     answers x.0 (ap (λ j. slice_get m.machines j) at ∙ x.1) t w.app (calls t) x.2
 
--- the machine that was read at a task's place
-pub standing-at : (m : Tasks) (w : Setting) (calls : TaskId → List TaskCall) (t : TaskId) (i : ℕ) (y : Task) → KeepsTasks m w calls → is_task w t ≡ true → i ≡ place_of w t → y ≡ get_or m.machines i y → task.StandsFor y t w.app (calls t)
-standing-at m w calls t i y k e at is =
-    let x = machine-of m w calls t k e in
-    let same : y ≡ x.0 = is ∙ get_or_from_slice_get m.machines i x.0 y (ap (λ j. slice_get m.machines j) at ∙ x.1) in
-    subst (λ (z : Task). task.StandsFor z t w.app (calls t)) (sym same) x.2
-
 -- ---- what a known attempt was launched as
 
 pub none-mapped : {A B : Type 0} (f : A → B) (o : Option A) → None ≡ option_map f o → o ≡ None
@@ -111,7 +108,7 @@ pub record IsKnown (w : Setting) (s : Seen) (a : Attempt) (i : ℕ) (l : Launch)
   pub is_of_job : is_task w a.task ≡ true
   pub arrived : has (of_task w s a.task).arrived a ≡ true
 
-some-is : {A : Type 0} {x y : A} → Some x ≡ Some y → x ≡ y
+pub some-is : {A : Type 0} {x y : A} → Some x ≡ Some y → x ≡ y
 some-is e = cc
 
 if-some : {A : Type 0} (b : Bool) (o : Option A) (x : A) → (if b then o else None) ≡ Some x → b ≡ true
@@ -171,18 +168,9 @@ pub tell-keeps : (m : Master) (w : Setting) (s : Seen) (t : TaskId) (i : ℕ) (c
     → Takes m.tasks i call new → Keeps (record m { tasks = new }) w (tell s t call)
 tell-keeps m w s t i call new k there at takes = with-tasks new (told t call s.calls) (takes w s.calls t there at k.tasks) k
 
--- the same of a known attempt's task, at the place where it was found
-pub tell-known : (m : Master) (w : Setting) (s : Seen) (a : Attempt) (i : ℕ) (l : Launch) (call : TaskCall) (new : Tasks) → Keeps m w s → IsKnown w s a i l
-    → Takes m.tasks i call new → Keeps (record m { tasks = new }) w (tell s a.task call)
-tell-known m w s a i l call new k known takes = tell-keeps m w s a.task i call new k known.is_of_job known.place takes
-
--- the same of equal launches, and of equal tests
-pub by-launch : {A : Type 0} {m : Master} (w : Setting) (f : Option A → Seen) {o p : Option A} → o ≡ p → Keeps m w (f p) → Keeps m w (f o)
-by-launch {A} {m} w f e k = subst (λ x. Keeps m w (f x)) (sym e) k
-
-pub by-test : {m : Master} (w : Setting) (f : Bool → Seen) {b c : Bool} → b ≡ c → Keeps m w (f c) → Keeps m w (f b)
-by-test {m} w f e k = subst (λ x. Keeps m w (f x)) (sym e) k
-
--- the same of equal readings
+-- the same of equal readings, and of an equal machine
 pub by-seen : {m : Master} (w : Setting) {r t : Seen} → r ≡ t → Keeps m w t → Keeps m w r
 by-seen {m} w e k = subst (λ x. Keeps m w x) (sym e) k
+
+pub held : {m n : Master} {w : Setting} {s : Seen} → m ≡ n → Keeps n w s → Keeps m w s
+held {m} {n} {w} {s} e k = subst (λ x. Keeps x w s) (sym e) k

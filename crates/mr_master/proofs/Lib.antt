@@ -27,7 +27,9 @@ pub mod Steps
 pub mod Taken
 pub mod Called
 pub mod GivenUp
-pub mod Prepared
+pub mod Rooms
+pub mod Made
+pub mod Planned
 pub mod Following
 pub mod Past_stays
 pub mod On_nodes

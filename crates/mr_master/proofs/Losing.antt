@@ -1,5 +1,5 @@
 -- What a node's restart and its being given up change, as attempts that end and outputs that are lost.
-use Rattle.std.proofs.Common.{ℕ, zero, suc, ◌+◌, ◌≡◌, refl, sym, ◌∙◌, ap, subst, Bool, true, false, ◌||◌, cond, List, [], ◌∷◌, ◌++◌, filter, flat_map, Option, Some, None, append-nil, append_assoc, true≢false, add-one}
+use Rattle.std.proofs.Common.{ℕ, zero, suc, ◌+◌, ◌≡◌, refl, sym, ◌∙◌, ap, Bool, true, false, ◌||◌, cond, List, [], ◌∷◌, ◌++◌, filter, flat_map, Option, Some, None, append-nil, append_assoc, true≢false, add-one}
 use Rattle.std.specs.List.{find}
 use Rattle.std.proofs.lemmas.Grind.{flat_map-append}
 use Rattle.mr_ids.specs.Attempt.{Attempt}
@@ -14,18 +14,12 @@ use Rattle.mr_task.proofs.Arrivals.{arrivals}
 use Rattle.mr_master_model.specs.declared.setting.Setting.{Setting}
 use Rattle.mr_master_model.specs.Job.{task_of, first_tasks, all_maps, all_reduces, all_tasks}
 use Rattle.mr_master_model.specs.Readings.{Seen, of_task, place_of, succeeded, succeeded_where, if_passes, live_where, tell_each}
-use Rattle.mr_master_model.specs.Hearing.{of_maps, dead_below, lost_below, after_restart, with_known, given_up_of_maps, lost_on, new_bars, expired}
-use Rattle.mr_master_model.specs.Sends.{kill_of, killed_by}
-use Rattle.mr_master_model.specs.Next.{with_kills}
-use Rattle.mr_packet.specs.declared.packet.Envelope.{Envelope}
-use Rattle.mr_master.specs.inner.Expiring.{kills_on, with_bars}
-use Rattle.mr_tables.specs.Launches.{Launched, Notes}
+use Rattle.mr_master_model.specs.Hearing.{of_maps, dead_below, lost_below, after_restart, with_known, given_up_of_maps, lost_on}
 use Rattle.mr_tables.specs.declared.gone.Gone.{Gone}
 use Rattle.mr_tables.specs.declared.gone.Gone.TheVariants.{Restarted, GivenUp}
 use Rattle.mr_tables.specs.Gone.{gone_of, lost_of, is_lost}
 use Rattle.mr_master.specs.Told.{told_all}
 use Rattle.mr_master.specs.inner.Leaving.{without}
-use Rattle.mr_master.specs.State.{Master, Keeps}
 use Rattle.mr_master.proofs.Telling.{Own, told-all-is}
 
 -- ---- each is of its task
@@ -105,11 +99,12 @@ left-is w s dead lost which those own owned e f =
     ∙ (λ i. record s { calls = told_all w Loses (flat_map those (all_tasks w)) (told-all-is w Dies which s.calls own i) })
     ∙ (λ i. record s { calls = told-all-is w Loses those (tell_each w s (λ a. Dies a) which).calls owned i })
 
-pub restarted : {m : Master} (w : Setting) (s : Seen) (n i : ℕ) (dead lost : List Attempt) → dead ≡ flat_map (gone_of w s (Restarted n i)) (all_tasks w) → lost ≡ flat_map (lost_of w s (Restarted n i)) (all_maps w)
-    → Keeps m w (without w (with_known s n i) dead lost) → Keeps m w (with_known (after_restart w s n i) n i)
-restarted {m} w s n i dead lost e f k =
-    subst (λ (r : Seen). Keeps m w (with_known r n i))
-    (left-is w s dead lost (dead_below w s n i) (lost_below w s n i) (gone-own w s (Restarted n i)) (lost-own w s (Restarted n i)) e (f ∙ lost-of-all w s (Restarted n i))) k
+-- what is seen once a node restarted
+pub restart-is : (w : Setting) (s : Seen) (n i : ℕ) (dead lost : List Attempt) → dead ≡ flat_map (gone_of w s (Restarted n i)) (all_tasks w) → lost ≡ flat_map (lost_of w s (Restarted n i)) (all_maps w)
+    → with_known (without w s dead lost) n i ≡ with_known (after_restart w s n i) n i
+restart-is w s n i dead lost e f =
+    ap (λ (r : Seen). with_known r n i)
+    (left-is w s dead lost (dead_below w s n i) (lost_below w s n i) (gone-own w s (Restarted n i)) (lost-own w s (Restarted n i)) e (f ∙ lost-of-all w s (Restarted n i)))
 
 -- ---- the loop over maps
 
@@ -151,14 +146,3 @@ pub given-up-is : (w : Setting) (s : Seen) (n : ℕ) (dead lost : List Attempt) 
     → without w s dead lost ≡ tell_each w (tell_each w s (λ a. Dies a) (given_up_of_maps w s n)) (λ a. Loses a) (lost_on w s n)
 given-up-is w s n dead lost e f =
     left-is w s dead lost (given_up_of_maps w s n) (lost_on w s n) (given-own w s n) (lost-own w s (GivenUp n)) (e ∙ given-all w s n) (f ∙ lost-of-all w s (GivenUp n))
-
-pub gives-up : {m : Master} (w : Setting) (s : Seen) (n : ℕ) (dead lost : List Attempt) (packets : List Envelope) (launches : Launched) → dead ≡ flat_map (gone_of w s (GivenUp n)) (all_maps w) → lost ≡ flat_map (lost_of w s (GivenUp n)) (all_maps w)
-    → packets ≡ flat_map (kill_of w s) dead → Notes m.launches packets launches
-    → Keeps m w (without w (with_bars w s n) dead lost) → Keeps (record m { launches = launches }) w (with_kills (kills_on w s n) (expired w s n))
-gives-up {m} w s n dead lost packets launches e f h notes k =
-    let sent : packets ≡ kills_on w s n = h ∙ ap (λ (l : List Attempt). flat_map (kill_of w s) l) (e ∙ given-same w s n w.maps) in
-    let noted = notes s.launched s.killed k.launches in
-    let kept : Keeps (record m { launches = launches }) w (record (without w s dead lost) { bars = s.bars ++ new_bars w s n; killed = killed_by packets s.killed }) =
-    record { setting = k.setting; work = k.work; tasks = k.tasks; launches = noted; nodes = k.nodes; earlier = k.earlier; writing = k.writing; bars = k.bars } in
-    subst (λ (es : List Envelope). Keeps (record m { launches = launches }) w (record (expired w s n) { killed = killed_by es s.killed })) sent
-    (subst (λ (r : Seen). Keeps (record m { launches = launches }) w (record r { bars = s.bars ++ new_bars w s n; killed = killed_by packets s.killed })) (given-up-is w s n dead lost e f) kept)

@@ -1,12 +1,10 @@
 -- Whatever a master takes over is of a task of the job: that is so of each past.
-use Rattle.std.proofs.Common.{ℕ, zero, suc, ◌≤◌, ◌≡◌, ◌∙◌, ap, subst, Bool, true, false, not, ◌&&◌, ◌||◌, List, [], ◌∷◌, ◌++◌, Option, Some, None, is_some, is_none, Result, Ok, Err, nat_lt, if◌then◌else◌, arith}
+use Rattle.std.proofs.Common.{ℕ, zero, suc, ◌≤◌, ◌≡◌, ◌∙◌, ap, subst, Bool, true, false, ◌||◌, List, [], ◌∷◌, ◌++◌, Option, Some, None, is_some, is_none, Result, Ok, Err, if◌then◌else◌, arith}
 use Rattle.std.specs.List.{list_any}
 use Rattle.std.specs.Option.{option_map}
 use Rattle.mr_ids.specs.Attempt.{Attempt}
 use Rattle.mr_ids.specs.declared.id.TaskId.{TaskId}
 use Rattle.mr_ids.specs.declared.id.TaskKind.TheVariants.{Reduce}
-use Rattle.mr_task.specs.Calls.{TaskCall}
-use Rattle.mr_task.specs.Readings as task
 use Rattle.mr_names.specs.declared.op.Answer.TheVariants as found
 use Rattle.mr_commit.specs.Line.{Line}
 use Rattle.mr_commit.specs.Tables.{setup_job, abort_job}
@@ -15,14 +13,10 @@ use Rattle.mr_commit.specs.Recovery.Recovery.{Nowhere, Left}
 use Rattle.mr_commit.specs.declared.fault.CommitFault.{CommitFault}
 use Rattle.mr_commit.specs.declared.fault.StepDone.{StepDone}
 use Rattle.mr_commit.specs.declared.fault.StepDone.TheVariants as done
-use Rattle.mr_packet.specs.declared.packet.ContainerId.{ContainerId}
-use Rattle.mr_packet.specs.declared.packet.Packet.{Packet}
-use Rattle.mr_packet.specs.declared.packet.Packet.TheVariants as packet
 use Rattle.mr_history.specs.declared.record.Record.{Record}
 use Rattle.mr_history.specs.Winner.{winner_in, length_in}
 use Rattle.mr_recover.specs.declared.winner.TaskWinner.{TaskWinner}
 use Rattle.mr_recover.specs.Plan.{winners_among, with_first}
-use Rattle.mr_master_model.specs.declared.launch.Launch.{Launch}
 use Rattle.mr_master_model.specs.declared.phase.DutyName.{DutyName}
 use Rattle.mr_master_model.specs.declared.phase.DutyName.TheVariants as name
 use Rattle.mr_master_model.specs.declared.setting.Setting.{Setting}
@@ -30,8 +24,7 @@ use Rattle.mr_master_model.specs.declared.store.StoreAnswer.{StoreAnswer}
 use Rattle.mr_master_model.specs.declared.store.StoreAnswer.TheVariants as answer
 use Rattle.mr_master_model.specs.Job.{is_task, task_of, first_tasks, all_reduces}
 use Rattle.mr_master_model.specs.Past.{Step, Hears, Launches, Expires, Answered, Work, LooksForSuccess, LooksForFail, LooksForStarted, Reads, SetsUp, TakesOver, Runs, CommitsJob, TellsSuccess, TellsFail, AbortsCommit, Fails, Ends, Stops}
-use Rattle.mr_master_model.specs.Readings.{Seen, is_running, is_over, of_task, is_live, launch_of, launched_in, tell, launch_refusal, expire_refusal}
-use Rattle.mr_master_model.specs.Hearing.{after_ask, after_done, is_spent, after_failure, after_end, after_failed, after_ended, after_node_up, after_where, is_lost_map, after_fetch_lost, heard, delivered}
+use Rattle.mr_master_model.specs.Readings.{Seen, launch_refusal, expire_refusal}
 use Rattle.mr_master_model.specs.Duty.{duty}
 use Rattle.mr_master_model.specs.Answered.{is_fine, is_superseded, is_unsuccessful, looked, heard_by, goes_on, read_by, takes_over, next_winner, winners, name_of, running_after, failing_after, changed, work_after, with_work}
 use Rattle.mr_master_model.specs.Next.{moved, next_seen, seen}
@@ -39,6 +32,7 @@ use Rattle.mr_master.specs.Taking.{winner_of}
 use Rattle.mr_master.specs.State.{Master, StandsFor}
 use Rattle.mr_master.specs.inner.Placed.{IsPlaced}
 use Rattle.mr_master.proofs.Keeping.{within-tasks}
+use Rattle.mr_master.proofs.Past_stays.{either, delivered-holds}
 use Rattle.mr_master.proofs.Telling.{task-of-is}
 
 abbrev EachOwn : Setting → List TaskWinner → Type 0
@@ -88,10 +82,7 @@ looked-own w _ there absent p q = tt
 
 read-own : (w : Setting) (a : StoreAnswer) → Own w (read_by w a)
 read-own w (answer.Told rs) = if-own w (list_any is_unsuccessful rs) (Fails true) (SetsUp (setup_job w.layout.dest w.app)) tt tt
-read-own w (answer.Names r) = tt
-read-own w (answer.Wrote r) = tt
-read-own w (answer.Unread f) = tt
-read-own w answer.Fault = tt
+read-own w _ = tt
 
 over-own : (w : Setting) (x : TaskWinner) (r : Recovery) (others : List TaskWinner) → EachOwn w (x ∷ others) → Own w (takes_over x r others)
 over-own w x Nowhere others p = tt
@@ -129,78 +120,16 @@ work-own w s a TellsSuccess own = if-own w (is_fine a) (Ends true) Stops tt tt
 work-own w s a TellsFail own = if-own w (is_fine a) AbortsCommit Stops tt tt
 work-own w s a AbortsCommit own = if-own w (is_superseded a) Stops (Ends false) tt tt
 work-own w s a (Fails b) own = failing-own w s a b (name_of (duty w s))
-work-own w s a (Ends b) own = tt
-work-own w s a Stops own = tt
+work-own w s a _ own = tt
 
--- ---- the other steps take nothing over
+-- ---- each step: but for an answer none takes anything over
 
-abbrev Kept : Setting → Seen → Seen → Type 0
-Kept w s r = Own w s.work → Own w r.work
-
-kept-if : (w : Setting) (b : Bool) (s x y : Seen) → Kept w s x → Kept w s y → Kept w s (if b then x else y)
-kept-if w true s x y p q = p
-kept-if w false s x y p q = q
-
-asked : (w : Setting) (s : Seen) (a : Attempt) (l : Option Launch) → Kept w s (after_ask s a l)
-asked w s a None = λ own. own
-asked w s a (Some l) = λ own. own
-
-ends-well : (w : Setting) (s : Seen) (a : Attempt) (bytes : Option ℕ) (l : Option Launch) → Kept w s (after_done w s a bytes l)
-ends-well w s a bytes None = λ own. own
-ends-well w s a bytes (Some l) = kept-if w (task.may_accept (of_task w s a.task) a) s _ _ (λ own. own) (λ own. own)
-
-failure : (w : Setting) (s : Seen) (a : Attempt) → Kept w s (after_failure w s a)
-failure w s a = kept-if w (is_spent w s a.task) s _ _ (λ own. tt) (λ own. own)
-
-ended : (w : Setting) (s : Seen) (a : Attempt) (call : TaskCall) (f : Bool) → Kept w s (after_end w s a call f)
-ended w s a call f = kept-if w (f && is_live w s a) s (after_failure w (tell s a.task call) a) (tell s a.task call) (failure w (tell s a.task call) a) (λ own. own)
-
-failed : (w : Setting) (s : Seen) (a : Attempt) (l : Option Launch) → Kept w s (after_failed w s a l)
-failed w s a None = λ own. own
-failed w s a (Some l) = ended w s a _ true
-
-exited : (w : Setting) (s : Seen) (c : ContainerId) (p : Option (Attempt × Launch)) → Kept w s (after_ended w s c p)
-exited w s c None = λ own. own
-exited w s c (Some p) = ended w s p.0 _ (not (s.killed c.number))
-
-asks-where : (w : Setting) (s : Seen) (p : Option (Attempt × Launch)) → Kept w s (after_where s p)
-asks-where w s None = λ own. own
-asks-where w s (Some p) = λ own. own
-
-lost : (w : Setting) (s : Seen) (a : Attempt) (p : Option (Attempt × Launch)) → Kept w s (after_fetch_lost w s a p)
-lost w s a None = λ own. own
-lost w s a (Some p) = kept-if w (is_lost_map w s a a.task.kind) s _ _ (λ own. own) (λ own. own)
-
-heard-own : (w : Setting) (s : Seen) (p : Packet) → Kept w s (heard w s p)
-unfolding heard
-heard-own w s (packet.Pending a) = asked w s a (launch_of w s a)
-heard-own w s (packet.Poll a) = asked w s a (launch_of w s a)
-heard-own w s (packet.Done a bytes) = ends-well w s a bytes (launch_of w s a)
-heard-own w s (packet.Failed a) = failed w s a (launch_of w s a)
-heard-own w s (packet.Ended c) = exited w s c (launched_in w s c)
-heard-own w s (packet.Where c m) = asks-where w s (launched_in w s c)
-heard-own w s (packet.FetchLost c a) = lost w s a (launched_in w s c)
-heard-own w s _ = λ own. own
-
-up-own : (w : Setting) (s : Seen) (n i : ℕ) → Kept w s (after_node_up w s n i)
-up-own w s n i = kept-if w (not (nat_lt (s.known n) i)) s _ _ (λ own. own) (kept-if w (is_running s.work) s _ _ (λ own. own) (λ own. own))
-
-if-running : (w : Setting) (s : Seen) (p : Packet) → Kept w s (if is_running s.work then heard w s p else s)
-if-running w s p = kept-if w (is_running s.work) s (heard w s p) s (heard-own w s p) (λ own. own)
-
-delivered-own : (w : Setting) (s : Seen) (p : Packet) → Kept w s (delivered w s p)
-unfolding delivered
-delivered-own w s (packet.NodeUp n i) = kept-if w (is_over s.work) s s (after_node_up w s n i) (λ own. own) (up-own w s n i)
-delivered-own w s p = if-running w s p
-
--- ---- each step
-
-step-own : (w : Setting) (s : Seen) (step : Step) → Kept w s (next_seen w s step)
+step-own : (w : Setting) (s : Seen) (step : Step) → Own w s.work → Own w (next_seen w s step).work
 unfolding next_seen moved
-step-own w s (Hears p) = delivered-own w s p
-step-own w s (Launches t n) = kept-if w (is_none (launch_refusal w s t n)) s _ _ (λ own. own) (λ own. own)
-step-own w s (Expires n) = kept-if w (is_none (expire_refusal w s n)) s _ _ (λ own. own) (λ own. own)
-step-own w s (Answered a) = kept-if w (is_some (duty w s)) s (with_work w (changed w s a s.work) (work_after w s a s.work)) s (work-own w s a s.work) (λ own. own)
+step-own w s (Hears p) own = delivered-holds (λ bars work. Own w work) w s p own tt
+step-own w s (Launches t n) own = either (λ bars work. Own w work) (is_none (launch_refusal w s t n)) _ _ own own
+step-own w s (Expires n) own = either (λ bars work. Own w work) (is_none (expire_refusal w s n)) _ _ own own
+step-own w s (Answered a) own = either (λ bars work. Own w work) (is_some (duty w s)) (with_work w (changed w s a s.work) (work_after w s a s.work)) s (work-own w s a s.work own) own
 
 owns : (w : Setting) (past : List Step) → Own w (seen w past).work
 unfolding seen
@@ -211,19 +140,7 @@ owns w (step ∷ past) = step-own w (seen w past) step (owns w past)
 
 own-winner : (w : Setting) (x : TaskWinner) (work : Work) → Own w work → Some x ≡ winner_of work → is_task w x.task ≡ true
 own-winner w x (TakesOver y left others) own e = let same : y ≡ x = cc in subst (λ (z : TaskWinner). is_task w z.task ≡ true) same own.0
-own-winner w x (SetsUp left) own e = cc
-own-winner w x (CommitsJob left) own e = cc
-own-winner w x LooksForSuccess own e = cc
-own-winner w x LooksForFail own e = cc
-own-winner w x LooksForStarted own e = cc
-own-winner w x Reads own e = cc
-own-winner w x Runs own e = cc
-own-winner w x TellsSuccess own e = cc
-own-winner w x TellsFail own e = cc
-own-winner w x AbortsCommit own e = cc
-own-winner w x (Fails b) own e = cc
-own-winner w x (Ends b) own e = cc
-own-winner w x Stops own e = cc
+own-winner w x _ own e = cc
 
 pub is-placed : (m : Master) (past : List Step) → StandsFor m m.setting past → IsPlaced m
 is-placed m past k x e =

@@ -9,6 +9,7 @@ use Rattle.mr_master_model.specs.declared.setting.Setting.{Setting}
 use Rattle.mr_master_model.specs.Past.{Work}
 use Rattle.mr_master_model.specs.Readings.{Seen}
 use Rattle.mr_master.specs.Tasks.{Tasks, KeepsTasks}
+use Rattle.mr_tables.specs.Bars.{Bars}
 use Rattle.mr_tables.specs.Launches.{Launched, KeepsLaunches}
 use Rattle.mr_tables.specs.Nodes.{KeepsNodes}
 use Rattle.mr_tables.specs.Records.{Writing, KeepsRecords}
@@ -34,5 +35,5 @@ pub with-writing : {m : Master} {w : Setting} {s : Seen} (writing : Writing) (du
     → Keeps (record m { writing = writing }) w (record s { due = due; tail = tail })
 with-writing writing due tail r k = record { setting = k.setting; work = k.work; tasks = k.tasks; launches = k.launches; nodes = k.nodes; earlier = k.earlier; writing = r; bars = k.bars }
 
-pub with-bars : {m : Master} {w : Setting} {s : Seen} (stored bars : List Attempt) → stored ≡ bars → Keeps m w s → Keeps (record m { bars = stored }) w (record s { bars = bars })
+pub with-bars : {m : Master} {w : Setting} {s : Seen} (stored : Bars) (bars : List Attempt) → stored.due ≡ bars → Keeps m w s → Keeps (record m { bars = stored }) w (record s { bars = bars })
 with-bars stored bars e k = record { setting = k.setting; work = k.work; tasks = k.tasks; launches = k.launches; nodes = k.nodes; earlier = k.earlier; writing = k.writing; bars = e }

@@ -7,7 +7,7 @@ use Rattle.mr_ids.specs.declared.id.TaskId.{TaskId}
 use Rattle.mr_grant.specs.Attempts.{has}
 use Rattle.mr_attempt.specs.Table as table
 use Rattle.mr_attempt.specs.declared.state.AttemptState.{AttemptState}
-use Rattle.mr_attempt.specs.declared.state.AttemptState.TheVariants.{New, Assigned, Running, CommitPending, Recording, Succeeded, Failed, Killed}
+use Rattle.mr_attempt.specs.declared.state.AttemptState.TheVariants.{New, Killed}
 use Rattle.mr_task.specs.Calls.{TaskCall}
 use Rattle.mr_task.specs.Readings as task
 use Rattle.mr_task.specs.State as state
@@ -18,11 +18,9 @@ use Rattle.mr_task.proofs.States.{fits}
 use Rattle.mr_task.proofs.Telling.{live-told}
 use Rattle.mr_task.proofs.Growth.{grows}
 use Rattle.mr_task.proofs.Keeps.{entry-is}
-use Rattle.mr_packet.specs.declared.packet.ContainerId.{ContainerId}
 use Rattle.mr_packet.specs.declared.packet.Packet.{Packet}
 use Rattle.mr_packet.specs.declared.packet.Packet.TheVariants as packet
 use Rattle.mr_history.specs.declared.record.Record.{Record}
-use Rattle.mr_master_model.specs.declared.launch.Launch.{Launch}
 use Rattle.mr_master_model.specs.declared.phase.DutyName.{DutyName}
 use Rattle.mr_master_model.specs.declared.phase.DutyName.TheVariants as name
 use Rattle.mr_master_model.specs.declared.setting.Setting.{Setting}
@@ -38,66 +36,44 @@ use Rattle.mr_master_model.specs.Next.{moved, next_seen, seen}
 use Rattle.mr_master_model.proofs.Growing.{Grew, step-grows}
 use Rattle.mr_master.specs.State.{Master, Keeps, StandsFor, StandsForSome, Stands, Unchanged}
 use Rattle.mr_master.specs.inner.Passing.{is_out_of, is_out, ArePast, HasPassed, NoneLive, Passes, IsPastAt}
-use Rattle.mr_master.proofs.Keeping.{machine-of}
+use Rattle.mr_master.proofs.Keeping.{some-is, machine-of}
 use Rattle.mr_master.proofs.Standing.{unchanged-keeps}
+
+-- ---- what is heard leaves the bars, and the work too where the job does not fail: so what holds of both still holds
+
+pub either : (P : List Attempt → Work → Type 0) (b : Bool) (x y : Seen) → P x.bars x.work → P y.bars y.work → P (if b then x else y).bars (if b then x else y).work
+either P true x y p q = p
+either P false x y p q = q
+
+there : {A : Type 0} (P : List Attempt → Work → Type 0) (f : Option A → Seen) (o : Option A) → P (f None).bars (f None).work → ((x : A) → P (f (Some x)).bars (f (Some x)).work) → P (f o).bars (f o).work
+there P f None none some = none
+there P f (Some x) none some = some x
+
+ended : (P : List Attempt → Work → Type 0) (w : Setting) (s : Seen) (a : Attempt) (call : TaskCall) (f : Bool) → P s.bars s.work → P s.bars (Fails false) → P (after_end w s a call f).bars (after_end w s a call f).work
+ended P w s a call f p q =
+    let told = tell s a.task call in
+    either P (f && is_live w s a) (after_failure w told a) told (either P (is_spent w told a.task) _ _ q p) p
+
+heard-holds : (P : List Attempt → Work → Type 0) (w : Setting) (s : Seen) (x : Packet) → P s.bars s.work → P s.bars (Fails false) → P (heard w s x).bars (heard w s x).work
+unfolding heard
+heard-holds P w s (packet.Pending a) p q = there P (λ l. after_ask s a l) (launch_of w s a) p (λ l. p)
+heard-holds P w s (packet.Poll a) p q = there P (λ l. after_ask s a l) (launch_of w s a) p (λ l. p)
+heard-holds P w s (packet.Done a bytes) p q = there P (λ l. after_done w s a bytes l) (launch_of w s a) p (λ l. either P (task.may_accept (of_task w s a.task) a) _ _ p p)
+heard-holds P w s (packet.Failed a) p q = there P (λ l. after_failed w s a l) (launch_of w s a) p (λ l. ended P w s a _ true p q)
+heard-holds P w s (packet.Ended c) p q = there P (λ l. after_ended w s c l) (launched_in w s c) p (λ l. ended P w s l.0 _ (not (s.killed c.number)) p q)
+heard-holds P w s (packet.Where c m) p q = there P (λ l. after_where s l) (launched_in w s c) p (λ l. p)
+heard-holds P w s (packet.FetchLost c a) p q = there P (λ l. after_fetch_lost w s a l) (launched_in w s c) p (λ l. either P (is_lost_map w s a a.task.kind) _ _ p p)
+heard-holds P w s _ p q = p
+
+pub delivered-holds : (P : List Attempt → Work → Type 0) (w : Setting) (s : Seen) (x : Packet) → P s.bars s.work → P s.bars (Fails false) → P (delivered w s x).bars (delivered w s x).work
+unfolding delivered
+delivered-holds P w s (packet.NodeUp n i) p q = either P (is_over s.work) s (after_node_up w s n i) p (either P (not (nat_lt (s.known n) i)) _ _ p (either P (is_running s.work) _ _ p p))
+delivered-holds P w s x p q = either P (is_running s.work) (heard w s x) s (heard-holds P w s x p q) p
 
 -- ---- nothing but an expiry makes a bar due
 
 same-if : (b : Bool) (s x y : Seen) → x.bars ≡ s.bars → y.bars ≡ s.bars → (if b then x else y).bars ≡ s.bars
-same-if true s x y e f = e
-same-if false s x y e f = f
-
-asked : (s : Seen) (a : Attempt) (l : Option Launch) → (after_ask s a l).bars ≡ s.bars
-asked s a None = refl
-asked s a (Some l) = refl
-
-done : (w : Setting) (s : Seen) (a : Attempt) (bytes : Option ℕ) (l : Option Launch) → (after_done w s a bytes l).bars ≡ s.bars
-done w s a bytes None = refl
-done w s a bytes (Some l) = same-if (task.may_accept (of_task w s a.task) a) s _ _ refl refl
-
-failure : (w : Setting) (s : Seen) (a : Attempt) → (after_failure w s a).bars ≡ s.bars
-failure w s a = same-if (is_spent w s a.task) s _ _ refl refl
-
-ended : (w : Setting) (s : Seen) (a : Attempt) (call : TaskCall) (f : Bool) → (after_end w s a call f).bars ≡ s.bars
-ended w s a call f = same-if (f && is_live w s a) s (after_failure w (tell s a.task call) a) (tell s a.task call) (failure w (tell s a.task call) a) refl
-
-failed : (w : Setting) (s : Seen) (a : Attempt) (l : Option Launch) → (after_failed w s a l).bars ≡ s.bars
-failed w s a None = refl
-failed w s a (Some l) = ended w s a _ true
-
-exited : (w : Setting) (s : Seen) (c : ContainerId) (p : Option (Attempt × Launch)) → (after_ended w s c p).bars ≡ s.bars
-exited w s c None = refl
-exited w s c (Some p) = ended w s p.0 _ (not (s.killed c.number))
-
-looked : (s : Seen) (p : Option (Attempt × Launch)) → (after_where s p).bars ≡ s.bars
-looked s None = refl
-looked s (Some p) = refl
-
-lost : (w : Setting) (s : Seen) (a : Attempt) (p : Option (Attempt × Launch)) → (after_fetch_lost w s a p).bars ≡ s.bars
-lost w s a None = refl
-lost w s a (Some p) = same-if (is_lost_map w s a a.task.kind) s _ _ refl refl
-
-heard-same : (w : Setting) (s : Seen) (p : Packet) → (heard w s p).bars ≡ s.bars
-unfolding heard
-heard-same w s (packet.Pending a) = asked s a (launch_of w s a)
-heard-same w s (packet.Poll a) = asked s a (launch_of w s a)
-heard-same w s (packet.Done a bytes) = done w s a bytes (launch_of w s a)
-heard-same w s (packet.Failed a) = failed w s a (launch_of w s a)
-heard-same w s (packet.Ended c) = exited w s c (launched_in w s c)
-heard-same w s (packet.Where c m) = looked s (launched_in w s c)
-heard-same w s (packet.FetchLost c a) = lost w s a (launched_in w s c)
-heard-same w s _ = refl
-
-up-same : (w : Setting) (s : Seen) (n i : ℕ) → (after_node_up w s n i).bars ≡ s.bars
-up-same w s n i = same-if (not (nat_lt (s.known n) i)) s _ _ refl (same-if (is_running s.work) s _ _ refl refl)
-
-if-running : (w : Setting) (s : Seen) (p : Packet) → (if is_running s.work then heard w s p else s).bars ≡ s.bars
-if-running w s p = same-if (is_running s.work) s (heard w s p) s (heard-same w s p) refl
-
-delivered-same : (w : Setting) (s : Seen) (p : Packet) → (delivered w s p).bars ≡ s.bars
-unfolding delivered
-delivered-same w s (packet.NodeUp n i) = same-if (is_over s.work) s s (after_node_up w s n i) refl (up-same w s n i)
-delivered-same w s p = if-running w s p
+same-if b s x y e f = either (λ bars work. bars ≡ s.bars) b x y e f
 
 recorded-told : (w : Setting) (s : Seen) (a : Option Attempt) → (tell_recorded w s a).bars ≡ s.bars
 recorded-told w s None = refl
@@ -160,7 +136,7 @@ no-more s r e = ([], e ∙ sym (append-nil s.bars))
 
 pub step-bars : (w : Setting) (s : Seen) (step : Step) → More s (next_seen w s step)
 unfolding next_seen moved
-step-bars w s (Hears p) = no-more s (next_seen w s (Hears p)) (delivered-same w s p)
+step-bars w s (Hears p) = no-more s (next_seen w s (Hears p)) (delivered-holds (λ bars work. bars ≡ s.bars) w s p refl refl)
 step-bars w s (Launches t n) = no-more s (next_seen w s (Launches t n)) (same-if (is_none (launch_refusal w s t n)) s _ _ refl refl)
 step-bars w s (Expires n) = by (is_none (expire_refusal w s n))
   where
@@ -280,23 +256,6 @@ none-live m n p w s i a k below at = subst P k.setting (λ l. here l) k
         same-live m m.setting s r a l p.1
         ∙ out-is-not-live m.setting r a (p.2.out i a below (ap (λ (as' : List Attempt). slice_get as' i) (sym p.1.bars ∙ l.bars) ∙ at))
 
-keeps-back : (old new : Master) (w : Setting) (s : Seen) → Unchanged old new → Keeps new w s → Keeps old w s
-keeps-back old new w s u k =
-    let l = subst (λ (m : Master). Keeps m w s) u.0 k in
-    record {
-      setting = l.setting;
-      work = l.work;
-      tasks = l.tasks;
-      launches = l.launches;
-      nodes = l.nodes;
-      earlier = l.earlier;
-      writing = record { due = sym u.1.due ∙ k.writing.due; tail = sym u.1.tail ∙ k.writing.tail; is_flush_wanted = sym u.1.is_flush_wanted ∙ k.writing.is_flush_wanted };
-      bars = l.bars;
-    }
-
-pub none-unchanged : (old new : Master) (n : ℕ) → Unchanged old new → NoneLive old n → NoneLive new n
-none-unchanged old new n u none = λ w s i a k below at. none w s i a (keeps-back old new w s u k) below at
-
 -- ---- the first that is live
 
 pub none-found : {A : Type 0} (p : A → Bool) (xs : List A) → ((i : ℕ) (x : A) → slice_get xs i ≡ Some x → p x ≡ false) → find p xs ≡ None
@@ -307,14 +266,6 @@ pub found-at : {A : Type 0} (p : A → Bool) (xs : List A) (i : ℕ) (x : A) →
 found-at {A} p [] i x at e none = cc
 found-at {A} p (y ∷ xs) zero x at e none = let same : y ≡ x = cc in ap (λ b. cond b (Some y) (find p xs)) (ap p same ∙ e) ∙ ap (λ (z : A). Some z) same
 found-at {A} p (y ∷ xs) (suc i) x at e none = ap (λ b. cond b (Some y) (find p xs)) (none 0 y (omega arith) refl) ∙ found-at p xs i x at e (λ j z below q. none (suc j) z (omega arith) q)
-
--- one place further
-pub one-further : (m : Master) (i : ℕ) → NoneLive m i → ((w : Setting) (s : Seen) (a : Attempt) → Keeps m w s → slice_get m.bars i ≡ Some a → is_live w s a ≡ false) → NoneLive m (i + 1)
-one-further m i none here = λ w s j a k below at. by w s j a k below at (cases_eq j i)
-  where
-    by : (w : Setting) (s : Seen) (j : ℕ) (a : Attempt) → Keeps m w s → j < i + 1 → slice_get s.bars j ≡ Some a → (j ≡ i) ⊎ (j ≡ i → ⊥) → is_live w s a ≡ false
-    by w s j a k below at (inl q) = here w s a k (ap (λ (as' : List Attempt). slice_get as' i) k.bars ∙ ap (λ n. slice_get s.bars n) (sym q) ∙ at)
-    by w s j a k below at (inr ne) = none w s j a k (omega arith) at
 
 pub past-further : (m : Master) (first i : ℕ) → Passes m first i → IsPastAt m i → Passes m first (i + 1)
 past-further m first i passes here w s k p = record {
@@ -333,9 +284,6 @@ past-further m first i passes here w s k p = record {
     within-get (y ∷ xs) zero x at = omega arith
     within-get (y ∷ xs) (suc n) x at = let e = within-get xs n x at in omega arith
 
-    some-is : {A : Type 0} {x y : A} → Some x ≡ Some y → x ≡ y
-    some-is e = cc
-
     by : (j : ℕ) (a : Attempt) → j < i + 1 → slice_get s.bars j ≡ Some a → (j ≡ i) ⊎ (j ≡ i → ⊥) → is_out w s a ≡ true
     by j a below at (inl q) =
         let same : h.0 ≡ a = some-is (sym h.1 ∙ ap (λ n. slice_get s.bars n) (sym q) ∙ at) in
@@ -346,14 +294,9 @@ past-further m first i passes here w s k p = record {
 
 out_of : (st : AttemptState) (l : Bool) → ((bits_of st l).accepted || (bits_of st l).over) ≡ ((bits_of st l).arrived && not (table.is_live st))
 out_of New l = refl
-out_of Assigned l = refl
-out_of Running l = refl
-out_of CommitPending l = refl
-out_of Recording l = refl
-out_of Succeeded l = refl
-out_of Failed l = refl
 out_of Killed false = refl
 out_of Killed true = refl
+out_of _ l = refl
 
 pub out-told : (t : TaskId) (k : ℕ) (h : List TaskCall) (a : Attempt) → is_out_of (task.seen t k h) a ≡ (has (task.seen t k h).arrived a && not (table.is_live (task.state_of t k h a)))
 out-told t k h a =

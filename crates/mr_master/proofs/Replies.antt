@@ -13,7 +13,7 @@ use Rattle.mr_master_model.specs.declared.store.StoreAnswer.{StoreAnswer}
 use Rattle.mr_master_model.specs.declared.store.StoreCall.TheVariants as call
 use Rattle.mr_names.specs.declared.op.Op.TheVariants as op
 use Rattle.mr_master_model.specs.Job.{is_task, all_reduces}
-use Rattle.mr_master_model.specs.Past.{Work, LooksForSuccess, LooksForFail, LooksForStarted, Reads, SetsUp, TakesOver, Runs, CommitsJob, TellsSuccess, TellsFail, AbortsCommit, Fails, Ends, Stops}
+use Rattle.mr_master_model.specs.Past.{Work, LooksForSuccess, LooksForFail, LooksForStarted, Runs, TellsSuccess, TellsFail, AbortsCommit, Fails, Stops}
 use Rattle.mr_master_model.specs.Readings.{Seen, is_running, is_live, or_else, tell, all_succeeded}
 use Rattle.mr_master_model.specs.Duty.{Duty, duty, duty_at, record_duty, start_duty, creates, started_mark}
 use Rattle.mr_master_model.specs.Answered.{is_fine, changed, work_after, with_work, after_due, after_duty, running_after, failing_after, name_of, recorded, tell_recorded, success_in, moved_first, with_maps}
@@ -44,34 +44,14 @@ unfolding changed work_sends
 look-changes w s a LooksForSuccess e = (refl, refl)
 look-changes w s a LooksForFail e = (refl, refl)
 look-changes w s a LooksForStarted e = (refl, refl)
-look-changes w s a Reads e = absurd (true≢false (sym e))
-look-changes w s a (SetsUp left) e = absurd (true≢false (sym e))
-look-changes w s a (TakesOver x left others) e = absurd (true≢false (sym e))
-look-changes w s a Runs e = absurd (true≢false (sym e))
-look-changes w s a (CommitsJob left) e = absurd (true≢false (sym e))
-look-changes w s a TellsSuccess e = absurd (true≢false (sym e))
-look-changes w s a TellsFail e = absurd (true≢false (sym e))
-look-changes w s a AbortsCommit e = absurd (true≢false (sym e))
-look-changes w s a (Fails b) e = absurd (true≢false (sym e))
-look-changes w s a (Ends b) e = absurd (true≢false (sym e))
-look-changes w s a Stops e = absurd (true≢false (sym e))
+look-changes w s a _ e = absurd (true≢false (sym e))
 
 pub tell-changes : (w : Setting) (s : Seen) (a : StoreAnswer) (work : Work) → is_tell work ≡ true → (s ≡ changed w s a work) × ([] ≡ work_sends w s a work)
 unfolding changed work_sends
 tell-changes w s a TellsSuccess e = (refl, refl)
 tell-changes w s a TellsFail e = (refl, refl)
 tell-changes w s a AbortsCommit e = (refl, refl)
-tell-changes w s a LooksForSuccess e = absurd (true≢false (sym e))
-tell-changes w s a LooksForFail e = absurd (true≢false (sym e))
-tell-changes w s a LooksForStarted e = absurd (true≢false (sym e))
-tell-changes w s a Reads e = absurd (true≢false (sym e))
-tell-changes w s a (SetsUp left) e = absurd (true≢false (sym e))
-tell-changes w s a (TakesOver x left others) e = absurd (true≢false (sym e))
-tell-changes w s a Runs e = absurd (true≢false (sym e))
-tell-changes w s a (CommitsJob left) e = absurd (true≢false (sym e))
-tell-changes w s a (Fails b) e = absurd (true≢false (sym e))
-tell-changes w s a (Ends b) e = absurd (true≢false (sym e))
-tell-changes w s a Stops e = absurd (true≢false (sym e))
+tell-changes w s a _ e = absurd (true≢false (sym e))
 
 -- nothing changes but the work
 pub quiet-seen : (w : Setting) (s : Seen) (a : StoreAnswer) (new : Work) → s ≡ changed w s a s.work → new ≡ work_after w s a s.work → is_running new ≡ false → record s { work = new } ≡ answered_seen w s a

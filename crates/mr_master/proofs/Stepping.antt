@@ -6,7 +6,7 @@ use Rattle.mr_commit.specs.declared.fault.StepDone.{StepDone}
 use Rattle.mr_commit.specs.declared.fault.StepDone.TheVariants as done
 use Rattle.mr_master_model.specs.declared.setting.Setting.{Setting}
 use Rattle.mr_master_model.specs.declared.store.StoreAnswer.{StoreAnswer}
-use Rattle.mr_master_model.specs.Past.{Work, LooksForSuccess, LooksForFail, LooksForStarted, Reads, SetsUp, TakesOver, Runs, CommitsJob, TellsSuccess, TellsFail, AbortsCommit, Fails, Ends, Stops}
+use Rattle.mr_master_model.specs.Past.{Work, SetsUp, TakesOver, CommitsJob, TellsSuccess, TellsFail, Stops}
 use Rattle.mr_master_model.specs.Readings.{Seen}
 use Rattle.mr_master_model.specs.Answered.{heard_by, goes_on, is_superseded, work_after, next_winner, winners}
 use Rattle.mr_master.specs.inner.Heard as heard
@@ -35,17 +35,7 @@ unfolding work_after
 steps w s a (SetsUp left) h is e = goes (heard_by left a).0 (heard_by left a).1 h e SetsUp (next_winner w (winners w s)) Stops ∙ ap (λ x. by_heard h (SetsUp (heard_by left a).1) (next_winner w (winners w s)) x) (both (is_superseded a))
 steps w s a (TakesOver x left others) h is e = goes (heard_by left a).0 (heard_by left a).1 h e (λ l. TakesOver x l others) (next_winner w others) Stops ∙ ap (λ y. by_heard h (TakesOver x (heard_by left a).1 others) (next_winner w others) y) (both (is_superseded a))
 steps w s a (CommitsJob left) h is e = goes (heard_by left a).0 (heard_by left a).1 h e CommitsJob TellsSuccess (if is_superseded a then Stops else TellsFail)
-steps w s a LooksForSuccess h is e = absurd (true≢false (sym is))
-steps w s a LooksForFail h is e = absurd (true≢false (sym is))
-steps w s a LooksForStarted h is e = absurd (true≢false (sym is))
-steps w s a Reads h is e = absurd (true≢false (sym is))
-steps w s a Runs h is e = absurd (true≢false (sym is))
-steps w s a TellsSuccess h is e = absurd (true≢false (sym is))
-steps w s a TellsFail h is e = absurd (true≢false (sym is))
-steps w s a AbortsCommit h is e = absurd (true≢false (sym is))
-steps w s a (Fails b) h is e = absurd (true≢false (sym is))
-steps w s a (Ends b) h is e = absurd (true≢false (sym is))
-steps w s a Stops h is e = absurd (true≢false (sym is))
+steps w s a _ h is e = absurd (true≢false (sym is))
 
 pub when-more : (w : Setting) (s : Seen) (a : StoreAnswer) (work new : Work) → is_step work ≡ true → heard.More ≡ heard_as (heard_by (left_of work) a).0
     → new ≡ with_left work (heard_by (left_of work) a).1 → new ≡ work_after w s a work

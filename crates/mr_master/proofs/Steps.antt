@@ -17,7 +17,7 @@ use Rattle.mr_packet.specs.declared.packet.Envelope.{Envelope}
 use Rattle.mr_master_model.specs.declared.setting.Setting.{Setting}
 use Rattle.mr_master_model.specs.declared.store.StoreAnswer.{StoreAnswer}
 use Rattle.mr_master_model.specs.declared.store.StoreAnswer.TheVariants as answer
-use Rattle.mr_master_model.specs.Past.{Work, LooksForSuccess, LooksForFail, LooksForStarted, Reads, SetsUp, TakesOver, Runs, CommitsJob, TellsSuccess, TellsFail, AbortsCommit, Fails, Ends, Stops}
+use Rattle.mr_master_model.specs.Past.{Work, Reads, SetsUp, TakesOver, CommitsJob, TellsSuccess, TellsFail, Fails, Stops}
 use Rattle.mr_master_model.specs.Readings.{Seen, is_running, tell}
 use Rattle.mr_master_model.specs.Answered.{changed, work_after, with_work, with_earlier, read_by, is_unsuccessful, heard_by, goes_on, is_finished, is_superseded, takes_over, next_winner, winners, with_maps}
 use Rattle.mr_master_model.specs.Sends.{work_sends, outcome_of, to_all}
@@ -34,33 +34,15 @@ use Rattle.mr_master.proofs.Stepping.{when-more, when-finished, when-refused}
 
 pub told-is : (a : StoreAnswer) (rs : List Record) → Some rs ≡ records_in a → answer.Told rs ≡ a
 told-is (answer.Told xs) rs e = cc
-told-is (answer.Names r) rs e = cc
-told-is (answer.Wrote r) rs e = cc
-told-is (answer.Unread f) rs e = cc
-told-is answer.Fault rs e = cc
+told-is _ rs e = cc
 
 pub unread : (w : Setting) (s : Seen) (a : StoreAnswer) → None ≡ records_in a → (s ≡ with_earlier s a) × (Stops ≡ read_by w a)
 unread w s (answer.Told xs) e = cc
-unread w s (answer.Names r) e = (refl, refl)
-unread w s (answer.Wrote r) e = (refl, refl)
-unread w s (answer.Unread f) e = (refl, refl)
-unread w s answer.Fault e = (refl, refl)
+unread w s _ e = (refl, refl)
 
 pub read-is : (work : Work) → is_read work ≡ true → work ≡ Reads
 read-is Reads e = refl
-read-is LooksForSuccess e = absurd (true≢false (sym e))
-read-is LooksForFail e = absurd (true≢false (sym e))
-read-is LooksForStarted e = absurd (true≢false (sym e))
-read-is (SetsUp left) e = absurd (true≢false (sym e))
-read-is (TakesOver x left others) e = absurd (true≢false (sym e))
-read-is Runs e = absurd (true≢false (sym e))
-read-is (CommitsJob left) e = absurd (true≢false (sym e))
-read-is TellsSuccess e = absurd (true≢false (sym e))
-read-is TellsFail e = absurd (true≢false (sym e))
-read-is AbortsCommit e = absurd (true≢false (sym e))
-read-is (Fails b) e = absurd (true≢false (sym e))
-read-is (Ends b) e = absurd (true≢false (sym e))
-read-is Stops e = absurd (true≢false (sym e))
+read-is _ e = absurd (true≢false (sym e))
 
 -- what is next neither runs nor ended
 pub read-quiet : (w : Setting) (a : StoreAnswer) → (is_running (read_by w a) ≡ false) × ([] ≡ outcome_of w (read_by w a))
@@ -69,10 +51,7 @@ read-quiet w (answer.Told rs) = by (list_any is_unsuccessful rs)
     by : (b : Bool) → (is_running (cond b (Fails true) (SetsUp (setup_job w.layout.dest w.app))) ≡ false) × ([] ≡ outcome_of w (cond b (Fails true) (SetsUp (setup_job w.layout.dest w.app))))
     by true = (refl, refl)
     by false = (refl, refl)
-read-quiet w (answer.Names r) = (refl, refl)
-read-quiet w (answer.Wrote r) = (refl, refl)
-read-quiet w (answer.Unread f) = (refl, refl)
-read-quiet w answer.Fault = (refl, refl)
+read-quiet w _ = (refl, refl)
 
 pub read-seen : (w : Setting) (s : Seen) (a : StoreAnswer) → s.work ≡ Reads → record (with_earlier s a) { work = read_by w a } ≡ answered_seen w s a
 unfolding changed work_after
@@ -132,17 +111,7 @@ unfinished w s a (TakesOver x left others) is e =
 unfinished w s a (CommitsJob left) is e =
     let p = goes-quiet w (heard_by left a).0 (heard_by left a).1 e CommitsJob TellsSuccess (if is_superseded a then Stops else TellsFail) (refl, refl) (refusal-quiet w (is_superseded a)) in
     record { changes = refl; sends = refl; tells = p.0; rests = p.1 }
-unfinished w s a LooksForSuccess is e = absurd (true≢false (sym is))
-unfinished w s a LooksForFail is e = absurd (true≢false (sym is))
-unfinished w s a LooksForStarted is e = absurd (true≢false (sym is))
-unfinished w s a Reads is e = absurd (true≢false (sym is))
-unfinished w s a Runs is e = absurd (true≢false (sym is))
-unfinished w s a TellsSuccess is e = absurd (true≢false (sym is))
-unfinished w s a TellsFail is e = absurd (true≢false (sym is))
-unfinished w s a AbortsCommit is e = absurd (true≢false (sym is))
-unfinished w s a (Fails b) is e = absurd (true≢false (sym is))
-unfinished w s a (Ends b) is e = absurd (true≢false (sym is))
-unfinished w s a Stops is e = absurd (true≢false (sym is))
+unfinished w s a _ is e = absurd (true≢false (sym is))
 
 -- it was
 pub record Finishing (w : Setting) (s : Seen) (a : StoreAnswer) (work : Work) : Type 0 where
@@ -171,17 +140,7 @@ finishing w s a (TakesOver x left others) is e =
       rests = refl;
     }
 finishing w s a (CommitsJob left) is e = record { changes = refl; sends = refl; tells = refl; rests = refl }
-finishing w s a LooksForSuccess is e = absurd (true≢false (sym is))
-finishing w s a LooksForFail is e = absurd (true≢false (sym is))
-finishing w s a LooksForStarted is e = absurd (true≢false (sym is))
-finishing w s a Reads is e = absurd (true≢false (sym is))
-finishing w s a Runs is e = absurd (true≢false (sym is))
-finishing w s a TellsSuccess is e = absurd (true≢false (sym is))
-finishing w s a TellsFail is e = absurd (true≢false (sym is))
-finishing w s a AbortsCommit is e = absurd (true≢false (sym is))
-finishing w s a (Fails b) is e = absurd (true≢false (sym is))
-finishing w s a (Ends b) is e = absurd (true≢false (sym is))
-finishing w s a Stops is e = absurd (true≢false (sym is))
+finishing w s a _ is e = absurd (true≢false (sym is))
 
 -- by the work after the answer
 pub step-seen : (w : Setting) (s : Seen) (a : StoreAnswer) (new : Work) → Unfinished w s a s.work → new ≡ work_after w s a s.work → record s { work = new } ≡ answered_seen w s a
@@ -214,17 +173,7 @@ pub finished-tells : (w : Setting) (s : Seen) (work : Work) → is_step work ≡
 finished-tells w s (SetsUp left) is = next-tells w (winners w s)
 finished-tells w s (TakesOver x left others) is = next-tells w others
 finished-tells w s (CommitsJob left) is = refl
-finished-tells w s LooksForSuccess is = absurd (true≢false (sym is))
-finished-tells w s LooksForFail is = absurd (true≢false (sym is))
-finished-tells w s LooksForStarted is = absurd (true≢false (sym is))
-finished-tells w s Reads is = absurd (true≢false (sym is))
-finished-tells w s Runs is = absurd (true≢false (sym is))
-finished-tells w s TellsSuccess is = absurd (true≢false (sym is))
-finished-tells w s TellsFail is = absurd (true≢false (sym is))
-finished-tells w s AbortsCommit is = absurd (true≢false (sym is))
-finished-tells w s (Fails b) is = absurd (true≢false (sym is))
-finished-tells w s (Ends b) is = absurd (true≢false (sym is))
-finished-tells w s Stops is = absurd (true≢false (sym is))
+finished-tells w s _ is = absurd (true≢false (sym is))
 
 pub nobody-told : (w : Setting) (s : Seen) (new : Work) → is_step s.work ≡ true → None ≡ winner_of s.work → new ≡ finished_by w s s.work → outcome_of w new ≡ won_of w (winner_of s.work)
 nobody-told w s new is none n = ap (λ (x : Work). outcome_of w x) n ∙ sym (finished-tells w s s.work is) ∙ ap (λ (o : Option TaskWinner). won_of w o) none
@@ -240,19 +189,7 @@ nobody-enters w s new none rests n =
 -- no reduce was taken over: nothing is left out
 pub nobody-left : (w : Setting) (s : Seen) (work : Work) → None ≡ winner_of work → begun_by w s work ≡ finished_by w s work
 nobody-left w s (TakesOver x left others) none = cc
-nobody-left w s (SetsUp left) none = refl
-nobody-left w s (CommitsJob left) none = refl
-nobody-left w s LooksForSuccess none = refl
-nobody-left w s LooksForFail none = refl
-nobody-left w s LooksForStarted none = refl
-nobody-left w s Reads none = refl
-nobody-left w s Runs none = refl
-nobody-left w s TellsSuccess none = refl
-nobody-left w s TellsFail none = refl
-nobody-left w s AbortsCommit none = refl
-nobody-left w s (Fails b) none = refl
-nobody-left w s (Ends b) none = refl
-nobody-left w s Stops none = refl
+nobody-left w s _ none = refl
 
 -- one of them is taken over: the master does not run
 taking-rests : (x : TaskWinner) (r : Recovery) (others : List TaskWinner) → is_running (takes_over x r others) ≡ false
@@ -266,19 +203,7 @@ first-rests w x others = taking-rests x (recover_task w.layout.dest w.app x.task
 pub runs-whole : (w : Setting) (s : Seen) (work : Work) → is_running (begun_by w s work) ≡ true → begun_by w s work ≡ finished_by w s work
 runs-whole w s (TakesOver x left []) runs = refl
 runs-whole w s (TakesOver x left (y ∷ others)) runs = absurd (true≢false (sym runs ∙ first-rests w y []))
-runs-whole w s (SetsUp left) runs = refl
-runs-whole w s (CommitsJob left) runs = refl
-runs-whole w s LooksForSuccess runs = refl
-runs-whole w s LooksForFail runs = refl
-runs-whole w s LooksForStarted runs = refl
-runs-whole w s Reads runs = refl
-runs-whole w s Runs runs = refl
-runs-whole w s TellsSuccess runs = refl
-runs-whole w s TellsFail runs = refl
-runs-whole w s AbortsCommit runs = refl
-runs-whole w s (Fails b) runs = refl
-runs-whole w s (Ends b) runs = refl
-runs-whole w s Stops runs = refl
+runs-whole w s _ runs = refl
 
 -- those that are left are moved to it
 moved-to : (x : TaskWinner) (r : Recovery) (others : List TaskWinner) → with_others (takes_over x r []) others ≡ takes_over x r others
@@ -293,19 +218,7 @@ pub record Joined (w : Setting) (s : Seen) (work : Work) : Type 0 where
 pub joined : (w : Setting) (s : Seen) (x : TaskWinner) (work : Work) → Some x ≡ winner_of work → is_running (begun_by w s work) ≡ false → Joined w s work
 joined w s x (TakesOver y left []) is rests = absurd (true≢false rests)
 joined w s x (TakesOver y left (z ∷ others)) is rests = record { whole = moved-to z (recover_task w.layout.dest w.app z.task z.bytes) others; rests = sym (first-rests w z others) }
-joined w s x (SetsUp left) is rests = cc
-joined w s x (CommitsJob left) is rests = cc
-joined w s x LooksForSuccess is rests = cc
-joined w s x LooksForFail is rests = cc
-joined w s x LooksForStarted is rests = cc
-joined w s x Reads is rests = cc
-joined w s x Runs is rests = cc
-joined w s x TellsSuccess is rests = cc
-joined w s x TellsFail is rests = cc
-joined w s x AbortsCommit is rests = cc
-joined w s x (Fails b) is rests = cc
-joined w s x (Ends b) is rests = cc
-joined w s x Stops is rests = cc
+joined w s x _ is rests = cc
 
 -- ---- the three ways in which a call goes
 

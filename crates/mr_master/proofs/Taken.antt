@@ -15,7 +15,7 @@ use Rattle.mr_attempt.specs.declared.state.AttemptEvent.TheVariants as event
 use Rattle.mr_grant.specs.Attempts.{same_attempt, has}
 use Rattle.mr_grant.proofs.Same.{same-is}
 use Rattle.mr_history.specs.declared.record.Record.{Record}
-use Rattle.mr_history.specs.declared.record.Record.TheVariants.{AttemptStarted, MapSucceeded, ReduceSucceeded, AttemptFailed, JobUnsuccessful}
+use Rattle.mr_history.specs.declared.record.Record.TheVariants.{MapSucceeded}
 use Rattle.mr_recover.specs.declared.winner.TaskWinner.{TaskWinner}
 use Rattle.mr_task.specs.Calls.{TaskCall, Recovers}
 use Rattle.mr_task.specs.Readings as task
@@ -30,20 +30,11 @@ use Rattle.mr_master.specs.Places.{place_of}
 use Rattle.mr_master.specs.Tasks.{Tasks, KeepsTasks, Takes, TakesAt}
 use Rattle.mr_master.specs.Told.{told_one, told_all}
 use Rattle.mr_master.specs.Taking.{Enters, IsTold, calls_with, after_winner, after_table}
+use Rattle.mr_master.proofs.Keeping.{some-is}
 use Rattle.mr_master.proofs.Dying.{one-told, none-told, told-more}
 use Rattle.mr_master.proofs.Telling.{Own, told-all-is}
 
--- ---- copies
-
-pub copy-step : {A : Type 0} (xs : List A) (i : ℕ) (x : A) (mid new : List A) → i < length xs → x ≡ get_or xs i x → mid ≡ take i xs → new ≡ mid ++ x ∷ [] → new ≡ take (i + 1) xs
-copy-step {A} xs i x mid new within is before now =
-    now ∙ ap (λ (l : List A). l ++ x ∷ []) before
-    ∙ sym (ap (λ (n : ℕ). take n xs) (add-one i) ∙ take-suc xs i x within ∙ ap (λ (y : A). take i xs ++ y ∷ []) (sym is))
-
 -- ---- one machine is put in the place of another
-
-some-is : {A : Type 0} (x y : A) → Some x ≡ Some y → x ≡ y
-some-is x y e = cc
 
 other-stays : {A : Type 0} (xs : List A) (i : ℕ) (y : A) (j : ℕ) → (j ≡ i → ⊥) → slice_get (set xs i y) j ≡ slice_get xs j
 other-stays [] i y j ne = refl
@@ -61,7 +52,7 @@ told-at old i call y t = record { count = length-set old i y; there = there; oth
     there : (z : Task) → slice_get (set old i y) i ≡ Some z → (x : Task) × (slice_get old i ≡ Some x) × state.Stands x call z
     there z e =
         let was = slice_get-get_or old i y t.within in
-        (get_or old i y, was, subst (λ (v : Task). state.Stands (get_or old i y) call v) (some-is y z (sym here ∙ e)) (t.stands (get_or old i y) was))
+        (get_or old i y, was, subst (λ (v : Task). state.Stands (get_or old i y) call v) (some-is (sym here ∙ e)) (t.stands (get_or old i y) was))
 
 -- ---- what may not be entered changes nothing
 
@@ -122,10 +113,7 @@ newest-own t (MapSucceeded b n j ∷ rs) p e = by (newest_in rs t) refl e (λ q.
     by : (o : Option (Attempt × Place)) → newest_in rs t ≡ o → or_else o (if same_task b.task t then Some (b, record { node = n; incarnation = j }) else None) ≡ Some p → (newest_in rs t ≡ Some p → p.0.task ≡ t) → p.0.task ≡ t
     by None q f go = one (same_task b.task t) refl f
     by (Some x) q f go = go (q ∙ f)
-newest-own t (ReduceSucceeded b bytes ∷ rs) p e = newest-own t rs p e
-newest-own t (AttemptStarted b n ∷ rs) p e = newest-own t rs p e
-newest-own t (AttemptFailed b ∷ rs) p e = newest-own t rs p e
-newest-own t (JobUnsuccessful ∷ rs) p e = newest-own t rs p e
+newest-own t (_ ∷ rs) p e = newest-own t rs p e
 
 taken-here : (s : Seen) (t : TaskId) (o : Option (Attempt × Place)) → newest_in s.earlier t ≡ o → (a : Attempt) → has (taken s o) a ≡ true → a.task ≡ t
 taken-here s t None q a e = absurd (true≢false (sym e))
@@ -167,9 +155,6 @@ maps-enter old new v w s xs e q enters calls k =
 pub winner-enters : (old new : Tasks) (w : Setting) (x : TaskWinner) (o : Option TaskWinner) (i : ℕ) (calls : TaskId → List TaskCall) → Some x ≡ o → (is_task w x.task ≡ true) × (i ≡ place_of w x.task) → Takes old i (Recovers x.attempt) new
     → KeepsTasks old w calls → KeepsTasks new w (calls_with o calls)
 winner-enters old new w x o i calls e p takes k = subst (λ (r : Option TaskWinner). KeepsTasks new w (calls_with r calls)) e (takes w calls x.task p.0 p.1 k)
-
-pub no-winner : (old : Tasks) (w : Setting) (o : Option TaskWinner) (calls : TaskId → List TaskCall) → None ≡ o → KeepsTasks old w calls → KeepsTasks old w (calls_with o calls)
-no-winner old w o calls e k = subst (λ (r : Option TaskWinner). KeepsTasks old w (calls_with r calls)) e k
 
 -- ---- after the last call of a table
 

@@ -1,10 +1,9 @@
 -- Which task waits for a launch.
-use Rattle.std.proofs.Common.{ℕ, zero, suc, ◌+◌, ◌<◌, ◌≤◌, length, drop, get_or, add-one, drop-cons, ◌≡◌, refl, sym, ap, ◌∙◌, Bool, true, false, ◌&&◌, cond, List, [], ◌∷◌, ◌++◌, filter, Some, None, is_none, ◌-◌, arith}
+use Rattle.std.proofs.Common.{ℕ, zero, suc, ◌+◌, ◌<◌, ◌≤◌, length, drop, get_or, add-one, drop-cons, ◌≡◌, refl, sym, ap, ◌∙◌, Bool, true, false, ◌&&◌, cond, List, [], ◌∷◌, ◌++◌, Some, None, ◌-◌, arith}
 use Rattle.std.specs.List.{find}
 use Rattle.mr_ids.specs.Attempt.{Attempt}
 use Rattle.mr_ids.specs.declared.id.TaskId.{TaskId}
 use Rattle.mr_ids.specs.declared.id.TaskKind.{TaskKind}
-use Rattle.mr_grant.specs.Attempts.{first_of}
 use Rattle.mr_master_model.specs.declared.setting.Setting.{Setting}
 use Rattle.mr_master_model.specs.Job.{is_task, task_of, count_of, first_tasks}
 use Rattle.mr_master.proofs.Telling.{task-of-is}
@@ -13,19 +12,6 @@ use Rattle.mr_master.proofs.Telling.{task-of-is}
 
 left-is : (xs : List Attempt) (i : ℕ) (x : Attempt) → i < length xs → x ≡ get_or xs i x → drop i xs ≡ x ∷ drop (i + 1) xs
 left-is xs i x within is = drop-cons xs i x within ∙ (λ j. sym is j ∷ drop (sym (add-one i) j) xs)
-
-pub not-here : (p : Attempt → Bool) (xs : List Attempt) (i : ℕ) (x : Attempt) → i < length xs → x ≡ get_or xs i x → p x ≡ false → filter p (drop i xs) ≡ filter p (drop (i + 1) xs)
-not-here p xs i x within is dead = ap (λ (l : List Attempt). filter p l) (left-is xs i x within is) ∙ ap (λ b. cond b (x ∷ filter p (drop (i + 1) xs)) (filter p (drop (i + 1) xs))) dead
-
-pub here-one : (p : Attempt → Bool) (xs : List Attempt) (i : ℕ) (x : Attempt) → i < length xs → x ≡ get_or xs i x → p x ≡ true → is_none (first_of (filter p (drop i xs))) ≡ false
-here-one p xs i x within is yes' =
-    ap (λ (l : List Attempt). is_none (first_of (filter p l))) (left-is xs i x within is) ∙ ap (λ b. is_none (first_of (cond b (x ∷ filter p (drop (i + 1) xs)) (filter p (drop (i + 1) xs))))) yes'
-
-pub none-left : (p : Attempt → Bool) (xs : List Attempt) (i : ℕ) → length xs ≤ i → is_none (first_of (filter p (drop i xs))) ≡ true
-none-left p [] zero e = refl
-none-left p [] (suc i) e = refl
-none-left p (x ∷ xs) zero e = absurd (omega arith)
-none-left p (x ∷ xs) (suc i) e = none-left p xs i (omega arith)
 
 -- ---- among the first tasks of a kind
 

@@ -8,5 +8,5 @@ pub mod Told
 pub mod WorkKinds
 pub mod Answering
 pub mod Taking
-pub mod Ready
+pub mod Prepared
 pub mod inner

@@ -4,8 +4,8 @@ use Rattle.mr_ids.specs.declared.id.TaskId.{TaskId}
 use Rattle.mr_master_model.specs.declared.phase.LaunchFault.{LaunchFault}
 use Rattle.mr_master_model.specs.declared.setting.Setting.{Setting}
 use Rattle.mr_master_model.specs.Readings.{Seen, launch_refusal}
-use Rattle.mr_master.specs.declared.launching.LaunchError.{LaunchError}
-use Rattle.mr_master.specs.declared.launching.LaunchError.TheVariants.{Refused, Full, NoMemory}
+use Rattle.mr_master.specs.declared.launch.LaunchError.{LaunchError}
+use Rattle.mr_master.specs.declared.launch.LaunchError.TheVariants.{Refused, Full, NoMemory}
 
 -- how many containers a master launches at most
 abbrev pub MOST_CONTAINERS : ℕ

@@ -1,13 +1,13 @@
 -- Which past the machine of a master stands for. Our own: where code and definitions meet.
-use Rattle.std.specs.Prelude.{◌≡◌, ℕ, List, ◌∷◌, ◌++◌}
-use Rattle.mr_ids.specs.Attempt.{Attempt}
+use Rattle.std.specs.Prelude.{◌≡◌, ℕ, false, length, List, ◌∷◌, ◌++◌}
 use Rattle.mr_history.specs.declared.record.Record.{Record}
 use Rattle.mr_master_model.specs.declared.setting.Setting.{Setting}
 use Rattle.mr_master_model.specs.Past.{Work, Step}
 use Rattle.mr_master_model.specs.Readings.{Seen}
 use Rattle.mr_master_model.specs.Next.{seen}
 use Rattle.mr_master.specs.Tasks.{Tasks, KeepsTasks}
-use Rattle.mr_tables.specs.Launches.{Launched, KeepsLaunches}
+use Rattle.mr_tables.specs.Bars.{Bars}
+use Rattle.mr_tables.specs.Launches.{Launched, KeepsLaunches, SameLaunches}
 use Rattle.mr_tables.specs.Nodes.{KeepsNodes}
 use Rattle.mr_tables.specs.Records.{Writing, KeepsRecords, SameRecords}
 
@@ -20,7 +20,7 @@ pub record Master : Type 0 where
   pub nodes : List (ℕ × ℕ)  -- the incarnation of each that is not in its first
   pub earlier : List Record
   pub writing : Writing
-  pub bars : List Attempt
+  pub bars : Bars
 
 -- The machine m keeps what was seen, part by part.
 pub record Keeps (m : Master) (w : Setting) (s : Seen) : Type 0 where
@@ -31,7 +31,7 @@ pub record Keeps (m : Master) (w : Setting) (s : Seen) : Type 0 where
   pub nodes : KeepsNodes m.nodes s.known
   pub earlier : m.earlier ≡ s.earlier
   pub writing : KeepsRecords m.writing s.due s.tail
-  pub bars : m.bars ≡ s.bars
+  pub bars : m.bars.due ≡ s.bars
 
 -- The machine stands for a past: it keeps what is read off it.
 abbrev pub StandsFor : Master → Setting → List Step → Type 0
@@ -43,9 +43,12 @@ StandsForSome m = (past : List Step) × StandsFor m m.setting past
 
 -- ---- how the contracts say it
 
--- the same, spare room aside: what an error leaves
-abbrev pub Unchanged : Master → Master → Type 0
-Unchanged old new = (new ≡ record old { writing = new.writing }) × SameRecords old.writing new.writing
+-- the same, spare room aside
+pub record Unchanged (old new : Master) : Type 0 where
+  pub is : new ≡ record old { launches = new.launches; writing = new.writing; bars = new.bars }
+  pub launches : SameLaunches old.launches new.launches
+  pub writing : SameRecords old.writing new.writing
+  pub bars : new.bars.due ≡ old.bars.due
 
 -- whatever past the machine stood for, it stands for it and this step
 abbrev pub Stands : Master → Step → Master → Type 0
@@ -69,3 +72,7 @@ Reads m reading answer = (w : Setting) (s : Seen) → Keeps m w s → answer ≡
 -- a list grew by what is read off
 abbrev pub Adds : {A : Type 0} → Master → List A → (Setting → Seen → List A) → List A → Type 0
 Adds m old reading new = (w : Setting) (s : Seen) → Keeps m w s → new ≡ old ++ reading w s
+
+-- It moves, if no Kill was sent to the container that is launched next: along a past none was
+abbrev pub MovesOn : Master → (Setting → Seen → Seen) → Master → Type 0
+MovesOn old change new = (w : Setting) (s : Seen) → Keeps old w s → s.killed (length s.launched) ≡ false → Keeps new w (change w s)

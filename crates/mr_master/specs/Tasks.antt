@@ -1,12 +1,15 @@
 -- What is stored of the tasks, and which calls it stands for. Our own: where code and definitions meet.
-use Rattle.std.specs.Prelude.{◌≡◌, ◌<◌, ◌+◌, ℕ, true, false, List, [], ◌∷◌, length, slice_get, Some, Result, Ok, Err, if◌then◌else◌}
+use Rattle.std.specs.Prelude.{◌≡◌, ◌<◌, ◌+◌, ℕ, true, false, List, [], ◌∷◌, length, slice_get, Some, if◌then◌else◌}
+use Rattle.mr_ids.specs.Attempt.{Attempt}
 use Rattle.mr_ids.specs.Same.{same_task}
 use Rattle.mr_ids.specs.declared.id.TaskId.{TaskId}
 use Rattle.mr_ids.specs.declared.id.TaskKind.{TaskKind}
-use Rattle.mr_task.specs.declared.fault.TaskFault.{TaskFault}
+use Rattle.mr_task.specs.declared.reply.DoneReply.{DoneReply}
+use Rattle.mr_task.specs.declared.reply.DoneReply.TheVariants.{Ignored}
 use Rattle.mr_task.specs.Calls.{TaskCall}
 use Rattle.mr_task.specs.Steps.{Task}
 use Rattle.mr_task.specs.State as task
+use Rattle.mr_task.specs.State.{reply_or}
 use Rattle.mr_master_model.specs.declared.setting.Setting.{Setting}
 use Rattle.mr_master_model.specs.Job.{is_task, task_of}
 use Rattle.mr_master.specs.Places.{place_of}
@@ -43,10 +46,9 @@ pub record NewTasks (w : Setting) (kind : TaskKind) (n : ℕ) (old new : List Ta
   pub stand : (i : ℕ) (x : Task) → i < n → slice_get new (length old + i) ≡ Some x → task.StandsFor x (task_of w kind i) w.app []
   pub others : (j : ℕ) → j < length old → slice_get new j ≡ slice_get old j
 
--- an answer, or another one where there is a fault
-abbrev pub reply_or : {A : Type 0} → Result A TaskFault → A → A
-reply_or (Ok x) y = x
-reply_or (Err f) y = y
+-- what the task at place i answers the attempt's Done; one that it never had it ignores
+abbrev pub IsReplyAt : List Task → ℕ → Attempt → DoneReply → Type 0
+IsReplyAt ms i a reply = AnswersAt ms i (λ t k calls. reply_or (task.done_answer a t k calls) Ignored) reply
 
 -- ---- the same of all tasks
 

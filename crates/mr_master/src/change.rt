@@ -1,11 +1,17 @@
-//! What the answer of a store call changes, made ready before it is heard.
+//! What a step changes, decided before it is taken.
+ghost use Rattle.std.specs.Prelude.{◌≡◌};
+ghost use Rattle.mr_master.specs.Prepared.{room_of};
+ghost use Rattle.mr_master.specs.Told.{due_count};
 
+use crate::ending::{Blame, Ending};
 use crate::tasks::Tasks;
 use crate::work::Work;
 use mr_commit::Following;
-use mr_ids::AttemptId;
-use mr_tables::Earlier;
-use mr_task::TaskMachine;
+use mr_history::Record;
+use mr_ids::{AttemptId, TaskId};
+use mr_master_model::Launch;
+use mr_tables::{Earlier, Nodes};
+use mr_task::{DoneReply, TaskMachine};
 
 /// What changes. To make it takes no memory.
 #[derive(Drop)]
@@ -23,9 +29,60 @@ pub enum Change {
     /// The master begins to run: these are the machines of the tasks from then on.
     Enters(Tasks, Work),
     /// An attempt was barred: it ends.
-    Ends(AttemptId),
+    Dies(AttemptId),
     /// The first record due was appended.
     Appends,
     /// All that was appended is stable.
     Flushes(Work),
+    /// The attempt, whose task's machine is at this place, is heard of.
+    Hears(usize, AttemptId),
+    /// It asks: the machine of its task is this one from then on.
+    Asks(usize, AttemptId, TaskMachine),
+    /// It says that it is done, which is answered so: where it is accepted now, this record is due.
+    Reports(usize, AttemptId, DoneReply, Option<Record>),
+    /// It ended so, by whose failure.
+    Ends(usize, AttemptId, Ending, Blame),
+    /// Its output is lost.
+    Loses(usize, AttemptId),
+    /// A node is known in this incarnation: what is known of the nodes then, the attempts that end, and those whose outputs are lost.
+    Knows(u32, u32, Nodes, Vec<AttemptId>, Vec<AttemptId>),
+    /// The attempt is launched so: the machine of its task, at this place, is this one from then on.
+    Launches(usize, AttemptId, TaskMachine, Launch),
+    /// A node is given up: the attempts that end, those whose outputs are lost, and those whose bars are due, if they were not.
+    GivesUp(Vec<AttemptId>, Vec<AttemptId>, Vec<AttemptId>),
+}
+
+/// What room a change wants.
+#[derive(Clone, Copy, Debug, PartialEq, Eq)]
+pub enum Room {
+    /// For so many records that come due.
+    Records(usize),
+    /// For a launch of the task on the node, and its record.
+    Launch(TaskId, u32),
+    /// For so many bars.
+    Bars(usize),
+}
+
+impl Change {
+    // What room it wants.
+    pub fn room(&self) -> Room
+        ensures { result ≡ room_of self.now }
+    {
+        match self {
+            Change::Reports(_, _, _, due) => Room::Records(due_count(due)),
+            Change::Ends(_, _, _, blame) => Room::Records(blame.record_count()),
+            Change::Launches(_, attempt, _, launch) => Room::Launch(attempt.task(), launch.node),
+            Change::GivesUp(_, _, late) => Room::Bars(late.len()),
+            _ => Room::Records(0),
+        }
+    }
+}
+
+fn due_count(due: &Option<Record>) -> usize
+    ensures { result ≡ due_count due.now }
+{
+    match due {
+        Some(_) => 1,
+        None => 0,
+    }
 }

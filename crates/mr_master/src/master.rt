@@ -3,16 +3,15 @@ ghost use Rattle.std.specs.Prelude.{◌≡◌, true, [], ◌∷◌, None, IfOk, 
 ghost use Rattle.std.specs.Option.{is_some};
 ghost use Rattle.mr_master.specs.State.{StandsFor, StandsForSome, Stands, StandsStill, Answers};
 ghost use Rattle.mr_master_model.specs.Duty.{duty};
-ghost use Rattle.mr_master_model.specs.Past.{Launches, Hears, Expires, Answered, phase_of};
+ghost use Rattle.mr_master_model.specs.Past.{Step, Launches, Hears, Expires, Answered, phase_of};
 ghost use Rattle.mr_master_model.specs.Readings.{launch_refusal, expire_refusal, wanted};
 ghost use Rattle.mr_master_model.specs.Next.{seen, sent};
-ghost use Rattle.mr_master_model.specs.declared.store.StoreAnswer.{StoreAnswer};
-ghost use Rattle.mr_master.specs.Ready.{IsReady, IsReadyForSome};
+ghost use Rattle.mr_master.specs.Prepared.{IsOne, IsExpiry, PlansFor, IsReadyFor, IsReadyForStep};
 ghost use Rattle.mr_master.specs.Refused.{launch_error};
 
-use crate::launching::LaunchError;
+use crate::launch::{LaunchError, no_memory};
 use crate::machine::Machine;
-use crate::ready::Ready;
+use crate::prepared::Prepared;
 use mr_ids::TaskId;
 use mr_master_model::{LaunchFault, Phase, Setting, StoreAnswer};
 use mr_packet::{Envelope, Packet};
@@ -95,23 +94,6 @@ impl MasterMachine {
         self.machine.launch_refusal(task, node)
     }
 
-    /// Launches the next attempt of a task on a node, in the incarnation that is known of it, and gives the packet that tells the node
-    /// so, which is to be sent.
-    ///
-    /// Errors in order: `Refused` with `NotRunning`, `NoTask` where the task is not the job's, `NoNode`, or `Task` with the task's own
-    /// refusal (it is won, has two live attempts, or no numbers are left); `Full` where it launched 2^32 containers, whose numbers have 32
-    /// bits; `NoMemory`. An error changes nothing.
-    pub fn launch(&mut self, task: TaskId, node: u32) -> Result<Envelope, LaunchError>
-        ensures sent { IfOk result (λ packet. Answers self.old (λ w past. sent w past (Launches task node)) (packet ∷ [])) }
-        ensures stands { OnOk result (Stands self.old (Launches task node) self.new) }
-        ensures allowed { OnOk result (Answers self.old (λ w past. launch_refusal w (seen w past) task node) None) }
-        ensures refused { IfErr result (λ error. Answers self.old (λ w past. launch_error w (seen w past) task node) error) }
-        ensures unchanged { OnErr result (StandsStill self.old self.new) }
-    {
-        let packet = self.machine.launch(task, node)?;
-        Ok(packet)
-    }
-
     /// The phase that it is in. It takes no memory.
     pub fn phase(&self) -> Phase
         ensures { Answers self.now (λ w past. phase_of (seen w past).work) result }
@@ -128,55 +110,137 @@ impl MasterMachine {
         self.machine.wanted()
     }
 
-    /// What is sent once this packet is heard, in order; nothing while the master is not Running. It changes nothing. Where memory is
-    /// refused: an error.
-    ///
-    /// Whoever keeps the bag makes room for these packets, then has the packet heard (`hear`), then pushes them.
-    pub fn hear_packets(&self, packet: &Packet) -> Result<Vec<Envelope>, AllocError>
-        ensures { IfOk result (λ packets. Answers self.now (λ w past. sent w past (Hears packet.now)) packets.items) }
-    {
-        let packets = self.machine.hear_packets(packet)?;
-        Ok(packets)
-    }
-
-    /// Hears a packet, for which these packets are sent: what `hear_packets` gives.
-    ///
-    /// While Running every packet of an attempt, container or node is heard, in each other phase but Ended and Stopped only `NodeUp`;
-    /// what is told of an attempt or container that is not known is not heard. Where memory is refused: an error, and the master stands
-    /// for what it stood for.
-    pub fn hear(&mut self, packet: &Packet, packets: &[Envelope]) -> Result<(), AllocError>
-        requires { Answers self.old (λ w past. sent w past (Hears packet.now)) packets.now }
-        ensures stands { OnOk result (Stands self.old (Hears packet.now) self.new) }
-        ensures unchanged { OnErr result (StandsStill self.old self.new) }
-    {
-        self.machine.hear(packet, packets)?;
-        self.passed = self.machine.passed(self.passed);
-        Ok(())
-    }
-
     /// Why `expire` would not give a node up, memory aside: the first that applies. It takes no memory.
     pub fn expire_refusal(&self, node: u32) -> Option<LaunchFault>
         ensures { Answers self.now (λ w past. expire_refusal w (seen w past) node) result }
     {
         self.machine.expire_refusal(node)
     }
+}
 
-    /// What is sent where this node is given up (`expire`), in order; nothing where that is refused. It changes nothing. Where memory is
-    /// refused: an error.
+// How each step is taken: it is prepared, there is made room for it, and it is taken.
+impl MasterMachine {
+    /// What the master will send once it hears this packet, and what will change then. It changes nothing. Where memory is refused: an
+    /// error.
     ///
-    /// Whoever keeps the bag makes room for these packets, then gives the node up, then pushes them.
-    pub fn expire_packets(&self, node: u32) -> Result<Vec<Envelope>, AllocError>
-        ensures { IfOk result (λ packets. Answers self.now (λ w past. sent w past (Expires node)) packets.items) }
+    /// While Running every packet of an attempt, container or node is heard, in each other phase but Ended and Stopped only `NodeUp`;
+    /// what is told of an attempt or container that is not known is not heard: then nothing is sent, and nothing will change.
+    pub fn prepare_packet(&self, packet: &Packet) -> Result<Prepared, AllocError>
+        ensures sent { IfOk result (λ prepared. Answers self.now (λ w past. sent w past (Hears packet.now)) prepared.packets) }
+        ensures planned { IfOk result (λ prepared. PlansFor self.now (Hears packet.now) prepared) }
     {
-        let packets = self.machine.expire_packets(node)?;
-        Ok(packets)
+        let prepared = self.machine.prepare_packet(packet)?;
+        Ok(prepared)
     }
 
-    /// Gives a node up whose containers may still run, and gives the packets that are sent: a Kill to the container of each live attempt of
-    /// a map there, by map number, then arrival. These attempts end, the outputs of the Succeeded maps there count as lost, and of each
-    /// live attempt of a reduce there a bar is due, if none was. Launches on the node go on.
+    /// What the master will send once it launches the next attempt of a task on a node, in the incarnation that is known of it, and what
+    /// will change then. It changes nothing. One packet is sent, which tells the node so.
     ///
-    /// Refusals in order: `NotRunning`, `NoNode`, and `Task(NoMemory)` where memory is refused. A refusal changes nothing.
+    /// Errors in order: `Refused` with `NotRunning`, `NoTask` where the task is not the job's, `NoNode`, or `Task` with the task's own
+    /// refusal (it is won, has two live attempts, or no numbers are left); `Full` where it launched 2^32 containers, whose numbers have 32
+    /// bits; `NoMemory`.
+    pub fn prepare_launch(&self, task: TaskId, node: u32) -> Result<Prepared, LaunchError>
+        ensures sent { IfOk result (λ prepared. Answers self.now (λ w past. sent w past (Launches task node)) prepared.packets) }
+        ensures planned { IfOk result (λ prepared. PlansFor self.now (Launches task node) prepared) }
+        ensures one { IfOk result (λ prepared. IsOne prepared.packets) }
+        ensures allowed { OnOk result (Answers self.now (λ w past. launch_refusal w (seen w past) task node) None) }
+        ensures memory { OnOk result (Answers self.now (λ w past. launch_error w (seen w past) task node) LaunchError.NoMemory) }
+        ensures refused { IfErr result (λ error. Answers self.now (λ w past. launch_error w (seen w past) task node) error) }
+    {
+        let prepared = self.machine.prepare_launch(task, node)?;
+        Ok(prepared)
+    }
+
+    /// What the master will send once it gives up a node whose containers may still run, and what will change then. It changes nothing.
+    ///
+    /// A Kill is sent to the container of each live attempt of a map there, by map number, then arrival. These attempts end, the outputs of
+    /// the Succeeded maps there count as lost, and of each live attempt of a reduce there a bar is due, if none was. Launches on the node
+    /// go on. Room is wanted for the bars alone.
+    ///
+    /// Refusals in order: `NotRunning`, `NoNode`, and `Task(NoMemory)` where memory is refused.
+    pub fn prepare_expiry(&self, node: u32) -> Result<Prepared, LaunchFault>
+        ensures sent { IfOk result (λ prepared. Answers self.now (λ w past. sent w past (Expires node)) prepared.packets) }
+        ensures planned { IfOk result (λ prepared. PlansFor self.now (Expires node) prepared) }
+        ensures expiry { IfOk result (λ prepared. IsExpiry prepared.change) }
+        ensures allowed { OnOk result (Answers self.now (λ w past. expire_refusal w (seen w past) node) None) }
+        ensures refused { IfErr result (λ fault. Answers self.now (λ w past. unwrap_or (expire_refusal w (seen w past) node) (LaunchFault.Task TaskFault.NoMemory)) fault) }
+    {
+        let prepared = self.machine.prepare_expiry(node)?;
+        Ok(prepared)
+    }
+
+    /// What the master will send once it hears this answer of the store call that is due (`duty`), which is known beforehand, or was made
+    /// already if it changes nothing; and what will change then. It changes nothing. Where memory is refused: an error.
+    ///
+    /// Of a bar a Kill is sent, of a flush the winners and Kills, of a reduce that is taken over its winner, and where the job ended the
+    /// outcome, to every node. Where no call is due, nothing is sent, and nothing will change.
+    ///
+    /// The steps of setup, recovery and job commit go on with the lines that follow; a reduce that is taken over is entered as Succeeded,
+    /// and where the master begins to run, each map's newest success is, unless its node is known in a higher incarnation.
+    pub fn prepare_answer(&self, answer: StoreAnswer) -> Result<Prepared, AllocError>
+        ensures sent { IfOk result (λ prepared. Answers self.now (λ w past. sent w past (Answered answer)) prepared.packets) }
+        ensures planned { IfOk result (λ prepared. PlansFor self.now (Answered answer) prepared) }
+    {
+        let prepared = self.machine.ready_for(answer, self.passed)?;
+        Ok(prepared)
+    }
+
+    /// Makes room for what is prepared. Nothing else changes, also where memory is refused: the master stands for what it stood for, and of
+    /// an expiry it is the machine that it was.
+    pub fn reserve(&mut self, prepared: &Prepared) -> Result<(), AllocError>
+        ensures still { StandsStill self.old self.new }
+        ensures ready { OnOk result ((step : Step) → PlansFor self.old step prepared.now → IsReadyFor self.new step prepared.now) }
+        ensures expiry { OnErr result (IsExpiry prepared.now.change → self.new ≡ self.old) }
+    {
+        self.machine.reserve(prepared)
+    }
+
+    /// Takes the step that was prepared, for which there is room, and gives the packets that are sent. It takes no memory.
+    pub fn take(&mut self, prepared: Prepared) -> Vec<Envelope>
+        requires { IsReadyForStep self.old prepared }
+        ensures packets { result.items ≡ prepared.packets }
+        ensures stands { (step : Step) → IsReadyFor self.old step prepared → Stands self.old step self.new }
+    {
+        let packets = self.machine.take(prepared);
+        self.passed = self.machine.passed(self.passed);
+        packets
+    }
+}
+
+// The same in one call, for whoever has no bag to make room in.
+impl MasterMachine {
+    /// Hears a packet, and gives the packets that are sent (`prepare_packet`). Where memory is refused: an error, and the master stands for
+    /// what it stood for.
+    pub fn hear(&mut self, packet: &Packet) -> Result<Vec<Envelope>, AllocError>
+        ensures sent { IfOk result (λ packets. Answers self.old (λ w past. sent w past (Hears packet.now)) packets.items) }
+        ensures stands { OnOk result (Stands self.old (Hears packet.now) self.new) }
+        ensures unchanged { OnErr result (StandsStill self.old self.new) }
+    {
+        let prepared = self.prepare_packet(packet)?;
+        self.reserve(&prepared)?;
+        Ok(self.take(prepared))
+    }
+
+    /// Launches the next attempt of a task on a node, and gives the packet that tells the node so, which is to be sent.
+    ///
+    /// The errors are those of `prepare_launch`, in that order. An error changes nothing.
+    pub fn launch(&mut self, task: TaskId, node: u32) -> Result<Envelope, LaunchError>
+        ensures sent { IfOk result (λ packet. Answers self.old (λ w past. sent w past (Launches task node)) (packet ∷ [])) }
+        ensures stands { OnOk result (Stands self.old (Launches task node) self.new) }
+        ensures allowed { OnOk result (Answers self.old (λ w past. launch_refusal w (seen w past) task node) None) }
+        ensures refused { IfErr result (λ error. Answers self.old (λ w past. launch_error w (seen w past) task node) error) }
+        ensures unchanged { OnErr result (StandsStill self.old self.new) }
+    {
+        let prepared = self.prepare_launch(task, node)?;
+        match self.reserve(&prepared) {
+            Ok(()) => Ok(only(self.take(prepared))),
+            Err(_) => Err(LaunchError::NoMemory),
+        }
+    }
+
+    /// Gives a node up, and gives the packets that are sent.
+    ///
+    /// The refusals are those of `prepare_expiry`, in that order. A refusal changes nothing.
     pub fn expire(&mut self, node: u32) -> Result<Vec<Envelope>, LaunchFault>
         ensures sent { IfOk result (λ packets. Answers self.old (λ w past. sent w past (Expires node)) packets.items) }
         ensures stands { OnOk result (Stands self.old (Expires node) self.new) }
@@ -184,37 +248,34 @@ impl MasterMachine {
         ensures refused { IfErr result (λ fault. Answers self.old (λ w past. unwrap_or (expire_refusal w (seen w past) node) (LaunchFault.Task TaskFault.NoMemory)) fault) }
         ensures unchanged { OnErr result (self.new ≡ self.old) }
     {
-        let packets = self.machine.expire(node)?;
-        Ok(packets)
+        let prepared = self.prepare_expiry(node)?;
+        match self.reserve(&prepared) {
+            Ok(()) => Ok(self.take(prepared)),
+            Err(_) => Err(no_memory()),
+        }
     }
 
-    /// Makes ready for the answer of the store call that is due (`duty`), which is known beforehand, or was made already if it changes
-    /// nothing. Nothing changes but spare room, also where memory is refused: the master stands for what it stood for.
-    ///
-    /// Then whoever runs the master makes room in the bag for the packets (`Ready::packets`), has the call made, and if that is not refused
-    /// for an allocation failure has its answer heard (`answer`), and pushes the packets; these two take no memory. Else what was made ready is let go.
-    pub fn ready(&mut self, answer: StoreAnswer) -> Result<Ready, AllocError>
-        ensures sent { IfOk result (λ ready. Answers self.old (λ w past. sent w past (Answered answer)) ready.packets) }
-        ensures ready { IfOk result (λ ready. IsReady self.new answer ready) }
-        ensures still { StandsStill self.old self.new }
+    /// Hears the answer of the store call that was due, and gives the packets that are sent (`prepare_answer`). Where memory is refused: an
+    /// error, and the master stands for what it stood for.
+    pub fn answer(&mut self, answer: StoreAnswer) -> Result<Vec<Envelope>, AllocError>
+        ensures sent { IfOk result (λ packets. Answers self.old (λ w past. sent w past (Answered answer)) packets.items) }
+        ensures stands { OnOk result (Stands self.old (Answered answer) self.new) }
+        ensures unchanged { OnErr result (StandsStill self.old self.new) }
     {
-        let ready = self.machine.ready_for(answer, self.passed)?;
-        Ok(ready)
+        let prepared = self.prepare_answer(answer)?;
+        self.reserve(&prepared)?;
+        Ok(self.take(prepared))
     }
+}
 
-    /// Hears the answer that it was made ready for, and gives the packets that are sent: of a bar a Kill, of a flush the winners and Kills,
-    /// of a reduce that is taken over its winner, and where the job ended the outcome, to every node. Where no call was due, nothing
-    /// changes, and nothing is sent. It takes no memory.
-    ///
-    /// The steps of setup, recovery and job commit go on with the lines that follow; a reduce that is taken over is entered as Succeeded,
-    /// and where the master begins to run, each map's newest success is, unless its node is known in a higher incarnation.
-    pub fn answer(&mut self, ready: Ready) -> Vec<Envelope>
-        requires { IsReadyForSome self.old ready }
-        ensures packets { result.items ≡ ready.packets }
-        ensures stands { (answer : StoreAnswer) → IsReady self.old answer ready → Stands self.old (Answered answer) self.new }
-    {
-        let packets = self.machine.answer(ready);
-        self.passed = self.machine.passed(self.passed);
-        packets
+// The only one.
+fn only(packets: Vec<Envelope>) -> Envelope
+    requires { IsOne packets.items }
+    ensures { packets.items ≡ result ∷ [] }
+{
+    let mut packets = packets;
+    match packets.pop() {
+        Some(packet) => packet,
+        None => unreachable!(),
     }
 }

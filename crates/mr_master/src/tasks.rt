@@ -1,25 +1,25 @@
 //! The machines of a master's tasks, by place.
-ghost use Rattle.std.specs.Prelude.{◌≡◌, ◌<◌, ◌+◌, ◌&&◌, not, nat_le, length, true, [], ◌∷◌, Some, ℕ, slice_get, List, None, OnOk, OnErr, IfOk, IfErr, IfSome, IfNone, Ok, unwrap_or, set, vec_len};
+ghost use Rattle.std.specs.Prelude.{◌≡◌, ◌<◌, ◌+◌, ◌&&◌, not, nat_le, length, true, [], ◌∷◌, Some, ℕ, slice_get, List, None, OnOk, IfOk, IfSome, IfNone, set, vec_len};
 ghost use Rattle.std.specs.List.{find, list_all};
 ghost use Rattle.std.specs.Option.{is_some, option_copied};
 ghost use Rattle.mr_grant.specs.Attempts.{has};
 ghost use Rattle.mr_ids.specs.declared.id.TaskId.{TaskId};
 ghost use Rattle.mr_ids.specs.declared.id.TaskKind.{TaskKind};
-ghost use Rattle.mr_task.specs.Calls.{TaskCall, Launches, Asks, Reports, Hears, Fails, Ends, Dies, Loses, Records};
-ghost use Rattle.mr_task.specs.Readings.{seen, is_named, is_live, is_won, failures, launch_refusal, succeeded};
-ghost use Rattle.mr_task.specs.State.{done_answer, launch_answer, Answers};
+ghost use Rattle.mr_task.specs.Calls.{TaskCall, Asks, Reports, Hears, Fails, Ends, Dies, Loses, Records};
+ghost use Rattle.mr_task.specs.Readings.{seen, is_named, is_live, is_won, failures, succeeded};
+ghost use Rattle.mr_task.specs.State.{Answers};
 ghost use Rattle.mr_master_model.specs.declared.setting.Setting.{Setting};
 ghost use Rattle.mr_master_model.specs.Job.{first_tasks, count_of};
 ghost use Rattle.mr_master.specs.inner.Ends.{call_of};
 ghost use Rattle.mr_master.specs.inner.Progress.{waits, IsNextOf, IsProgress, HasTaken};
 ghost use Rattle.mr_master.specs.Taking.{IsTold};
-ghost use Rattle.mr_master.specs.Tasks.{KeepsTasks, TakesAt, AnswersAt, Takes, ReadsAt, reply_or, NewTasks};
+ghost use Rattle.mr_master.specs.Tasks.{KeepsTasks, TakesAt, AnswersAt, Takes, ReadsAt, IsReplyAt, NewTasks};
 
 use crate::ending::Ending;
 use crate::progress::Progress;
 use mr_ids::{AttemptId, TaskId, TaskKind};
 use mr_master_model::Setting;
-use mr_task::{DoneReply, TaskFault, TaskMachine};
+use mr_task::{DoneReply, TaskMachine};
 use std::alloc::{AllocError, Global};
 use std::marker::Model;
 
@@ -94,7 +94,7 @@ impl Tasks {
     // What Done of the attempt would be answered. Of one that the task never had: ignored.
     pub fn done_reply(&self, place: usize, attempt: AttemptId) -> DoneReply
         requires { place < length self.now.machines }
-        ensures { AnswersAt self.now.machines place (λ t k calls. reply_or (done_answer attempt t k calls) DoneReply.Ignored) result }
+        ensures { IsReplyAt self.now.machines place attempt result }
     {
         let task = &self.machines[place];
         task.done_reply(attempt).unwrap_or(DoneReply::Ignored)
@@ -109,39 +109,14 @@ impl Tasks {
         is_live(task, attempt)
     }
 
-    // An attempt is launched: which one. The fault is the task's refusal, or `NoMemory` where it has none.
-    pub fn launch(&mut self, place: usize) -> Result<AttemptId, TaskFault>
-        requires { place < length self.old.machines }
-        ensures launched { IfOk result (λ attempt. AnswersAt self.old.machines place launch_answer (Ok attempt)) }
-        ensures takes { OnOk result (Takes self.old place Launches self.new) }
-        ensures refused { IfErr result (λ fault. AnswersAt self.old.machines place (λ t k calls. unwrap_or (launch_refusal (seen t k calls)) TaskFault.NoMemory) fault) }
-        ensures err { OnErr result (self.new ≡ self.old) }
+    // The attempt says that it is done, which is answered so.
+    pub fn report(&mut self, place: usize, attempt: AttemptId, reply: DoneReply)
+        requires within { place < length self.old.machines }
+        requires answered { IsReplyAt self.old.machines place attempt reply }
+        ensures { Takes self.old place (Reports attempt) self.new }
     {
-        let attempt = launch_at(&mut self.machines, place)?;
+        report_at(&mut self.machines, place, attempt, reply);
         follow(&self.machines, &mut self.progress, place);
-        Ok(attempt)
-    }
-
-    // The attempt asks.
-    pub fn ask(&mut self, place: usize, attempt: AttemptId) -> Result<(), AllocError>
-        requires { place < length self.old.machines }
-        ensures takes { OnOk result (Takes self.old place (Asks attempt) self.new) }
-        ensures err { OnErr result (self.new ≡ self.old) }
-    {
-        ask_at(&mut self.machines, place, attempt)?;
-        follow(&self.machines, &mut self.progress, place);
-        Ok(())
-    }
-
-    // The attempt says that it is done. Of one that the task never had: ignored.
-    pub fn report(&mut self, place: usize, attempt: AttemptId) -> DoneReply
-        requires { place < length self.old.machines }
-        ensures takes { Takes self.old place (Reports attempt) self.new }
-        ensures answer { AnswersAt self.old.machines place (λ t k calls. reply_or (done_answer attempt t k calls) DoneReply.Ignored) result }
-    {
-        let reply = report_at(&mut self.machines, place, attempt);
-        follow(&self.machines, &mut self.progress, place);
-        reply
     }
 
     // The attempt is heard of.
@@ -182,18 +157,7 @@ impl Tasks {
         }
     }
 
-    // Whether the task is not won and failed as often as the limit.
-    pub fn is_spent(&self, place: usize, limit: u32) -> bool
-        ensures { AnswersAt self.now.machines place (λ t k calls. not (is_won (seen t k calls)) && nat_le limit (failures (seen t k calls))) result }
-    {
-        if place >= self.machines.len() {
-            return false;
-        }
-        let task = &self.machines[place];
-        is_spent(task, limit)
-    }
-
-    // Whether it would be so if the attempt failed, which is live.
+    // Whether the task is not won, and would have failed as often as the limit if the attempt failed, which is live.
     pub fn would_spend(&self, place: usize, attempt: AttemptId, limit: u32) -> bool
         requires { place < length self.now.machines }
         ensures { AnswersAt self.now.machines place (λ t k calls. is_live (seen t k calls) attempt && (not (is_won (seen t k calls)) && nat_le limit (failures (seen t k calls) + 1))) result }
@@ -321,36 +285,13 @@ pub fn is_live(task: &TaskMachine, attempt: AttemptId) -> bool
     }
 }
 
-fn launch_at(tasks: &mut Vec<TaskMachine>, place: usize) -> Result<AttemptId, TaskFault>
-    requires { place < vec_len tasks.old }
-    ensures launched { IfOk result (λ attempt. AnswersAt tasks.old.items place launch_answer (Ok attempt)) }
-    ensures takes { OnOk result (TakesAt tasks.old.items place Launches tasks.new.items) }
-    ensures refused { IfErr result (λ fault. AnswersAt tasks.old.items place (λ t k calls. unwrap_or (launch_refusal (seen t k calls)) TaskFault.NoMemory) fault) }
-    ensures err { OnErr result (tasks.new.items ≡ tasks.old.items) }
+fn report_at(tasks: &mut Vec<TaskMachine>, place: usize, attempt: AttemptId, reply: DoneReply)
+    requires within { place < vec_len tasks.old }
+    requires answered { IsReplyAt tasks.old.items place attempt reply }
+    ensures { TakesAt tasks.old.items place (Reports attempt) tasks.new.items }
 {
     let task = &mut tasks[place];
-    task.launch()
-}
-
-fn ask_at(tasks: &mut Vec<TaskMachine>, place: usize, attempt: AttemptId) -> Result<(), AllocError>
-    requires { place < vec_len tasks.old }
-    ensures takes { OnOk result (TakesAt tasks.old.items place (Asks attempt) tasks.new.items) }
-    ensures err { OnErr result (tasks.new.items ≡ tasks.old.items) }
-{
-    let task = &mut tasks[place];
-    match task.pending(attempt) {
-        Ok(()) => Ok(()),
-        Err(_) => Err(AllocError),
-    }
-}
-
-fn report_at(tasks: &mut Vec<TaskMachine>, place: usize, attempt: AttemptId) -> DoneReply
-    requires { place < vec_len tasks.old }
-    ensures takes { TakesAt tasks.old.items place (Reports attempt) tasks.new.items }
-    ensures answer { AnswersAt tasks.old.items place (λ t k calls. reply_or (done_answer attempt t k calls) DoneReply.Ignored) result }
-{
-    let task = &mut tasks[place];
-    task.done(attempt).unwrap_or(DoneReply::Ignored)
+    task.report(attempt, reply);
 }
 
 fn note_at(tasks: &mut Vec<TaskMachine>, place: usize, attempt: AttemptId)
@@ -399,14 +340,6 @@ fn end_at(tasks: &mut Vec<TaskMachine>, place: usize, attempt: AttemptId, was_ki
 {
     let task = &mut tasks[place];
     let _ = task.ended(attempt, was_killed);
-}
-
-fn is_spent(task: &TaskMachine, limit: u32) -> bool
-    ensures { Answers task.now (λ t k calls. not (is_won (seen t k calls)) && nat_le limit (failures (seen t k calls))) result }
-{
-    let failures = task.failures();
-    let is_won = task.is_won();
-    all_of(!is_won, limit <= failures)
 }
 
 fn would_spend(task: &TaskMachine, attempt: AttemptId, limit: u32) -> bool

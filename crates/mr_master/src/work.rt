@@ -1,33 +1,29 @@
-//! What the master is at in its phase, with what is left of a committer's table.
-ghost use Rattle.std.specs.Prelude.{◌≡◌, ◌++◌, drop, true, false, Some, None, Err, IfOk, OnErr, [], if◌then◌else◌};
+//! What the master is at in its phase, with what is left of a committer's table, and the call that is due by it alone.
+ghost use Rattle.std.specs.Prelude.{◌≡◌, true, false, IfOk, OnErr};
 ghost use Rattle.std.specs.Option.{is_some};
 ghost use Rattle.mr_master_model.specs.Past.{Work, LooksForSuccess, SetsUp, Runs, CommitsJob, Fails, Ends, Stops, phase_of};
 ghost use Rattle.mr_master_model.specs.Readings.{Seen, is_running, is_over};
 ghost use Rattle.mr_master_model.specs.Duty.{duty_at, does, commit_name, abort_duty};
-ghost use Rattle.mr_master.specs.WorkKinds.{is_own, fails_as, is_read, is_look, looked_on, found_by, ends_as, is_tell, left_of, with_left, refused_when, is_step, others_of, with_others, WantsMore, lines_of};
+ghost use Rattle.mr_master.specs.WorkKinds.{is_own, fails_as, is_read, is_look, ends_as, is_tell, is_step};
 ghost use Rattle.mr_master.specs.Taking.{winner_of};
-ghost use Rattle.mr_master.specs.inner.Coming.{IsComing, begun_by};
-ghost use Rattle.mr_commit.specs.Steps.{next_call, MayWantOn};
-ghost use Rattle.mr_commit.specs.Halves.{Fits};
+ghost use Rattle.mr_commit.specs.Steps.{next_call};
 ghost use Rattle.mr_commit.specs.Recovery.{recover_task};
-ghost use Rattle.mr_master_model.specs.Answered.{work_after, is_superseded, takes_over};
-ghost use Rattle.mr_master_model.specs.declared.setting.Setting.{Setting};
+ghost use Rattle.mr_master_model.specs.Answered.{takes_over};
 ghost use Rattle.mr_commit.specs.Tables.{setup_job, commit_job};
 
+mod mark;
+mod table;
+
 use crate::duty::{of_line, of_look, of_mark};
-use crate::ops::{fail_mark, started_mark, success_mark};
-use crate::store::{Coming, Look, coming_of, is_fine, is_superseded, looked, named};
-use crate::winning::{first_winner, next_winner};
-use mr_commit::{Following, RecoverTask, Step};
-use mr_history::Record;
-use mr_master_model::{DutyName, Phase, Setting, StoreAnswer, StoreCall};
-use mr_names::{Answer, NameFault, Op};
+use crate::marks::{fail_mark, started_mark, success_mark};
+use mr_commit::{RecoverTask, Step};
+use mr_master_model::{DutyName, Phase, Setting, StoreCall};
+use mr_names::Op;
 use mr_recover::TaskWinner;
-use mr_tables::{Duty, winners};
+use mr_tables::Duty;
 use std::alloc::{AllocError, Global};
 use std::collections::VecDeque;
 use std::marker::Model;
-use std::mem;
 
 /// What the master is at.
 #[derive(Drop)]
@@ -213,6 +209,64 @@ impl Work {
             _ => false,
         }
     }
+
+    // The reduce that is taken over.
+    pub fn winner(&self) -> Option<TaskWinner>
+        ensures { result ≡ winner_of self.now }
+    {
+        match &self.at {
+            At::TakesOver { winner, .. } => Some(*winner),
+            _ => None,
+        }
+    }
+
+    // Where the job ended: whether it succeeded.
+    pub fn outcome(&self) -> Option<bool>
+        ensures { result ≡ ends_as self.now }
+    {
+        match self.at {
+            At::Ends(succeeded) => Some(succeeded),
+            _ => None,
+        }
+    }
+
+    // The job ended.
+    pub fn ends(succeeded: bool) -> Work
+        ensures { result ≡ Ends succeeded }
+    {
+        Work {
+            at: At::Ends(succeeded),
+        }
+    }
+
+    // The job failed, and whether that is stable.
+    pub fn fails_so(is_stable: bool) -> Work
+        ensures { result ≡ Fails is_stable }
+    {
+        Work {
+            at: At::Fails(is_stable),
+        }
+    }
+
+    // It sets the job up.
+    pub fn sets_up(setting: &Setting) -> Result<Work, AllocError>
+        ensures { IfOk result (λ work. work ≡ SetsUp (setup_job setting.now.layout.dest setting.now.app)) }
+    {
+        let step = Step::setup_job(&setting.layout, setting.app)?;
+        Ok(Work {
+            at: At::SetsUp(step),
+        })
+    }
+
+    // It commits the job.
+    pub fn commits(setting: &Setting) -> Result<Work, AllocError>
+        ensures { IfOk result (λ work. work ≡ CommitsJob (commit_job setting.now.layout.dest setting.now.app)) }
+    {
+        let step = Step::commit_job(&setting.layout, setting.app)?;
+        Ok(Work {
+            at: At::CommitsJob(step),
+        })
+    }
 }
 
 impl Work {
@@ -307,241 +361,4 @@ pub fn abort_duty(setting: &Setting) -> Result<Option<Duty>, AllocError>
 {
     let path = setting.layout.temporary()?;
     Ok(Some(Duty::new(DutyName::Abort, StoreCall::Names(Op::Delete(path)))))
-}
-
-impl Work {
-    // What is next after the answer of a look for a mark.
-    #[tactic(auto, unfolding(mr_master_model::specs::Answered::work_after))]
-    pub fn look(&self, answer: &StoreAnswer) -> Work
-        requires { is_look self.now ≡ true }
-        ensures quiet { is_running result ≡ false }
-        ensures moved { (w : Setting) (s : Seen) → result ≡ work_after w s answer.now self.now }
-    {
-        match looked(answer) {
-            Look::There => self.found(),
-            Look::Absent => self.look_on(),
-            Look::Unclear => Work::stopped(),
-        }
-    }
-
-    // What is next where the mark is there.
-    fn found(&self) -> Work
-        requires { is_look self.now ≡ true }
-        ensures { result ≡ found_by self.now }
-    {
-        match self.at {
-            At::LooksForSuccess => Work::ends(true),
-            At::LooksForFail | At::LooksForStarted => Work::ends(false),
-            _ => unreachable!(),
-        }
-    }
-
-    // The reduce that is taken over.
-    pub fn winner(&self) -> Option<TaskWinner>
-        ensures { result ≡ winner_of self.now }
-    {
-        match &self.at {
-            At::TakesOver { winner, .. } => Some(*winner),
-            _ => None,
-        }
-    }
-
-    // What is next after the last call of a table, by the records of earlier masters. Where a reduce was taken over, those that are left
-    // after the next one are not in it yet: `move_on` moves them.
-    pub fn finished(
-        &self,
-        alloc: Global,
-        setting: &Setting,
-        earlier: &[Record],
-    ) -> Result<Work, AllocError>
-        requires { is_step self.now ≡ true }
-        ensures { IfOk result (λ next. (s : Seen) → next ≡ begun_by setting.now (record s { earlier = earlier.now }) self.now) }
-    {
-        match &self.at {
-            At::SetsUp(_) => {
-                let winners = winners(alloc, earlier, setting)?;
-                next_winner(setting, winners)
-            }
-            At::TakesOver { others, .. } => first_winner(alloc, setting, others),
-            At::CommitsJob(_) => Ok(Work {
-                at: At::TellsSuccess,
-            }),
-            _ => unreachable!(),
-        }
-    }
-
-    // The next work is gone on with: what it takes over next is the first of the reduces that are left, and the others are moved to it. It
-    // takes no memory.
-    pub fn move_on(&mut self, alloc: Global, next: Work)
-        ensures { self.new ≡ with_others next (drop 1 (others_of self.old)) }
-    {
-        let mut others = self.take_others(alloc);
-        let _ = others.pop_front();
-        self.set(next);
-        self.put_others(others);
-    }
-
-    // The reduces that are taken over after the one that is.
-    fn take_others(&mut self, alloc: Global) -> VecDeque<TaskWinner>
-        ensures { result.items ≡ others_of self.old }
-    {
-        match &mut self.at {
-            At::TakesOver { others, .. } => mem::replace(others, VecDeque::new(alloc)),
-            _ => VecDeque::new(alloc),
-        }
-    }
-
-    // After the reduce that is taken over these are.
-    fn put_others(&mut self, list: VecDeque<TaskWinner>)
-        ensures { self.new ≡ with_others self.old list.items }
-    {
-        match &mut self.at {
-            At::TakesOver { others, .. } => *others = list,
-            _ => {}
-        }
-    }
-
-    // Where the job ended: whether it succeeded.
-    pub fn outcome(&self) -> Option<bool>
-        ensures { result ≡ ends_as self.now }
-    {
-        match self.at {
-            At::Ends(succeeded) => Some(succeeded),
-            _ => None,
-        }
-    }
-
-    // The job ended.
-    pub fn ends(succeeded: bool) -> Work
-        ensures { result ≡ Ends succeeded }
-    {
-        Work {
-            at: At::Ends(succeeded),
-        }
-    }
-
-    // The job failed, and whether that is stable.
-    pub fn fails_so(is_stable: bool) -> Work
-        ensures { result ≡ Fails is_stable }
-    {
-        Work {
-            at: At::Fails(is_stable),
-        }
-    }
-
-    // It sets the job up.
-    pub fn sets_up(setting: &Setting) -> Result<Work, AllocError>
-        ensures { IfOk result (λ work. work ≡ SetsUp (setup_job setting.now.layout.dest setting.now.app)) }
-    {
-        let step = Step::setup_job(&setting.layout, setting.app)?;
-        Ok(Work {
-            at: At::SetsUp(step),
-        })
-    }
-
-    // It commits the job.
-    pub fn commits(setting: &Setting) -> Result<Work, AllocError>
-        ensures { IfOk result (λ work. work ≡ CommitsJob (commit_job setting.now.layout.dest setting.now.app)) }
-    {
-        let step = Step::commit_job(&setting.layout, setting.app)?;
-        Ok(Work {
-            at: At::CommitsJob(step),
-        })
-    }
-
-    // The next look, and after the last the reading.
-    fn look_on(&self) -> Work
-        requires { is_look self.now ≡ true }
-        ensures { result ≡ looked_on self.now }
-    {
-        match self.at {
-            At::LooksForSuccess => Work {
-                at: At::LooksForFail,
-            },
-            At::LooksForFail => Work {
-                at: At::LooksForStarted,
-            },
-            At::LooksForStarted => Work { at: At::Reads },
-            _ => unreachable!(),
-        }
-    }
-
-    // What is next after the answer of the creation of a mark, or of the abort after COMMIT_FAIL.
-    #[tactic(auto, unfolding(mr_master_model::specs::Answered::work_after))]
-    pub fn told(&self, answer: &StoreAnswer) -> Work
-        ensures quiet { is_tell self.now ≡ true → is_running result ≡ false }
-        ensures moved { (w : Setting) (s : Seen) → is_tell self.now ≡ true → result ≡ work_after w s answer.now self.now }
-    {
-        let fine = is_fine(answer);
-        let superseded = is_superseded(answer);
-        match self.at {
-            At::TellsSuccess if fine => Work::ends(true),
-            At::TellsFail if fine => Work {
-                at: At::AbortsCommit,
-            },
-            At::AbortsCommit if !superseded => Work::ends(false),
-            _ => Work::stopped(),
-        }
-    }
-
-    // What comes of the answer of a committer's call, made ready. Nothing changes.
-    pub fn follow(&self, answer: &StoreAnswer) -> Result<Coming, AllocError>
-        requires { is_step self.now ≡ true }
-        ensures coming { IfOk result (λ coming. IsComing (left_of self.now) answer.now coming) }
-        ensures memory { OnErr result (WantsMore (left_of self.now) answer.now) }
-    {
-        let Some(r) = named(answer) else {
-            return Ok(Coming::Refused);
-        };
-        match &self.at {
-            At::SetsUp(step) | At::CommitsJob(step) => follow_step(step, r),
-            At::TakesOver { step, .. } => follow_recovery(step, r),
-            _ => unreachable!(),
-        }
-    }
-
-    // The lines that follow take the place of the one whose call was answered. It takes no memory.
-    pub fn go_on(&mut self, following: Following)
-        requires { Fits following.lines (left_of self.old) }
-        ensures { self.new ≡ with_left self.old (following.lines ++ drop 1 (left_of self.old)) }
-    {
-        match &mut self.at {
-            At::SetsUp(step) => step.go_on(following),
-            At::CommitsJob(step) => step.go_on(following),
-            At::TakesOver { step, .. } => step.go_on(following),
-            _ => {}
-        }
-    }
-
-    // What is next after a call of a table was refused, or its answer was lost.
-    pub fn refused(&self, answer: &StoreAnswer) -> Work
-        requires { is_step self.now ≡ true }
-        ensures { result ≡ refused_when (is_superseded answer.now) self.now }
-    {
-        if is_superseded(answer) {
-            return Work::stopped();
-        }
-        match self.at {
-            At::CommitsJob(_) => Work { at: At::TellsFail },
-            _ => Work::stopped(),
-        }
-    }
-}
-
-fn follow_step(step: &Step, r: &Result<Answer, NameFault>) -> Result<Coming, AllocError>
-    requires { r.now ≡ Err NameFault.NoMemory → ⊥ }
-    ensures coming { IfOk result (λ coming. IsComing step.now (StoreAnswer.Names r.now) coming) }
-    ensures memory { OnErr result (MayWantOn step.now r.now) }
-{
-    let followed = step.follow(r);
-    coming_of(followed)
-}
-
-fn follow_recovery(step: &RecoverTask, r: &Result<Answer, NameFault>) -> Result<Coming, AllocError>
-    requires { r.now ≡ Err NameFault.NoMemory → ⊥ }
-    ensures coming { IfOk result (λ coming. IsComing (lines_of step.now) (StoreAnswer.Names r.now) coming) }
-    ensures memory { OnErr result (MayWantOn (lines_of step.now) r.now) }
-{
-    let followed = step.follow(r);
-    coming_of(followed)
 }

@@ -12,7 +12,7 @@ pub record Writing : Type 0 where
   pub tail : List Record
   pub is_flush_wanted : Bool
   pub room : ℕ  -- how many more can be due without taking memory
-  pub tail_room : ℕ  -- how many more can be appended
+  pub tail_room : ℕ  -- how many more can be appended, beyond those that are due
 
 pub record KeepsRecords (m : Writing) (all_due all_tail : List Record) : Type 0 where
   pub due : m.due ≡ all_due

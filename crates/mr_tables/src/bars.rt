@@ -13,65 +13,83 @@ use std::marker::Model;
 #[derive(Drop)]
 pub struct Bars {
     due: IndexSet<AttemptId>,
+    // how many more can be added without taking memory, for sure
+    room: usize,
 }
 
 impl Model for Bars {
-    ghost use Rattle.std.specs.Prelude.{List};
-    ghost use Rattle.mr_ids.specs.Attempt.{Attempt};
+    ghost use Rattle.mr_tables.specs.Bars.{Bars};
 
-    ghost Value = { List Attempt };
+    ghost Value = { Bars };
 
-    ghost view = { λ b. b.due.keys };
+    ghost view = { λ b. record { due = b.due.keys; room = b.room } };
+
+    ghost use Rattle.std.specs.Prelude.{◌≤◌};
+    ghost use Rattle.indexmap.specs.IndexSet.{spare};
+
+    ghost invariant = { λ b. b.room ≤ spare b.due };
 }
 
 impl Bars {
     /// No bar was due.
     pub fn new(alloc: Global) -> Bars
-        ensures { result ≡ [] }
+        ensures { result.due ≡ [] }
     {
         Bars {
             due: IndexSet::new(alloc),
+            room: 0,
         }
     }
 
-    /// The same attempts in the same order.
+    /// The same attempts in the same order. Spare room is not copied.
     pub fn copy(&self) -> Result<Bars, AllocError>
-        ensures { IfOk result (λ bars. bars ≡ self.now) }
+        ensures { IfOk result (λ bars. bars.due ≡ self.now.due) }
     {
         Ok(Bars {
             due: self.due.clone()?,
+            room: 0,
         })
     }
 
     /// How many there are.
     pub fn len(&self) -> usize
-        ensures { result ≡ length self.now }
+        ensures { result ≡ length self.now.due }
     {
         self.due.len()
     }
 
     /// The attempts, in order.
     pub fn as_slice(&self) -> &[AttemptId]
-        ensures { result.now ≡ self.now }
+        ensures { result.now ≡ self.now.due }
     {
         self.due.as_slice()
     }
 
     /// The attempt at a place, counted from 0.
     pub fn at(&self, place: usize) -> Option<AttemptId>
-        ensures { result ≡ slice_get self.now place }
+        ensures { result ≡ slice_get self.now.due place }
     {
         self.due.get_index(place).copied()
     }
 
-    /// Adds attempts as the last, one after another, if they are not there: all of them, or none where memory is refused.
-    pub fn add_all(&mut self, attempts: &[AttemptId]) -> Result<(), AllocError>
-        ensures added { OnOk result (self.new ≡ all_added self.old attempts.now) }
+    /// Makes room: after it so many more can be added without taking memory. Where memory is refused, nothing changes.
+    pub fn reserve(&mut self, additional: usize) -> Result<(), AllocError>
+        ensures due { self.new.due ≡ self.old.due }
+        ensures room { OnOk result (additional ≤ self.new.room) }
         ensures err { OnErr result (self.new ≡ self.old) }
     {
-        self.due.reserve(attempts.len())?;
-        add_each(&mut self.due, attempts);
+        self.due.reserve(additional)?;
+        self.room = additional;
         Ok(())
+    }
+
+    /// Adds attempts as the last, one after another, if they are not there. It takes no memory.
+    pub fn add_all_reserved(&mut self, attempts: &[AttemptId])
+        requires { length attempts.now ≤ self.old.room }
+        ensures { self.new.due ≡ all_added self.old.due attempts.now }
+    {
+        add_each(&mut self.due, attempts);
+        self.room = 0;
     }
 }
 

@@ -30,7 +30,12 @@ impl Model for Writing {
 
     ghost Value = { Writing };
 
-    ghost view = { λ r. record { due = r.due.items; tail = r.tail.items; is_flush_wanted = r.is_flush_wanted; room = deque_capacity r.due - deque_len r.due; tail_room = vec_capacity r.tail - vec_len r.tail } };
+    ghost view = { λ r. record { due = r.due.items; tail = r.tail.items; is_flush_wanted = r.is_flush_wanted; room = deque_capacity r.due - deque_len r.due; tail_room = vec_capacity r.tail - vec_len r.tail - deque_len r.due } };
+
+    ghost use Rattle.std.specs.Prelude.{◌≤◌, ◌+◌};
+
+    // the tail has room for all that is due
+    ghost invariant = { λ r. deque_len r.due + vec_len r.tail ≤ vec_capacity r.tail };
 }
 
 impl Writing {
@@ -45,32 +50,39 @@ impl Writing {
         }
     }
 
-    /// The same records. Spare room is not copied.
+    /// The same records. Of spare room only that is copied which what is due will take once it is appended.
     pub fn copy(&self) -> Result<Writing, AllocError>
         ensures { IfOk result (λ writing. SameRecords self.now writing) }
     {
+        let due = self.due.clone()?;
+        let mut tail = self.tail.clone()?;
+        tail.reserve(due.len())?;
         Ok(Writing {
-            due: self.due.clone()?,
-            tail: self.tail.clone()?,
+            due,
+            tail,
             is_flush_wanted: self.is_flush_wanted,
         })
     }
 
-    /// Makes room: after it so many more records can be due without taking memory.
+    /// Makes room: after it so many more records can be due, and be appended later, without taking memory.
     pub fn reserve(&mut self, additional: usize) -> Result<(), AllocError>
         ensures same { SameRecords self.old self.new }
         ensures room { OnOk result (additional ≤ self.new.room) }
+        ensures tail_room { OnOk result (additional ≤ self.new.tail_room) }
     {
-        self.due.reserve(additional)
+        self.due.reserve(additional)?;
+        self.tail.reserve(self.due.capacity())
     }
 
     /// The record is due after all others.
     pub fn push_reserved(&mut self, told: Record)
-        requires { 0 < self.old.room }
+        requires room { 0 < self.old.room }
+        requires tail_room { 0 < self.old.tail_room }
         ensures due { self.new.due ≡ self.old.due ++ told ∷ [] }
         ensures tail { self.new.tail ≡ self.old.tail }
         ensures flag { self.new.is_flush_wanted ≡ self.old.is_flush_wanted }
         ensures room { self.old.room ≡ self.new.room + 1 }
+        ensures tail_room { self.old.tail_room ≡ self.new.tail_room + 1 }
     {
         self.due.push_back_reserved(told);
     }
@@ -116,17 +128,8 @@ impl Writing {
         }
     }
 
-    /// Makes room for one more appended record.
-    pub fn reserve_tail(&mut self) -> Result<(), AllocError>
-        ensures same { SameRecords self.old self.new }
-        ensures room { OnOk result (0 < self.new.tail_room) }
-    {
-        self.tail.reserve(1)
-    }
-
-    /// The first record that is due was appended.
+    /// The first record that is due was appended. It takes no memory: the room for it was made as it came to be due.
     pub fn append_first(&mut self)
-        requires { 0 < self.old.tail_room }
         ensures { (due tail : List Record) → KeepsRecords self.old due tail → KeepsRecords self.new (drop 1 due) (tail ++ take 1 due) }
     {
         if let Some(first) = self.due.pop_front() {

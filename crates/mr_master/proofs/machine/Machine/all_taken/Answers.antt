@@ -1,10 +1,10 @@
-use Rattle.std.proofs.Common.{sym, subst, ◌∙◌, ap, [], ◌++◌}
+use Rattle.std.proofs.Common.{◌∙◌, ap, [], ◌++◌}
 use Rattle.mr_ids.specs.declared.id.TaskId.{TaskId}
 use Rattle.mr_ids.specs.declared.id.TaskKind.TheVariants.{Map}
 use Rattle.mr_master_model.specs.declared.setting.Setting.{Setting}
 use Rattle.mr_master_model.specs.Readings.{newest_in}
 use Rattle.mr_master_model.specs.Answered.{taken, taken_of}
-use Rattle.mr_master.specs.State.{Master, Keeps}
+use Rattle.mr_master.proofs.Keeping.{held}
 use Rattle.mr_master.proofs.Gathering.{no-task}
 use Rattle.mr_master.proofs.Losing.{next-map}
 use Rattle.mr_master.proofs.machine.Machine.all_taken.Goals as goal
@@ -14,8 +14,7 @@ loop-number-init c = λ w s keeps. c.new-attempts.ensures.items ∙ no-task w Ma
 
 pub loop-number-preserved : goal.loop-number-preserved
 loop-number-preserved c = λ w s keeps.
-    let k = subst (λ (x : Master). Keeps x w s) (sym c.self.view_is) keeps in
     let n = c.loop-number.number in
     next-map w (taken_of s) n [] c.loop-number.attempts.items c.push_taken.new.attempts.items (c.loop-number.invariant w s keeps)
     (c.in_ok-push_taken.ensures w s keeps
-    ∙ ap (λ (v : Setting). let t : TaskId = record { job = v.job; kind = Map; number = n } in c.loop-number.attempts.items ++ taken s (newest_in s.earlier t)) k.setting)
+    ∙ ap (λ (v : Setting). let t : TaskId = record { job = v.job; kind = Map; number = n } in c.loop-number.attempts.items ++ taken s (newest_in s.earlier t)) (held c.self.view_is keeps).setting)

@@ -2,9 +2,10 @@ use Rattle.std.proofs.Common.{ℕ, ◌<◌, ◌≡◌, sym, subst, ◌∙◌, ap
 use Rattle.mr_master_model.specs.declared.setting.Setting.{Setting}
 use Rattle.mr_master_model.specs.Job.{is_task}
 use Rattle.mr_master.specs.Places.{place_of}
-use Rattle.mr_master.specs.State.{Master, Keeps}
+use Rattle.mr_master.specs.State.{Master}
 use Rattle.mr_master.specs.Taking.{winner_of}
 use Rattle.mr_master.specs.inner.Placed.{IsPlaced}
+use Rattle.mr_master.proofs.Keeping.{held}
 use Rattle.mr_master.proofs.Taken.{winner-enters}
 use Rattle.mr_master.proofs.machine.Machine.enter_winner.Goals as goal
 
@@ -16,8 +17,7 @@ recover-requires c =
     (subst (λ (n : ℕ). place_of c.self.inside.setting x.task < n) (ap (λ (v : Master). length v.tasks.machines) c.self.view_is ∙ sym c.requires.tasks) p.1)
 
 pub returns : goal.returns
-returns c = λ w s keeps.
-    let k = subst (λ (x : Master). Keeps x w s) (sym c.self.view_is) keeps in
+returns c = λ w s keeps. let k = held c.self.view_is keeps in
     let x = c.in-Some.winner in
     let p = subst (λ (v : Master). IsPlaced v) (sym c.self.view_is) c.requires.placed x (sym c.in-Some.is ∙ c.winner.ensures) in
     let own : is_task w x.task ≡ true = subst (λ (v : Setting). is_task v x.task ≡ true) k.setting p.0 in

@@ -1,15 +1,14 @@
-use Rattle.std.proofs.Common.{sym, subst, ap, Option}
+use Rattle.std.proofs.Common.{subst, ap, Option}
 use Rattle.mr_recover.specs.declared.winner.TaskWinner.{TaskWinner}
 use Rattle.mr_master_model.specs.Past.{Work}
 use Rattle.mr_master_model.specs.Readings.{is_running}
 use Rattle.mr_master.specs.Taking.{winner_of, after_table}
 use Rattle.mr_master.specs.Tasks.{KeepsTasks}
-use Rattle.mr_master.specs.State.{Master, Keeps}
+use Rattle.mr_master.proofs.Keeping.{held}
 use Rattle.mr_master.proofs.Parts.{with-work, with-tasks}
 use Rattle.mr_master.proofs.machine.Machine.enters.Goals as goal
 
 pub returns : goal.returns
 returns c = λ w s keeps.
-    let k = subst (λ (x : Master). Keeps x w s) (sym c.self.view_is) keeps in
     let entered = subst (λ (o : Option TaskWinner). KeepsTasks c.args.tasks w (after_table w s o (is_running c.args.work)).calls) (ap (λ (x : Work). winner_of x) keeps.work) (c.requires w s keeps) in
-    with-work c.set.new.self c.args.work c.set.ensures (with-tasks c.args.tasks (after_table w s (winner_of s.work) (is_running c.args.work)).calls entered k)
+    with-work c.set.new.self c.args.work c.set.ensures (with-tasks c.args.tasks (after_table w s (winner_of s.work) (is_running c.args.work)).calls entered (held c.self.view_is keeps))

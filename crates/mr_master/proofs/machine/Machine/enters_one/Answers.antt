@@ -6,7 +6,8 @@ use Rattle.mr_master_model.specs.Past.{Work}
 use Rattle.mr_master.specs.Places.{place_of}
 use Rattle.mr_master.specs.WorkKinds.{others_of, with_others}
 use Rattle.mr_master.specs.Taking.{winner_of, calls_with, EntersAt}
-use Rattle.mr_master.specs.State.{Master, Keeps}
+use Rattle.mr_master.specs.State.{Master}
+use Rattle.mr_master.proofs.Keeping.{held}
 use Rattle.mr_master.proofs.Parts.{with-work, with-tasks}
 use Rattle.mr_master.proofs.Taken.{winner-enters}
 use Rattle.mr_master.proofs.machine.Machine.enters_one.Goals as goal
@@ -17,8 +18,7 @@ put-requires c =
     (Recovers e.winner.attempt, e.told)
 
 pub returns : goal.returns
-returns c = λ w s keeps.
-    let k = subst (λ (x : Master). Keeps x w s) (sym c.self.view_is) keeps in
+returns c = λ w s keeps. let k = held c.self.view_is keeps in
     let e = subst (λ (x : Master). EntersAt x c.args.place c.args.machine) (sym c.self.view_is) c.requires in
     let own : is_task w e.winner.task ≡ true = subst (λ (v : Setting). is_task v e.winner.task ≡ true) k.setting e.own in
     let at : c.args.place ≡ place_of w e.winner.task = e.at ∙ ap (λ (v : Setting). place_of v e.winner.task) k.setting in

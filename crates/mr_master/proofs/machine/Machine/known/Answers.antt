@@ -1,16 +1,13 @@
-use Rattle.std.proofs.Common.{sym, subst, ◌∙◌}
-use Rattle.mr_master.specs.State.{Master, Keeps}
-use Rattle.mr_master.proofs.Keeping.{placed, known-answer, launched-none, launched-some}
+use Rattle.std.proofs.Common.{◌∙◌}
+use Rattle.mr_master.proofs.Keeping.{held, placed, known-answer, launched-none, launched-some}
 use Rattle.mr_master.proofs.machine.Machine.known.Goals as goal
 
 pub returns-then-not-is_arrived-clause-known : goal.returns-then-not-is_arrived-clause-known
-returns-then-not-is_arrived-clause-known c = λ w s keeps.
-    let k = subst (λ (x : Master). Keeps x w s) (sym c.self.view_is) keeps in
+returns-then-not-is_arrived-clause-known c = λ w s keeps. let k = held c.self.view_is keeps in
     let p = placed _ w c.args.attempt.task _ c.in_ok-place.place k.setting c.task.ensures c.in_ok-place.ensures in
     launched-none w s c.args.attempt (known-answer _ w s c.args.attempt _ _ k p.0 p.1 c.is_arrived.ensures.arrived ∙ c.if-not-is_arrived.true)
 
 pub returns-clause-known : goal.returns-clause-known
-returns-clause-known c = λ w s keeps.
-    let k = subst (λ (x : Master). Keeps x w s) (sym c.self.view_is) keeps in
+returns-clause-known c = λ w s keeps. let k = held c.self.view_is keeps in
     let p = placed _ w c.args.attempt.task _ c.in_ok-place.place k.setting c.task.ensures c.in_ok-place.ensures in
     launched-some _ w s c.args.attempt _ _ k (known-answer _ w s c.args.attempt _ _ k p.0 p.1 c.is_arrived.ensures.arrived ∙ c.if-not-is_arrived.false) p.1 c.in_ok-launch.ensures

@@ -3,7 +3,7 @@ use Rattle.mr_ids.specs.declared.id.TaskKind.TheVariants.{Map}
 use Rattle.mr_tables.specs.Earlier.{IsUntold}
 use Rattle.mr_master.specs.inner.Outputs.{IsKept, NoneLost, NoneLostFrom}
 use Rattle.mr_tables.specs.Spots.{IsFree}
-use Rattle.mr_master.specs.State.{Master, Keeps}
+use Rattle.mr_master.proofs.Keeping.{held}
 use Rattle.mr_master.proofs.On_nodes.{kept-lost, lower-from, lower-first, lower-none}
 use Rattle.mr_master.proofs.machine.Machine.next_output.Goals as goal
 
@@ -21,7 +21,7 @@ returns-clause-first c =
     (lower-first launched.result told.result c.args.from _ _ _ kept launched.ensures.first launched.ensures.none told.ensures.first told.ensures.none)
   where
     kept : (j : ℕ) → IsFree c.self.inside.launches.entries Map c.node-node.result j → IsUntold c.self.inside.earlier c.node-node.result j → IsKept c.args.self.now c.args.gone.now j
-    kept j free untold w s keeps = kept-lost _ w s c.args.gone.now c.node-node.result j (subst (λ (x : Master). Keeps x w s) (sym c.self.view_is) keeps) c.node-node.ensures free untold
+    kept j free untold w s keeps = kept-lost _ w s c.args.gone.now c.node-node.result j (held c.self.view_is keeps) c.node-node.ensures free untold
 
 pub returns-clause-none : goal.returns-clause-none
 returns-clause-none c =
@@ -31,4 +31,4 @@ returns-clause-none c =
     (lower-none launched.result told.result c.args.from _ _ _ kept launched.ensures.none told.ensures.none)
   where
     kept : (j : ℕ) → IsFree c.self.inside.launches.entries Map c.node-node.result j → IsUntold c.self.inside.earlier c.node-node.result j → IsKept c.args.self.now c.args.gone.now j
-    kept j free untold w s keeps = kept-lost _ w s c.args.gone.now c.node-node.result j (subst (λ (x : Master). Keeps x w s) (sym c.self.view_is) keeps) c.node-node.ensures free untold
+    kept j free untold w s keeps = kept-lost _ w s c.args.gone.now c.node-node.result j (held c.self.view_is keeps) c.node-node.ensures free untold

@@ -1,9 +1,9 @@
-use Rattle.std.proofs.Common.{◌<◌, sym, subst, ◌∙◌, ap, ◌++◌, arith}
+use Rattle.std.proofs.Common.{◌<◌, ◌∙◌, ap, ◌++◌, arith}
 use Rattle.mr_ids.specs.declared.id.TaskId.{TaskId}
 use Rattle.mr_master_model.specs.declared.setting.Setting.{Setting}
 use Rattle.mr_master_model.specs.Job.{count_of}
 use Rattle.mr_tables.specs.Gone.{gone_of, of_job}
-use Rattle.mr_master.specs.State.{Master, Keeps}
+use Rattle.mr_master.proofs.Keeping.{held}
 use Rattle.mr_master.proofs.Gathering.{next-task, no-task}
 use Rattle.mr_master.proofs.On_nodes.{up-to, kept-gone}
 use Rattle.mr_master.proofs.machine.Machine.push_all_gone.Goals as goal
@@ -16,8 +16,7 @@ loop-init c = record {
 }
 
 pub returns-in_default : goal.returns-in_default
-returns-in_default c = λ w s keeps.
-    let k = subst (λ (x : Master). Keeps x w s) (sym c.self.view_is) keeps in
+returns-in_default c = λ w s keeps. let k = held c.self.view_is keeps in
     let g = c.args.gone.now in
     let total = c.count_of-count.ensures ∙ ap (λ (v : Setting). count_of v c.args.kind) k.setting in
     let within = c.loop.invariant.within in
@@ -25,8 +24,7 @@ returns-in_default c = λ w s keeps.
     (λ j high low. kept-gone _ w s g c.args.kind c.node.result j k c.node.ensures (c.in_default.ensures.none j high))
 
 pub returns-then-number-count : goal.returns-then-number-count
-returns-then-number-count c = λ w s keeps.
-    let k = subst (λ (x : Master). Keeps x w s) (sym c.self.view_is) keeps in
+returns-then-number-count c = λ w s keeps. let k = held c.self.view_is keeps in
     let g = c.args.gone.now in
     let total = c.count_of-count.ensures ∙ ap (λ (v : Setting). count_of v c.args.kind) k.setting in
     let within = c.loop.invariant.within in
@@ -43,8 +41,7 @@ loop-preserved c =
     record {
       passed = omega arith;
       within = omega arith;
-      adds = λ w s keeps.
-          let k = subst (λ (x : Master). Keeps x w s) (sym c.self.view_is) keeps in
+      adds = λ w s keeps. let k = held c.self.view_is keeps in
           let g = c.args.gone.now in
           let total = c.count_of-count.ensures ∙ ap (λ (v : Setting). count_of v c.args.kind) k.setting in
           let within : n < count_of w c.args.kind = omega arith in

@@ -1,11 +1,11 @@
-use Rattle.std.proofs.Common.{◌≡◌, ◌<◌, sym, subst, ◌∙◌, ap, List, ◌++◌, arith, ℕ}
+use Rattle.std.proofs.Common.{◌≡◌, ◌<◌, ◌∙◌, ap, List, ◌++◌, arith, ℕ}
 use Rattle.std.specs.List.{flat_map}
 use Rattle.mr_ids.specs.declared.id.TaskId.{TaskId}
 use Rattle.mr_packet.specs.declared.packet.Envelope.{Envelope}
 use Rattle.mr_master_model.specs.declared.setting.Setting.{Setting}
 use Rattle.mr_master_model.specs.Job.{count_of, first_tasks, task_of}
 use Rattle.mr_master.specs.inner.Ends.{kills_but}
-use Rattle.mr_master.specs.State.{Master, Keeps}
+use Rattle.mr_master.proofs.Keeping.{held}
 use Rattle.mr_master.proofs.Gathering.{next-task, no-task}
 use Rattle.mr_master.proofs.Ends.{of-job-once}
 use Rattle.mr_master.proofs.machine.Machine.push_all_kills_but.Goals as goal
@@ -14,8 +14,7 @@ pub loop-number-init : goal.loop-number-init
 loop-number-init c = λ w s keeps. no-task w c.args.kind (kills_but w s c.args.ended.now) c.args.packets.now.items
 
 pub loop-number-preserved : goal.loop-number-preserved
-loop-number-preserved c = λ w s keeps.
-    let k = subst (λ (x : Master). Keeps x w s) (sym c.self.view_is) keeps in
+loop-number-preserved c = λ w s keeps. let k = held c.self.view_is keeps in
     let a = c.args.ended.now in
     let n = c.loop-number.number in
     let total = c.count_of-count.ensures ∙ ap (λ (v : Setting). count_of v c.args.kind) k.setting in
@@ -27,7 +26,6 @@ loop-number-preserved c = λ w s keeps.
 
 pub returns : goal.returns
 returns c = λ w s keeps.
-    let k = subst (λ (x : Master). Keeps x w s) (sym c.self.view_is) keeps in
-    let total = c.count_of-count.ensures ∙ ap (λ (v : Setting). count_of v c.args.kind) k.setting in
+    let total = c.count_of-count.ensures ∙ ap (λ (v : Setting). count_of v c.args.kind) (held c.self.view_is keeps).setting in
     let all : c.loop-number.number ≡ count_of w c.args.kind = omega (arith, total, c.loop-number-test.false, c.loop-number.auto.number-end) in
     c.loop-number.invariant w s keeps ∙ ap (λ (n : ℕ). c.args.packets.now.items ++ flat_map (kills_but w s c.args.ended.now) (first_tasks w c.args.kind n)) all

@@ -1,7 +1,6 @@
-use Rattle.std.proofs.Common.{sym, subst, refl, ◌∙◌, ap, List, ◌++◌}
+use Rattle.std.proofs.Common.{refl, ◌∙◌, ap, List, ◌++◌}
 use Rattle.mr_packet.specs.declared.packet.Envelope.{Envelope}
-use Rattle.mr_master.specs.State.{Master, Keeps}
-use Rattle.mr_master.proofs.Keeping.{placed}
+use Rattle.mr_master.proofs.Keeping.{held, placed}
 use Rattle.mr_master.proofs.Gathering.{found-at}
 use Rattle.mr_master.proofs.Kills.{kills-all}
 use Rattle.mr_master.proofs.machine.Machine.push_kills.Goals as goal
@@ -9,7 +8,7 @@ use Rattle.mr_master.proofs.machine.Machine.push_kills.Goals as goal
 pub returns : goal.returns
 returns c = λ w s keeps.
     let t = c.args.task in
-    let k = subst (λ (x : Master). Keeps x w s) (sym c.self.view_is) keeps in
+    let k = held c.self.view_is keeps in
     let p = placed _ w t t c.in-Some.place k.setting refl c.in-Some.ensures in
     let st = found-at _ w s.calls t c.in-Some.place c.in-Some-at.machine.now k.tasks p.0 p.1 c.in-Some-at.ensures in
     c.loop-i.invariant w s keeps ∙ ap (λ (l : List Envelope). c.args.packets.now.items ++ l)

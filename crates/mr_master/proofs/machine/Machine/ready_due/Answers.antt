@@ -1,21 +1,21 @@
-use Rattle.std.proofs.Common.{sym, subst, ◌∙◌, ap, [], true≢false}
+use Rattle.std.proofs.Common.{sym, ◌∙◌, ap, [], true≢false}
 use Rattle.std.specs.Option.{is_some}
 use Rattle.mr_master_model.specs.declared.setting.Setting.{Setting}
 use Rattle.mr_master_model.specs.Past.{Work}
 use Rattle.mr_master_model.specs.Readings.{Seen}
 use Rattle.mr_master_model.specs.Duty.{duty_at}
 use Rattle.mr_master.specs.declared.change.Change.TheVariants as change
-use Rattle.mr_master.specs.State.{Master, Keeps}
+use Rattle.mr_master.specs.State.{Keeps}
+use Rattle.mr_master.proofs.Keeping.{held}
 use Rattle.mr_master.proofs.Called.{over-idle}
-use Rattle.mr_master.proofs.Prepared.{ready-as}
+use Rattle.mr_master.proofs.Made.{plan-as}
 use Rattle.mr_master.proofs.machine.Machine.ready_due.Goals as goal
 
 pub returns : goal.returns
-returns c = ready-as [] change.Nothing c.silent.ensures tt (λ w s keeps. absurd (none w s keeps)) (λ w s keeps. absurd (none w s keeps))
+returns c = plan-as [] change.Nothing c.silent.ensures tt (λ w s keeps. absurd (none w s keeps)) (λ w s keeps. absurd (none w s keeps))
   where
     none : (w : Setting) (s : Seen) → Keeps c.args.self.now w s → ⊥
     none w s keeps =
-        let k = subst (λ (x : Master). Keeps x w s) (sym c.self.view_is) keeps in
-        true≢false (sym (c.requires.due w s keeps) ∙ ap (λ (x : Work). is_some (duty_at w s x)) (sym k.work)
+        true≢false (sym (c.requires.due w s keeps) ∙ ap (λ (x : Work). is_some (duty_at w s x)) (sym (held c.self.view_is keeps).work)
         ∙ over-idle w s c.self.inside.work (sym c.is_look.ensures ∙ c.if-is_look.false) (sym c.is_tell.ensures ∙ c.if-is_tell.false) (sym c.is_read.ensures ∙ c.if-is_read.false)
         (sym c.is_step.ensures ∙ c.if-is_step.false) (sym c.in_default.is ∙ c.fails.ensures) (sym c.is_running.ensures ∙ c.if-is_running.false))

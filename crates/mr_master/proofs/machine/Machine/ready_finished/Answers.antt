@@ -1,17 +1,18 @@
-use Rattle.std.proofs.Common.{◌≡◌, ◌∙◌, refl, sym, ap, subst, true, None, drop}
+use Rattle.std.proofs.Common.{◌≡◌, ◌∙◌, refl, sym, ap, true, None, drop}
 use Rattle.mr_master_model.specs.declared.setting.Setting.{Setting}
 use Rattle.mr_master_model.specs.Past.{Work}
 use Rattle.mr_master_model.specs.Readings.{Seen, is_running}
 use Rattle.mr_master.specs.Taking.{winner_of, after_table}
 use Rattle.mr_master.specs.WorkKinds.{is_step, finished_by, others_of, with_others}
-use Rattle.mr_master.specs.State.{Master, Keeps}
-use Rattle.mr_master.proofs.Prepared.{prepares-as}
+use Rattle.mr_master.specs.State.{Keeps}
+use Rattle.mr_master.proofs.Keeping.{held}
+use Rattle.mr_master.proofs.Made.{plans-as}
 use Rattle.mr_master.proofs.Steps.{nobody-told, nobody-enters, nobody-left, runs-whole, Joined, joined}
 use Rattle.mr_master.proofs.machine.Machine.ready_finished.Goals as goal
 
 pub returns-then-is_running : goal.returns-then-is_running
 returns-then-is_running c =
-    prepares-as
+    plans-as
     (λ w s keeps. refl)
     (λ w s keeps. λ i. record s { calls = (after_table w s (winner_of s.work) (is_running (next w s keeps i))).calls; work = next w s keeps i })
     c.in_ok-ready.ensures
@@ -23,7 +24,7 @@ returns-then-is_running c =
 
 pub returns : goal.returns
 returns c =
-    prepares-as
+    plans-as
     (λ w s keeps. refl)
     (λ w s keeps. λ i. record s {
       calls = (after_table w s (winner_of s.work) ((all w s keeps).rests i)).calls;
@@ -34,12 +35,12 @@ returns c =
     all : (w : Setting) (s : Seen) → Keeps c.args.self.now w s → Joined w s s.work
     all w s keeps =
         joined w s c.in-Some.winner s.work
-        (sym c.in-Some.is ∙ c.winner.ensures ∙ ap (λ (x : Work). winner_of x) (subst (λ (x : Master). Keeps x w s) (sym c.self.view_is) keeps).work)
+        (sym c.in-Some.is ∙ c.winner.ensures ∙ ap (λ (x : Work). winner_of x) (held c.self.view_is keeps).work)
         (ap (λ (x : Work). is_running x) (sym (c.in_ok-next.ensures w s keeps)) ∙ sym c.is_running.ensures ∙ c.if-is_running.false)
 
 pub returns-in_default : goal.returns-in_default
 returns-in_default c =
-    prepares-as
+    plans-as
     (λ w s keeps. nobody-told w s c.in_ok-next.next (steps w s keeps) (none w s keeps) (next w s keeps))
     (λ w s keeps. nobody-enters w s c.in_ok-next.next (none w s keeps) (sym c.is_running.ensures ∙ c.if-is_running.false) (next w s keeps))
     c.in_ok-ready-2.ensures
@@ -48,7 +49,7 @@ returns-in_default c =
     steps w s keeps = ap (λ (x : Work). is_step x) (sym keeps.work) ∙ c.requires.step
 
     none : (w : Setting) (s : Seen) → Keeps c.args.self.now w s → None ≡ winner_of s.work
-    none w s keeps = sym c.in_default.is ∙ c.winner.ensures ∙ ap (λ (x : Work). winner_of x) (subst (λ (x : Master). Keeps x w s) (sym c.self.view_is) keeps).work
+    none w s keeps = sym c.in_default.is ∙ c.winner.ensures ∙ ap (λ (x : Work). winner_of x) (held c.self.view_is keeps).work
 
     next : (w : Setting) (s : Seen) → Keeps c.args.self.now w s → c.in_ok-next.next ≡ finished_by w s s.work
     next w s keeps = c.in_ok-next.ensures w s keeps ∙ nobody-left w s s.work (none w s keeps)

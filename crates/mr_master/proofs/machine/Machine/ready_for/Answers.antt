@@ -1,7 +1,12 @@
-use Rattle.std.proofs.Common.{sym, subst}
-use Rattle.mr_master.specs.State.{Master}
-use Rattle.mr_master.specs.inner.Placed.{IsPlaced}
+use Rattle.std.proofs.Common.{sym, ◌∙◌}
+use Rattle.mr_master.proofs.Made.{due-plan, idle-plan}
 use Rattle.mr_master.proofs.machine.Machine.ready_for.Goals as goal
 
-pub ready_with_room-requires-clause-placed : goal.ready_with_room-requires-clause-placed
-ready_with_room-requires-clause-placed c = subst (λ (v : Master). IsPlaced v) (sym c.self.view_is) c.requires.placed
+pub returns-then-not-is_due : goal.returns-then-not-is_due
+returns-then-not-is_due c = idle-plan c.args.answer (λ w s k. sym (c.in_ok-is_due.ensures w s k) ∙ c.if-not-is_due.true) c.silent.ensures
+
+pub ready_due-requires-clause-due : goal.ready_due-requires-clause-due
+ready_due-requires-clause-due c = λ w s k. sym (c.in_ok-is_due.ensures w s k) ∙ c.if-not-is_due.false
+
+pub returns : goal.returns
+returns c = due-plan c.args.answer (λ w s k. sym (c.in_ok-is_due.ensures w s k) ∙ c.if-not-is_due.false) c.in_ok-ready.ensures

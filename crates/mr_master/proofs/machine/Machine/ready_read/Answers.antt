@@ -1,4 +1,4 @@
-use Rattle.std.proofs.Common.{sym, subst, ◌∙◌, ap, [], ◌≡◌, true, if◌then◌else◌}
+use Rattle.std.proofs.Common.{sym, ◌∙◌, ap, [], ◌≡◌, true, if◌then◌else◌}
 use Rattle.std.specs.List.{list_any}
 use Rattle.mr_commit.specs.Tables.{setup_job}
 use Rattle.mr_master_model.specs.Past.{SetsUp, Fails}
@@ -6,17 +6,16 @@ use Rattle.mr_master_model.specs.declared.store.StoreAnswer.{StoreAnswer}
 use Rattle.mr_master_model.specs.declared.store.StoreAnswer.TheVariants as answer
 use Rattle.mr_master_model.specs.Answered.{read_by, with_earlier, is_unsuccessful}
 use Rattle.mr_master.specs.declared.change.Change.TheVariants as change
-use Rattle.mr_master.specs.State.{Master, Keeps}
-use Rattle.mr_master.proofs.Prepared.{ready-as}
+use Rattle.mr_master.proofs.Keeping.{held}
+use Rattle.mr_master.proofs.Made.{plan-as}
 use Rattle.mr_master.proofs.Steps.{told-is, unread, read-is, read-seen, read-sends}
 use Rattle.mr_master.proofs.machine.Machine.ready_read.Goals as goal
 
 pub returns : goal.returns
 returns c =
-    ready-as [] (change.HasRead c.in_ok-earlier.earlier c.in_ok-next.next) c.silent-2.ensures tt
+    plan-as [] (change.HasRead c.in_ok-earlier.earlier c.in_ok-next.next) c.silent-2.ensures tt
     (λ w s keeps. read-sends w s c.args.answer (sym keeps.work ∙ read-is _ c.requires))
-    (λ w s keeps.
-    let k = subst (λ (x : Master). Keeps x w s) (sym c.self.view_is) keeps in
+    (λ w s keeps. let k = held c.self.view_is keeps in
     let rs = c.in-Some.records in
     let e = sym keeps.work ∙ read-is _ c.requires in
     let a = told-is c.args.answer rs (sym c.in-Some.is ∙ c.records_in.ensures) in
@@ -25,7 +24,7 @@ returns c =
 
 pub returns-in_default : goal.returns-in_default
 returns-in_default c =
-    ready-as [] (change.Becomes c.stopped.result) c.silent.ensures tt
+    plan-as [] (change.Becomes c.stopped.result) c.silent.ensures tt
     (λ w s keeps. read-sends w s c.args.answer (sym keeps.work ∙ read-is _ c.requires))
     (λ w s keeps.
     let e = sym keeps.work ∙ read-is _ c.requires in

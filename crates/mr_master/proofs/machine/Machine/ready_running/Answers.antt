@@ -1,4 +1,4 @@
-use Rattle.std.proofs.Common.{sym, subst, refl, ◌≡◌, ◌∙◌, ap, [], Option, Some, true, Bool}
+use Rattle.std.proofs.Common.{sym, refl, ◌≡◌, ◌∙◌, ap, [], Option, Some, true, Bool}
 use Rattle.std.specs.Option.{option_map}
 use Rattle.mr_ids.specs.Attempt.{Attempt}
 use Rattle.mr_commit.specs.Tables.{commit_job}
@@ -12,21 +12,22 @@ use Rattle.mr_master_model.specs.Answered.{is_fine, flushed, moved_first, after_
 use Rattle.mr_master_model.specs.Sends.{kill_of, flush_sends, bar_sends, outcome_of}
 use Rattle.mr_master.specs.declared.change.Change.TheVariants as change
 use Rattle.mr_tables.specs.Records.{written_by}
-use Rattle.mr_master.specs.State.{Master, Keeps}
-use Rattle.mr_master.proofs.Prepared.{prepares-as, ready-as}
+use Rattle.mr_master.specs.State.{Keeps}
+use Rattle.mr_master.proofs.Keeping.{held}
+use Rattle.mr_master.proofs.Made.{plans-as, plan-as}
 use Rattle.mr_master.proofs.Replies.{runs-stop, runs-seen, runs-sends, runs-on, due-runs, name-bar, name-start, name-record, recorded-work, moved-work, found-passes, live-of-job, death-is}
 use Rattle.mr_master.proofs.machine.Machine.ready_running.Goals as goal
 
 pub returns-then-not-is_fine : goal.returns-then-not-is_fine
 returns-then-not-is_fine c =
-    prepares-as
+    plans-as
     (λ w s keeps. ap (λ (x : Work). outcome_of w x) c.stopped.ensures ∙ (runs-stop w s c.args.answer.now (sym keeps.work ∙ c.requires.runs) (sym c.is_fine.ensures ∙ c.if-not-is_fine.true)).1)
     (λ w s keeps. (λ i. record s { work = c.stopped.ensures i }) ∙ (runs-stop w s c.args.answer.now (sym keeps.work ∙ c.requires.runs) (sym c.is_fine.ensures ∙ c.if-not-is_fine.true)).0)
     c.in_ok-ready.ensures
 
 pub returns-in-Some : goal.returns-in-Some
 returns-in-Some c =
-    prepares-as
+    plans-as
     (λ w s keeps.
     let e = sym keeps.work ∙ c.requires.runs in
     let found = c.in-Some.ensures w s keeps in
@@ -47,7 +48,7 @@ returns-in-Some c =
 
 pub returns-then-appends : goal.returns-then-appends
 returns-then-appends c =
-    ready-as [] change.Appends c.silent.ensures c.requires.room
+    plan-as [] change.Appends c.silent.ensures tt
     (λ w s keeps. runs-sends w s c.args.answer.now (Some name.Append) [] (sym keeps.work ∙ c.requires.runs) fine (due w s keeps) refl refl)
     (λ w s keeps.
     let e = sym keeps.work ∙ c.requires.runs in
@@ -58,13 +59,12 @@ returns-then-appends c =
 
     due : (w : Setting) (s : Seen) → Keeps c.args.self.now w s → Some name.Append ≡ name_of (duty w s)
     due w s keeps =
-        let k = subst (λ (x : Master). Keeps x w s) (sym c.self.view_is) keeps in
-        let written = ap (λ b. Some (written_by b)) (sym c.if-appends.true) ∙ c.in-Some-next.ensures s.due s.tail k.writing in
+        let written = ap (λ b. Some (written_by b)) (sym c.if-appends.true) ∙ c.in-Some-next.ensures s.due s.tail (held c.self.view_is keeps).writing in
         due-runs w s (Some name.Append) (sym keeps.work ∙ c.requires.runs) (name-record w s name.Append (sym c.in_default.is ∙ c.first_bar.ensures w s keeps) written)
 
 pub returns-in-Some-next : goal.returns-in-Some-next
 returns-in-Some-next c =
-    ready-as c.in_ok-packets.packets.items (change.Flushes c.running.result) c.new.ensures tt
+    plan-as c.in_ok-packets.packets.items (change.Flushes c.running.result) c.new.ensures tt
     (λ w s keeps. c.in_ok-packets.ensures w s keeps ∙ runs-sends w s c.args.answer.now (Some name.Flush) (flush_sends w s s.tail) (sym keeps.work ∙ c.requires.runs) fine (due w s keeps) refl refl)
     (λ w s keeps.
     let e = sym keeps.work ∙ c.requires.runs in
@@ -75,13 +75,12 @@ returns-in-Some-next c =
 
     due : (w : Setting) (s : Seen) → Keeps c.args.self.now w s → Some name.Flush ≡ name_of (duty w s)
     due w s keeps =
-        let k = subst (λ (x : Master). Keeps x w s) (sym c.self.view_is) keeps in
-        let written = ap (λ b. Some (written_by b)) (sym c.if-appends.false) ∙ c.in-Some-next.ensures s.due s.tail k.writing in
+        let written = ap (λ b. Some (written_by b)) (sym c.if-appends.false) ∙ c.in-Some-next.ensures s.due s.tail (held c.self.view_is keeps).writing in
         due-runs w s (Some name.Flush) (sym keeps.work ∙ c.requires.runs) (name-record w s name.Flush (sym c.in_default.is ∙ c.first_bar.ensures w s keeps) written)
 
 pub returns : goal.returns
 returns c =
-    prepares-as
+    plans-as
     (λ w s keeps. ap (λ (x : Work). outcome_of w x) (starts w s keeps) ∙ runs-sends w s c.args.answer.now (Some name.Started) [] (sym keeps.work ∙ c.requires.runs) fine (due w s keeps) refl refl)
     (λ w s keeps.
     let e = sym keeps.work ∙ c.requires.runs in
@@ -93,13 +92,11 @@ returns c =
 
     starts : (w : Setting) (s : Seen) → Keeps c.args.self.now w s → c.in_ok-work.work ≡ CommitsJob (commit_job w.layout.dest w.app)
     starts w s keeps =
-        let k = subst (λ (x : Master). Keeps x w s) (sym c.self.view_is) keeps in
-        c.in_ok-work.ensures ∙ ap (λ (v : Setting). CommitsJob (commit_job v.layout.dest v.app)) k.setting
+        c.in_ok-work.ensures ∙ ap (λ (v : Setting). CommitsJob (commit_job v.layout.dest v.app)) (held c.self.view_is keeps).setting
 
     due : (w : Setting) (s : Seen) → Keeps c.args.self.now w s → Some name.Started ≡ name_of (duty w s)
     due w s keeps =
-        let k = subst (λ (x : Master). Keeps x w s) (sym c.self.view_is) keeps in
         let e = sym keeps.work ∙ c.requires.runs in
         let none = sym c.in_default.is ∙ c.first_bar.ensures w s keeps in
-        let nothing = ap (λ (o : Option Bool). option_map written_by o) (sym c.in_default-next.is) ∙ c.next.ensures s.due s.tail k.writing in
+        let nothing = ap (λ (o : Option Bool). option_map written_by o) (sym c.in_default-next.is) ∙ c.next.ensures s.due s.tail (held c.self.view_is keeps).writing in
         due-runs w s (Some name.Started) e (name-start w s e none nothing (c.requires.due w s keeps))

@@ -9,13 +9,14 @@ use Rattle.mr_master.specs.inner.Coming.{IsComing}
 use Rattle.mr_master.specs.WorkKinds.{is_step, left_of, refused_when}
 use Rattle.mr_master_model.specs.Answered.{is_superseded}
 use Rattle.mr_master.specs.State.{Master, Keeps}
-use Rattle.mr_master.proofs.Prepared.{ready-as, prepares-as}
+use Rattle.mr_master.proofs.Keeping.{held}
+use Rattle.mr_master.proofs.Made.{plan-as, plans-as}
 use Rattle.mr_master.proofs.Steps.{goes-on, goes-last, goes-wrong}
 use Rattle.mr_master.proofs.machine.Machine.ready_step.Goals as goal
 
 pub returns-in-More : goal.returns-in-More
 returns-in-More c =
-    ready-as [] (change.GoesOn c.in-More.following) c.silent.ensures
+    plan-as [] (change.GoesOn c.in-More.following) c.silent.ensures
     (subst (λ (m : Master). Fits c.in-More.following.lines (left_of m.work)) c.self.view_is now.2)
     (λ w s keeps. (goes-on w s c.args.answer c.in-More.following (steps w s keeps) (then w s keeps)).1)
     (λ w s keeps. (goes-on w s c.args.answer c.in-More.following (steps w s keeps) (then w s keeps)).0)
@@ -28,11 +29,11 @@ returns-in-More c =
 
     then : (w : Setting) (s : Seen) → Keeps c.args.self.now w s → IsComing (left_of s.work) c.args.answer (coming.More c.in-More.following)
     then w s keeps =
-        subst (λ (x : Work). IsComing (left_of x) c.args.answer (coming.More c.in-More.following)) (subst (λ (x : Master). Keeps x w s) (sym c.self.view_is) keeps).work now
+        subst (λ (x : Work). IsComing (left_of x) c.args.answer (coming.More c.in-More.following)) (held c.self.view_is keeps).work now
 
 pub returns-in-Finished : goal.returns-in-Finished
 returns-in-Finished c =
-    prepares-as
+    plans-as
     (λ w s keeps. (goes-last w s c.args.answer (steps w s keeps) (then w s keeps)).1)
     (λ w s keeps. (goes-last w s c.args.answer (steps w s keeps) (then w s keeps)).0)
     c.in_ok-finished-in-Finished.ensures
@@ -45,11 +46,11 @@ returns-in-Finished c =
 
     then : (w : Setting) (s : Seen) → Keeps c.args.self.now w s → IsComing (left_of s.work) c.args.answer coming.Finished
     then w s keeps =
-        subst (λ (x : Work). IsComing (left_of x) c.args.answer coming.Finished) (subst (λ (x : Master). Keeps x w s) (sym c.self.view_is) keeps).work now
+        subst (λ (x : Work). IsComing (left_of x) c.args.answer coming.Finished) (held c.self.view_is keeps).work now
 
 pub returns : goal.returns
 returns c =
-    prepares-as
+    plans-as
     (λ w s keeps. (goes-wrong w s c.args.answer c.refused.result (steps w s keeps) (then w s keeps) (new w s keeps)).1)
     (λ w s keeps. (goes-wrong w s c.args.answer c.refused.result (steps w s keeps) (then w s keeps) (new w s keeps)).0)
     c.in_ok-refused-in-Refused.ensures
@@ -61,7 +62,7 @@ returns c =
     steps w s keeps = ap (λ (x : Work). is_step x) (sym keeps.work) ∙ c.requires.step
 
     work : (w : Setting) (s : Seen) → Keeps c.args.self.now w s → c.self.inside.work ≡ s.work
-    work w s keeps = (subst (λ (x : Master). Keeps x w s) (sym c.self.view_is) keeps).work
+    work w s keeps = (held c.self.view_is keeps).work
 
     then : (w : Setting) (s : Seen) → Keeps c.args.self.now w s → IsComing (left_of s.work) c.args.answer coming.Refused
     then w s keeps = subst (λ (x : Work). IsComing (left_of x) c.args.answer coming.Refused) (work w s keeps) now

@@ -1,4 +1,4 @@
-use Rattle.std.proofs.Common.{sym, subst, refl, ◌∙◌, ap, ◌≡◌}
+use Rattle.std.proofs.Common.{sym, refl, ◌∙◌, ap, ◌≡◌}
 use Rattle.mr_master_model.specs.declared.setting.Setting.{Setting}
 use Rattle.mr_master_model.specs.Past.{Work}
 use Rattle.mr_master_model.specs.Readings.{Seen}
@@ -6,18 +6,18 @@ use Rattle.mr_master_model.specs.Answered.{work_after}
 use Rattle.mr_master_model.specs.Sends.{outcome_of}
 use Rattle.mr_master.specs.WorkKinds.{is_tell}
 use Rattle.mr_master.specs.State.{Master, Keeps}
-use Rattle.mr_master.proofs.Prepared.{prepares-as}
+use Rattle.mr_master.proofs.Keeping.{held}
+use Rattle.mr_master.proofs.Made.{plans-as}
 use Rattle.mr_master.proofs.Replies.{quiet-seen, quiet-sends, tell-changes}
 use Rattle.mr_master.proofs.machine.Machine.ready_tell.Goals as goal
 
 work-is : (c : goal.In_ok-ready) (w : Setting) (s : Seen) → Keeps c.args.self.now w s → c.told.result ≡ work_after w s c.args.answer.now s.work
 work-is c w s keeps =
-    let k = subst (λ (x : Master). Keeps x w s) (sym c.self.view_is) keeps in
-    c.told.ensures.moved w s (ap (λ (m : Master). is_tell m.work) c.self.view_is ∙ c.requires) ∙ ap (λ (x : Work). work_after w s c.args.answer.now x) k.work
+    c.told.ensures.moved w s (ap (λ (m : Master). is_tell m.work) c.self.view_is ∙ c.requires) ∙ ap (λ (x : Work). work_after w s c.args.answer.now x) (held c.self.view_is keeps).work
 
 pub returns : goal.returns
 returns c =
-    prepares-as
+    plans-as
     (λ w s keeps. quiet-sends w s c.args.answer.now c.told.result (outcome_of w c.told.result) (tell-changes w s c.args.answer.now s.work (ap (λ (x : Work). is_tell x) (sym keeps.work) ∙ c.requires)).1 (work-is c w s keeps) refl)
     (λ w s keeps. quiet-seen w s c.args.answer.now c.told.result (tell-changes w s c.args.answer.now s.work (ap (λ (x : Work). is_tell x) (sym keeps.work) ∙ c.requires)).0 (work-is c w s keeps)
     (c.told.ensures.quiet (ap (λ (m : Master). is_tell m.work) c.self.view_is ∙ c.requires)))

@@ -3,7 +3,7 @@ use Rattle.mr_master.specs.declared.change.Change.TheVariants as change
 use Rattle.mr_master.specs.Taking.{winner_of, EntersAt}
 use Rattle.mr_master.specs.State.{Master}
 use Rattle.mr_master.specs.inner.Placed.{IsPlaced}
-use Rattle.mr_master.proofs.Prepared.{ready-as}
+use Rattle.mr_master.proofs.Made.{plan-as}
 use Rattle.mr_master.proofs.machine.Machine.ready_winner.Goals as goal
 
 pub recovered-requires : goal.recovered-requires
@@ -19,7 +19,7 @@ returns c =
     let is = subst (λ (v : Master). Some x ≡ winner_of v.work) (sym c.self.view_is) c.requires.winner in
     let p = subst (λ (v : Master). IsPlaced v) (sym c.self.view_is) c.requires.placed x is in
     let i = c.place_in_job-place.result in
-    ready-as c.in_ok-packets.packets.items (change.EntersOne i c.in_ok-machine.machine c.args.next) c.new.ensures
+    plan-as c.in_ok-packets.packets.items (change.EntersOne i c.in_ok-machine.machine c.args.next) c.new.ensures
     (subst (λ (v : Master). EntersAt v i c.in_ok-machine.machine) c.self.view_is
     (record { winner = x; told = c.in_ok-machine.ensures; is = is; own = p.0; at = c.place_in_job-place.ensures }))
     c.in_ok-packets.ensures (λ w s keeps. refl)

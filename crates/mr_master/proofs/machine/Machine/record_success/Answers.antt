@@ -1,11 +1,8 @@
-use Rattle.std.proofs.Common.{sym, subst}
-use Rattle.mr_master.specs.State.{Master, Keeps}
-use Rattle.mr_master.proofs.Keeping.{placed}
+use Rattle.mr_master.proofs.Keeping.{held, placed}
 use Rattle.mr_master.proofs.Flushes.{success-keeps}
 use Rattle.mr_master.proofs.machine.Machine.record_success.Goals as goal
 
 pub returns-then-place-len-clause-moves : goal.returns-then-place-len-clause-moves
-returns-then-place-len-clause-moves c = λ w s keeps.
-    let k = subst (λ (x : Master). Keeps x w s) (sym c.self.view_is) keeps in
+returns-then-place-len-clause-moves c = λ w s keeps. let k = held c.self.view_is keeps in
     let p = placed _ w c.args.attempt.task _ c.in-Some.place k.setting c.task.ensures c.in-Some.ensures in
     success-keeps _ w s c.args.attempt c.in-Some.place c.record.new.self k p c.record.ensures

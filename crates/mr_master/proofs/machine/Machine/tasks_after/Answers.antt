@@ -1,16 +1,16 @@
 use Rattle.std.proofs.Common.{refl, sym, ap, subst, ◌∙◌, length, true}
 use Rattle.mr_master.specs.Tasks.{Tasks, KeepsTasks}
-use Rattle.mr_master.specs.State.{Master, Keeps}
+use Rattle.mr_master.specs.State.{Master}
 use Rattle.mr_master.specs.Taking.{winner_of, calls_with}
+use Rattle.mr_master.proofs.Keeping.{held}
 use Rattle.mr_master.proofs.Taken.{begins-so}
 use Rattle.mr_master.proofs.machine.Machine.tasks_after.Goals as goal
 
 pub returns : goal.returns
 returns c = λ w s keeps.
-    let k = subst (λ (x : Master). Keeps x w s) (sym c.self.view_is) keeps in
     begins-so _ w s (winner_of c.args.self.now.work) true refl
     (c.in_ok-enter_maps.ensures w s keeps (calls_with (winner_of c.args.self.now.work) s.calls)
-    (c.in_ok-enter_winner.ensures w s keeps (subst (λ (x : Tasks). KeepsTasks x w s.calls) (sym c.in_ok-tasks.ensures) k.tasks)))
+    (c.in_ok-enter_winner.ensures w s keeps (subst (λ (x : Tasks). KeepsTasks x w s.calls) (sym c.in_ok-tasks.ensures) (held c.self.view_is keeps).tasks)))
 
 pub enter_winner-requires-clause-tasks : goal.enter_winner-requires-clause-tasks
 enter_winner-requires-clause-tasks c = ap (λ (x : Tasks). length x.machines) c.in_ok-tasks.ensures ∙ ap (λ (m : Master). length m.tasks.machines) c.self.view_is

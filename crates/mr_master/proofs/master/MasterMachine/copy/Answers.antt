@@ -1,6 +1,5 @@
-use Rattle.std.proofs.Common.{sym, subst}
 use Rattle.mr_master_model.specs.Next.{seen}
-use Rattle.mr_master.specs.State.{Master, StandsFor}
+use Rattle.mr_master.proofs.Keeping.{held}
 use Rattle.mr_master.proofs.Past_stays.{passed-same}
 use Rattle.mr_master.proofs.master.MasterMachine.copy.Goals as goal
 
@@ -8,4 +7,4 @@ pub invariant_of-result : goal.invariant_of-result
 invariant_of-result c = passed-same c.self.inside.machine c.in_ok-machine.machine c.self.inside.passed c.in_ok-machine.ensures c.self.invariant
 
 pub returns : goal.returns
-returns c = λ w past k. c.in_ok-machine.ensures w (seen w past) (subst (λ (x : Master). StandsFor x w past) (sym c.self.view_is) k)
+returns c = λ w past k. c.in_ok-machine.ensures w (seen w past) (held c.self.view_is k)

@@ -1,22 +1,24 @@
-use Rattle.std.proofs.Common.{subst}
+use Rattle.std.proofs.Common.{Option, unwrap_or, ap, ◌∙◌}
+use Rattle.mr_task.specs.declared.fault.TaskFault.TheVariants.{NoMemory}
+use Rattle.mr_master_model.specs.declared.phase.LaunchFault.{LaunchFault}
+use Rattle.mr_master_model.specs.declared.phase.LaunchFault.TheVariants.{Task}
 use Rattle.mr_master_model.specs.Past.{Expires}
-use Rattle.mr_master.specs.State.{Master, Stands}
-use Rattle.mr_master.specs.inner.Expiring.{HasExpired}
-use Rattle.mr_master.proofs.Past_stays.{passed-still}
-use Rattle.mr_master.proofs.GivenUp.{stands-expired, sent-expired}
+use Rattle.mr_master.proofs.Standing.{then-stands}
 use Rattle.mr_master.proofs.master.MasterMachine.expire.Goals as goal
 
-pub invariant_of-self-2 : goal.invariant_of-self-2
-invariant_of-self-2 c =
-    passed-still c.self.inside.machine c.expire.new.self (Expires c.args.node) c.self.inside.passed
-    (stands-expired c.self.inside.machine c.expire.new.self c.args.node c.in_ok-packets.packets.items c.in_ok-packets.ensures.expired) c.self.invariant
+pub take-requires : goal.take-requires
+take-requires c = (Expires c.args.node, c.in-Ok.ensures.ready (Expires c.args.node) c.in_ok-prepared.ensures.planned)
 
-pub returns-clause-sent : goal.returns-clause-sent
-returns-clause-sent c =
-    sent-expired c.args.self.now c.expire.new.self c.args.node c.in_ok-packets.packets.items
-    (subst (λ (x : Master). HasExpired x c.args.node c.in_ok-packets.packets.items c.expire.new.self) c.self.view_is c.in_ok-packets.ensures.expired)
+pub returns-in-Ok-clause-stands : goal.returns-in-Ok-clause-stands
+returns-in-Ok-clause-stands c =
+    then-stands c.args.self.now c.reserve.new.self c.take.new.self (Expires c.args.node) c.in-Ok.ensures.still
+    (c.take.ensures.stands (Expires c.args.node) (c.in-Ok.ensures.ready (Expires c.args.node) c.in_ok-prepared.ensures.planned))
 
-pub returns-clause-stands : goal.returns-clause-stands
-returns-clause-stands c =
-    subst (λ (x : Master). Stands x (Expires c.args.node) c.expire.new.self) c.self.view_is
-    (stands-expired c.self.inside.machine c.expire.new.self c.args.node c.in_ok-packets.packets.items c.in_ok-packets.ensures.expired)
+pub returns-in-Ok-clause-sent : goal.returns-in-Ok-clause-sent
+returns-in-Ok-clause-sent c = λ w past k. c.take.ensures.packets ∙ c.in_ok-prepared.ensures.sent w past k
+
+pub returns-in-Err-clause-refused : goal.returns-in-Err-clause-refused
+returns-in-Err-clause-refused c = λ w past k. c.no_memory.ensures ∙ ap (λ (o : Option LaunchFault). unwrap_or o (Task NoMemory)) (c.in_ok-prepared.ensures.allowed w past k)
+
+pub returns-in-Err-clause-unchanged : goal.returns-in-Err-clause-unchanged
+returns-in-Err-clause-unchanged c = c.in-Err.ensures.expiry c.in_ok-prepared.ensures.expiry

@@ -1,24 +1,15 @@
-use Rattle.std.proofs.Common.{sym, subst}
+use Rattle.std.proofs.Common.{◌∙◌}
 use Rattle.mr_master_model.specs.Past.{Hears}
-use Rattle.mr_master_model.specs.Next.{sent}
-use Rattle.mr_master.specs.State.{Master, Answers, Stands}
-use Rattle.mr_master.proofs.Past_stays.{passed-still, passed-more}
-use Rattle.mr_master.proofs.Delivering.{hears-stands}
+use Rattle.mr_master.proofs.Standing.{then-stands}
 use Rattle.mr_master.proofs.master.MasterMachine.hear.Goals as goal
 
-pub invariant_of-self-2 : goal.invariant_of-self-2
-invariant_of-self-2 c =
-    let p = c.args.packet.now in
-    let es = c.args.packets.now in
-    let old = c.self.inside.machine in
-    let asked = subst (λ (x : Master). Answers x (λ w past. sent w past (Hears p)) es) (sym c.self.view_is) c.requires in
-    passed-more c.hear.new.self c.self.inside.passed c.passed-self-inside.result c.passed-self-inside.ensures
-    (passed-still old c.hear.new.self (Hears p) c.self.inside.passed (hears-stands old c.hear.new.self p es c.in_ok-hear.ensures.moves asked) c.self.invariant)
+pub take-requires : goal.take-requires
+take-requires c = (Hears c.args.packet.now, c.in_ok-reserve.ensures.ready (Hears c.args.packet.now) c.in_ok-prepared.ensures.planned)
 
 pub returns-clause-stands : goal.returns-clause-stands
 returns-clause-stands c =
-    let p = c.args.packet.now in
-    let es = c.args.packets.now in
-    let old = c.self.inside.machine in
-    let asked = subst (λ (x : Master). Answers x (λ w past. sent w past (Hears p)) es) (sym c.self.view_is) c.requires in
-    subst (λ (x : Master). Stands x (Hears p) c.hear.new.self) c.self.view_is (hears-stands old c.hear.new.self p es c.in_ok-hear.ensures.moves asked)
+    then-stands c.args.self.now c.reserve.new.self c.take.new.self (Hears c.args.packet.now) c.in_ok-reserve.ensures.still
+    (c.take.ensures.stands (Hears c.args.packet.now) (c.in_ok-reserve.ensures.ready (Hears c.args.packet.now) c.in_ok-prepared.ensures.planned))
+
+pub returns-clause-sent : goal.returns-clause-sent
+returns-clause-sent c = λ w past k. c.take.ensures.packets ∙ c.in_ok-prepared.ensures.sent w past k

@@ -1,25 +1,18 @@
-use Rattle.std.proofs.Common.{subst}
+use Rattle.std.proofs.Common.{sym, ◌∙◌}
 use Rattle.mr_master_model.specs.Past.{Launches}
-use Rattle.mr_master.specs.State.{Master, Stands}
-use Rattle.mr_master.specs.inner.Launching.{HasLaunched}
-use Rattle.mr_master.proofs.Past_stays.{passed-still}
-use Rattle.mr_master.proofs.Entering.{stands-launched, sent-launched}
+use Rattle.mr_master.proofs.Standing.{then-stands}
 use Rattle.mr_master.proofs.master.MasterMachine.launch.Goals as goal
 
-pub launch-requires : goal.launch-requires
-launch-requires c = (c.self.invariant.0, c.self.invariant.1)
+pub take-requires : goal.take-requires
+take-requires c = (Launches c.args.task c.args.node, c.in-Ok.ensures.ready (Launches c.args.task c.args.node) c.in_ok-prepared.ensures.planned)
 
-pub invariant_of-self-2 : goal.invariant_of-self-2
-invariant_of-self-2 c =
-    passed-still c.self.inside.machine c.launch.new.self (Launches c.args.task c.args.node) c.self.inside.passed
-    (stands-launched c.self.inside.machine c.launch.new.self c.args.task c.args.node c.in_ok-packet.packet c.in_ok-packet.ensures.launched) c.self.invariant
+pub returns-in-Ok-clause-stands : goal.returns-in-Ok-clause-stands
+returns-in-Ok-clause-stands c =
+    then-stands c.args.self.now c.reserve.new.self c.take.new.self (Launches c.args.task c.args.node) c.in-Ok.ensures.still
+    (c.take.ensures.stands (Launches c.args.task c.args.node) (c.in-Ok.ensures.ready (Launches c.args.task c.args.node) c.in_ok-prepared.ensures.planned))
 
-pub returns-clause-sent : goal.returns-clause-sent
-returns-clause-sent c =
-    sent-launched c.args.self.now c.launch.new.self c.args.task c.args.node c.in_ok-packet.packet
-    (subst (λ (x : Master). HasLaunched x c.args.task c.args.node c.in_ok-packet.packet c.launch.new.self) c.self.view_is c.in_ok-packet.ensures.launched)
+pub only-requires : goal.only-requires
+only-requires c = (c.in_ok-prepared.ensures.one.0, c.take.ensures.packets ∙ c.in_ok-prepared.ensures.one.1)
 
-pub returns-clause-stands : goal.returns-clause-stands
-returns-clause-stands c =
-    subst (λ (x : Master). Stands x (Launches c.args.task c.args.node) c.launch.new.self) c.self.view_is
-    (stands-launched c.self.inside.machine c.launch.new.self c.args.task c.args.node c.in_ok-packet.packet c.in_ok-packet.ensures.launched)
+pub returns-in-Ok-clause-sent : goal.returns-in-Ok-clause-sent
+returns-in-Ok-clause-sent c = λ w past k. sym c.only.ensures ∙ c.take.ensures.packets ∙ c.in_ok-prepared.ensures.sent w past k

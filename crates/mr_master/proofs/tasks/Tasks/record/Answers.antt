@@ -1,20 +1,10 @@
-use Rattle.std.proofs.Common.{subst, rules}
+use Rattle.std.proofs.Common.{rules}
 use Rattle.mr_task.specs.Calls.{Records}
-use Rattle.mr_master.specs.Tasks.{Tasks, Takes}
-use Rattle.mr_master.proofs.Keeping.{takes_keeps}
+use Rattle.mr_master.proofs.Keeping.{takes-so}
 use Rattle.mr_master.proofs.tasks.Tasks.record.Goals as goal
 
 pub returns : goal.returns
-returns c =
-    let old : Tasks = record { machines = c.self.inside.machines.items } in
-    let new : Tasks = record { machines = c.record_at.new.tasks.items } in
-    subst (λ (x : Tasks). Takes x c.args.place (Records c.args.attempt) new) c.self.view_is (takes_keeps old new c.args.place (Records c.args.attempt) c.record_at.ensures)
+returns c = takes-so c.self.inside.machines.items c.record_at.new.tasks.items c.args.place (Records c.args.attempt) c.self.view_is c.record_at.ensures
 
 pub follow-requires : goal.follow-requires
-follow-requires c = record {
-  before = c.self.inside.machines.items;
-  was = c.self.invariant;
-  within = search rules;
-  call = Records c.args.attempt;
-  takes = c.record_at.ensures;
-}
+follow-requires c = record { before = c.self.inside.machines.items; was = c.self.invariant; within = search rules; call = Records c.args.attempt; takes = c.record_at.ensures }

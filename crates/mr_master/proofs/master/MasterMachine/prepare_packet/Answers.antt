@@ -1,0 +1,13 @@
+use Rattle.std.proofs.Common.{subst}
+use Rattle.mr_master_model.specs.Past.{Hears}
+use Rattle.mr_master_model.specs.Next.{seen}
+use Rattle.mr_master.specs.Prepared.{PlansFor}
+use Rattle.mr_master.specs.State.{Master}
+use Rattle.mr_master.proofs.Keeping.{held}
+use Rattle.mr_master.proofs.master.MasterMachine.prepare_packet.Goals as goal
+
+pub returns-clause-sent : goal.returns-clause-sent
+returns-clause-sent c = λ w past k. c.in_ok-prepared.ensures.sent w (seen w past) (held c.self.view_is k)
+
+pub returns-clause-planned : goal.returns-clause-planned
+returns-clause-planned c = subst (λ (x : Master). PlansFor x (Hears c.args.packet.now) c.in_ok-prepared.prepared) c.self.view_is c.in_ok-prepared.ensures

@@ -1,0 +1,72 @@
+//! What is ready for the answers of the calls that are due while Failing.
+//! These are an append, a flush, and the abort of the job.
+ghost use Rattle.std.specs.Prelude.{◌≡◌, ◌||◌, IfOk};
+ghost use Rattle.mr_master_model.specs.Past.{Fails};
+ghost use Rattle.mr_master.specs.WorkKinds.{passes_abort, aborted};
+ghost use Rattle.mr_master.specs.Answering.{IsDue};
+ghost use Rattle.mr_master.specs.Prepared.{PlansDue};
+
+use crate::change::Change;
+use crate::machine::Machine;
+use crate::prepared::Prepared;
+use crate::store::is_fine;
+use crate::work::Work;
+use mr_master_model::StoreAnswer;
+use mr_names::{Answer, NameFault};
+use std::alloc::AllocError;
+
+impl Machine {
+    // The call that is due while Failing is answered: an append, a flush, or the abort.
+    pub fn ready_failing(
+        &self,
+        is_stable: bool,
+        answer: &StoreAnswer,
+    ) -> Result<Prepared, AllocError>
+        requires fails { self.now.work ≡ Fails is_stable }
+        requires due { IsDue self.now }
+        ensures { IfOk result (λ ready. PlansDue self.now answer.now ready) }
+    {
+        let Some(appends) = self.writing.next() else {
+            let ready = self.becoming(aborted(answer))?;
+            return Ok(ready);
+        };
+        if !is_fine(answer) {
+            let ready = self.becoming(Work::stopped())?;
+            return Ok(ready);
+        }
+        if appends {
+            return Ok(Prepared::silent(self.alloc, Change::Appends));
+        }
+        let unsuccessful = self.writing.is_unsuccessful();
+        let work = Work::fails_so(either(is_stable, unsuccessful));
+        let packets = self.flush_packets()?;
+        Ok(Prepared::new(packets, Change::Flushes(work)))
+    }
+}
+
+// What is next after the abort: it passes, also where there is nothing to delete, and then the job ended.
+fn aborted(answer: &StoreAnswer) -> Work
+    ensures { result ≡ aborted answer.now }
+{
+    if passes_abort(answer) {
+        Work::ends(false)
+    } else {
+        Work::stopped()
+    }
+}
+
+// Whether the abort is done: its delete was made, or there was nothing to delete.
+fn passes_abort(answer: &StoreAnswer) -> bool
+    ensures { result ≡ passes_abort answer.now }
+{
+    match answer {
+        StoreAnswer::Names(Ok(Answer::Done)) | StoreAnswer::Names(Err(NameFault::Missing)) => true,
+        _ => false,
+    }
+}
+
+fn either(a: bool, b: bool) -> bool
+    ensures { result ≡ (a || b) }
+{
+    a || b
+}

@@ -1,0 +1,93 @@
+//! An attempt asks for permission to commit, for the first time or again.
+ghost use Rattle.std.specs.Prelude.{◌≡◌, ◌<◌, length, IfOk, OnOk};
+ghost use Rattle.mr_packet.specs.Sends.{to_container};
+ghost use Rattle.mr_task.specs.Calls.{Asks};
+ghost use Rattle.mr_task.specs.State.{Stands};
+ghost use Rattle.mr_master_model.specs.Readings.{launch_of, tell};
+ghost use Rattle.mr_master_model.specs.Hearing.{after_ask};
+ghost use Rattle.mr_master_model.specs.Sends.{pending_answer};
+ghost use Rattle.mr_master.specs.Taking.{IsTold};
+ghost use Rattle.mr_master.specs.Prepared.{IsAt, Plans};
+ghost use Rattle.mr_master.specs.State.{Moves};
+
+use crate::change::Change;
+use crate::machine::Machine;
+use crate::prepared::Prepared;
+use crate::tasks::Tasks;
+use mr_ids::AttemptId;
+use mr_packet::{ContainerId, Envelope, Packet};
+use mr_tables::to_container;
+use mr_task::TaskMachine;
+use std::alloc::AllocError;
+
+impl Tasks {
+    // A machine as the one at the place would be once the attempt asked.
+    pub fn asked(&self, place: usize, attempt: AttemptId) -> Result<TaskMachine, AllocError>
+        requires { place < length self.now.machines }
+        ensures { IfOk result (λ machine. IsTold self.now.machines place (Asks attempt) machine) }
+    {
+        let task = &self.machines[place];
+        asked(task, attempt)
+    }
+}
+
+// An equal machine, of which the attempt asks.
+fn asked(task: &TaskMachine, attempt: AttemptId) -> Result<TaskMachine, AllocError>
+    ensures { IfOk result (λ machine. Stands task.now (Asks attempt) machine) }
+{
+    let Ok(mut copy) = task.copy() else {
+        return Err(AllocError);
+    };
+    ask(&mut copy, attempt)?;
+    Ok(copy)
+}
+
+fn ask(task: &mut TaskMachine, attempt: AttemptId) -> Result<(), AllocError>
+    ensures { OnOk result (Stands task.old (Asks attempt) task.new) }
+{
+    match task.pending(attempt) {
+        Ok(()) => Ok(()),
+        Err(_) => Err(AllocError),
+    }
+}
+
+impl Machine {
+    // The attempt is answered whether it is named once it asked.
+    pub fn prepare_ask(&self, attempt: AttemptId) -> Result<Prepared, AllocError>
+        ensures { IfOk result (λ ready. Plans self.now ready (λ w s. pending_answer w s attempt) (λ w s. after_ask s attempt (launch_of w s attempt))) }
+    {
+        let Some((place, launch)) = self.known(attempt) else {
+            return Ok(Prepared::silent(self.alloc, Change::Nothing));
+        };
+        let may = self.tasks.would_name(place, attempt);
+        let machine = self.tasks.asked(place, attempt)?;
+        let ready = Prepared::of_one(
+            self.alloc,
+            answer(launch.container, attempt, may),
+            Change::Asks(place, attempt, machine),
+        )?;
+        Ok(ready)
+    }
+
+    // The attempt asked.
+    pub fn asks(&mut self, place: usize, attempt: AttemptId, machine: TaskMachine)
+        requires at { IsAt self.old place attempt }
+        requires told { IsTold self.old.tasks.machines place (Asks attempt) machine }
+        ensures { Moves self.old (λ w s. tell s attempt.task (Asks attempt)) self.new }
+    {
+        self.tasks.put(place, machine);
+    }
+}
+
+// Whether the attempt may commit.
+fn answer(container: ContainerId, attempt: AttemptId, may: bool) -> Envelope
+    ensures { result ≡ to_container container (Packet.Answer attempt may) }
+{
+    to_container(
+        container,
+        Packet::Answer {
+            a: attempt,
+            yes: may,
+        },
+    )
+}
