@@ -1,10 +1,9 @@
 -- A master's store call: when it can be made, and what the parts stand for once the master heard its answer.
-use Rattle.std.proofs.Common.{◌≡◌, ◌≤◌, ℕ, refl, sym, ◌∙◌, ap, ap₂, subst, Bool, true, false, ◌&&◌, not, Option, Some, None, if◌then◌else◌, is_some, nat_lt, length, arith, Result, Ok, Err, IfErr, IsErrAnd}
+use Rattle.std.proofs.Common.{◌≡◌, ◌≤◌, ℕ, refl, sym, ◌∙◌, ap, ap₂, subst, Bool, true, false, ◌&&◌, not, Option, Some, None, if◌then◌else◌, is_some, nat_lt, arith, Result, Ok, Err, IfErr, IsErrAnd}
 use Rattle.std.proofs.lemmas.Bool.Decides.{nat_tests}
 use Rattle.std.proofs.lemmas.Result.{err_from_is_err_and}
 use Rattle.std.specs.Option.{option_map}
 use Rattle.mr_names.specs.Calls as names
-use Rattle.mr_history.specs.declared.fault.HistoryFault.TheVariants as history_fault
 use Rattle.mr_history.specs.Line.{InRange, fits, suits}
 use Rattle.mr_history.specs.State as history
 use Rattle.mr_history.specs.Calls as segments
@@ -14,7 +13,8 @@ use Rattle.mr_master_model.specs.Duty as due
 use Rattle.mr_master_model.specs.Next as next
 use Rattle.mr_master_model.specs.declared.store.StoreCall.{StoreCall}
 use Rattle.mr_master_model.specs.declared.store.StoreAnswer.{StoreAnswer}
-use Rattle.mr_master.specs.Ready.{Ready}
+use Rattle.mr_master_model.specs.Past.{Step, Answered}
+use Rattle.mr_master.specs.Prepared.{Prepared}
 use Rattle.mr_master.specs.State as master
 use Rattle.mr_model.specs.Bytes.{Tells}
 use Rattle.mr_model.specs.Effect.{effect, not_now}
@@ -36,14 +36,15 @@ use Rattle.mr_world.specs.declared.fault.WorldFault.{WorldFault}
 use Rattle.mr_world.specs.declared.fault.WorldFault.TheVariants as fault
 use Rattle.mr_world.specs.declared.masters.Masters.{Masters}
 use Rattle.mr_world.specs.declared.parts.Parts.{Parts}
-use Rattle.mr_world.specs.inner.Asking.{answer_to, names_after, history_after, passes, IsRanged, IsSuited, HasAsked, IsForeseen, RefusesDuty, ForeseesDuty, SendsThen}
-use Rattle.mr_world.specs.inner.Duties.{IsDue, HasDuty, IsSet, HasTold, MakesReady, says_then, fits_then}
+use Rattle.mr_world.specs.inner.Asking.{answer_to, names_after, history_after, passes, IsRanged, IsSuited, HasAsked, IsForeseen, RefusesDuty, ForeseesDuty}
+use Rattle.mr_world.specs.inner.Duties.{IsDue, HasDuty, IsSet, HasTaken, PlansAnswer, says_then, fits_then}
 use Rattle.mr_world.specs.Limits.{within, fits_bag, fits_store}
 use Rattle.mr_world.specs.Machines.{master_of}
 use Rattle.mr_world.specs.Standing.{Standing, Reached, IsTaken, Refuses, RefusesEvent, Foresees, Tries}
-use Rattle.mr_world.proofs.Attending.{history-agrees, told-stands, allowed, limit-is, bag-alone, says-then}
+use Rattle.mr_world.proofs.Attending.{history-agrees, told-stands, allowed, limit-is, bag-alone}
+use Rattle.mr_world.proofs.Histories.{read-left}
 use Rattle.mr_world.proofs.Filling.{is_let, let-is, names-free, append-free, call-fits}
-use Rattle.mr_world.proofs.Refusals.{NeedsRoom, refuses-now, refuses-memory}
+use Rattle.mr_world.proofs.Refusals.{refuses-now, refuses-memory}
 use Rattle.mr_world.proofs.Stepping.{agrees}
 
 -- ---- which call is due
@@ -162,13 +163,6 @@ call-agrees p w k f (Append_record r) s alive d range free = history-alone f (hi
 call-agrees p w k f Flush s alive d range free = history-alone f (history-agrees p.names p.history k f Flush segments.Flush s.reached s.stores alive d refl (λ applied. tt))
 call-agrees p w k f Read_history s alive d range free = names-alone-too f (history-agrees p.names p.history k f Read_history segments.Read s.reached s.stores alive d refl (λ applied. tt))
   where
-    read-left : (h : history.State) (k : ℕ) → (segments.call_of h k segments.Read).1 ≡ h
-    read-left h k = by (nat_lt k h.fence)
-      where
-        by : (b : Bool) → (segments.settled (if b then Some (history_fault.Superseded h.fence) else None) h k segments.Read).1 ≡ h
-        by true = refl
-        by false = refl
-
     names-alone-too : (f : Weather) → CallAgrees p.config w k f Read_history (answer_to p.names p.history k (store_call Read_history)) p.names (left_in f p.history (segments.call_of p.history k segments.Read).1)
         → CallAgrees p.config w k f Read_history (answer_to p.names p.history k (store_call Read_history)) (left_in f p.names p.names) (left_in f p.history p.history)
     names-alone-too f c = history-alone f (subst (λ (x : history.State). CallAgrees p.config w k f Read_history (answer_to p.names p.history k (store_call Read_history)) p.names (left_in f p.history x)) (read-left p.history k) c)
@@ -236,10 +230,6 @@ suited-so p w k app c called h s has is same = subst (λ j. IsSuited h j called)
 pub if-err : {A : Type 0} (P : WorldFault → Type 0) (r : Result A WorldFault) (g : WorldFault) → P g → IsErrAnd r (λ x. x ≡ g) → IfErr r P
 if-err {A} P r g p is = let q = err_from_is_err_and r is in subst (λ (z : Result A WorldFault). IfErr z P) (sym q.1) (subst P (sym q.2) p)
 
-pub refused-so : {A : Type 0} (p : Parts) (k : ℕ) (f : Weather) (r : Result A WorldFault) (g : WorldFault) → RefusesDuty p k f g → IsErrAnd r (λ x. x ≡ g) → Foresees p (Duty k f) r
-refused-so {A} p k f r g why is = let q = err_from_is_err_and r is in
-    subst (λ (z : Result A WorldFault). Foresees {A = A} p (Duty k f) z) (sym q.1) (subst (λ x. Foresees {A = A} p (Duty k f) (Err x)) (sym q.2) why)
-
 pub unchanged-so : {A : Type 0} (p q : Parts) (k : ℕ) (f : Weather) (r : Result A WorldFault) (g : WorldFault) → ((w : World) → Standing p w → RefusesEvent p.config w (Duty k f) g × Standing q w)
     → IsErrAnd r (λ x. x ≡ g) → Tries p (Duty k f) r q
 unchanged-so {A} p q k f r g why is = let z = err_from_is_err_and r is in
@@ -268,60 +258,58 @@ limit-of : (p : Parts) (w : World) (k : ℕ) (f : Weather) (c : StoreCall) (a : 
     → within p.config w (Duty k f) ≡ fits_then p.config w k a
 limit-of p w k f c a s m told = bag-alone p.config w k f m.call (answer_to p.names p.history k c) _ _ s.reached m.alive m.due m.fits m.agrees ∙ ap (fits_then p.config w k) (sym told)
 
--- a look needs room for what is sent then
-pub needs : (p : Parts) (k : ℕ) (f : Weather) (c : StoreCall) (a : StoreAnswer) (n : ℕ) → IsForeseen p k f c a → SendsThen p.masters k a n → (w : World) → Standing p w → NeedsRoom p w (Duty k f) n
-needs p k f c a n i sends w s = let m = asks p k f c a i w s in record {
-  now = now-of p w k f c m;
-  limit = limit-is p.config w k f m.call m.due ∙ ap (λ b. b && fits_bag p.config w (Duty k f)) m.fits;
-  count = sym (count-of (master_of p.masters k) refl i.due.kept ∙ ap length (ap (says_then p.config w k) i.told ∙ says-then k f m.call (answer_to p.names p.history k c) _ _ s.reached m.due (now-of p w k f c m) m.agrees));
-}
-  where
-    count-of : (o : Option master.Master) → master_of p.masters k ≡ o → is_some (master_of p.masters k) ≡ true → n ≡ length (says_then p.config w k a)
-    count-of (Some m) at e = sends m at (setting p.config k) (steps (w.master_past k)) (s.masters.machines k m at)
-    count-of None at e = let z : is_some (master_of p.masters k) ≡ false = ap is_some at in cc
-
 pub wants-memory : (p : Parts) (k : ℕ) (f : Weather) (c : StoreCall) (a : StoreAnswer) → IsForeseen p k f c a → (w : World) → Standing p w → not_now p.config w (Duty k f) ≡ None
 wants-memory p k f c a i w s = now-of p w k f c (asks p k f c a i w s)
 
--- ---- the event: p were made ready, and were then q
+-- what is planned for the answer finds no room, or memory was refused
+pub not-planned : (p : Parts) (k : ℕ) (f : Weather) (c : StoreCall) (a : StoreAnswer) (g : WorldFault) → IsForeseen p k f c a → PlansAnswer p k a (Err g) → (w : World) → Standing p w → RefusesEvent p.config w (Duty k f) g
+not-planned p k f c a g i plans w s = let m = asks p k f c a i w s in
+    subst (λ o. Refuses o (within p.config w (Duty k f)) true g) (sym (now-of p w k f c m)) (subst (λ b. Refuses None b true g) (sym (limit-of p w k f c a s m i.told)) (plans w s))
 
--- the machine could not be made ready
-pub not-ready : (p q : Parts) (k : ℕ) (f : Weather) (c : StoreCall) (a : StoreAnswer) (g : WorldFault) → IsForeseen p k f c a → MakesReady p k a (Err g) q
-    → (w : World) → Standing p w → RefusesEvent p.config w (Duty k f) g × Standing q w
-not-ready p q k f c a g i makes w s = let m = asks p k f c a i w s in let y = makes w s in (
-  subst (λ o. Refuses o (within p.config w (Duty k f)) true g) (sym (now-of p w k f c m)) (subst (λ b. Refuses None b true g) (sym (limit-of p w k f c a s m i.told)) y.0),
-  y.1,
-)
+-- the same as the exit of a `?` answers it
+pub not-foreseen : {A : Type 0} (p : Parts) (k : ℕ) (f : Weather) (r : Result A WorldFault) (g : WorldFault) → ((w : World) → Standing p w → RefusesEvent p.config w (Duty k f) g) → IsErrAnd r (λ x. x ≡ g) → Foresees p (Duty k f) r
+not-foreseen {A} p k f r g why is = let z = err_from_is_err_and r is in
+    subst (λ (y : Result A WorldFault). Foresees {A = A} p (Duty k f) y) (sym z.1) (subst (λ x. Foresees {A = A} p (Duty k f) (Err x)) (sym z.2) why)
 
--- the stores had no memory for the call
-pub not-asked : (p q r : Parts) (k : ℕ) (f : Weather) (c : StoreCall) (a : StoreAnswer) (ready : Ready) → IsForeseen p k f c a → MakesReady p k a (Ok ready) q → r ≡ q
-    → (w : World) → Standing p w → RefusesEvent p.config w (Duty k f) fault.NoMemory × Standing r w
-not-asked p q r k f c a ready i makes same w s = (refuses-memory _ (wants-memory p k f c a i w s) refl, subst (λ (z : Parts). Standing z w) (sym same) (makes.1 w s).0)
+pub planned : (p : Parts) (k : ℕ) (f : Weather) (c : StoreCall) (a : StoreAnswer) (r : Prepared) → IsForeseen p k f c a → PlansAnswer p k a (Ok r) → (w : World) → Standing p w → IsTaken p.config w (Duty k f)
+planned p k f c a r i plans w s = let m = asks p k f c a i w s in record { now = now-of p w k f c m; fits = limit-of p w k f c a s m i.told ∙ (plans.1 w s).1 }
+
+-- ---- the event: room was made in p, which were then q
+
+-- there was no memory for the room, or for the call
+pub not-asked : (p q : Parts) (k : ℕ) (f : Weather) (c : StoreCall) (a : StoreAnswer) → IsForeseen p k f c a → ((w : World) → Standing p w → Standing q w)
+    → (w : World) → Standing p w → RefusesEvent p.config w (Duty k f) fault.NoMemory × Standing q w
+not-asked p q k f c a i still w s = (refuses-memory _ (wants-memory p k f c a i w s) refl, still w s)
 
 -- the call was made
 left-so : (q r : Parts) (k : ℕ) (f : Weather) (c : StoreCall) → HasAsked q k f c r → r ≡ record q { names = left_in f q.names (names_after q.names k c); history = left_in f q.history (history_after q.history k c) }
 left-so q r k f c h = h.rest ∙ ap₂ (λ n x. record q { names = n; history = x }) h.names h.history
 
-heard : (p r t : Parts) (masters : Masters) (bag : Held) (k : ℕ) (f : Weather) (c : StoreCall) (a : StoreAnswer) (ready : Ready) → IsForeseen p k f c a → MakesReady p k a (Ok ready) (record p { masters = masters; bag = bag })
-    → HasAsked (record p { masters = masters; bag = bag }) k f c r → ((b : StoreAnswer) → IsSet r k b ready → HasTold r k b ready t)
+heard : (p r t : Parts) (masters : Masters) (bag : Held) (k : ℕ) (f : Weather) (c : StoreCall) (a : StoreAnswer) (x : Prepared) → IsForeseen p k f c a → PlansAnswer p k a (Ok x)
+    → ((w : World) → Standing p w → Standing (record p { masters = masters; bag = bag }) w) → IsSet (record p { masters = masters; bag = bag }) k (Answered a) x
+    → HasAsked (record p { masters = masters; bag = bag }) k f c r → ((step : Step) → IsSet r k step x → HasTaken r k step x t)
     → (w : World) → Standing p w → IsTaken p.config w (Duty k f) × Standing t (effect p.config w (Duty k f))
-heard p r t masters bag k f c a ready i makes h told w s =
+heard p r t masters bag k f c a x i plans still set h told w s =
     let q : Parts = record p { masters = masters; bag = bag } in
-    let m = asks p k f c a i w s in let y = makes.1 w s in let is = left-so q r k f c h in
+    let m = asks p k f c a i w s in let is = left-so q r k f c h in
     let names = left_in f p.names (names_after p.names k c) in let history = left_in f p.history (history_after p.history k c) in
-    let taken : IsTaken p.config w (Duty k f) = record { now = now-of p w k f c m; fits = limit-of p w k f c a s m i.told ∙ y.2 } in
-    let ready-now : IsSet (record q { names = names; history = history }) k a ready = record { machine = makes.0.machine; spare = makes.0.spare; room = makes.0.room } in
-    let heard-now : HasTold (record q { names = names; history = history }) k a ready t = subst (λ (z : Parts). HasTold z k a ready t) is (told a (subst (λ (z : Parts). IsSet z k a ready) (sym is) ready-now)) in (
+    let taken = planned p k f c a x i plans w s in
+    let set-now : IsSet (record q { names = names; history = history }) k (Answered a) x = record { machine = set.machine; spare = set.spare; room = set.room } in
+    let told-now : HasTaken (record q { names = names; history = history }) k (Answered a) x t = subst (λ (z : Parts). HasTaken z k (Answered a) x t) is (told (Answered a) (subst (λ (z : Parts). IsSet z k (Answered a) x) (sym is) set-now)) in (
       taken,
-      told-stands q t w k f m.call (answer_to p.names p.history k c) ready names history y.0 taken m.due m.agrees (y.1 ∙ ap (says_then p.config w k) i.told)
-          (subst (λ b. HasTold (record q { names = names; history = history }) k b ready t) i.told heard-now),
+      told-stands q t w k f m.call (answer_to p.names p.history k c) x names history (still w s) taken m.due m.agrees ((plans.1 w s).0 ∙ ap (says_then p.config w k) i.told)
+          (subst (λ b. HasTaken (record q { names = names; history = history }) k (Answered b) x t) i.told told-now),
     )
 
-pub asked : (p q r t : Parts) (k : ℕ) (f : Weather) (c : StoreCall) (a : StoreAnswer) (ready : Ready) → IsForeseen p k f c a → MakesReady p k a (Ok ready) q → q ≡ record p { masters = q.masters; bag = q.bag }
-    → HasAsked q k f c r → ((b : StoreAnswer) → IsSet r k b ready → HasTold r k b ready t)
+pub asked : (p q r t : Parts) (k : ℕ) (f : Weather) (c : StoreCall) (a : StoreAnswer) (x : Prepared) → IsForeseen p k f c a → PlansAnswer p k a (Ok x) → q ≡ record p { masters = q.masters; bag = q.bag }
+    → ((w : World) → Standing p w → Standing q w) → IsSet q k (Answered a) x → HasAsked q k f c r → ((step : Step) → IsSet r k step x → HasTaken r k step x t)
     → (w : World) → Standing p w → IsTaken p.config w (Duty k f) × Standing t (effect p.config w (Duty k f))
-asked p q r t k f c a ready i makes rest h told = heard p r t q.masters q.bag k f c a ready i
-    (subst (λ (z : Parts). MakesReady p k a (Ok ready) z) rest makes) (subst (λ (z : Parts). HasAsked z k f c r) rest h) told
+asked p q r t k f c a x i plans rest still set h told = heard p r t q.masters q.bag k f c a x i plans
+    (λ w s. subst (λ (z : Parts). Standing z w) rest (still w s)) (subst (λ (z : Parts). IsSet z k (Answered a) x) rest set) (subst (λ (z : Parts). HasAsked z k f c r) rest h) told
+
+-- the parts stand for what they stood for, also where the call found no memory
+pub still-so : (p q r : Parts) → ((w : World) → Standing p w → Standing q w) → r ≡ q → (w : World) → Standing p w → Standing r w
+still-so p q r still same w s = subst (λ (z : Parts). Standing z w) (sym same) (still w s)
 
 -- the call that was made is the one that is due
 pub of-due : (q r : Parts) (k app : ℕ) (f : Weather) (c called : StoreCall) → app ≡ k → called ≡ c → HasAsked q app f called r → HasAsked q k f c r

@@ -1,5 +1,5 @@
--- A master has its store call made: what is ready before, and what the parts stand for once it heard the answer.
-use Rattle.std.proofs.Common.{◌≡◌, ◌≤◌, ◌<◌, ℕ, ◌+◌, refl, sym, ◌∙◌, ap, subst, Bool, true, false, ◌&&◌, List, ◌++◌, Option, Some, None, if◌then◌else◌, is_some, nat_eq, nat_le, length, arith, Result, Ok, Err, IfOk, OnErr, IsErrAnd}
+-- A master takes a step: what is planned before, and what the parts stand for then; and the same of the answer of its store call.
+use Rattle.std.proofs.Common.{◌≡◌, ◌≤◌, ◌<◌, ℕ, ◌+◌, refl, sym, ◌∙◌, ap, subst, Bool, true, false, ◌&&◌, List, ◌++◌, Some, None, if◌then◌else◌, is_some, nat_eq, nat_le, length, arith, Result, Ok, Err, IfOk, OnOk, IsErrAnd, Option}
 use Rattle.std.proofs.lemmas.Bool.{le-leb, lt-leb}
 use Rattle.std.proofs.lemmas.Bool.Decides.{nat_tests}
 use Rattle.std.proofs.lemmas.Result.{err_from_is_err_and}
@@ -14,7 +14,7 @@ use Rattle.mr_master_model.specs.declared.store.StoreAnswer.{StoreAnswer}
 use Rattle.mr_master_model.specs.Next as next
 use Rattle.mr_master_model.specs.Past as machine
 use Rattle.mr_master.specs.State as master
-use Rattle.mr_master.specs.Ready.{Ready, IsReady, IsReadyForSome}
+use Rattle.mr_master.specs.Prepared.{Prepared, PlansFor, IsReadyFor}
 use Rattle.mr_model.specs.Packets.{Config, Store}
 use Rattle.mr_model.specs.Duties.{Asks}
 use Rattle.mr_model.specs.World.{World, Weather, Duty, call_of, duty, duty_made, is_applied, reply_of, reply_under}
@@ -29,43 +29,19 @@ use Rattle.mr_world.specs.declared.fault.WorldFault.{WorldFault}
 use Rattle.mr_world.specs.declared.fault.WorldFault.TheVariants as fault
 use Rattle.mr_world.specs.declared.masters.Masters.{Masters}
 use Rattle.mr_world.specs.declared.parts.Parts.{Parts}
-use Rattle.mr_world.specs.inner.Duties.{IsKept, IsMadeReady, IsReadyAt, HasHeard, HasTold, MakesReady, says_then, fits_then}
+use Rattle.mr_world.specs.inner.Duties.{IsKept, IsPlannedAt, IsReadyAt, HasActed, IsReserved, IsReadyIn, ActsIn, IsSet, HasTaken, PlansAnswer, says_then, fits_then}
 use Rattle.mr_world.specs.Machines.{master_of}
-use Rattle.mr_world.specs.inner.Masters.{Ceases, Returns}
+use Rattle.mr_world.specs.inner.Masters.{Returns}
 use Rattle.mr_world.specs.Limits.{within, fits_bag, fits_call, fits_store, launch_count}
 use Rattle.mr_world.specs.Standing.{Standing, Reached, IsTaken, Refuses}
 use Rattle.mr_world.proofs.Refusals.{refuses-full, refuses-memory}
 use Rattle.mr_world.proofs.Mastering.{goes-on, is-generation}
-use Rattle.mr_world.proofs.Stepping.{masters-step, masters-still, swapped, launches-add, other-steps}
+use Rattle.mr_world.proofs.Stepping.{masters-step, masters-still, launches-add, other-steps}
 
--- ---- a machine that was taken out is put back
-
-pub kept : (old mid new : Masters) (k : ℕ) (before after : master.Master) → Some before ≡ master_of old k → Ceases old k mid → Returns mid k after new → master.StandsStill before after → IsKept old k new
-kept old mid new k before after at out back still = record { before = before; after = after; at = sym at; returns = swapped old mid new k after out back; still = still }
-
-pub kept-if : (old mid new : Masters) (k : ℕ) (before after : master.Master) (r : Result Ready AllocError) → Some before ≡ master_of old k → Ceases old k mid → Returns mid k after new → master.StandsStill before after → OnErr r (IsKept old k new)
-kept-if old mid new k before after (Ok x) at out back still = tt
-kept-if old mid new k before after (Err e) at out back still = kept old mid new k before after at out back still
-
-pub made : (old mid new : Masters) (k : ℕ) (a : StoreAnswer) (before after : master.Master) (r : Result Ready AllocError) → Some before ≡ master_of old k → Ceases old k mid → Returns mid k after new → master.StandsStill before after
-    → IfOk r (λ x. master.Answers before (λ w past. next.sent w past (machine.Answered a)) x.packets) → IfOk r (λ x. IsReady after a x) → IfOk r (λ x. IsMadeReady old k a x new)
-made old mid new k a before after (Ok x) at out back still says is = record { before = before; after = after; at = sym at; returns = swapped old mid new k after out back; still = still; sent = says; ready = is }
-made old mid new k a before after (Err e) at out back still says is = tt
+-- ---- the machine at a place
 
 same-machine : (masters : Masters) (k : ℕ) (m n : master.Master) → Some m ≡ master_of masters k → master_of masters k ≡ Some n → m ≡ n
 same-machine masters k m n e f = let g : Some m ≡ Some n = e ∙ f in cc
-
-ready-here : (masters : Masters) (k : ℕ) (a : StoreAnswer) (r : Ready) (m : master.Master) → Some m ≡ master_of masters k → IsReadyAt masters k a r → IsReady m a r
-ready-here masters k a r m at is = subst (λ n. IsReady n a r) (sym (same-machine masters k m is.machine at is.at)) is.ready
-
-pub ready-for-some : (masters : Masters) (k : ℕ) (r : Ready) (m : master.Master) → Some m ≡ master_of masters k → (a : StoreAnswer) × IsReadyAt masters k a r → IsReadyForSome m r
-ready-for-some masters k r m at is = (is.0, ready-here masters k is.0 r m at is.1)
-
-pub hears : (old mid new : Masters) (k : ℕ) (r : Ready) (before after : master.Master) → Some before ≡ master_of old k → Ceases old k mid → Returns mid k after new
-    → ((a : StoreAnswer) → IsReady before a r → master.Stands before (machine.Answered a) after) → (a : StoreAnswer) → IsReadyAt old k a r → HasHeard old k a new
-hears old mid new k r before after at out back step a is = record { before = before; after = after; at = sym at; returns = swapped old mid new k after out back; stands = step a (ready-here old k a r before at is) }
-
--- ---- parts that are made ready
 
 same-eq : (k : ℕ) → nat_eq k k ≡ true
 same-eq k = grind (arith, nat_tests)
@@ -73,7 +49,42 @@ same-eq k = grind (arith, nat_tests)
 is-there : (old : Masters) (k : ℕ) (m : master.Master) (new : Masters) → Returns old k m new → master_of new k ≡ Some m
 is-there old k m new p = p.kept k ∙ ap (λ (b : Bool). if b then Some m else master_of old k) (same-eq k)
 
-stands-still : (p : Parts) (w : World) (k : ℕ) (masters : Masters) (bag : Held) → Standing p w → IsKept p.masters k masters → bag.packets ≡ p.bag.packets → Standing (record p { masters = masters; bag = bag }) w
+-- ---- a step of a master
+
+pub planned-at : {E : Type 0} (masters : Masters) (k : ℕ) (step : machine.Step) (m : master.Master) (r : Result Prepared E) → master_of masters k ≡ Some m → IfOk r (λ p. PlansFor m step p) → IfOk r (λ p. IsPlannedAt masters k step p)
+planned-at masters k step m (Ok p) at is = record { machine = m; at = at; planned = is }
+planned-at masters k step m (Err e) at is = tt
+
+-- room was made in the machine, which was at place a and is at place b then
+pub kept : (old new : Masters) (k : ℕ) {p : Prepared} {r : Result (Unit {0}) AllocError} {a b : Option master.Master} → master_of old k ≡ a → (x : IsReserved a p r b) → Returns old k x.after new → IsKept old k new
+kept old new k at x back = record { before = x.before; after = x.after; at = at ∙ x.was; returns = back; still = x.still }
+
+pub ready-at : (old new : Masters) (k : ℕ) (p : Prepared) (r : Result (Unit {0}) AllocError) {a b : Option master.Master} → master_of old k ≡ a → (x : IsReserved a p r b) → Returns old k x.after new
+    → OnOk r ((step : machine.Step) → IsPlannedAt old k step p → IsReadyAt new k step p)
+ready-at old new k p (Ok u) at x back = λ step is. record {
+  machine = x.after;
+  at = is-there old k x.after new back;
+  ready = x.ready step (subst (λ m. PlansFor m step p) (sym (same-machine old k x.before is.machine (sym (at ∙ x.was)) is.at)) is.planned);
+}
+ready-at old new k p (Err e) at x back = tt
+
+pub ready-here : (masters : Masters) (k : ℕ) (step : machine.Step) (p : Prepared) (m : master.Master) → Some m ≡ master_of masters k → IsReadyAt masters k step p → IsReadyFor m step p
+ready-here masters k step p m at is = subst (λ n. IsReadyFor n step p) (sym (same-machine masters k m is.machine at is.at)) is.ready
+
+-- it takes the step
+pub ready-in : (masters : Masters) (k : ℕ) (p : Prepared) (a : Option master.Master) → master_of masters k ≡ a → (step : machine.Step) → IsReadyAt masters k step p → IsReadyIn a p
+ready-in masters k p a at step is = record { machine = is.machine; is = sym at ∙ is.at; step = step; ready = is.ready }
+
+pub acts : (old new : Masters) (k : ℕ) (p : Prepared) {a b : Option master.Master} → master_of old k ≡ a → (x : ActsIn a p b) → Returns old k x.after new → (step : machine.Step) → IsReadyAt old k step p → HasActed old k step new
+acts old new k p at x back step is = record { before = x.before; after = x.after; at = at ∙ x.was; returns = back; stands = x.stands step (ready-here old k step p x.before (sym (at ∙ x.was)) is) }
+
+-- of the machine that acts, what it says
+pub says-at : (masters : Masters) (k : ℕ) (step : machine.Step) (p : Prepared) (m : master.Master) → IsReadyAt masters k step p → master_of masters k ≡ Some m → master.Answers m (λ w past. next.sent w past step) p.packets
+says-at masters k step p m is at w past stands = (ready-here masters k step p m (sym at) is).0.sent w (next.seen w past) stands
+
+-- ---- parts in which room is made
+
+pub stands-still : (p : Parts) (w : World) (k : ℕ) (masters : Masters) (bag : Held) → Standing p w → IsKept p.masters k masters → bag.packets ≡ p.bag.packets → Standing (record p { masters = masters; bag = bag }) w
 stands-still p w k masters bag s i b = record {
   reached = s.reached;
   dest = s.dest;
@@ -85,42 +96,36 @@ stands-still p w k masters bag s i b = record {
   launched = s.launched;
 }
 
-as-kept : {old new : Masters} {k : ℕ} {a : StoreAnswer} {r : Ready} → IsMadeReady old k a r new → IsKept old k new
-as-kept m = record { before = m.before; after = m.after; at = m.at; returns = m.returns; still = m.still }
+pub bag-still : (p : Parts) (w : World) (bag : Held) → Standing p w → bag.packets ≡ p.bag.packets → Standing (record p { bag = bag }) w
+bag-still p w bag s b = record { reached = s.reached; dest = s.dest; stores = s.stores; bag = b ∙ s.bag; living = s.living; nodes = s.nodes; masters = s.masters; launched = s.launched }
 
-says-these : (p : Parts) (w : World) (k : ℕ) (a : StoreAnswer) (r : Ready) (new : Masters) → Standing p w → IsMadeReady p.masters k a r new → r.packets ≡ says_then p.config w k a
-says-these p w k a r new s m = m.sent (setting p.config k) (steps (w.master_past k)) (s.masters.machines k m.before m.at)
+pub all-set : (old : Parts) (k : ℕ) (p : Prepared) (masters : Masters) (bag : Held) → ((step : machine.Step) → IsPlannedAt old.masters k step p → IsReadyAt masters k step p) → length p.packets ≤ bag.spare
+    → bag.packets ≡ old.bag.packets → length old.bag.packets + length p.packets ≤ MAX_PACKETS → (step : machine.Step) → IsPlannedAt old.masters k step p → IsSet (record old { masters = masters; bag = bag }) k step p
+all-set old k p masters bag ready spare b room step is = record { machine = ready step is; spare = spare; room = subst (λ (es : List Envelope). length es + length p.packets ≤ MAX_PACKETS) (sym b) room }
 
-fits : (p : Parts) (w : World) (k : ℕ) (a : StoreAnswer) (r : Ready) → Standing p w → r.packets ≡ says_then p.config w k a → length p.bag.packets + length r.packets ≤ MAX_PACKETS → fits_then p.config w k a ≡ true
+-- ---- an answer is planned
+
+says-these : (p : Parts) (w : World) (k : ℕ) (a : StoreAnswer) (r : Prepared) → Standing p w → IsPlannedAt p.masters k (machine.Answered a) r → r.packets ≡ says_then p.config w k a
+says-these p w k a r s i = i.planned.sent (setting p.config k) (next.seen (setting p.config k) (steps (w.master_past k))) (s.masters.machines k i.machine i.at)
+
+fits : (p : Parts) (w : World) (k : ℕ) (a : StoreAnswer) (r : Prepared) → Standing p w → r.packets ≡ says_then p.config w k a → length p.bag.packets + length r.packets ≤ MAX_PACKETS → fits_then p.config w k a ≡ true
 fits p w k a r s is room = le-leb _ _ (subst (λ (es : List Envelope). length w.bag + length es ≤ MAX_PACKETS) is (subst (λ (es : List Envelope). length es + length r.packets ≤ MAX_PACKETS) s.bag room))
 
-fits-not : (p : Parts) (w : World) (k : ℕ) (a : StoreAnswer) (r : Ready) → Standing p w → r.packets ≡ says_then p.config w k a → MAX_PACKETS < length p.bag.packets + length r.packets → fits_then p.config w k a ≡ false
+fits-not : (p : Parts) (w : World) (k : ℕ) (a : StoreAnswer) (r : Prepared) → Standing p w → r.packets ≡ says_then p.config w k a → MAX_PACKETS < length p.bag.packets + length r.packets → fits_then p.config w k a ≡ false
 fits-not p w k a r s is many = lt-leb _ _ (subst (λ (es : List Envelope). MAX_PACKETS < length w.bag + length es) is (subst (λ (es : List Envelope). MAX_PACKETS < length es + length r.packets) s.bag many))
 
-err-made : (p q : Parts) (k : ℕ) (a : StoreAnswer) (x : Result Ready WorldFault) (f : WorldFault) → IsErrAnd x (λ g. g ≡ f)
-    → ((w : World) → Standing p w → Refuses None (fits_then p.config w k a) true f × Standing q w) → MakesReady p k a x q
-err-made p q k a x f g why = let z = err_from_is_err_and x g in subst (λ (y : Result Ready WorldFault). MakesReady p k a y q) (sym z.1) (subst (λ e. MakesReady p k a (Err e) q) (sym z.2) why)
+err-planned : (p : Parts) (k : ℕ) (a : StoreAnswer) (x : Result Prepared WorldFault) (f : WorldFault) → IsErrAnd x (λ g. g ≡ f) → ((w : World) → Standing p w → Refuses None (fits_then p.config w k a) true f) → PlansAnswer p k a x
+err-planned p k a x f g why = let z = err_from_is_err_and x g in subst (λ (y : Result Prepared WorldFault). PlansAnswer p k a y) (sym z.1) (subst (λ e. PlansAnswer p k a (Err e)) (sym z.2) why)
 
-pub not-ready : (p : Parts) (k : ℕ) (a : StoreAnswer) (x : Result Ready WorldFault) (masters : Masters) → IsKept p.masters k masters → IsErrAnd x (λ g. g ≡ fault.NoMemory) → MakesReady p k a x (record p { masters = masters })
-not-ready p k a x masters i g = err-made p (record p { masters = masters }) k a x fault.NoMemory g (λ w s. (refuses-memory _ refl refl, stands-still p w k masters p.bag s i refl))
+pub no-memory : (p : Parts) (k : ℕ) (a : StoreAnswer) (x : Result Prepared WorldFault) → IsErrAnd x (λ g. g ≡ fault.NoMemory) → PlansAnswer p k a x
+no-memory p k a x g = err-planned p k a x fault.NoMemory g (λ w s. refuses-memory _ refl refl)
 
-pub no-room : (p : Parts) (k : ℕ) (a : StoreAnswer) (r : Ready) (x : Result Ready WorldFault) (f : WorldFault) (masters : Masters) → IsMadeReady p.masters k a r masters
-    → (f ≡ fault.Full) × (MAX_PACKETS < length p.bag.packets + length r.packets) → IsErrAnd x (λ g. g ≡ f) → MakesReady p k a x (record p { masters = masters })
-no-room p k a r x f masters m full g = err-made p (record p { masters = masters }) k a x f g (λ w s. (
-  subst (λ e. Refuses None (fits_then p.config w k a) true e) (sym full.0) (refuses-full _ refl (fits-not p w k a r s (says-these p w k a r masters s m) full.1)),
-  stands-still p w k masters p.bag s (as-kept m) refl,
-))
+pub no-room : (p : Parts) (k : ℕ) (a : StoreAnswer) (r : Prepared) (x : Result Prepared WorldFault) (f : WorldFault) → IsPlannedAt p.masters k (machine.Answered a) r
+    → (f ≡ fault.Full) × (MAX_PACKETS < length p.bag.packets + length r.packets) → IsErrAnd x (λ g. g ≡ f) → PlansAnswer p k a x
+no-room p k a r x f i full g = err-planned p k a x f g (λ w s. subst (λ e. Refuses None (fits_then p.config w k a) true e) (sym full.0) (refuses-full _ refl (fits-not p w k a r s (says-these p w k a r s i) full.1)))
 
-pub no-memory-for : (p : Parts) (k : ℕ) (a : StoreAnswer) (r : Ready) (x : Result Ready WorldFault) (masters : Masters) (bag : Held) → IsMadeReady p.masters k a r masters → bag.packets ≡ p.bag.packets
-    → IsErrAnd x (λ g. g ≡ fault.NoMemory) → MakesReady p k a x (record p { masters = masters; bag = bag })
-no-memory-for p k a r x masters bag m b g = err-made p (record p { masters = masters; bag = bag }) k a x fault.NoMemory g (λ w s. (refuses-memory _ refl refl, stands-still p w k masters bag s (as-kept m) b))
-
-pub all-ready : (p : Parts) (k : ℕ) (a : StoreAnswer) (r : Ready) (masters : Masters) (bag : Held) → IsMadeReady p.masters k a r masters → bag.packets ≡ p.bag.packets → length r.packets ≤ bag.spare
-    → length p.bag.packets + length r.packets ≤ MAX_PACKETS → MakesReady p k a (Ok r) (record p { masters = masters; bag = bag })
-all-ready p k a r masters bag m b spare room = (
-  record { machine = record { machine = m.after; at = is-there p.masters k m.after masters m.returns; ready = m.ready }; spare = spare; room = subst (λ (es : List Envelope). length es + length r.packets ≤ MAX_PACKETS) (sym b) room },
-  (λ w s. let is = says-these p w k a r masters s m in (stands-still p w k masters bag s (as-kept m) b, is, fits p w k a r s is room)),
-)
+pub has-room : (p : Parts) (k : ℕ) (a : StoreAnswer) (r : Prepared) → IsPlannedAt p.masters k (machine.Answered a) r → length p.bag.packets + length r.packets ≤ MAX_PACKETS → PlansAnswer p k a (Ok r)
+has-room p k a r i room = (i, λ w s. let is = says-these p w k a r s i in (is, fits p w k a r s is room))
 
 -- ---- the event
 
@@ -135,9 +140,9 @@ pub says-then : {cfg : Config} {w : World} (k : ℕ) (f : Weather) (call : Store
 says-then {cfg} {w} k f call a n h r d now c = ap (λ x. says_then cfg w k x) (sym c.told) ∙ says k f call r d now
 
 -- Once the call was made, or not, and the master heard its answer
-pub told-stands : (p q : Parts) (w : World) (k : ℕ) (f : Weather) (call : Store) (a : StoreAnswer) (r : Ready) (n : names.State) (h : history.State) → Standing p w → IsTaken p.config w (Duty k f) → duty p.config w k ≡ Some call
-    → CallAgrees p.config w k f call a n h → r.packets ≡ says_then p.config w k (told_in f a) → HasTold (record p { names = n; history = h }) k (told_in f a) r q → Standing q (effect p.config w (Duty k f))
-told-stands p q w k f call a r n h s t d c is told = let i = told.heard in let of = is-generation p w k s (ap is_some i.at) in
+pub told-stands : (p q : Parts) (w : World) (k : ℕ) (f : Weather) (call : Store) (a : StoreAnswer) (r : Prepared) (n : names.State) (h : history.State) → Standing p w → IsTaken p.config w (Duty k f) → duty p.config w k ≡ Some call
+    → CallAgrees p.config w k f call a n h → r.packets ≡ says_then p.config w k (told_in f a) → HasTaken (record p { names = n; history = h }) k (machine.Answered (told_in f a)) r q → Standing q (effect p.config w (Duty k f))
+told-stands p q w k f call a r n h s t d c is told = let i = told.acted in let of = is-generation p w k s (ap is_some i.at) in
     subst (λ (z : Parts). Standing z (effect p.config w (Duty k f))) (sym told.rest)
     (goes-on p w (Duty k f) n h q.bag q.masters p.launched s t refl c.left
     (masters-step p.config w (Duty k f) k (Asks call (reply_under f (reply_of w k call))) p.masters q.masters i.before i.after s.masters i.at i.returns refl c.moves

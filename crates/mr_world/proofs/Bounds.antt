@@ -3,7 +3,7 @@ use Rattle.std.proofs.Common.{◌≡◌, ◌+◌, ◌≤◌, refl, subst, Bool, 
 use Rattle.std.proofs.lemmas.Bool.{and_parts, leb-true}
 use Rattle.mr_packet.specs.declared.bag.TheConstants.{MAX_PACKETS}
 use Rattle.mr_model.specs.Packets.{Config}
-use Rattle.mr_model.specs.World.{World, Event, Start, Crash, Duty, LaunchOn, Deliver, ContainerStep, Compute, Die, NodeRestart, Expire, opening_world, call_of}
+use Rattle.mr_model.specs.World.{World, Event, Start, opening_world, call_of}
 use Rattle.mr_model.specs.Effect.{effect, run, happens, not_now}
 use Rattle.mr_model.specs.Sending.{sent}
 use Rattle.mr_model.proofs.Basic.{if_cases, is_none-eq}
@@ -42,15 +42,7 @@ fits-parts cfg w e t = let own = and_parts (fits_own w e) _ t in let rest = and_
 
 fence-on : (cfg : Config) (w : World) (e : Event) → w.fence ≤ 1000 → fits_own w e ≡ true → (effect cfg w e).fence ≤ 1000
 fence-on cfg w (Start k kept) small own = leb-true k 1000 own
-fence-on cfg w (Crash k kept) small own = small
-fence-on cfg w (Duty k f) small own = small
-fence-on cfg w (LaunchOn k t n) small own = small
-fence-on cfg w (Deliver i) small own = small
-fence-on cfg w (ContainerStep c f) small own = small
-fence-on cfg w (Compute c bytes) small own = small
-fence-on cfg w (Die c) small own = small
-fence-on cfg w (NodeRestart n) small own = small
-fence-on cfg w (Expire k n) small own = small
+fence-on cfg w _ small own = small
 
 small-on : (cfg : Config) (w : World) (e : Event) → Small w → IsTaken cfg w e → Small (effect cfg w e)
 small-on cfg w e s t = let f = fits-parts cfg w e t.fits in let room : length w.bag + length (sent cfg w e) ≤ MAX_PACKETS = leb-true _ _ f.bag in

@@ -22,7 +22,7 @@ use Rattle.mr_container.proofs.Standing.{stands_after}
 use Rattle.mr_model.specs.Ids.{ContainerId}
 use Rattle.mr_model.specs.Content.{refusal}
 use Rattle.mr_model.specs.Packets.{Caller, Names}
-use Rattle.mr_model.specs.World.{World, Weather, Calm, Unavailable, Unanswered, ContainerStep, Made, op_of, caller_of, call_of, op_made, unless_stopped, is_stopped, has_option, is_applied}
+use Rattle.mr_model.specs.World.{World, Weather, Calm, Unavailable, Unanswered, ContainerStep, Made, op_of, caller_of, call_of, op_made, unless_stopped, is_stopped, has_option}
 use Rattle.mr_model.specs.Effect.{effect, not_now, NoContainer}
 use Rattle.mr_model.specs.Stores.{NamesStand}
 use Rattle.mr_model.specs.Stored.{StoresStand, left_in, heard_in}
@@ -40,6 +40,7 @@ use Rattle.mr_world.specs.declared.fault.WorldFault.TheVariants as fault
 use Rattle.mr_world.specs.inner.Calling.{is_call, is_made, step_fault, permitted, ForeseesCall, HasCalled, IsAlone}
 use Rattle.mr_world.specs.Limits.{within, fits_counted, fits_bag, fits_call, is_full, barred_of}
 use Rattle.mr_world.specs.Standing.{Standing, IsTaken, Refuses, RefusesEvent}
+use Rattle.mr_world.proofs.Filling.{is_let, let-is}
 use Rattle.mr_world.proofs.Refusals.{bag-fits, refuses-now, refuses-full, refuses-memory}
 use Rattle.mr_world.proofs.Saying.{says}
 use Rattle.mr_world.proofs.Frames.{rests, living-moved, nodes-stay}
@@ -49,14 +50,6 @@ use Rattle.mr_world.proofs.Frames.{rests, living-moved, nodes-stay}
 pub call-is : (dest : List (List ℕ)) (k : ℕ) (a : Attempt) (bytes : List ℕ) (v : Wish) → is_some (wished_op dest k a bytes v) ≡ is_call v
 unfolding wished_op
 call-is dest k a bytes wish.Mkdirs = refl
-call-is dest k a bytes wish.Create = refl
-call-is dest k a bytes wish.Write = refl
-call-is dest k a bytes wish.Close = refl
-call-is dest k a bytes wish.Needs = refl
-call-is dest k a bytes wish.Look = refl
-call-is dest k a bytes wish.Clear = refl
-call-is dest k a bytes wish.Rename = refl
-call-is dest k a bytes wish.Abort = refl
 call-is dest k a bytes v = refl
 
 some-is : (x y : Op) → Some x ≡ Some y → x ≡ y
@@ -139,11 +132,6 @@ abbrev passes : Bool → Bool → Bool
 passes true b = true
 passes false b = b
 
-abbrev is_let : Bool → Weather → Bool
-is_let below Unavailable = false
-is_let below Calm = not below
-is_let below Unanswered = not below
-
 fits-cases : (q : ℕ) (f : Weather) (below barred : Bool) (own : Option NameFault)
     → passes (barred && not below) (if is_let below f then not (is_full own) else true) ≡ not (is_made f && is_full (first_why q below barred own))
 fits-cases q Calm true true own = refl
@@ -168,11 +156,6 @@ why-is : (s : names.State) (w : World) → NamesStand s w → (c : Caller) (o : 
     names.refused s c o ≡ first_why w.fence (nat_lt c.app w.fence) (has_option w.barred c.attempt) (names.refusal w.content o)
 unfolding names.unheard
 why-is s w n c o l = rw (l, n.fence, n.content, stopped-is s w n c.attempt) refl
-
-let-is : (w : World) (k : ℕ) (f : Weather) → is_applied w k f ≡ is_let (nat_lt k w.fence) f
-let-is w k Calm = refl
-let-is w k Unavailable = refl
-let-is w k Unanswered = refl
 
 unless-is : (w : World) (b : Bool) (m : Made) → fits_call w (unless_stopped b (Some m)) ≡ passes b (fits_call w (Some m))
 unless-is w true m = refl

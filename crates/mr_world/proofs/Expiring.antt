@@ -1,11 +1,12 @@
 -- A master gives a node up: when it can, and what the parts stand for then.
-use Rattle.std.proofs.Common.{◌≡◌, ℕ, ◌+◌, refl, sym, ◌∙◌, ap, subst, Bool, true, false, List, ◌++◌, Option, Some, None, is_some, length, arith, Result, Ok, Err, OnOk, OnErr}
+use Rattle.std.proofs.Common.{◌≡◌, ℕ, ◌+◌, refl, sym, ◌∙◌, ap, subst, Bool, true, false, List, ◌++◌, Option, Some, None, is_some, length, arith}
 use Rattle.mr_packet.specs.Bag.{Held}
 use Rattle.mr_packet.specs.declared.packet.Envelope.{Envelope}
 use Rattle.mr_master_model.specs.declared.phase.LaunchFault.{LaunchFault}
 use Rattle.mr_master_model.specs.Past as machine
 use Rattle.mr_master_model.specs.Readings as read
 use Rattle.mr_master_model.specs.Next as next
+use Rattle.mr_master.specs.Prepared.{Prepared}
 use Rattle.mr_master.specs.State as master
 use Rattle.mr_model.specs.Packets.{Config}
 use Rattle.mr_model.specs.Duties.{Expires}
@@ -17,17 +18,19 @@ use Rattle.mr_model.specs.bridge.Steps.{setting, steps}
 use Rattle.mr_model.specs.bridge.Points.{refusal_as, expire_why}
 use Rattle.mr_model.proofs.bridge.Stores.{masters_go_on, masters_send}
 use Rattle.mr_world.specs.declared.fault.WorldFault.TheVariants as fault
-use Rattle.mr_world.proofs.Launching.{reason, still}
+use Rattle.mr_world.proofs.Attending.{says-at}
+use Rattle.mr_world.proofs.Launching.{reason}
 use Rattle.mr_world.specs.declared.masters.Masters.{Masters}
 use Rattle.mr_world.specs.declared.parts.Parts.{Parts}
 use Rattle.mr_world.specs.Machines.{master_of}
-use Rattle.mr_world.specs.inner.Masters.{Ceases, Returns}
+use Rattle.mr_world.specs.inner.Duties.{IsSet, HasTaken}
+use Rattle.mr_world.specs.inner.Masters.{Returns}
 use Rattle.mr_world.specs.inner.Reasons.{why_of}
 use Rattle.mr_world.specs.Limits.{within, fits_bag, launch_count}
 use Rattle.mr_world.specs.Standing.{Standing, Reached, IsTaken, RefusesEvent}
-use Rattle.mr_world.proofs.Refusals.{NeedsRoom, refuses-now, lacks-memory}
+use Rattle.mr_world.proofs.Refusals.{NeedsRoom, refuses-now}
 use Rattle.mr_world.proofs.Mastering.{goes-on, not-kept, is-generation}
-use Rattle.mr_world.proofs.Stepping.{agrees, masters-step, swapped, other-steps, launches-add}
+use Rattle.mr_world.proofs.Stepping.{agrees, masters-step, other-steps, launches-add}
 
 -- ---- when it can
 
@@ -82,26 +85,26 @@ needs p k n m o packets a e told w s = let now = allowed p k n m o a e w s in re
 
 -- ---- what stands then
 
-pub expired : (p : Parts) (w : World) (k n : ℕ) (mid masters : Masters) (bag : Held) (before m : master.Master) (packets : List Envelope) → Standing p w → IsTaken p.config w (Expire k n) → Some before ≡ master_of p.masters k
-    → Ceases p.masters k mid → Returns mid k m masters → master.Stands before (machine.Expires n) m → master.Answers before (λ w past. next.sent w past (machine.Expires n)) packets → bag.packets ≡ p.bag.packets ++ packets
+acted : (p : Parts) (w : World) (k n : ℕ) (masters : Masters) (bag : Held) (before m : master.Master) (packets : List Envelope) → Standing p w → IsTaken p.config w (Expire k n) → master_of p.masters k ≡ Some before
+    → Returns p.masters k m masters → master.Stands before (machine.Expires n) m → master.Answers before (λ w past. next.sent w past (machine.Expires n)) packets → bag.packets ≡ p.bag.packets ++ packets
     → Standing (record p { masters = masters; bag = bag }) (effect p.config w (Expire k n))
-expired p w k n mid masters bag before m packets s taken at out back step told b =
-    let moves = masters_go_on.expires p.config w k n in let of = is-generation p w k s (sym (ap is_some at)) in
+acted p w k n masters bag before m packets s taken at back step told b =
+    let moves = masters_go_on.expires p.config w k n in let of = is-generation p w k s (ap is_some at) in
     goes-on p w (Expire k n) p.names p.history bag masters p.launched s taken refl (stores_go_on.rests p.config w p.names p.history (Expire k n) s.stores refl)
-    (masters-step p.config w (Expire k n) k (Expires n) p.masters masters before m s.masters (sym at) (swapped p.masters mid masters k m out back) refl moves step)
+    (masters-step p.config w (Expire k n) k (Expires n) p.masters masters before m s.masters at back refl moves step)
     (let same : launch_count (effect p.config w (Expire k n)) ≡ 0 + launch_count w = launches-add w.master_past (effect p.config w (Expire k n)).master_past k 0 of.0 moves.others (other-steps moves refl) 1000 of.1 in omega (arith, same, s.launched))
-    (b ∙ ap (λ es. p.bag.packets ++ es) (sends-these p k n before packets (sym at) told w s taken.now))
+    (b ∙ ap (λ es. p.bag.packets ++ es) (sends-these p k n before packets at told w s taken.now))
 
-pub not-expired : (p : Parts) (k n : ℕ) (mid masters : Masters) (bag : Held) (before m : master.Master) → ((w : World) → Standing p w → IsTaken p.config w (Expire k n))
-    → Some before ≡ master_of p.masters k → Ceases p.masters k mid → Returns mid k m masters → m ≡ before → bag.packets ≡ p.bag.packets
-    → (w : World) → Standing p w → RefusesEvent p.config w (Expire k n) fault.NoMemory × Standing (record p { masters = masters; bag = bag }) w
-not-expired p k n mid masters bag before m taken at out back same b w s = (
-  lacks-memory (taken w s),
-  still p w k masters bag before m s (sym at) (swapped p.masters mid masters k m out back) (subst (master.StandsStill before) (sym same) (λ w past st. st)) b,
-)
-
-pub ok-part : {A E P : Type 0} (r : Result A E) (a : A) → r ≡ Ok a → OnOk r P → P
-ok-part {A} {E} {P} r a is p = subst (λ (z : Result A E). OnOk z P) is p
-
-pub err-part : {A E P : Type 0} (r : Result A E) (f : E) → r ≡ Err f → OnErr r P → P
-err-part {A} {E} {P} r f is p = subst (λ (z : Result A E). OnErr z P) is p
+-- Room was made in p, which were then q; the master gave the node up, and then they were t.
+pub expired : (p q t : Parts) (w : World) (k n : ℕ) (x : Prepared) → Standing p w → IsTaken p.config w (Expire k n) → q ≡ record p { masters = q.masters; bag = q.bag } → ((w : World) → Standing p w → Standing q w)
+    → IsSet q k (machine.Expires n) x → HasTaken q k (machine.Expires n) x t → Standing t (effect p.config w (Expire k n))
+expired p q t w k n x s taken rest still set told = by p q.masters q.bag (subst (λ (z : Parts). Standing z w) rest (still w s)) taken
+    (subst (λ (z : Parts). IsSet z k (machine.Expires n) x) rest set) (subst (λ (z : Parts). HasTaken z k (machine.Expires n) x t) rest told)
+  where
+    by : (p : Parts) (masters : Masters) (bag : Held) → Standing (record p { masters = masters; bag = bag }) w → IsTaken p.config w (Expire k n) → IsSet (record p { masters = masters; bag = bag }) k (machine.Expires n) x
+        → HasTaken (record p { masters = masters; bag = bag }) k (machine.Expires n) x t → Standing t (effect p.config w (Expire k n))
+    by p masters bag s taken set told =
+        let q : Parts = record p { masters = masters; bag = bag } in
+        let a = told.acted in
+        subst (λ (z : Parts). Standing z (effect p.config w (Expire k n))) (sym told.rest)
+        (acted q w k n t.masters t.bag a.before a.after x.packets s taken a.at a.returns a.stands (says-at masters k (machine.Expires n) x a.before set.machine a.at) told.bag)

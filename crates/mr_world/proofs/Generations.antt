@@ -1,6 +1,7 @@
 -- The places of masters, by generation.
-use Rattle.std.proofs.Common.{◌≡◌, ℕ, zero, suc, refl, sym, ◌∙◌, ap, Bool, true, false, List, [], ◌∷◌, ◌++◌, Option, Some, None, if◌then◌else◌, nat_eq, length, slice_get, slice_set, ◌<◌, length-append, arith}
-use Rattle.std.proofs.lemmas.Bool.{eq-eqb}
+use Rattle.std.proofs.Common.{◌≡◌, ℕ, zero, suc, refl, sym, ◌∙◌, ap, Bool, true, false, List, [], ◌∷◌, ◌++◌, Option, Some, None, if◌then◌else◌, nat_eq, length, slice_get, slice_set, ◌<◌, ◌≤◌, ◌-◌, get_or, nat_lt, length-append, arith}
+use Rattle.std.proofs.lemmas.Bool.{eq-eqb, ltb-true}
+use Rattle.std.proofs.lemmas.Option.{slice_get_read}
 use Rattle.std.proofs.lemmas.List.{length-set}
 use Rattle.std.proofs.lemmas.Bool.Decides.{nat_tests}
 use Rattle.std.specs.Option.{option_and_then}
@@ -8,7 +9,7 @@ use Rattle.mr_master.specs.State.{Master}
 use Rattle.mr_cluster.proofs.Slots.{slice_last}
 use Rattle.mr_world.specs.declared.masters.Masters.{Masters}
 use Rattle.mr_world.specs.Machines.{master_of, master_count}
-use Rattle.mr_world.specs.inner.Masters.{Begins, ChangesMaster}
+use Rattle.mr_world.specs.inner.Masters.{Begins, ChangesMaster, Returns}
 
 next-eq : (a b : ℕ) → nat_eq (suc a) (suc b) ≡ nat_eq a b
 next-eq a b = grind (arith, nat_tests)
@@ -63,3 +64,22 @@ written old new i k v at l e = kept
 pub written-count : (old new : Masters) (i : ℕ) (v : Option Master) → new.machines.items ≡ slice_set old.machines.items i v → master_count new ≡ master_count old
 unfolding master_count
 written-count old new i v e = ap length e ∙ length-set old.machines.items i v
+
+-- what is kept of the master of generation k stands at place i
+pub record IsPlace (masters : Masters) (i k : ℕ) (place : Option Master) : Type 0 where
+  pub next : k ≡ suc i
+  pub within : i < length masters.machines.items
+  pub at : master_of masters k ≡ place
+
+pub is-place : (masters : Masters) (k : ℕ) (place : Option Master) → 1 ≤ k → true ≡ nat_lt (k - 1) (length masters.machines.items) → place ≡ get_or masters.machines.items (k - 1) place → IsPlace masters (k - 1) k place
+unfolding master_of
+is-place masters k place low test is =
+    let next : k ≡ suc (k - 1) = omega (arith, low) in
+    let within = ltb-true _ _ (sym test) in
+    record { next = next; within = within; at = ap (master_of masters) next ∙ ap (option_and_then (λ m. m)) (slice_get_read masters.machines.items _ (k - 1) place refl within is) }
+
+-- another machine stands there
+pub returned : (old new : Masters) (i k : ℕ) (before after : Option Master) (m : Master) → IsPlace old i k before → after ≡ Some m → new.machines.items ≡ slice_set old.machines.items i after → Returns old k m new
+returned old new i k before after m x is e =
+    let f = e ∙ ap (slice_set old.machines.items i) is in
+    record { count = written-count old new i (Some m) f; kept = written old new i k (Some m) x.next x.within f }

@@ -4,6 +4,7 @@ use Rattle.mr_packet.specs.Bag.{Held}
 use Rattle.mr_packet.specs.declared.packet.Envelope.{Envelope}
 use Rattle.mr_master_model.specs.Past as machine
 use Rattle.mr_master_model.specs.Next as next
+use Rattle.mr_master.specs.Prepared.{Prepared, PlansFor}
 use Rattle.mr_master.specs.State as master
 use Rattle.mr_packet.specs.declared.packet.Packet.{Packet}
 use Rattle.mr_packet.specs.declared.packet.Address.TheVariants.{Master}
@@ -17,17 +18,18 @@ use Rattle.mr_model.proofs.Stored.{stores_go_on}
 use Rattle.mr_model.specs.bridge.Steps.{setting, steps}
 use Rattle.mr_model.proofs.bridge.Stores.{masters_go_on, masters_send}
 use Rattle.mr_world.specs.declared.fault.WorldFault.TheVariants as fault
-use Rattle.mr_world.proofs.Launching.{still}
 use Rattle.mr_world.specs.declared.masters.Masters.{Masters}
 use Rattle.mr_world.specs.declared.parts.Parts.{Parts}
 use Rattle.mr_world.specs.Machines.{master_of}
-use Rattle.mr_world.specs.inner.Masters.{Ceases, Returns}
+use Rattle.mr_world.specs.inner.Duties.{IsSet, HasTaken}
+use Rattle.mr_world.specs.inner.Masters.{Returns}
 use Rattle.mr_world.specs.Limits.{within, fits_counted, goes_to_master, fits_bag, launch_count}
 use Rattle.mr_world.specs.Standing.{Standing, Reached, IsTaken, IsTo, RefusesEvent}
-use Rattle.mr_world.proofs.Refusals.{NeedsRoom, refuses-now, lacks-memory}
+use Rattle.mr_world.proofs.Attending.{says-at}
+use Rattle.mr_world.proofs.Refusals.{NeedsRoom, refuses-now}
 use Rattle.mr_world.proofs.Mastering.{not-kept, is-generation}
 use Rattle.mr_world.proofs.Frames.{reached-on, living-stay, nodes-stay}
-use Rattle.mr_world.proofs.Stepping.{masters-step, swapped, other-steps, launches-add}
+use Rattle.mr_world.proofs.Stepping.{masters-step, other-steps, launches-add}
 
 -- ---- when it can be
 
@@ -65,6 +67,10 @@ says cfg w i k b r = subst (λ u. slice_get u.bag i ≡ Some (record { to = Mast
 abbrev pub Replies : Parts → ℕ → master.Master → List Envelope → Type 0
 Replies p i m packets = (e : Envelope) → slice_get p.bag.packets i ≡ Some e → master.Answers m (λ w past. next.sent w past (machine.Hears e.body)) packets
 
+-- what is planned tells it
+pub replies : (p : Parts) (i : ℕ) (m : master.Master) (x : Prepared) → ((e : Envelope) → slice_get p.bag.packets i ≡ Some e → PlansFor m (machine.Hears e.body) x) → Replies p i m x.packets
+replies p i m x plans e at w past stands = (plans e at).sent w (next.seen w past) stands
+
 sends-these : (p : Parts) (i k : ℕ) (m : master.Master) (packets : List Envelope) (to : IsTo p i (Master k)) → master_of p.masters k ≡ Some m → Replies p i m packets → (w : World) → Standing p w → packets ≡ sent p.config w (Deliver i)
 sends-these p i k m packets to at told w s = told (record { to = Master k; body = to.0 }) to.1 (setting p.config k) (steps (w.master_past k)) (s.masters.machines k m at)
     ∙ says p.config w i k to.0 s.reached (carried p w i k to.0 s to.1) (allowed p i k m to at w s)
@@ -74,25 +80,39 @@ needs p i k m packets to at told w s = record { now = allowed p i k m to at w s;
 
 -- ---- what stands then
 
-pub heard : (p : Parts) (w : World) (i k : ℕ) (mid masters : Masters) (bag : Held) (before m : master.Master) (packets : List Envelope) → Standing p w → IsTaken p.config w (Deliver i) → IsTo p i (Master k) → Some before ≡ master_of p.masters k
-    → Ceases p.masters k mid → Returns mid k m masters → ((e : Envelope) → slice_get p.bag.packets i ≡ Some e → master.Stands before (machine.Hears e.body) m) → Replies p i before packets → bag.packets ≡ p.bag.packets ++ packets
+acted : (p : Parts) (w : World) (i k : ℕ) (masters : Masters) (bag : Held) (before m : master.Master) (packets : List Envelope) → Standing p w → IsTaken p.config w (Deliver i) → (to : IsTo p i (Master k)) → master_of p.masters k ≡ Some before
+    → Returns p.masters k m masters → master.Stands before (machine.Hears to.0) m → Replies p i before packets → bag.packets ≡ p.bag.packets ++ packets
     → Standing (record p { masters = masters; bag = bag }) (effect p.config w (Deliver i))
-heard p w i k mid masters bag before m packets s taken to at out back step told b =
-    let is = carried p w i k to.0 s to.1 in let moves = masters_go_on.hears p.config w i k (record { to = Master k; body = to.0 }) is refl in let of = is-generation p w k s (sym (ap is_some at)) in record {
+acted p w i k masters bag before m packets s taken to at back step told b =
+    let is = carried p w i k to.0 s to.1 in let moves = masters_go_on.hears p.config w i k (record { to = Master k; body = to.0 }) is refl in let of = is-generation p w k s (ap is_some at) in record {
       reached = reached-on s.reached taken;
       dest = s.dest;
       stores = stores_go_on.rests p.config w p.names p.history (Deliver i) s.stores refl;
-      bag = b ∙ (ap (λ es. p.bag.packets ++ es) (sends-these p i k before packets to (sym at) told w s) ∙ ap (λ es. es ++ sent p.config w (Deliver i)) s.bag);
+      bag = b ∙ (ap (λ es. p.bag.packets ++ es) (sends-these p i k before packets to at told w s) ∙ ap (λ es. es ++ sent p.config w (Deliver i)) s.bag);
       living = living-stay (masters_act.containers_told p.config w i k to.0 is) (λ c. refl) s.living;
       nodes = nodes-stay (masters_act.nodes_told p.config w i k to.0 is) (λ n. refl) s.nodes;
-      masters = masters-step p.config w (Deliver i) k (Came to.0) p.masters masters before m s.masters (sym at) (swapped p.masters mid masters k m out back) refl moves (step (record { to = Master k; body = to.0 }) to.1);
+      masters = masters-step p.config w (Deliver i) k (Came to.0) p.masters masters before m s.masters at back refl moves step;
       launched = (let same : launch_count (effect p.config w (Deliver i)) ≡ 0 + launch_count w = launches-add w.master_past (effect p.config w (Deliver i)).master_past k 0 of.0 moves.others (other-steps moves refl) 1000 of.1 in omega (arith, same, s.launched));
     }
 
-pub not-heard : (p : Parts) (i k : ℕ) (mid masters : Masters) (bag : Held) (before m : master.Master) → ((w : World) → Standing p w → IsTaken p.config w (Deliver i))
-    → Some before ≡ master_of p.masters k → Ceases p.masters k mid → Returns mid k m masters → master.StandsStill before m → bag.packets ≡ p.bag.packets
-    → (w : World) → Standing p w → RefusesEvent p.config w (Deliver i) fault.NoMemory × Standing (record p { masters = masters; bag = bag }) w
-not-heard p i k mid masters bag before m taken at out back same b w s = (
-  lacks-memory (taken w s),
-  still p w k masters bag before m s (sym at) (swapped p.masters mid masters k m out back) same b,
-)
+-- Room was made in p, which were then q; the master heard the packet, and then they were t.
+pub heard : (p t : Parts) (masters : Masters) (bag : Held) (w : World) (i k : ℕ) (x : Prepared) → Standing (record p { masters = masters; bag = bag }) w → IsTaken p.config w (Deliver i) → (to : IsTo p i (Master k)) → bag.packets ≡ p.bag.packets
+    → IsSet (record p { masters = masters; bag = bag }) k (machine.Hears to.0) x → HasTaken (record p { masters = masters; bag = bag }) k (machine.Hears to.0) x t → Standing t (effect p.config w (Deliver i))
+heard p t masters bag w i k x s taken to b set told =
+    let q : Parts = record p { masters = masters; bag = bag } in
+    let a = told.acted in
+    let there : IsTo q i (Master k) = (to.0, subst (λ (es : List Envelope). slice_get es i ≡ Some (record { to = Master k; body = to.0 })) (sym b) to.1) in
+    let says = says-at masters k (machine.Hears to.0) x a.before set.machine a.at in
+    subst (λ (z : Parts). Standing z (effect p.config w (Deliver i))) (sym told.rest)
+    (acted q w i k t.masters t.bag a.before a.after x.packets s taken there a.at a.returns a.stands
+    (λ e at. let same : record { to = Master k; body = to.0 } ≡ e = is-same (sym there.1 ∙ at) in subst (λ (y : Envelope). master.Answers a.before (λ w past. next.sent w past (machine.Hears y.body)) x.packets) same says) told.bag)
+  where
+    is-same : {A : Type 0} {y z : A} → Some y ≡ Some z → y ≡ z
+    is-same e = cc
+
+-- the same where q are the parts as they were left
+pub heard-in : (p q t : Parts) (w : World) (i k : ℕ) (x : Prepared) → Standing p w → IsTaken p.config w (Deliver i) → (to : IsTo p i (Master k)) → q ≡ record p { masters = q.masters; bag = q.bag } → q.bag.packets ≡ p.bag.packets
+    → ((w : World) → Standing p w → Standing q w) → IsSet q k (machine.Hears to.0) x → HasTaken q k (machine.Hears to.0) x t → Standing t (effect p.config w (Deliver i))
+heard-in p q t w i k x s taken to rest b still set told = heard p t q.masters q.bag w i k x
+    (subst (λ (z : Parts). Standing z w) rest (still w s)) taken to b
+    (subst (λ (z : Parts). IsSet z k (machine.Hears to.0) x) rest set) (subst (λ (z : Parts). HasTaken z k (machine.Hears to.0) x t) rest told)

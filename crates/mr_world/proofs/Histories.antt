@@ -8,7 +8,7 @@ use Rattle.mr_history.specs.Calls as segments
 use Rattle.mr_history.specs.Laws.{Calls}
 use Rattle.mr_master_model.specs.declared.store.StoreCall.{StoreCall}
 use Rattle.mr_master_model.specs.declared.store.StoreAnswer.{StoreAnswer}
-use Rattle.mr_model.specs.Packets.{Config, Store, Names, Append_record, Flush, Read_history}
+use Rattle.mr_model.specs.Packets.{Config, Store, Read_history}
 use Rattle.mr_model.specs.World.{World, Event, Duty, Weather, Calm, Unavailable, Unanswered, duty, opening_world}
 use Rattle.mr_model.specs.Effect.{happens, run}
 use Rattle.mr_model.specs.Stored.{left_in}
@@ -83,7 +83,7 @@ no-bytes h k most n = none-if (nat_lt 0 k) (nat_le k h.fence) (segments.segment 
 
 -- ---- a master's duty
 
-read-left : (h : State) (k : ℕ) → (segments.call_of h k segments.Read).1 ≡ h
+pub read-left : (h : State) (k : ℕ) → (segments.call_of h k segments.Read).1 ≡ h
 read-left h k = by (nat_lt k h.fence)
   where
     by : (b : Bool) → (segments.settled (if b then Some (history_fault.Superseded h.fence) else None) h k segments.Read).1 ≡ h
@@ -92,14 +92,9 @@ read-left h k = by (nat_lt k h.fence)
 
 store-left : (h : State) (k : ℕ) (f : Weather) (x : Store) → left_in f h (history_after h k (store_call x)) ≡ changed h (if_made f (option_map (Calls k) (call_of_history x)))
 store-left h k Unavailable x = refl
-store-left h k Calm (Names o) = refl
-store-left h k Calm (Append_record r) = refl
-store-left h k Calm Flush = refl
 store-left h k Calm Read_history = sym (read-left h k)
-store-left h k Unanswered (Names o) = refl
-store-left h k Unanswered (Append_record r) = refl
-store-left h k Unanswered Flush = refl
 store-left h k Unanswered Read_history = sym (read-left h k)
+store-left h k _ _ = refl
 
 call-left : (h : State) (k : ℕ) (f : Weather) (o : Option Store) (c : StoreCall) → option_map store_call o ≡ Some c → left_in f h (history_after h k c) ≡ changed h (if_made f (option_map (Calls k) (option_and_then call_of_history o)))
 call-left h k f (Some x) c e = subst (λ (z : StoreCall). left_in f h (history_after h k z) ≡ changed h (if_made f (option_map (Calls k) (call_of_history x)))) (same (store_call x) c e) (store-left h k f x)

@@ -108,9 +108,6 @@ permitted-by None fits counted f other r = refl
 
 -- ---- events in turn
 
-pub ran-none : (j : Journal) → Ran j [] j
-ran-none j = record { fits = tt; journal = ap (λ (es : List Event). record { config = j.config; events = es }) (sym (append-nil j.events)); world = ap (run_of j.config) (sym (append-nil j.events)) }
-
 -- where nothing was taken
 pub ran-passed : (j : Journal) (e : Event) (why : Why) → not_now j.config (world_in j) e ≡ Some why → Ran j (e ∷ []) j
 ran-passed j e why now = record {

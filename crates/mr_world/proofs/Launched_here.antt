@@ -3,7 +3,7 @@ use Rattle.std.proofs.Common.{◌≡◌, ℕ, refl, sym, ◌∙◌, ap, subst, B
 use Rattle.std.specs.Option.{option_map}
 use Rattle.mr_packet.specs.declared.packet.Envelope.{Envelope}
 use Rattle.mr_packet.specs.declared.packet.Packet.{Packet}
-use Rattle.mr_packet.specs.declared.packet.Packet.TheVariants.{Launch, Kill, Fetch}
+use Rattle.mr_packet.specs.declared.packet.Packet.TheVariants.{Launch, Kill}
 use Rattle.mr_packet.specs.Same.{has}
 use Rattle.mr_container.specs.declared.place.Place.{Place}
 use Rattle.mr_container.specs.Readings.{opening}
@@ -82,8 +82,6 @@ begins-none : (o : Option node.Node) (p : Packet) (d : ContainerId) → ((c : Co
 unfolding reaction
 begins-none None p d nl = refl
 begins-none (Some m) (Launch c a i) d nl = absurd (nl c a i refl)
-begins-none (Some m) (Kill c) d nl = refl
-begins-none (Some m) (Fetch c a r i x) d nl = refl
 begins-none (Some m) p d nl = refl
 
 not-killed : (p : Packet) (d : ContainerId) → ((c : ContainerId) → p ≡ Kill c → ⊥) → is_killed p d ≡ false

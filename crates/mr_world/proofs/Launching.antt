@@ -1,21 +1,22 @@
 -- A master launches: when it can, and what the parts stand for then.
-use Rattle.std.proofs.Common.{◌≡◌, ◌≤◌, ◌<◌, ℕ, ◌+◌, refl, sym, ◌∙◌, ap, subst, Bool, true, false, ◌&&◌, [], ◌∷◌, ◌++◌, Option, Some, None, is_some, nat_lt, length, arith, Result, Ok, Err, OnOk, OnErr, IfOk}
+use Rattle.std.proofs.Common.{◌≡◌, ◌≤◌, ◌<◌, ℕ, ◌+◌, refl, sym, ◌∙◌, ap, subst, Bool, true, false, ◌&&◌, [], ◌∷◌, ◌++◌, Option, Some, None, is_some, nat_lt, List, length, arith}
 use Rattle.std.proofs.lemmas.Bool.{lt-ltb, le-ltb}
 use Rattle.mr_ids.specs.declared.id.TaskId.{TaskId}
 use Rattle.mr_packet.specs.Bag.{Held}
 use Rattle.mr_packet.specs.declared.packet.Envelope.{Envelope}
+use Rattle.mr_packet.specs.declared.bag.TheConstants.{MAX_PACKETS}
 use Rattle.mr_master_model.specs.declared.phase.LaunchFault.{LaunchFault}
-use Rattle.mr_master.specs.declared.launching.LaunchError.{LaunchError}
 use Rattle.mr_master_model.specs.Past as machine
 use Rattle.mr_master_model.specs.Readings as read
 use Rattle.mr_master_model.specs.Next as next
+use Rattle.mr_master.specs.Prepared.{Prepared, IsOne}
 use Rattle.mr_master.specs.State as master
 use Rattle.mr_model.specs.Packets.{Config}
 use Rattle.mr_model.specs.Duties.{Launches}
 use Rattle.mr_model.specs.World.{World, LaunchOn, call_of, master_act, launch_of, seen_by}
 use Rattle.std.specs.Option.{option_map}
 use Rattle.mr_model.specs.Hearing.{Seen, is_running}
-use Rattle.mr_model.specs.Effect.{effect, not_now, is_task, task_fault, NoMaster, NotRunning, NoTask, NoNode, Task, AlreadyWon, TooManyLive, TooManyAttempts, Why, WrongGeneration, NoDuty, NoPacket, NoAddressee, NoContainer, WrongWish, NoStoreCall, NotBlocks, unless}
+use Rattle.mr_model.specs.Effect.{effect, not_now, is_task, task_fault, NoMaster, NotRunning, NoTask, NoNode, Task, AlreadyWon, TooManyLive, TooManyAttempts, Why, unless}
 use Rattle.mr_model.specs.Sending.{sent}
 use Rattle.mr_model.proofs.Stored.{stores_go_on}
 use Rattle.mr_model.specs.bridge.Steps.{setting, steps}
@@ -26,13 +27,15 @@ use Rattle.mr_world.specs.declared.limits.TheConstants.{MAX_CONTAINERS}
 use Rattle.mr_world.specs.declared.masters.Masters.{Masters}
 use Rattle.mr_world.specs.declared.parts.Parts.{Parts}
 use Rattle.mr_world.specs.Machines.{master_of}
-use Rattle.mr_world.specs.inner.Masters.{Ceases, Returns}
+use Rattle.mr_world.specs.inner.Duties.{IsSet, HasTaken}
+use Rattle.mr_world.specs.inner.Masters.{Returns}
 use Rattle.mr_world.specs.inner.Reasons.{why_of}
 use Rattle.mr_world.specs.Limits.{within, fits_bag, launch_count}
 use Rattle.mr_world.specs.Standing.{Standing, Reached, IsTaken, RefusesEvent}
-use Rattle.mr_world.proofs.Refusals.{NeedsRoom, refuses-now, refuses-full, lacks-memory}
+use Rattle.mr_world.proofs.Attending.{says-at}
+use Rattle.mr_world.proofs.Refusals.{NeedsRoom, refuses-now, refuses-full}
 use Rattle.mr_world.proofs.Mastering.{goes-on, not-kept, is-generation}
-use Rattle.mr_world.proofs.Stepping.{agrees, masters-step, masters-still, one-launch, launches-add, swapped}
+use Rattle.mr_world.proofs.Stepping.{agrees, masters-step, one-launch, launches-add}
 
 -- ---- reasons
 
@@ -41,28 +44,15 @@ reason (Some NotRunning) f e = subst (λ (z : Option LaunchFault). Some NotRunni
 reason (Some NoTask) f e = subst (λ (z : Option LaunchFault). Some NoTask ≡ option_map why_of z) e refl
 reason (Some NoNode) f e = subst (λ (z : Option LaunchFault). Some NoNode ≡ option_map why_of z) e refl
 reason (Some (Task t)) f e = subst (λ (z : Option LaunchFault). Some (Task t) ≡ option_map why_of z) e refl
-reason None f e = cc
-reason (Some WrongGeneration) f e = cc
-reason (Some NoMaster) f e = cc
-reason (Some NoDuty) f e = cc
-reason (Some NoPacket) f e = cc
-reason (Some NoAddressee) f e = cc
-reason (Some NoContainer) f e = cc
-reason (Some WrongWish) f e = cc
-reason (Some NoStoreCall) f e = cc
-reason (Some NotBlocks) f e = cc
+reason _ f e = cc
 
 no-task-reason : (b d g : Bool) → refusal_as (unless b (Task AlreadyWon) (unless d (Task TooManyLive) (unless g (Task TooManyAttempts) None))) ≡ None → unless b (Task AlreadyWon) (unless d (Task TooManyLive) (unless g (Task TooManyAttempts) None)) ≡ None
-no-task-reason false d g e = cc
-no-task-reason true false g e = cc
-no-task-reason true true false e = cc
 no-task-reason true true true e = refl
+no-task-reason _ _ _ e = cc
 
 no-own-reason : (a b d : Bool) (o : Option Why) → (refusal_as o ≡ None → o ≡ None) → refusal_as (unless a NotRunning (unless b NoTask (unless d NoNode o))) ≡ None → unless a NotRunning (unless b NoTask (unless d NoNode o)) ≡ None
-no-own-reason false b d o rest e = cc
-no-own-reason true false d o rest e = cc
-no-own-reason true true false o rest e = cc
 no-own-reason true true true o rest e = rest e
+no-own-reason _ _ _ o rest e = cc
 
 no-reason : (cfg : Config) (s : Seen) (t : TaskId) (n : ℕ) → refusal_as (launch_why cfg s t n) ≡ None → launch_why cfg s t n ≡ None
 no-reason cfg s t n e = no-own-reason (is_running s.phase) (is_task cfg t) (nat_lt n cfg.nodes) (task_fault s t) (no-task-reason _ _ _) e
@@ -133,24 +123,24 @@ stands p w k t n masters bag before m packet s taken at back step says-packet b 
     (let more : launch_count (effect p.config w (LaunchOn k t n)) ≡ 1 + launch_count w = launches-add w.master_past (effect p.config w (LaunchOn k t n)).master_past k 1 of.0 moves.others (one-launch moves) 1000 of.1 in omega (arith, more, s.launched))
     (b ∙ ap (λ es. p.bag.packets ++ es) (says-packet (setting p.config k) (steps (w.master_past k)) (s.masters.machines k before at) ∙ says p.config w k t n s.reached taken.now))
 
-pub still : (p : Parts) (w : World) (k : ℕ) (masters : Masters) (bag : Held) (before m : master.Master) → Standing p w → master_of p.masters k ≡ Some before → Returns p.masters k m masters → master.StandsStill before m → bag.packets ≡ p.bag.packets
-    → Standing (record p { masters = masters; bag = bag }) w
-still p w k masters bag before m s at back same b = record { reached = s.reached; dest = s.dest; stores = s.stores; bag = b ∙ s.bag; living = s.living; nodes = s.nodes; masters = masters-still p.config w p.masters masters k before m s.masters at back same; launched = s.launched }
+-- ---- as the code does it: room is made in p, which are then q; the master launches, and then they are t, in which one launch more is counted
 
--- ---- as the code does it: the machine is taken out, launches, and is put back
+pub launched : (p q t : Parts) (w : World) (k : ℕ) (task : TaskId) (n : ℕ) (x : Prepared) → Standing p w → IsTaken p.config w (LaunchOn k task n) → q ≡ record p { masters = q.masters; bag = q.bag } → ((w : World) → Standing p w → Standing q w)
+    → IsOne x.packets → IsSet q k (machine.Launches task n) x → HasTaken q k (machine.Launches task n) x t → Standing (record t { launched = t.launched + 1 }) (effect p.config w (LaunchOn k task n))
+launched p q t w k task n x s taken rest still one set told = by p q.masters q.bag (subst (λ (z : Parts). Standing z w) rest (still w s)) taken
+    (subst (λ (z : Parts). IsSet z k (machine.Launches task n) x) rest set) (subst (λ (z : Parts). HasTaken z k (machine.Launches task n) x t) rest told)
+  where
+    by : (p : Parts) (masters : Masters) (bag : Held) → Standing (record p { masters = masters; bag = bag }) w → IsTaken p.config w (LaunchOn k task n) → IsSet (record p { masters = masters; bag = bag }) k (machine.Launches task n) x
+        → HasTaken (record p { masters = masters; bag = bag }) k (machine.Launches task n) x t → Standing (record t { launched = t.launched + 1 }) (effect p.config w (LaunchOn k task n))
+    by p masters bag s taken set told =
+        let q : Parts = record p { masters = masters; bag = bag } in
+        let a = told.acted in
+        let says = says-at masters k (machine.Launches task n) x a.before set.machine a.at in
+        subst (λ (z : Parts). Standing (record z { launched = z.launched + 1 }) (effect p.config w (LaunchOn k task n))) (sym told.rest)
+        (stands q w k task n t.masters t.bag a.before a.after one.0 s taken a.at a.returns a.stands
+        (subst (λ (es : List Envelope). master.Answers a.before (λ w past. next.sent w past (machine.Launches task n)) es) one.1 says)
+        (told.bag ∙ ap (λ es. q.bag.packets ++ es) one.1))
 
-pub launched : (p : Parts) (w : World) (k : ℕ) (t : TaskId) (n : ℕ) (mid masters : Masters) (bag : Held) (before m : master.Master) (packet : Envelope) (r : Result Envelope LaunchError) → Standing p w → IsTaken p.config w (LaunchOn k t n)
-    → Some before ≡ master_of p.masters k → Ceases p.masters k mid → Returns mid k m masters → r ≡ Ok packet → OnOk r (master.Stands before (machine.Launches t n) m)
-    → IfOk r (λ packet. master.Answers before (λ w past. next.sent w past (machine.Launches t n)) (packet ∷ [])) → bag.packets ≡ p.bag.packets ++ packet ∷ []
-    → Standing (record p { masters = masters; bag = bag; launched = p.launched + 1 }) (effect p.config w (LaunchOn k t n))
-launched p w k t n mid masters bag before m packet r s taken at out back is step says-packet b = stands p w k t n masters bag before m packet s taken (sym at) (swapped p.masters mid masters k m out back)
-    (subst (λ (z : Result Envelope LaunchError). OnOk z (master.Stands before (machine.Launches t n) m)) is step)
-    (subst (λ (z : Result Envelope LaunchError). IfOk z (λ packet. master.Answers before (λ w past. next.sent w past (machine.Launches t n)) (packet ∷ []))) is says-packet) b
-
-pub not-launched : (p : Parts) (k : ℕ) (t : TaskId) (n : ℕ) (mid masters : Masters) (bag : Held) (before m : master.Master) (f : LaunchError) (r : Result Envelope LaunchError) → ((w : World) → Standing p w → IsTaken p.config w (LaunchOn k t n))
-    → Some before ≡ master_of p.masters k → Ceases p.masters k mid → Returns mid k m masters → r ≡ Err f → OnErr r (master.StandsStill before m) → bag.packets ≡ p.bag.packets
-    → (w : World) → Standing p w → RefusesEvent p.config w (LaunchOn k t n) fault.NoMemory × Standing (record p { masters = masters; bag = bag }) w
-not-launched p k t n mid masters bag before m f r taken at out back is same b w s = (
-  lacks-memory (taken w s),
-  still p w k masters bag before m s (sym at) (swapped p.masters mid masters k m out back) (subst (λ (z : Result Envelope LaunchError). OnErr z (master.StandsStill before m)) is same) b,
-)
+-- one packet finds the room that one packet finds
+pub one-fits : (n : ℕ) (packets : List Envelope) → IsOne packets → n + 1 ≤ MAX_PACKETS → n + length packets ≤ MAX_PACKETS
+one-fits n packets one room = let e : length packets ≡ 1 = ap (λ (es : List Envelope). length es) one.1 in omega (arith, e, room)

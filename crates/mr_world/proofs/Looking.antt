@@ -1,6 +1,5 @@
 -- The store call of an event is what the definitions say.
-use Rattle.std.proofs.Common.{◌≡◌, ℕ, refl, sym, ◌∙◌, ap, ap₂, subst, Bool, true, false, ◌&&◌, Option, Some, None, Result, Ok, IsErrAnd, if◌then◌else◌, is_none}
-use Rattle.std.proofs.lemmas.Result.{err_from_is_err_and}
+use Rattle.std.proofs.Common.{◌≡◌, ℕ, refl, sym, ◌∙◌, ap, ap₂, subst, Bool, true, false, ◌&&◌, Option, Some, None, Ok, if◌then◌else◌, is_none}
 use Rattle.std.specs.Option.{option_map}
 use Rattle.mr_event.specs.declared.why.Why.{Why}
 use Rattle.mr_container.specs.declared.reply.Reply.{Reply}
@@ -21,25 +20,11 @@ use Rattle.mr_world.specs.declared.fault.WorldFault.TheVariants as fault
 use Rattle.mr_world.specs.declared.parts.Parts.{Parts}
 use Rattle.mr_world.specs.Applying.{CanHappen, IsRefused}
 use Rattle.mr_world.specs.inner.Asking.{IsForeseen}
-use Rattle.mr_world.specs.Asks.{asked_by, asked_in, by_container, by_master, Looks}
+use Rattle.mr_world.specs.Asks.{asked_by, asked_in, by_container, by_master}
 use Rattle.mr_world.specs.inner.Calling.{ForeseesCall, answer_of}
 use Rattle.mr_world.specs.Journal.{Journal, world_in, fits, fits_first}
-use Rattle.mr_world.specs.Limits.{within, fits_counted}
-use Rattle.mr_world.specs.Standing.{Standing, IsTaken, Refuses, RefusesEvent}
+use Rattle.mr_world.specs.Standing.{Standing, IsTaken, Refuses}
 use Rattle.mr_world.proofs.Asking.{asks}
-
--- ---- what would be taken is refused for an allocation failure alone
-
-wants : (o : Option Why) (b counted : Bool) (f : WorldFault) → o ≡ None → b ≡ true → Refuses o b counted f → f ≡ fault.NoMemory
-wants o b counted f now fits r = subst (λ c. Refuses None c counted f) fits (subst (λ x. Refuses x b counted f) now r)
-
-pub looks-refused : (p : Parts) (e : Event) (r : Result (Option Asked) WorldFault) (f : WorldFault) → ((w : World) → Standing p w → RefusesEvent p.config w e f)
-    → IsErrAnd r (λ x. x ≡ f) → Looks p e r
-looks-refused p e r f why is = let q = err_from_is_err_and r is in
-    subst (Looks p e) (sym q.1) (λ w s t. q.2 ∙ wants (not_now p.config w e) (within p.config w e) (fits_counted p.config w e) f t.now t.fits (why w s))
-
-pub looks-in-vain : (p : Parts) (e : Event) (r : Result (Option Asked) WorldFault) → IsErrAnd r (λ x. x ≡ fault.NoMemory) → Looks p e r
-looks-in-vain p e r is = let q = err_from_is_err_and r is in subst (Looks p e) (sym q.1) (λ w s t. q.2)
 
 -- ---- a master's
 
@@ -79,10 +64,6 @@ too-much None false counted x r = refl
 
 pub no-room : (j : Journal) (e : Event) (f : WorldFault) → f ≡ fault.Full → IsRefused j e f → None ≡ asked_in j e
 no-room j e f is r = too-much (not_now j.config (world_in j) e) (fits j e) (fits_first j e) (asked_by j.config (world_in j) e) (subst (IsRefused j e) is r)
-
--- one that can happen
-pub is-asked : (j : Journal) (e : Event) (x : Option Asked) → CanHappen j e → x ≡ asked_by j.config (world_in j) e → x ≡ asked_in j e
-is-asked j e x can is = is ∙ sym (ap₂ (λ o b. if is_none o && b then asked_by j.config (world_in j) e else None) can.now can.fits)
 
 -- its limits, that of the journal left out
 both : (a b : Bool) → (a && b) ≡ true → b ≡ true

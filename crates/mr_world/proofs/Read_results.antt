@@ -5,7 +5,6 @@ use Rattle.std.specs.List.{flat_map}
 use Rattle.std.specs.Option.{option_or}
 use Rattle.mr_names.specs.declared.fault.NameFault.{NameFault}
 use Rattle.mr_names.specs.declared.fault.NameFault.TheVariants as fault
-use Rattle.mr_names.specs.declared.node.Kind.{Kind}
 use Rattle.mr_names.specs.declared.op.Answer.{Answer}
 use Rattle.mr_names.specs.declared.op.Answer.TheVariants as answers
 use Rattle.mr_names.specs.declared.op.Caller.{Caller}
@@ -51,12 +50,6 @@ ok-err a e r q is at same = cc
 
 ok-is : (a b : Answer) (r q : Answered) → r ≡ Ok a → q ≡ Ok b → r ≡ q → a ≡ b
 ok-is a b r q is at same = cc
-
-pub kind-found : (s : State) (c : Caller) (p : Path) (o : Option Kind) (t : State) → unheard s c ≡ None → call_of s c (op.Exists p) ≡ (Ok (answers.Found o), t) → o ≡ option_kind (entry_at s.content p)
-kind-found s c p o t heard is = found o (option_kind (entry_at s.content p)) (ok-is _ _ _ _ refl refl (ap (λ (r : Answered × State). r.0) (sym is ∙ ap (λ r. settled r s (op.Exists p)) (refused-is s c (op.Exists p) heard))))
-  where
-    found : (a b : Option Kind) → answers.Found a ≡ answers.Found b → a ≡ b
-    found a b q = cc
 
 pub kind-refused : {P : Type 0} (s : State) (c : Caller) (p : Path) (f : NameFault) (t : State) → unheard s c ≡ None → call_of s c (op.Exists p) ≡ (Err f, t) → P
 kind-refused s c p f t heard is = ok-err _ f _ _ refl refl (ap (λ (r : Answered × State). r.0) (sym (ap (λ r. settled r s (op.Exists p)) (refused-is s c (op.Exists p) heard)) ∙ is))

@@ -8,7 +8,7 @@ use Rattle.mr_ids.specs.Attempt.{Attempt}
 use Rattle.mr_ids.specs.Same.{same_task}
 use Rattle.mr_ids.specs.declared.id.TaskId.{TaskId}
 use Rattle.mr_history.specs.declared.record.Record.{Record}
-use Rattle.mr_history.specs.declared.record.Record.TheVariants.{AttemptStarted, MapSucceeded, ReduceSucceeded, AttemptFailed, JobUnsuccessful}
+use Rattle.mr_history.specs.declared.record.Record.TheVariants.{ReduceSucceeded}
 use Rattle.mr_history.specs.Calls as history
 use Rattle.mr_history.specs.Reading as reading
 use Rattle.mr_history.specs.Reading.{records_of}
@@ -31,10 +31,7 @@ next-winner (ReduceSucceeded a bytes) rs t = by (same_task a.task t)
     by : (b : Bool) → (if b then Some a else winner_in rs t) ≡ option_or (if b then Some a else None) (winner_in rs t)
     by true = refl
     by false = refl
-next-winner (AttemptStarted a node) rs t = refl
-next-winner (MapSucceeded a node incarnation) rs t = refl
-next-winner (AttemptFailed a) rs t = refl
-next-winner JobUnsuccessful rs t = refl
+next-winner _ rs t = refl
 
 pub none-told : (t : TaskId) → winner_in [] t ≡ None
 unfolding winner_in

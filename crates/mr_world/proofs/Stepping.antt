@@ -1,12 +1,12 @@
 -- A master takes a step: its machine stands for one step more, all others as before.
-use Rattle.std.proofs.Common.{◌≡◌, ◌≤◌, ◌<◌, ℕ, zero, suc, ◌+◌, refl, sym, ◌∙◌, ap, subst, Bool, true, false, List, [], ◌∷◌, Option, Some, None, if◌then◌else◌, is_some, nat_eq, arith}
+use Rattle.std.proofs.Common.{◌≡◌, ◌≤◌, ◌<◌, ℕ, zero, suc, ◌+◌, refl, sym, ◌∙◌, ap, subst, Bool, true, false, List, [], ◌∷◌, Option, Some, if◌then◌else◌, is_some, nat_eq, arith}
 use Rattle.std.proofs.lemmas.Bool.{eqb-true}
 use Rattle.std.proofs.lemmas.Bool.Decides.{nat_tests}
 use Rattle.mr_master_model.specs.Past as machine
 use Rattle.mr_master.specs.State as master
 use Rattle.mr_model.specs.Packets.{Config}
 use Rattle.mr_model.specs.Hearing.{Launched}
-use Rattle.mr_model.specs.Duties.{Master_step, Came, Launches, Expires, Asks}
+use Rattle.mr_model.specs.Duties.{Master_step, Launches}
 use Rattle.mr_model.specs.World.{World, Event, seen_by}
 use Rattle.mr_model.specs.Effect.{effect}
 use Rattle.mr_model.specs.Claims.{world_of}
@@ -18,7 +18,7 @@ use Rattle.mr_model.specs.bridge.Stores.{MasterMoves}
 use Rattle.mr_model.proofs.bridge.Whole.{masters_agree}
 use Rattle.mr_world.specs.declared.masters.Masters.{Masters}
 use Rattle.mr_world.specs.Machines.{master_of}
-use Rattle.mr_world.specs.inner.Masters.{Ceases, Returns}
+use Rattle.mr_world.specs.inner.Masters.{Returns}
 use Rattle.mr_world.specs.Limits.{within, launches_in, launches_of}
 use Rattle.mr_world.specs.Standing.{Reached, MastersStand, MasterIn}
 use Rattle.mr_world.proofs.Mastering.{stays-in}
@@ -28,15 +28,6 @@ use Rattle.mr_world.proofs.Mastering.{stays-in}
 pub agrees : {cfg : Config} {w : World} (k : ℕ) → Reached cfg w → MasterAgrees cfg k (seen_by cfg w k) (machine_seen cfg k (w.master_past k))
 agrees {cfg} {w} k r = subst (λ (u : World). MasterAgrees cfg k (seen_by cfg u k) (machine_seen cfg k (u.master_past k))) r.is
     (masters_agree cfg k ((world_of cfg (within cfg) r.events).master_past k) (pasts_are_made.made cfg (within cfg) r.events k))
-
--- ---- a machine that was taken out and put back
-
-twice : (b : Bool) (m : master.Master) (x y : Option master.Master) → y ≡ (if b then None else x) → (if b then Some m else y) ≡ (if b then Some m else x)
-twice true m x y e = refl
-twice false m x y e = e
-
-pub swapped : (old mid new : Masters) (k : ℕ) (m : master.Master) → Ceases old k mid → Returns mid k m new → Returns old k m new
-swapped old mid new k m t p = record { count = p.count ∙ t.count; kept = λ j. p.kept j ∙ twice (nat_eq j k) m (master_of old j) (master_of mid j) (t.kept j) }
 
 alive-still : (b : Bool) (m : master.Master) (o : Option master.Master) → (b ≡ true → is_some o ≡ true) → is_some (if b then Some m else o) ≡ is_some o
 alive-still true m o e = sym (e refl)
@@ -78,16 +69,12 @@ masters-still cfg w old new k before m s at p still = masters-with cfg w w old n
 abbrev launches-told : List machine.Step → ℕ
 launches-told [] = 0
 launches-told (machine.Launches t n ∷ h) = suc (launches-told h)
-launches-told (machine.Hears p ∷ h) = launches-told h
-launches-told (machine.Expires n ∷ h) = launches-told h
-launches-told (machine.Answered a ∷ h) = launches-told h
+launches-told (_ ∷ h) = launches-told h
 
 told-is : (past : List Master_step) → launches_in past ≡ launches-told (steps past)
 told-is [] = refl
 told-is (Launches l ∷ past) = ap suc (told-is past)
-told-is (Came p ∷ past) = told-is past
-told-is (Expires n ∷ past) = told-is past
-told-is (Asks call r ∷ past) = told-is past
+told-is (_ ∷ past) = told-is past
 
 pub launches-now : {cfg : Config} {w : World} {e : Event} {k : ℕ} {x : Master_step} → MasterMoves cfg w e k x → launches_in ((effect cfg w e).master_past k) ≡ launches-told (step_of x ∷ steps (w.master_past k))
 launches-now {cfg} {w} {e} {k} {x} moves = told-is ((effect cfg w e).master_past k) ∙ ap launches-told moves.now
@@ -98,15 +85,11 @@ one-launch {cfg} {w} {e} {k} {l} moves = let one = launches-now moves in let so 
 -- by a step that is no launch
 abbrev pub launches-none : machine.Step → Bool
 launches-none (machine.Launches t n) = false
-launches-none (machine.Hears p) = true
-launches-none (machine.Expires n) = true
-launches-none (machine.Answered a) = true
+launches-none _ = true
 
 none-told : (x : machine.Step) (h : List machine.Step) → launches-none x ≡ true → launches-told (x ∷ h) ≡ launches-told h
 none-told (machine.Launches t n) h e = cc
-none-told (machine.Hears p) h e = refl
-none-told (machine.Expires n) h e = refl
-none-told (machine.Answered a) h e = refl
+none-told _ h e = refl
 
 pub other-steps : {cfg : Config} {w : World} {e : Event} {k : ℕ} {x : Master_step} → MasterMoves cfg w e k x → launches-none (step_of x) ≡ true → launches_in ((effect cfg w e).master_past k) ≡ 0 + launches_in (w.master_past k)
 other-steps {cfg} {w} {e} {k} {x} moves none = let so : launches_in ((effect cfg w e).master_past k) ≡ launches_in (w.master_past k) = launches-now moves ∙ (none-told (step_of x) (steps (w.master_past k)) none ∙ sym (told-is (w.master_past k))) in omega (arith, so)

@@ -2,18 +2,16 @@
 ghost use Rattle.std.specs.Prelude.{◌≡◌, ◌≤◌, IfOk, OnOk, OnErr, true, is_some};
 ghost use Rattle.mr_model.specs.World.{Duty, World};
 ghost use Rattle.mr_world.specs.Histories.{change_of, changed};
-ghost use Rattle.mr_world.specs.inner.Asking.{ForeseesDuty, SendsThen, Counts};
+ghost use Rattle.mr_world.specs.inner.Asking.{ForeseesDuty};
 ghost use Rattle.mr_world.specs.Machines.{master_of};
 ghost use Rattle.mr_world.specs.Standing.{Foresees, Standing, Tries};
 
 use crate::fault::WorldFault;
-use crate::masters::Masters;
 use crate::parts::Parts;
 use mr_event::Weather;
 use mr_ids::AppAttempt;
-use mr_master::{Duty as StoreDuty, MasterMachine};
+use mr_master::Duty as StoreDuty;
 use mr_master_model::StoreAnswer;
-use std::alloc::AllocError;
 
 /// A master's duty that is due, and what the master will be told of its store call.
 #[derive(Drop)]
@@ -21,30 +19,6 @@ pub struct Due {
     pub app: AppAttempt,
     pub duty: StoreDuty,
     pub answer: StoreAnswer,
-}
-
-impl Masters {
-    /// How many packets a living master sends once it hears this answer: asked of a copy of its machine.
-    pub fn count_then(&self, k: u32, answer: StoreAnswer) -> Result<usize, AllocError>
-        requires { is_some (master_of self.now k) ≡ true }
-        ensures { IfOk result (λ count. SendsThen self.now k answer count) }
-    {
-        let Some(machine) = self.get(k) else {
-            unreachable!();
-        };
-        let mut machine = machine.copy()?;
-        let count = count_of(&mut machine, answer);
-        drop(machine);
-        count
-    }
-}
-
-// How many packets a master sends once it hears this answer.
-fn count_of(machine: &mut MasterMachine, answer: StoreAnswer) -> Result<usize, AllocError>
-    ensures { IfOk result (λ count. Counts machine.old answer count) }
-{
-    let ready = machine.ready(answer)?;
-    Ok(ready.packets().len())
 }
 
 impl Parts {
@@ -69,8 +43,8 @@ impl Parts {
             duty: _,
             answer,
         } = self.foresee_duty(k, weather)?;
-        let more = self.masters.count_then(k, answer)?;
-        self.check_room(more)
+        let _prepared = self.check_answer(k, answer)?;
+        Ok(())
     }
 
     /// The master of this generation makes its store call, and hears of the answer: that of the store, a refusal too, or in bad weather
@@ -83,9 +57,10 @@ impl Parts {
         ensures kept { OnErr result (self.new.history ≡ self.old.history) }
     {
         let Due { app, duty, answer } = self.foresee_duty(k, weather)?;
-        let ready = self.make_ready(k, answer)?;
+        let prepared = self.check_answer(k, answer)?;
+        self.make_room(k, &prepared)?;
         self.ask(app, duty.call(), weather)?;
-        self.tell(k, ready);
+        self.act(k, prepared);
         Ok(())
     }
 }

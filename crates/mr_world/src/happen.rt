@@ -33,7 +33,10 @@ impl Parts {
                 generation,
                 task,
                 node,
-            } => self.check_launch(*generation, *task, *node),
+            } => {
+                self.check_launch(*generation, *task, *node)?;
+                Ok(())
+            }
             Event::Deliver { packet } => self.check_deliver(*packet as usize),
             Event::ContainerStep { container, weather } => self.check_step(container, *weather),
             Event::Computed { container, bytes } => {

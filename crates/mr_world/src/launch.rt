@@ -1,26 +1,31 @@
 //! The event by which a master launches an attempt on a node, and a master's refusals as reasons of the world.
-ghost use Rattle.std.specs.Prelude.{◌≡◌, ◌<◌, length, is_some, true, OnOk};
+ghost use Rattle.std.specs.Prelude.{◌≡◌, ◌≤◌, ◌<◌, ◌+◌, length, is_some, true, IfOk, OnOk};
+ghost use Rattle.mr_master.specs.Prepared.{IsOne};
+ghost use Rattle.mr_master_model.specs.Past.{Launches};
 ghost use Rattle.mr_model.specs.World.{LaunchOn};
 ghost use Rattle.mr_world.specs.Machines.{master_of};
+ghost use Rattle.mr_world.specs.inner.Duties.{IsPlannedAt};
 ghost use Rattle.mr_world.specs.inner.Reasons.{why_of};
 ghost use Rattle.mr_world.specs.Standing.{Foresees, Tries};
 
 use crate::fault::WorldFault;
 use crate::limits::MAX_CONTAINERS;
 use crate::parts::Parts;
-use crate::room::reserve;
 use mr_event::Why;
 use mr_ids::TaskId;
+use mr_master::Prepared;
 use mr_master_model::LaunchFault;
 use mr_packet::MAX_PACKETS;
 
 impl Parts {
-    /// Whether an attempt at the task can be launched on the node now.
-    pub fn check_launch(&self, k: u32, task: TaskId, node: u32) -> Result<(), WorldFault>
+    /// Whether an attempt at the task can be launched on the node now, and what the master would send and change then.
+    pub fn check_launch(&self, k: u32, task: TaskId, node: u32) -> Result<Prepared, WorldFault>
         ensures foresees { Foresees self.now (LaunchOn k task node) result }
         ensures alive { OnOk result (is_some (master_of self.now.masters k) ≡ true) }
         ensures few { OnOk result (self.now.launched < MAX_CONTAINERS) }
-        ensures room { OnOk result (length self.now.bag.packets < MAX_PACKETS) }
+        ensures planned { IfOk result (λ prepared. IsPlannedAt self.now.masters k (Launches task node) prepared) }
+        ensures one { IfOk result (λ prepared. IsOne prepared.packets) }
+        ensures room { IfOk result (λ prepared. length self.now.bag.packets + length prepared.packets ≤ MAX_PACKETS) }
     {
         let Some(machine) = self.masters.get(k) else {
             return Err(WorldFault::NotNow(Why::NoMaster));
@@ -31,7 +36,11 @@ impl Parts {
         if self.launched >= MAX_CONTAINERS {
             return Err(WorldFault::Full);
         }
-        self.check_room(1)
+        self.check_room(1)?;
+        match machine.prepare_launch(task, node) {
+            Ok(prepared) => Ok(prepared),
+            Err(_) => Err(WorldFault::NoMemory),
+        }
     }
 
     /// The master of this generation launches the next attempt at the task on the node, which is told so.
@@ -40,18 +49,9 @@ impl Parts {
         ensures config { self.new.config ≡ self.old.config }
         ensures history { self.new.history ≡ self.old.history }
     {
-        self.check_launch(k, task, node)?;
-        reserve(&mut self.bag, 1)?;
-        let Some(mut machine) = self.masters.take(k) else {
-            unreachable!();
-        };
-        let launched = machine.launch(task, node);
-        self.masters.put(k, machine);
-        let packet = match launched {
-            Ok(packet) => packet,
-            Err(_) => return Err(WorldFault::NoMemory),
-        };
-        self.bag.push_reserved(packet);
+        let prepared = self.check_launch(k, task, node)?;
+        self.make_room(k, &prepared)?;
+        self.act(k, prepared);
         self.launched += 1;
         Ok(())
     }

@@ -101,6 +101,7 @@
 //! limits are found without memory (`fits_counted` of `specs/Limits`). A master is told what a store answers, a refusal too; only where a store is full the whole event is refused.
 #![tactic(auto)]
 
+mod act;
 mod alive;
 mod ask;
 mod asked;
@@ -128,7 +129,6 @@ mod opening;
 mod parts;
 mod push;
 mod reading;
-mod ready;
 mod restart;
 mod results;
 mod room;

@@ -1,10 +1,13 @@
 //! The machines of the masters that are alive, by generation.
-ghost use Rattle.std.specs.Prelude.{◌≡◌, ◌≤◌, ◌<◌, ℕ, None, Some, is_some, length, slice_set, OnOk, OnErr};
+ghost use Rattle.std.specs.Prelude.{◌≡◌, ℕ, true, None, is_some, OnOk, OnErr};
 ghost use Rattle.std.specs.Option.{option_copied};
+ghost use Rattle.mr_master_model.specs.Past.{Step};
 ghost use Rattle.mr_world.specs.Machines.{master_of, master_count};
-ghost use Rattle.mr_world.specs.inner.Masters.{SameMasters, Begins, Ceases, Returns};
+ghost use Rattle.mr_world.specs.inner.Duties.{IsKept, IsPlannedAt, IsReadyAt, HasActed, IsReserved, IsReadyIn, ActsIn};
+ghost use Rattle.mr_world.specs.inner.Masters.{SameMasters, Begins, Ceases};
 
-use mr_master::MasterMachine;
+use mr_master::{MasterMachine, Prepared};
+use mr_packet::Envelope;
 use std::alloc::{AllocError, Global};
 
 /// The machines of the masters by generation, from 1: those that are alive. Of each other one that was started an empty place is kept.
@@ -64,30 +67,50 @@ impl Masters {
         }
     }
 
-    /// Takes the machine of a living master out, until it is put back. It takes no memory.
-    #[tactic(auto, unfolding(crate::specs::Machines::master_of, crate::specs::Machines::master_count))]
-    pub fn take(&mut self, k: u32) -> Option<MasterMachine>
-        ensures taken { result ≡ master_of self.old k }
-        ensures left { Ceases self.old k self.new }
+    /// A living master makes room for what is prepared; nothing changes but its spare room.
+    pub fn reserve(&mut self, k: u32, prepared: &Prepared) -> Result<(), AllocError>
+        requires { is_some (master_of self.old k) ≡ true }
+        ensures kept { IsKept self.old k self.new }
+        ensures ready { OnOk result ((step : Step) → IsPlannedAt self.old k step prepared.now → IsReadyAt self.new k step prepared.now) }
     {
-        let place = k.checked_sub(1)?;
-        self.machines.get_mut(place as usize)?.take()
+        let Some(place) = self.machines.get_mut(k as usize - 1) else {
+            unreachable!();
+        };
+        reserve_in(place, prepared)
     }
 
-    /// Puts the machine of a master that was started back to its place. It takes no memory.
-    #[tactic(auto, unfolding(crate::specs::Machines::master_of, crate::specs::Machines::master_count))]
-    pub fn put(&mut self, k: u32, machine: MasterMachine)
-        requires started { (1 ≤ k) × (k ≤ master_count self.old) }
-        ensures { Returns self.old k machine self.new }
+    /// A master takes the step that was prepared: the packets that it sends. It takes no memory.
+    pub fn act(&mut self, k: u32, prepared: Prepared) -> Vec<Envelope>
+        requires { (step : Step) × IsReadyAt self.old k step prepared }
+        ensures packets { result.items ≡ prepared.packets }
+        ensures acted { (step : Step) → IsReadyAt self.old k step prepared → HasActed self.old k step self.new }
     {
-        put_at(&mut self.machines, k as usize - 1, machine);
+        let Some(place) = self.machines.get_mut(k as usize - 1) else {
+            unreachable!();
+        };
+        act_in(place, prepared)
     }
 }
 
-// The machine is at its place. (Apart, and with no branch: the machine that was there is dropped on one way alone.)
-fn put_at(machines: &mut Vec<Option<MasterMachine>>, place: usize, machine: MasterMachine)
-    requires { place < length machines.old.items }
-    ensures { machines.new.items ≡ slice_set machines.old.items place (Some machine) }
+// The machine at a place makes room for what is prepared.
+fn reserve_in(place: &mut Option<MasterMachine>, prepared: &Prepared) -> Result<(), AllocError>
+    requires { is_some place.old ≡ true }
+    ensures { IsReserved place.old prepared.now result place.new }
 {
-    machines[place] = Some(machine);
+    match place {
+        Some(machine) => machine.reserve(prepared),
+        None => unreachable!(),
+    }
+}
+
+// The machine at a place takes the step that was prepared.
+fn act_in(place: &mut Option<MasterMachine>, prepared: Prepared) -> Vec<Envelope>
+    requires { IsReadyIn place.old prepared }
+    ensures packets { result.items ≡ prepared.packets }
+    ensures acted { ActsIn place.old prepared place.new }
+{
+    match place {
+        Some(machine) => machine.take(prepared),
+        None => unreachable!(),
+    }
 }

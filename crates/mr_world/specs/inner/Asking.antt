@@ -1,5 +1,5 @@
 -- A master's store call: what both stores answer, what they leave, and whether one of them is full.
-use Rattle.std.specs.Prelude.{◌≡◌, ℕ, Bool, true, false, ◌&&◌, Option, Some, None, Result, Ok, Err, length}
+use Rattle.std.specs.Prelude.{◌≡◌, ℕ, Bool, true, false, ◌&&◌, Option, Some, None, Result, Ok, Err}
 use Rattle.mr_names.specs.declared.op.Op.{Op}
 use Rattle.mr_names.specs.declared.op.Op.TheVariants as op
 use Rattle.mr_names.specs.Calls as names
@@ -12,20 +12,15 @@ use Rattle.mr_master_model.specs.declared.store.StoreCall.{StoreCall}
 use Rattle.mr_master_model.specs.declared.store.StoreCall.TheVariants as call
 use Rattle.mr_master_model.specs.declared.store.StoreAnswer.{StoreAnswer}
 use Rattle.mr_master_model.specs.declared.store.StoreAnswer.TheVariants as answer
-use Rattle.mr_master_model.specs.Past.{Answered}
-use Rattle.mr_master_model.specs.Next as next
-use Rattle.mr_master.specs.State.{Master, Answers}
 use Rattle.mr_model.specs.World.{World, Weather, Duty}
 use Rattle.mr_model.specs.Stored.{master, left_in}
 use Rattle.mr_model.specs.bridge.Stores.{told_of, told_in}
 use Rattle.mr_world.specs.declared.duty.Due.{Due}
 use Rattle.mr_world.specs.declared.fault.WorldFault.{WorldFault}
-use Rattle.mr_world.specs.declared.masters.Masters.{Masters}
 use Rattle.mr_world.specs.declared.parts.Parts.{Parts}
 use Rattle.mr_world.specs.inner.Calling.{is_made}
 use Rattle.mr_world.specs.inner.Duties.{HasDuty}
 use Rattle.mr_world.specs.Limits.{is_full}
-use Rattle.mr_world.specs.Machines.{master_of}
 use Rattle.mr_world.specs.Standing.{Standing, RefusesEvent}
 
 -- the answer to the master of generation k
@@ -108,11 +103,3 @@ RefusesDuty p k f fault = (w : World) → Standing p w → RefusesEvent p.config
 abbrev pub ForeseesDuty : Parts → ℕ → Weather → Result Due WorldFault → Type 0
 ForeseesDuty p k f (Ok due) = (due.app ≡ k) × IsForeseen p k f due.duty.call due.answer
 ForeseesDuty p k f (Err fault) = RefusesDuty p k f fault
-
--- the machine of a master sends so many packets once it hears this answer
-abbrev pub Counts : Master → StoreAnswer → ℕ → Type 0
-Counts m a n = Answers m (λ w past. length (next.sent w past (Answered a))) n
-
--- its machine sends so many packets once it hears this answer
-abbrev pub SendsThen : Masters → ℕ → StoreAnswer → ℕ → Type 0
-SendsThen masters k a n = (m : Master) → master_of masters k ≡ Some m → Counts m a n

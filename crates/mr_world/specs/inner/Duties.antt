@@ -1,14 +1,15 @@
--- The duty of a master: which store call it is, and what is ready before the call is made.
-use Rattle.std.specs.Prelude.{◌≡◌, ◌≤◌, ◌+◌, ◌++◌, ℕ, Bool, true, List, Some, None, Result, Ok, Err, is_some, length, nat_le}
+-- The duty of a master, and how a master takes a step: it is planned, there is room for it, and it is taken.
+use Rattle.std.specs.Prelude.{◌≡◌, ◌≤◌, ◌+◌, ◌++◌, ℕ, Bool, true, List, Some, None, Option, Result, Ok, Err, OnOk, is_some, length, nat_le}
 use Rattle.std.specs.Option.{option_map}
+use Rattle.std.specs.declared.alloc.AllocError.{AllocError}
 use Rattle.mr_packet.specs.declared.packet.Envelope.{Envelope}
 use Rattle.mr_packet.specs.declared.bag.TheConstants.{MAX_PACKETS}
 use Rattle.mr_master_model.specs.Next as next
-use Rattle.mr_master_model.specs.Past.{Answered}
+use Rattle.mr_master_model.specs.Past.{Step, Answered}
 use Rattle.mr_master_model.specs.declared.store.StoreCall.{StoreCall}
 use Rattle.mr_master_model.specs.declared.store.StoreAnswer.{StoreAnswer}
-use Rattle.mr_master.specs.State.{Master, StandsStill, Stands, Answers}
-use Rattle.mr_master.specs.Ready.{Ready, IsReady}
+use Rattle.mr_master.specs.State.{Master, StandsStill, Stands}
+use Rattle.mr_master.specs.Prepared.{Prepared, PlansFor, IsReadyFor}
 use Rattle.mr_model.specs.Packets.{Config}
 use Rattle.mr_model.specs.World.{World, duty}
 use Rattle.mr_model.specs.bridge.Steps.{setting, steps, store_call}
@@ -31,7 +32,13 @@ pub record HasDuty (p : Parts) (k : ℕ) (call : StoreCall) : Type 0 where
   pub kept : is_some (master_of p.masters k) ≡ true
   pub due : (w : World) → Standing p w → IsDue p.config w k call
 
--- ---- what is ready
+-- ---- a step of a master
+
+-- what the machine of a master would send and change at a step
+pub record IsPlannedAt (masters : Masters) (k : ℕ) (step : Step) (p : Prepared) : Type 0 where
+  pub machine : Master
+  pub at : master_of masters k ≡ Some machine
+  pub planned : PlansFor machine step p
 
 -- the machine of a master is another one that stands for what it stood for
 pub record IsKept (old : Masters) (k : ℕ) (new : Masters) : Type 0 where
@@ -41,29 +48,61 @@ pub record IsKept (old : Masters) (k : ℕ) (new : Masters) : Type 0 where
   pub returns : Returns old k after new
   pub still : StandsStill before after
 
--- and is ready for an answer
-pub record IsMadeReady (old : Masters) (k : ℕ) (a : StoreAnswer) (r : Ready) (new : Masters) : Type 0 where
-  pub before : Master
-  pub after : Master
-  pub at : master_of old k ≡ Some before
-  pub returns : Returns old k after new
-  pub still : StandsStill before after
-  pub sent : Answers before (λ w past. next.sent w past (Answered a)) r.packets
-  pub ready : IsReady after a r
-
--- the machine of a master is ready for this answer
-pub record IsReadyAt (masters : Masters) (k : ℕ) (a : StoreAnswer) (r : Ready) : Type 0 where
+-- the machine of a master has room for the step
+pub record IsReadyAt (masters : Masters) (k : ℕ) (step : Step) (p : Prepared) : Type 0 where
   pub machine : Master
   pub at : master_of masters k ≡ Some machine
-  pub ready : IsReady machine a r
+  pub ready : IsReadyFor machine step p
 
--- it heard this answer
-pub record HasHeard (old : Masters) (k : ℕ) (a : StoreAnswer) (new : Masters) : Type 0 where
+-- it took the step
+pub record HasActed (old : Masters) (k : ℕ) (step : Step) (new : Masters) : Type 0 where
   pub before : Master
   pub after : Master
   pub at : master_of old k ≡ Some before
   pub returns : Returns old k after new
-  pub stands : Stands before (Answered a) after
+  pub stands : Stands before step after
+
+-- ---- the same of one place: the machine there, if there is one
+
+-- it is another one that stands for what it stood for, and that has room for what is planned where memory was granted
+pub record IsReserved (old : Option Master) (p : Prepared) (result : Result (Unit {0}) AllocError) (new : Option Master) : Type 0 where
+  pub before : Master
+  pub after : Master
+  pub was : old ≡ Some before
+  pub is : new ≡ Some after
+  pub still : StandsStill before after
+  pub ready : OnOk result ((step : Step) → PlansFor before step p → IsReadyFor after step p)
+
+-- it has room for a step
+pub record IsReadyIn (place : Option Master) (p : Prepared) : Type 0 where
+  pub machine : Master
+  pub is : place ≡ Some machine
+  pub step : Step
+  pub ready : IsReadyFor machine step p
+
+-- it took the step
+pub record ActsIn (old : Option Master) (p : Prepared) (new : Option Master) : Type 0 where
+  pub before : Master
+  pub after : Master
+  pub was : old ≡ Some before
+  pub is : new ≡ Some after
+  pub stands : (step : Step) → IsReadyFor before step p → Stands before step after
+
+-- ---- a step of the parts
+
+-- the machine has room for the step, and the bag for the packets that are sent at it
+pub record IsSet (parts : Parts) (k : ℕ) (step : Step) (p : Prepared) : Type 0 where
+  pub machine : IsReadyAt parts.masters k step p
+  pub spare : length p.packets ≤ parts.bag.spare
+  pub room : length parts.bag.packets + length p.packets ≤ MAX_PACKETS
+
+-- the master took the step, and its packets are sent
+pub record HasTaken (old : Parts) (k : ℕ) (step : Step) (p : Prepared) (new : Parts) : Type 0 where
+  pub acted : HasActed old.masters k step new.masters
+  pub bag : new.bag.packets ≡ old.bag.packets ++ p.packets
+  pub rest : new ≡ record old { masters = new.masters; bag = new.bag }
+
+-- ---- an answer
 
 -- what the master sends once it hears this answer
 abbrev pub says_then : Config → World → ℕ → StoreAnswer → List Envelope
@@ -73,20 +112,8 @@ says_then cfg w k a = next.sent (setting cfg k) (steps (w.master_past k)) (Answe
 abbrev pub fits_then : Config → World → ℕ → StoreAnswer → Bool
 fits_then cfg w k a = nat_le (length w.bag + length (says_then cfg w k a)) MAX_PACKETS
 
--- the machine is ready for this answer, and the bag has room for the packets that it sends then
-pub record IsSet (p : Parts) (k : ℕ) (a : StoreAnswer) (r : Ready) : Type 0 where
-  pub machine : IsReadyAt p.masters k a r
-  pub spare : length r.packets ≤ p.bag.spare
-  pub room : length p.bag.packets + length r.packets ≤ MAX_PACKETS
-
--- the master heard the answer, and its packets are sent
-pub record HasTold (old : Parts) (k : ℕ) (a : StoreAnswer) (r : Ready) (new : Parts) : Type 0 where
-  pub heard : HasHeard old.masters k a new.masters
-  pub bag : new.bag.packets ≡ old.bag.packets ++ r.packets
-  pub rest : new ≡ record old { masters = new.masters; bag = new.bag }
-
--- Parts are made ready for an answer: of every world that they stood for, they stand for it still, and the packets are what is sent then; or those find no
--- room, or memory was refused, and they stand for it still.
-abbrev pub MakesReady : Parts → ℕ → StoreAnswer → Result Ready WorldFault → Parts → Type 0
-MakesReady old k a (Ok r) new = IsSet new k a r × ((w : World) → Standing old w → Standing new w × (r.packets ≡ says_then old.config w k a) × (fits_then old.config w k a ≡ true))
-MakesReady old k a (Err fault) new = (w : World) → Standing old w → Refuses None (fits_then old.config w k a) true fault × Standing new w
+-- What would be sent and changed at an answer: in every world that the parts stand for the packets are what is sent then, and find room; or they find no
+-- room, or memory was refused.
+abbrev pub PlansAnswer : Parts → ℕ → StoreAnswer → Result Prepared WorldFault → Type 0
+PlansAnswer parts k a (Ok p) = IsPlannedAt parts.masters k (Answered a) p × ((w : World) → Standing parts w → (p.packets ≡ says_then parts.config w k a) × (fits_then parts.config w k a ≡ true))
+PlansAnswer parts k a (Err fault) = (w : World) → Standing parts w → Refuses None (fits_then parts.config w k a) true fault

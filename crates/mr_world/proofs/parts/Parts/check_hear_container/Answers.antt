@@ -1,5 +1,4 @@
 use Rattle.std.proofs.Common.{sym, ◌∙◌, ap, slice_get, arith}
-use Rattle.mr_model.specs.World.{Deliver}
 use Rattle.mr_world.specs.inner.Replying.{one_if, ends_by}
 use Rattle.mr_world.proofs.Hearing_containers.{refused, needs, one_if-most}
 use Rattle.mr_world.proofs.Refusals.{taken-by, full-by}

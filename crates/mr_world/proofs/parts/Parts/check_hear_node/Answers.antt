@@ -1,5 +1,4 @@
 use Rattle.std.proofs.Common.{sym, ◌∙◌, ap, slice_get, arith}
-use Rattle.mr_model.specs.World.{Deliver}
 use Rattle.mr_world.specs.inner.Replying.{answers_at, one_if}
 use Rattle.mr_world.proofs.Hearing_containers.{one_if-most}
 use Rattle.mr_world.proofs.Hearing_nodes.{needs}

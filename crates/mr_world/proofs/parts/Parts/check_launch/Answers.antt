@@ -1,7 +1,7 @@
-use Rattle.std.proofs.Common.{sym, ap, is_some}
+use Rattle.std.proofs.Common.{◌≡◌, sym, ap, subst, is_some, IsErrAnd}
 use Rattle.mr_model.specs.World.{LaunchOn}
-use Rattle.mr_world.proofs.Launching.{dead, refused, full, needs}
-use Rattle.mr_world.proofs.Refusals.{foresees-room}
+use Rattle.mr_world.proofs.Launching.{dead, refused, full, needs, one-fits}
+use Rattle.mr_world.proofs.Refusals.{full-foreseen, taken-by, lacks-memory}
 use Rattle.mr_world.proofs.parts.Parts.check_launch.Goals as goal
 
 pub returns-in_default-clause-foresees : goal.returns-in_default-clause-foresees
@@ -17,7 +17,21 @@ pub returns-then-self-ge-MAX_CONTAINERS-clause-foresees :
 returns-then-self-ge-MAX_CONTAINERS-clause-foresees c = full c.args.self.now c.args.k c.args.task c.args.node c.in-Some.machine.now c.launch_refusal.result
     (sym c.in-Some.ensures, c.launch_refusal.ensures) c.in_default-launch_refusal.is c.if-self-ge-MAX_CONTAINERS.true
 
-pub returns-clause-foresees : goal.returns-clause-foresees
-returns-clause-foresees c = foresees-room c.args.self.now (LaunchOn c.args.k c.args.task c.args.node) 1
+pub returns-in_err-check_room-clause-foresees : goal.returns-in_err-check_room-clause-foresees
+returns-in_err-check_room-clause-foresees c = full-foreseen c.args.self.now (LaunchOn c.args.k c.args.task c.args.node) 1 c.from_residual.result
     (needs c.args.self.now c.args.k c.args.task c.args.node c.in-Some.machine.now c.launch_refusal.result (sym c.in-Some.ensures, c.launch_refusal.ensures) c.in_default-launch_refusal.is c.if-self-ge-MAX_CONTAINERS.false)
-    c.check_room.result c.check_room.ensures.room c.check_room.ensures.full
+    c.in_err-check_room.ensures.full.1 (subst (λ f. IsErrAnd c.from_residual.result (λ g. g ≡ f)) c.in_err-check_room.ensures.full.0 c.from_residual.ensures.1)
+
+pub returns-in-Ok-clause-foresees : goal.returns-in-Ok-clause-foresees
+returns-in-Ok-clause-foresees c = λ w s. taken-by s (needs c.args.self.now c.args.k c.args.task c.args.node c.in-Some.machine.now c.launch_refusal.result (sym c.in-Some.ensures, c.launch_refusal.ensures) c.in_default-launch_refusal.is c.if-self-ge-MAX_CONTAINERS.false w s)
+    c.in_ok-check_room.ensures.room
+
+pub returns-in-Err-clause-foresees : goal.returns-in-Err-clause-foresees
+returns-in-Err-clause-foresees c = λ w s. lacks-memory (taken-by s (needs c.args.self.now c.args.k c.args.task c.args.node c.in-Some.machine.now c.launch_refusal.result (sym c.in-Some.ensures, c.launch_refusal.ensures) c.in_default-launch_refusal.is c.if-self-ge-MAX_CONTAINERS.false w s)
+    c.in_ok-check_room.ensures.room)
+
+pub returns-in-Ok-clause-planned : goal.returns-in-Ok-clause-planned
+returns-in-Ok-clause-planned c = record { machine = c.in-Some.machine.now; at = sym c.in-Some.ensures; planned = c.in-Ok.ensures.planned }
+
+pub returns-in-Ok-clause-room : goal.returns-in-Ok-clause-room
+returns-in-Ok-clause-room c = one-fits _ c.in-Ok.prepared.packets c.in-Ok.ensures.one c.in_ok-check_room.ensures.room

@@ -1,19 +1,17 @@
-use Rattle.std.proofs.Common.{sym, ap, ◌∙◌, ◌++◌, arith}
-use Rattle.mr_world.proofs.Mastering.{counted}
-use Rattle.mr_world.proofs.Expiring.{expired, not-expired, ok-part, err-part}
+use Rattle.mr_master_model.specs.Past.{Expires}
+use Rattle.mr_model.specs.World.{Expire}
+use Rattle.mr_world.proofs.Expiring.{expired}
+use Rattle.mr_world.proofs.Refusals.{memory-tried}
 use Rattle.mr_world.proofs.parts.Parts.expire.Goals as goal
 
-pub put-requires : goal.put-requires
-put-requires c = let n = counted c.args.self.now.masters c.args.k c.in_ok-packets.ensures.alive in record { started = (n.0, omega (arith, n.1, c.take.ensures.left.count)) }
+pub returns-in_err-make_room-clause-tries : goal.returns-in_err-make_room-clause-tries
+returns-in_err-make_room-clause-tries c = memory-tried c.args.self.now c.make_room.new.self (Expire c.args.k c.args.node) c.from_residual-in_err-make_room.result c.in_ok-prepared.ensures.foresees c.make_room.ensures.still c.from_residual-in_err-make_room.ensures.1
 
-pub returns-in-Err-clause-tries : goal.returns-in-Err-clause-tries
-returns-in-Err-clause-tries c = not-expired c.args.self.now c.args.k c.args.node c.take.new.self c.put.new.self c.reserve.new.bag c.in-Some.machine c.expire-expired.new.self
-    c.in_ok-packets.ensures.foresees c.in-Some.ensures.taken c.take.ensures.left c.put.ensures (err-part _ _ c.in-Err.is c.expire-expired.ensures.unchanged) c.reserve.ensures.kept
+pub act-requires : goal.act-requires
+act-requires c = (Expires c.args.node, c.in_ok-make_room.ensures.set (Expires c.args.node) c.in_ok-prepared.ensures.planned)
 
 pub returns-clause-tries : goal.returns-clause-tries
-returns-clause-tries c = λ w s. let t = c.in_ok-packets.ensures.foresees w s in (
+returns-clause-tries c = λ w s. let t = c.in_ok-prepared.ensures.foresees w s in let set = c.in_ok-make_room.ensures.set (Expires c.args.node) c.in_ok-prepared.ensures.planned in (
   t,
-  expired c.args.self.now w c.args.k c.args.node c.take.new.self c.put.new.self c.push_all.new.bag c.in-Some.machine c.expire-expired.new.self c.in_ok-packets.packets.items s t
-      c.in-Some.ensures.taken c.take.ensures.left c.put.ensures (ok-part _ _ c.in-Ok.is c.expire-expired.ensures.stands) (c.in_ok-packets.ensures.sent c.in-Some.machine (sym c.in-Some.ensures.taken))
-      (c.push_all.ensures ∙ ap (λ es. es ++ c.in_ok-packets.packets.items) c.reserve.ensures.kept),
+  expired c.args.self.now c.make_room.new.self c.act.new.self w c.args.k c.args.node c.in_ok-prepared.prepared s t c.make_room.ensures.rest c.make_room.ensures.still set (c.act.ensures.taken (Expires c.args.node) set),
 )

@@ -1,24 +1,18 @@
-use Rattle.std.proofs.Common.{sym, ap, ◌∙◌, ◌++◌, slice_get, arith}
-use Rattle.mr_world.proofs.Mastering.{counted}
-use Rattle.mr_world.proofs.Expiring.{ok-part, err-part}
-use Rattle.mr_world.proofs.Hearing_masters.{heard, not-heard}
+use Rattle.mr_packet.specs.declared.packet.Address.TheVariants.{Master}
+use Rattle.mr_master_model.specs.Past.{Hears}
+use Rattle.mr_model.specs.World.{Deliver}
+use Rattle.mr_world.proofs.Hearing_masters.{heard-in}
+use Rattle.mr_world.proofs.Refusals.{memory-tried}
 use Rattle.mr_world.proofs.parts.Parts.hear_master.Goals as goal
 
-pub hear-heard-requires-clause-heard : goal.hear-heard-requires-clause-heard
-hear-heard-requires-clause-heard c = λ e at w past stands. c.deref.ensures.value
-    ∙ c.in_ok-packets.ensures.sent c.in-Some.machine e (sym c.in-Some.ensures.taken) (sym (ap (λ es. slice_get es c.args.i) c.reserve.ensures.kept) ∙ at) w past stands
+pub returns-in_err-make_room-clause-tries : goal.returns-in_err-make_room-clause-tries
+returns-in_err-make_room-clause-tries c = memory-tried c.args.self.now c.make_room.new.self (Deliver c.args.i) c.from_residual-in_err-make_room.result c.in_ok-prepared.ensures.foresees c.make_room.ensures.still c.from_residual-in_err-make_room.ensures.1
 
-pub put-requires : goal.put-requires
-put-requires c = let n = counted c.args.self.now.masters c.args.k c.in_ok-packets.ensures.alive in record { started = (n.0, omega (arith, n.1, c.take.ensures.left.count)) }
-
-pub returns-in-Err-clause-tries : goal.returns-in-Err-clause-tries
-returns-in-Err-clause-tries c = not-heard c.args.self.now c.args.i c.args.k c.take.new.self c.put.new.self c.reserve.new.bag c.in-Some.machine c.hear-heard.new.machine
-    c.in_ok-packets.ensures.foresees c.in-Some.ensures.taken c.take.ensures.left c.put.ensures (err-part _ _ c.in-Err.is c.hear-heard.ensures.still) c.reserve.ensures.kept
+pub act-requires : goal.act-requires
+act-requires c = (Hears c.requires.0, c.in_ok-make_room.ensures.set (Hears c.requires.0) (c.in_ok-prepared.ensures.planned (record { to = Master c.args.k; body = c.requires.0 }) c.requires.1))
 
 pub returns-clause-tries : goal.returns-clause-tries
-returns-clause-tries c = λ w s. let t = c.in_ok-packets.ensures.foresees w s in (
+returns-clause-tries c = λ w s. let t = c.in_ok-prepared.ensures.foresees w s in let set = c.in_ok-make_room.ensures.set (Hears c.requires.0) (c.in_ok-prepared.ensures.planned (record { to = Master c.args.k; body = c.requires.0 }) c.requires.1) in (
   t,
-  heard c.args.self.now w c.args.i c.args.k c.take.new.self c.put.new.self c.push_all.new.bag c.in-Some.machine c.hear-heard.new.machine c.in_ok-packets.packets.items s t c.requires
-      c.in-Some.ensures.taken c.take.ensures.left c.put.ensures (λ e at. ok-part _ _ c.in-Ok.is c.hear-heard.ensures.heard e (ap (λ es. slice_get es c.args.i) c.reserve.ensures.kept ∙ at)) (λ e at. c.in_ok-packets.ensures.sent c.in-Some.machine e (sym c.in-Some.ensures.taken) at)
-      (c.push_all.ensures ∙ ap (λ es. es ++ c.in_ok-packets.packets.items) c.reserve.ensures.kept),
+  heard-in c.args.self.now c.make_room.new.self c.act.new.self w c.args.i c.args.k c.in_ok-prepared.prepared s t c.requires c.make_room.ensures.rest c.make_room.ensures.bag c.make_room.ensures.still set (c.act.ensures.taken (Hears c.requires.0) set),
 )

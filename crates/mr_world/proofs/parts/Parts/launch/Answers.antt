@@ -1,19 +1,17 @@
-use Rattle.std.proofs.Common.{ap, ◌∙◌, ◌++◌, ◌∷◌, [], arith}
-use Rattle.mr_world.proofs.Mastering.{counted}
-use Rattle.mr_world.proofs.Launching.{launched, not-launched}
+use Rattle.mr_master_model.specs.Past.{Launches}
+use Rattle.mr_model.specs.World.{LaunchOn}
+use Rattle.mr_world.proofs.Launching.{launched}
+use Rattle.mr_world.proofs.Refusals.{memory-tried}
 use Rattle.mr_world.proofs.parts.Parts.launch.Goals as goal
 
-pub put-requires : goal.put-requires
-put-requires c = let n = counted c.args.self.now.masters c.args.k c.in_ok-check_launch.ensures.alive in record { started = (n.0, omega (arith, n.1, c.take.ensures.left.count)) }
+pub returns-in_err-make_room-clause-tries : goal.returns-in_err-make_room-clause-tries
+returns-in_err-make_room-clause-tries c = memory-tried c.args.self.now c.make_room.new.self (LaunchOn c.args.k c.args.task c.args.node) c.from_residual-in_err-make_room.result c.in_ok-prepared.ensures.foresees c.make_room.ensures.still c.from_residual-in_err-make_room.ensures.1
 
-pub returns-in-Err-clause-tries : goal.returns-in-Err-clause-tries
-returns-in-Err-clause-tries c = not-launched c.args.self.now c.args.k c.args.task c.args.node c.take.new.self c.put.new.self c.reserve.new.bag c.in-Some.machine c.launch-launched.new.self c.in-Err.field-0 c.launch-launched.result
-    c.in_ok-check_launch.ensures.foresees c.in-Some.ensures.taken c.take.ensures.left c.put.ensures c.in-Err.is c.launch-launched.ensures.unchanged c.reserve.ensures.kept
+pub act-requires : goal.act-requires
+act-requires c = (Launches c.args.task c.args.node, c.in_ok-make_room.ensures.set (Launches c.args.task c.args.node) c.in_ok-prepared.ensures.planned)
 
 pub returns-clause-tries : goal.returns-clause-tries
-returns-clause-tries c = λ w s. let t = c.in_ok-check_launch.ensures.foresees w s in (
+returns-clause-tries c = λ w s. let t = c.in_ok-prepared.ensures.foresees w s in let set = c.in_ok-make_room.ensures.set (Launches c.args.task c.args.node) c.in_ok-prepared.ensures.planned in (
   t,
-  launched c.args.self.now w c.args.k c.args.task c.args.node c.take.new.self c.put.new.self c.push_reserved.new.self c.in-Some.machine c.launch-launched.new.self c.in-Ok.packet c.launch-launched.result s t
-      c.in-Some.ensures.taken c.take.ensures.left c.put.ensures c.in-Ok.is c.launch-launched.ensures.stands c.launch-launched.ensures.sent
-      (c.push_reserved.ensures.packets ∙ ap (λ es. es ++ c.in-Ok.packet ∷ []) c.reserve.ensures.kept),
+  launched c.args.self.now c.make_room.new.self c.act.new.self w c.args.k c.args.task c.args.node c.in_ok-prepared.prepared s t c.make_room.ensures.rest c.make_room.ensures.still c.in_ok-prepared.ensures.one set (c.act.ensures.taken (Launches c.args.task c.args.node) set),
 )
