@@ -17,9 +17,9 @@ use Rattle.serde_json.specs.Data.{Data, Members, put, string}
 use Rattle.serde_json.specs.View.{items_of, view}
 use Rattle.serde_json.specs.Written.{has_float, items_have_float}
 use Rattle.serde_json.specs.declared.value.Value.{Value}
-use Rattle.mr_json.specs.Members.{count, object_of, text, with_all}
+use Rattle.mr_object.specs.Members.{count, object_of, text, with_all}
 use Rattle.mr_json.specs.Endings.{contents, contents_by, ending_members, ending_object, file_object, winner_data}
-use Rattle.mr_json.proofs.Members.{have_float, neither, plain_object}
+use Rattle.mr_object.proofs.Members.{have_float, neither, plain_object}
 
 plain_winner : (won : Option Attempt) → has_float (winner_data won) ≡ false
 plain_winner None = refl

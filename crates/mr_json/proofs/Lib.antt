@@ -1,4 +1,3 @@
-mod Members
 mod Telling
 mod Ended
 mod Records

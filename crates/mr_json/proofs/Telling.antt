@@ -19,9 +19,9 @@ use Rattle.serde_json.specs.Data.{Data, Members, no_members, object, put}
 use Rattle.serde_json.specs.View.{items_of, view}
 use Rattle.serde_json.specs.Written.{has_float, items_have_float, members_have_float}
 use Rattle.serde_json.specs.declared.value.Value.{Value}
-use Rattle.mr_json.specs.Members.{count, with_all}
+use Rattle.mr_object.specs.Members.{count, with_all}
 use Rattle.mr_json.specs.Objects.{asked_members, event_members, happened_line, happened_object, maker_members, name_members, objects_text, packet_object, packet_objects, packets_member, with_beginning}
-use Rattle.mr_json.proofs.Members.{have_float, neither, plain_with}
+use Rattle.mr_object.proofs.Members.{have_float, neither, plain_with}
 
 -- ---- floats
 

@@ -18,7 +18,7 @@ use Rattle.mr_world.specs.Journal.{Journal, world_in}
 use Rattle.mr_trace.specs.declared.makers.Maker.{Maker}
 use Rattle.mr_trace.specs.Happened.{happened_in}
 use Rattle.serde_json.specs.Data.{Data, boolean, null, string}
-use Rattle.mr_json.specs.Members.{Member, count, line_of, list, object_of, text}
+use Rattle.mr_object.specs.Members.{Member, count, line_of, list, object_of, text}
 use Rattle.mr_json.specs.Objects.{objects_text}
 
 -- a reduce's winner, or null

@@ -17,7 +17,7 @@ use Rattle.mr_trace.specs.Happened.{Happened}
 use Rattle.mr_trace.specs.Trace.{call_text, heard_text, seat_text, weather_of}
 use Rattle.mr_trace.specs.Words.{address_text, packet_text}
 use Rattle.serde_json.specs.Data.{Data, Members, boolean, no_members, object, put, string}
-use Rattle.mr_json.specs.Members.{Member, count, line_of, list, object_of, text, with_all}
+use Rattle.mr_object.specs.Members.{Member, count, line_of, list, object_of, text, with_all}
 
 -- ---- an event
 

@@ -5,7 +5,7 @@ use Rattle.serde_json.specs.Data.{Data}
 use Rattle.mr_history.specs.declared.record.Record.{Record}
 use Rattle.mr_history.specs.Json.{value_of}
 use Rattle.mr_history.specs.Reading.{bad_line, records_of, torn_of, version_of}
-use Rattle.mr_json.specs.Members.{count, line_of, object_of}
+use Rattle.mr_object.specs.Members.{count, line_of, object_of}
 
 -- a record as it stands in a segment
 abbrev pub record_line : Record → List ℕ

@@ -9,20 +9,18 @@ ghost use Rattle.mr_script.specs.Expected.{outcome_word};
 ghost use Rattle.mr_world.specs.Journal.{world_in};
 ghost use Rattle.mr_world.specs.VisibleFiles.{as_pair};
 ghost use Rattle.serde_json.specs.View.{members_view, view};
-ghost use Rattle.mr_json.specs.Members.{with_all};
+ghost use Rattle.mr_object.specs.Members.{with_all};
 ghost use Rattle.mr_json.specs.Endings.{contents, ending_line, ending_object, file_object, winner_data};
 
-use crate::object::{
-    Object, into_value, put_count, put_flag, put_line, put_list, put_text, put_word,
-};
 use base64::engine::general_purpose::STANDARD;
 use mr_ids::AttemptId;
+use mr_object::{Object, into_value, put_count, put_flag, put_line, put_list, put_text, put_word};
 use mr_world::{VisibleFile, World};
 use serde_json::Value;
 use std::alloc::{AllocError, Global};
 
-/// The winner of each reduce by number, whether the marker is there, the outcome, the files that a reader of the destination sees, and the lines that
-/// were told of refused events and of what is not as expected.
+/// What came of a run: the winner of each reduce by number, whether the marker is there, the outcome, and the files that a reader of the destination
+/// sees. Beside them stand the lines that were told of refused events and of what is not as expected.
 #[tactic(auto, using(crate::proofs::Ended::is_plain))]
 pub fn put_ending(
     out: &mut Vec<u8>,

@@ -6,12 +6,12 @@ ghost use Rattle.mr_trace.specs.Happened.{happened, maker_of};
 ghost use Rattle.mr_trace.specs.Trace.{call_text, heard_text, weather_of};
 ghost use Rattle.mr_world.specs.Asks.{asked_in};
 ghost use Rattle.serde_json.specs.View.{members_view, view};
-ghost use Rattle.mr_json.specs.Members.{count, text, with_all};
+ghost use Rattle.mr_object.specs.Members.{count, text, with_all};
 ghost use Rattle.mr_json.specs.Objects.{asked_members, at_node, by_container, event_members, in_weather, maker_members, name_members, of_master, packet_object, packet_objects, packets_member, weather_word, with_beginning};
 
-use crate::object::{Object, into_value, put_count, put_flag, put_list, put_text, put_word};
 use mr_event::{Event, Weather};
 use mr_ids::TaskId;
+use mr_object::{Object, into_value, put_count, put_flag, put_list, put_text, put_word};
 use mr_packet::{ContainerId, Envelope};
 use mr_play::name_word;
 use mr_repeat::put_container;
@@ -58,11 +58,7 @@ fn put_event(object: &mut Object, alloc: Global, event: &Event) -> Result<(), Al
             generation,
             task,
             node,
-        } => {
-            put_master(object, alloc, "launch", *generation)?;
-            put_task(object, alloc, task)?;
-            put_node(object, alloc, *node)
-        }
+        } => put_launch(object, alloc, *generation, task, *node),
         Event::Deliver { packet } => {
             put_word(object, alloc, "event", "deliver")?;
             put_count(object, alloc, "packet", *packet)
@@ -114,7 +110,22 @@ fn put_kept(
     put_count(object, alloc, "kept", kept)
 }
 
-// What happens, and the container of which.
+// A launch, by the master of this generation.
+fn put_launch(
+    object: &mut Object,
+    alloc: Global,
+    generation: u32,
+    task: &TaskId,
+    node: u32,
+) -> Result<(), AllocError>
+    ensures { OnOk result (members_view object.new.entries ≡ with_all (of_master (codes "launch") generation ((codes "task", text (task_text task.now)) ∷ at_node node ∷ [])) (members_view object.old.entries)) }
+{
+    put_master(object, alloc, "launch", generation)?;
+    put_task(object, alloc, task)?;
+    put_node(object, alloc, node)
+}
+
+// What happens, and the container that it is of.
 fn put_of_container(
     object: &mut Object,
     alloc: Global,

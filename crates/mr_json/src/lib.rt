@@ -4,18 +4,18 @@
 //!
 //! For every input:
 //!
-//! - **`json_of`**: of a world's run the lines are exactly those of the definition (`json_text` of `specs/Endings`), byte for byte: an object for each entry of the list of
-//!   what happened (`happened_in` of mr_trace), whose text is the trace, and last the object of what came of it;
-//! - **`play_json`**: the lines are exactly those of the run of which `play` prints its text, with the line of the script that made each event, and with what that text tells of refused events
-//!   and of what is not as expected (`TellsPlay`); its faults are those of `play` (`PlayFails`);
-//! - **`history_json`**: the lines are exactly the records of the segment, and then its version and what is torn (`TellsHistory`); its faults are those of `history` (`HistoryFails`).
+//! - **`json_of`**: of a world's run the lines are exactly those of the definition (`json_text` of `specs/Endings`), byte for byte. There is an object for
+//!   each entry of the list of what happened (`happened_in` of mr_trace), whose text is the trace. The last object tells what came of the run.
+//! - **`play_json`**: the lines are exactly those of the run of which `play` prints its text, with the line of the script that made each event. They have
+//!   what that text tells of refused events and of what is not as expected (`TellsPlay`). Its faults are those of `play` (`PlayFails`).
+//! - **`history_json`**: the lines are exactly the records of the segment, and then its version and what is torn (`TellsHistory`). Its faults are those of
+//!   `history` (`HistoryFails`).
 //!
 //! An object's text is that of `serde_json` for the value that the definition names (`compact_text`).
 #![tactic(auto)]
 
 mod ending;
 mod event;
-mod object;
 mod record;
 mod run;
 

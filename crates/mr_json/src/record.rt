@@ -9,10 +9,10 @@ ghost use Rattle.serde_json.specs.Data.{member, no_members, string};
 ghost use Rattle.serde_json.specs.View.{members_view, view};
 ghost use Rattle.mr_json.specs.Segments.{TellsHistory, record_line, rest_line, rest_object};
 
-use crate::object::{Object, into_value, put_count, put_line, put_word};
 use mr_commands::SimFault;
 use mr_history::{HistoryFault, Record, replay};
 use mr_ids::AttemptId;
+use mr_object::{Object, into_value, put_count, put_line, put_word};
 use serde_json::Value;
 use std::alloc::{AllocError, Global};
 

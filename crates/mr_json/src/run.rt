@@ -11,9 +11,9 @@ ghost use Rattle.mr_json.specs.Plays.{TellsPlay};
 
 use crate::ending::put_ending;
 use crate::event::{put_beginning, put_packets};
-use crate::object::{Object, into_value, put_line};
 use mr_commands::SimFault;
 use mr_event::Event;
+use mr_object::{Object, into_value, put_line};
 use mr_play::{Player, Printed, played};
 use mr_trace::{Makers, happen, left_at, opened};
 use mr_world::World;

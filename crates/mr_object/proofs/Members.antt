@@ -5,7 +5,7 @@ use Rattle.std.specs.Cmp.Lexicographic.{slice_cmp}
 use Rattle.std.specs.Ordering.{match_ordering}
 use Rattle.serde_json.specs.Data.{Data, Members, member, no_members, put}
 use Rattle.serde_json.specs.Written.{has_float, members_have_float}
-use Rattle.mr_json.specs.Members.{Member, object_of, with_all}
+use Rattle.mr_object.specs.Members.{Member, object_of, with_all}
 
 -- members put in two parts
 pub with_append : (a b : List Member) (ms : Members) → with_all (a ++ b) ms ≡ with_all b (with_all a ms)

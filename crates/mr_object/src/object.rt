@@ -3,7 +3,7 @@ ghost use Rattle.std.specs.Prelude.{◌≡◌, ◌++◌, OnOk, map, false};
 ghost use Rattle.serde_json.specs.Data.{boolean, object, put as with_member, string};
 ghost use Rattle.serde_json.specs.View.{members_view, view};
 ghost use Rattle.serde_json.specs.Written.{has_float};
-ghost use Rattle.mr_json.specs.Members.{count, line_of, list, text};
+ghost use Rattle.mr_object.specs.Members.{count, line_of, list, text};
 
 use serde_json::{Map, Value, put};
 use std::alloc::{AllocError, Global};

@@ -1,0 +1,2 @@
+-- Objects of JSON by their members: Members.
+pub mod Members
