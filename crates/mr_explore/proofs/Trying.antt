@@ -4,11 +4,17 @@ use Rattle.std.proofs.lemmas.Bool.Decides.{nat_tests}
 use Rattle.std.specs.Option.{option_and_then}
 use Rattle.mr_ids.specs.declared.id.TheConstants.{MAX_APP_ATTEMPTS}
 use Rattle.mr_model.specs.Packets.{Config}
-use Rattle.mr_model.specs.World.{World, Start}
+use Rattle.mr_event.specs.declared.why.Why.{Why}
+use Rattle.mr_model.specs.World.{World, Event, Start}
 use Rattle.mr_model.specs.Effect.{not_now}
 use Rattle.mr_model.specs.Claims.{Limits}
 use Rattle.mr_model.specs.Sequential.{Job}
 use Rattle.mr_world.specs.Limits.{within}
+use Rattle.mr_world.specs.declared.fault.WorldFault.{WorldFault}
+use Rattle.mr_world.specs.declared.fault.WorldFault.TheVariants as world_fault
+use Rattle.mr_world.specs.Standing.{Refuses}
+use Rattle.mr_world.specs.Applying.{IsRefused}
+use Rattle.mr_world.specs.Journal.{world_in, fits, fits_first}
 use Rattle.mr_world.specs.declared.limits.TheConstants.{MAX_EVENTS}
 use Rattle.mr_commands.specs.declared.fault.SimFault.{SimFault}
 use Rattle.mr_commands.specs.declared.job.submission.JobKind.{JobKind}
@@ -36,6 +42,16 @@ pub then_tried : (old mid new : Player) (first : Option Played) (second : Job �
 then_tried old mid new first second (Ok true) same is h = (both old mid new same h.0, ap (option_and_then (second (job_as old.job) old.world.config (within old.world.config))) is ∙ (sym (same_by (λ job cfg w. second job cfg w (state_in mid)) old mid same.job same.config) ∙ h.1))
 then_tried old mid new first second (Ok false) same is h = ap (option_and_then (second (job_as old.job) old.world.config (within old.world.config))) is ∙ (sym (same_by (λ job cfg w. second job cfg w (state_in mid)) old mid same.job same.config) ∙ h)
 then_tried old mid new first second (Err f) same is h = h
+
+-- ---- an event that is refused
+
+refused : {A : Type 0} (now : Option Why) (fits first : Bool) (x : A) (f : WorldFault) → Refuses now fits first f → (f ≡ world_fault.NoMemory → ⊥) → (if is_none now then (if fits then Some x else None) else None) ≡ None
+refused (Some why) fits first x f r memory = refl
+refused None false first x f r memory = refl
+refused None true first x f r memory = absurd (memory r)
+
+pub never_told : (p : Player) (e : Event) (f : WorldFault) → IsRefused p.world e f → (f ≡ world_fault.NoMemory → ⊥) → told_in p e (state_in p) ≡ None
+never_told p e f r memory = refused (not_now p.world.config (world_in p.world) e) (fits p.world e) (fits_first p.world e) _ f r memory
 
 -- ---- a generation beyond the last one
 

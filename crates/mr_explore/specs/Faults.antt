@@ -1,5 +1,5 @@
 -- What one fault is, and where it may befall a run (our own profile). Where there is none, a run goes on as a calm of the newest master does.
-use Rattle.std.specs.Prelude.{ℕ, suc, ◌-◌, List, [], ◌∷◌, ◌++◌, drop, length, map, slice_get, Option, Some, None, is_none, if◌then◌else◌}
+use Rattle.std.specs.Prelude.{ℕ, suc, ◌+◌, ◌-◌, ◌*◌, min, List, [], ◌∷◌, ◌++◌, drop, length, map, slice_get, Option, Some, None, is_none, if◌then◌else◌}
 use Rattle.std.specs.List.{flat_map, range_with_len}
 use Rattle.std.specs.Option.{option_and_then}
 use Rattle.mr_event.specs.declared.event.Weather.TheVariants.{Calm, Unavailable, Unanswered}
@@ -21,11 +21,16 @@ use Rattle.mr_faults.specs.Next.{without_next}
 abbrev pub ends_behind : List ℕ → List ℕ → List ℕ
 ends_behind before after = ends_from 0 (drop (length before) after)
 
+-- How many events a run makes by itself at most, behind its beginning or a fault: so many for the job and for each of its tasks, and no more than a calm. Where nobody answers a
+-- container, it asks for ever.
+abbrev pub most_steps : Config → ℕ
+most_steps cfg = min (200 * (length cfg.splits + cfg.reduces + 1)) most_calm
+
 module _ (job : Job) (cfg : Config) (within : Limits) where
   abbrev pub newest : Played → ℕ
   newest s = (world job cfg within s).fence
 
-  -- at most so many events of the calm of the newest master; none where a limit is passed
+  -- at most `most` events of the calm of the newest master; none where a limit is passed
   abbrev pub calm : ℕ → Played → Option Played
   calm most s = calms job cfg within (newest s) None most s
 
@@ -62,13 +67,13 @@ module _ (job : Job) (cfg : Config) (within : Limits) where
   abbrev pub next_event : Played → Option Event
   next_event s = last_of (length s.events) (calm 1 s)
 
-  -- how many events the calm makes; none are counted where a limit is passed
+  -- how many events the run makes by itself; none are counted where a limit is passed
   abbrev pub made_since : ℕ → Option Played → ℕ
   made_since n None = 0
   made_since n (Some t) = length t.events - n
 
   abbrev pub calm_length : Played → ℕ
-  calm_length s = made_since (length s.events) (calm most_calm s)
+  calm_length s = made_since (length s.events) (calm (most_steps cfg) s)
 
   abbrev pub of_event : Option Event → Played → List Fault
   of_event (Some (Duty k weather)) s = fault.Duty Unavailable ∷ fault.Duty Unanswered ∷ []

@@ -1,16 +1,16 @@
--- Which runs there are of an input (our own profile): all that come of it by at most so many faults, as mr_walk says it, where a run goes on as a calm of the newest master.
+-- Which runs there are of an input (our own profile): all that come of it by at most a given number of faults, as mr_walk says it, where a run goes on as a calm of the newest master.
 use Rattle.std.specs.Prelude.{◌≡◌, ◌≢◌, ◌⊎◌, ℕ, nat_lt, List, length, Option, Some, None, if◌then◌else◌}
 use Rattle.std.specs.Option.{option_map}
 use Rattle.mr_model.specs.Packets.{Config}
 use Rattle.mr_model.specs.World.{World, Start}
 use Rattle.mr_world.specs.Limits.{within}
 use Rattle.mr_commands.specs.declared.job.submission.JobKind.{JobKind}
-use Rattle.mr_play.specs.Played.{Played, most_calm, world}
-use Rattle.mr_play.specs.Text.{PrintsPlay, job_as, printed_journal}
+use Rattle.mr_play.specs.Played.{Played, world}
+use Rattle.mr_play.specs.Text.{PrintsPlay, config_of, job_as}
 use Rattle.mr_walk.specs.Steps.{Onward, Goes, Ends, Full, Steps}
 use Rattle.mr_walk.specs.Runs.{Found, runs}
 use Rattle.mr_faults.specs.declared.fault.Fault.{Fault}
-use Rattle.mr_explore.specs.Faults.{befallen, calm, faults_at, newest, told}
+use Rattle.mr_explore.specs.Faults.{befallen, calm, faults_at, most_steps, newest, told}
 
 -- a run of a job's cluster, as far as it is
 pub record Exploring : Type 0 where
@@ -47,11 +47,11 @@ newest_in e = newest (job_as e.job) e.config (within e.config) e.played
 abbrev pub StartsFrom : Exploring → Exploring → Type 0
 StartsFrom e new = ((newest_in e ≡ 0) × (option_map (with e) (start_first e) ≡ Some new)) ⊎ ((newest_in e ≢ 0) × (new ≡ e))
 
--- What a script left: of its run are the config and the events those of which `play` prints. What it computes, and how far its calms are, are not told here.
+-- what a script left: the job is the text's, and it is as far as the script that `play` plays
 pub record IsLeftBy (input : List ℕ) (e : Exploring) : Type 0 where
   pub text : List ℕ
   pub prints : PrintsPlay within input text
-  pub journal : printed_journal within input text prints ≡ record { config = e.config; events = e.played.events }
+  pub is : e ≡ record { job = prints.job.job; config = config_of prints.job; played = prints.left }
 
 -- the run of an input, which is a job text and a script behind it
 pub record IsRunOf (input : List ℕ) (e : Exploring) : Type 0 where
@@ -63,8 +63,9 @@ pub record IsRunOf (input : List ℕ) (e : Exploring) : Type 0 where
 pub record CannotStart (input : List ℕ) : Type 0 where
   pub before : Exploring
   pub left : IsLeftBy input before
+  pub newest : newest_in before ≡ 0
   pub none : start_first before ≡ None
 
--- all its runs with at most so many faults
+-- all its runs with at most this many faults
 abbrev pub runs_with : ℕ → Exploring → List (Found Exploring)
-runs_with faults e = runs explored most_calm faults e
+runs_with faults e = runs explored (most_steps e.config) faults e

@@ -1,5 +1,5 @@
 //! A fault befalls a run.
-ghost use Rattle.std.specs.Prelude.{suc};
+ghost use Rattle.std.specs.Prelude.{◌≡◌, suc, false, None, IfOk, IfErr};
 ghost use Rattle.mr_model.specs.World.{Start};
 ghost use Rattle.mr_world.specs.Journal.{world_in};
 ghost use Rattle.mr_play.specs.Branches.{Tries};
@@ -11,6 +11,7 @@ use mr_commands::SimFault;
 use mr_event::{Event, Weather};
 use mr_faults::Fault;
 use mr_play::Player;
+use mr_world::WorldFault;
 use std::alloc::Global;
 
 /// The fault befalls the run; whether it can. It fails by an allocation failure.
@@ -47,7 +48,49 @@ pub fn befall(alloc: Global, player: &mut Player, fault: Fault) -> Result<bool, 
     }
 }
 
-// The packet is held back while the calm makes so many events, and then delivered.
+/// Whether the fault may be tried on the run: where not, it can't befall it. It fails by an allocation failure.
+///
+/// It looks at what is often not permitted and is one event; whether all else can befall a run is found out by trying it.
+pub fn may_befall(player: &Player, fault: &Fault) -> Result<bool, SimFault>
+    ensures cannot { IfOk result (λ may. may ≡ false → befallen_in player.now (world_in player.now.world).fence fault.now ≡ None) }
+    ensures memory { IfErr result (λ f. f ≡ SimFault.NoMemory) }
+{
+    let k = player.world.newest();
+    match *fault {
+        Fault::Again(packet) => may_happen(player, &Event::Deliver { packet }),
+        Fault::Expiry(node) => may_happen(
+            player,
+            &Event::Expire {
+                generation: k,
+                node,
+            },
+        ),
+        Fault::Attempt(task, node) => may_happen(
+            player,
+            &Event::LaunchOn {
+                generation: k,
+                task,
+                node,
+            },
+        ),
+        _ => Ok(true),
+    }
+}
+
+// Whether the event is permitted now, and passes no limit.
+fn may_happen(player: &Player, event: &Event) -> Result<bool, SimFault>
+    ensures cannot { IfOk result (λ may. may ≡ false → told_in player.now event.now (state_in player.now) ≡ None) }
+    ensures memory { IfErr result (λ f. f ≡ SimFault.NoMemory) }
+{
+    match player.world.foresee(event) {
+        Ok(()) => Ok(true),
+        Err(WorldFault::NoMemory) => Err(SimFault::NoMemory),
+        Err(WorldFault::NotNow(_)) => Ok(false),
+        Err(WorldFault::Full) => Ok(false),
+    }
+}
+
+// The packet is held back while the calm makes `events` events, and then delivered.
 fn deliver_late(
     alloc: Global,
     player: &mut Player,

@@ -1,23 +1,29 @@
 //! An exploration: runs are made, one after the other, and what comes of them is noted.
-ghost use Rattle.std.specs.Prelude.{◌≡◌, true, IfOk, IfErr};
-ghost use Rattle.mr_explore.specs.Exploring.{Begins, ExploreFails, Makes, MakesOne};
+ghost use Rattle.std.specs.Prelude.{◌≡◌, IfOk, IfErr, OnOk};
+ghost use Rattle.mr_ends.specs.Table.{noted};
+ghost use Rattle.mr_walk.specs.Taking.{no_more};
+ghost use Rattle.mr_explore.specs.Exploring.{Begins, ExploreFails, Makes, MakesOne, came};
 ghost use Rattle.mr_explore.specs.inner.Players.{fault_of};
 
 use crate::explored::Explored;
-use crate::table::Table;
+use crate::watch::Watch;
+use crate::winners::Winners;
 use mr_commands::SimFault;
-use mr_play::MOST_CALM;
-use mr_walk::{Walk, WalkFault};
+use mr_ends::Table;
+use mr_walk::{Ended, Walk, WalkFault};
 use std::alloc::Global;
 use std::marker::Model;
 
-/// The runs of an input with at most so many faults, and the table of those that were made. Contracts see it as the runs that are left.
+// How many runs are made before it is told again how far it is.
+const STRIDE: u64 = 100_000;
+
+/// The runs of an input with at most a given number of faults, and the table of those that were made. Contracts see it as the runs that are left, and that table.
 #[derive(Drop)]
 pub struct Exploration {
     walk: Walk<Explored>,
     faults: u32,
     table: Table,
-    is_whole: bool,
+    winners: Winners,
 }
 
 impl Model for Exploration {
@@ -25,7 +31,7 @@ impl Model for Exploration {
 
     ghost Value = { Remaining };
 
-    ghost view = { λ x. record { left = x.walk; faults = x.faults; whole = x.is_whole } };
+    ghost view = { λ x. record { left = x.walk; faults = x.faults; table = x.table } };
 }
 
 impl Exploration {
@@ -37,40 +43,46 @@ impl Exploration {
         ensures fault { IfErr result (ExploreFails input.now) }
     {
         let run = Explored::new(alloc, input)?;
-        match Walk::new(alloc, run, faults, MOST_CALM) {
+        let most = run.most_steps();
+        match Walk::new(alloc, run, faults, most) {
             Ok(walk) => Ok(Exploration {
                 walk,
                 faults,
                 table: Table::new(alloc),
-                is_whole: false,
+                winners: Winners::new(alloc),
             }),
             Err(fault) => Err(sim_fault(fault)),
         }
     }
 
-    /// Makes at most so many runs more.
+    /// Makes at most `runs` runs more, and notes their ends. Every 100,000 runs it tells how far it is.
     ///
     /// Refusals: `Full` where a run would pass a limit of the world, or an allocation failure.
-    pub fn make(&mut self, alloc: Global, runs: u64) -> Result<(), SimFault>
-        ensures { Makes self.old result self.new }
+    pub fn make<W: Watch>(&mut self, alloc: Global, runs: u64, watch: &W) -> Result<(), SimFault>
+        ensures { Makes runs self.old result self.new }
     {
         for _ in 0..runs {
             if !self.make_one(alloc)? {
-                self.is_whole = true;
                 return Ok(());
             }
+            self.tell(watch);
         }
         Ok(())
     }
 
-    // Makes a run more; whether there was one.
+    // Makes a run more, and notes its end; whether there was one.
     fn make_one(&mut self, alloc: Global) -> Result<bool, SimFault>
         ensures { MakesOne self.old result self.new }
     {
         match self.walk.next_run(alloc) {
             Ok(Some(ended)) => {
-                let faults = self.faults.saturating_sub(ended.spare);
-                self.table.note(alloc, &ended.run, faults)?;
+                note(
+                    alloc,
+                    &mut self.table,
+                    &mut self.winners,
+                    &ended,
+                    self.faults,
+                )?;
                 Ok(true)
             }
             Ok(None) => Ok(false),
@@ -78,8 +90,17 @@ impl Exploration {
         }
     }
 
+    fn tell<W: Watch>(&self, watch: &W) {
+        let runs = self.table.runs();
+        if runs % STRIDE == 0 {
+            watch.tell(runs, self.table.rows().len());
+        }
+    }
+
     /// The ends that came.
-    pub fn table(&self) -> &Table {
+    pub fn table(&self) -> &Table
+        ensures { result.now ≡ self.now.table }
+    {
         &self.table
     }
 
@@ -92,10 +113,29 @@ impl Exploration {
 
     /// Whether all runs were made.
     pub fn is_whole(&self) -> bool
-        ensures { result ≡ self.now.whole }
+        ensures { result ≡ no_more self.now.left }
     {
-        self.is_whole
+        self.walk.is_done()
     }
+}
+
+// A run came to its end. `faults` is how many faults a run has at most.
+fn note(
+    alloc: Global,
+    table: &mut Table,
+    winners: &mut Winners,
+    ended: &Ended<Explored>,
+    faults: u32,
+) -> Result<(), SimFault>
+    ensures noted { OnOk result (table.new ≡ noted (came faults (record { spare = ended.now.spare; run = ended.now.run })) table.old) }
+    ensures memory { IfErr result (λ fault. fault ≡ SimFault.NoMemory) }
+{
+    let world = ended.run.world();
+    let mut end = Vec::new(alloc);
+    winners.print(alloc, &mut end, world)?;
+    let faults = faults.saturating_sub(ended.spare);
+    table.note(alloc, end, faults, world.journal())?;
+    Ok(())
 }
 
 // The fault of a walk, as that of an exploration.

@@ -4,11 +4,13 @@ ghost use Rattle.std.specs.Option.{option_map};
 ghost use Rattle.mr_play.specs.Players.{state_in};
 ghost use Rattle.mr_walk.specs.Steps.{GoesOn, IsNotFull};
 ghost use Rattle.mr_explore.specs.Exploring.{ExploreFails};
-ghost use Rattle.mr_explore.specs.Runs.{IsRunOf, StartsFrom, explored, onward_to, start_first, with};
+ghost use Rattle.mr_explore.specs.Faults.{most_steps};
+ghost use Rattle.mr_explore.specs.Runs.{IsRunOf, StartsFrom, explored, newest_in, onward_to, start_first, with};
 ghost use Rattle.mr_explore.specs.inner.Players.{CannotBegin, calm_in, view_of};
 
-use crate::befall::befall;
+use crate::befall::{befall, may_befall};
 use crate::faults_at::faults_at;
+use crate::steps::most_steps;
 use mr_commands::SimFault;
 use mr_event::Event;
 use mr_faults::Fault;
@@ -55,6 +57,13 @@ impl Explored {
     {
         &self.player.world
     }
+
+    /// How many events it makes by itself at most, behind its beginning or a fault.
+    pub fn most_steps(&self) -> u64
+        ensures { result ≡ most_steps self.now.config }
+    {
+        most_steps(self.player.world.config())
+    }
 }
 
 impl Run for Explored {
@@ -76,6 +85,13 @@ impl Run for Explored {
     fn faults(&self, alloc: Global) -> Result<LinkedList<Fault>, WalkFault> {
         match faults_at(alloc, &self.player) {
             Ok(faults) => Ok(faults),
+            Err(fault) => Err(walk_fault(fault)),
+        }
+    }
+
+    fn may_befall(&self, fault: &Fault) -> Result<bool, WalkFault> {
+        match may_befall(&self.player, fault) {
+            Ok(may) => Ok(may),
             Err(fault) => Err(walk_fault(fault)),
         }
     }
@@ -118,6 +134,7 @@ fn started(player: Player) -> Result<Player, SimFault>
 
 // The first master starts. A limit may forbid it.
 fn start_first(mut player: Player) -> Result<Player, SimFault>
+    requires { newest_in (view_of player) ≡ 0 }
     ensures is { IfOk result (λ new. option_map (with (view_of player)) (start_first (view_of player)) ≡ Some (view_of new)) }
     ensures fault { IfErr result (CannotBegin (view_of player)) }
 {

@@ -8,6 +8,7 @@ ghost use Rattle.mr_explore.specs.Faults.{ends_behind};
 ghost use Rattle.mr_world.specs.Readings.{living};
 ghost use Rattle.mr_explore.specs.inner.Players.{faults_in, calm_length_in, kept_after, kept_of, length_in, listed_in, next_in, of_crashes_in, of_event_in, of_world_in};
 
+use crate::steps::most_steps;
 use mr_commands::SimFault;
 use mr_event::{Event, Weather};
 use mr_faults::{
@@ -16,7 +17,7 @@ use mr_faults::{
 };
 use mr_ids::TaskKind;
 use mr_packet::ContainerId;
-use mr_play::{MOST_CALM, Player};
+use mr_play::Player;
 use mr_world::World;
 use std::alloc::Global;
 use std::collections::LinkedList;
@@ -162,7 +163,8 @@ fn calm_length(alloc: Global, ahead: &mut Player) -> Result<u64, SimFault>
 {
     let before = ahead.world.journal().len();
     let newest = ahead.world.newest();
-    match ahead.calm_for(alloc, newest, None, MOST_CALM) {
+    let most = most_steps(ahead.world.config());
+    match ahead.calm_for(alloc, newest, None, most) {
         Ok(()) => {
             let after = ahead.world.journal().len();
             Ok(after.saturating_sub(before) as u64)
@@ -187,7 +189,7 @@ fn add_of_unflushed(
     }
 }
 
-// The same, where master `k` is alive and did not flush so many bytes.
+// The same, where master `k` is alive and has `unflushed` bytes that it did not flush.
 fn add_of_tail(
     alloc: Global,
     faults: &mut LinkedList<Fault>,

@@ -1,60 +1,60 @@
 //! Scripts that lead to ends: each is played, and what comes of it is compared.
-ghost use Rattle.std.specs.Prelude.{◌≡◌, ◌∷◌, ◌++◌, IfOk, OnOk};
+ghost use Rattle.std.specs.Prelude.{◌≡◌, ◌∷◌, ◌++◌, IfOk, OnOk, IfErr};
 ghost use Rattle.std.specs.List.{AllByRecursion};
-ghost use Rattle.mr_play.specs.Text.{job_line};
-ghost use Rattle.mr_explore.specs.Ends.{LeadsTo};
+ghost use Rattle.mr_play.specs.Text.{PrintsPlay, job_line};
+ghost use Rattle.mr_world.specs.Limits.{within};
+ghost use Rattle.mr_explore.specs.Ends.{LeadToEnds, LeadsTo};
+ghost use Rattle.mr_explore.specs.inner.Checks.{IsUnchecked};
 
-use crate::ends_text::{print_ends, print_found};
-use crate::exploration::Exploration;
-use crate::sequential::files_of;
-use crate::table::{Row, Table};
 use mr_commands::SimFault;
-use mr_play::play;
+use mr_ends::{Row, Table};
+use mr_play::{Printed, play};
 use mr_script::split_once;
 use std::alloc::{AllocError, Global};
 
-/// What is printed of an exploration of an input: all ends, or the one that meets a goal. Each script of its table was played before, and led to the end beside it.
+/// Plays the script of each end behind the job text of an input: it leads to the end.
 ///
-/// It fails by an allocation failure, or where `check_scripts` does.
-pub fn explored_text(
-    alloc: Global,
-    input: &[u8],
-    exploration: &Exploration,
-    goal: Option<&str>,
-) -> Result<Vec<u8>, SimFault> {
-    check_scripts(alloc, input, exploration.table())?;
-    let files = files_of(alloc, input)?;
-    let files = match &files {
-        Some(files) => Some(files.as_slice()),
-        None => None,
-    };
-    match goal {
-        Some(goal) => Ok(print_found(alloc, exploration, files, goal)?),
-        None => Ok(print_ends(alloc, exploration, files)?),
-    }
+/// It fails by an allocation failure. Where `play` came to another end, or to none, which it never does, `JournalMismatch` is answered.
+pub fn check_scripts(alloc: Global, input: &[u8], table: &Table) -> Result<(), SimFault>
+    ensures lead { OnOk result (LeadToEnds input.now table.now.ends) }
+    ensures fault { IfErr result IsUnchecked }
+{
+    check_rows(alloc, input, table.rows())
 }
 
-/// Plays the script of each row behind the job text of an input: it leads to the end of the row.
-///
-/// It fails by an allocation failure. Where `play` came to another end, which it never does, `JournalMismatch` is answered.
-pub fn check_scripts(alloc: Global, input: &[u8], table: &Table) -> Result<(), SimFault>
-    ensures { OnOk result (AllByRecursion (λ row. LeadsTo input.now row.script.items row.end.items) table.now.rows.items) }
+// The same, of rows.
+fn check_rows(alloc: Global, input: &[u8], rows: &[Row]) -> Result<(), SimFault>
+    ensures lead { OnOk result (AllByRecursion (λ row. LeadsTo input.now row.script.items row.end.items) rows.now) }
+    ensures fault { IfErr result IsUnchecked }
 {
-    for row in &table.rows {
-        check_script(alloc, input, row)?;
+    for row in rows {
+        check_row(alloc, input, row)?;
     }
     Ok(())
 }
 
-fn check_script(alloc: Global, input: &[u8], row: &Row) -> Result<(), SimFault>
-    ensures { OnOk result (LeadsTo input.now row.now.script.items row.now.end.items) }
+fn check_row(alloc: Global, input: &[u8], row: &Row) -> Result<(), SimFault>
+    ensures leads { OnOk result (LeadsTo input.now row.now.script.items row.now.end.items) }
+    ensures fault { IfErr result IsUnchecked }
 {
     let text = behind_job(alloc, input, &row.script)?;
-    let printed = play(alloc, &text)?;
+    let printed = printed_of(alloc, &text)?;
     if printed.text.as_slice() == row.end.as_slice() {
         Ok(())
     } else {
         Err(SimFault::JournalMismatch)
+    }
+}
+
+// What `play` prints of a script that was made of a run.
+fn printed_of(alloc: Global, text: &[u8]) -> Result<Printed, SimFault>
+    ensures ok { IfOk result (λ v. PrintsPlay within text.now v.text.items) }
+    ensures fault { IfErr result IsUnchecked }
+{
+    match play(alloc, text) {
+        Ok(printed) => Ok(printed),
+        Err(SimFault::NoMemory) => Err(SimFault::NoMemory),
+        Err(_) => Err(SimFault::JournalMismatch),
     }
 }
 
@@ -68,7 +68,8 @@ fn behind_job(alloc: Global, input: &[u8], script: &[u8]) -> Result<Vec<u8>, All
     Ok(text)
 }
 
-fn job_line_of(input: &[u8]) -> &[u8]
+/// The job text of an input: its first line.
+pub fn job_line_of(input: &[u8]) -> &[u8]
     ensures { result.now ≡ job_line input.now }
 {
     match split_once(input, b'\n') {

@@ -1,37 +1,39 @@
-//! Whether the files of an end are those of the sequential execution.
-use mr_commands::{SimFault, seq_output};
-use mr_script::split_once;
+//! The files of the sequential execution.
+ghost use Rattle.std.specs.Prelude.{◌≡◌, Ok, IfOk, IfErr};
+ghost use Rattle.std.specs.Option.{option_map};
+ghost use Rattle.mr_commands.specs.job.Text.{submission_of};
+ghost use Rattle.mr_play.specs.Text.{IsBadPlayJob, job_line};
+ghost use Rattle.mr_explore.specs.Ends.{AreFilesOf, IsSequentialOf};
+ghost use Rattle.mr_explore.specs.inner.Checks.{IsUnsaid};
+
+use crate::leading::job_line_of;
+use mr_commands::{SimFault, read_job_text, seq_output};
+use mr_ends::Sequential;
 use std::alloc::Global;
 
-/// What `seq` prints of the job of an input; none where the job refuses a line of a split. It fails by an allocation failure.
-pub fn files_of(alloc: Global, input: &[u8]) -> Result<Option<Vec<u8>>, SimFault> {
-    let job = match split_once(input, b'\n') {
-        Some((job, _)) => job,
-        None => input,
-    };
+/// The files of the sequential execution of the job of an input.
+///
+/// The first bad key of the job text is told (`Job`). `NoMemory` may come at any input.
+pub fn sequential_of(alloc: Global, input: &[u8]) -> Result<Sequential, SimFault>
+    ensures is { IfOk result (IsSequentialOf input.now) }
+    ensures fault { IfErr result (IsUnsaid (job_line input.now)) }
+{
+    let job = job_line_of(input);
+    let submission = read_job_text(alloc, job)?;
+    let files = files_of(alloc, job)?;
+    Ok(Sequential::new(files, submission.reduces))
+}
+
+// What `seq` prints of a job text; nothing where the job refuses a line of a split.
+fn files_of(alloc: Global, job: &[u8]) -> Result<Option<Vec<u8>>, SimFault>
+    ensures files { IfOk result (λ files. AreFilesOf job.now (option_map (λ v. v.items) files)) }
+    ensures fault { IfErr result (IsUnsaid job.now) }
+{
     match seq_output(alloc, job) {
         Ok(files) => Ok(Some(files)),
-        Err(SimFault::NoMemory) => Err(SimFault::NoMemory),
-        Err(_) => Ok(None),
+        Err(fault) => match fault {
+            SimFault::Refused => Ok(None),
+            fault => Err(fault),
+        },
     }
-}
-
-/// Whether the files that stand behind an end's lines of winners, marker and outcome are just these.
-pub fn is_sequential(end: &[u8], files: Option<&[u8]>) -> bool {
-    match files {
-        Some(files) => files_in(end) == files,
-        None => false,
-    }
-}
-
-// What stands behind the line of the outcome.
-fn files_in(end: &[u8]) -> &[u8] {
-    let mut rest = end;
-    while let Some((line, more)) = split_once(rest, b'\n') {
-        rest = more;
-        if line.starts_with(b"outcome ") {
-            return rest;
-        }
-    }
-    rest
 }

@@ -1,5 +1,5 @@
 -- What is shown beside what is printed.
-use Rattle.std.proofs.Common.{◌≡◌, ℕ, suc, Bool, List, ◌++◌, Ok, refl, sym, ap, subst, ◌∙◌, append_assoc}
+use Rattle.std.proofs.Common.{◌≡◌, ℕ, suc, Bool, List, ◌++◌, Result, Ok, Err, IfOk, refl, sym, ap, subst, ◌∙◌, append_assoc}
 use Rattle.mr_history.specs.Reading.{records_of}
 use Rattle.mr_script.specs.declared.command.Command.{Command}
 use Rattle.mr_script.specs.Script.{AreCommands}
@@ -9,6 +9,7 @@ use Rattle.mr_world.specs.Limits.{within}
 use Rattle.mr_play.specs.declared.shown.Shown.{Shown}
 use Rattle.mr_play.specs.declared.player.Player.{Player}
 use Rattle.mr_commands.specs.declared.job.submission.Submission.{Submission}
+use Rattle.mr_commands.specs.declared.fault.SimFault.{SimFault}
 use Rattle.mr_commands.specs.job.Text.{submission_of}
 use Rattle.mr_play.specs.Text.{job_line, script_lines, IsAsExpected}
 use Rattle.mr_play.specs.WorldText.{world_text}
@@ -39,11 +40,18 @@ printed input job commands p said read h = record {
     comes = h.comes;
     is = ap (λ cfg. p.told.items ++ world_text cfg (run_of cfg p.world.events)) h.config;
   };
+  kind = sym h.kind;
+  state = refl;
   met = refl;
   cluster = ap (λ cfg. run_of cfg p.world.events) (sym h.config);
   journal = ap (λ cfg. record { config = cfg; events = p.world.events }) (sym h.config);
   noted = h.noted;
 }
+
+pub all-printed : (input : List ℕ) (job : Submission) (commands : List (ℕ × Command)) (r : Result Player SimFault) → submission_of (job_line input) ≡ Ok job → AreCommands job.id 2 (script_lines input) commands → IfOk r (HasPlayed job commands)
+    → IfOk r (HasPrinted input)
+all-printed input job commands (Ok p) said read h = printed input job commands p said read h
+all-printed input job commands (Err f) said read h = tt
 
 pub draws : (input : List ℕ) (p : Player) → HasPrinted input p → Draws within input
 draws input p is = (text_in p, is.prints)

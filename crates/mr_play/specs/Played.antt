@@ -85,7 +85,7 @@ is_dropped dropped n = list_any (λ place. is_eq (nat_cmp n place)) dropped
 abbrev pub is_passed : World → List ℕ → ℕ → Envelope → Bool
 is_passed w dropped n e = is_dropped dropped n || is_some (addressee w (Some e))
 
--- so many packets, the first of them at place n, are passed over before one that is not
+-- how many packets, from place n on, are passed over before one that is not
 abbrev pub passed : World → List ℕ → ℕ → List Envelope → ℕ
 passed w dropped n [] = 0
 passed w dropped n (e ∷ es) = if is_passed w dropped n e then suc (passed w dropped (suc n) es) else 0
@@ -169,7 +169,7 @@ module _ (job : Job) (cfg : Config) (within : Limits) where
       if stops_at stop next.names then Some s
       else option_and_then (λ e. calmed more e next.stepped (record s { cursor = next.cursor }) (not_now cfg (world s) e)) next.event
 
-  -- at most so many events of a calm
+  -- a calm of at most this many events
   abbrev pub calms : ℕ → Option EventName → ℕ → Played → Option Played
   calms k stop zero s = Some s
   calms k stop (suc most) s =

@@ -128,7 +128,7 @@ MakesNext old next (Ok true) new = SameJob old new × ((more : Played → Option
 MakesNext old next (Ok false) new = SameJob old new × ((more : Played → Option Played) → made_then old next more ≡ Some (state_in new))
 MakesNext old next (Err f) new = FullWhere f ((more : Played → Option Played) → made_then old next more ≡ None)
 
--- what a calm of at most so many events makes
+-- what a calm of at most `most` events makes
 abbrev pub calm_of : Player → ℕ → Option EventName → ℕ → Option Played
 calm_of p k stop most = calms (job_as p.job) p.world.config (within p.world.config) k stop most (state_in p)
 

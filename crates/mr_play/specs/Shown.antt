@@ -8,6 +8,7 @@ use Rattle.mr_world.specs.Journal.{Journal, history_in, world_in}
 use Rattle.mr_world.specs.Limits.{within}
 use Rattle.mr_play.specs.declared.shown.Shown.{Shown}
 use Rattle.mr_play.specs.declared.player.Player.{Player}
+use Rattle.mr_play.specs.Players.{state_in}
 use Rattle.mr_play.specs.Text.{PrintsPlay, printed_journal, printed_stretches, printed_world}
 use Rattle.mr_play.specs.WorldText.{world_text}
 
@@ -37,10 +38,12 @@ AddsSegments j n old new = (more : List ℕ) × AreSegments j n more × (new ≡
 abbrev pub text_in : Player → List ℕ
 text_in p = p.told.items ++ world_text p.world.config (world_in p.world)
 
--- a player has played what an input says: its text is printed, of its cluster, and it knows whether all is as expected, and
--- which line made which events
+-- a player has played what an input says: it computes what the job text says, and is as far as the script; its text is printed, of its cluster, and it knows
+-- whether all is as expected, and which line made which events
 pub record HasPrinted (input : List ℕ) (p : Player) : Type 0 where
   pub prints : PrintsPlay within input (text_in p)
+  pub kind : prints.job.job ≡ p.job
+  pub state : prints.left ≡ state_in p
   pub met : prints.left.met ≡ p.met
   pub cluster : printed_world within input (text_in p) prints ≡ world_in p.world
   pub journal : printed_journal within input (text_in p) prints ≡ p.world

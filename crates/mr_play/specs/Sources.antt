@@ -12,7 +12,7 @@ abbrev pub is_calm : Command → Bool
 is_calm (command.Calm k stop) = true
 is_calm _ = false
 
--- the events of a line end where so many had happened
+-- the events of a line end where `end` events had happened
 abbrev pub stretch_of : ℕ → Command → ℕ → Stretch
 stretch_of line c end = record { source = record { line = line; is_calm = is_calm c }; end = end }
 

@@ -1,5 +1,5 @@
 -- What `play` prints of a cluster (our own profile; the part files' names are Hadoop's).
-use Rattle.std.specs.Prelude.{ℕ, Bool, List, [], ◌∷◌, ◌++◌, Option, codes, decimal}
+use Rattle.std.specs.Prelude.{ℕ, Bool, List, [], ◌∷◌, ◌++◌, map, Option, codes, decimal}
 use Rattle.std.specs.List.{flat_map, range_with_len}
 use Rattle.mr_ids.specs.Attempt.{Attempt}
 use Rattle.mr_script.specs.Expected.{winner_word, marker_word, outcome_word}
@@ -17,6 +17,10 @@ line_of_winner r found = codes "r " ++ decimal r ++ 32 ∷ winner_word found ++ 
 
 abbrev pub winner_line : Config → World → ℕ → List ℕ
 winner_line cfg w r = line_of_winner r (winner w (reduce_of cfg.job r))
+
+-- those of the reduces, by number
+abbrev pub won_in : Config → World → List (Option Attempt)
+won_in cfg w = map (λ r. winner w (reduce_of cfg.job r)) (range_with_len 0 cfg.reduces)
 
 abbrev pub line_of_marker : Bool → List ℕ
 line_of_marker there = codes "marker " ++ marker_word there ++ 10 ∷ []

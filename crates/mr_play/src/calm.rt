@@ -74,7 +74,7 @@ impl Player {
         self.calm_for(alloc, k, stop, MOST_CALM)
     }
 
-    /// The same, where at most so many events are made. A calm goes on where the last one was.
+    /// The same, where at most `most` events are made. A calm goes on where the last one was.
     pub fn calm_for(
         &mut self,
         alloc: Global,
@@ -151,7 +151,7 @@ impl Player {
         Ok(self.coming_step())
     }
 
-    // What the store call is for that is due.
+    // What the store call that is due is for.
     fn duty(&self, k: u32) -> Result<Option<DutyName>, SimFault>
         ensures is { IfOk result (λ due. due ≡ due_in self.now.world.config (cluster_in self.now) k) }
         ensures memory { IfErr result (λ fault. fault ≡ SimFault.NoMemory) }
@@ -215,7 +215,7 @@ impl Player {
         self.happens_alone(Event::Deliver { packet: place })
     }
 
-    // A launch of the task, on the node of its number, where nodes are counted again and again.
+    // A launch of the task, on the node whose number is the task's, modulo the number of nodes.
     fn launch(&mut self, k: u32, task: &TaskId) -> Result<bool, SimFault>
         ensures { MakesNext self.old (next_in self.old k (Coming.Launch task.now)) result self.new }
     {

@@ -2,21 +2,22 @@
 //!
 //! # What is proved
 //!
-//! **What `play` prints** (`play`, for every input): exactly the text of the definitions (`PrintsPlay` of `specs/Text`): the lines of refused events, and then
-//! the winners, the marker, the outcome and the visible files of the cluster that is the run, in `mr_model`, of the events that the script and its
-//! calms make (`specs/Played`). The first bad key of the job text is told, else the first bad line of the script, else `Full` exactly where there is no such
-//! run, since an event or a work passes a limit; an allocation failure may come at any of these (`PlayFails`). What a container computes is what the
-//! job's definition makes of its input (`computed`).
+//! **What `play` prints** (`play`, for every input): exactly the text of the definitions (`PrintsPlay` of `specs/Text`). First stand the lines of refused
+//! events; then the winners, the marker, the outcome and the visible files. They are those of a cluster of `mr_model`: of the run that the events make
+//! which come of the script and its calms (`specs/Played`). What a container computes is what the job's definition makes of its input (`computed`).
 //!
-//! **A player** (`played`): a job's world in which the script was played; its text is what `play` prints, its world is the cluster of which it is
+//! **What it refuses** (`PlayFails`): the first bad key of the job text is told, else the first bad line of the script. `Full` is told exactly where there
+//! is no such run, since an event or a work passes a limit. An allocation failure may come at any of these.
+//!
+//! **A player** (`played`): a job's world in which the script was played. Its text is what `play` prints, its world is the cluster of which it is
 //! printed, and it knows which line made which events (`stretches` of `specs/Sources`; `HasPrinted`). The crate above shows more of it.
 //!
-//! **What stands beside the text** (`shown_text`): before it what is handed in, and the history behind it only where that is asked for
-//! (`HasText`): for each generation that was started, in order, its head line `== history K LENGTH` and the
-//! bytes that are stable in its segment, all of them, a torn end too.
+//! **What stands beside the text** (`shown_text`, by `HasText`): before it what is handed in; behind it the history, where that is asked for. The history
+//! has, for each generation that was started, in order, its head line `== history K LENGTH` and all bytes that are stable in its segment, a torn end too.
 //!
-//! **Where `play` prints `marker yes`, the files that it prints are those that `seq` prints for the same job text** (`marked_files_are_those_of_seq`), and a job text that
-//! `seq` refuses is never marked: the events of every script are faithful (`scripts_are_faithful`), since a script has no words for bytes.
+//! **Where `play` prints `marker yes`, the files that it prints are those that `seq` prints for the same job text** (`marked_files_are_those_of_seq`). A
+//! job text that `seq` refuses is never marked. The reason is that the events of every script are faithful (`scripts_are_faithful`): a script has no
+//! words for bytes.
 //!
 //! Laws of these definitions: an input has at most one text, and none where its job text or a line
 //! is bad or a limit is passed (`one_play_text`). Whatever commands follow others, each winner stays, and once the marker is there all
@@ -57,4 +58,4 @@ pub use printed::Printed;
 pub use shown::{Shown, shown_text};
 pub use sources::{Source, Stretch};
 pub use subcommand::{play, played};
-pub use world_text::print_world;
+pub use world_text::{print_world, print_world_won};

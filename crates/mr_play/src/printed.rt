@@ -8,14 +8,14 @@ use crate::player::Player;
 pub struct Printed {
     /// What goes to standard output.
     pub text: Vec<u8>,
-    /// Whether all is so that the script expects.
+    /// Whether all is as the script expects.
     pub met: bool,
     /// Lines for standard error: which calms ended otherwise than the script asks.
     pub notes: Vec<u8>,
 }
 
 impl Player {
-    /// What a play gives whose output is this text.
+    /// What a play gives, with this text as its output.
     pub fn printed(self, text: Vec<u8>) -> Printed
         ensures text { result.text ≡ text }
         ensures met { result.met ≡ self.met }

@@ -76,7 +76,6 @@ fn printed_of(player: Player) -> Result<Printed, SimFault>
     })
 }
 
-#[tactic(auto, using(crate::proofs::Showing::printed))]
 /// The player of a job text and a script, which has played the script.
 ///
 /// The first bad key of the job text is told (`Job`), else the first bad line of the script (`BadCommand`, lines of the whole input, from

@@ -5,7 +5,7 @@ ghost use Rattle.mr_world.specs.declared.fault.WorldFault.TheVariants as world;
 ghost use Rattle.mr_world.specs.Journal.{world_in};
 ghost use Rattle.mr_world.specs.VisibleFiles.{as_pair};
 ghost use Rattle.mr_commands.specs.declared.fault.SimFault.TheVariants.{NoMemory};
-ghost use Rattle.mr_play.specs.WorldText.{line_of_marker, line_of_outcome, line_of_winner, visible_text, world_text};
+ghost use Rattle.mr_play.specs.WorldText.{line_of_marker, line_of_outcome, line_of_winner, visible_text, won_in, world_text};
 ghost use Rattle.mr_play.specs.inner.PlaySteps.{winners_text};
 
 use crate::values::{put_marker, put_outcome, put_winner};
@@ -87,9 +87,22 @@ pub fn print_world(out: &mut Vec<u8>, world: &World) -> Result<(), SimFault>
     ensures memory { IfErr result (λ fault. fault ≡ NoMemory) }
 {
     let winners = read(world.winners())?;
+    print_world_won(out, world, &winners)
+}
+
+/// The same of a world whose winners were read before.
+pub fn print_world_won(
+    out: &mut Vec<u8>,
+    world: &World,
+    winners: &[Option<AttemptId>],
+) -> Result<(), SimFault>
+    requires { winners.now ≡ won_in world.now.config (world_in world.now) }
+    ensures text { OnOk result (out.new.items ≡ out.old.items ++ world_text world.now.config (world_in world.now)) }
+    ensures memory { IfErr result (λ fault. fault ≡ NoMemory) }
+{
     let marker = read(world.marker())?;
     let files = read(world.visible())?;
-    print_winners(out, &winners)?;
+    print_winners(out, winners)?;
     print_marker(out, marker)?;
     print_outcome(out, world.outcome())?;
     print_files(out, &files)?;

@@ -1,2 +1,3 @@
 mod Coming
+mod Finishing
 mod Turning

@@ -1,5 +1,5 @@
 -- A turn of a walk: what was made, in front of what is left, is the whole; and there is less to be done.
-use Rattle.std.proofs.Common.{◌≡◌, ◌<◌, ◌≤◌, ◌⊎◌, inl, inr, ℕ, zero, suc, ◌+◌, List, [], ◌∷◌, ◌++◌, append_assoc, append-nil, Option, Some, None, Result, Ok, Err, IsErrAnd, refl, sym, ap, subst, ◌∙◌, arith}
+use Rattle.std.proofs.Common.{◌≡◌, ◌<◌, ◌≤◌, ◌⊎◌, inl, inr, false, ℕ, zero, suc, ◌+◌, List, [], ◌∷◌, ◌++◌, append_assoc, append-nil, Option, Some, None, Result, Ok, Err, IsErrAnd, refl, sym, ap, subst, ◌∙◌, arith}
 use Rattle.std.proofs.lemmas.Result.{err_from_is_err_and}
 use Rattle.mr_walk.specs.Steps.{Onward, Goes, Ends, Full, GoesOn, Steps}
 use Rattle.mr_walk.specs.Runs.{Found, Run, PassesLimit, by_fewer, going, if_befallen, if_goes, tried}
@@ -7,13 +7,22 @@ use Rattle.mr_walk.specs.declared.ended.Ended.{Ended}
 use Rattle.mr_walk.specs.declared.level.Level.{Level}
 use Rattle.mr_walk.specs.declared.fault.WalkFault.{WalkFault}
 use Rattle.mr_walk.specs.declared.fault.WalkFault.TheVariants as fault
+use Rattle.mr_walk.specs.Taking.{no_more}
 use Rattle.mr_walk.specs.inner.Stack.{worth, opened, pushed, left_of, stack_left, turns_if, turns_tried, turns_on, turns_going, turns_fewer, turns_of, stack_turns, Further, NextOf, Turned}
+
+some_before : {A : Type 0} (xs ys : List A) → no_more xs ≡ false → no_more (xs ++ ys) ≡ false
+some_before [] ys h = absurd (cc)
+some_before (x ∷ xs) ys h = refl
+
+some_behind : {A : Type 0} (xs ys : List A) → no_more ys ≡ false → no_more (xs ++ ys) ≡ false
+some_behind [] ys h = h
+some_behind (x ∷ xs) ys h = refl
 
 module _ {S F : Type 0} (steps : Steps S F) (most : ℕ) where
   -- ---- a level that was opened has all before it that comes of its run
 
   -- where nothing comes of a fault, nothing comes of those that are tried
-  none_comes : (fs : List F) (s : S) → tried steps (by_fewer steps most zero) fs s ≡ []
+  pub none_comes : (fs : List F) (s : S) → tried steps (by_fewer steps most zero) fs s ≡ []
   none_comes [] s = refl
   none_comes (f ∷ fs) s = by (steps.befallen f s) (none_comes fs s) where
     by : (o : Option S) → tried steps (by_fewer steps most zero) fs s ≡ [] → if_befallen steps (by_fewer steps most zero) o ++ tried steps (by_fewer steps most zero) fs s ≡ []
@@ -82,7 +91,7 @@ module _ {S F : Type 0} (steps : Steps S F) (most : ℕ) where
   full behind spare left n s e h = ap (λ m. going steps behind spare m s) e ∙ ap (if_goes steps (λ u. tried steps behind (steps.faults u) u ++ going steps behind spare n u) spare) h
 
   -- where all was tried, what is left of a level is what comes of its going on
-  all_tried : (l : Level S F) (ls : List (Level S F)) → l.faults ≡ [] → stack_left steps most (l ∷ ls) ≡ going steps (by_fewer steps most l.spare) l.spare l.left l.run ++ stack_left steps most ls
+  pub all_tried : (l : Level S F) (ls : List (Level S F)) → l.faults ≡ [] → stack_left steps most (l ∷ ls) ≡ going steps (by_fewer steps most l.spare) l.spare l.left l.run ++ stack_left steps most ls
   all_tried l ls e = ap (λ gs. (tried steps (by_fewer steps most l.spare) gs l.run ++ going steps (by_fewer steps most l.spare) l.spare l.left l.run) ++ stack_left steps most ls) e
 
   pub turned_further : (l : Level S F) (ls : List (Level S F)) (r : Result (Option (Ended S)) WalkFault) (new : List (Level S F)) → l.faults ≡ [] → Further steps l ls r new → Turned steps most (l ∷ ls) r new
@@ -134,3 +143,19 @@ module _ {S F : Type 0} (steps : Steps S F) (most : ℕ) where
         by fault.NoMemory h = tt
         by fault.Full h = (h.0, left ∙ (ap (stack_left steps most) is ∙ h.1))
         by fault.Mismatch h = tt
+
+  -- ---- something is left of each level
+
+  some_going : (behind : S → List (Found S)) (spare left : ℕ) (s : S) → no_more (going steps behind spare left s) ≡ false
+  some_going behind spare zero s = refl
+  some_going behind spare (suc n) s = by (steps.onward s) (λ t. some_going behind spare n t) where
+    by : (o : Onward S) → ((t : S) → no_more (going steps behind spare n t) ≡ false) → no_more (if_goes steps (λ t. tried steps behind (steps.faults t) t ++ going steps behind spare n t) spare o) ≡ false
+    by (Goes t) on = some_behind (tried steps behind (steps.faults t) t) (going steps behind spare n t) (on t)
+    by (Ends t) on = refl
+    by Full on = refl
+
+  pub done_is : (ls : List (Level S F)) → no_more (stack_left steps most ls) ≡ no_more ls
+  done_is [] = refl
+  done_is (l ∷ ls) =
+      some_before (left_of steps most l) (stack_left steps most ls)
+      (some_behind (tried steps (by_fewer steps most l.spare) l.faults l.run) (going steps (by_fewer steps most l.spare) l.spare l.left l.run) (some_going (by_fewer steps most l.spare) l.spare l.left l.run))

@@ -1,4 +1,4 @@
--- Every run that comes of one by at most so many faults, in the order in which they are made (our own profile).
+-- Every run that comes of one by at most a given number of faults, in the order in which they are made (our own profile).
 -- At each place of a run, where it has ended too, each fault is tried in turn; then it goes on by itself. Behind a fault it is the same, with one fault less.
 use Rattle.std.specs.Prelude.{ℕ, zero, suc, List, [], ◌∷◌, ◌++◌, Option, Some, None}
 use Rattle.mr_walk.specs.Steps.{Onward, Goes, Ends, Full, Steps}
@@ -27,16 +27,16 @@ module _ {S F : Type 0} (steps : Steps S F) where
   if_goes on spare (Ends s) = Run spare s ∷ []
   if_goes on spare Full = PassesLimit ∷ []
 
-  -- it goes on by itself for at most so many steps, and behind each of them the faults of the place are tried
+  -- it goes on by itself for at most this many steps, and behind each of them the faults of the place are tried
   abbrev pub going : Comes → ℕ → ℕ → Comes
   going behind spare zero s = Run spare s ∷ []
   going behind spare (suc most) s = if_goes (λ t. tried behind (steps.faults t) t ++ going behind spare most t) spare (steps.onward s)
 
-  -- what comes of a run by fewer faults than these, if by itself it makes at most so many steps
+  -- what comes of a run by fewer faults than n, if by itself it makes at most `most` steps
   abbrev pub by_fewer : ℕ → ℕ → Comes
   by_fewer most zero s = []
   by_fewer most (suc n) s = tried (by_fewer most n) (steps.faults s) s ++ going (by_fewer most n) n most s
 
-  -- all runs with at most so many faults
+  -- all runs with at most `faults` faults
   abbrev pub runs : ℕ → ℕ → Comes
   runs most faults s = by_fewer most (suc faults) s

@@ -1,5 +1,5 @@
 -- What a walk answers where the next run is asked for.
-use Rattle.std.specs.Prelude.{◌≡◌, List, [], ◌∷◌, Option, Some, None, Result, Ok, Err}
+use Rattle.std.specs.Prelude.{◌≡◌, Bool, true, false, List, [], ◌∷◌, Option, Some, None, Result, Ok, Err}
 use Rattle.mr_walk.specs.Runs.{Found, Run, PassesLimit}
 use Rattle.mr_walk.specs.declared.ended.Ended.{Ended}
 use Rattle.mr_walk.specs.declared.fault.WalkFault.{WalkFault}
@@ -12,3 +12,8 @@ Takes old (Ok None) new = (old ≡ []) × (new ≡ [])
 Takes {S} old (Err fault.Full) new = ((rest : List (Found S)) × (old ≡ PassesLimit ∷ rest)) × (new ≡ [])
 Takes old (Err fault.NoMemory) new = new ≡ []
 Takes old (Err fault.Mismatch) new = new ≡ []
+
+-- none is left
+abbrev pub no_more : {A : Type 0} → List A → Bool
+no_more [] = true
+no_more (x ∷ xs) = false

@@ -1,4 +1,4 @@
-//! Walks over every run that comes of one by at most so many faults.
+//! Walks over every run that comes of one by at most a given number of faults.
 //!
 //! # What is proved
 //!
@@ -6,6 +6,7 @@
 //!
 //! - `Walk::new` has before it exactly the runs of the definition (`runs` of `specs/Runs`): at each place each fault, and behind a fault the same with one fault less.
 //! - `next_run` makes the first of those that are left, and leaves the others, so each is made once, and where none is answered all were made (`Takes`).
+//! - `is_done` says whether none is left.
 //! - It ends: each turn leaves fewer turns to be made.
 //! - It answers `Full` only where the next run would pass a limit, and is at its end after any fault.
 //!
@@ -17,6 +18,7 @@ mod fault;
 mod laws;
 mod level;
 mod run;
+mod stack;
 mod turn;
 mod walk;
 

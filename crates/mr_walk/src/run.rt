@@ -1,5 +1,5 @@
 //! What is walked over: a run that goes on by itself, and that faults may befall.
-ghost use Rattle.std.specs.Prelude.{◌≡◌, IfOk, IfErr};
+ghost use Rattle.std.specs.Prelude.{◌≡◌, false, None, IfOk, IfErr};
 ghost use Rattle.mr_walk.specs.Steps.{Befalls, GoesOn, IsNotFull, Steps};
 
 use crate::fault::WalkFault;
@@ -27,6 +27,14 @@ pub trait Run: Drop {
     fn faults(&self, alloc: Global) -> Result<LinkedList<Self::Fault>, WalkFault>
         ensures is { IfOk result (λ faults. faults ≡ steps.faults self.now) }
         ensures fault { IfErr result IsNotFull };
+
+    /// Whether the fault may be tried where it is. Where not, it can't befall it there, so no run need be forked for it.
+    fn may_befall(&self, _fault: &Self::Fault) -> Result<bool, WalkFault>
+        ensures cannot { IfOk result (λ may. may ≡ false → steps.befallen _fault.now self.now ≡ None) }
+        ensures fault { IfErr result IsNotFull }
+    {
+        Ok(true)
+    }
 
     /// The fault befalls it; whether it can. Where it can't, nothing is said of the run.
     fn befall(&mut self, alloc: Global, fault: Self::Fault) -> Result<bool, WalkFault>

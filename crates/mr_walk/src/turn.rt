@@ -1,16 +1,17 @@
 //! Turns of a walk: a fault is tried, or a run goes on.
-ghost use Rattle.std.specs.Prelude.{◌≡◌, ◌∷◌, Some, IfOk, IfErr, OnOk};
+ghost use Rattle.std.specs.Prelude.{◌≡◌, ℕ, List, [], ◌∷◌, Some, IfOk, IfErr, OnOk};
 ghost use Rattle.mr_walk.specs.Steps.{IsNotFull};
-ghost use Rattle.mr_walk.specs.inner.Stack.{Further, NextOf, Turned, opened, pushed, worth};
+ghost use Rattle.mr_walk.specs.inner.Stack.{Finishes, Further, NextOf, Turned, opened, pushed, worth};
 
 use crate::ended::Ended;
 use crate::fault::WalkFault;
 use crate::level::Level;
 use crate::run::Run;
+use crate::stack::Stack;
 use std::alloc::Global;
 use std::collections::LinkedList;
 
-// What is to be tried where a run is, if it may have so many faults more.
+// What is to be tried where a run is, if it may have `spare` faults more.
 fn faults_of<R: Run>(alloc: Global, run: &R, spare: u32) -> Result<LinkedList<R::Fault>, WalkFault>
     ensures is { IfOk result (λ faults. faults ≡ worth R.steps spare (R.steps.faults run.now)) }
     ensures fault { IfErr result IsNotFull }
@@ -24,7 +25,7 @@ fn faults_of<R: Run>(alloc: Global, run: &R, spare: u32) -> Result<LinkedList<R:
 /// A run comes on top, with all that is to be tried where it is.
 pub fn open<R: Run>(
     alloc: Global,
-    levels: &mut LinkedList<Level<R, R::Fault>>,
+    levels: &mut Stack<Level<R, R::Fault>>,
     run: R,
     spare: u32,
     left: u64,
@@ -33,7 +34,7 @@ pub fn open<R: Run>(
     ensures fault { IfErr result IsNotFull }
 {
     let faults = faults_of(alloc, &run, spare)?;
-    levels.push_front(Level {
+    levels.push(Level {
         run,
         faults,
         spare,
@@ -45,7 +46,7 @@ pub fn open<R: Run>(
 // What a fault made of a run comes on top, if a fault was to be spared.
 fn open_behind<R: Run>(
     alloc: Global,
-    levels: &mut LinkedList<Level<R, R::Fault>>,
+    levels: &mut Stack<Level<R, R::Fault>>,
     run: R,
     spare: u32,
     most: u64,
@@ -60,9 +61,9 @@ fn open_behind<R: Run>(
 }
 
 // The fault is tried on a run that was forked off the level, which stays.
-fn try_fault<R: Run>(
+fn try_on_fork<R: Run>(
     alloc: Global,
-    levels: &mut LinkedList<Level<R, R::Fault>>,
+    levels: &mut Stack<Level<R, R::Fault>>,
     most: u64,
     level: Level<R, R::Fault>,
     fault: R::Fault,
@@ -73,7 +74,7 @@ fn try_fault<R: Run>(
     let mut run = level.run.fork(alloc)?;
     let befell = run.befall(alloc, fault)?;
     let spare = level.spare;
-    levels.push_front(level)?;
+    levels.push(level)?;
     if befell {
         open_behind(alloc, levels, run, spare, most)
     } else {
@@ -81,10 +82,47 @@ fn try_fault<R: Run>(
     }
 }
 
+// The fault is tried, if it may befall the level's run. The level stays.
+fn try_fault<R: Run>(
+    alloc: Global,
+    levels: &mut Stack<Level<R, R::Fault>>,
+    most: u64,
+    level: Level<R, R::Fault>,
+    fault: R::Fault,
+) -> Result<(), WalkFault>
+    ensures tries { OnOk result (levels.new ≡ pushed R.steps most level.spare (R.steps.befallen fault level.run) (level ∷ levels.old)) }
+    ensures fault { IfErr result IsNotFull }
+{
+    if level.run.may_befall(&fault)? {
+        try_on_fork(alloc, levels, most, level, fault)
+    } else {
+        levels.push(level)?;
+        Ok(())
+    }
+}
+
+// A run goes on by itself up to its end, where no fault more may befall it.
+fn finish<R: Run>(alloc: Global, level: Level<R, R::Fault>) -> Result<Ended<R>, WalkFault>
+    ensures { Finishes R.steps level.left level.run result }
+{
+    let Level {
+        mut run,
+        faults: _,
+        spare: _,
+        left,
+    } = level;
+    for _ in 0..left {
+        if !run.go_on(alloc)? {
+            return Ok(Ended { run, spare: 0 });
+        }
+    }
+    Ok(Ended { run, spare: 0 })
+}
+
 // A run goes on by itself, from where all was tried.
 fn go_further<R: Run>(
     alloc: Global,
-    levels: &mut LinkedList<Level<R, R::Fault>>,
+    levels: &mut Stack<Level<R, R::Fault>>,
     level: Level<R, R::Fault>,
 ) -> Result<Option<Ended<R>>, WalkFault>
     ensures { Further R.steps level levels.old result levels.new }
@@ -106,10 +144,26 @@ fn go_further<R: Run>(
     }
 }
 
+// A level goes on, from where all was tried: up to its end, where no fault more may befall its run.
+fn go_from<R: Run>(
+    alloc: Global,
+    levels: &mut Stack<Level<R, R::Fault>>,
+    level: Level<R, R::Fault>,
+) -> Result<Option<Ended<R>>, WalkFault>
+    ensures { (faults : List R.Fault) → faults ≡ [] → (most : ℕ) → Turned R.steps most (record level { faults = faults } ∷ levels.old) result levels.new }
+{
+    if level.spare == 0 {
+        let ended = finish(alloc, level)?;
+        Ok(Some(ended))
+    } else {
+        go_further(alloc, levels, level)
+    }
+}
+
 // The level that was on top makes a turn.
 fn turn<R: Run>(
     alloc: Global,
-    levels: &mut LinkedList<Level<R, R::Fault>>,
+    levels: &mut Stack<Level<R, R::Fault>>,
     most: u64,
     mut level: Level<R, R::Fault>,
 ) -> Result<Option<Ended<R>>, WalkFault>
@@ -120,19 +174,19 @@ fn turn<R: Run>(
             try_fault(alloc, levels, most, level, fault)?;
             Ok(None)
         }
-        None => go_further(alloc, levels, level),
+        None => go_from(alloc, levels, level),
     }
 }
 
 /// Turns are made until a run is at its end; none where nothing is left.
 pub fn next_of<R: Run>(
     alloc: Global,
-    levels: &mut LinkedList<Level<R, R::Fault>>,
+    levels: &mut Stack<Level<R, R::Fault>>,
     most: u64,
 ) -> Result<Option<Ended<R>>, WalkFault>
     ensures { NextOf R.steps most levels.old result levels.new }
 {
-    while let Some(level) = levels.pop_front() {
+    while let Some(level) = levels.pop() {
         if let Some(ended) = turn(alloc, levels, most, level)? {
             return Ok(Some(ended));
         }

@@ -2,23 +2,23 @@
 ghost use Rattle.std.specs.Prelude.{◌≡◌, IfOk, IfErr};
 ghost use Rattle.mr_walk.specs.Steps.{IsNotFull};
 ghost use Rattle.mr_walk.specs.Runs.{runs};
-ghost use Rattle.mr_walk.specs.Taking.{Takes};
+ghost use Rattle.mr_walk.specs.Taking.{Takes, no_more};
 
 use crate::ended::Ended;
 use crate::fault::WalkFault;
 use crate::level::Level;
 use crate::run::Run;
+use crate::stack::Stack;
 use crate::turn::{next_of, open};
 use std::alloc::Global;
-use std::collections::LinkedList;
 use std::marker::Model;
 
-/// A walk over every run that comes of one by at most so many faults. Contracts see it as the list of those that are left.
+/// A walk over every run that comes of one by at most a given number of faults. Contracts see it as the list of those that are left.
 ///
 /// It holds one run for each fault of the run that is made, and the one that they began with.
 #[derive(Drop)]
 pub struct Walk<R: Run> {
-    levels: LinkedList<Level<R, R::Fault>>,
+    levels: Stack<Level<R, R::Fault>>,
     most: u64,
 }
 
@@ -33,12 +33,12 @@ impl<R: Run> Model for Walk<R> {
 }
 
 impl<R: Run> Walk<R> {
-    /// A walk over all runs that come of this one by at most so many faults, where a run makes at most so many steps by itself. It fails where there is no memory, or where its faults can't be told.
+    /// A walk over all runs that come of this one by at most `faults` faults, where a run makes at most `most` steps by itself. It fails where there is no memory, or where its faults can't be told.
     pub fn new(alloc: Global, run: R, faults: u32, most: u64) -> Result<Walk<R>, WalkFault>
         ensures all { IfOk result (λ walk. walk ≡ runs R.steps most faults run) }
         ensures fault { IfErr result IsNotFull }
     {
-        let mut levels = LinkedList::new(alloc);
+        let mut levels = Stack::new(alloc);
         open(alloc, &mut levels, run, faults, most)?;
         Ok(Walk { levels, most })
     }
@@ -56,5 +56,12 @@ impl<R: Run> Walk<R> {
                 Err(fault)
             }
         }
+    }
+
+    /// Whether all runs were made.
+    pub fn is_done(&self) -> bool
+        ensures { result ≡ no_more self.now }
+    {
+        self.levels.is_empty()
     }
 }

@@ -12,7 +12,7 @@ use Rattle.mr_commands.specs.declared.fault.SimFault.{SimFault}
 use Rattle.mr_commands.specs.declared.fault.SimFault.TheVariants as fault
 use Rattle.mr_walk.specs.declared.fault.WalkFault.{WalkFault}
 use Rattle.mr_walk.specs.declared.fault.WalkFault.TheVariants as walk_fault
-use Rattle.mr_explore.specs.Runs.{Exploring, start_first}
+use Rattle.mr_explore.specs.Runs.{Exploring, newest_in, start_first}
 
 abbrev pub view_of : Player → Exploring
 view_of p = record { job = p.job; config = p.world.config; played = state_in p }
@@ -67,9 +67,9 @@ calm_length_in p = calm_length (job_as p.job) p.world.config (within p.world.con
 -- no memory; or a limit forbids that the first master starts
 abbrev pub CannotBegin : Exploring → SimFault → Type 0
 CannotBegin e fault.NoMemory = Unit {0}
-CannotBegin e fault.Full = start_first e ≡ None
+CannotBegin e fault.Full = (newest_in e ≡ 0) × (start_first e ≡ None)
 CannotBegin e _ = ⊥
 
--- what may stay of so many bytes that master k did not flush
+-- what may stay of the bytes that master k did not flush: there are `bytes` of them
 abbrev pub kept_after : Player → ℕ → ℕ → List ℕ
 kept_after p k bytes = kept_in (job_as p.job) p.world.config (within p.world.config) k (state_in p) (told (job_as p.job) p.world.config (within p.world.config) (Crash k bytes) (state_in p))

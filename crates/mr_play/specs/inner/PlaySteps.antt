@@ -22,6 +22,7 @@ IsUnread job script _ = ⊥
 
 -- a player of a job has played these commands
 pub record HasPlayed (job : Submission) (commands : List (ℕ × Command)) (p : Player) : Type 0 where
+  pub kind : p.job ≡ job.job
   pub config : p.world.config ≡ config_of job
   pub comes : played_of within job commands ≡ Some (state_in p)
   pub noted : stretches_of within job commands ≡ p.stretches.items

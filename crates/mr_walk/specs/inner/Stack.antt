@@ -1,7 +1,7 @@
 -- What a walk has before it: its levels, the last one first.
 use Rattle.std.specs.Prelude.{◌≡◌, ◌<◌, ◌⊎◌, ℕ, zero, suc, ◌+◌, List, [], ◌∷◌, ◌++◌, Option, Some, None, Result, Ok, Err}
 use Rattle.mr_walk.specs.Steps.{Onward, Goes, Ends, Full, Steps}
-use Rattle.mr_walk.specs.Runs.{Found, Run, PassesLimit, by_fewer, going, tried}
+use Rattle.mr_walk.specs.Runs.{Found, Run, PassesLimit, by_fewer, going, if_goes, tried}
 use Rattle.mr_walk.specs.declared.ended.Ended.{Ended}
 use Rattle.mr_walk.specs.declared.level.Level.{Level}
 use Rattle.mr_walk.specs.declared.fault.WalkFault.{WalkFault}
@@ -70,6 +70,18 @@ module _ {S F : Type 0} (steps : Steps S F) where
   Further l old (Err fault.Full) new = (n : ℕ) × (l.left ≡ suc n) × (steps.onward l.run ≡ Full)
   Further l old (Err fault.NoMemory) new = Unit {0}
   Further l old (Err fault.Mismatch) new = Unit {0}
+
+  -- what comes of a run that no fault befalls any more
+  abbrev pub alone : ℕ → S → List (Found S)
+  alone zero s = Run 0 s ∷ []
+  alone (suc n) s = if_goes steps (alone n) 0 (steps.onward s)
+
+  -- it came to its end, or its next step would pass a limit
+  abbrev pub Finishes : ℕ → S → Result (Ended S) WalkFault → Type 0
+  Finishes left s (Ok e) = alone left s ≡ Run e.spare e.run ∷ []
+  Finishes left s (Err fault.Full) = alone left s ≡ PassesLimit ∷ []
+  Finishes left s (Err fault.NoMemory) = Unit {0}
+  Finishes left s (Err fault.Mismatch) = Unit {0}
 
   -- a run was made, or there is less to be done before the next one
   abbrev pub Turned : ℕ → List (Level S F) → Result (Option (Ended S)) WalkFault → List (Level S F) → Type 0

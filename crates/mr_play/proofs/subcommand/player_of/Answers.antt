@@ -17,6 +17,7 @@ returns-clause-played c =
     let notes = noted-from-begin c.args.submission c.args.commands.items c.in_ok-player.player c.in_ok-player.ensures.job c.in_ok-player.ensures.config c.in_ok-player.ensures.state in
     let more = stretches (job_as c.in_ok-player.player.job) c.in_ok-player.player.world.config (within c.in_ok-player.player.world.config) c.args.commands.items (state_in c.in_ok-player.player) in
     record {
+      kind = c.in_ok-play.ensures.job ∙ c.in_ok-player.ensures.job;
       config = c.in_ok-play.ensures.config ∙ c.in_ok-player.ensures.config;
       comes = sym begins ∙ c.in_ok-play.ensures.state;
       noted = sym (c.in_ok-play.ensures.noted ∙ ap (λ xs. xs ++ more) c.in_ok-player.ensures.noted ∙ notes);

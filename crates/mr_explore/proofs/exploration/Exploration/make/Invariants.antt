@@ -3,4 +3,4 @@ use Rattle.mr_explore.proofs.exploration.Exploration.make.Given as goal
 
 -- the first of those that were left were made
 abbrev pub invariant-loop : goal.invariant-loop
-invariant-loop l = Ran l.fn.self l.self
+invariant-loop g l = Ran l.counter l.fn.self l.self

@@ -1,0 +1,2 @@
+-- What is told of ends as lines of JSON: Ends.
+pub mod Ends

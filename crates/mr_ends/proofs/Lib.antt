@@ -1,0 +1,3 @@
+pub mod Choosing
+mod Noting
+mod Pieces

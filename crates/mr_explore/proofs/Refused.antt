@@ -1,0 +1,83 @@
+-- An input has one run at most, and nothing is printed of one that is refused.
+use Rattle.std.proofs.Common.{◌≡◌, ◌≢◌, ◌⊎◌, ◌<◌, ℕ, List, [], ◌∷◌, ◌++◌, map, length, Option, Some, None, Result, Ok, inl, inr, refl, sym, ap, subst, ◌∙◌, arith}
+use Rattle.std.specs.Option.{option_map}
+use Rattle.mr_commands.specs.declared.fault.JobTextFault.{JobTextFault}
+use Rattle.mr_commands.specs.declared.job.submission.Submission.{Submission}
+use Rattle.mr_world.specs.Limits.{within}
+use Rattle.mr_play.specs.Played.{Played}
+use Rattle.mr_play.specs.Text.{IsBadPlayJob, IsBadPlayLine, IsFullPlay, config_of}
+use Rattle.mr_play.proofs.Playing.{one_end, one_play_text_law}
+use Rattle.mr_walk.specs.Runs.{Found, PassesLimit}
+use Rattle.mr_explore.specs.declared.asked.Asked.{Asked}
+use Rattle.mr_explore.specs.Explored.{IsFullExplored, PrintsExplored, WouldPass}
+use Rattle.mr_explore.specs.Exploring.{AreMost, IsFullBehind, MadeRun, as_found}
+use Rattle.mr_explore.specs.Laws.{ExploredOrRefused}
+use Rattle.mr_explore.specs.Runs.{CannotStart, Exploring, IsLeftBy, IsRunOf, StartsFrom, newest_in, runs_with, start_first, with}
+
+-- ---- one run
+
+ok_is : (x y : Submission) → ◌≡◌ {A = Result Submission JobTextFault} (Ok x) (Ok y) → x ≡ y
+ok_is x y e = cc
+
+one_left : (input : List ℕ) (a b : Exploring) → IsLeftBy input a → IsLeftBy input b → a ≡ b
+one_left input a b x y =
+    let job = ok_is x.prints.job y.prints.job (sym x.prints.said ∙ y.prints.said) in
+    let left = one_end within input x.text y.text x.prints y.prints in
+    x.is ∙ ((λ i. record { job = (job i).job; config = config_of (job i); played = left i }) ∙ sym y.is)
+
+some_is : (x y : Exploring) → Some x ≡ Some y → x ≡ y
+some_is x y e = cc
+
+one_start : (before a b : Exploring) → StartsFrom before a → StartsFrom before b → a ≡ b
+one_start before a b (inl x) (inl y) = some_is a b (sym x.1 ∙ y.1)
+one_start before a b (inl x) (inr y) = absurd (y.0 x.0)
+one_start before a b (inr x) (inl y) = absurd (x.0 y.0)
+one_start before a b (inr x) (inr y) = x.1 ∙ sym y.1
+
+one_run_law : (input : List ℕ) (a b : Exploring) → IsRunOf input a → IsRunOf input b → a ≡ b
+one_run_law input a b x y = one_start x.before a b x.starts (subst (λ (e : Exploring). StartsFrom e b) (one_left input y.before x.before y.left x.left) y.starts)
+
+-- ---- no limit
+
+tail_is : {A : Type 0} (x y : A) (xs ys : List A) → x ∷ xs ≡ y ∷ ys → xs ≡ ys
+tail_is x y xs ys e = cc
+
+apart_all : (made more : List MadeRun) (rest : List (Found Exploring)) → map as_found made ++ [] ≡ map as_found more ++ PassesLimit ∷ rest → ⊥
+apart_all [] [] rest e = cc
+apart_all [] (k ∷ more) rest e = cc
+apart_all (m ∷ made) [] rest e = cc
+apart_all (m ∷ made) (k ∷ more) rest e = apart_all made more rest (tail_is (as_found m) (as_found k) _ _ e)
+
+apart_most : (made more : List MadeRun) (left rest : List (Found Exploring)) → length more < length made → map as_found made ++ left ≡ map as_found more ++ PassesLimit ∷ rest → ⊥
+apart_most [] more left rest few e = omega (arith, few)
+apart_most (m ∷ made) [] left rest few e = cc
+apart_most (m ∷ made) (k ∷ more) left rest few e = apart_most made more left rest (omega (arith, few)) (tail_is (as_found m) (as_found k) _ _ e)
+
+apart : (n : ℕ) (made : List MadeRun) (left all : List (Found Exploring)) → all ≡ map as_found made ++ left → (length made ≡ n) ⊎ (left ≡ []) → IsFullBehind n all → ⊥
+apart n made left all are (inl many) full = let few = full.few in apart_most made full.made left full.rest (omega (arith, few, many)) (sym are ∙ full.is)
+apart n made left all are (inr none) full = apart_all made full.made full.rest (ap (λ xs. map as_found made ++ xs) (sym none) ∙ (sym are ∙ full.is))
+
+not_none : (x : Exploring) → None ≡ Some x → ⊥
+not_none x e = cc
+
+starts_not : (e new : Exploring) → newest_in e ≡ 0 → start_first e ≡ None → StartsFrom e new → ⊥
+starts_not e new newest none (inl s) = not_none new (sym (ap (option_map (with e)) none) ∙ s.1)
+starts_not e new newest none (inr s) = s.0 newest
+
+not_started : (input : List ℕ) (run : Exploring) → IsRunOf input run → CannotStart input → ⊥
+not_started input run r c = starts_not c.before run c.newest c.none (subst (λ (e : Exploring). StartsFrom e run) (one_left input r.before c.before r.left c.left) r.starts)
+
+not_full_law : (asked : Asked) (input text : List ℕ) → PrintsExplored asked input text → IsFullExplored asked input → ⊥
+not_full_law asked input text p (inl f) = one_play_text_law.not_full within input p.is_run.left.text p.is_run.left.prints f
+not_full_law asked input text p (inr (inl c)) = not_started input p.run p.is_run c
+not_full_law asked input text p (inr (inr w)) =
+    apart asked.most p.made p.rest (runs_with asked.faults p.run) p.are p.count.1
+    (subst (λ (e : Exploring). IsFullBehind asked.most (runs_with asked.faults e)) (one_run_law input w.run p.run w.is_run p.is_run) w.full)
+
+pub explored_or_refused_law : ExploredOrRefused
+explored_or_refused_law = record {
+  one_run = one_run_law;
+  not_bad_job = λ asked input text e p h. one_play_text_law.not_bad_job within input p.is_run.left.text e p.is_run.left.prints h;
+  not_bad_line = λ asked input text n p h. one_play_text_law.not_bad_line within input p.is_run.left.text n p.is_run.left.prints h;
+  not_full = not_full_law;
+}

@@ -1,0 +1,22 @@
+//! What is asked of an exploration.
+
+/// How the ends are told.
+#[derive(Clone, Copy, Debug, PartialEq, Eq)]
+pub enum Form {
+    /// As inputs of `play`: all but the scripts stands in comments.
+    Text,
+    /// As lines of JSON.
+    Json,
+}
+
+/// How many faults a run has at most, how many runs are made, which end is sought, and how the ends are told.
+#[derive(Clone, Copy, Debug, PartialEq, Eq)]
+pub struct Asked<'a> {
+    /// How many faults a run has at most.
+    pub faults: u32,
+    /// How many runs are made at most.
+    pub most: u64,
+    /// Lines of the end that is sought, as `marker yes, outcome failed`; all ends are told where none is sought.
+    pub goal: Option<&'a str>,
+    pub form: Form,
+}

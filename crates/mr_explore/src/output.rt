@@ -1,0 +1,78 @@
+//! The output of `explore`.
+ghost use Rattle.std.specs.Prelude.{◌≡◌, ◌++◌, IfOk, IfErr, OnOk};
+ghost use Rattle.std.specs.Option.{option_map};
+ghost use Rattle.mr_ends.specs.Founds.{as_found};
+ghost use Rattle.mr_explore.specs.Ends.{TellFails, TellsEnds, told_text};
+ghost use Rattle.mr_explore.specs.Explored.{ExploredFails, PrintsExplored};
+ghost use Rattle.mr_explore.specs.Exploring.{found_of};
+
+use crate::asked::{Asked, Form};
+use crate::exploration::Exploration;
+use crate::leading::check_scripts;
+use crate::sequential::sequential_of;
+use crate::watch::Watch;
+use mr_commands::SimFault;
+use mr_end_lines::put_ends;
+use mr_ends::{Found, Sequential, put_found};
+use std::alloc::{AllocError, Global};
+
+/// What `explore` prints of an input, which is a job text and a script behind it: the ends of its runs with at most `asked.faults` faults, of which at most `asked.most` are made.
+///
+/// The first bad key of the job text is told (`Job`), else the first bad line of the script (`BadCommand`), else `Full` where the script, the start of the first
+/// master, or one of these runs would pass a limit of the world. `NoMemory` may come at any input. `JournalMismatch` would come where the events of a run could not happen
+/// once more, or a script led to another end.
+pub fn explore_output<W: Watch>(
+    alloc: Global,
+    input: &[u8],
+    asked: &Asked<'_>,
+    watch: &W,
+) -> Result<Vec<u8>, SimFault>
+    ensures ok { IfOk result (λ text. PrintsExplored asked.now input.now text.items) }
+    ensures fault { IfErr result (ExploredFails asked.now input.now) }
+{
+    let mut exploration = Exploration::new(alloc, input, asked.faults)?;
+    exploration.make(alloc, asked.most, watch)?;
+    explored_text(alloc, input, &exploration, asked.goal, asked.form)
+}
+
+/// What is printed of an exploration of an input: all ends, or the best that meets a goal. Each script of its table was played before, and led to its end.
+///
+/// The first bad key of the job text is told (`Job`). It fails by an allocation failure, or where `check_scripts` does.
+pub fn explored_text(
+    alloc: Global,
+    input: &[u8],
+    exploration: &Exploration,
+    goal: Option<&str>,
+    form: Form,
+) -> Result<Vec<u8>, SimFault>
+    ensures tells { IfOk result (λ text. TellsEnds input.now form (option_map (λ g. g.now) goal.entry) (found_of exploration.now) text.items) }
+    ensures fault { IfErr result (TellFails input.now) }
+{
+    let table = exploration.table();
+    check_scripts(alloc, input, table)?;
+    let sequential = sequential_of(alloc, input)?;
+    let found = Found {
+        table,
+        faults: exploration.faults(),
+        whole: exploration.is_whole(),
+    };
+    Ok(told(alloc, &found, &sequential, goal, form)?)
+}
+
+// What was found, in this form.
+fn told(
+    alloc: Global,
+    found: &Found<'_>,
+    sequential: &Sequential,
+    goal: Option<&str>,
+    form: Form,
+) -> Result<Vec<u8>, AllocError>
+    ensures { IfOk result (λ text. text.items ≡ told_text form sequential.now (option_map (λ g. g.now) goal.entry) (as_found found.now)) }
+{
+    let mut text = Vec::new(alloc);
+    match form {
+        Form::Text => put_found(&mut text, found, sequential, goal)?,
+        Form::Json => put_ends(&mut text, alloc, found, sequential, goal)?,
+    }
+    Ok(text)
+}

@@ -1,0 +1,164 @@
+//! Winners that were read of histories. Of one that comes again they are not read again: that takes longer than all else that is printed of a world.
+ghost use Rattle.std.specs.Prelude.{◌≡◌, ◌++◌, true, map, IfSome, IfOk, OnOk, IfErr};
+ghost use Rattle.std.specs.List.{flat_map};
+ghost use Rattle.mr_history.specs.Reading.{records_of};
+ghost use Rattle.mr_model.specs.Claims.{records};
+ghost use Rattle.mr_world.specs.Journal.{world_in};
+ghost use Rattle.mr_play.specs.WorldText.{won_in, world_text};
+
+use mr_commands::SimFault;
+use mr_ids::{AttemptId, JobId};
+use mr_play::print_world_won;
+use mr_world::World;
+use std::alloc::{AllocError, Global};
+use std::marker::Model;
+
+// Of more histories no winners are kept.
+const MOST_KNOWN: usize = 64;
+
+/// The winners of the reduces of a job, and the stable bytes of the history of which they were read.
+#[derive(Drop)]
+struct Known {
+    job: JobId,
+    reduces: u32,
+    segments: Vec<Vec<u8>>,
+    winners: Vec<Option<AttemptId>>,
+}
+
+impl Model for Known {
+    ghost use Rattle.std.specs.Prelude.{◌≡◌, List, Option, map};
+    ghost use Rattle.mr_ids.specs.Attempt.{Attempt};
+    ghost use Rattle.mr_explore.specs.inner.Winners.{told_winners};
+
+    ghost Value = { List (Option Attempt) };
+
+    ghost view = { λ k. k.winners.items };
+
+    ghost invariant = { λ k. k.winners.items ≡ told_winners k.job k.reduces (map (λ v. v.items) k.segments.items) };
+}
+
+impl Known {
+    // Those of a world.
+    fn read(alloc: Global, world: &World) -> Result<Known, SimFault>
+        ensures is { IfOk result (λ known. known ≡ won_in world.now.config (world_in world.now)) }
+        ensures memory { IfErr result (λ fault. fault ≡ SimFault.NoMemory) }
+    {
+        let segments = segments_of(alloc, world)?;
+        let winners = winners_of(world)?;
+        let config = world.config();
+        Ok(Known {
+            job: config.job,
+            reduces: config.reduces,
+            segments,
+            winners,
+        })
+    }
+
+    // Whether a world's history has the same bytes. Then its winners are these.
+    fn is_of(&self, world: &World) -> bool
+        ensures { result ≡ true → self.now ≡ won_in world.now.config (world_in world.now) }
+    {
+        let config = world.config();
+        if self.job.start != config.job.start || self.job.number != config.job.number {
+            return false;
+        }
+        if self.reduces != config.reduces {
+            return false;
+        }
+        are_stable(world, &self.segments)
+    }
+
+    fn winners(&self) -> &[Option<AttemptId>]
+        ensures { result.now ≡ self.now }
+    {
+        &self.winners
+    }
+}
+
+fn winners_of(world: &World) -> Result<Vec<Option<AttemptId>>, SimFault>
+    ensures is { IfOk result (λ all. all.items ≡ won_in world.now.config (world_in world.now)) }
+    ensures memory { IfErr result (λ fault. fault ≡ SimFault.NoMemory) }
+{
+    match world.winners() {
+        Ok(winners) => Ok(winners),
+        Err(_) => Err(SimFault::NoMemory),
+    }
+}
+
+// The stable bytes of each generation up to the newest, from 0, of which there are none.
+fn segments_of(alloc: Global, world: &World) -> Result<Vec<Vec<u8>>, AllocError>
+    ensures { IfOk result (λ all. flat_map records_of (map (λ v. v.items) all.items) ≡ records (world_in world.now)) }
+{
+    let mut all = Vec::new(alloc);
+    for k in 0..u64::from(world.newest()) + 1 {
+        all.push(Vec::from_slice(alloc, world.stable(k as u32))?)?;
+    }
+    Ok(all)
+}
+
+// Whether these are the stable bytes of each generation up to the newest.
+fn are_stable(world: &World, segments: &[Vec<u8>]) -> bool
+    ensures { result ≡ true → flat_map records_of (map (λ v. v.items) segments.now) ≡ records (world_in world.now) }
+{
+    if segments.len() as u64 != u64::from(world.newest()) + 1 {
+        return false;
+    }
+    for (k, segment) in segments.iter().enumerate() {
+        let same = world.stable(k as u32) == segment.as_slice();
+        if !same {
+            return false;
+        }
+    }
+    true
+}
+
+/// Winners of some histories.
+#[derive(Drop)]
+pub struct Winners {
+    known: Vec<Known>,
+}
+
+impl Winners {
+    /// Of no history.
+    pub fn new(alloc: Global) -> Winners {
+        Winners {
+            known: Vec::new(alloc),
+        }
+    }
+
+    /// Writes what `play` prints of a world. It fails by an allocation failure.
+    pub fn print(&mut self, alloc: Global, out: &mut Vec<u8>, world: &World) -> Result<(), SimFault>
+        ensures text { OnOk result (out.new.items ≡ out.old.items ++ world_text world.now.config (world_in world.now)) }
+        ensures memory { IfErr result (λ fault. fault ≡ SimFault.NoMemory) }
+    {
+        if let Some(known) = self.of(world) {
+            return print_world_won(out, world, known.winners());
+        }
+        let known = Known::read(alloc, world)?;
+        print_world_won(out, world, known.winners())?;
+        self.keep(known)
+    }
+
+    // Those of a world, if its history was read before.
+    fn of(&self, world: &World) -> Option<&Known>
+        ensures { IfSome result (λ known. known.now ≡ won_in world.now.config (world_in world.now)) }
+    {
+        for known in &self.known {
+            if known.is_of(world) {
+                return Some(known);
+            }
+        }
+        None
+    }
+
+    // Where there are too many, those that were read before are forgotten.
+    fn keep(&mut self, known: Known) -> Result<(), SimFault>
+        ensures memory { IfErr result (λ fault. fault ≡ SimFault.NoMemory) }
+    {
+        if self.known.len() == MOST_KNOWN {
+            self.known.clear();
+        }
+        self.known.push(known)?;
+        Ok(())
+    }
+}
