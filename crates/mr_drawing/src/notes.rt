@@ -93,7 +93,7 @@ pub fn foot_lines(drawing: &Drawing) -> usize {
         .saturating_add(usize::from(hidden_lines(drawing) > 0))
 }
 
-// That so many of something are left out.
+// The note that `count` things are left out; `behind` names them.
 fn cut_note(alloc: Global, count: usize, behind: &[u8]) -> Result<Vec<u8>, AllocError> {
     let mut note = Vec::new(alloc);
     let mut buffer = Buffer::new();

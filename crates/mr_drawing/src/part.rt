@@ -3,7 +3,7 @@ ghost use Rattle.std.specs.Prelude.{◌≡◌, ◌+◌, min};
 
 use std::ops::Range;
 
-/// The part of a run that a picture shows: so many events, from a place of the journal on. It is our own.
+/// The part of a run that a picture shows: the events from a place of the journal on, up to a number. It is our own.
 #[derive(Clone, Copy, Debug, PartialEq, Eq)]
 pub struct Part {
     /// The place of its first event in the journal, from 0.
@@ -16,7 +16,7 @@ impl Part {
     /// The first 400 events, which a picture shows where nothing else is asked for.
     pub const FIRST: Part = Part { from: 0, rows: 400 };
 
-    /// The places of its events in a journal of so many. There are none where the run has no event at `from`.
+    /// The places of its events in a journal of this many events. There are none where the run has no event at `from`.
     pub fn places(&self, events: usize) -> Range<usize>
         ensures first { result.start ≡ min self.now.from events }
         ensures end { result.end ≡ min (self.now.from + self.now.rows) events }

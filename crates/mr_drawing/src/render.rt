@@ -5,7 +5,7 @@ use crate::notes::{foot_lines, is_later, put_before, put_ending, title_of};
 use crate::signs::{
     put_begin, put_dead, put_earlier_key, put_given_up, put_key, put_later_key, put_over, put_sign,
 };
-use crate::svg::{Point, close, line, noted, open, rectangle, text};
+use crate::svg::{Point, close, close_hint, line, noted, open, open_hint, rectangle, text};
 use itoa::Buffer;
 use mr_packet::Address;
 use std::alloc::{AllocError, Global};
@@ -45,8 +45,8 @@ pub fn picture_of(alloc: Global, drawing: &Drawing) -> Result<Vec<u8>, AllocErro
     put_bands(&mut out, drawing, &places)?;
     put_guides(&mut out, drawing, &places)?;
     put_lives(&mut out, drawing, &places)?;
-    put_arrows(&mut out, &drawing.arrows, false, &places)?;
-    put_arrows(&mut out, &drawing.repeats, true, &places)?;
+    put_arrows(&mut out, drawing, &drawing.arrows, false, &places)?;
+    put_arrows(&mut out, drawing, &drawing.repeats, true, &places)?;
     put_signs(&mut out, drawing, &places)?;
     put_words(&mut out, drawing, &places)?;
     put_heads(&mut out, drawing, &places, places.top.saturating_sub(36))?;
@@ -73,7 +73,7 @@ fn places_of(drawing: &Drawing) -> Places {
     }
 }
 
-// How wide so many letters are.
+// How wide `count` letters are.
 fn letters(count: u64) -> u64 {
     count.saturating_mul(61) / 10
 }
@@ -273,17 +273,59 @@ fn lane_in(drawing: &Drawing, row: usize) -> Option<usize> {
 // Packets, from where they were sent to where they were delivered.
 fn put_arrows(
     out: &mut String,
+    drawing: &Drawing,
     arrows: &[Arrow],
     again: bool,
     places: &Places,
 ) -> Result<(), AllocError> {
     for arrow in arrows {
-        match arrow.sent {
-            Sending::At(row) => put_sent(out, arrow, row, again, places)?,
-            Sending::Before(_) => put_earlier(out, arrow, again, places)?,
+        match arrow.delivery {
+            Delivery::At(row) => put_delivered(out, drawing, arrow, row, again, places)?,
+            _ => put_packet(out, arrow, again, places)?,
         }
     }
     Ok(())
+}
+
+// A packet that is delivered in a row: whoever points at it sees by which event, and what it says.
+fn put_delivered(
+    out: &mut String,
+    drawing: &Drawing,
+    arrow: &Arrow,
+    row: usize,
+    again: bool,
+    places: &Places,
+) -> Result<(), AllocError> {
+    match drawing.rows.get(row) {
+        Some(delivered) => {
+            put_hint(out, drawing, row, delivered)?;
+            put_packet(out, arrow, again, places)?;
+            close_hint(out)
+        }
+        None => put_packet(out, arrow, again, places),
+    }
+}
+
+fn put_hint(
+    out: &mut String,
+    drawing: &Drawing,
+    number: usize,
+    row: &Row,
+) -> Result<(), AllocError> {
+    let event = drawing.before.count.saturating_add(number);
+    open_hint(out, event, &row.words, &row.detail)
+}
+
+fn put_packet(
+    out: &mut String,
+    arrow: &Arrow,
+    again: bool,
+    places: &Places,
+) -> Result<(), AllocError> {
+    match arrow.sent {
+        Sending::At(row) => put_sent(out, arrow, row, again, places),
+        Sending::Before(_) => put_earlier(out, arrow, again, places),
+    }
 }
 
 // A packet that is sent in a row.
@@ -361,7 +403,7 @@ fn put_stub(
     line(out, class, from, at(x, from.y.saturating_add(12)))
 }
 
-// The sign of each row, with what stands beside it.
+// The sign of each row, with what stands beside it. Whoever points at it sees the event's number and words.
 fn put_signs(out: &mut String, drawing: &Drawing, places: &Places) -> Result<(), AllocError> {
     for (number, row) in drawing.rows.iter().enumerate() {
         if let Some(lane) = row.lane {
@@ -371,8 +413,10 @@ fn put_signs(out: &mut String, drawing: &Drawing, places: &Places) -> Result<(),
                 line(out, "expiry", here, there)?;
                 put_given_up(out, there)?;
             }
+            put_hint(out, drawing, number, row)?;
             put_sign(out, row.sign, here)?;
             put_label(out, row, here)?;
+            close_hint(out)?;
         }
     }
     Ok(())

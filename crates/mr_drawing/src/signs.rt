@@ -73,7 +73,7 @@ pub fn put_key(out: &mut String, at: Point) -> Result<(), AllocError> {
     put_commit_key(out, below)
 }
 
-/// What a packet's stroke means that only a picture has that is cut, in a line from this place on.
+/// What the stroke of a packet means that is delivered behind the cut, in a line from this place on. Only a picture that is cut has it.
 pub fn put_later_key(out: &mut String, at: Point) -> Result<(), AllocError> {
     later_style(out)?;
     put_stroke(out, "later", at)?;
@@ -84,7 +84,7 @@ pub fn put_later_key(out: &mut String, at: Point) -> Result<(), AllocError> {
     )
 }
 
-/// The same of a packet's stroke that only a picture has that does not begin with the run.
+/// The same of a packet that was sent before the rows. Only a picture that does not begin with the run has it.
 pub fn put_earlier_key(out: &mut String, at: Point) -> Result<(), AllocError> {
     earlier_style(out)?;
     put_stroke(out, "earlier", at)?;

@@ -81,12 +81,12 @@ pub fn open(out: &mut String, size: Point, title: &[u8]) -> Result<(), AllocErro
 const EARLIER_STYLE: &str =
     "<style>.earlier{stroke:#444;stroke-dasharray:2 2;marker-end:url(#head)}</style>\n";
 
-/// How the elements look that stand in no picture but one that is cut.
+/// How those elements look that only a picture which is cut has.
 pub fn later_style(out: &mut String) -> Result<(), AllocError> {
     out.push_str(LATER_STYLE)
 }
 
-/// How the elements look that stand in no picture but one that does not begin with the run.
+/// How those elements look that only a picture has which does not begin with the run.
 pub fn earlier_style(out: &mut String) -> Result<(), AllocError> {
     out.push_str(EARLIER_STYLE)
 }
@@ -155,6 +155,27 @@ pub fn noted(
     escape(out, words)?;
     out.push_str(more)?;
     out.push_str("</text>\n")
+}
+
+/// The head of a group that shows an event's number and words, and what stands behind them, where one points at it.
+pub fn open_hint(
+    out: &mut String,
+    event: usize,
+    words: &[u8],
+    detail: &[u8],
+) -> Result<(), AllocError> {
+    write!(out, "<g><title>{event}: ")?;
+    escape(out, words)?;
+    if !detail.is_empty() {
+        out.push_str(" | ")?;
+        escape(out, detail)?;
+    }
+    out.push_str("</title>\n")
+}
+
+/// The end of such a group.
+pub fn close_hint(out: &mut String) -> Result<(), AllocError> {
+    out.push_str("</g>\n")
 }
 
 // Text as XML has it. Bytes that are no printed letters of ASCII become question marks.

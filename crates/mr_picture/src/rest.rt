@@ -56,7 +56,7 @@ fn put_count(out: &mut Vec<u8>, count: u64, kind: &[u8]) -> Result<(), AllocErro
     out.extend_from_slice(kind)
 }
 
-/// Where the journal first delivers each of so many packets, by their places in the bag, where these places of it are drawn.
+/// Where the journal first delivers each of the first `packets` packets of the bag. The drawn part of the journal is `drawn`.
 pub fn deliveries(
     alloc: Global,
     journal: &[Event],

@@ -11,7 +11,7 @@ use mr_trace::{name_of, put_address, put_call, put_container, put_event, put_pac
 use mr_world::World;
 use std::alloc::{AllocError, Global};
 
-/// What of a world tells what an event brought about.
+/// What is read of a world to tell what an event brought about.
 #[derive(Drop)]
 pub struct Facts {
     /// What the duty or the wish of the one who acts is.
@@ -200,7 +200,7 @@ fn won(facts: &Facts) -> usize {
         .count()
 }
 
-/// What stands out of an event, in words.
+/// What stands out in an event, in words.
 pub fn put_consequences(
     out: &mut Vec<u8>,
     sign: Sign,
