@@ -83,8 +83,9 @@ pub enum SimFault {
 }
 
 impl SimFault {
-    /// The exit status of the program: 1 for a job that failed, 3 for a refused input, 4 for a stream that failed, 5 for an allocation
-    /// failure, 6 where turns were spent, 7 for a limit that was passed and for threads that could not be made or did not account for their run.
+    /// The exit status of the program: 1 for a job that failed; 3 for a refused input; 4 for a stream that failed; 5 for an allocation
+    /// failure; 6 where turns were spent; 7 for a limit that was passed, and for threads that could not be made or did not account for their
+    /// run.
     pub fn status(&self) -> u8
         ensures { result ≡ status_of self.now }
     {

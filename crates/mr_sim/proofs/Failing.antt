@@ -7,7 +7,9 @@ use Rattle.mr_commands.specs.Faults.{CommitterFails, HistoryFails, SeqFails}
 use Rattle.mr_drawing.specs.declared.part.Part.{Part}
 use Rattle.mr_play.specs.declared.shown.Shown.{Shown}
 use Rattle.mr_play.specs.Text.{PlayFails}
-use Rattle.mr_sim.specs.declared.subcommand.Command.TheVariants.{Committer, Play, PlayShown, PlayDrawn, PlayJson, History, HistoryJson, Seq, Threads, ThreadsSeen}
+use Rattle.mr_sim.specs.declared.subcommand.Command.TheVariants.{Committer, Play, PlayShown, PlayDrawn, PlayJson, History, HistoryJson, Seq, Threads, ThreadsSeen, Explore}
+use Rattle.mr_explore.specs.declared.asked.Asked.{Asked}
+use Rattle.mr_explore.specs.Explored.{ExploredFails}
 use Rattle.mr_threads.specs.declared.seen.Seen.{Seen}
 use Rattle.mr_threads.specs.Text.{ShownFails, ThreadsFail}
 use Rattle.mr_sim.specs.Printed.{RefusesText}
@@ -187,3 +189,19 @@ history_json_fails input (Err JobFailed) h = h
 history_json_fails input (Err TurnsSpent) h = h
 history_json_fails input (Err JournalMismatch) h = h
 history_json_fails input (Err Thread) h = h
+
+pub explore_fails : {A : Type 0} (asked : Asked) (progress : Bool) (input : List ℕ) (r : Result A SimFault) → IfErr r (ExploredFails asked input) → IfErr r (RefusesText (Explore asked progress) input)
+explore_fails asked progress input (Ok x) h = h
+explore_fails asked progress input (Err NoMemory) h = h
+explore_fails asked progress input (Err Read) h = h
+explore_fails asked progress input (Err Write) h = h
+explore_fails asked progress input (Err TooLong) h = h
+explore_fails asked progress input (Err (BadCommand n)) h = h
+explore_fails asked progress input (Err (BadRecord n)) h = h
+explore_fails asked progress input (Err (Job e)) h = h
+explore_fails asked progress input (Err Refused) h = h
+explore_fails asked progress input (Err Full) h = h
+explore_fails asked progress input (Err JobFailed) h = h
+explore_fails asked progress input (Err TurnsSpent) h = h
+explore_fails asked progress input (Err JournalMismatch) h = h
+explore_fails asked progress input (Err Thread) h = h

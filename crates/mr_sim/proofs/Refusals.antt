@@ -1,11 +1,12 @@
 -- No input is both printed and refused.
 use Rattle.std.proofs.Common.{◌≡◌, Some, None, Ok, Err, sym, ◌∙◌, arith}
 use Rattle.mr_commands.specs.declared.fault.SimFault.TheVariants.{NoMemory, Read, Write, TooLong, BadCommand, BadRecord, Job, Refused, Full, JobFailed, TurnsSpent, JournalMismatch, Thread}
-use Rattle.mr_sim.specs.declared.subcommand.Command.TheVariants.{Committer, Play, PlayShown, PlayDrawn, PlayJson, History, HistoryJson, Seq, Threads, ThreadsSeen}
+use Rattle.mr_sim.specs.declared.subcommand.Command.TheVariants.{Committer, Play, PlayShown, PlayDrawn, PlayJson, History, HistoryJson, Seq, Threads, ThreadsSeen, Explore}
 use Rattle.mr_sim.specs.Laws.{PrintedOrRefused}
 use Rattle.mr_world.specs.Limits as limits
 use Rattle.mr_commands.proofs.Readings.{read_or_bad_law}
 use Rattle.mr_commands.proofs.Reduces.{seq_not_both}
+use Rattle.mr_explore.proofs.Refused.{explored_or_refused_law}
 use Rattle.mr_play.proofs.Playing.{one_play_text_law}
 
 pub printed_or_refused_law : PrintedOrRefused
@@ -23,6 +24,7 @@ printed_or_refused_law HistoryJson input text (BadCommand n) short p h = h.1
 printed_or_refused_law Seq input text (BadCommand n) short p h = h.1
 printed_or_refused_law (Threads turns hold) input text (BadCommand n) short p h = h.1
 printed_or_refused_law (ThreadsSeen turns hold seen) input text (BadCommand n) short p h = h.1
+printed_or_refused_law (Explore asked progress) input text (BadCommand n) short p h = explored_or_refused_law.not_bad_line asked input text n p h.1
 printed_or_refused_law Committer input text (BadRecord n) short p h = h.1
 printed_or_refused_law Play input text (BadRecord n) short p h = h.1
 printed_or_refused_law (PlayShown shown) input text (BadRecord n) short p h = h.1
@@ -33,6 +35,7 @@ printed_or_refused_law HistoryJson input text (BadRecord n) short p h = let y : 
 printed_or_refused_law Seq input text (BadRecord n) short p h = h.1
 printed_or_refused_law (Threads turns hold) input text (BadRecord n) short p h = h.1
 printed_or_refused_law (ThreadsSeen turns hold seen) input text (BadRecord n) short p h = h.1
+printed_or_refused_law (Explore asked progress) input text (BadRecord n) short p h = h.1
 printed_or_refused_law Committer input text (Job e) short p h = h.1
 printed_or_refused_law Play input text (Job e) short p h = one_play_text_law.not_bad_job limits.within input text e p h.1
 printed_or_refused_law (PlayShown shown) input text (Job e) short p h = one_play_text_law.not_bad_job limits.within input p.printed e p.prints h.1
@@ -43,6 +46,7 @@ printed_or_refused_law HistoryJson input text (Job e) short p h = h.1
 printed_or_refused_law Seq input text (Job e) short p h = let y : Ok p.job ≡ Err e = sym p.said ∙ h.1 in absurd (cc)
 printed_or_refused_law (Threads turns hold) input text (Job e) short p h = let y : Ok p.job ≡ Err e = sym p.said ∙ h.1 in absurd (cc)
 printed_or_refused_law (ThreadsSeen turns hold seen) input text (Job e) short p h = let y : Ok p.job ≡ Err e = sym p.said ∙ h.1 in absurd (cc)
+printed_or_refused_law (Explore asked progress) input text (Job e) short p h = explored_or_refused_law.not_bad_job asked input text e p h.1
 printed_or_refused_law Committer input text Refused short p h = h.1
 printed_or_refused_law Play input text Refused short p h = h.1
 printed_or_refused_law (PlayShown shown) input text Refused short p h = h.1
@@ -53,6 +57,7 @@ printed_or_refused_law HistoryJson input text Refused short p h = h.1
 printed_or_refused_law Seq input text Refused short p h = seq_not_both input text p h.1
 printed_or_refused_law (Threads turns hold) input text Refused short p h = h.1
 printed_or_refused_law (ThreadsSeen turns hold seen) input text Refused short p h = h.1
+printed_or_refused_law (Explore asked progress) input text Refused short p h = h.1
 printed_or_refused_law Committer input text Full short p h = h.1
 printed_or_refused_law Play input text Full short p h = one_play_text_law.not_full limits.within input text p h.1
 printed_or_refused_law (PlayShown shown) input text Full short p h = one_play_text_law.not_full limits.within input p.printed p.prints h.1
@@ -63,6 +68,7 @@ printed_or_refused_law HistoryJson input text Full short p h = h.1
 printed_or_refused_law Seq input text Full short p h = h.1
 printed_or_refused_law (Threads turns hold) input text Full short p h = tt
 printed_or_refused_law (ThreadsSeen turns hold seen) input text Full short p h = tt
+printed_or_refused_law (Explore asked progress) input text Full short p h = explored_or_refused_law.not_full asked input text p h.1
 printed_or_refused_law Committer input text JobFailed short p h = h.1
 printed_or_refused_law Play input text JobFailed short p h = h.1
 printed_or_refused_law (PlayShown shown) input text JobFailed short p h = h.1
@@ -73,6 +79,7 @@ printed_or_refused_law HistoryJson input text JobFailed short p h = h.1
 printed_or_refused_law Seq input text JobFailed short p h = h.1
 printed_or_refused_law (Threads turns hold) input text JobFailed short p h = tt
 printed_or_refused_law (ThreadsSeen turns hold seen) input text JobFailed short p h = tt
+printed_or_refused_law (Explore asked progress) input text JobFailed short p h = h.1
 printed_or_refused_law Committer input text TurnsSpent short p h = h.1
 printed_or_refused_law Play input text TurnsSpent short p h = h.1
 printed_or_refused_law (PlayShown shown) input text TurnsSpent short p h = h.1
@@ -83,6 +90,7 @@ printed_or_refused_law HistoryJson input text TurnsSpent short p h = h.1
 printed_or_refused_law Seq input text TurnsSpent short p h = h.1
 printed_or_refused_law (Threads turns hold) input text TurnsSpent short p h = tt
 printed_or_refused_law (ThreadsSeen turns hold seen) input text TurnsSpent short p h = tt
+printed_or_refused_law (Explore asked progress) input text TurnsSpent short p h = h.1
 printed_or_refused_law Committer input text JournalMismatch short p h = h.1
 printed_or_refused_law Play input text JournalMismatch short p h = h.1
 printed_or_refused_law (PlayShown shown) input text JournalMismatch short p h = h.1
@@ -93,6 +101,7 @@ printed_or_refused_law HistoryJson input text JournalMismatch short p h = h.1
 printed_or_refused_law Seq input text JournalMismatch short p h = h.1
 printed_or_refused_law (Threads turns hold) input text JournalMismatch short p h = tt
 printed_or_refused_law (ThreadsSeen turns hold seen) input text JournalMismatch short p h = tt
+printed_or_refused_law (Explore asked progress) input text JournalMismatch short p h = tt
 printed_or_refused_law Committer input text Thread short p h = h.1
 printed_or_refused_law Play input text Thread short p h = h.1
 printed_or_refused_law (PlayShown shown) input text Thread short p h = h.1
@@ -103,3 +112,4 @@ printed_or_refused_law HistoryJson input text Thread short p h = h.1
 printed_or_refused_law Seq input text Thread short p h = h.1
 printed_or_refused_law (Threads turns hold) input text Thread short p h = tt
 printed_or_refused_law (ThreadsSeen turns hold seen) input text Thread short p h = tt
+printed_or_refused_law (Explore asked progress) input text Thread short p h = h.1

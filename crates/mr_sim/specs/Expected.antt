@@ -4,10 +4,10 @@ use Rattle.mr_play.specs.Text.{IsAsExpected}
 use Rattle.mr_sim.specs.declared.ending.Ending.{Ending}
 use Rattle.mr_sim.specs.declared.ending.Ending.TheVariants.{Done, Unmet}
 use Rattle.mr_sim.specs.declared.subcommand.Command.{Command}
-use Rattle.mr_sim.specs.declared.subcommand.Command.TheVariants.{Committer, Play, PlayShown, PlayDrawn, PlayJson, History, HistoryJson, Seq, Threads, ThreadsSeen}
+use Rattle.mr_sim.specs.declared.subcommand.Command.TheVariants.{Committer, Play, PlayShown, PlayDrawn, PlayJson, History, HistoryJson, Seq, Threads, ThreadsSeen, Explore}
 use Rattle.mr_world.specs.Limits.{within}
 
--- Whether all is so that the input expects. Only scripts of `play` expect anything.
+-- Whether all is as the input expects. Only scripts of `play` expect anything.
 abbrev pub IsMet : Command → List ℕ → Bool → Type 0
 IsMet Committer input met = met ≡ true
 IsMet Play input met = IsAsExpected within input met
@@ -19,6 +19,7 @@ IsMet HistoryJson input met = met ≡ true
 IsMet Seq input met = met ≡ true
 IsMet (Threads turns hold) input met = met ≡ true
 IsMet (ThreadsSeen turns hold seen) input met = met ≡ true
+IsMet (Explore asked progress) input met = met ≡ true
 
 -- how the program ends where a subcommand was done
 abbrev pub ending_of : Bool → Ending

@@ -3,7 +3,7 @@ use Rattle.std.specs.Prelude.{ℕ, List}
 use Rattle.mr_commands.specs.declared.fault.SimFault.{SimFault}
 use Rattle.mr_commands.specs.declared.fault.SimFault.TheVariants.{NoMemory, Read, Write, TooLong, BadCommand, BadRecord, Job, Refused, Full, JobFailed, TurnsSpent, JournalMismatch, Thread}
 use Rattle.mr_sim.specs.declared.subcommand.Command.{Command}
-use Rattle.mr_sim.specs.declared.subcommand.Command.TheVariants.{Threads, ThreadsSeen}
+use Rattle.mr_sim.specs.declared.subcommand.Command.TheVariants.{Threads, ThreadsSeen, Explore}
 use Rattle.mr_sim.specs.Printed.{IsWithin, Prints, Refuses}
 
 -- threads run a job
@@ -11,6 +11,13 @@ abbrev pub RunsThreads : Command → Type 0
 RunsThreads (Threads turns hold) = Unit {0}
 RunsThreads (ThreadsSeen turns hold seen) = Unit {0}
 RunsThreads _ = ⊥
+
+-- the events of runs are made once more
+abbrev pub MakesRunsAgain : Command → Type 0
+MakesRunsAgain (Threads turns hold) = Unit {0}
+MakesRunsAgain (ThreadsSeen turns hold seen) = Unit {0}
+MakesRunsAgain (Explore asked progress) = Unit {0}
+MakesRunsAgain _ = ⊥
 
 -- A fault that is not of the input itself. Where threads run a job, it depends on the schedule whether it fails, and whether there is a run.
 abbrev pub IsOutside : Command → SimFault → Type 0
@@ -25,7 +32,7 @@ IsOutside command Refused = ⊥
 IsOutside command Full = RunsThreads command
 IsOutside command JobFailed = RunsThreads command
 IsOutside command TurnsSpent = RunsThreads command
-IsOutside command JournalMismatch = RunsThreads command
+IsOutside command JournalMismatch = MakesRunsAgain command
 IsOutside command Thread = RunsThreads command
 
 -- No input is both printed and refused: where a subcommand prints a text, it answers no fault of the input itself.

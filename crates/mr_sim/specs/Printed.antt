@@ -8,11 +8,12 @@ use Rattle.mr_commands.specs.declared.fault.JobTextFault.{JobTextFault}
 use Rattle.mr_commands.specs.declared.fault.SimFault.{SimFault}
 use Rattle.mr_commands.specs.declared.fault.SimFault.TheVariants.{NoMemory, Read, Write, TooLong, BadCommand, BadRecord, Job, Refused, Full, JobFailed, TurnsSpent, JournalMismatch, Thread}
 use Rattle.mr_sim.specs.declared.subcommand.Command.{Command}
-use Rattle.mr_sim.specs.declared.subcommand.Command.TheVariants.{Committer, Play, PlayShown, PlayDrawn, PlayJson, History, HistoryJson, Seq, Threads, ThreadsSeen}
+use Rattle.mr_sim.specs.declared.subcommand.Command.TheVariants.{Committer, Play, PlayShown, PlayDrawn, PlayJson, History, HistoryJson, Seq, Threads, ThreadsSeen, Explore}
 use Rattle.mr_commands.specs.committer.Script.{IsFirstBad}
 use Rattle.mr_commands.specs.committer.Text.{PrintsCommitter}
 use Rattle.mr_commands.specs.history.Text.{PrintsHistory}
 use Rattle.mr_commands.specs.job.Text.{submission_of}
+use Rattle.mr_explore.specs.Explored.{IsFullExplored, PrintsExplored}
 use Rattle.mr_json.specs.Plays.{TellsPlay}
 use Rattle.mr_json.specs.Segments.{TellsHistory}
 use Rattle.mr_play.specs.Shown.{Draws}
@@ -36,6 +37,7 @@ Prints HistoryJson input text = TellsHistory input text
 Prints Seq input text = PrintsSeq input text
 Prints (Threads turns hold) input text = PrintsSeq input text
 Prints (ThreadsSeen turns hold seen) input text = ShowsRun seen input text
+Prints (Explore asked progress) input text = PrintsExplored asked input text
 
 -- ---- what is refused
 
@@ -51,6 +53,7 @@ IsBadLine HistoryJson input n = ⊥
 IsBadLine Seq input n = ⊥
 IsBadLine (Threads turns hold) input n = ⊥
 IsBadLine (ThreadsSeen turns hold seen) input n = ⊥
+IsBadLine (Explore asked progress) input n = IsBadPlayLine input n
 
 -- the first whole line of a segment that is neither a record nor the version line at its head
 abbrev pub IsBadRecord : Command → List ℕ → ℕ → Type 0
@@ -64,6 +67,7 @@ IsBadRecord HistoryJson input n = bad_line input ≡ Some n
 IsBadRecord Seq input n = ⊥
 IsBadRecord (Threads turns hold) input n = ⊥
 IsBadRecord (ThreadsSeen turns hold seen) input n = ⊥
+IsBadRecord (Explore asked progress) input n = ⊥
 
 -- what is wrong with a job text
 abbrev pub IsBadJob : Command → List ℕ → JobTextFault → Type 0
@@ -77,6 +81,7 @@ IsBadJob HistoryJson input e = ⊥
 IsBadJob Seq input e = submission_of input ≡ Err e
 IsBadJob (Threads turns hold) input e = submission_of input ≡ Err e
 IsBadJob (ThreadsSeen turns hold seen) input e = submission_of input ≡ Err e
+IsBadJob (Explore asked progress) input e = IsBadPlayJob input e
 
 -- the job of a job text refuses a line of a split
 abbrev pub IsRefused : Command → List ℕ → Type 0
@@ -90,6 +95,7 @@ IsRefused HistoryJson input = ⊥
 IsRefused Seq input = RefusesSeq input
 IsRefused (Threads turns hold) input = ⊥
 IsRefused (ThreadsSeen turns hold seen) input = ⊥
+IsRefused (Explore asked progress) input = ⊥
 
 -- an event of a run, or a work, passes a limit
 abbrev pub IsFull : Command → List ℕ → Type 0
@@ -103,6 +109,7 @@ IsFull HistoryJson input = ⊥
 IsFull Seq input = ⊥
 IsFull (Threads turns hold) input = IsRead input
 IsFull (ThreadsSeen turns hold seen) input = IsRead input
+IsFull (Explore asked progress) input = IsFullExplored asked input
 
 -- threads ran the job, and no success was told
 abbrev pub IsFailed : Command → List ℕ → Type 0
@@ -114,6 +121,13 @@ abbrev pub IsToRun : Command → List ℕ → Type 0
 IsToRun (Threads turns hold) input = IsRead input
 IsToRun (ThreadsSeen turns hold seen) input = IsRead input
 IsToRun _ input = ⊥
+
+-- Runs are made once more, and would not come to what they came to. That this is never so is not proved.
+abbrev pub MayMismatch : Command → List ℕ → Type 0
+MayMismatch (Threads turns hold) input = IsRead input
+MayMismatch (ThreadsSeen turns hold seen) input = IsRead input
+MayMismatch (Explore asked progress) input = Unit {0}
+MayMismatch _ input = ⊥
 
 -- the text is formed or refused only of an input within the limit
 abbrev pub IsWithin : List ℕ → Type 0
@@ -133,7 +147,7 @@ Refuses command input Refused = IsWithin input × IsRefused command input
 Refuses command input Full = IsWithin input × IsFull command input
 Refuses command input JobFailed = IsWithin input × IsFailed command input
 Refuses command input TurnsSpent = IsWithin input × IsToRun command input
-Refuses command input JournalMismatch = IsWithin input × IsToRun command input
+Refuses command input JournalMismatch = IsWithin input × MayMismatch command input
 Refuses command input Thread = IsWithin input × IsToRun command input
 
 -- The text was written behind what the writer had.
@@ -153,5 +167,5 @@ RefusesText command input Refused = IsRefused command input
 RefusesText command input Full = IsFull command input
 RefusesText command input JobFailed = IsFailed command input
 RefusesText command input TurnsSpent = IsToRun command input
-RefusesText command input JournalMismatch = IsToRun command input
+RefusesText command input JournalMismatch = MayMismatch command input
 RefusesText command input Thread = IsToRun command input

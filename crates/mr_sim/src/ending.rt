@@ -19,8 +19,8 @@ pub enum Ending {
     Failed(SimFault),
 }
 
-/// The exit status of the program: 0 where the subcommand was done or what the words asked for was printed, 3 where the run was
-/// not as its script expects, 2 where the command line was refused, the status of the fault where there is one.
+/// The exit status of the program: 0 where the subcommand was done, or what the words asked for was printed; 2 where the command line
+/// was refused; 3 where the run was not as its script expects. Where there is a fault it is the fault's.
 pub fn exit_status(ending: Ending) -> u8
     ensures { result ≡ exit_status_of ending }
 {

@@ -1,57 +1,78 @@
 //! The simulator: what `mrsim` reads and writes. The subcommands stand beneath it: those that need no cluster in mr_commands, `play` in mr_play,
-//! what is shown beside it in mr_trace, mr_picture and mr_json, and `threads` in mr_threads.
+//! what is shown beside it in mr_trace, mr_picture and mr_json, `explore` in mr_explore, and `threads` in mr_threads.
 //!
 //! # What is proved
 //!
-//! **`answer`, bytes to bytes** (what is printed): for every input, with no condition. Where it answers Ok, the bytes are exactly
-//! what the subcommand prints for the input (clause `ok`, by `Prints`); a fault is one that the input has, or there was no memory
+//! **`answer`, from the bytes of an input to those that are printed**, for every input, with no condition. Where it answers Ok, the bytes are exactly
+//! what the subcommand prints for the input (clause `ok`, by `Prints`). A fault is one that the input has, or there was no memory
 //! (clause `fault`, by `RefusesText`). This is what is proved of the output of `mrsim`: its standard streams tell no bytes to a
 //! contract, so the clauses of `run_streams` and `run` speak of nothing there.
+//!
+//! `Prints` has a case for each subcommand:
+//!
+//! | Subcommand | What it prints |
+//! |---|---|
+//! | `committer` | what its commands print by the committer effect, and the listing of what they leave |
+//! | `history` | the records of the segment's whole lines, and the number of torn bytes |
+//! | `seq` | the sequential execution of the job that the text submits: for each reduce, by rising name, `== `, the part file's name and length, and its bytes |
+//! | `play` | what came of the run of the cluster that a script and its calms make |
+//! | `play` with a trace, the history or a picture | what mr_trace, mr_play and mr_picture say of that run |
+//! | `play` and `history` as lines of JSON | what mr_json says of the run and of the segment |
+//! | `explore` | what mr_ends and mr_end_lines say of the ends of all runs of the input with at most as many faults as are asked for |
+//! | `threads` | what `seq` prints for the job text; what is shown of a run in its place is what mr_threads says of it |
 //!
 //! **`run_streams`, from a reader to a writer**: reads all, answers, writes all. Proved, for every reader and writer that tell
 //! their bytes:
 //!
-//! - where it answers Ok, the input has at most 2^24 bytes, and the writer holds what it held, then exactly what
-//!   the subcommand prints for what was read, and nothing else (clause `ok`; `Prints` has a case for each
-//!   subcommand: `committer` by the committer effect and the listing of what it leaves, `play` by the run of the cluster
-//!   that a script and its calms make, `history` by the records of the segment's whole lines and the number of torn bytes,
-//!   `seq` by the sequential execution of the job that the text submits: for each reduce, by rising name, `== `, the part
-//!   file's name and length, and its bytes; `play` with a trace or the history shown, or with a picture, by what mr_play, mr_trace and mr_picture say of it;
-//!   `play` and `history` as lines of JSON by what mr_json says of the run and of the segment);
-//! - a fault about the input is one that the input has: `TooLong` only above 2^24 bytes, `BadCommand(n)` only where
-//!   line n is the first that is no command, `BadRecord(n)` only where whole line n is the first that is no record,
-//!   `Job(key)` only where that key is the first bad one of the job text (or the text is no JSON object), `Refused`
-//!   only where the job refuses a line of a split, `Full` only where an event of a script, or a work, passes a limit of
-//!   the world, `Write` only where there is a text to be written (clause `fault`, by `Refuses`);
+//! - where it answers Ok, the input has at most 2^24 bytes. The writer holds what it held, then exactly what
+//!   the subcommand prints for what was read, and nothing else (clause `ok`);
+//! - a fault about the input is one that the input has, as in the table below (clause `fault`, by `Refuses`);
 //! - at every fault but `Write` the writer is as it was: a refused input writes nothing (clause `nothing`);
 //! - it returns for every reader and writer whose calls return: after at most 2^25 reads.
 //!
-//! **`run`** has the clauses of `run_streams` (`printed`, `fault`, `nothing`), and the handle that starts threads: `threads` prints what `seq` prints for the
-//! job text, and what is shown of a run in its place is what mr_threads says of it. The handle may wait, so the contract does not say that `run` returns.
-//! `answer` and `run_streams` have no such handle, and answer `threads` by the first bad key of its job text, else by `Thread`.
+//! | Fault | Only where |
+//! |---|---|
+//! | `TooLong` | the input has more than 2^24 bytes |
+//! | `BadCommand(n)` | line n is the first that is no command |
+//! | `BadRecord(n)` | whole line n is the first that is no record |
+//! | `Job(key)` | that key is the first bad one of the job text, or the text is no JSON object |
+//! | `Refused` | the job refuses a line of a split |
+//! | `Full` | an event of a script, or a work, passes a limit of the world |
+//! | `Write` | there is a text to be written |
 //!
-//! **`run_with_remarks`** is the call that `run` hands on to: it has the clauses of `run`, and hands out whether all is so that the input
-//! expects (clause `met`, by `IsMet`): of a script of `play` whether each `expect` was met (`IsAsExpected` of mr_play), of all else that it is. The ending of the
-//! program follows from that (`Remarks::ending`).
+//! **`run`** has the clauses of `run_streams` (`printed`, `fault`, `nothing`), and takes the handle that starts threads. The handle may wait, so the
+//! contract does not say that `run` returns. `answer` and `run_streams` have no such handle, and answer `threads` by the first bad key of its job text,
+//! else by `Thread`.
 //!
-//! **`run_with_help`** is the call that `mrsim` makes, and `run_with_remarks` hands on to it: it has its clauses, and where there is a fault it hands out beside it
-//! what was expected in place of what is bad (`Refusal`). The fault is the contract. What the help says is in no clause, and takes no memory.
+//! **`run_with_remarks`** is the call that `run` hands on to. It has the clauses of `run`, and tells whether all is as the input expects (clause
+//! `met`, by `IsMet`). Of a script of `play` this says whether each `expect` was met (`IsAsExpected` of mr_play); of all else it is true. The ending of
+//! the program follows from that (`Remarks::ending`).
 //!
-//! Each input has at most one text, by the laws of mr_commands and mr_play. No input is both printed and refused, by any subcommand:
-//! where there is a text for an input of at most 2^24 bytes, no fault of the clause `fault` but `NoMemory`, `Read`
-//! and `Write` is left (`printed_or_refused`); where threads run a job, whether there is a run and whether it fails depends on the schedule too. `SimFault::status` is exactly the table of statuses, and
-//! `exit_status` is the program's: 0 where it was done or help was asked for, 2 where the words were refused, 3 where the run was not as its
-//! script expects, else that of the fault.
+//! **`run_with_help`** is the call that `mrsim` makes, and `run_with_remarks` hands on to it. It has the same clauses. Where there is a fault it hands out
+//! beside it what was expected in place of what is bad (`Refusal`). The fault is the contract. What the help says is in no clause, and takes no memory.
 //!
-//! Only tested: the texts of `SimFault` (derived by thiserror), streams that fail at each place, once, or at the flush, 2^24 and
-//! 2^24 + 1 bytes, 2^20 reads of one byte, a reader that is interrupted once or always, the examples, what `Remarks::write` writes (the notes on calms, and that a run is not as
-//! expected), and what is told behind a fault. Of the program `mrsim`: its
-//! stored run, and tests of its command line (subcommands, help, refused words).
+//! Each input has at most one text, by the laws of mr_commands and mr_play. No input is both printed and refused, by any subcommand
+//! (`printed_or_refused`): where there is a text for an input of at most 2^24 bytes, the clause `fault` leaves `NoMemory`, `Read` and `Write` alone. There
+//! are two exceptions. Where runs are made once more, it leaves `JournalMismatch` too. Where threads run a job, whether there is a run and whether it fails
+//! depends on the schedule as well.
+//!
+//! `SimFault::status` is exactly the table of statuses, and `exit_status` is the program's: 0 where it was done or help was asked for; 2 where the words
+//! were refused; 3 where the run was not as its script expects; else that of the fault.
+//!
+//! Only tested, of the library:
+//!
+//! - the texts of `SimFault` (derived by thiserror), what is told behind a fault, and what `Remarks::write` writes (the notes on calms, and that a run is
+//!   not as expected);
+//! - streams that fail at each place, once, or at the flush; a reader that is interrupted once or always;
+//! - 2^24 and 2^24 + 1 bytes; 2^20 reads of one byte; the examples.
+//!
+//! Only tested, of the program `mrsim`: its stored run, and its command line (subcommands, help, refused words).
 #![tactic(auto)]
 
 mod ending;
 mod input;
 mod laws;
+mod progress;
 mod refusal;
 mod remarks;
 mod subcommand;
@@ -61,6 +82,8 @@ pub use input::read_input;
 pub use laws::printed_or_refused;
 pub use mr_commands::{JobTextFault, SimFault};
 pub use mr_drawing::Part;
+pub use mr_ends::is_goal;
+pub use mr_explore::{Asked, Form};
 pub use mr_play::Shown;
 pub use mr_threads::Seen;
 pub use refusal::{Help, Refusal};

@@ -35,7 +35,7 @@ pub struct Refusal {
 
 impl Refusal {
     /// A fault of a subcommand that read this input, with the help that there is.
-    pub fn of(command: &Command, input: &[u8], fault: SimFault) -> Refusal
+    pub fn of(command: &Command<'_>, input: &[u8], fault: SimFault) -> Refusal
         ensures { result.fault ≡ fault }
     {
         let help = match fault {
@@ -71,7 +71,7 @@ fn line_at(input: &[u8], line: usize) -> &[u8] {
 }
 
 // What was expected in a line of a script.
-fn line_help(command: &Command, line: &[u8]) -> Option<Help> {
+fn line_help(command: &Command<'_>, line: &[u8]) -> Option<Help> {
     let script = match command {
         Command::Committer => Script::Committer,
         _ => Script::Play,
@@ -83,7 +83,7 @@ fn line_help(command: &Command, line: &[u8]) -> Option<Help> {
 }
 
 // What was expected at a key of a job text, or of the whole text.
-fn key_help(command: &Command, key: JobTextFault) -> &'static str {
+fn key_help(command: &Command<'_>, key: JobTextFault) -> &'static str {
     match key {
         JobTextFault::Text => text_help(command),
         JobTextFault::Id => "expected a job's name, as \"id\":\"job_200707121733_0003\"",
@@ -103,7 +103,7 @@ fn key_help(command: &Command, key: JobTextFault) -> &'static str {
     }
 }
 
-fn text_help(command: &Command) -> &'static str {
+fn text_help(command: &Command<'_>) -> &'static str {
     match command {
         Command::Seq | Command::Threads { .. } | Command::ThreadsSeen { .. } => {
             "expected one JSON object, in UTF-8"

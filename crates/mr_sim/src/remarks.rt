@@ -10,9 +10,12 @@ use crate::refusal::Refusal;
 use crate::subcommand::{Command, answer_with, write_text};
 use mr_commands::SimFault;
 use mr_json::play_json;
+use mr_keys::put_idle_keys;
 use mr_picture::play_drawn;
 use mr_play::{Printed, play};
+use mr_script::split_once;
 use mr_trace::play_shown;
+use std::alloc::Global;
 use std::io;
 use std::io::{Read, Write};
 use std::rt::Clock;
@@ -25,9 +28,9 @@ const UNMET: &[u8] = b"mrsim: not as expected\n";
 /// What is to be told of a run beside its output.
 #[derive(Drop)]
 pub struct Remarks {
-    /// Whether all is so that the script expects. Only a script of `play` can expect anything: of all else it is true.
+    /// Whether all is as the script expects. Only a script of `play` can expect anything: of all else it is true.
     pub met: bool,
-    /// Lines on how calms of the script ended, where that is not as the script asks.
+    /// Lines on how calms of the script ended, where that is not as the script asks, and on keys of the job text that say nothing.
     pub notes: Vec<u8>,
 }
 
@@ -56,14 +59,14 @@ impl Remarks {
 
 // What a subcommand prints, with its remarks.
 #[tactic(auto, using(crate::proofs::Failing::play_fails, crate::proofs::Failing::shown_fails, crate::proofs::Failing::drawn_fails, crate::proofs::Failing::json_fails))]
-fn printed_with<H: AllocGlobal + Clock + Threads + Wait + Sync>(
+fn printed_with<H: AllocGlobal + Eprint + Clock + Threads + Wait + Sync>(
     rt: &H,
-    command: Command,
+    command: Command<'_>,
     input: &[u8],
 ) -> Result<Printed, SimFault>
-    ensures ok { IfOk result (λ v. Prints command input.now v.text.items) }
-    ensures met { IfOk result (λ v. IsMet command input.now v.met) }
-    ensures fault { IfErr result (RefusesText command input.now) }
+    ensures ok { IfOk result (λ v. Prints command.entry input.now v.text.items) }
+    ensures met { IfOk result (λ v. IsMet command.entry input.now v.met) }
+    ensures fault { IfErr result (RefusesText command.entry input.now) }
 {
     match command {
         Command::Play => play(rt.alloc(), input),
@@ -75,7 +78,8 @@ fn printed_with<H: AllocGlobal + Clock + Threads + Wait + Sync>(
         | Command::HistoryJson
         | Command::Seq
         | Command::Threads { .. }
-        | Command::ThreadsSeen { .. } => Ok(Printed {
+        | Command::ThreadsSeen { .. }
+        | Command::Explore { .. } => Ok(Printed {
             text: answer_with(rt, command, input)?,
             met: true,
             notes: Vec::new(rt.alloc()),
@@ -84,9 +88,9 @@ fn printed_with<H: AllocGlobal + Clock + Threads + Wait + Sync>(
 }
 
 // The same, with help beside a fault.
-fn helped_with<H: AllocGlobal + Clock + Threads + Wait + Sync>(
+fn helped_with<H: AllocGlobal + Eprint + Clock + Threads + Wait + Sync>(
     rt: &H,
-    command: &Command,
+    command: &Command<'_>,
     input: &[u8],
 ) -> Result<Printed, Refusal>
     ensures ok { IfOk result (λ v. Prints command.now input.now v.text.items) }
@@ -94,16 +98,45 @@ fn helped_with<H: AllocGlobal + Clock + Threads + Wait + Sync>(
     ensures fault { IfErr result (λ e. RefusesText command.now input.now e.fault) }
 {
     match printed_with(rt, *command, input) {
-        Ok(printed) => Ok(printed),
+        Ok(printed) => Ok(noted(rt.alloc(), command, input, printed)?),
         Err(fault) => Err(Refusal::of(command, input, fault)),
     }
 }
 
-/// Runs a subcommand over streams, as `run` does with the same faults, and hands out what is to be told beside the output, and beside a fault what was
+// The same, with a note for each key of its job text that says nothing.
+fn noted(
+    alloc: Global,
+    command: &Command<'_>,
+    input: &[u8],
+    mut printed: Printed,
+) -> Result<Printed, SimFault>
+    ensures text { IfOk result (λ v. v.text ≡ printed.text) }
+    ensures met { IfOk result (λ v. v.met ≡ printed.met) }
+    ensures memory { IfErr result (λ e. e ≡ SimFault.NoMemory) }
+{
+    if let Some(text) = job_text_of(command, input) {
+        put_idle_keys(&mut printed.notes, alloc, text)?;
+    }
+    Ok(printed)
+}
+
+// The job text of an input, if it has one: of a script of `play` it is the first line.
+fn job_text_of<'a>(command: &Command<'_>, input: &'a [u8]) -> Option<&'a [u8]> {
+    match command {
+        Command::Committer | Command::History | Command::HistoryJson => None,
+        Command::Seq | Command::Threads { .. } | Command::ThreadsSeen { .. } => Some(input),
+        _ => match split_once(input, b'\n') {
+            Some((job, _)) => Some(job),
+            None => Some(input),
+        },
+    }
+}
+
+/// Runs a subcommand over streams, as `run` does, with the same faults. It hands out what is to be told beside the output; beside a fault, what was
 /// expected in place of what is bad.
-pub fn run_with_help<H: AllocGlobal + Clock + Threads + Wait + Sync, R: Read, W: Write>(
+pub fn run_with_help<H: AllocGlobal + Eprint + Clock + Threads + Wait + Sync, R: Read, W: Write>(
     rt: &H,
-    command: &Command,
+    command: &Command<'_>,
     reader: &mut R,
     writer: &mut W,
 ) -> Result<Remarks, Refusal>
@@ -111,7 +144,7 @@ pub fn run_with_help<H: AllocGlobal + Clock + Threads + Wait + Sync, R: Read, W:
     ensures printed { IfOk result (λ v. IfSome (R.remaining reader.old) (λ input.
         Writes command.now input (W.contents writer.old) (W.contents writer.new))) }
 
-    // Whether all is so that the input expects.
+    // Whether all is as the input expects.
     ensures met { IfOk result (λ v. IfSome (R.remaining reader.old) (λ input. IsMet command.now input v.met)) }
 
     // A fault about the input is one that the input has.
@@ -130,9 +163,9 @@ pub fn run_with_help<H: AllocGlobal + Clock + Threads + Wait + Sync, R: Read, W:
 }
 
 /// Runs a subcommand over streams, as `run` does with the same faults, and hands out what is to be told beside the output.
-pub fn run_with_remarks<H: AllocGlobal + Clock + Threads + Wait + Sync, R: Read, W: Write>(
+pub fn run_with_remarks<H: AllocGlobal + Eprint + Clock + Threads + Wait + Sync, R: Read, W: Write>(
     rt: &H,
-    command: &Command,
+    command: &Command<'_>,
     reader: &mut R,
     writer: &mut W,
 ) -> Result<Remarks, SimFault>
@@ -140,7 +173,7 @@ pub fn run_with_remarks<H: AllocGlobal + Clock + Threads + Wait + Sync, R: Read,
     ensures printed { IfOk result (λ v. IfSome (R.remaining reader.old) (λ input.
         Writes command.now input (W.contents writer.old) (W.contents writer.new))) }
 
-    // Whether all is so that the input expects.
+    // Whether all is as the input expects.
     ensures met { IfOk result (λ v. IfSome (R.remaining reader.old) (λ input. IsMet command.now input v.met)) }
 
     // A fault about the input is one that the input has.

@@ -4,9 +4,11 @@ ghost use Rattle.std.specs.Io.KnownBytes.{Appends, Keeps};
 ghost use Rattle.mr_sim.specs.Printed.{Prints, Refuses, RefusesText, Writes};
 
 use crate::input::read_input;
+use crate::progress::Progress;
 use crate::remarks::run_with_remarks;
 use mr_commands::{SimFault, committer_output, history_output, seq_output};
 use mr_drawing::Part;
+use mr_explore::{Asked, Unwatched, explore_output};
 use mr_json::{history_json, play_json};
 use mr_picture::play_drawn;
 use mr_play::{Shown, play};
@@ -20,7 +22,7 @@ use std::thread::Threads;
 
 /// What the program does.
 #[derive(Clone, Copy, Debug, PartialEq, Eq)]
-pub enum Command {
+pub enum Command<'a> {
     /// Runs a script of committer calls, and lists what the namespace holds then.
     Committer,
     /// Runs the cluster of a job text by a script of events, and prints what came of it.
@@ -37,24 +39,27 @@ pub enum Command {
     HistoryJson,
     /// Runs the job of a job text sequentially, and prints its part files.
     Seq,
-    /// Runs the job of a job text by threads, with the faults that it plans, and prints its part files. Each thread has so many turns; the first map
-    /// work is held until the second has begun, where that is asked for.
+    /// Runs the job of a job text by threads, with the faults that it plans, and prints its part files. Each thread has at most `turns` turns; the first map
+    /// work is held until the second has begun, where `hold` asks for it.
     Threads { turns: u64, hold: bool },
     /// The same, and shows the run that happened in place of the part files.
     ThreadsSeen { turns: u64, hold: bool, seen: Seen },
+    /// Makes every run of a job text and a script with at most as many faults as are asked for, and tells the ends that they come to. `progress` tells on
+    /// standard error how far it is.
+    Explore { asked: Asked<'a>, progress: bool },
 }
 
-/// What a subcommand prints for its input: bytes to bytes, with no stream and no handle. It returns for every input.
+/// What a subcommand prints for the bytes of its input. It has no stream and no handle, and returns for every input.
 ///
 /// `BadCommand`, `BadRecord`, `Job`, `Refused` and `Full` come only where the input has that fault; `NoMemory` may come at
 /// any input. Where a subcommand runs threads, there is no handle to make one: a job text that can be read is answered by `Thread`. The faults of streams, `Read`, `Write` and `TooLong`, never come: what is too long is for whoever reads.
-#[tactic(auto, using(crate::proofs::Failing::committer_fails, crate::proofs::Failing::history_fails, crate::proofs::Failing::play_fails, crate::proofs::Failing::shown_fails, crate::proofs::Failing::drawn_fails, crate::proofs::Failing::json_fails, crate::proofs::Failing::history_json_fails, crate::proofs::Failing::seq_fails, crate::proofs::Failing::unrun_fails, crate::proofs::Failing::seen_fails))]
-pub fn answer(alloc: Global, command: Command, input: &[u8]) -> Result<Vec<u8>, SimFault>
+#[tactic(auto, using(crate::proofs::Failing::committer_fails, crate::proofs::Failing::history_fails, crate::proofs::Failing::play_fails, crate::proofs::Failing::shown_fails, crate::proofs::Failing::drawn_fails, crate::proofs::Failing::json_fails, crate::proofs::Failing::history_json_fails, crate::proofs::Failing::seq_fails, crate::proofs::Failing::unrun_fails, crate::proofs::Failing::seen_fails, crate::proofs::Failing::explore_fails))]
+pub fn answer(alloc: Global, command: Command<'_>, input: &[u8]) -> Result<Vec<u8>, SimFault>
     // Ok: the text is what is printed for the input.
-    ensures ok { IfOk result (λ v. Prints command input.now v.items) }
+    ensures ok { IfOk result (λ v. Prints command.entry input.now v.items) }
 
     // A fault is one that the input has, or there was no memory.
-    ensures fault { IfErr result (RefusesText command input.now) }
+    ensures fault { IfErr result (RefusesText command.entry input.now) }
 {
     match command {
         Command::Committer => committer_output(alloc, input),
@@ -66,22 +71,27 @@ pub fn answer(alloc: Global, command: Command, input: &[u8]) -> Result<Vec<u8>, 
         Command::HistoryJson => history_json(alloc, input),
         Command::Seq => seq_output(alloc, input),
         Command::Threads { .. } | Command::ThreadsSeen { .. } => unthreaded(alloc, input),
+        Command::Explore { asked, .. } => explore_output(alloc, input, &asked, &Unwatched),
     }
 }
 
-/// The same, with a handle that starts threads and waits.
-#[tactic(auto, using(crate::proofs::Failing::threads_fails, crate::proofs::Failing::seen_fails))]
-pub(crate) fn answer_with<H: AllocGlobal + Clock + Threads + Wait + Sync>(
+/// The same, with a handle that starts threads, waits, and writes to standard error.
+#[tactic(auto, using(crate::proofs::Failing::threads_fails, crate::proofs::Failing::seen_fails, crate::proofs::Failing::explore_fails))]
+pub(crate) fn answer_with<H: AllocGlobal + Eprint + Clock + Threads + Wait + Sync>(
     rt: &H,
-    command: Command,
+    command: Command<'_>,
     input: &[u8],
 ) -> Result<Vec<u8>, SimFault>
-    ensures ok { IfOk result (λ v. Prints command input.now v.items) }
-    ensures fault { IfErr result (RefusesText command input.now) }
+    ensures ok { IfOk result (λ v. Prints command.entry input.now v.items) }
+    ensures fault { IfErr result (RefusesText command.entry input.now) }
 {
     match command {
         Command::Threads { turns, hold } => threads_output(rt, input, turns, hold),
         Command::ThreadsSeen { turns, hold, seen } => threads_seen(rt, input, turns, hold, seen),
+        Command::Explore {
+            asked,
+            progress: true,
+        } => explore_output(rt.alloc(), input, &asked, &Progress::new(rt)),
         _ => answer(rt.alloc(), command, input),
     }
 }
@@ -109,16 +119,16 @@ pub fn write_text<W: Write>(writer: &mut W, text: &[u8]) -> Result<(), SimFault>
 /// `answer` for what was read. But for `Write`, nothing was written then.
 pub fn run_streams<R: Read, W: Write>(
     alloc: Global,
-    command: Command,
+    command: Command<'_>,
     reader: &mut R,
     writer: &mut W,
 ) -> Result<(), SimFault>
     // Ok: the writer has what it had, then what is printed for what was read, and nothing else.
     ensures ok { OnOk result (IfSome (R.remaining reader.old) (λ input.
-        Writes command input (W.contents writer.old) (W.contents writer.new))) }
+        Writes command.entry input (W.contents writer.old) (W.contents writer.new))) }
 
     // A fault about the input is one that the input has.
-    ensures fault { IfErr result (λ e. IfSome (R.remaining reader.old) (λ input. Refuses command input e)) }
+    ensures fault { IfErr result (λ e. IfSome (R.remaining reader.old) (λ input. Refuses command.entry input e)) }
 
     // Only a failed write leaves anything in the writer.
     ensures nothing { IfErr result (λ e. e ≢ SimFault.Write → Keeps (W.contents writer.old) (W.contents writer.new)) }
@@ -132,9 +142,9 @@ pub fn run_streams<R: Read, W: Write>(
 ///
 /// There the faults are `JobFailed`, where a failure was told or the newest master stopped, and `TurnsSpent`, `JournalMismatch`, `Thread` and `Full`, as
 /// `mr_drive` has them. A function with a handle that may wait owes no return by its contract; that `run_streams` returns is proved.
-pub fn run<H: AllocGlobal + Clock + Threads + Wait + Sync, R: Read, W: Write>(
+pub fn run<H: AllocGlobal + Eprint + Clock + Threads + Wait + Sync, R: Read, W: Write>(
     rt: &H,
-    command: &Command,
+    command: &Command<'_>,
     reader: &mut R,
     writer: &mut W,
 ) -> Result<(), SimFault>

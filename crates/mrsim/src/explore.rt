@@ -1,13 +1,11 @@
-//! The subcommand `explore`: every run of a job with at most so many faults.
-use crate::words::read_file;
+//! The subcommand `explore`: every run of a job with few faults.
+use crate::words::{read_file, shows};
 use clap::{Arg, ArgAction, ArgMatches, Command, value_parser};
-use mr_explore::{Exploration, explored_text};
-use mr_sim::{Refusal, SimFault, read_input, write_text};
+use mr_sim::{Asked, Form, is_goal};
 use std::alloc::{AllocError, Global};
-use std::io::{Read, Write};
 
 const EXPLORE: &str =
-    "Makes every run of a job with at most so many faults, and shows which ends come of them";
+    "Makes every run of a job with at most N faults, and shows which ends come of them";
 
 const EXPLORE_HELP: &str = "\
 Reads a job text (see `seq`) from the first line of standard input, and from the rest a script (see `play`), which is played
@@ -26,7 +24,9 @@ input of `play`: each script was played before it is shown.
 
 Example:
   mrsim explore --find \"marker yes, outcome failed\" one.job > script
-  cat one.job script | mrsim play --diagram > end.svg";
+  cat one.job script | mrsim play --diagram > end.svg
+As JSON, which ends have the marker:
+  mrsim explore --json one.job | grep '\"marker\":true'";
 
 const FAULTS: &str = "How many faults a run has at most, 0 to 4 (1 if it is not told)";
 
@@ -37,6 +37,9 @@ const MOST: &str = "Makes at most N runs, and shows what came of them (all if it
 
 const PROGRESS: &str = "Tells on standard error how many runs were made, every 100000 runs";
 
+const JSON_SHOWN: &str =
+    "Prints lines of JSON in place of the rest: each end, then how many runs were made";
+
 const FAULTS_WORD: &str = "faults";
 
 const FIND_WORD: &str = "find";
@@ -45,8 +48,7 @@ const MOST_WORD: &str = "most";
 
 const PROGRESS_WORD: &str = "progress";
 
-// So many runs are made between two lines of progress.
-const STRIDE: u64 = 100_000;
+const JSON_WORD: &str = "json";
 
 /// The command line of `explore`.
 pub fn explore_line<'a>(alloc: Global) -> Result<Command<'a>, AllocError> {
@@ -68,6 +70,7 @@ pub fn explore_line<'a>(alloc: Global) -> Result<Command<'a>, AllocError> {
                 .action(ArgAction::Set)
                 .help(FIND),
         )?
+        .arg(shows(alloc, JSON_WORD, JSON_SHOWN))?
         .arg(
             Arg::new(alloc, MOST_WORD)
                 .long(MOST_WORD)
@@ -76,91 +79,45 @@ pub fn explore_line<'a>(alloc: Global) -> Result<Command<'a>, AllocError> {
                 .value_parser(value_parser!(u64))
                 .help(MOST),
         )?
-        .arg(
-            Arg::new(alloc, PROGRESS_WORD)
-                .long(PROGRESS_WORD)
-                .action(ArgAction::SetTrue)
-                .help(PROGRESS),
-        )?
+        .arg(shows(alloc, PROGRESS_WORD, PROGRESS))?
         .arg(read_file(alloc))
 }
 
-/// What is asked of `explore`.
-#[derive(Clone, Copy)]
-pub struct Wanted<'a> {
-    /// How many faults a run has at most.
-    pub faults: u32,
-    /// The end that is sought, if one is.
-    pub goal: Option<&'a str>,
-    /// How many runs are made at most.
-    pub most: u64,
-    /// Whether it is told how far it is.
-    pub progress: bool,
-}
-
-/// What the words ask of `explore`; none where they name another subcommand.
-pub fn wanted_of<'a>(matches: &ArgMatches<'a>) -> Option<Wanted<'a>> {
-    match matches.subcommand() {
-        Some(("explore", words)) => Some(wanted_in(words)),
-        _ => None,
-    }
-}
-
-fn wanted_in<'a>(words: &ArgMatches<'a>) -> Wanted<'a> {
-    Wanted {
-        faults: words.get_one::<u32>(FAULTS_WORD).unwrap_or(1),
-        goal: words.get_str(FIND_WORD),
-        most: words.get_one::<u64>(MOST_WORD).unwrap_or(u64::MAX),
+/// What `explore` is asked for.
+pub fn explore_of<'a>(words: &ArgMatches<'a>) -> mr_sim::Command<'a> {
+    mr_sim::Command::Explore {
+        asked: Asked {
+            faults: words.get_one::<u32>(FAULTS_WORD).unwrap_or(1),
+            most: words.get_one::<u64>(MOST_WORD).unwrap_or(u64::MAX),
+            goal: words.get_str(FIND_WORD),
+            form: form_of(words),
+        },
         progress: words.get_flag(PROGRESS_WORD),
     }
 }
 
-/// Reads an input, explores its runs, and writes what came of them.
-pub fn explore<R: Read, W: Write>(
-    rt: &(impl AllocGlobal + Eprint),
-    wanted: &Wanted<'_>,
-    reader: &mut R,
-    writer: &mut W,
-) -> Result<(), Refusal> {
-    let input = read_input(rt.alloc(), reader)?;
-    match text_of(rt, wanted, &input) {
-        Ok(text) => Ok(write_text(writer, &text)?),
-        Err(fault) => Err(Refusal::of(&mr_sim::Command::Play, &input, fault)),
-    }
-}
-
-// What is printed of an input.
-fn text_of(
-    rt: &(impl AllocGlobal + Eprint),
-    wanted: &Wanted<'_>,
-    input: &[u8],
-) -> Result<Vec<u8>, SimFault> {
-    let mut exploration = Exploration::new(rt.alloc(), input, wanted.faults)?;
-    if wanted.progress {
-        make_in_strides(rt, &mut exploration, wanted.most)?;
+fn form_of(words: &ArgMatches<'_>) -> Form {
+    if words.get_flag(JSON_WORD) {
+        Form::Json
     } else {
-        exploration.make(rt.alloc(), wanted.most)?;
+        Form::Text
     }
-    explored_text(rt.alloc(), input, &exploration, wanted.goal)
 }
 
-// Makes at most so many runs, and tells how far it is. What can't be told is dropped.
-fn make_in_strides(
-    rt: &(impl AllocGlobal + Eprint),
-    exploration: &mut Exploration,
-    most: u64,
-) -> Result<(), SimFault> {
-    for _ in 0..most / STRIDE {
-        exploration.make(rt.alloc(), STRIDE)?;
-        tell(rt, exploration);
-        if exploration.is_whole() {
-            return Ok(());
-        }
+/// The end that is sought, if that is none of the lines that `play` prints of an end.
+pub fn bad_goal<'a>(
+    alloc: Global,
+    command: &mr_sim::Command<'a>,
+) -> Result<Option<&'a str>, AllocError> {
+    match command {
+        mr_sim::Command::Explore { asked, .. } => bad_one(alloc, asked.goal),
+        _ => Ok(None),
     }
-    exploration.make(rt.alloc(), most % STRIDE)
 }
 
-fn tell(rt: &impl Eprint, exploration: &Exploration) {
-    let (runs, ends) = (exploration.table().runs, exploration.table().rows.len());
-    let _ = eprintln!(rt; "mrsim: {runs} runs, {ends} ends");
+fn bad_one<'a>(alloc: Global, goal: Option<&'a str>) -> Result<Option<&'a str>, AllocError> {
+    match goal {
+        Some(goal) if !is_goal(alloc, goal)? => Ok(Some(goal)),
+        _ => Ok(None),
+    }
 }

@@ -1,7 +1,7 @@
 //! The program `mrsim`: its words by `clap`, then one run from standard input or a file to standard output.
 #![tactic(auto)]
 
-ghost use Rattle.std.specs.Prelude.{◌≡◌, ◌⊎◌};
+ghost use Rattle.std.specs.Prelude.{◌≡◌, ◌⊎◌, IfSome};
 ghost use Rattle.std.specs.Process.{exit_status};
 ghost use Rattle.mr_sim.specs.Fault.{exit_status_of};
 
@@ -11,13 +11,18 @@ mod tests;
 mod threads;
 mod words;
 
-use crate::explore::{Wanted, explore, wanted_of};
+use crate::explore::bad_goal;
 use crate::words::{command_line, command_of, ending_of, file_of};
-use mr_sim::{Ending, Help, Refusal, SimFault, run_with_help};
+use mr_sim::{Ending, Help, Refusal, Remarks, SimFault, run_with_help};
 use std::alloc::Global;
 use std::fs::File;
+use std::io::Write;
 use std::process::ExitCode;
 use std::{env, io};
+
+// What a goal of `explore` is.
+const GOAL_HELP: &str =
+    "expected lines of winners, the marker and the outcome, as \"marker yes, outcome failed\"";
 
 // The exit code of a program that ended so, when it has said what failed.
 fn code_of(rt: &impl Eprint, ending: Ending) -> ExitCode
@@ -73,33 +78,49 @@ fn open_help(error: &io::Error) -> Option<Help> {
     }
 }
 
-// Prints what clap says of the words: help that was asked for to standard output, a refusal to standard error.
+// Prints what clap says of the words: help that was asked for to standard output, a refusal to standard error. A refusal that cannot
+// be printed is dropped, and the exit status says it.
 fn print_words(rt: &(impl Print + Eprint), error: &clap::Error, ending: Ending) -> Ending
-    ensures { (result ≡ ending) ⊎ (result ≡ Ending.Failed SimFault.Write) }
+    ensures either { (result ≡ ending) ⊎ (result ≡ Ending.Failed SimFault.Write) }
+    ensures refused { ending ≡ Ending.RefusedWords → result ≡ Ending.RefusedWords }
 {
     if let Ending::Failed(_) = ending {
         return ending;
     }
     match error.print(rt) {
-        Ok(()) => ending,
-        Err(_) => Ending::Failed(SimFault::Write),
+        Err(_) if ending == Ending::Helped => Ending::Failed(SimFault::Write),
+        _ => ending,
     }
 }
 
-// The exit code of `explore`, when it has written what came of the runs, or has said why not.
-fn explored(rt: &HostRuntime, wanted: &Wanted<'_>, file: Option<&str>) -> ExitCode {
-    let done = match file {
-        None => explore(rt, wanted, &mut rt.reader(), &mut io::writer(rt)),
-        Some(name) => match File::open(rt, name) {
-            Ok(mut reader) => explore(rt, wanted, &mut reader, &mut io::writer(rt)),
-            Err(error) => Err(Refusal {
-                fault: open_fault(&error),
-                help: open_help(&error),
-            }),
-        },
-    };
-    match done {
-        Ok(()) => code_of(rt, Ending::Done),
+// How the program ends where no end can be as the one that is sought, when it has said so. Where it cannot be said it is dropped, and
+// the exit status says it.
+fn refuse_goal(rt: &(impl AllocGlobal + Eprint), command: &mr_sim::Command<'_>) -> Option<Ending>
+    ensures { IfSome result (λ ending. (ending ≡ Ending.RefusedWords) ⊎ (ending ≡ Ending.Failed SimFault.NoMemory)) }
+{
+    match bad_goal(rt.alloc(), command) {
+        Ok(None) => None,
+        Ok(Some(goal)) => {
+            let _ = eprintln!(rt; "error: invalid value '{goal}' for '--find <GOAL>': {GOAL_HELP}");
+            Some(Ending::RefusedWords)
+        }
+        Err(_) => Some(Ending::Failed(SimFault::NoMemory)),
+    }
+}
+
+// The exit code of a run, when its remarks or its refusal are said.
+fn code_of_run<W: Write>(
+    rt: &impl Eprint,
+    stderr: &mut W,
+    ran: Result<Remarks, Refusal>,
+    file: Option<&str>,
+) -> ExitCode {
+    match ran {
+        Ok(remarks) => {
+            // Where they cannot be printed they are dropped, and the exit status says whether all is as expected.
+            let _ = remarks.write(stderr);
+            code_of(rt, remarks.ending())
+        }
         Err(refusal) => code_of_refusal(rt, refusal, file),
     }
 }
@@ -124,8 +145,8 @@ fn main(rt: HostRuntime) -> ExitCode {
         Err(error) => return code_of(&rt, print_words(&rt, &error, ending_of(&error))),
     };
     let (command, file) = (command_of(&matches), file_of(&matches));
-    if let Some(wanted) = wanted_of(&matches) {
-        return explored(&rt, &wanted, file);
+    if let Some(ending) = refuse_goal(&rt, &command) {
+        return code_of(&rt, ending);
     }
     let ran = match file {
         None => run_with_help(&rt, &command, &mut rt.reader(), &mut io::writer(&rt)),
@@ -137,12 +158,5 @@ fn main(rt: HostRuntime) -> ExitCode {
             }),
         },
     };
-    match ran {
-        Ok(remarks) => {
-            // Where they cannot be printed they are dropped, and the exit status says whether all is as expected.
-            let _ = remarks.write(&mut rt.stderr());
-            code_of(&rt, remarks.ending())
-        }
-        Err(refusal) => code_of_refusal(&rt, refusal, file),
-    }
+    code_of_run(&rt, &mut rt.stderr(), ran, file)
 }

@@ -1,13 +1,14 @@
 //! What the command line takes, what it refuses, and its help.
+use crate::explore::bad_goal;
 use crate::words::{command_line, command_of, ending_of, file_of};
 use clap::error::ErrorKind;
-use mr_sim::{Ending, Part, Seen, Shown, exit_status};
+use mr_sim::{Asked, Ending, Form, Part, Seen, Shown, exit_status};
 use std::alloc::Global;
 use std::process::Abort;
 use std::test::Fail;
 
 /// The subcommand that the words name.
-fn named(alloc: Global, words: &[&str]) -> Result<mr_sim::Command, clap::Error> {
+fn named<'a>(alloc: Global, words: &'a [&'a str]) -> Result<mr_sim::Command<'a>, clap::Error> {
     let command = command_line(alloc)?;
     let matches = command.try_get_matches_from(words)?;
     Ok(command_of(&matches))
@@ -226,7 +227,8 @@ fn seen_words(rt: HostRuntime) -> Result<(), Fail> {
         ("--diagram", Seen::Drawn(Part { from: 0, rows: 400 })),
         ("--script", Seen::Script),
     ] {
-        let command = named(alloc, &["mrsim", "threads", word, "--turns", "7"])?;
+        let words = ["mrsim", "threads", word, "--turns", "7"];
+        let command = named(alloc, &words)?;
         assert!(rt;
             command
                 == mr_sim::Command::ThreadsSeen {
@@ -351,4 +353,100 @@ fn refused_words(rt: HostRuntime) {
     refuses(&rt, alloc, &["mrsim", "--turns", "committer"]);
     refuses(&rt, alloc, &["mrsim", "history", "--hold"]);
     refuses(&rt, alloc, &["mrsim", "play", "--history=yes"]);
+}
+
+// What `explore` is asked for, where this is said behind it.
+fn explores(
+    rt: &impl Abort,
+    alloc: Global,
+    words: &[&str],
+    asked: Asked<'_>,
+    progress: bool,
+) -> Result<(), Fail> {
+    let mut all = vec![in alloc; "mrsim", "explore"]?;
+    all.extend_from_slice(words)?;
+    let command = mr_sim::Command::Explore { asked, progress };
+    assert!(rt; named(alloc, all.as_slice())? == command);
+    Ok(())
+}
+
+#[test]
+fn explore_words(rt: HostRuntime) -> Result<(), Fail> {
+    let alloc = rt.alloc();
+    let plain = Asked {
+        faults: 1,
+        most: u64::MAX,
+        goal: None,
+        form: Form::Text,
+    };
+    explores(&rt, alloc, &[], plain, false)?;
+    explores(&rt, alloc, &["--progress"], plain, true)?;
+    explores(
+        &rt,
+        alloc,
+        &["--faults", "0"],
+        Asked { faults: 0, ..plain },
+        false,
+    )?;
+    explores(
+        &rt,
+        alloc,
+        &["--faults=4"],
+        Asked { faults: 4, ..plain },
+        false,
+    )?;
+    explores(
+        &rt,
+        alloc,
+        &["--most", "0"],
+        Asked { most: 0, ..plain },
+        false,
+    )?;
+    let json = Asked {
+        form: Form::Json,
+        goal: Some("marker yes, outcome failed"),
+        ..plain
+    };
+    explores(
+        &rt,
+        alloc,
+        &["--json", "--find", "marker yes, outcome failed"],
+        json,
+        false,
+    )
+}
+
+#[test]
+fn refused_explore_words(rt: HostRuntime) -> Result<(), Fail> {
+    let alloc = rt.alloc();
+    for (word, value) in [
+        ("--faults", "5"),
+        ("--faults", "-1"),
+        ("--most", "-1"),
+        ("--most", "18446744073709551616"),
+    ] {
+        refuses(&rt, alloc, &["mrsim", "explore", word, value]);
+    }
+    refuses(&rt, alloc, &["mrsim", "explore", "--find"]);
+    refuses(&rt, alloc, &["mrsim", "explore", "--trace"]);
+    refuses(&rt, alloc, &["mrsim", "play", "--find", "marker yes"]);
+    reads(
+        &rt,
+        alloc,
+        &["mrsim", "explore", "one.job"],
+        Some("one.job"),
+    )?;
+    helps(&rt, alloc, &["mrsim", "help", "explore"], "--find <GOAL>")
+}
+
+// A goal that no end can have is told, whatever runs there are.
+#[test]
+fn bad_goals(rt: HostRuntime) -> Result<(), Fail> {
+    let alloc = rt.alloc();
+    let good = named(alloc, &["mrsim", "explore", "--find", "marker yes"])?;
+    assert!(&rt; bad_goal(alloc, &good)?.is_none());
+    let bad = named(alloc, &["mrsim", "explore", "--find", "marker maybe"])?;
+    assert!(&rt; bad_goal(alloc, &bad)? == Some("marker maybe"));
+    assert!(&rt; bad_goal(alloc, &mr_sim::Command::Play)?.is_none());
+    Ok(())
 }

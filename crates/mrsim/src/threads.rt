@@ -91,7 +91,7 @@ pub fn threads_line<'a>(alloc: Global) -> Result<Command<'a>, AllocError> {
 }
 
 /// What `threads` is asked for.
-pub fn threads_of(words: &ArgMatches<'_>) -> mr_sim::Command {
+pub fn threads_of<'a>(words: &ArgMatches<'_>) -> mr_sim::Command<'a> {
     let turns = words.get_one::<u64>(TURNS_WORD).unwrap_or(DEFAULT_TURNS);
     let hold = words.get_flag("hold");
     match seen_of(words) {

@@ -2,7 +2,7 @@
 ghost use Rattle.std.specs.Prelude.{◌≡◌, ◌≢◌};
 ghost use Rattle.clap.specs.Words.{kind_of};
 
-use crate::explore::explore_line;
+use crate::explore::{explore_line, explore_of};
 use crate::threads::{threads_line, threads_of};
 use clap::error::ErrorKind;
 use clap::{Arg, ArgAction, ArgMatches, Command, Error, value_parser};
@@ -83,7 +83,10 @@ Example:
   {\"attempt\":\"attempt_200707121733_0003_r_000000_0\",\"event\":\"reduce\"}
 prints
   reduce attempt_200707121733_0003_r_000000_0
-  torn 0";
+  torn 0
+With --json it prints each record as it stands there, and last what is torn:
+  {\"attempt\":\"attempt_200707121733_0003_r_000000_0\",\"event\":\"reduce\"}
+  {\"torn\":0,\"version\":1}";
 
 const PLAY: &str = "Runs the cluster of a job by a script of events and prints what came of it";
 
@@ -122,7 +125,9 @@ prints (with a tab between a word and its count)
   a 2
   b 1
 A picture has the first 400 events of the run. Of a longer run, in a file long.play, this draws the events 400 to 499:
-  mrsim play --diagram --from 400 --rows 100 long.play > part.svg";
+  mrsim play --diagram --from 400 --rows 100 long.play > part.svg
+As JSON an object a line: each event, and last what came of the run. This tells the line of the event that made the marker:
+  mrsim play --json one.play | grep 'create /out/_SUCCESS'";
 
 const SEQ: &str = "Runs a job sequentially and prints its part files";
 
@@ -281,9 +286,10 @@ pub fn command_line<'a>(alloc: Global) -> Result<Command<'a>, AllocError> {
 }
 
 /// The subcommand that the words name. Words without one are refused before.
-pub fn command_of(matches: &ArgMatches<'_>) -> mr_sim::Command {
+pub fn command_of<'a>(matches: &ArgMatches<'a>) -> mr_sim::Command<'a> {
     match matches.subcommand() {
         Some(("play", words)) => play_of(words),
+        Some(("explore", words)) => explore_of(words),
         Some(("threads", words)) => threads_of(words),
         Some(("history", words)) => history_of(words),
         Some(("seq", _)) => mr_sim::Command::Seq,
@@ -328,7 +334,7 @@ pub fn shown_of(words: &ArgMatches<'_>) -> Shown {
 }
 
 // How the records of a segment are printed.
-fn history_of(words: &ArgMatches<'_>) -> mr_sim::Command {
+fn history_of<'a>(words: &ArgMatches<'_>) -> mr_sim::Command<'a> {
     if words.get_flag("json") {
         mr_sim::Command::HistoryJson
     } else {
@@ -337,7 +343,7 @@ fn history_of(words: &ArgMatches<'_>) -> mr_sim::Command {
 }
 
 // What of a run is shown.
-fn play_of(words: &ArgMatches<'_>) -> mr_sim::Command {
+fn play_of<'a>(words: &ArgMatches<'_>) -> mr_sim::Command<'a> {
     if words.get_flag("diagram") {
         return mr_sim::Command::PlayDrawn(part_of(words));
     }

@@ -5,13 +5,13 @@ use Rattle.mr_event.specs.declared.plan.PlanAct.TheVariants.{Node, Master, Expir
 use Rattle.mr_event.specs.declared.plan.PlanFault.{PlanFault}
 use Rattle.mr_commands.specs.declared.job.submission.Submission.{Submission}
 
--- the node that restarts or is given up is one of so many
+-- the node that restarts or is given up is one of these
 abbrev pub IsOfNodes : ℕ → PlanAct → Type 0
 IsOfNodes nodes (Node node) = node < nodes
 IsOfNodes nodes (Master kept) = Unit {0}
 IsOfNodes nodes (Expire node) = node < nodes
 
--- a fault comes after at most so many events, and its node is there
+-- a fault comes after at most 1,000,000 events, and its node is there
 pub record IsPlanned (nodes : ℕ) (f : PlanFault) : Type 0 where
   pub after : f.after ≤ 1000000
   pub of_nodes : IsOfNodes nodes f.act

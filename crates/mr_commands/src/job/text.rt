@@ -172,7 +172,7 @@ fn limit_in(value: &Value) -> Result<u32, SimFault>
     }
 }
 
-/// What the fault that a value is does, for so many nodes.
+/// What the fault does that this value tells, in a job with this many nodes.
 #[tactic(auto, unfolding(crate::specs::job::Text::act_of))]
 fn act_of(value: &Value, nodes: u32) -> Option<PlanAct>
     requires { 1 ≤ nodes }
@@ -187,7 +187,7 @@ fn act_of(value: &Value, nodes: u32) -> Option<PlanAct>
     }
 }
 
-/// The fault that a value is, for so many nodes.
+/// The fault that this value tells, in a job with this many nodes.
 #[tactic(auto, unfolding(crate::specs::job::Text::fault_of))]
 fn fault_of(value: &Value, nodes: u32) -> Option<PlanFault>
     requires { 1 ≤ nodes }
@@ -199,7 +199,7 @@ fn fault_of(value: &Value, nodes: u32) -> Option<PlanFault>
     Some(PlanFault { after, act })
 }
 
-/// The faults that these values are.
+/// The faults that these values tell, one each.
 fn each_fault(alloc: Global, values: &[Value], nodes: u32) -> Result<PlanFaults, SimFault>
     requires { 1 ≤ nodes }
     ensures said { Gives result (required JobTextFault.Faults (each (fault_of nodes) (items_view values.now))) }
@@ -216,7 +216,7 @@ fn each_fault(alloc: Global, values: &[Value], nodes: u32) -> Result<PlanFaults,
     Ok(PlanFaults::from_vec(faults))
 }
 
-/// The faults that a value is, for so many nodes.
+/// The faults that this value tells, in a job with this many nodes.
 fn faults_of(alloc: Global, value: &Value, nodes: u32) -> Result<PlanFaults, SimFault>
     requires { 1 ≤ nodes }
     ensures said { Gives result (required JobTextFault.Faults (faults_of nodes (view value.now))) }
