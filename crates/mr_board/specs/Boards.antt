@@ -33,7 +33,7 @@ pub record Noted : Type 0 where
   pub world : Journal
   pub by : List ℕ
 
--- what a container is to compute, for so many reduces
+-- what a container is to compute, in a job with this many reduces
 pub record Task : Type 0 where
   pub container : ContainerId
   pub input : Input
@@ -53,7 +53,7 @@ abbrev pub kind_of : Input → TaskKind
 kind_of (Split m split) = kind.Map
 kind_of (Pieces reduce pieces) = kind.Reduce
 
--- the bytes are those of the definition, for this input and so many reduces
+-- the bytes are those of the definition, for this input and this many reduces
 abbrev pub IsMeant : Job → ℕ → Input → List ℕ → Type 0
 IsMeant job reduces input bytes = (config : Config) → config.reduces ≡ reduces → made_of job config input ≡ Some bytes
 

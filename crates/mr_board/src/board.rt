@@ -65,7 +65,7 @@ impl<J: Job> Board<J> {
         Ok((board, all))
     }
 
-    /// The world, to be read. Its journal is faithful: so where the success marker is, the files are the sequential execution's. It takes no memory.
+    /// The world, to be read. Its journal is faithful: so where the success marker is, the files are the sequential execution's.
     pub fn world(&self) -> &World
         ensures world { result.now ≡ self.now.world }
         ensures faithful { IsFaithfulFor (computation J.Key.cmp J.Key.codec J.Value.codec J.functions) self.now.world }
@@ -94,7 +94,7 @@ impl<J: Job> Board<J> {
 
     /// Makes an event from a seat: `World::apply`, whose answer it gives. An event that is taken gets the seat's number, and is the last of the seat's list.
     ///
-    /// Refusals: `NotNow(WrongWish)` for every `Computed`, else those of `World::apply`, in its order. Nothing has changed then, of the seat neither.
+    /// Refusals: `NotNow(WrongWish)` for every `Computed`, else those of `World::apply`, in its order. Nothing has changed then, in the seat either.
     pub fn apply_as(&mut self, seat: &mut Seat, event: Event) -> Result<Took, WorldFault>
         ensures applies { Applies self.old seat.old event result self.new seat.new }
         ensures headline { HeadlineHolds self.old.world self.new.world }
@@ -142,8 +142,8 @@ impl<J: Job> Board<J> {
         self.make_noted(seat, event, copy)
     }
 
-    /// The world, where the seats account for its journal: their numbers differ, their lists have as many events together as the journal, and each
-    /// list is the journal's events of its number, in order. Else `Mismatch`, and nothing is handed back. It takes no memory.
+    /// The world, where the seats account for its journal. They do where their numbers differ, their lists have as many events together as the journal,
+    /// and each list is the journal's events of its number, in order. Else `Mismatch`, and nothing is handed back.
     pub fn close(self, seats: Vec<Seat>) -> Result<World, Mismatch>
         ensures world { IfOk result (λ w. w ≡ self.world) }
         ensures faithful { IfOk result (IsFaithfulFor (computation J.Key.cmp J.Key.codec J.Value.codec J.functions)) }
@@ -191,8 +191,8 @@ impl<J: Job> Board<J> {
         }
     }
 
-    // Makes an event that carries the definition's bytes, if any. Where there is no memory for a copy, it is refused as it would be, were there memory; else for want
-    // of memory.
+    // Makes an event that carries the definition's bytes, if any. Where there is no memory for a copy, the world is asked why it would refuse the event. If it would
+    // not, the event is refused for want of memory.
     fn make(&mut self, seat: &mut Seat, event: Event) -> Result<Took, WorldFault>
         requires carries { CarriesDefinition (job_of (computation J.Key.cmp J.Key.codec J.Value.codec J.functions)) self.old.world.config (world_in self.old.world) event }
         ensures makes { Makes self.old seat.old event result self.new seat.new }
@@ -204,8 +204,8 @@ impl<J: Job> Board<J> {
         }
     }
 
-    // Makes an event, of which there is a copy for the seat's list. Where there is no room for a note of it, it is refused as it would be, were there memory; else for
-    // want of memory.
+    // Makes an event, of which there is a copy for the seat's list. Where there is no room for a note of it, the world is asked why it would refuse the event. If it
+    // would not, the event is refused for want of memory.
     fn make_noted(&mut self, seat: &mut Seat, event: Event, copy: Event) -> Result<Took, WorldFault>
         requires carries { CarriesDefinition (job_of (computation J.Key.cmp J.Key.codec J.Value.codec J.functions)) self.old.world.config (world_in self.old.world) event }
         requires same { copy ≡ event }

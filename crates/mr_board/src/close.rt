@@ -10,7 +10,7 @@ use mr_event::Event;
 #[derive(Clone, Copy, PartialEq, Eq, Debug)]
 pub struct Mismatch;
 
-/// Whether the seats account for the journal. It takes no memory.
+/// Whether the seats account for the journal.
 pub fn accounts(seats: &[Seat], by: &[u32], journal: &[Event]) -> bool
     ensures { IsTrue result ↔ Account by.now journal.now seats.now }
 {

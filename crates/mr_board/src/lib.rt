@@ -11,9 +11,11 @@
 //! - **`computed_as`** is the same of the bytes of a `Finished`, where its container wishes to compute just that work; else it answers `NoContainer`, then `WrongWish` (`Hands`);
 //!   **`hand_in_as`** is the same of a `Finished` that is given away: its bytes are moved and not copied;
 //! - `work` copies what a container is to compute, and **`Work::run`** gives a `Finished` with the definition's bytes of it, or the exact fault;
-//! - **the headline** stands on `apply_as`, `computed_as` and `hand_in_as`, of the world before and after (`HeadlineHolds`), and on `world`, whose journal is faithful: once the success marker is there, the files
+//! - **the headline** stands on `apply_as`, `computed_as` and `hand_in_as`, of the world before and after (`HeadlineHolds`), and on `world`. Its journal is faithful: once the success marker is there, the files
 //!   are the job's sequential execution's (`SeesSequentialFiles`);
-//! - **`close`** answers the world exactly where the seats account for its journal (`Account`), takes no memory, and needs no other fact of the threads.
+//! - **`close`** answers the world exactly where the seats account for its journal (`Account`), and needs no other fact of the threads.
+//!
+//! `world`, `close`, and the calls of a `Seat` take no memory. All others may fail for want of memory.
 //!
 //! No call here waits: each returns (`Work::run` where the gate's `enter` does). Whoever shares a board puts a lock round it.
 //!

@@ -31,14 +31,14 @@ impl Seat {
         }
     }
 
-    /// Its number, from 0. It takes no memory.
+    /// Its number, from 0.
     pub fn number(&self) -> u32
         ensures { result ≡ self.now.number }
     {
         self.number
     }
 
-    /// The events that were made from it, in order. It takes no memory.
+    /// The events that were made from it, in order.
     pub fn made(&self) -> &[Event]
         ensures { result.now ≡ self.now.made }
     {

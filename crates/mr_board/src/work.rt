@@ -66,7 +66,7 @@ impl<J: Job> Model for Finished<J> {
 }
 
 impl Work {
-    // The work of a container on this input, for so many reduces.
+    // The work of a container on this input, in a job with this many reduces.
     pub(crate) fn new(container: ContainerId, input: Input, reduces: u32) -> Work
         requires short { IsShort (as_input input) }
         requires some { (1 ≤ reduces) × (reduces ≤ MAX_REDUCES) }
@@ -146,7 +146,7 @@ impl<J: Job> Finished<J> {
         (computed(&container, bytes), computed(&container, copy))
     }
 
-    // Whether it was made of what is lent here, for so many reduces.
+    // Whether it was made of what is lent here, in a job with this many reduces.
     pub(crate) fn is_of(&self, lent: mr_world::Input<'_>, reduces: u32) -> bool
         ensures { IsTrue result ↔ ((self.now.input ≡ as_lent lent.entry) × (self.now.reduces ≡ reduces)) }
     {

@@ -23,7 +23,7 @@ impl Coming {
         }
     }
 
-    // The first fault that did not come yet, if it is due after so many events.
+    // The first fault that did not come yet, if it is due after `events` events.
     fn due(&self, events: usize) -> Option<PlanFault> {
         match self.faults.as_slice().get(self.next) {
             Some(fault) if fault.after as usize <= events => Some(*fault),
@@ -31,7 +31,7 @@ impl Coming {
         }
     }
 
-    /// Whether a fault, or the start after a crash, is due after so many events: no other thread makes an event then.
+    /// Whether a fault, or the start after a crash, is due after `events` events: no other thread makes an event then.
     pub(crate) fn is_due(&self, events: usize) -> bool {
         self.starts || self.due(events).is_some()
     }

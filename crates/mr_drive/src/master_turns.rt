@@ -34,7 +34,7 @@ pub(crate) fn master_turn<J: Job>(
     }
 }
 
-// The store call of a master, else its launch of the task that it wants, on the node of the task's number, where nodes are counted again and again.
+// The store call of a master, else its launch of the task that it wants, on the node whose number is the task's, modulo the number of nodes.
 fn next_of_master(world: &World, k: u32) -> Result<Option<Event>, DriveFault> {
     let Ok(due) = world.duty(k) else {
         return Err(DriveFault::NoMemory);

@@ -5,7 +5,7 @@ use std::sync::atomic::{AtomicU64, Ordering};
 use std::thread;
 use std::time::{Clock, Duration};
 
-// So many looks yield; those after them sleep.
+// How many looks yield. Those after them sleep.
 const YIELDS: u64 = 1_000;
 
 /// Holds the first map work until the second has entered.

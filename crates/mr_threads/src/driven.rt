@@ -21,9 +21,9 @@ use std::thread::Threads;
 /// How the threads are run.
 #[derive(Clone, Copy, Debug, PartialEq, Eq)]
 pub(crate) struct Manner {
-    /// So many turns has each thread.
+    /// How many turns each thread has at most.
     pub(crate) turns: u64,
-    /// Whether the first map work is held until the second has begun, for at most so many looks as there are turns.
+    /// Whether the first map work is held until the second has begun, for at most as many looks as there are turns.
     pub(crate) hold: bool,
 }
 

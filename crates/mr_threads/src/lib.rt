@@ -4,13 +4,18 @@
 //!
 //! For every input, number of turns and gate, whatever the schedule was:
 //!
-//! - **`threads_output`**: what it prints is what `seq` prints for the same job text (`PrintsSeq`). Else it tells the first bad key of the text, or that there was a run in which no
-//!   success was told, or that there was no run, or that memory was refused (`ThreadsFail`);
-//! - **`threads_seen`**: what it shows is of a run of the job that the text says: each result in it is what the job's functions give, and an outcome was told or its newest master is
-//!   Stopped. Of `Shown`: the text that `play` prints of the run stands there; before it exactly the trace of that run, with the thread that made each event, and behind it exactly the
-//!   history, each where it is asked for. Of `Json`: exactly the lines of the run, with the thread that made each event. Of `Script`: exactly the commands of the run's events, and then that text, as comments. And where the marker is, the files of that text are those that `seq` prints
-//!   (`ShowsRun`);
+//! - **`threads_output`**: what it prints is what `seq` prints for the same job text (`PrintsSeq`). Else it tells the first bad key of the text; or there
+//!   was a run in which no success was told, or no run, or memory was refused (`ThreadsFail`).
+//! - **`threads_seen`**: what it shows is of a run of the job that the text says (`ShowsRun`). Each result in that run is what the job's functions give.
+//!   An outcome was told, or its newest master is Stopped. Where the marker is, the files in the text of `play` are those that `seq` prints. What stands
+//!   there is in the table below.
 //! - **`unthreaded`**, what is answered without a handle: the first bad key of the job text, else `Thread`.
+//!
+//! | Asked for | What is shown |
+//! |---|---|
+//! | `Shown` | the text that `play` prints of the run. Where they are asked for, before it exactly the trace of that run, with the thread that made each event; behind it exactly the history |
+//! | `Json` | exactly the lines of the run, with the thread that made each event |
+//! | `Script` | exactly the commands of the run's events, and then the text of `play`, as comments |
 //!
 //! In no clause: what a picture says; that there is a run, that its faults are made, that several works are done at once.
 //!

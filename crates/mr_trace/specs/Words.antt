@@ -88,7 +88,7 @@ envelope_text place e = codes " | " ++ (decimal place ++ (codes " to " ++ (addre
 abbrev pub path_text : List (List ℕ) → List ℕ
 path_text names = 47 ∷ join_with_byte 47 names
 
--- so many of them
+-- a count with its unit, as `2 entries`
 abbrev pub count_text : ℕ → List ℕ → List ℕ → List ℕ
 count_text n one many = spaced (decimal n ∷ (if nat_eq n 1 then one else many) ∷ [])
 

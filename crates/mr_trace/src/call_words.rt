@@ -126,7 +126,7 @@ fn put_answer(out: &mut Vec<u8>, answer: &Answer) -> Result<(), AllocError>
     }
 }
 
-// A word, and so many of them.
+// A word, and then a count with its unit, as `2 entries`.
 fn put_count(
     out: &mut Vec<u8>,
     word: &[u8],

@@ -4,14 +4,14 @@
 //!
 //! For every input:
 //!
-//! - **`trace_of`**: the trace of a world's run, with who made its events, is exactly the text of what happened in it (`trace_text` of `specs/Trace`): for each event
-//!   of the journal its place, the event in the words of its command, what the duty or the wish was, who made it, its store call with what the caller
-//!   heard, and the packets that it added (`Happened` of `specs/Happened`). It fails by nothing but an allocation failure;
-//! - **`play_shown`**: the text has what `play` prints; before it stands exactly the trace of the run of which that is printed, each event with the line of the
-//!   script that made it, and behind it exactly the history: each where it is asked for, else nothing (`Shows`). Its faults are those of `play` (`PlayFails`).
+//! - **`trace_of`**: the trace of a world's run, with who made its events, is exactly the text of what happened in it (`trace_text` of `specs/Trace`). For
+//!   each event of the journal this is its place, the event in the words of its command, what the duty or the wish was, and who made it; then its store
+//!   call with what the caller heard, and the packets that it added (`Happened` of `specs/Happened`). It fails by nothing but an allocation failure.
+//! - **`play_shown`**: the text has what `play` prints (`Shows`). Where they are asked for, before it stands exactly the trace of the run of which that is
+//!   printed, each event with the line of the script that made it; behind it stands exactly the history. Its faults are those of `play` (`PlayFails`).
 //!
-//! What tells one event is given on, for whoever shows a run in another way, each by its clause: `maker_of` and `left_at` (who made it), `name_of` (its duty or wish),
-//! `opened` and `happen` (a world in which the events happen once more), and the words of `specs/Words`.
+//! Whoever shows a run in another way finds here what tells one event, each call with its clause: `maker_of` and `left_at` (who made it), `name_of` (its
+//! duty or wish), `opened` and `happen` (a world in which the events happen once more), and the words of `specs/Words`.
 #![tactic(auto)]
 
 mod asked;

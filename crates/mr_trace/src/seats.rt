@@ -1,5 +1,5 @@
-//! Which thread makes an event, where threads run a job: that of a node makes what befalls the node and its containers, that of a master what the master
-//! does and hears, and one makes starts and faults.
+//! Which thread makes an event, where threads run a job. The thread of a node makes what befalls the node and its containers; that of a master, what the
+//! master does and hears. One thread makes starts and faults.
 ghost use Rattle.std.specs.Prelude.{◌≡◌, ◌++◌, OnOk};
 ghost use Rattle.mr_trace.specs.Happened.{host_of, node_of, seat_of};
 ghost use Rattle.mr_trace.specs.Trace.{maker_text, seat_text};
