@@ -1,97 +1,53 @@
-//! The output committer: merges, commits, aborts and recoveries, whole or by steps, and what is refused.
+//! The output committer: merges, commits and aborts, whole or by steps, and what is refused.
 
+use crate::fixtures::{TASK, attempt, by_generation, generation, new_namespace, path};
+use crate::jobs::{job_set_up, made, makes_room, out, prepared, sets_up, stands, told};
 use mr_commit::{
-    CommitFault, RecoverTask, Step, StepDone, abort_job, abort_task, check_output, commit_job,
-    commit_task, needs_task_commit, recover_task, setup_job,
+    CommitFault, Step, StepDone, check_output, commit_job, commit_task, needs_task_commit,
 };
-use mr_ids::{AppAttempt, AttemptId, JobId, TaskId, TaskKind};
 use mr_names::{Answer, Caller, Kind, NameFault, Namespace, Op};
-use mr_paths::{Layout, Path, PathFault};
-use std::alloc::{AllocError, Global};
+use mr_paths::Layout;
+use std::alloc::Global;
 use std::process::Abort;
 
-const TASK: TaskId = TaskId {
-    job: JobId {
-        start: 200707121733,
-        number: 3,
-    },
-    kind: TaskKind::Reduce,
-    number: 0,
-};
-
-fn generation(rt: &impl Abort, number: u32) -> AppAttempt {
-    match AppAttempt::new(number) {
-        Some(app) => app,
-        None => panic!(rt; "no generation"),
-    }
-}
-
-fn attempt(rt: &impl Abort) -> AttemptId {
-    match AttemptId::new(TASK, 0) {
-        Some(attempt) => attempt,
-        None => panic!(rt; "no attempt"),
-    }
-}
-
-fn path(rt: &impl Abort, alloc: Global, text: &str) -> Path {
-    match Path::parse(alloc, text) {
-        Ok(path) => path,
-        Err(PathFault::NoMemory) => panic!(rt; "no memory"),
-        Err(PathFault::BadName) => panic!(rt; "no path"),
-    }
-}
-
-// What was made, where memory was not wanting.
-fn made<T: Drop>(rt: &impl Abort, value: Result<T, AllocError>) -> T {
-    match value {
-        Ok(value) => value,
-        Err(_) => panic!(rt; "no memory"),
-    }
-}
-
-// An answer, where memory was not wanting.
-fn told<T: Drop>(rt: &impl Abort, answer: Result<T, CommitFault>) -> Result<T, CommitFault> {
-    match answer {
-        Err(CommitFault::NoMemory) => panic!(rt; "no memory"),
-        answered => answered,
-    }
-}
-
-// A call that prepares a test.
-fn prepared(rt: &impl Abort, answer: Result<(), NameFault>) {
-    match answer {
-        Ok(()) => {}
-        Err(NameFault::NoMemory) => panic!(rt; "no memory"),
-        Err(_) => panic!(rt; "refused"),
-    }
-}
-
-fn new_namespace(rt: &impl Abort, alloc: Global) -> Namespace {
-    match Namespace::new(alloc) {
-        Ok(names) => names,
-        Err(_) => panic!(rt; "no memory"),
-    }
-}
-
-fn out(rt: &impl Abort, alloc: Global) -> Layout {
-    Layout {
-        dest: path(rt, alloc, "/out"),
-    }
-}
-
-// What stands at a path.
-fn stands(
+// The step's next call is made, with this answer.
+fn goes(
     rt: &impl Abort,
-    alloc: Global,
-    names: &Namespace,
-    caller: Caller,
-    text: &str,
-) -> Option<Kind> {
-    let place = path(rt, alloc, text);
-    match names.exists(caller, &place) {
-        Ok(found) => found,
-        Err(_) => panic!(rt; "refused"),
-    }
+    names: &mut Namespace,
+    caller: &Caller,
+    step: &mut Step,
+    want: Result<StepDone, CommitFault>,
+) {
+    assert!(rt; told(rt, step.next(names, *caller)) == want);
+}
+
+// The step is over.
+fn is_over(rt: &impl Abort, names: &mut Namespace, caller: &Caller, step: &mut Step) {
+    assert!(rt; step.call().is_none());
+    goes(rt, names, caller, step, Err(CommitFault::Over));
+}
+
+// The next call is made, and its answer is heard by one in two halves and by the other at once, as this.
+fn is_heard_alike(
+    rt: &impl Abort,
+    names: &mut Namespace,
+    caller: &Caller,
+    halves: &mut Step,
+    step: &mut Step,
+    want: StepDone,
+) {
+    let Some(call) = step.call() else {
+        panic!(rt; "over");
+    };
+    let answer = names.perform(*caller, call);
+    let following = match halves.follow(&answer) {
+        Ok(following) => following,
+        Err(fault) => panic!(rt; "{fault}"),
+    };
+    assert!(rt; following.done() == want);
+    halves.go_on(following);
+    assert!(rt; told(rt, step.took(answer)) == Ok(want));
+    assert!(rt; halves.cleans_up() == step.cleans_up());
 }
 
 // The text of a fault.
@@ -103,24 +59,19 @@ fn prints(rt: &impl Abort, alloc: Global, fault: CommitFault, text: &str) -> boo
 #[test]
 fn setup_by_halves(rt: HostRuntime) {
     let alloc = rt.alloc();
-    let app = generation(&rt, 1);
-    let caller = &Caller { app, attempt: None };
+    let one = &by_generation(&rt, 1);
     let mut names = new_namespace(&rt, alloc);
-    let mut setup = made(&rt, Step::setup_job(&out(&rt, alloc), app));
-    let Some(call) = setup.call() else {
-        panic!(rt; "over");
-    };
-    let answer = names.perform(*caller, call);
-    let following = match setup.follow(&answer) {
-        Ok(following) => following,
-        Err(fault) => panic!(rt; "{fault}"),
-    };
-    assert!(rt; following.done() == StepDone::Finished);
-    let mut copy = made(&rt, setup.copy());
-    setup.go_on(following);
-    assert!(rt; told(&rt, setup.next(&mut names, *caller)) == Err(CommitFault::Over));
-    assert!(rt; copy.call().is_some());
-    assert!(rt; told(&rt, copy.took(answer)) == Ok(StepDone::Finished));
+    let mut halves = made(&rt, Step::setup_job(&out(&rt, alloc), one.app));
+    let mut copy = made(&rt, halves.copy());
+    is_heard_alike(
+        &rt,
+        &mut names,
+        one,
+        &mut halves,
+        &mut copy,
+        StepDone::Finished,
+    );
+    is_over(&rt, &mut names, one, &mut halves);
 }
 
 // A task's commit goes on where it hears, in two halves, that its attempt's directory is there.
@@ -138,18 +89,29 @@ fn goes_on_by_halves(rt: &impl Abort, step: &Step) {
 #[test]
 fn over_after_output_missing(rt: HostRuntime) {
     let alloc = rt.alloc();
-    let app = generation(&rt, 1);
-    let caller = &Caller { app, attempt: None };
+    let one = &by_generation(&rt, 1);
     let layout = out(&rt, alloc);
-    let mut names = new_namespace(&rt, alloc);
-    assert!(rt; told(&rt, setup_job(&mut names, *caller, &layout)) == Ok(()));
-    let mut step = made(&rt, Step::commit_task(&layout, app, attempt(&rt)));
+    let mut names = job_set_up(&rt, alloc, one, &layout);
+    let mut step = made(
+        &rt,
+        Step::commit_task(&layout, one.app, attempt(&rt, TASK, 0)),
+    );
     goes_on_by_halves(&rt, &step);
-    assert!(rt; told(&rt, step.next(&mut names, *caller)) == Err(CommitFault::OutputMissing));
+    goes(
+        &rt,
+        &mut names,
+        one,
+        &mut step,
+        Err(CommitFault::OutputMissing),
+    );
     let mut copy = made(&rt, step.copy());
-    assert!(rt; copy.call().is_none());
-    assert!(rt; told(&rt, copy.next(&mut names, *caller)) == Err(CommitFault::Over));
-    assert!(rt; told(&rt, step.next(&mut names, *caller)) == Err(CommitFault::Over));
+    is_over(&rt, &mut names, one, &mut copy);
+    is_over(&rt, &mut names, one, &mut step);
+}
+
+// The step hears that its call is done, and answers this fault.
+fn takes_no_answer(rt: &impl Abort, step: &mut Step, fault: CommitFault) {
+    assert!(rt; told(rt, step.took(Ok(Answer::Done))) == Err(fault));
 }
 
 // An answer of another call is no answer: the step ends there, deletes nothing and creates no marker.
@@ -164,9 +126,9 @@ fn answer_of_another_kind(rt: HostRuntime) {
         )
     );
     assert!(rt; matches!(step.call(), Some(Op::List(_path))));
-    assert!(rt; told(&rt, step.took(Ok(Answer::Done))) == Err(CommitFault::WrongAnswer));
+    takes_no_answer(&rt, &mut step, CommitFault::WrongAnswer);
     assert!(rt; step.call().is_none());
-    assert!(rt; told(&rt, step.took(Ok(Answer::Done))) == Err(CommitFault::Over));
+    takes_no_answer(&rt, &mut step, CommitFault::Over);
     assert!(rt; prints(&rt, alloc, CommitFault::WrongAnswer, "WrongAnswer"));
 }
 
@@ -179,7 +141,7 @@ fn two_levels(rt: &impl Abort, alloc: Global, caller: &Caller) -> Namespace {
         "/out/_temporary/1/_temporary",
         "/out/b",
     ] {
-        prepared(rt, names.mkdirs(*caller, &path(rt, alloc, text)));
+        makes_room(rt, alloc, &mut names, caller, text);
     }
     for text in [
         "/out/_temporary/1/task_200707121733_0003_r_000000/a/f",
@@ -192,27 +154,6 @@ fn two_levels(rt: &impl Abort, alloc: Global, caller: &Caller) -> Namespace {
     names
 }
 
-// The next call is made, and its answer is heard by one in two halves and by the other at once.
-fn is_heard_alike(
-    rt: &impl Abort,
-    names: &mut Namespace,
-    caller: &Caller,
-    halves: &mut Step,
-    step: &mut Step,
-) {
-    let Some(call) = step.call() else {
-        panic!(rt; "over");
-    };
-    let answer = names.perform(*caller, call);
-    let following = match halves.follow(&answer) {
-        Ok(following) => following,
-        Err(fault) => panic!(rt; "{fault}"),
-    };
-    halves.go_on(following);
-    assert!(rt; told(rt, step.took(answer)) == Ok(StepDone::More));
-    assert!(rt; halves.cleans_up() == step.cleans_up());
-}
-
 // The marker is made, and the job commit is over.
 fn marker_is_last(
     rt: &impl Abort,
@@ -221,56 +162,67 @@ fn marker_is_last(
     caller: &Caller,
     step: &mut Step,
 ) {
-    assert!(rt; stands(rt, alloc, names, *caller, "/out/_temporary") == None);
-    assert!(rt; stands(rt, alloc, names, *caller, "/out/_SUCCESS") == None);
-    assert!(rt; told(rt, step.next(names, *caller)) == Ok(StepDone::Finished));
-    assert!(rt; step.call().is_none());
-    assert!(rt; told(rt, step.next(names, *caller)) == Err(CommitFault::Over));
-    assert!(rt; stands(rt, alloc, names, *caller, "/out/_SUCCESS") == Some(Kind::File));
+    stands(rt, alloc, names, caller, "/out/_temporary", None);
+    stands(rt, alloc, names, caller, "/out/_SUCCESS", None);
+    goes(rt, names, caller, step, Ok(StepDone::Finished));
+    is_over(rt, names, caller, step);
+    stands(rt, alloc, names, caller, "/out/_SUCCESS", Some(Kind::File));
 }
 
 #[test]
 fn two_level_merge(rt: HostRuntime) {
     let alloc = rt.alloc();
-    let app = generation(&rt, 1);
-    let caller = &Caller { app, attempt: None };
-    let layout = out(&rt, alloc);
-    let mut names = two_levels(&rt, alloc, caller);
-    let mut halves = made(&rt, Step::commit_job(&layout, app));
+    let one = &by_generation(&rt, 1);
+    let mut names = two_levels(&rt, alloc, one);
+    let mut halves = made(&rt, Step::commit_job(&out(&rt, alloc), one.app));
     // list, exists /out, list, exists /out/a, delete, rename; each by a copy, of up to five lines
     for _ in 0..6 {
         halves = made(&rt, halves.copy());
-        assert!(rt; told(&rt, halves.next(&mut names, *caller)) == Ok(StepDone::More));
+        goes(&rt, &mut names, one, &mut halves, Ok(StepDone::More));
     }
-    assert!(rt; stands(&rt, alloc, &names, *caller, "/out/a/f") == Some(Kind::File));
+    stands(&rt, alloc, &names, one, "/out/a/f", Some(Kind::File));
     // exists /out/b, list, exists /out/b/g, rename, delete /out/_temporary
     let mut step = made(&rt, halves.copy());
     for _ in 0..5 {
-        is_heard_alike(&rt, &mut names, caller, &mut halves, &mut step);
+        is_heard_alike(&rt, &mut names, one, &mut halves, &mut step, StepDone::More);
     }
-    marker_is_last(&rt, alloc, &mut names, caller, &mut step);
-    assert!(rt; stands(&rt, alloc, &names, *caller, "/out/a") == Some(Kind::Dir));
-    assert!(rt; stands(&rt, alloc, &names, *caller, "/out/b/g") == Some(Kind::File));
-    assert!(rt; stands(&rt, alloc, &names, *caller, "/out/b/old") == Some(Kind::File));
+    marker_is_last(&rt, alloc, &mut names, one, &mut step);
+    stands(&rt, alloc, &names, one, "/out/a", Some(Kind::Dir));
+    stands(&rt, alloc, &names, one, "/out/b/g", Some(Kind::File));
+    stands(&rt, alloc, &names, one, "/out/b/old", Some(Kind::File));
 }
 
 #[test]
 fn file_beneath_the_job_attempt(rt: HostRuntime) {
     let alloc = rt.alloc();
-    let app = generation(&rt, 1);
-    let caller = &Caller { app, attempt: None };
+    let one = &by_generation(&rt, 1);
     let layout = out(&rt, alloc);
-    let mut names = new_namespace(&rt, alloc);
-    assert!(rt; told(&rt, setup_job(&mut names, *caller, &layout)) == Ok(()));
-    let file = path(&rt, alloc, "/out/_temporary/1/f");
-    prepared(&rt, names.create(*caller, &file, true));
-    let mut step = made(&rt, Step::commit_job(&layout, app));
-    assert!(rt; told(&rt, step.next(&mut names, *caller)) == Ok(StepDone::More));
-    assert!(rt; told(&rt, step.next(&mut names, *caller)) == Ok(StepDone::More));
+    let mut names = job_set_up(&rt, alloc, one, &layout);
+    let file = "/out/_temporary/1/f";
+    prepared(&rt, names.create(*one, &path(&rt, alloc, file), true));
+    let mut step = made(&rt, Step::commit_job(&layout, one.app));
+    for _ in 0..2 {
+        goes(&rt, &mut names, one, &mut step, Ok(StepDone::More));
+    }
     let refused = CommitFault::Names(NameFault::NotDir);
-    assert!(rt; told(&rt, step.next(&mut names, *caller)) == Err(refused));
-    assert!(rt; told(&rt, step.next(&mut names, *caller)) == Err(CommitFault::Over));
-    assert!(rt; names.exists(*caller, &file) == Ok(Some(Kind::File)));
+    goes(&rt, &mut names, one, &mut step, Err(refused));
+    is_over(&rt, &mut names, one, &mut step);
+    stands(&rt, alloc, &names, one, file, Some(Kind::File));
+}
+
+// The job is committed, or refused so.
+fn commits_job(
+    rt: &impl Abort,
+    names: &mut Namespace,
+    caller: &Caller,
+    layout: &Layout,
+    want: Result<(), NameFault>,
+) {
+    let want = match want {
+        Ok(()) => Ok(()),
+        Err(fault) => Err(CommitFault::Names(fault)),
+    };
+    assert!(rt; told(rt, commit_job(names, *caller, layout)) == want);
 }
 
 // A job that is committed has its marker, and is not committed again.
@@ -281,42 +233,65 @@ fn job_is_committed_once(
     caller: &Caller,
     layout: &Layout,
 ) {
-    assert!(rt; told(rt, commit_job(names, *caller, layout)) == Ok(()));
-    assert!(rt; stands(rt, alloc, names, *caller, "/out/_SUCCESS") == Some(Kind::File));
-    let again = Err(CommitFault::Names(NameFault::Missing));
-    assert!(rt; told(rt, commit_job(names, *caller, layout)) == again);
-    assert!(rt; told(rt, setup_job(names, *caller, layout)) == Ok(()));
-    let marked = Err(CommitFault::Names(NameFault::Exists));
-    assert!(rt; told(rt, commit_job(names, *caller, layout)) == marked);
+    commits_job(rt, names, caller, layout, Ok(()));
+    stands(rt, alloc, names, caller, "/out/_SUCCESS", Some(Kind::File));
+    commits_job(rt, names, caller, layout, Err(NameFault::Missing));
+    sets_up(rt, names, caller, layout);
+    commits_job(rt, names, caller, layout, Err(NameFault::Exists));
+}
+
+// The first attempt at the task needs a commit or none, and is committed so.
+fn commits_task(
+    rt: &impl Abort,
+    names: &mut Namespace,
+    caller: &Caller,
+    layout: &Layout,
+    needed: bool,
+    want: Result<(), CommitFault>,
+) {
+    let a = attempt(rt, TASK, 0);
+    assert!(rt; told(rt, needs_task_commit(names, *caller, layout, a)) == Ok(needed));
+    assert!(rt; told(rt, commit_task(names, *caller, layout, a)) == want);
+}
+
+// The first attempt has output, is committed, and what it had is the task's.
+fn task_is_committed(
+    rt: &impl Abort,
+    alloc: Global,
+    names: &mut Namespace,
+    caller: &Caller,
+    layout: &Layout,
+) {
+    commits_task(
+        rt,
+        names,
+        caller,
+        layout,
+        false,
+        Err(CommitFault::OutputMissing),
+    );
+    let attempt_path = "/out/_temporary/1/_temporary/attempt_200707121733_0003_r_000000_0";
+    makes_room(rt, alloc, names, caller, attempt_path);
+    commits_task(rt, names, caller, layout, true, Ok(()));
+    let committed = "/out/_temporary/1/task_200707121733_0003_r_000000";
+    stands(rt, alloc, names, caller, committed, Some(Kind::Dir));
+    stands(rt, alloc, names, caller, attempt_path, None);
 }
 
 #[test]
 fn committed_and_checked(rt: HostRuntime) {
     let alloc = rt.alloc();
-    let caller = &Caller {
-        app: generation(&rt, 1),
-        attempt: None,
-    };
+    let one = &by_generation(&rt, 1);
     let layout = out(&rt, alloc);
-    let a = attempt(&rt);
     let mut names = new_namespace(&rt, alloc);
-    assert!(rt; check_output(&names, *caller, &layout) == Ok(()));
-    assert!(rt; told(&rt, setup_job(&mut names, *caller, &layout)) == Ok(()));
-    assert!(rt; check_output(&names, *caller, &layout) == Err(CommitFault::DestinationExists));
-    assert!(rt; told(&rt, needs_task_commit(&names, *caller, &layout, a)) == Ok(false));
-    let missing = Err(CommitFault::OutputMissing);
-    assert!(rt; told(&rt, commit_task(&mut names, *caller, &layout, a)) == missing);
-    let attempt_path = "/out/_temporary/1/_temporary/attempt_200707121733_0003_r_000000_0";
-    prepared(&rt, names.mkdirs(*caller, &path(&rt, alloc, attempt_path)));
-    assert!(rt; told(&rt, needs_task_commit(&names, *caller, &layout, a)) == Ok(true));
-    assert!(rt; told(&rt, commit_task(&mut names, *caller, &layout, a)) == Ok(()));
-    let committed = "/out/_temporary/1/task_200707121733_0003_r_000000";
-    assert!(rt; stands(&rt, alloc, &names, *caller, committed) == Some(Kind::Dir));
-    assert!(rt; stands(&rt, alloc, &names, *caller, attempt_path) == None);
-    job_is_committed_once(&rt, alloc, &mut names, caller, &layout);
+    assert!(rt; check_output(&names, *one, &layout) == Ok(()));
+    sets_up(&rt, &mut names, one, &layout);
+    assert!(rt; check_output(&names, *one, &layout) == Err(CommitFault::DestinationExists));
+    task_is_committed(&rt, alloc, &mut names, one, &layout);
+    job_is_committed_once(&rt, alloc, &mut names, one, &layout);
     names.raise(generation(&rt, 2));
     let late = CommitFault::Names(NameFault::Superseded(2));
-    assert!(rt; commit_task(&mut names, *caller, &layout, a) == Err(late));
+    assert!(rt; commit_task(&mut names, *one, &layout, attempt(&rt, TASK, 0)) == Err(late));
     assert!(rt; prints(&rt, alloc, late, "Superseded 2"));
     assert!(rt; prints(&rt, alloc, CommitFault::OutputMissing, "OutputMissing"));
 }
@@ -325,193 +300,64 @@ fn committed_and_checked(rt: HostRuntime) {
 #[test]
 fn last_generation_commits(rt: HostRuntime) {
     let alloc = rt.alloc();
-    let caller = &Caller {
-        app: generation(&rt, 1000),
-        attempt: None,
-    };
+    let last = &by_generation(&rt, 1000);
     let layout = out(&rt, alloc);
     let mut names = new_namespace(&rt, alloc);
-    names.raise(generation(&rt, 1000));
-    assert!(rt; told(&rt, setup_job(&mut names, *caller, &layout)) == Ok(()));
-    assert!(rt; stands(&rt, alloc, &names, *caller, "/out/_temporary/1000") == Some(Kind::Dir));
-    assert!(rt; told(&rt, commit_job(&mut names, *caller, &layout)) == Ok(()));
-    assert!(rt; stands(&rt, alloc, &names, *caller, "/out/_SUCCESS") == Some(Kind::File));
-}
-
-// A namespace in which the job of generation 1 was set up.
-fn job_set_up(rt: &impl Abort, alloc: Global, caller: &Caller, layout: &Layout) -> Namespace {
-    let mut names = new_namespace(rt, alloc);
-    assert!(rt; told(rt, setup_job(&mut names, *caller, layout)) == Ok(()));
-    names
+    names.raise(last.app);
+    sets_up(&rt, &mut names, last, &layout);
+    stands(
+        &rt,
+        alloc,
+        &names,
+        last,
+        "/out/_temporary/1000",
+        Some(Kind::Dir),
+    );
+    commits_job(&rt, &mut names, last, &layout, Ok(()));
+    stands(&rt, alloc, &names, last, "/out/_SUCCESS", Some(Kind::File));
 }
 
 #[test]
 fn task_abort_by_steps(rt: HostRuntime) {
     let alloc = rt.alloc();
-    let app = generation(&rt, 1);
-    let caller = &Caller { app, attempt: None };
+    let one = &by_generation(&rt, 1);
     let layout = out(&rt, alloc);
-    let mut names = job_set_up(&rt, alloc, caller, &layout);
+    let mut names = job_set_up(&rt, alloc, one, &layout);
     let written = "/out/_temporary/1/_temporary/attempt_200707121733_0003_r_000000_0";
-    prepared(&rt, names.mkdirs(*caller, &path(&rt, alloc, written)));
-    let mut again = made(&rt, Step::abort_task(&layout, app, attempt(&rt)));
-    let mut step = made(&rt, again.copy());
-    let Some(call) = step.call() else {
-        panic!(rt; "over");
-    };
-    let answer = names.perform(*caller, call);
-    let following = match again.follow(&answer) {
-        Ok(following) => following,
-        Err(fault) => panic!(rt; "{fault}"),
-    };
-    assert!(rt; told(&rt, step.took(answer)) == Ok(StepDone::Finished));
-    assert!(rt; stands(&rt, alloc, &names, *caller, written) == None);
-    assert!(rt; following.done() == StepDone::Finished);
-    again.go_on(following);
-    assert!(rt; told(&rt, again.next(&mut names, *caller)) == Err(CommitFault::Over));
+    makes_room(&rt, alloc, &mut names, one, written);
+    let mut halves = made(
+        &rt,
+        Step::abort_task(&layout, one.app, attempt(&rt, TASK, 0)),
+    );
+    let mut step = made(&rt, halves.copy());
+    is_heard_alike(
+        &rt,
+        &mut names,
+        one,
+        &mut halves,
+        &mut step,
+        StepDone::Finished,
+    );
+    stands(&rt, alloc, &names, one, written, None);
+    is_over(&rt, &mut names, one, &mut halves);
 }
 
 #[test]
 fn job_abort_by_steps(rt: HostRuntime) {
     let alloc = rt.alloc();
-    let app = generation(&rt, 1);
-    let caller = &Caller { app, attempt: None };
+    let one = &by_generation(&rt, 1);
     let layout = out(&rt, alloc);
-    let mut names = job_set_up(&rt, alloc, caller, &layout);
-    let mut again = made(&rt, Step::abort_job(&layout));
-    let mut step = made(&rt, again.copy());
-    let Some(call) = step.call() else {
-        panic!(rt; "over");
-    };
-    let answer = names.perform(*caller, call);
-    let following = match again.follow(&answer) {
-        Ok(following) => following,
-        Err(fault) => panic!(rt; "{fault}"),
-    };
-    assert!(rt; told(&rt, step.took(answer)) == Ok(StepDone::Finished));
-    assert!(rt; stands(&rt, alloc, &names, *caller, "/out/_temporary") == None);
-    again.go_on(following);
-    assert!(rt; told(&rt, again.next(&mut names, *caller)) == Err(CommitFault::Over));
-}
-
-// The first call of a recovery is made, and its answer is heard by one in two halves and by the other at once.
-fn recovery_begins_alike(
-    rt: &impl Abort,
-    names: &mut Namespace,
-    caller: &Caller,
-    halves: &mut RecoverTask,
-    step: &mut RecoverTask,
-) {
-    let Some(call) = step.call() else {
-        panic!(rt; "over");
-    };
-    let answer = names.perform(*caller, call);
-    let following = match halves.follow(&answer) {
-        Ok(following) => following,
-        Err(fault) => panic!(rt; "{fault}"),
-    };
-    halves.go_on(following);
-    assert!(rt; halves.call().is_some());
-    assert!(rt; told(rt, step.took(answer)) == Ok(StepDone::More));
-}
-
-#[test]
-fn recovery_by_steps(rt: HostRuntime) {
-    let alloc = rt.alloc();
-    let app = generation(&rt, 2);
-    let caller = &Caller { app, attempt: None };
-    let layout = out(&rt, alloc);
-    let mut names = job_set_up(&rt, alloc, caller, &layout);
-    let committed = "/out/_temporary/1/task_200707121733_0003_r_000000";
-    prepared(&rt, names.mkdirs(*caller, &path(&rt, alloc, committed)));
-    let mut halves = made(&rt, RecoverTask::new(&layout, app, TASK, None));
+    let mut names = job_set_up(&rt, alloc, one, &layout);
+    let mut halves = made(&rt, Step::abort_job(&layout));
     let mut step = made(&rt, halves.copy());
-    recovery_begins_alike(&rt, &mut names, caller, &mut halves, &mut step);
-    assert!(rt; told(&rt, step.next(&mut names, *caller)) == Ok(StepDone::More));
-    assert!(rt; told(&rt, step.next(&mut names, *caller)) == Ok(StepDone::Finished));
-    assert!(rt; stands(&rt, alloc, &names, *caller, committed) == None);
-    let recovered = "/out/_temporary/2/task_200707121733_0003_r_000000";
-    assert!(rt; stands(&rt, alloc, &names, *caller, recovered) == Some(Kind::Dir));
-}
-
-#[test]
-fn first_master_recovers_nothing(rt: HostRuntime) {
-    let alloc = rt.alloc();
-    let app = generation(&rt, 1);
-    let caller = &Caller { app, attempt: None };
-    let mut names = new_namespace(&rt, alloc);
-    let mut nothing = made(&rt, RecoverTask::new(&out(&rt, alloc), app, TASK, None));
-    assert!(rt; nothing.call().is_none());
-    assert!(rt; told(&rt, nothing.next(&mut names, *caller)) == Err(CommitFault::OutputMissing));
-}
-
-// A namespace in which the first master's reduce 0 was committed, with a part file of so many bytes.
-fn committed_before(
-    rt: &impl Abort,
-    alloc: Global,
-    caller: &Caller,
-    layout: &Layout,
-    bytes: &[u8],
-) -> Namespace {
-    let mut names = job_set_up(rt, alloc, caller, layout);
-    let committed = "/out/_temporary/1/task_200707121733_0003_r_000000";
-    prepared(rt, names.mkdirs(*caller, &path(rt, alloc, committed)));
-    let part = "/out/_temporary/1/task_200707121733_0003_r_000000/part-r-00000";
-    let part = path(rt, alloc, part);
-    prepared(rt, names.create(*caller, &part, false));
-    prepared(rt, names.append(*caller, &part, bytes));
-    names
-}
-
-// The second master takes over a reduce with a length, whoever is stopped on the way: it looks, reads, makes room, and moves.
-#[test]
-fn recovery_stopped_halfway(rt: HostRuntime) {
-    let alloc = rt.alloc();
-    let app = generation(&rt, 2);
-    let caller = &Caller { app, attempt: None };
-    let layout = out(&rt, alloc);
-    let mut names = committed_before(&rt, alloc, caller, &layout, b"a\t1\nb\t1\n");
-    let mut step = made(&rt, RecoverTask::new(&layout, app, TASK, Some(8)));
-    assert!(rt; matches!(step.call(), Some(Op::Exists(_path))));
-    assert!(rt; told(&rt, step.next(&mut names, *caller)) == Ok(StepDone::More));
-    assert!(rt; matches!(step.call(), Some(Op::Read(_path))));
-    assert!(rt; told(&rt, step.next(&mut names, *caller)) == Ok(StepDone::More));
-    assert!(rt; matches!(step.call(), Some(Op::Delete(_path))));
-    assert!(rt; told(&rt, step.next(&mut names, *caller)) == Ok(StepDone::More));
-    assert!(rt; matches!(step.call(), Some(Op::Rename { .. })));
-    assert!(rt; told(&rt, step.next(&mut names, *caller)) == Ok(StepDone::Finished));
-    let recovered = "/out/_temporary/2/task_200707121733_0003_r_000000/part-r-00000";
-    assert!(rt; stands(&rt, alloc, &names, *caller, recovered) == Some(Kind::File));
-}
-
-// A recovery at once, of a file that has its recorded length, and of one that has not; and aborts at once.
-#[test]
-fn recovered_then_aborted(rt: HostRuntime) {
-    let alloc = rt.alloc();
-    let caller = &Caller {
-        app: generation(&rt, 2),
-        attempt: None,
-    };
-    let layout = out(&rt, alloc);
-    let a = attempt(&rt);
-    let mut names = committed_before(&rt, alloc, caller, &layout, b"a\t1\n");
-    let short = told(
+    is_heard_alike(
         &rt,
-        recover_task(&mut names, *caller, &layout, TASK, Some(5)),
+        &mut names,
+        one,
+        &mut halves,
+        &mut step,
+        StepDone::Finished,
     );
-    assert!(rt; short == Err(CommitFault::WrongLength));
-    let whole = told(
-        &rt,
-        recover_task(&mut names, *caller, &layout, TASK, Some(4)),
-    );
-    assert!(rt; whole == Ok(()));
-    let recovered = "/out/_temporary/2/task_200707121733_0003_r_000000";
-    assert!(rt; stands(&rt, alloc, &names, *caller, recovered) == Some(Kind::Dir));
-    let written = "/out/_temporary/2/_temporary/attempt_200707121733_0003_r_000000_0";
-    prepared(&rt, names.mkdirs(*caller, &path(&rt, alloc, written)));
-    assert!(rt; told(&rt, abort_task(&mut names, *caller, &layout, a)) == Ok(()));
-    assert!(rt; stands(&rt, alloc, &names, *caller, written) == None);
-    assert!(rt; told(&rt, abort_job(&mut names, *caller, &layout)) == Ok(()));
-    assert!(rt; stands(&rt, alloc, &names, *caller, "/out/_temporary") == None);
-    assert!(rt; stands(&rt, alloc, &names, *caller, "/out") == Some(Kind::Dir));
+    stands(&rt, alloc, &names, one, "/out/_temporary", None);
+    is_over(&rt, &mut names, one, &mut halves);
 }

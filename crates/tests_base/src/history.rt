@@ -1,14 +1,10 @@
 //! The job history: lines, segments, seals and replay.
 
+use crate::fixtures::{self, JOB, generation};
 use mr_history::{History, HistoryFault, Record, Records, Replayed, Segment, replay};
-use mr_ids::{AppAttempt, AttemptId, JobId, TaskId, TaskKind};
+use mr_ids::{AppAttempt, AttemptId, TaskId, TaskKind};
 use std::alloc::Global;
 use std::process::Abort;
-
-const JOB: JobId = JobId {
-    start: 200707121733,
-    number: 3,
-};
 
 const STARTED: &str =
     "{\"attempt\":\"attempt_200707121733_0003_m_000000_0\",\"event\":\"started\",\"node\":0}\n";
@@ -24,10 +20,7 @@ fn attempt(rt: &impl Abort, kind: TaskKind, task: u32, number: u32) -> AttemptId
         kind,
         number: task,
     };
-    match AttemptId::new(task, number) {
-        Some(attempt) => attempt,
-        None => panic!(rt; "no attempt has the number {number}"),
-    }
+    fixtures::attempt(rt, task, number)
 }
 
 fn started(rt: &impl Abort) -> Record {
@@ -44,13 +37,6 @@ fn reduced(rt: &impl Abort) -> Record {
     }
 }
 
-fn generation(rt: &impl Abort, number: u32) -> AppAttempt {
-    match AppAttempt::new(number) {
-        Some(app) => app,
-        None => panic!(rt; "no generation has the number {number}"),
-    }
-}
-
 // What a call answered, where memory was given.
 fn answered<T>(rt: &impl Abort, given: Result<T, HistoryFault>) -> Result<T, HistoryFault> {
     match given {
@@ -64,20 +50,47 @@ fn done(rt: &impl Abort, given: Result<(), HistoryFault>) -> Option<HistoryFault
     answered(rt, given).err()
 }
 
-fn add(rt: &impl Abort, segment: &mut Segment, record: Record) -> Option<HistoryFault> {
+// The record is appended, or refused so.
+fn adds(rt: &impl Abort, segment: &mut Segment, record: Record, want: Option<HistoryFault>) {
     assert!(rt; record.fits() && record.suits(segment.version()));
-    done(rt, segment.append(record))
+    assert!(rt; done(rt, segment.append(record)) == want);
 }
 
-fn write(
+// The segment is flushed, or refuses so.
+fn flushes(rt: &impl Abort, segment: &mut Segment, want: Option<HistoryFault>) {
+    assert!(rt; done(rt, segment.flush()) == want);
+}
+
+// The master of this generation appends the record, or is refused so.
+fn writes(
     rt: &impl Abort,
     history: &mut History,
     k: AppAttempt,
     record: Record,
-) -> Option<HistoryFault> {
+    want: Option<HistoryFault>,
+) {
     assert!(rt; history.is_raised(k));
     assert!(rt; record.fits() && record.suits(history.version(k)));
-    done(rt, history.append(k, record))
+    assert!(rt; done(rt, history.append(k, record)) == want);
+}
+
+// The master of this generation flushes, or is refused so.
+fn flushes_all(rt: &impl Abort, history: &mut History, k: AppAttempt, want: Option<HistoryFault>) {
+    assert!(rt; history.is_raised(k));
+    assert!(rt; done(rt, history.flush(k)) == want);
+}
+
+// The segment of this generation is sealed.
+fn seals(rt: &impl Abort, history: &mut History, k: AppAttempt, kept: usize) {
+    assert!(rt; history.is_raised(k));
+    history.seal(k, kept);
+}
+
+// A history that the master of this generation raised first, with segments of version 1.
+fn raised(rt: &impl Abort, alloc: Global, k: AppAttempt) -> History {
+    let mut history = answered(rt, History::new(alloc)).expect(rt, "a fault");
+    history.raise(k, 0, 1);
+    history
 }
 
 fn replayed(rt: &impl Abort, alloc: Global, bytes: &[u8]) -> Replayed {
@@ -85,6 +98,27 @@ fn replayed(rt: &impl Abort, alloc: Global, bytes: &[u8]) -> Replayed {
         Ok(replayed) => replayed,
         Err(fault) => panic!(rt; "{fault}"),
     }
+}
+
+// So many records are read of the bytes, and so many bytes behind them are no record.
+fn reads(rt: &impl Abort, alloc: Global, bytes: &[u8], version: u32, count: usize, torn: usize) {
+    let read = replayed(rt, alloc, bytes);
+    assert!(rt;
+        read.version == version && read.records.len() == count && read.torn == torn,
+        "of {}",
+        bytes.len()
+    );
+}
+
+// These are the records that the master of this generation reads.
+fn are_before(rt: &impl Abort, history: &History, k: AppAttempt, records: &[Record]) {
+    assert!(rt; records_before(rt, history, k).as_slice() == records);
+}
+
+// The stable part of the segment of this generation has these bytes.
+fn is_stable(rt: &impl Abort, history: &History, k: AppAttempt, bytes: &[u8]) {
+    assert!(rt; history.is_raised(k));
+    assert!(rt; history.stable(k) == bytes);
 }
 
 fn records_before(rt: &impl Abort, history: &History, k: AppAttempt) -> Records {
@@ -126,12 +160,12 @@ fn record_lines(rt: HostRuntime) {
         },
         Record::JobUnsuccessful,
     ] {
-        assert!(rt; add(&rt, &mut segment, record).is_none());
+        adds(&rt, &mut segment, record, None);
         records.push(record).expect(&rt, "no memory");
     }
     assert!(rt; segment.stable().len() == 0);
     let len = segment.tail();
-    assert!(rt; done(&rt, segment.flush()).is_none());
+    flushes(&rt, &mut segment, None);
     let mapped =
         "{\"attempt\":\"attempt_200707121733_0003_m_000012_1001\",\"event\":\"map\",\"incarnation\":1,\"node\":4294967295}\n";
     let failed = "{\"attempt\":\"attempt_200707121733_0003_r_000000_1\",\"event\":\"failed\"}\n";
@@ -154,25 +188,17 @@ fn segment_seal(rt: HostRuntime) {
     let alloc = rt.alloc();
     for (kept, count, torn) in [(67, 1, 67), (68, 2, 0), (0, 1, 0), (1000, 2, 0)] {
         let mut segment = Segment::new(alloc, 1);
-        assert!(rt; add(&rt, &mut segment, started(&rt)).is_none());
-        assert!(rt; done(&rt, segment.flush()).is_none());
-        assert!(rt; add(&rt, &mut segment, reduced(&rt)).is_none());
+        adds(&rt, &mut segment, started(&rt), None);
+        flushes(&rt, &mut segment, None);
+        adds(&rt, &mut segment, reduced(&rt), None);
         assert!(rt; segment.tail() == 68);
         segment.seal(kept);
-        let read = replayed(&rt, alloc, segment.stable());
-        assert!(rt;
-            read.version == 1 && read.records.len() == count && read.torn == torn,
-            "kept {kept}"
-        );
-        assert!(rt; add(&rt, &mut segment, started(&rt)) == Some(HistoryFault::Sealed));
-        assert!(rt; done(&rt, segment.flush()) == Some(HistoryFault::Sealed));
+        reads(&rt, alloc, segment.stable(), 1, count, torn);
+        adds(&rt, &mut segment, started(&rt), Some(HistoryFault::Sealed));
+        flushes(&rt, &mut segment, Some(HistoryFault::Sealed));
         assert!(rt; segment.flush_refusal() == Some(HistoryFault::Sealed));
         segment.seal(0);
-        let again = replayed(&rt, alloc, segment.stable());
-        assert!(rt;
-            again.records.len() == count && again.torn == torn,
-            "kept {kept}, sealed twice"
-        );
+        reads(&rt, alloc, segment.stable(), 1, count, torn);
     }
 }
 
@@ -181,9 +207,8 @@ fn history_raise(rt: HostRuntime) {
     let alloc = rt.alloc();
     let (one, two) = (generation(&rt, 1), generation(&rt, 2));
     for (kept, count) in [(24, 0), (25, 1)] {
-        let mut history = answered(&rt, History::new(alloc)).expect(&rt, "a fault");
-        history.raise(one, 0, 1);
-        assert!(rt; write(&rt, &mut history, one, Record::JobUnsuccessful).is_none());
+        let mut history = raised(&rt, alloc, one);
+        writes(&rt, &mut history, one, Record::JobUnsuccessful, None);
         assert!(rt; tail(&rt, &history, one) == 25);
         history.raise(two, kept, 1);
         history.raise(one, 0, 1);
@@ -193,8 +218,13 @@ fn history_raise(rt: HostRuntime) {
         for record in records.into_vec() {
             assert!(rt; record == Record::JobUnsuccessful);
         }
-        let late = write(&rt, &mut history, one, Record::JobUnsuccessful);
-        assert!(rt; late == Some(HistoryFault::Superseded(2)));
+        writes(
+            &rt,
+            &mut history,
+            one,
+            Record::JobUnsuccessful,
+            Some(HistoryFault::Superseded(2)),
+        );
     }
 }
 
@@ -202,25 +232,25 @@ fn history_raise(rt: HostRuntime) {
 fn history_segments(rt: HostRuntime) {
     let alloc = rt.alloc();
     let (one, two, four) = (generation(&rt, 1), generation(&rt, 2), generation(&rt, 4));
-    let mut history = answered(&rt, History::new(alloc)).expect(&rt, "a fault");
-    history.raise(two, 0, 1);
-    assert!(rt; write(&rt, &mut history, two, started(&rt)).is_none());
+    let mut history = raised(&rt, alloc, two);
+    writes(&rt, &mut history, two, started(&rt), None);
     assert!(rt; history.is_raised(two) && !history.is_raised(four));
-    let flushed = history.flush(two);
-    assert!(rt; done(&rt, flushed).is_none());
+    flushes_all(&rt, &mut history, two, None);
     assert!(rt; records_before(&rt, &history, two).len() == 0);
-    assert!(rt; write(&rt, &mut history, two, reduced(&rt)).is_none());
-    assert!(rt; history.is_raised(two));
-    history.seal(two, 1000);
-    let late = write(&rt, &mut history, two, reduced(&rt));
-    assert!(rt; late == Some(HistoryFault::Sealed));
+    writes(&rt, &mut history, two, reduced(&rt), None);
+    seals(&rt, &mut history, two, 1000);
+    writes(
+        &rt,
+        &mut history,
+        two,
+        reduced(&rt),
+        Some(HistoryFault::Sealed),
+    );
     history.raise(four, 0, 2);
-    assert!(rt; write(&rt, &mut history, four, started(&rt)).is_none());
+    writes(&rt, &mut history, four, started(&rt), None);
     let read = records_before(&rt, &history, four);
     assert!(rt; read.as_slice() == [started(&rt), reduced(&rt)].as_slice());
-    assert!(rt; history.is_raised(one));
-    let below = history.flush(one);
-    assert!(rt; done(&rt, below) == Some(HistoryFault::Superseded(4)));
+    flushes_all(&rt, &mut history, one, Some(HistoryFault::Superseded(4)));
 }
 
 // The last generation that there is writes, flushes and reads.
@@ -228,17 +258,13 @@ fn history_segments(rt: HostRuntime) {
 fn last_generation(rt: HostRuntime) {
     let alloc = rt.alloc();
     let (one, last) = (generation(&rt, 1), generation(&rt, 1000));
-    let mut history = answered(&rt, History::new(alloc)).expect(&rt, "a fault");
-    history.raise(one, 0, 1);
-    assert!(rt; write(&rt, &mut history, one, started(&rt)).is_none());
+    let mut history = raised(&rt, alloc, one);
+    writes(&rt, &mut history, one, started(&rt), None);
     history.raise(last, 1000, 1);
-    assert!(rt; write(&rt, &mut history, last, reduced(&rt)).is_none());
-    assert!(rt; history.is_raised(last));
-    let flushed = history.flush(last);
-    assert!(rt; done(&rt, flushed).is_none());
-    assert!(rt; history.is_raised(last));
-    assert!(rt; history.stable(last) == REDUCED.as_bytes());
-    assert!(rt; records_before(&rt, &history, last).as_slice() == [started(&rt)].as_slice());
+    writes(&rt, &mut history, last, reduced(&rt), None);
+    flushes_all(&rt, &mut history, last, None);
+    is_stable(&rt, &history, last, REDUCED.as_bytes());
+    are_before(&rt, &history, last, &[started(&rt)]);
 }
 
 // The text of each fault.
@@ -262,19 +288,16 @@ fn fault_texts(rt: HostRuntime) {
 fn history_refusals(rt: HostRuntime) {
     let alloc = rt.alloc();
     let (one, two) = (generation(&rt, 1), generation(&rt, 2));
-    let mut history = answered(&rt, History::new(alloc)).expect(&rt, "a fault");
-    history.raise(one, 0, 1);
+    let mut history = raised(&rt, alloc, one);
     assert!(rt; foreseen(&rt, &history, one).is_none());
-    assert!(rt; write(&rt, &mut history, one, started(&rt)).is_none());
+    writes(&rt, &mut history, one, started(&rt), None);
     history.raise(two, 200, 1);
     assert!(rt; foreseen(&rt, &history, one) == Some(HistoryFault::Superseded(2)));
-    assert!(rt; write(&rt, &mut history, two, reduced(&rt)).is_none());
+    writes(&rt, &mut history, two, reduced(&rt), None);
     assert!(rt; foreseen(&rt, &history, two).is_none());
-    assert!(rt; history.is_raised(two));
-    history.seal(two, 200);
+    seals(&rt, &mut history, two, 200);
     assert!(rt; foreseen(&rt, &history, two) == Some(HistoryFault::Sealed));
-    assert!(rt; history.is_raised(two));
-    assert!(rt; history.stable(two) == REDUCED.as_bytes());
+    is_stable(&rt, &history, two, REDUCED.as_bytes());
     let all = answered(&rt, history.records()).expect(&rt, "a fault");
     assert!(rt; all.as_slice() == [started(&rt), reduced(&rt)].as_slice());
 }
@@ -285,7 +308,6 @@ fn every_prefix(rt: HostRuntime) {
     let text = format!(in alloc; "{STARTED}{REDUCED}").expect(&rt, "no memory");
     let bytes = text.as_bytes();
     for end in 0..bytes.len() + 1 {
-        let read = replayed(&rt, alloc, &bytes[..end]);
         let (count, torn) = if end < STARTED.len() {
             (0, end)
         } else if end < bytes.len() {
@@ -293,10 +315,7 @@ fn every_prefix(rt: HostRuntime) {
         } else {
             (2, 0)
         };
-        assert!(rt;
-            read.version == 1 && read.records.len() == count && read.torn == torn,
-            "at {end}"
-        );
+        reads(&rt, alloc, &bytes[..end], 1, count, torn);
     }
 }
 
@@ -352,14 +371,19 @@ fn full_segment(rt: HostRuntime) {
     let mut segment = Segment::new(alloc, 1);
     let record = reduced(&rt);
     for _ in 0..246723 {
-        assert!(rt; add(&rt, &mut segment, record).is_none());
+        adds(&rt, &mut segment, record, None);
     }
     assert!(rt; segment.append_refusal(&record) == Some(HistoryFault::Full));
-    assert!(rt; add(&rt, &mut segment, record) == Some(HistoryFault::Full));
-    assert!(rt; add(&rt, &mut segment, Record::JobUnsuccessful).is_none());
-    assert!(rt; add(&rt, &mut segment, Record::JobUnsuccessful).is_none());
-    assert!(rt; add(&rt, &mut segment, Record::JobUnsuccessful) == Some(HistoryFault::Full));
-    assert!(rt; done(&rt, segment.flush()).is_none());
+    adds(&rt, &mut segment, record, Some(HistoryFault::Full));
+    adds(&rt, &mut segment, Record::JobUnsuccessful, None);
+    adds(&rt, &mut segment, Record::JobUnsuccessful, None);
+    adds(
+        &rt,
+        &mut segment,
+        Record::JobUnsuccessful,
+        Some(HistoryFault::Full),
+    );
+    flushes(&rt, &mut segment, None);
     assert!(rt; segment.stable().len() == 16777214);
     let read = replayed(&rt, alloc, segment.stable());
     assert!(rt; read.records.len() == 246725 && read.torn == 0);
@@ -369,15 +393,14 @@ fn full_segment(rt: HostRuntime) {
 #[test]
 fn every_seal_of_version_2(rt: HostRuntime) {
     let alloc = rt.alloc();
-    let record = Record::ReduceSucceeded {
-        attempt: attempt(&rt, TaskKind::Reduce, 0, 0),
-        bytes: Some(8),
-    };
     for kept in 0..93 {
         let mut segment = Segment::new(alloc, 2);
-        assert!(rt; add(&rt, &mut segment, record).is_none());
+        let record = Record::ReduceSucceeded {
+            attempt: attempt(&rt, TaskKind::Reduce, 0, 0),
+            bytes: Some(8),
+        };
+        adds(&rt, &mut segment, record, None);
         segment.seal(kept);
-        let read = replayed(&rt, alloc, segment.stable());
         let (version, count, torn) = if kept < 14 {
             (1, 0, kept)
         } else if kept < 92 {
@@ -385,9 +408,6 @@ fn every_seal_of_version_2(rt: HostRuntime) {
         } else {
             (2, 1, 0)
         };
-        assert!(rt;
-            read.version == version && read.records.len() == count && read.torn == torn,
-            "kept {kept}"
-        );
+        reads(&rt, alloc, segment.stable(), version, count, torn);
     }
 }

@@ -1,14 +1,10 @@
 //! Identifiers and their texts.
 
+use crate::fixtures::{JOB, attempt, generation};
 use mr_ids::{AppAttempt, AttemptId, IdFault, JobId, MAX_APP_ATTEMPTS, TaskId, TaskKind};
 use std::alloc::Global;
 use std::fmt::Display;
 use std::process::Abort;
-
-const JOB: JobId = JobId {
-    start: 200707121733,
-    number: 3,
-};
 
 const LAST_JOB: JobId = JobId {
     start: 18446744073709551615,
@@ -17,20 +13,6 @@ const LAST_JOB: JobId = JobId {
 
 fn task(job: JobId, kind: TaskKind, number: u32) -> TaskId {
     TaskId { job, kind, number }
-}
-
-fn attempt(rt: &impl Abort, task: TaskId, number: u32) -> AttemptId {
-    match AttemptId::new(task, number) {
-        Some(attempt) => attempt,
-        None => panic!(rt; "no attempt has the number {number}"),
-    }
-}
-
-fn generation(rt: &impl Abort, number: u32) -> AppAttempt {
-    match AppAttempt::new(number) {
-        Some(app) => app,
-        None => panic!(rt; "no generation has the number {number}"),
-    }
 }
 
 // Whether `{}` writes this text of a value.

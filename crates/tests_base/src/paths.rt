@@ -1,20 +1,12 @@
 //! Names, paths and their texts, and the paths of a job's committer.
 
+use crate::fixtures::path;
 use mr_ids::{AppAttempt, AttemptId, JobId, TaskId, TaskKind};
 use mr_paths::{
     Layout, Name, Path, PathFault, is_hidden, is_name, is_within, parent, part_name, staging,
 };
-use std::alloc::Global;
+use std::alloc::{AllocError, Global};
 use std::process::Abort;
-
-// The path with this text.
-fn path(rt: &impl Abort, alloc: Global, text: &str) -> Path {
-    match Path::parse(alloc, text) {
-        Ok(path) => path,
-        Err(PathFault::NoMemory) => panic!(rt; "no memory"),
-        Err(PathFault::BadName) => panic!(rt; "{text} is no path"),
-    }
-}
 
 fn name(rt: &impl Abort, alloc: Global, bytes: &[u8]) -> Name {
     match Name::parse(alloc, bytes) {
@@ -78,6 +70,12 @@ fn path_refusals(rt: HostRuntime) {
     }
 }
 
+// The path that was made has this text.
+fn is_path(rt: &impl Abort, alloc: Global, made: Result<Path, AllocError>, text: &str) {
+    let path = made.expect(rt, "no memory");
+    assert!(rt; shows(rt, alloc, &path, text), "{text}");
+}
+
 #[test]
 fn committer_layout(rt: HostRuntime) {
     let alloc = rt.alloc();
@@ -98,38 +96,47 @@ fn committer_layout(rt: HostRuntime) {
         dest: path(&rt, alloc, "/out"),
     };
     let layout = layout.copy().expect(&rt, "no memory");
-    for (path, text) in [
-        (layout.temporary(), "/out/_temporary"),
-        (layout.job_attempt(k), "/out/_temporary/1"),
-        (layout.job_attempt(k1000), "/out/_temporary/1000"),
-        (
-            layout.task_attempt(k, attempt),
-            "/out/_temporary/1/_temporary/attempt_200707121733_0003_r_000005_0",
-        ),
-        (
-            layout.task_attempt(k1000, last),
-            "/out/_temporary/1000/_temporary/attempt_200707121733_0003_r_000005_999000",
-        ),
-        (
-            layout.committed(k, task),
-            "/out/_temporary/1/task_200707121733_0003_r_000005",
-        ),
-        (layout.marker(), "/out/_SUCCESS"),
-        (
-            staging(alloc, name(&rt, alloc, b"COMMIT_STARTED")),
-            "/staging/COMMIT_STARTED",
-        ),
-    ] {
-        let path = path.expect(&rt, "no memory");
-        assert!(rt; shows(&rt, alloc, &path, text), "{text}");
-    }
+    is_path(&rt, alloc, layout.temporary(), "/out/_temporary");
+    is_path(&rt, alloc, layout.job_attempt(k), "/out/_temporary/1");
+    is_path(
+        &rt,
+        alloc,
+        layout.job_attempt(k1000),
+        "/out/_temporary/1000",
+    );
+    is_path(
+        &rt,
+        alloc,
+        layout.task_attempt(k, attempt),
+        "/out/_temporary/1/_temporary/attempt_200707121733_0003_r_000005_0",
+    );
+    is_path(
+        &rt,
+        alloc,
+        layout.task_attempt(k1000, last),
+        "/out/_temporary/1000/_temporary/attempt_200707121733_0003_r_000005_999000",
+    );
+    is_path(
+        &rt,
+        alloc,
+        layout.committed(k, task),
+        "/out/_temporary/1/task_200707121733_0003_r_000005",
+    );
+    is_path(&rt, alloc, layout.marker(), "/out/_SUCCESS");
+    let started = staging(alloc, name(&rt, alloc, b"COMMIT_STARTED"));
+    is_path(&rt, alloc, started, "/staging/COMMIT_STARTED");
+    are_part_names(&rt, alloc);
+}
+
+// The names of parts have five digits, or more where the number has.
+fn are_part_names(rt: &impl Abort, alloc: Global) {
     for (reduce, text) in [
         (0, "part-r-00000"),
         (5, "part-r-00005"),
         (99_999, "part-r-99999"),
         (123_456, "part-r-123456"),
     ] {
-        let part = part_name(alloc, reduce).expect(&rt, "no memory");
+        let part = part_name(alloc, reduce).expect(rt, "no memory");
         assert!(rt; part.as_bytes() == text.as_bytes(), "{text}");
         assert!(rt; !is_hidden(&part), "{text}");
     }

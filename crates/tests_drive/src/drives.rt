@@ -58,7 +58,7 @@ fn is_counted(report: &Report) -> bool {
 }
 
 #[test]
-fn threads_hold(rt: HostRuntime) -> Result<(), Fail> {
+fn threads_hold(rt: HostRuntime) {
     let two = plan(
         &rt,
         rt.alloc(),
@@ -71,7 +71,8 @@ fn threads_hold(rt: HostRuntime) -> Result<(), Fail> {
         &PairGate::new(&rt, TURNS),
         &two,
         TURNS,
-    )?;
+    )
+    .expect(&rt, "no memory");
     assert!(rt; is_counted(&report));
     let one = plan(&rt, rt.alloc(), r#""job":"wordcount","splits":["a b","a"]"#);
     let fault = drive(
@@ -84,32 +85,30 @@ fn threads_hold(rt: HostRuntime) -> Result<(), Fail> {
     )
     .err();
     assert!(rt; fault == Some(DriveFault::TurnsSpent), "{fault:?}");
-    Ok(())
 }
 
 #[test]
-fn threads_with_faults(rt: HostRuntime) -> Result<(), Fail> {
+fn threads_with_faults(rt: HostRuntime) {
     let plan = plan(
         &rt,
         rt.alloc(),
         r#""job":"wordcount","splits":["a b a"],"faults":[{"after":12,"node":0}]"#,
     );
-    let report = drive(&rt, rt.alloc(), &WordCount, &OpenGate, &plan, TURNS)?;
+    let report = drive(&rt, rt.alloc(), &WordCount, &OpenGate, &plan, TURNS).expect(&rt, "a fault");
     assert!(rt; is_counted(&report));
     assert!(rt; happens_at(&report, 12, &Event::NodeRestart { node: 0 }));
     let fault = drive(&rt, rt.alloc(), &WordCount, &OpenGate, &plan, 1).err();
     assert!(rt; fault == Some(DriveFault::TurnsSpent), "{fault:?}");
-    Ok(())
 }
 
 #[test]
-fn a_master_crashes_at_once(rt: HostRuntime) -> Result<(), Fail> {
+fn a_master_crashes_at_once(rt: HostRuntime) {
     let plan = plan(
         &rt,
         rt.alloc(),
         r#""job":"wordcount","splits":["a b a"],"faults":[{"after":1,"master":0}]"#,
     );
-    let report = drive(&rt, rt.alloc(), &WordCount, &OpenGate, &plan, TURNS)?;
+    let report = drive(&rt, rt.alloc(), &WordCount, &OpenGate, &plan, TURNS).expect(&rt, "a fault");
     assert!(rt; is_counted(&report));
     assert!(rt;
         happens_at(
@@ -131,17 +130,16 @@ fn a_master_crashes_at_once(rt: HostRuntime) -> Result<(), Fail> {
             }
         )
     );
-    Ok(())
 }
 
 #[test]
-fn threads_with_expiry(rt: HostRuntime) -> Result<(), Fail> {
+fn threads_with_expiry(rt: HostRuntime) {
     let plan = plan(
         &rt,
         rt.alloc(),
         r#""job":"wordcount","splits":["a b a"],"faults":[{"after":12,"expire":0}]"#,
     );
-    let report = drive(&rt, rt.alloc(), &WordCount, &OpenGate, &plan, TURNS)?;
+    let report = drive(&rt, rt.alloc(), &WordCount, &OpenGate, &plan, TURNS).expect(&rt, "a fault");
     assert!(rt; is_counted(&report));
     assert!(rt;
         happens_at(
@@ -153,28 +151,25 @@ fn threads_with_expiry(rt: HostRuntime) -> Result<(), Fail> {
             }
         )
     );
-    Ok(())
 }
 
 #[test]
-fn a_fault_that_never_comes_is_dropped(rt: HostRuntime) -> Result<(), Fail> {
+fn a_fault_that_never_comes_is_dropped(rt: HostRuntime) {
     let plan = plan(
         &rt,
         rt.alloc(),
         r#""job":"wordcount","splits":["a b a"],"faults":[{"after":1000000,"node":0}]"#,
     );
-    let report = drive(&rt, rt.alloc(), &WordCount, &OpenGate, &plan, TURNS)?;
+    let report = drive(&rt, rt.alloc(), &WordCount, &OpenGate, &plan, TURNS).expect(&rt, "a fault");
     assert!(rt; is_counted(&report));
-    Ok(())
 }
 
 #[test]
-fn a_job_that_refuses_fails(rt: HostRuntime) -> Result<(), Fail> {
+fn a_job_that_refuses_fails(rt: HostRuntime) {
     let plan = plan(&rt, rt.alloc(), r#""job":"maxbykey","splits":["x"]"#);
-    let report = drive(&rt, rt.alloc(), &MaxByKey, &OpenGate, &plan, TURNS)?;
+    let report = drive(&rt, rt.alloc(), &MaxByKey, &OpenGate, &plan, TURNS).expect(&rt, "a fault");
     assert!(rt; !report.succeeded);
     assert!(rt; report.files.is_empty());
-    Ok(())
 }
 
 // Holds each work of a kind until four have entered; counts the works of both.
@@ -220,14 +215,14 @@ impl Gate for Meeting {
 }
 
 #[test]
-fn four_map_works_at_once(rt: HostRuntime) -> Result<(), Fail> {
+fn four_map_works_at_once(rt: HostRuntime) {
     let gate = Meeting::of(TaskKind::Map);
     let four = plan(
         &rt,
         rt.alloc(),
         r#""job":"wordcount","splits":["a","b","a",""],"nodes":4"#,
     );
-    let report = drive(&rt, rt.alloc(), &WordCount, &gate, &four, TURNS)?;
+    let report = drive(&rt, rt.alloc(), &WordCount, &gate, &four, TURNS).expect(&rt, "a fault");
     assert!(rt; is_counted(&report));
     assert_eq!(rt; gate.maps.load(Ordering::SeqCst), 4);
     assert_eq!(rt; gate.reduces.load(Ordering::SeqCst), 1);
@@ -239,23 +234,21 @@ fn four_map_works_at_once(rt: HostRuntime) -> Result<(), Fail> {
     );
     let fault = drive(&rt, rt.alloc(), &WordCount, &gate, &three, TURNS).err();
     assert!(rt; fault == Some(DriveFault::TurnsSpent), "{fault:?}");
-    Ok(())
 }
 
 // While a reduce still fetches, no node computes: a node that computes answers no fetch.
 #[test]
-fn four_reduce_works_at_once(rt: HostRuntime) -> Result<(), Fail> {
+fn four_reduce_works_at_once(rt: HostRuntime) {
     let gate = Meeting::of(TaskKind::Reduce);
     let four = plan(
         &rt,
         rt.alloc(),
         r#""job":"wordcount","splits":["a","b","a",""],"nodes":4,"reduces":4"#,
     );
-    let report = drive(&rt, rt.alloc(), &WordCount, &gate, &four, TURNS)?;
+    let report = drive(&rt, rt.alloc(), &WordCount, &gate, &four, TURNS).expect(&rt, "a fault");
     assert!(rt; report.succeeded && report.files.len() == 4);
     assert_eq!(rt; gate.maps.load(Ordering::SeqCst), 4);
     assert_eq!(rt; gate.reduces.load(Ordering::SeqCst), 4);
-    Ok(())
 }
 
 // Lets no work pass.
@@ -269,9 +262,8 @@ impl Gate for ShutGate {
 }
 
 #[test]
-fn a_gate_that_refuses_ends_the_run(rt: HostRuntime) -> Result<(), Fail> {
+fn a_gate_that_refuses_ends_the_run(rt: HostRuntime) {
     let plan = plan(&rt, rt.alloc(), r#""job":"wordcount","splits":["a b a"]"#);
     let fault = drive(&rt, rt.alloc(), &WordCount, &ShutGate, &plan, TURNS).err();
     assert!(rt; fault == Some(DriveFault::TurnsSpent), "{fault:?}");
-    Ok(())
 }

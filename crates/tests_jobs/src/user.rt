@@ -7,7 +7,6 @@ use mr_user::{
 };
 use std::alloc::Global;
 use std::process::Abort;
-use std::test::Fail;
 
 fn same(bytes: &[u8], want: &[u8]) -> bool {
     bytes == want
@@ -87,33 +86,38 @@ fn reduced_line<J: Job>(
 }
 
 #[test]
-fn functions_of_wordcount(rt: HostRuntime) -> Result<(), Fail> {
+fn functions_of_wordcount(rt: HostRuntime) {
     let alloc = rt.alloc();
-    let bytes = written_pairs(&rt, alloc, &WordCount, b"\ta  bc")?;
+    let bytes = written_pairs(&rt, alloc, &WordCount, b"\ta  bc").expect(&rt, "a fault");
     assert!(rt;
         same(
             &bytes,
             b"\0\0\0\x01a\0\0\0\0\0\0\0\x01\0\0\0\x02bc\0\0\0\0\0\0\0\x01"
         )
     );
-    let (reduce, text) = reduced_line(&rt, alloc, &WordCount, b"a a a")?;
+    let (reduce, text) = reduced_line(&rt, alloc, &WordCount, b"a a a").expect(&rt, "a fault");
     assert!(rt; reduce == 1 && same(&text, b"a 3"));
-    let text = Text::from_slice(alloc, b"a")?;
-    let held = WordCount.reduce(alloc, &text, &[18446744073709551615, 5])?;
+    let text = Text::from_slice(alloc, b"a").expect(&rt, "no memory");
+    let held = WordCount
+        .reduce(alloc, &text, &[18446744073709551615, 5])
+        .expect(&rt, "a fault");
     assert!(rt; held.len() == 1 && same(&held[0], b"18446744073709551615"));
-    Ok(())
 }
 
 #[test]
-fn functions_of_maxbykey(rt: HostRuntime) -> Result<(), Fail> {
+fn functions_of_maxbykey(rt: HostRuntime) {
     let alloc = rt.alloc();
-    let bytes = written_pairs(&rt, alloc, &MaxByKey, b" x\t00000000000000000007 ")?;
+    let bytes = written_pairs(&rt, alloc, &MaxByKey, b" x\t00000000000000000007 ").expect(
+        &rt, "a fault",
+    );
     assert!(rt; same(&bytes, b"\0\0\0\x01x\0\0\0\0\0\0\0\x07"));
-    let bytes = written_pairs(&rt, alloc, &MaxByKey, b"x 18446744073709551615")?;
+    let bytes = written_pairs(&rt, alloc, &MaxByKey, b"x 18446744073709551615").expect(
+        &rt, "a fault",
+    );
     assert!(rt; same(&bytes, b"\0\0\0\x01x\xff\xff\xff\xff\xff\xff\xff\xff"));
-    let bytes = written_pairs(&rt, alloc, &MaxByKey, b" \t ")?;
+    let bytes = written_pairs(&rt, alloc, &MaxByKey, b" \t ").expect(&rt, "a fault");
     assert!(rt; bytes.is_empty());
-    let (reduce, text) = reduced_line(&rt, alloc, &MaxByKey, b"x 10")?;
+    let (reduce, text) = reduced_line(&rt, alloc, &MaxByKey, b"x 10").expect(&rt, "a fault");
     assert!(rt; reduce == 0 && same(&text, b"x 10"));
     for line in [
         b"x".as_slice(),
@@ -125,26 +129,24 @@ fn functions_of_maxbykey(rt: HostRuntime) -> Result<(), Fail> {
         b"x 000000000000000000007".as_slice(),
     ] {
         let pairs = pairs_of(&rt, alloc, &MaxByKey, line);
-        faults(&rt, pairs, UserFault::Refused)?;
+        faults(&rt, pairs, UserFault::Refused).expect(&rt, "a fault");
     }
-    Ok(())
 }
 
 #[test]
-fn functions_of_lineindex(rt: HostRuntime) -> Result<(), Fail> {
+fn functions_of_lineindex(rt: HostRuntime) {
     let alloc = rt.alloc();
-    let bytes = written_pairs(&rt, alloc, &LineIndex, b"b")?;
+    let bytes = written_pairs(&rt, alloc, &LineIndex, b"b").expect(&rt, "a fault");
     assert!(rt; same(&bytes, b"\0\0\0\x01b\0\0\0\x01\0\0\0\0\0\0\0\x02"));
-    let (reduce, text) = reduced_line(&rt, alloc, &LineIndex, b"b b")?;
+    let (reduce, text) = reduced_line(&rt, alloc, &LineIndex, b"b b").expect(&rt, "a fault");
     assert!(rt; reduce == 2 && same(&text, b"b 1:2,1:2"));
-    Ok(())
 }
 
 #[test]
-fn values_are_read(rt: HostRuntime) -> Result<(), Fail> {
+fn values_are_read(rt: HostRuntime) {
     let alloc = rt.alloc();
     for (bytes, len) in [(b"\0\0\0\x01ab".as_slice(), 5), (b"\0\0\0\0".as_slice(), 4)] {
-        let text = read_again::<Text>(&rt, alloc, bytes)?;
+        let text = read_again::<Text>(&rt, alloc, bytes).expect(&rt, "a fault");
         assert!(rt; text.len() == len && bytes.starts_with(&text));
     }
     for bytes in [
@@ -153,50 +155,52 @@ fn values_are_read(rt: HostRuntime) -> Result<(), Fail> {
         b"\0\0\0\x02a".as_slice(),
     ] {
         let text = read_again::<Text>(&rt, alloc, bytes);
-        faults(&rt, text, UserFault::BadWire)?;
+        faults(&rt, text, UserFault::BadWire).expect(&rt, "a fault");
     }
     let twelve = b"\0\0\0\x01\0\0\0\0\0\0\0\x02";
-    let number = read_again::<u64>(&rt, alloc, twelve)?;
+    let number = read_again::<u64>(&rt, alloc, twelve).expect(&rt, "a fault");
     assert!(rt; same(&number, b"\0\0\0\x01\0\0\0\0"));
     let number = read_again::<u64>(&rt, alloc, b"\0\0\0\0\0\0\0");
-    faults(&rt, number, UserFault::BadWire)?;
-    let position = read_again::<Position>(&rt, alloc, twelve)?;
+    faults(&rt, number, UserFault::BadWire).expect(&rt, "a fault");
+    let position = read_again::<Position>(&rt, alloc, twelve).expect(&rt, "a fault");
     assert!(rt; same(&position, twelve));
     let position = read_again::<Position>(&rt, alloc, b"\0\0\0\x01\0\0\0\0\0\0\0");
-    faults(&rt, position, UserFault::BadWire)?;
-    Ok(())
+    faults(&rt, position, UserFault::BadWire).expect(&rt, "a fault");
 }
 
 #[test]
-fn pairs_are_grouped(rt: HostRuntime) -> Result<(), Fail> {
+fn pairs_are_grouped(rt: HostRuntime) {
     let alloc = rt.alloc();
-    let pairs: Vec<(u64, u64)> = Vec::from_slice(alloc, &[(2, 5), (1, 7), (2, 3)])?;
-    let groups = groups(alloc, pairs)?;
+    let pairs: Vec<(u64, u64)> = Vec::from_slice(alloc, &[(2, 5), (1, 7), (2, 3)]).expect(
+        &rt,
+        "no memory",
+    );
+    let groups = groups(alloc, pairs).expect(&rt, "a fault");
     assert!(rt; groups.len() == 2);
     assert!(rt; groups[0].0 == 1 && groups[0].1.as_slice() == [7].as_slice());
     assert!(rt; groups[1].0 == 2 && groups[1].1.as_slice() == [5, 3].as_slice());
-    Ok(())
 }
 
 #[test]
-fn an_open_gate_answers_at_once(rt: HostRuntime) -> Result<(), Fail> {
-    OpenGate.enter(TaskKind::Map)?;
-    OpenGate.enter(TaskKind::Reduce)?;
-    Ok(())
+fn an_open_gate_answers_at_once(rt: HostRuntime) {
+    OpenGate.enter(TaskKind::Map).expect(&rt, "a fault");
+    OpenGate.enter(TaskKind::Reduce).expect(&rt, "a fault");
 }
 
 #[test]
-fn pairs_are_sorted(rt: HostRuntime) -> Result<(), Fail> {
+fn pairs_are_sorted(rt: HostRuntime) {
     let alloc = rt.alloc();
-    let mut pairs: Vec<(u64, u64)> = Vec::from_slice(alloc, &[(2, 5), (1, 7), (2, 3)])?;
-    sort_pairs(&mut pairs)?;
+    let mut pairs: Vec<(u64, u64)> = Vec::from_slice(alloc, &[(2, 5), (1, 7), (2, 3)]).expect(
+        &rt,
+        "no memory",
+    );
+    sort_pairs(&mut pairs).expect(&rt, "a fault");
     assert!(rt; pairs.len() == 3);
     assert!(rt; pairs[0] == (1, 7) && pairs[1] == (2, 5) && pairs[2] == (2, 3));
-    Ok(())
 }
 
 #[test]
-fn lines_are_read_and_written(rt: HostRuntime) -> Result<(), Fail> {
+fn lines_are_read_and_written(rt: HostRuntime) {
     let alloc = rt.alloc();
     let bytes = b"ab\nc".as_slice();
     assert!(rt; !bytes.is_empty());
@@ -206,12 +210,12 @@ fn lines_are_read_and_written(rt: HostRuntime) -> Result<(), Fail> {
     write_lines(
         alloc,
         &WordCount,
-        &Text::from_slice(alloc, line)?,
+        &Text::from_slice(alloc, line).expect(&rt, "no memory"),
         &[2, 3],
         &mut text,
-    )?;
+    )
+    .expect(&rt, "no memory");
     assert!(rt; same(&text, b"ab\t5\n"));
-    Ok(())
 }
 
 // Splits that are copied are equal, and so are no others.

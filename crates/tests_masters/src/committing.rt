@@ -1,6 +1,6 @@
 //! What is refused while a master commits its job, and while its job fails.
 
-use crate::fixtures::{answered, does, due, lists_nothing};
+use crate::fixtures::{answered, due, is_done, lists_nothing, writes};
 use crate::outcomes::fails;
 use crate::running::{reduce, running};
 use crate::stopping::{stops, superseded, won};
@@ -38,7 +38,7 @@ fn fails_by(rt: &impl Abort, master: &MasterMachine, name: DutyName, answer: Sto
 // The job commit has started, and there is nothing to merge.
 fn merged(rt: &impl Abort, alloc: Global) -> MasterMachine {
     let mut master = won(rt, alloc);
-    assert!(rt; does(rt, &mut master).len() == 0);
+    is_done(rt, &mut master);
     lists_nothing(rt, alloc, &mut master);
     master
 }
@@ -47,7 +47,7 @@ fn merged(rt: &impl Abort, alloc: Global) -> MasterMachine {
 #[test]
 fn mixed_up_answer_fails_the_job(rt: HostRuntime) {
     let mut master = won(&rt, rt.alloc());
-    assert!(rt; does(&rt, &mut master).len() == 0);
+    is_done(&rt, &mut master);
     let mixed_up = StoreAnswer::Names(Ok(Answer::Done));
     fails_by(&rt, &master, DutyName::Merge, mixed_up);
 }
@@ -57,9 +57,9 @@ fn mixed_up_answer_fails_the_job(rt: HostRuntime) {
 fn refused_marker_fails_the_job(rt: HostRuntime) {
     let mut master = merged(&rt, rt.alloc());
     fails_by(&rt, &master, DutyName::Cleanup, StoreAnswer::Fault);
-    assert!(rt; does(&rt, &mut master).len() == 0);
+    is_done(&rt, &mut master);
     fails_by(&rt, &master, DutyName::Marker, exists());
-    assert!(rt; does(&rt, &mut master).len() == 0);
+    is_done(&rt, &mut master);
     stops(&rt, &mut master, DutyName::Success, exists());
 }
 
@@ -88,7 +88,7 @@ fn refused_record_stops_a_failing_master(rt: HostRuntime) {
     let mut copy = master.copy().expect(&rt, "no memory");
     stops(&rt, &mut copy, DutyName::Append, full);
     for _ in 0..9 {
-        assert!(rt; answered(&rt, &mut master, StoreAnswer::Wrote(Ok(()))).len() == 0);
+        writes(&rt, &mut master, 0);
     }
     let later = StoreAnswer::Wrote(Err(HistoryFault::Superseded(2)));
     stops(&rt, &mut master, DutyName::Flush, later);

@@ -98,27 +98,42 @@ pub fn given_up(rt: &impl Abort, master: &mut MasterMachine, node: u32) -> Vec<E
 
 /// The master hears a packet. Gives the packets that are sent for it.
 pub fn hears(rt: &impl Abort, master: &mut MasterMachine, packet: &Packet) -> Vec<Envelope> {
-    let packets = master.hear_packets(packet).expect(rt, "no memory");
-    if master.hear(packet, &packets).is_err() {
-        panic!(rt; "no memory");
-    }
-    packets
+    master.hear(packet).expect(rt, "no memory")
 }
 
 /// The store call that is due is answered. Gives the packets that are sent.
 pub fn answered(rt: &impl Abort, master: &mut MasterMachine, answer: StoreAnswer) -> Vec<Envelope> {
-    let ready = master.ready(answer).expect(rt, "no memory");
-    master.answer(ready)
+    master.answer(answer).expect(rt, "no memory")
+}
+
+/// The store call that is due is answered, and so many packets are sent.
+pub fn sends(rt: &impl Abort, master: &mut MasterMachine, answer: StoreAnswer, count: usize) {
+    assert!(rt; answered(rt, master, answer).len() == count);
+}
+
+/// What is due of the history is written, and so many packets are sent.
+pub fn writes(rt: &impl Abort, master: &mut MasterMachine, count: usize) {
+    sends(rt, master, StoreAnswer::Wrote(Ok(())), count);
+}
+
+/// The call of the namespace that is due is made, and nothing is sent.
+pub fn is_done(rt: &impl Abort, master: &mut MasterMachine) {
+    sends(rt, master, StoreAnswer::Names(Ok(Answer::Done)), 0);
+}
+
+/// The master hears a packet, and sends so many.
+pub fn replies(rt: &impl Abort, master: &mut MasterMachine, packet: &Packet, count: usize) {
+    assert!(rt; hears(rt, master, packet).len() == count);
 }
 
 /// The master finds no mark, reads these records, and makes its job attempt path.
 pub fn opens(rt: &impl Abort, master: &mut MasterMachine, records: Records) {
     for _ in 0..3 {
         let absent = StoreAnswer::Names(Ok(Answer::Found(None)));
-        assert!(rt; answered(rt, master, absent).len() == 0);
+        sends(rt, master, absent, 0);
     }
-    assert!(rt; answered(rt, master, StoreAnswer::Told(records)).len() == 0);
-    assert!(rt; does(rt, master).len() == 0);
+    sends(rt, master, StoreAnswer::Told(records), 0);
+    is_done(rt, master);
 }
 
 /// The call of the namespace that is due is made. Gives the packets that are sent.
@@ -129,7 +144,7 @@ pub fn does(rt: &impl Abort, master: &mut MasterMachine) -> Vec<Envelope> {
 /// What is due is a listing, and there is nothing to list. Nothing is sent.
 pub fn lists_nothing(rt: &impl Abort, alloc: Global, master: &mut MasterMachine) {
     let nothing = StoreAnswer::Names(Ok(Answer::Listed(Entries::new(alloc))));
-    assert!(rt; answered(rt, master, nothing).len() == 0);
+    sends(rt, master, nothing, 0);
 }
 
 /// The name of what is due, if anything is.

@@ -1,13 +1,12 @@
 //! What a running master hears.
 
 use crate::fixtures::{
-    answered, attempt, container, due, first, hears, launched, master_of, opens, task,
+    attempt, container, due, first, hears, launched, master_of, opens, replies, task, writes,
 };
 use crate::running::{finishes, first_attempt, launches, reduce, running};
 use mr_history::Records;
 use mr_ids::{AttemptId, TaskId, TaskKind};
 use mr_master::MasterMachine;
-use mr_master_model::StoreAnswer;
 use mr_packet::{Address, ContainerId, Envelope, Packet};
 use std::alloc::Global;
 use std::process::Abort;
@@ -48,7 +47,7 @@ fn unknown(rt: &impl Abort, kind: u32) -> Packet {
 fn unknown_ones_are_not_heard(rt: HostRuntime) {
     let mut master = running(&rt, rt.alloc());
     launches(&rt, &mut master);
-    assert!(rt; answered(&rt, &mut master, StoreAnswer::Wrote(Ok(()))).len() == 0);
+    writes(&rt, &mut master, 0);
     for kind in 0..7 {
         let packet = unknown(&rt, kind);
         assert!(rt; hears(&rt, &mut master, &packet).len() == 0, "{kind}");
@@ -101,10 +100,10 @@ fn mapped(rt: &impl Abort, alloc: Global) -> MasterMachine {
         a: attempt(rt, map()),
         bytes: None,
     };
-    assert!(rt; hears(rt, &mut master, &done).len() == 1);
+    replies(rt, &mut master, &done, 1);
     assert!(rt; master.wanted().is_none());
     for _ in 0..3 {
-        assert!(rt; answered(rt, &mut master, StoreAnswer::Wrote(Ok(()))).len() == 0);
+        writes(rt, &mut master, 0);
     }
     assert!(rt; master.wanted() == Some(reduce()));
     launched(rt, &mut master, reduce(), 1);
@@ -147,9 +146,9 @@ fn lost_output_is_made_again(rt: HostRuntime) {
     let mut master = mapped(&rt, rt.alloc());
     let told = hears(&rt, &mut master, &asks(&rt));
     assert!(rt; is_there(&rt, &told));
-    assert!(rt; hears(&rt, &mut master, &loses(&rt)).len() == 0);
+    replies(&rt, &mut master, &loses(&rt), 0);
     assert!(rt; master.wanted() == Some(map()));
-    assert!(rt; hears(&rt, &mut master, &asks(&rt)).len() == 0);
+    replies(&rt, &mut master, &asks(&rt), 0);
 }
 
 // A node that runs again has lost the output; the same incarnation, told again, changes nothing.
@@ -158,7 +157,7 @@ fn restart_loses_the_output(rt: HostRuntime) {
     let mut master = mapped(&rt, rt.alloc());
     for (incarnation, wanted) in [(1, None), (2, Some(map()))] {
         let up = Packet::NodeUp { n: 0, incarnation };
-        assert!(rt; hears(&rt, &mut master, &up).len() == 0);
+        replies(&rt, &mut master, &up, 0);
         assert!(rt; master.wanted() == wanted, "{incarnation}");
     }
 }
@@ -170,11 +169,11 @@ fn unasked_end_is_a_failure(rt: HostRuntime) {
     launches(&rt, &mut master);
     let ended = Packet::Ended { c: container(&rt) };
     for _ in 0..2 {
-        assert!(rt; hears(&rt, &mut master, &ended).len() == 0);
+        replies(&rt, &mut master, &ended, 0);
     }
     assert!(rt; master.wanted() == Some(reduce()));
     for _ in 0..2 {
-        assert!(rt; answered(&rt, &mut master, StoreAnswer::Wrote(Ok(()))).len() == 0);
+        writes(&rt, &mut master, 0);
     }
     assert!(rt; due(&rt, &master).is_none());
 }

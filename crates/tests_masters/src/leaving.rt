@@ -32,8 +32,9 @@ fn node_is_given_up(rt: HostRuntime) {
     launched(&rt, &mut master, task(TaskKind::Map, 0), 0);
     launched(&rt, &mut master, task(TaskKind::Reduce, 0), 0);
     assert!(rt; master.wanted().is_none());
-    let told = master.expire_packets(0).expect(&rt, "no memory");
-    assert!(rt; is_kill(&rt, &told, 0));
+    let prepared = master.prepare_expiry(0).expect(&rt, "not given up");
+    assert!(rt; is_kill(&rt, prepared.packets(), 0));
+    assert!(rt; master.wanted().is_none());
     let sent = given_up(&rt, &mut master, 0);
     assert!(rt; is_kill(&rt, &sent, 0));
     assert!(rt; master.wanted() == Some(task(TaskKind::Map, 0)));
@@ -50,14 +51,17 @@ fn bars(rt: &impl Abort, master: &MasterMachine) {
     assert!(rt; due(rt, master) == Some(DutyName::Bar));
 }
 
-// What was made ready and is not done leaves the master where it was.
+// What was prepared and is not taken leaves the master where it was.
 #[test]
-fn what_is_made_ready_changes_nothing(rt: HostRuntime) {
+fn what_is_prepared_changes_nothing(rt: HostRuntime) {
     let mut master = master_of(&rt, rt.alloc(), 1, 2);
     opens(&rt, &mut master, Records::new(rt.alloc()));
     launched(&rt, &mut master, task(TaskKind::Reduce, 0), 0);
     given_up(&rt, &mut master, 0);
-    let ready = master.ready(StoreAnswer::Fault).expect(&rt, "no memory");
-    assert!(rt; ready.packets().len() == 0);
+    let prepared = master
+        .prepare_answer(StoreAnswer::Fault)
+        .expect(&rt, "no memory");
+    assert!(rt; prepared.packets().len() == 0);
+    assert!(rt; master.reserve(&prepared).is_ok());
     assert!(rt; due(&rt, &master) == Some(DutyName::Bar));
 }

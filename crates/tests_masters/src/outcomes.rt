@@ -1,6 +1,8 @@
 //! A master that comes to the end of its job, and one that goes on with what an earlier one did.
 
-use crate::fixtures::{answered, does, due, generation_of, hears, launched, lists_nothing, opens};
+use crate::fixtures::{
+    answered, does, due, generation_of, launched, lists_nothing, opens, replies, sends, writes,
+};
 use crate::running::{finishes, first_attempt, is_started, is_win, launches, reduce, running};
 use mr_history::{Record, Records};
 use mr_ids::{AppAttempt, AttemptId};
@@ -52,7 +54,7 @@ pub fn fails(rt: &impl Abort, master: &mut MasterMachine, number: u32) {
     let Some(a) = AttemptId::new(reduce(), number) else {
         panic!(rt; "no attempt of this number");
     };
-    assert!(rt; hears(rt, master, &Packet::Failed { a }).len() == 0);
+    replies(rt, master, &Packet::Failed { a }, 0);
 }
 
 // The fourth failure fails the job: four launches, four failures and that are appended and flushed, then the job's work is deleted,
@@ -66,7 +68,7 @@ fn fourth_failure_fails_the_job(rt: HostRuntime) {
     }
     assert!(rt; master.phase() == Phase::Failing);
     for _ in 0..10 {
-        assert!(rt; answered(&rt, &mut master, StoreAnswer::Wrote(Ok(()))).len() == 0);
+        writes(&rt, &mut master, 0);
     }
     assert!(rt; due(&rt, &master) == Some(DutyName::Abort));
     let missing = StoreAnswer::Names(Err(NameFault::Missing));
@@ -91,7 +93,7 @@ fn winner_is_taken_over(rt: HostRuntime) {
     opens(&rt, &mut master, records);
     assert!(rt; due(&rt, &master) == Some(DutyName::Recover));
     let there = StoreAnswer::Names(Ok(Answer::Found(Some(Kind::Dir))));
-    assert!(rt; answered(&rt, &mut master, there).len() == 0);
+    sends(&rt, &mut master, there, 0);
     goes_on(&rt, &mut master, DutyName::Recover);
     let told = does(&rt, &mut master);
     assert!(rt; told.len() == 1 && is_win(&rt, &told[0]));

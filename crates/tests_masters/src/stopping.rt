@@ -1,6 +1,8 @@
 //! What makes a master Stopped, and what else ends its job.
 
-use crate::fixtures::{answered, does, due, generation_of, given_up, hears, master, opens};
+use crate::fixtures::{
+    answered, due, generation_of, given_up, is_done, master, replies, sends, writes,
+};
 use crate::running::{finishes, first_attempt, launches, running};
 use mr_history::{HistoryFault, Record, Records};
 use mr_ids::AppAttempt;
@@ -51,7 +53,7 @@ fn is_told(envelope: &Envelope, node: u32, succeeded: bool) -> bool {
 fn looks(rt: &impl Abort, master: &mut MasterMachine, count: u32) {
     for _ in 0..count {
         let absent = StoreAnswer::Names(Ok(Answer::Found(None)));
-        assert!(rt; answered(rt, master, absent).len() == 0);
+        sends(rt, master, absent, 0);
     }
 }
 
@@ -94,7 +96,7 @@ fn refusal_stops_the_setup(rt: HostRuntime) {
     let mut master = master(&rt, rt.alloc());
     looks(&rt, &mut master, 3);
     let none = StoreAnswer::Told(Records::new(rt.alloc()));
-    assert!(rt; answered(&rt, &mut master, none).len() == 0);
+    sends(&rt, &mut master, none, 0);
     stops(&rt, &mut master, DutyName::Setup, missing());
 }
 
@@ -107,7 +109,7 @@ fn second(rt: &impl Abort, alloc: Global, record: Record) -> MasterMachine {
     let mut records = Records::new(alloc);
     records.push(record).expect(rt, "no memory");
     looks(rt, &mut master, 3);
-    assert!(rt; answered(rt, &mut master, StoreAnswer::Told(records)).len() == 0);
+    sends(rt, &mut master, StoreAnswer::Told(records), 0);
     master
 }
 
@@ -119,7 +121,7 @@ fn missing_output_stops_the_recovery(rt: HostRuntime) {
         bytes: None,
     };
     let mut master = second(&rt, rt.alloc(), won);
-    assert!(rt; does(&rt, &mut master).len() == 0);
+    is_done(&rt, &mut master);
     let absent = StoreAnswer::Names(Ok(Answer::Found(None)));
     stops(&rt, &mut master, DutyName::Recover, absent);
 }
@@ -157,7 +159,7 @@ fn done(rt: &impl Abort, alloc: Global) -> MasterMachine {
     launches(rt, &mut master);
     finishes(rt, &mut master);
     for _ in 0..2 {
-        assert!(rt; answered(rt, &mut master, StoreAnswer::Wrote(Ok(()))).len() == 0);
+        writes(rt, &mut master, 0);
     }
     master
 }
@@ -171,7 +173,7 @@ fn lost_answer_stops_a_flush(rt: HostRuntime) {
 // The same, and they are stable: the job commit is to start.
 pub fn won(rt: &impl Abort, alloc: Global) -> MasterMachine {
     let mut master = done(rt, alloc);
-    assert!(rt; answered(rt, &mut master, StoreAnswer::Wrote(Ok(()))).len() == 1);
+    writes(rt, &mut master, 1);
     master
 }
 
@@ -185,10 +187,10 @@ fn fault_stops_the_start(rt: HostRuntime) {
 #[test]
 fn refused_merge_fails_the_job(rt: HostRuntime) {
     let mut master = won(&rt, rt.alloc());
-    assert!(rt; does(&rt, &mut master).len() == 0);
+    is_done(&rt, &mut master);
     let mut copy = master.copy().expect(&rt, "no memory");
     stops(&rt, &mut copy, DutyName::Merge, superseded());
-    assert!(rt; answered(&rt, &mut master, missing()).len() == 0);
+    sends(&rt, &mut master, missing(), 0);
     aborts(&rt, &mut master);
 }
 
@@ -196,7 +198,7 @@ fn refused_merge_fails_the_job(rt: HostRuntime) {
 fn aborts(rt: &impl Abort, master: &mut MasterMachine) {
     let mut copy = master.copy().expect(rt, "no memory");
     stops(rt, &mut copy, DutyName::Fail, StoreAnswer::Fault);
-    assert!(rt; does(rt, master).len() == 0);
+    is_done(rt, master);
     let mut copy = master.copy().expect(rt, "no memory");
     stops(rt, &mut copy, DutyName::Abort, superseded());
     let told = answered(rt, master, StoreAnswer::Fault);
@@ -213,11 +215,11 @@ fn stopped_master_hears_nothing(rt: HostRuntime) {
     let pending = Packet::Pending {
         a: first_attempt(&rt),
     };
-    assert!(rt; hears(&rt, &mut master, &pending).len() == 0);
+    replies(&rt, &mut master, &pending, 0);
     let up = Packet::NodeUp {
         n: 0,
         incarnation: 2,
     };
-    assert!(rt; hears(&rt, &mut master, &up).len() == 0);
+    replies(&rt, &mut master, &up, 0);
     assert!(rt; master.phase() == Phase::Stopped && due(&rt, &master).is_none());
 }

@@ -5,7 +5,6 @@ use std::io::{Error, ErrorKind, Read, Write};
 use std::process::Abort;
 use std::rt::Clock;
 use std::sync::Wait;
-use std::test::Fail;
 use std::thread::Threads;
 
 const HELLO: &[u8] = b"setup\n\
@@ -166,12 +165,12 @@ impl Write for FaultyWriter {
 }
 
 /// A subcommand prints this text, or there is no memory and nothing is written.
-pub fn gives<H: AllocGlobal + Clock + Threads + Wait + Sync + Abort>(
+pub fn gives<H: AllocGlobal + Eprint + Clock + Threads + Wait + Sync + Abort>(
     rt: &H,
-    command: Command,
+    command: Command<'_>,
     bytes: &[u8],
     text: &[u8],
-) -> Result<(), Fail> {
+) {
     let mut input = bytes;
     let mut output = FaultyWriter::new(512, 1000);
     match run(rt, &command, &mut input, &mut output) {
@@ -182,16 +181,15 @@ pub fn gives<H: AllocGlobal + Clock + Threads + Wait + Sync + Abort>(
         }
         Err(fault) => panic!(rt; "{fault}"),
     }
-    Ok(())
 }
 
 /// The input is refused so, and nothing is written.
-pub fn is_refused<H: AllocGlobal + Clock + Threads + Wait + Sync + Abort>(
+pub fn is_refused<H: AllocGlobal + Eprint + Clock + Threads + Wait + Sync + Abort>(
     rt: &H,
-    command: Command,
+    command: Command<'_>,
     bytes: &[u8],
     fault: SimFault,
-) -> Result<(), Fail> {
+) {
     let mut input = bytes;
     let mut output = FaultyWriter::new(512, 1000);
     let answer = run(rt, &command, &mut input, &mut output);
@@ -200,34 +198,33 @@ pub fn is_refused<H: AllocGlobal + Clock + Threads + Wait + Sync + Abort>(
         panic!(rt; "no memory");
     }
     assert!(rt; answer == Err(fault), "at {bytes:?}");
-    Ok(())
 }
 
 /// The script prints this text.
-pub fn prints<H: AllocGlobal + Clock + Threads + Wait + Sync + Abort>(
+pub fn prints<H: AllocGlobal + Eprint + Clock + Threads + Wait + Sync + Abort>(
     rt: &H,
     script: &[u8],
     text: &[u8],
-) -> Result<(), Fail> {
-    gives(rt, Command::Committer, script, text)
+) {
+    gives(rt, Command::Committer, script, text);
 }
 
 /// The script is refused so.
-fn refuses<H: AllocGlobal + Clock + Threads + Wait + Sync + Abort>(
+fn refuses<H: AllocGlobal + Eprint + Clock + Threads + Wait + Sync + Abort>(
     rt: &H,
     script: &[u8],
     fault: SimFault,
-) -> Result<(), Fail> {
-    is_refused(rt, Command::Committer, script, fault)
+) {
+    is_refused(rt, Command::Committer, script, fault);
 }
 
 #[test]
-fn committer_hello(rt: HostRuntime) -> Result<(), Fail> {
-    prints(&rt, HELLO, HELLO_TEXT)
+fn committer_hello(rt: HostRuntime) {
+    prints(&rt, HELLO, HELLO_TEXT);
 }
 
 #[test]
-fn committer_refusals(rt: HostRuntime) -> Result<(), Fail> {
+fn committer_refusals(rt: HostRuntime) {
     prints(
         &rt,
         b"setup\ncheck\n\
@@ -239,11 +236,11 @@ write attempt_200707121733_0003_r_000000_0 y\n\
 commitjob\ncommitjob",
         b"2: DestinationExists\n3: no\n4: OutputMissing\n6: yes\n7: Exists\n9: Missing\n\
 out/\nout/_SUCCESS 0\n",
-    )
+    );
 }
 
 #[test]
-fn fenced_container(rt: HostRuntime) -> Result<(), Fail> {
+fn fenced_container(rt: HostRuntime) {
     prints(
         &rt,
         b"setup\n\
@@ -262,11 +259,11 @@ out/_temporary/1/_temporary/\n\
 out/_temporary/1/_temporary/attempt_200707121733_0003_r_000000_0/\n\
 out/_temporary/1/_temporary/attempt_200707121733_0003_r_000000_0/part-r-00000 4\n\
 out/_temporary/2/\n",
-    )
+    );
 }
 
 #[test]
-fn abort_commands(rt: HostRuntime) -> Result<(), Fail> {
+fn abort_commands(rt: HostRuntime) {
     prints(
         &rt,
         b"setup\n\
@@ -278,17 +275,17 @@ abortjob\n\
 abortjob\n",
         b"4: no\n\
 out/\n",
-    )?;
-    prints(&rt, b"abortjob", b"1: NoParent\n")?;
+    );
+    prints(&rt, b"abortjob", b"1: NoParent\n");
     prints(
         &rt,
         b"recover task_200707121733_0003_r_000000",
         b"1: OutputMissing\n",
-    )
+    );
 }
 
 #[test]
-fn recovery_of_wrong_length(rt: HostRuntime) -> Result<(), Fail> {
+fn recovery_of_wrong_length(rt: HostRuntime) {
     prints(
         &rt,
         b"setup\n\
@@ -307,11 +304,11 @@ out/_temporary/1/_temporary/\n\
 out/_temporary/2/\n\
 out/_temporary/2/task_200707121733_0003_r_000000/\n\
 out/_temporary/2/task_200707121733_0003_r_000000/part-r-00000 4\n",
-    )
+    );
 }
 
 #[test]
-fn committer_bar(rt: HostRuntime) -> Result<(), Fail> {
+fn committer_bar(rt: HostRuntime) {
     prints(
         &rt,
         b"setup\n\
@@ -331,11 +328,11 @@ out/_temporary/1/\n\
 out/_temporary/1/_temporary/\n\
 out/_temporary/1/_temporary/attempt_200707121733_0003_r_000000_0/\n\
 out/_temporary/1/_temporary/attempt_200707121733_0003_r_000000_0/part-r-00000 4\n",
-    )
+    );
 }
 
 #[test]
-fn two_attempts_commit(rt: HostRuntime) -> Result<(), Fail> {
+fn two_attempts_commit(rt: HostRuntime) {
     prints(
         &rt,
         b"setup\n\
@@ -345,14 +342,14 @@ commit attempt_200707121733_0003_r_000000_0\n\
 commit attempt_200707121733_0003_r_000000_1\n\
 commitjob\n",
         b"out/\nout/_SUCCESS 0\nout/part-r-00000 6\n",
-    )
+    );
 }
 
 #[test]
-fn bad_command(rt: HostRuntime) -> Result<(), Fail> {
+fn bad_command(rt: HostRuntime) {
     let second = SimFault::BadCommand(2);
     let a = b"setup\nwrte attempt_200707121733_0003_r_000000_0 x";
-    refuses(&rt, a, second)?;
+    refuses(&rt, a, second);
     let first_lines: [&[u8]; 26] = [
         b"as 01",
         b"as 0",
@@ -382,30 +379,30 @@ fn bad_command(rt: HostRuntime) -> Result<(), Fail> {
         b"as \xff",
     ];
     for line in first_lines {
-        refuses(&rt, line, SimFault::BadCommand(1))?;
+        refuses(&rt, line, SimFault::BadCommand(1));
     }
     // The whole script is read before anything runs.
     refuses(
         &rt,
         b"check\n\nsetup\nneeds x\ncommitjob\nbad",
         SimFault::BadCommand(4),
-    )
+    );
 }
 
 #[test]
-fn empty_script(rt: HostRuntime) -> Result<(), Fail> {
-    prints(&rt, b"", b"")?;
-    prints(&rt, b"\n\n", b"")?;
+fn empty_script(rt: HostRuntime) {
+    prints(&rt, b"", b"");
+    prints(&rt, b"\n\n", b"");
     prints(
         &rt,
         b"as 1000\nraise 1000\ncheck\nas 1\n\ncheck",
         b"6: Superseded 1000\n",
-    )
+    );
 }
 
 // A text may be empty or no text at all, and its spaces count.
 #[test]
-fn any_text(rt: HostRuntime) -> Result<(), Fail> {
+fn any_text(rt: HostRuntime) {
     prints(
         &rt,
         b"setup\n\
@@ -415,11 +412,11 @@ commit attempt_1_0001_r_000000_0\n\
 commit attempt_1_0001_r_000001_0\n\
 commitjob",
         b"out/\nout/_SUCCESS 0\nout/part-r-00000 1\nout/part-r-00001 6\n",
-    )
+    );
 }
 
 // A read that fails is answered at once, and nothing is written.
-fn each_read_fails<H: AllocGlobal + Clock + Threads + Wait + Sync + Abort>(rt: &H) {
+fn each_read_fails<H: AllocGlobal + Eprint + Clock + Threads + Wait + Sync + Abort>(rt: &H) {
     let mut whole = 0u32;
     for good in 0..60 {
         let mut input = FaultyReader {
@@ -446,7 +443,7 @@ fn each_read_fails<H: AllocGlobal + Clock + Threads + Wait + Sync + Abort>(rt: &
 }
 
 // So is a write that fails.
-fn each_write_fails<H: AllocGlobal + Clock + Threads + Wait + Sync + Abort>(rt: &H) {
+fn each_write_fails<H: AllocGlobal + Eprint + Clock + Threads + Wait + Sync + Abort>(rt: &H) {
     let mut whole = 0u32;
     for good in 0..20 {
         let mut input = HELLO;
@@ -473,7 +470,7 @@ fn each_stream_fails(rt: HostRuntime) {
 // 2^25 reads are made, interrupted ones with them: the last but one gives the bytes here, and the last the end; with one interruption
 // more there is none for the end. Fails where fewer reads or more are made.
 #[test]
-fn most_reads(rt: HostRuntime) -> Result<(), Fail> {
+fn most_reads(rt: HostRuntime) {
     for (interruptions, is_read) in [((1 << 25) - 2, true), ((1 << 25) - 1, false)] {
         let mut input = OftenInterrupted {
             bytes: HELLO,
@@ -491,12 +488,11 @@ fn most_reads(rt: HostRuntime) -> Result<(), Fail> {
             assert!(rt; answer == Err(SimFault::Read));
         }
     }
-    Ok(())
 }
 
 // A reader that is interrupted once goes on: at the first read, amid the bytes, and before the end.
 #[test]
-fn once_interrupted(rt: HostRuntime) -> Result<(), Fail> {
+fn once_interrupted(rt: HostRuntime) {
     for interrupted in [0, 50, 109] {
         let mut input = OnceInterrupted {
             bytes: HELLO,
@@ -509,12 +505,11 @@ fn once_interrupted(rt: HostRuntime) -> Result<(), Fail> {
             Err(fault) => panic!(rt; "{fault}"),
         }
     }
-    Ok(())
 }
 
 // As many reads as there are bytes, 2^20, are not too many.
 #[test]
-fn one_byte_a_read(rt: HostRuntime) -> Result<(), Fail> {
+fn one_byte_a_read(rt: HostRuntime) {
     let mut input = SameBytes {
         byte: b'\n',
         left: 1 << 20,
@@ -525,7 +520,6 @@ fn one_byte_a_read(rt: HostRuntime) -> Result<(), Fail> {
         Ok(()) => assert_eq!(rt; output.len, 0),
         Err(fault) => panic!(rt; "{fault}"),
     }
-    Ok(())
 }
 
 // A write that fails once is answered at once, and a flush that fails is a failed write.
@@ -556,7 +550,7 @@ fn one_failure_is_answered(rt: HostRuntime) {
 
 // 2^24 bytes are read, one more is too many.
 #[test]
-fn input_too_long(rt: HostRuntime) -> Result<(), Fail> {
+fn input_too_long(rt: HostRuntime) {
     for (left, want) in [
         (1usize << 24, Ok(())),
         ((1 << 24) + 1, Err(SimFault::TooLong)),
@@ -574,12 +568,11 @@ fn input_too_long(rt: HostRuntime) -> Result<(), Fail> {
         assert!(rt; answer == want);
         assert_eq!(rt; output.len, 0);
     }
-    Ok(())
 }
 
 // The parts without a handle: bytes to bytes, and over streams.
 #[test]
-fn parts_of_a_run(rt: HostRuntime) -> Result<(), Fail> {
+fn parts_of_a_run(rt: HostRuntime) {
     let text = answer(rt.alloc(), Command::Committer, HELLO);
     match text {
         Ok(text) => assert!(rt; text.as_slice() == HELLO_TEXT),
@@ -595,7 +588,6 @@ fn parts_of_a_run(rt: HostRuntime) -> Result<(), Fail> {
         Ok(()) => assert!(rt; output.took(HELLO_TEXT)),
         Err(fault) => panic!(rt; "{fault}"),
     }
-    Ok(())
 }
 
 // The program's exit status where there is no fault.
@@ -608,7 +600,7 @@ fn endings(rt: HostRuntime) {
 }
 
 #[test]
-fn statuses(rt: HostRuntime) -> Result<(), Fail> {
+fn statuses(rt: HostRuntime) {
     let faults = [
         (SimFault::BadCommand(2), 3, "mrsim: line 2: bad command"),
         (SimFault::BadRecord(2), 3, "mrsim: history: bad line 2"),
@@ -630,5 +622,4 @@ fn statuses(rt: HostRuntime) -> Result<(), Fail> {
             Err(_) => panic!(rt; "no memory"),
         }
     }
-    Ok(())
 }

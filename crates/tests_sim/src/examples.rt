@@ -1,9 +1,8 @@
 //! The examples of the folder `examples`: made by `tools/examples --write`, and not by hand.
 use crate::{committer, seq};
-use std::test::Fail;
 
 #[test]
-fn barred_attempt(rt: HostRuntime) -> Result<(), Fail> {
+fn barred_attempt(rt: HostRuntime) {
     committer::prints(
         &rt,
         b"\
@@ -23,11 +22,11 @@ out/\n\
 out/_SUCCESS 0\n\
 out/part-r-00000 7\n\
 ",
-    )
+    );
 }
 
 #[test]
-fn commented(rt: HostRuntime) -> Result<(), Fail> {
+fn commented(rt: HostRuntime) {
     committer::prints(
         &rt,
         b"\
@@ -47,11 +46,11 @@ out/\n\
 out/_SUCCESS 0\n\
 out/part-r-00000 6\n\
 ",
-    )
+    );
 }
 
 #[test]
-fn crash_before_commit(rt: HostRuntime) -> Result<(), Fail> {
+fn crash_before_commit(rt: HostRuntime) {
     committer::prints(
         &rt,
         b"\
@@ -70,11 +69,11 @@ out/_temporary/1/_temporary/attempt_200707121733_0003_r_000000_1/part-r-00000 4\
 out/_temporary/1/task_200707121733_0003_r_000000/\n\
 out/_temporary/1/task_200707121733_0003_r_000000/part-r-00000 4\n\
 ",
-    )
+    );
 }
 
 #[test]
-fn destination_exists(rt: HostRuntime) -> Result<(), Fail> {
+fn destination_exists(rt: HostRuntime) {
     committer::prints(
         &rt,
         b"\
@@ -91,11 +90,11 @@ commitjob\n\
 out/\n\
 out/_SUCCESS 0\n\
 ",
-    )
+    );
 }
 
 #[test]
-fn job_succeeds(rt: HostRuntime) -> Result<(), Fail> {
+fn job_succeeds(rt: HostRuntime) {
     committer::prints(
         &rt,
         b"\
@@ -109,11 +108,11 @@ out/\n\
 out/_SUCCESS 0\n\
 out/part-r-00000 6\n\
 ",
-    )
+    );
 }
 
 #[test]
-fn recovery_after_a_crash(rt: HostRuntime) -> Result<(), Fail> {
+fn recovery_after_a_crash(rt: HostRuntime) {
     committer::prints(
         &rt,
         b"\
@@ -137,11 +136,11 @@ out/_SUCCESS 0\n\
 out/part-r-00000 4\n\
 out/part-r-00001 7\n\
 ",
-    )
+    );
 }
 
 #[test]
-fn refused_write(rt: HostRuntime) -> Result<(), Fail> {
+fn refused_write(rt: HostRuntime) {
     committer::prints(
         &rt,
         b"\
@@ -160,11 +159,11 @@ out/_temporary/1/_temporary/\n\
 out/_temporary/1/_temporary/attempt_200707121733_0003_r_000000_0/\n\
 out/_temporary/1/_temporary/attempt_200707121733_0003_r_000000_0/part-r-00000 4\n\
 ",
-    )
+    );
 }
 
 #[test]
-fn second_attempt_loses(rt: HostRuntime) -> Result<(), Fail> {
+fn second_attempt_loses(rt: HostRuntime) {
     committer::prints(
         &rt,
         b"\
@@ -183,11 +182,11 @@ out/\n\
 out/_SUCCESS 0\n\
 out/part-r-00000 4\n\
 ",
-    )
+    );
 }
 
 #[test]
-fn superseded_master(rt: HostRuntime) -> Result<(), Fail> {
+fn superseded_master(rt: HostRuntime) {
     committer::prints(
         &rt,
         b"\
@@ -210,11 +209,11 @@ out/\n\
 out/_SUCCESS 0\n\
 out/part-r-00000 7\n\
 ",
-    )
+    );
 }
 
 #[test]
-fn index_of_lines(rt: HostRuntime) -> Result<(), Fail> {
+fn index_of_lines(rt: HostRuntime) {
     seq::prints(
         &rt,
         b"\
@@ -230,11 +229,11 @@ fn index_of_lines(rt: HostRuntime) -> Result<(), Fail> {
 a\t0:0,0:1,1:0,1:0\n\
 b\t0:0,1:0\n\
 ",
-    )
+    );
 }
 
 #[test]
-fn words_of_two_splits(rt: HostRuntime) -> Result<(), Fail> {
+fn words_of_two_splits(rt: HostRuntime) {
     seq::prints(
         &rt,
         b"\
@@ -261,5 +260,5 @@ jumps\t1\n\
 quick\t1\n\
 the\t3\n\
 ",
-    )
+    );
 }

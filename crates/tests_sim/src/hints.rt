@@ -5,7 +5,6 @@ use std::alloc::Global;
 use std::process::Abort;
 use std::rt::Clock;
 use std::sync::Wait;
-use std::test::Fail;
 use std::thread::Threads;
 
 const ONE: &[u8] =
@@ -18,25 +17,18 @@ const CALLS: &str =
     "word 1 is no command: expected as, raise, check, setup, write, needs, commit, abort, recover, commitjob, abortjob, bar, by or # ..";
 
 /// This is told of the line.
-fn tells(
-    rt: &impl Abort,
-    alloc: Global,
-    script: Script,
-    line: &[u8],
-    text: &str,
-) -> Result<(), Fail> {
+fn tells(rt: &impl Abort, alloc: Global, script: Script, line: &[u8], text: &str) {
     match hint_of(script, line) {
         Some(hint) => {
-            let said = format!(in alloc; "{hint}")?;
+            let said = format!(in alloc; "{hint}").expect(rt, "no memory");
             assert!(rt; said.as_str() == text, "{said}");
         }
         None => panic!(rt; "{text}"),
     }
-    Ok(())
 }
 
 #[test]
-fn lines_of_a_run(rt: HostRuntime) -> Result<(), Fail> {
+fn lines_of_a_run(rt: HostRuntime) {
     for (line, text) in [
         (&b"start 1"[..], "word 3 is missing: expected start K KEPT"),
         (b"start 01 0", "word 2 does not fit: expected start K KEPT"),
@@ -92,13 +84,12 @@ fn lines_of_a_run(rt: HostRuntime) -> Result<(), Fail> {
         (b"start\t1 0", MASTERS),
         (b"\xff", MASTERS),
     ] {
-        tells(&rt, rt.alloc(), Script::Play, line, text)?;
+        tells(&rt, rt.alloc(), Script::Play, line, text);
     }
-    Ok(())
 }
 
 #[test]
-fn lines_of_committer_calls(rt: HostRuntime) -> Result<(), Fail> {
+fn lines_of_committer_calls(rt: HostRuntime) {
     for (line, text) in [
         (
             &b"setup # none"[..],
@@ -131,9 +122,8 @@ fn lines_of_committer_calls(rt: HostRuntime) -> Result<(), Fail> {
             "word 2 does not fit: expected needs A",
         ),
     ] {
-        tells(&rt, rt.alloc(), Script::Committer, line, text)?;
+        tells(&rt, rt.alloc(), Script::Committer, line, text);
     }
-    Ok(())
 }
 
 // Nothing is told of a line that is a command.
@@ -169,24 +159,21 @@ fn commands_have_no_hint(rt: HostRuntime) {
 }
 
 // Whether the line is refused as a command of a script.
-fn is_bad(alloc: Global, script: Script, line: &[u8]) -> Result<bool, Fail> {
+fn is_bad(rt: &impl Abort, alloc: Global, script: Script, line: &[u8]) -> bool {
     let mut input = Vec::new(alloc);
     let command = match script {
         Script::Committer => Command::Committer,
         Script::Play => {
-            input.extend_from_slice(ONE)?;
+            input.extend_from_slice(ONE).expect(rt, "no memory");
             Command::Play
         }
     };
-    input.extend_from_slice(line)?;
-    match answer(alloc, command, &input) {
-        Err(SimFault::BadCommand(_)) => Ok(true),
-        _ => Ok(false),
-    }
+    input.extend_from_slice(line).expect(rt, "no memory");
+    matches!(answer(alloc, command, &input), Err(SimFault::BadCommand(_)))
 }
 
 // The line with each byte in turn taken out or replaced, and with a byte before it, is refused exactly where there is a hint.
-fn agrees(rt: &(impl Abort + AllocGlobal), script: Script, line: &[u8]) -> Result<(), Fail> {
+fn agrees(rt: &(impl Abort + AllocGlobal), script: Script, line: &[u8]) {
     let alloc = rt.alloc();
     for place in 0..line.len() {
         let front = line.get(..place).unwrap_or(b"");
@@ -201,19 +188,18 @@ fn agrees(rt: &(impl Abort + AllocGlobal), script: Script, line: &[u8]) -> Resul
             (b"0", behind),
             (b"\r", b""),
         ] {
-            let mut changed = Vec::from_slice(alloc, front)?;
-            changed.extend_from_slice(new)?;
-            changed.extend_from_slice(rest)?;
+            let mut changed = Vec::from_slice(alloc, front).expect(rt, "no memory");
+            changed.extend_from_slice(new).expect(rt, "no memory");
+            changed.extend_from_slice(rest).expect(rt, "no memory");
             let says = !changed.is_empty() && !changed.starts_with(b"#");
             let is_hinted = hint_of(script, &changed).is_some();
-            assert!(rt; !says || is_hinted == is_bad(alloc, script, &changed)?);
+            assert!(rt; !says || is_hinted == is_bad(rt, alloc, script, &changed));
         }
     }
-    Ok(())
 }
 
 #[test]
-fn hints_agree_with_runs(rt: HostRuntime) -> Result<(), Fail> {
+fn hints_agree_with_runs(rt: HostRuntime) {
     for line in [
         &b"start 1 1"[..],
         b"duty 1 unanswered",
@@ -227,13 +213,12 @@ fn hints_agree_with_runs(rt: HostRuntime) -> Result<(), Fail> {
         b"expect marker yes",
         b"expect outcome failed",
     ] {
-        agrees(&rt, Script::Play, line)?;
+        agrees(&rt, Script::Play, line);
     }
-    Ok(())
 }
 
 #[test]
-fn hints_agree_with_committer_calls(rt: HostRuntime) -> Result<(), Fail> {
+fn hints_agree_with_committer_calls(rt: HostRuntime) {
     for line in [
         &b"as 1000"[..],
         b"check",
@@ -242,19 +227,18 @@ fn hints_agree_with_committer_calls(rt: HostRuntime) -> Result<(), Fail> {
         b"recover task_200707121733_0003_r_000000 12",
         b"by none",
     ] {
-        agrees(&rt, Script::Committer, line)?;
+        agrees(&rt, Script::Committer, line);
     }
-    Ok(())
 }
 
 /// The input is refused so, and this helps.
-fn helps<H: AllocGlobal + Clock + Threads + Wait + Sync + Abort>(
+fn helps<H: AllocGlobal + Eprint + Clock + Threads + Wait + Sync + Abort>(
     rt: &H,
-    command: Command,
+    command: Command<'_>,
     input: &[u8],
     fault: SimFault,
     text: &str,
-) -> Result<(), Fail> {
+) {
     let mut reader = input;
     let mut writer = Vec::new(rt.alloc());
     match run_with_help(rt, &command, &mut reader, &mut writer) {
@@ -262,69 +246,70 @@ fn helps<H: AllocGlobal + Clock + Threads + Wait + Sync + Abort>(
         Err(refusal) => {
             assert!(rt; refusal.fault == fault);
             let said = match refusal.help {
-                Some(help) => format!(in rt.alloc(); "{help}")?,
+                Some(help) => format!(in rt.alloc(); "{help}").expect(rt, "no memory"),
                 None => String::new(rt.alloc()),
             };
             assert!(rt; said.as_str() == text, "{said}");
             assert!(rt; writer.is_empty());
         }
     }
-    Ok(())
 }
 
 // The line that is told is that of the input, the first of which is the job text in `play`.
 #[test]
-fn help_behind_faults(rt: HostRuntime) -> Result<(), Fail> {
+fn help_behind_faults(rt: HostRuntime) {
     let one =
         "{\"id\":\"job_200707121733_0003\",\"job\":\"wordcount\",\"reduces\":1,\"splits\":[]}";
-    let bad = format!(in rt.alloc(); "{one}\n# a comment\n\nstart 1 0\ncalm 1 before\nbegin")?;
+    let bad = format!(in rt.alloc();
+        "{one}\n# a comment\n\nstart 1 0\ncalm 1 before\nbegin"
+    ).expect(&rt, "no memory");
     helps(
         &rt,
         Command::Play,
         bad.as_bytes(),
         SimFault::BadCommand(5),
         "word 4 is missing: expected calm K, or calm K before NAME",
-    )?;
+    );
     helps(
         &rt,
         Command::Committer,
         b"setup\n\nset\nsetup",
         SimFault::BadCommand(3),
         CALLS,
-    )?;
+    );
     helps(
         &rt,
         Command::Seq,
         b"{\"id\":\"job_200707121733_0003\",\"job\":\"wordcount\",\"reduces\":0,\"splits\":[]}",
         SimFault::Job(JobTextFault::Reduces),
         "expected a whole number from 1 to 1000, as \"reduces\":2",
-    )?;
+    );
     helps(
         &rt,
         Command::Play,
         b"{\n\"id\":\"job_200707121733_0003\"}",
         SimFault::Job(JobTextFault::Text),
         "expected one JSON object, in UTF-8, all of it on line 1",
-    )?;
+    );
     helps(
         &rt,
         Command::Seq,
         b"[]",
         SimFault::Job(JobTextFault::Text),
         "expected one JSON object, in UTF-8",
-    )?;
+    );
     helps(
         &rt,
         Command::History,
         b"\n",
         SimFault::BadRecord(1),
         "expected a record as compact JSON, as {\"attempt\":\"attempt_200707121733_0003_r_000000_0\",\"event\":\"reduce\"}",
-    )?;
+    );
     helps(
         &rt,
         Command::Seq,
         b"{\"id\":\"job_200707121733_0003\",\"job\":\"maxbykey\",\"reduces\":1,\"splits\":[\"x\"]}",
         SimFault::Refused,
         "",
-    )
+    );
 }

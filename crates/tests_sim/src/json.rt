@@ -5,16 +5,15 @@ use mr_sim::{Command, SimFault, run};
 use std::process::Abort;
 use std::rt::Clock;
 use std::sync::Wait;
-use std::test::Fail;
 use std::thread::Threads;
 
 // For this input this is printed.
-fn prints<H: AllocGlobal + Clock + Threads + Wait + Sync + Abort>(
+fn prints<H: AllocGlobal + Eprint + Clock + Threads + Wait + Sync + Abort>(
     rt: &H,
-    command: Command,
+    command: Command<'_>,
     input: &[u8],
     printed: &[u8],
-) -> Result<(), Fail> {
+) {
     let mut reader = input;
     let mut writer = Expecting {
         left: printed,
@@ -24,12 +23,11 @@ fn prints<H: AllocGlobal + Clock + Threads + Wait + Sync + Abort>(
         Ok(()) => assert!(rt; writer.same && writer.left.is_empty()),
         Err(fault) => panic!(rt; "{fault}"),
     }
-    Ok(())
 }
 
 // A master opens and launches a map, an event is refused, and an expectation is not met: each event is an object, and last what came of it.
 #[test]
-fn run_in_json(rt: HostRuntime) -> Result<(), Fail> {
+fn run_in_json(rt: HostRuntime) {
     prints(
         &rt,
         Command::PlayJson,
@@ -59,12 +57,12 @@ expect marker yes\n\
 {\"calm\":false,\"event\":\"launch\",\"generation\":2,\"line\":8,\"node\":0,\"packets\":[{\"place\":0,\"says\":\"Launch 2.0 attempt_200707121733_0003_m_000000_1000 incarnation 1\",\"to\":\"node 0\"}],\"place\":10,\"task\":\"task_200707121733_0003_m_000000\"}\n\
 {\"files\":[],\"marker\":false,\"outcome\":\"none\",\"told\":\"9: NotNow NoPacket\\n10: expected marker yes, is no\\n\",\"winners\":[null]}\n\
 ",
-    )
+    );
 }
 
 // Each record is an object, and last the version and what is torn.
 #[test]
-fn segment_in_json(rt: HostRuntime) -> Result<(), Fail> {
+fn segment_in_json(rt: HostRuntime) {
     prints(
         &rt,
         Command::HistoryJson,
@@ -80,15 +78,15 @@ fn segment_in_json(rt: HostRuntime) -> Result<(), Fail> {
 {\"event\":\"unsuccessful\"}\n\
 {\"torn\":5,\"version\":2}\n\
 ",
-    )
+    );
 }
 
 #[test]
-fn bad_record_is_told(rt: HostRuntime) -> Result<(), Fail> {
+fn bad_record_is_told(rt: HostRuntime) {
     is_refused(
         &rt,
         Command::HistoryJson,
         b"{\"event\":\"unsuccessful\"}\n{}\n",
         SimFault::BadRecord(2),
-    )
+    );
 }

@@ -8,6 +8,8 @@ mod examples;
 #[cfg(test)]
 mod expectations;
 #[cfg(test)]
+mod explored;
+#[cfg(test)]
 mod hints;
 #[cfg(test)]
 mod json;

@@ -4,7 +4,6 @@ use mr_sim::{Command, JobTextFault, Shown, SimFault, run};
 use std::process::Abort;
 use std::rt::Clock;
 use std::sync::Wait;
-use std::test::Fail;
 use std::thread::Threads;
 
 // One map and one reduce, and the same with two reduces.
@@ -18,29 +17,29 @@ const TWO: &str =
 pub const ROOM: usize = 1 << 20;
 
 /// What this command prints for the input.
-pub fn printed<H: AllocGlobal + Clock + Threads + Wait + Sync + Abort>(
+pub fn printed<H: AllocGlobal + Eprint + Clock + Threads + Wait + Sync + Abort>(
     rt: &H,
-    command: Command,
+    command: Command<'_>,
     input: &str,
-) -> Result<String, Fail> {
+) -> String {
     let mut reader = input.as_bytes();
-    let mut writer = Vec::with_capacity(rt.alloc(), ROOM)?;
+    let mut writer = Vec::with_capacity(rt.alloc(), ROOM).expect(rt, "no memory");
     if let Err(fault) = run(rt, &command, &mut reader, &mut writer) {
         panic!(rt; "{fault}");
     }
     match str::from_utf8(&writer) {
-        Ok(text) => Ok(String::from_str(rt.alloc(), text)?),
+        Ok(text) => String::from_str(rt.alloc(), text).expect(rt, "no memory"),
         Err(_) => panic!(rt; "no text"),
     }
 }
 
 /// What `play --trace` prints for a job text and a script.
-pub fn traced<H: AllocGlobal + Clock + Threads + Wait + Sync + Abort>(
+pub fn traced<H: AllocGlobal + Eprint + Clock + Threads + Wait + Sync + Abort>(
     rt: &H,
     job: &str,
     script: &str,
-) -> Result<String, Fail> {
-    let input = format!(in rt.alloc(); "{job}\n{script}")?;
+) -> String {
+    let input = format!(in rt.alloc(); "{job}\n{script}").expect(rt, "no memory");
     let shown = Shown {
         trace: true,
         history: false,
@@ -54,7 +53,7 @@ pub fn count(text: &str, words: &str) -> usize {
 }
 
 /// These parts stand in the text, each behind the one before it.
-pub fn in_order<H: AllocGlobal + Abort>(rt: &H, text: &str, parts: &[&str]) -> Result<(), Fail> {
+pub fn in_order<H: AllocGlobal + Abort>(rt: &H, text: &str, parts: &[&str]) {
     let mut rest = text;
     for part in parts {
         match rest.split_once(*part) {
@@ -62,19 +61,18 @@ pub fn in_order<H: AllocGlobal + Abort>(rt: &H, text: &str, parts: &[&str]) -> R
             None => panic!(rt; "{part}"),
         }
     }
-    Ok(())
 }
 
 // Generation 2 crashes after the four calls that take the first winner's output over, and generation 3 looks for each output from the
 // newest generation back. Fails where a recovery moves a file without having read its length, deletes what it is to move, tells a win
 // before the rename, or looks one generation back alone.
 #[test]
-fn recovery_stopped_halfway_by_calls(rt: HostRuntime) -> Result<(), Fail> {
+fn recovery_stopped_halfway_by_calls(rt: HostRuntime) {
     let trace = traced(
         &rt,
         TWO,
         "start 1 0\ncalm 1 before started\ncrash 1 0\nstart 2 0\ncalm 2 before recover\nduty 2\nduty 2\nduty 2\nduty 2\ncrash 2 0\nstart 3 0\ncalm 3",
-    )?;
+    );
     in_order(
         &rt,
         &trace,
@@ -97,7 +95,7 @@ fn recovery_stopped_halfway_by_calls(rt: HostRuntime) -> Result<(), Fail> {
             ": duty 3 recover (line 13, calm) | rename /out/_temporary/1/task_200707121733_0003_r_000001 /out/_temporary/3/task_200707121733_0003_r_000001: done | ",
             " to node 0: Won attempt_200707121733_0003_r_000001_0\n",
         ],
-    )?;
+    );
     assert_eq!(rt; count(&trace, ": duty 2 recover ("), 4);
     assert_eq!(rt; count(&trace, ": duty 3 recover ("), 9);
     assert_eq!(rt; count(&trace, "launch 3 "), 0);
@@ -106,19 +104,18 @@ fn recovery_stopped_halfway_by_calls(rt: HostRuntime) -> Result<(), Fail> {
             "r 0 attempt_200707121733_0003_r_000000_0\nr 1 attempt_200707121733_0003_r_000001_0\nmarker yes\noutcome succeeded\n== part-r-00000 4\nb\t1\n== part-r-00001 4\na\t2\n"
         )
     );
-    Ok(())
 }
 
 // The merge of two outputs, call by call: the ninth is the rename of the second part, and it comes after the fence rose. Fails where
 // the fence is not looked at in the middle of a job commit, where the merge goes on after the refusal, where the next generation
 // begins the job commit again, or where the trace tells the two paths of a rename the wrong way round.
 #[test]
-fn superseded_in_merge_by_calls(rt: HostRuntime) -> Result<(), Fail> {
+fn superseded_in_merge_by_calls(rt: HostRuntime) {
     let trace = traced(
         &rt,
         TWO,
         "start 1 0\ncalm 1 before merge\nduty 1\nduty 1\nduty 1\nduty 1\nduty 1\nduty 1\nduty 1\nduty 1\nstart 2 0\nduty 1\ncalm 2",
-    )?;
+    );
     in_order(
         &rt,
         &trace,
@@ -138,7 +135,7 @@ fn superseded_in_merge_by_calls(rt: HostRuntime) -> Result<(), Fail> {
             ": duty 2 marks (line 14, calm) | exists /staging/COMMIT_FAIL: nothing\n",
             ": duty 2 marks (line 14, calm) | exists /staging/COMMIT_STARTED: a file | 26 to node 0: Outcome failed\n",
         ],
-    )?;
+    );
     assert_eq!(rt; count(&trace, ": duty 1 merge ("), 9);
     assert_eq!(rt; count(&trace, ": duty 2 "), 3);
     assert!(rt;
@@ -146,19 +143,18 @@ fn superseded_in_merge_by_calls(rt: HostRuntime) -> Result<(), Fail> {
             "r 0 attempt_200707121733_0003_r_000000_0\nr 1 attempt_200707121733_0003_r_000001_0\nmarker no\noutcome failed\n== part-r-00000 4\nb\t1\n"
         )
     );
-    Ok(())
 }
 
 // The node is given up before the rename: the attempt is barred, and only then its container is killed and another attempt runs, of
 // the map too. Fails where no bar is asked for, where the rename of a barred attempt is done, where the output of a lost node is used
 // again, or where the trace exchanges the master and the node of an expiry.
 #[test]
-fn barred_before_rename_by_calls(rt: HostRuntime) -> Result<(), Fail> {
+fn barred_before_rename_by_calls(rt: HostRuntime) {
     let trace = traced(
         &rt,
         ONE,
         "start 1 0\ncalm 1 before rename\nexpire 1 0\nduty 1\nstep 1.1\ncalm 1",
-    )?;
+    );
     in_order(
         &rt,
         &trace,
@@ -172,7 +168,7 @@ fn barred_before_rename_by_calls(rt: HostRuntime) -> Result<(), Fail> {
             ": launch 1 r 0 0 (line 7, calm) | 17 to node 0: Launch 1.3 attempt_200707121733_0003_r_000000_1 incarnation 1\n",
             ": step 1.3 rename (line 7, calm) | rename /out/_temporary/1/_temporary/attempt_200707121733_0003_r_000000_1 /out/_temporary/1/task_200707121733_0003_r_000000: done\n",
         ],
-    )?;
+    );
     assert_eq!(rt; count(&trace, "launch 1 m 0 0 "), 2);
     assert_eq!(rt; count(&trace, ": Launch "), 4);
     assert_eq!(rt; count(&trace, " bar ("), 1);
@@ -181,18 +177,17 @@ fn barred_before_rename_by_calls(rt: HostRuntime) -> Result<(), Fail> {
             "r 0 attempt_200707121733_0003_r_000000_1\nmarker yes\noutcome succeeded\n== part-r-00000 8\na\t2\nb\t1\n"
         )
     );
-    Ok(())
 }
 
 // The report comes before the bar: the attempt has won, the bar is dropped, and map 0 runs once, though its output is lost. Fails where
 // an attempt that is done is barred or killed, or where a map whose output nobody needs any more runs again.
 #[test]
-fn done_before_bar_by_calls(rt: HostRuntime) -> Result<(), Fail> {
+fn done_before_bar_by_calls(rt: HostRuntime) {
     let trace = traced(
         &rt,
         ONE,
         "start 1 0\ncalm 1 before rename\nstep 1.1\nexpire 1 0\nstep 1.1\ncalm 1",
-    )?;
+    );
     in_order(
         &rt,
         &trace,
@@ -204,7 +199,7 @@ fn done_before_bar_by_calls(rt: HostRuntime) -> Result<(), Fail> {
             ": duty 1 flush (line 7, calm) | flush: done | 14 to node 0: Won attempt_200707121733_0003_r_000000_0\n",
             ": duty 1 started (line 7, calm) | create /staging/COMMIT_STARTED closed: done\n",
         ],
-    )?;
+    );
     assert_eq!(rt; count(&trace, "launch 1 m 0 0 "), 1);
     assert_eq!(rt; count(&trace, "compute 1.0 "), 1);
     assert_eq!(rt; count(&trace, ": Launch "), 2);
@@ -215,7 +210,6 @@ fn done_before_bar_by_calls(rt: HostRuntime) -> Result<(), Fail> {
             "r 0 attempt_200707121733_0003_r_000000_0\nmarker yes\noutcome succeeded\n== part-r-00000 8\na\t2\nb\t1\n"
         )
     );
-    Ok(())
 }
 
 // One map and one reduce on two nodes.
@@ -226,12 +220,12 @@ const NODES: &str =
 // under the new incarnation. An old launch that comes again does nothing. Fails where a node answers from a shelf of its earlier life,
 // where an old launch starts a container, or where the reduce waits for ever.
 #[test]
-fn lost_map_output_by_calls(rt: HostRuntime) -> Result<(), Fail> {
+fn lost_map_output_by_calls(rt: HostRuntime) {
     let trace = traced(
         &rt,
         NODES,
         "start 1 0\ncalm 1 before flush\nduty 1\nlaunch 1 r 0 1\ncalm 1 before step\nstep 1.1\ncalm 1 before step\nrestart 0\ndeliver 0\nstep 1.1\ncalm 1",
-    )?;
+    );
     in_order(
         &rt,
         &trace,
@@ -249,7 +243,7 @@ fn lost_map_output_by_calls(rt: HostRuntime) -> Result<(), Fail> {
             " node 0 incarnation 2\n",
             " reduce 0 incarnation 2 offset 0\n",
         ],
-    )?;
+    );
     assert_eq!(rt;
         count(
             &trace,
@@ -271,19 +265,18 @@ fn lost_map_output_by_calls(rt: HostRuntime) -> Result<(), Fail> {
             "r 0 attempt_200707121733_0003_r_000000_0\nmarker yes\noutcome succeeded\n== part-r-00000 8\na\t2\nb\t1\n"
         )
     );
-    Ok(())
 }
 
 // The marker is made, and nobody hears of it: the job is told to have failed, and its abort finds nothing to delete. Fails where a call
 // that was made is told as not made, where a failed job commit leaves no COMMIT_FAIL, where the outcome is told before that mark, or
 // where the next call is the success.
 #[test]
-fn unanswered_marker_by_calls(rt: HostRuntime) -> Result<(), Fail> {
+fn unanswered_marker_by_calls(rt: HostRuntime) {
     let trace = traced(
         &rt,
         ONE,
         "start 1 0\ncalm 1 before marker\nduty 1 unanswered\ncalm 1",
-    )?;
+    );
     in_order(
         &rt,
         &trace,
@@ -293,7 +286,7 @@ fn unanswered_marker_by_calls(rt: HostRuntime) -> Result<(), Fail> {
             ": duty 1 fail (line 5, calm) | create /staging/COMMIT_FAIL closed: done\n",
             ": duty 1 abort (line 5, calm) | delete /out/_temporary: Missing | 15 to node 0: Outcome failed\n",
         ],
-    )?;
+    );
     assert_eq!(rt; count(&trace, "COMMIT_SUCCESS closed"), 0);
     assert_eq!(rt; count(&trace, ": Outcome "), 1);
     assert!(rt;
@@ -301,19 +294,18 @@ fn unanswered_marker_by_calls(rt: HostRuntime) -> Result<(), Fail> {
             "r 0 attempt_200707121733_0003_r_000000_0\nmarker yes\noutcome failed\n== part-r-00000 8\na\t2\nb\t1\n"
         )
     );
-    Ok(())
 }
 
 // A container does not hear that its rename was done: it aborts, which finds no output of its own, and fails. The next attempt deletes
 // what the first one left in its task's place. Fails where the container goes on to report, or where the committed file of an attempt
 // that failed is kept.
 #[test]
-fn unanswered_rename_by_calls(rt: HostRuntime) -> Result<(), Fail> {
+fn unanswered_rename_by_calls(rt: HostRuntime) {
     let trace = traced(
         &rt,
         ONE,
         "start 1 0\ncalm 1 before rename\nstep 1.1 unanswered\ncalm 1",
-    )?;
+    );
     in_order(
         &rt,
         &trace,
@@ -325,26 +317,25 @@ fn unanswered_rename_by_calls(rt: HostRuntime) -> Result<(), Fail> {
             ": launch 1 r 0 0 (line 5, calm) | 13 to node 0: Launch 1.2 attempt_200707121733_0003_r_000000_1 incarnation 1\n",
             ": step 1.2 clear (line 5, calm) | delete /out/_temporary/1/task_200707121733_0003_r_000000: done\n",
         ],
-    )?;
+    );
     assert_eq!(rt; count(&trace, "launch 1 m 0 0 "), 1);
     assert!(rt;
         trace.ends_with(
             "r 0 attempt_200707121733_0003_r_000000_1\nmarker yes\noutcome succeeded\n== part-r-00000 8\na\t2\nb\t1\n"
         )
     );
-    Ok(())
 }
 
 // Two attempts of a reduce ask for permission: the first is told yes, the second no, again and again, and it is killed once the first
 // one's record is stable. Fails where both are told yes, where the win is told before the flush, where the loser goes on to run, or
 // where the trace tells the first packet of an event alone.
 #[test]
-fn second_attempt_is_killed_by_calls(rt: HostRuntime) -> Result<(), Fail> {
+fn second_attempt_is_killed_by_calls(rt: HostRuntime) {
     let trace = traced(
         &rt,
         ONE,
         "start 1 0\ncalm 1 before flush\nduty 1\ncalm 1 before step\nlaunch 1 r 0 0\ncalm 1",
-    )?;
+    );
     in_order(
         &rt,
         &trace,
@@ -360,7 +351,7 @@ fn second_attempt_is_killed_by_calls(rt: HostRuntime) -> Result<(), Fail> {
             ": duty 1 flush (line 7, calm) | flush: done | 27 to node 0: Won attempt_200707121733_0003_r_000000_0 | 28 to node 0: Kill 1.2\n",
             " | 29 to master 1: Ended 1.2\n",
         ],
-    )?;
+    );
     assert_eq!(rt;
         count(&trace, "Answer attempt_200707121733_0003_r_000000_1 yes"),
         0
@@ -377,21 +368,20 @@ fn second_attempt_is_killed_by_calls(rt: HostRuntime) -> Result<(), Fail> {
             "r 0 attempt_200707121733_0003_r_000000_0\nmarker yes\noutcome succeeded\n== part-r-00000 8\na\t2\nb\t1\n"
         )
     );
-    Ok(())
 }
 
 // A block of more than 65,536 bytes comes in two pieces, and the second is asked for from where the first one ended. Fails where a node
 // gives the rest of a block from the wrong place, cuts it off, or gives all of it at once.
 #[test]
-fn block_in_two_pieces_by_calls(rt: HostRuntime) -> Result<(), Fail> {
+fn block_in_two_pieces_by_calls(rt: HostRuntime) {
     let mut word = String::new(rt.alloc());
     for _ in 0..70_000 {
-        word.push('a')?;
+        word.push('a').expect(&rt, "no memory");
     }
     let job = format!(in rt.alloc();
         "{{\"id\":\"job_200707121733_0003\",\"job\":\"wordcount\",\"reduces\":1,\"splits\":[\"{word}\"]}}"
-    )?;
-    let trace = traced(&rt, &job, "start 1 0\ncalm 1")?;
+    ).expect(&rt, "no memory");
+    let trace = traced(&rt, &job, "start 1 0\ncalm 1");
     in_order(
         &rt,
         &trace,
@@ -403,20 +393,19 @@ fn block_in_two_pieces_by_calls(rt: HostRuntime) -> Result<(), Fail> {
             "Piece attempt_200707121733_0003_m_000000_0 reduce 0 offset 65536 total 70012 bytes 4476\n",
             ": compute 1.1 bytes 70003 (line 3, calm)\n",
         ],
-    )?;
+    );
     assert_eq!(rt; count(&trace, ": Piece "), 2);
-    Ok(())
 }
 
 // A job with no split has no map: its reduce asks for nothing, and its text is empty. Fails where a reduce with no piece waits, or is
 // refused.
 #[test]
-fn reduce_without_pieces(rt: HostRuntime) -> Result<(), Fail> {
+fn reduce_without_pieces(rt: HostRuntime) {
     let trace = traced(
         &rt,
         "{\"id\":\"job_200707121733_0003\",\"job\":\"wordcount\",\"reduces\":1,\"splits\":[]}",
         "start 1 0\ncalm 1",
-    )?;
+    );
     in_order(
         &rt,
         &trace,
@@ -426,7 +415,7 @@ fn reduce_without_pieces(rt: HostRuntime) -> Result<(), Fail> {
             ": Done attempt_200707121733_0003_r_000000_0 bytes 0\n",
             ": Won attempt_200707121733_0003_r_000000_0\n",
         ],
-    )?;
+    );
     for words in ["launch 1 m", " where (", " fetch ("] {
         assert_eq!(rt; count(&trace, words), 0);
     }
@@ -435,24 +424,27 @@ fn reduce_without_pieces(rt: HostRuntime) -> Result<(), Fail> {
             "r 0 attempt_200707121733_0003_r_000000_0\nmarker yes\noutcome succeeded\n== part-r-00000 0\n"
         )
     );
-    Ok(())
 }
 
 // A job of no reduce is refused by the key, and a list by the text, by `seq` and by `play`, and both with status 3. Fails where a job
 // of no reduce runs, or where another key is told.
 #[test]
-fn job_texts_refused_by_both(rt: HostRuntime) -> Result<(), Fail> {
+fn job_texts_refused_by_both(rt: HostRuntime) {
     let none =
         "{\"id\":\"job_200707121733_0003\",\"job\":\"wordcount\",\"reduces\":0,\"splits\":[\"a b a\"]}";
     for (text, fault, told) in [
         (none, JobTextFault::Reduces, "mrsim: job: reduces"),
         ("[]", JobTextFault::Text, "mrsim: job: text"),
     ] {
-        is_refused(&rt, Command::Seq, text.as_bytes(), SimFault::Job(fault))?;
-        is_refused(&rt, Command::Play, text.as_bytes(), SimFault::Job(fault))?;
+        is_refused(&rt, Command::Seq, text.as_bytes(), SimFault::Job(fault));
+        is_refused(&rt, Command::Play, text.as_bytes(), SimFault::Job(fault));
         let fault = SimFault::Job(fault);
         assert_eq!(rt; fault.status(), 3);
-        assert!(rt; format!(in rt.alloc(); "{fault}")?.as_str() == told);
+        assert!(rt;
+            format!(in rt.alloc(); "{fault}")
+                .expect(&rt, "no memory")
+                .as_str()
+                == told
+        );
     }
-    Ok(())
 }

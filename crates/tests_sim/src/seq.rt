@@ -7,35 +7,34 @@ use mr_sim::{Command, Ending, JobTextFault, SimFault, exit_status};
 use std::process::Abort;
 use std::rt::Clock;
 use std::sync::Wait;
-use std::test::Fail;
 use std::thread::Threads;
 
 /// The job text is run, and this is printed.
-pub fn prints<H: AllocGlobal + Clock + Threads + Wait + Sync + Abort>(
+pub fn prints<H: AllocGlobal + Eprint + Clock + Threads + Wait + Sync + Abort>(
     rt: &H,
     text: &[u8],
     printed: &[u8],
-) -> Result<(), Fail> {
-    gives(rt, Command::Seq, text, printed)
+) {
+    gives(rt, Command::Seq, text, printed);
 }
 
 // A job text with this behind its identifier.
-fn of_job<H: AllocGlobal + Abort>(rt: &H, rest: &str) -> Result<String, Fail> {
-    Ok(format!(in rt.alloc(); "{{\"id\":\"job_200707121733_0003\",{rest}}}")?)
+fn of_job<H: AllocGlobal + Abort>(rt: &H, rest: &str) -> String {
+    format!(in rt.alloc(); "{{\"id\":\"job_200707121733_0003\",{rest}}}").expect(rt, "no memory")
 }
 
 // A job text with this behind its splits.
-fn of_splits<H: AllocGlobal + Abort>(rt: &H, rest: &str) -> Result<String, Fail> {
+fn of_splits<H: AllocGlobal + Abort>(rt: &H, rest: &str) -> String {
     of_job(
         rt,
-        format!(in rt.alloc();
-            "\"job\":\"wordcount\",\"reduces\":1,\"splits\":[\"a\"]{rest}"
-        )?.as_str(),
+        format!(in rt.alloc(); "\"job\":\"wordcount\",\"reduces\":1,\"splits\":[\"a\"]{rest}")
+            .expect(rt, "no memory")
+            .as_str(),
     )
 }
 
 #[test]
-fn seq_wordcount(rt: HostRuntime) -> Result<(), Fail> {
+fn seq_wordcount(rt: HostRuntime) {
     for (splits, printed) in [
         (
             "[\"a b a\"]",
@@ -46,14 +45,13 @@ fn seq_wordcount(rt: HostRuntime) -> Result<(), Fail> {
     ] {
         let rest = format!(in rt.alloc();
             "\"job\":\"wordcount\",\"reduces\":2,\"splits\":{splits}"
-        )?;
-        prints(&rt, of_job(&rt, &rest)?.as_bytes(), printed.as_bytes())?;
+        ).expect(&rt, "no memory");
+        prints(&rt, of_job(&rt, &rest).as_bytes(), printed.as_bytes());
     }
-    Ok(())
 }
 
 #[test]
-fn seq_other_jobs(rt: HostRuntime) -> Result<(), Fail> {
+fn seq_other_jobs(rt: HostRuntime) {
     for (rest, printed) in [
         (
             "\"job\":\"maxbykey\",\"reduces\":1,\"splits\":[\"x 3\\ny 10\\n\",\"x 7\"]",
@@ -64,15 +62,15 @@ fn seq_other_jobs(rt: HostRuntime) -> Result<(), Fail> {
             "== part-r-00000 28\na\t0:0,0:1,1:0,1:0\nb\t0:0,1:0\n",
         ),
     ] {
-        prints(&rt, of_job(&rt, rest)?.as_bytes(), printed.as_bytes())?;
+        prints(&rt, of_job(&rt, rest).as_bytes(), printed.as_bytes());
     }
-    let refused = of_job(&rt, "\"job\":\"maxbykey\",\"reduces\":1,\"splits\":[\"x\"]")?;
-    is_refused(&rt, Command::Seq, refused.as_bytes(), SimFault::Refused)
+    let refused = of_job(&rt, "\"job\":\"maxbykey\",\"reduces\":1,\"splits\":[\"x\"]");
+    is_refused(&rt, Command::Seq, refused.as_bytes(), SimFault::Refused);
 }
 
 // Escapes and characters of several bytes, keys in another order, other keys, and a doubled one, whose last value counts.
 #[test]
-fn job_text_spellings(rt: HostRuntime) -> Result<(), Fail> {
+fn job_text_spellings(rt: HostRuntime) {
     for (text, printed) in [
         (
             " {\"splits\": [\"\\u0061\\tb\\u000A\\u00e9 \\ud83d\\ude00 \u{e9}\"], \"reduces\": 7, \"reduces\": 1, \"x\": {\"id\": 1},\n\"job\": \"word\\u0063ount\", \"id\": \"job_0_0000\"}\n",
@@ -85,49 +83,45 @@ fn job_text_spellings(rt: HostRuntime) -> Result<(), Fail> {
             "== part-r-00000 4\na\t1\n",
         ),
     ] {
-        prints(&rt, text.as_bytes(), printed.as_bytes())?;
+        prints(&rt, text.as_bytes(), printed.as_bytes());
     }
-    Ok(())
 }
 
 // These texts are refused so.
-fn refuses<H: AllocGlobal + Clock + Threads + Wait + Sync + Abort>(
+fn refuses<H: AllocGlobal + Eprint + Clock + Threads + Wait + Sync + Abort>(
     rt: &H,
     texts: &[&str],
     fault: JobTextFault,
-) -> Result<(), Fail> {
+) {
     for text in texts {
-        is_refused(rt, Command::Seq, text.as_bytes(), SimFault::Job(fault))?;
+        is_refused(rt, Command::Seq, text.as_bytes(), SimFault::Job(fault));
     }
-    Ok(())
 }
 
 // What stands behind the splits is refused so.
-fn refuses_rest<H: AllocGlobal + Clock + Threads + Wait + Sync + Abort>(
+fn refuses_rest<H: AllocGlobal + Eprint + Clock + Threads + Wait + Sync + Abort>(
     rt: &H,
     rests: &[&str],
     fault: JobTextFault,
-) -> Result<(), Fail> {
+) {
     for rest in rests {
-        refuses(rt, &[of_splits(rt, rest)?.as_str()], fault)?;
+        refuses(rt, &[of_splits(rt, rest).as_str()], fault);
     }
-    Ok(())
 }
 
 // What stands behind the identifier is refused so.
-fn refuses_job<H: AllocGlobal + Clock + Threads + Wait + Sync + Abort>(
+fn refuses_job<H: AllocGlobal + Eprint + Clock + Threads + Wait + Sync + Abort>(
     rt: &H,
     rests: &[&str],
     fault: JobTextFault,
-) -> Result<(), Fail> {
+) {
     for rest in rests {
-        refuses(rt, &[of_job(rt, rest)?.as_str()], fault)?;
+        refuses(rt, &[of_job(rt, rest).as_str()], fault);
     }
-    Ok(())
 }
 
 #[test]
-fn bad_job_texts(rt: HostRuntime) -> Result<(), Fail> {
+fn bad_job_texts(rt: HostRuntime) {
     refuses(
         &rt,
         &[
@@ -142,13 +136,13 @@ fn bad_job_texts(rt: HostRuntime) -> Result<(), Fail> {
             "{\"x\":01}",
         ],
         JobTextFault::Text,
-    )?;
+    );
     is_refused(
         &rt,
         Command::Seq,
         b"{\"id\":\"\xff\"}",
         SimFault::Job(JobTextFault::Text),
-    )?;
+    );
     refuses(
         &rt,
         &[
@@ -163,7 +157,7 @@ fn bad_job_texts(rt: HostRuntime) -> Result<(), Fail> {
             "{\"id\":\"job_1_0001\",\"id\":\"job\"}",
         ],
         JobTextFault::Id,
-    )?;
+    );
     refuses_job(
         &rt,
         &[
@@ -173,11 +167,11 @@ fn bad_job_texts(rt: HostRuntime) -> Result<(), Fail> {
             "\"reduces\":0",
         ],
         JobTextFault::Job,
-    )
+    );
 }
 
 #[test]
-fn bad_numbers(rt: HostRuntime) -> Result<(), Fail> {
+fn bad_numbers(rt: HostRuntime) {
     for number in [
         "0",
         "1001",
@@ -191,32 +185,38 @@ fn bad_numbers(rt: HostRuntime) -> Result<(), Fail> {
     ] {
         let rest = format!(in rt.alloc();
             "\"job\":\"wordcount\",\"reduces\":{number},\"splits\":1"
-        )?;
-        refuses_job(&rt, &[rest.as_str()], JobTextFault::Reduces)?;
-        let rest = format!(in rt.alloc(); ",\"nodes\":{number},\"limit\":0")?;
-        refuses_rest(&rt, &[rest.as_str()], JobTextFault::Nodes)?;
-        let rest = format!(in rt.alloc(); ",\"limit\":{number},\"faults\":0")?;
-        refuses_rest(&rt, &[rest.as_str()], JobTextFault::Limit)?;
-        let rest = format!(in rt.alloc(); ",\"v2from\":{number}")?;
-        refuses_rest(&rt, &[rest.as_str()], JobTextFault::V2From)?;
+        ).expect(&rt, "no memory");
+        refuses_job(&rt, &[rest.as_str()], JobTextFault::Reduces);
+        let rest = format!(in rt.alloc(); ",\"nodes\":{number},\"limit\":0").expect(
+            &rt,
+            "no memory",
+        );
+        refuses_rest(&rt, &[rest.as_str()], JobTextFault::Nodes);
+        let rest = format!(in rt.alloc(); ",\"limit\":{number},\"faults\":0").expect(
+            &rt,
+            "no memory",
+        );
+        refuses_rest(&rt, &[rest.as_str()], JobTextFault::Limit);
+        let rest = format!(in rt.alloc(); ",\"v2from\":{number}").expect(&rt, "no memory");
+        refuses_rest(&rt, &[rest.as_str()], JobTextFault::V2From);
     }
-    refuses_rest(&rt, &[",\"nodes\":65"], JobTextFault::Nodes)?;
-    refuses_rest(&rt, &[",\"limit\":101"], JobTextFault::Limit)?;
-    refuses_rest(&rt, &[",\"v2from\":0,\"faults\":0"], JobTextFault::Faults)
+    refuses_rest(&rt, &[",\"nodes\":65"], JobTextFault::Nodes);
+    refuses_rest(&rt, &[",\"limit\":101"], JobTextFault::Limit);
+    refuses_rest(&rt, &[",\"v2from\":0,\"faults\":0"], JobTextFault::Faults);
 }
 
 #[test]
-fn bad_lists(rt: HostRuntime) -> Result<(), Fail> {
+fn bad_lists(rt: HostRuntime) {
     for splits in ["", "null", "\"a\"", "{}", "[\"a\",1]", "[null]"] {
         let rest = format!(in rt.alloc();
             "\"job\":\"lineindex\",\"reduces\":1000,\"nodes\":0,\"splits\":{splits}"
-        )?;
+        ).expect(&rt, "no memory");
         let rest = if splits.is_empty() {
             "\"job\":\"lineindex\",\"reduces\":1000,\"nodes\":0"
         } else {
             rest.as_str()
         };
-        refuses_job(&rt, &[rest], JobTextFault::Splits)?;
+        refuses_job(&rt, &[rest], JobTextFault::Splits);
     }
     for faults in [
         "null",
@@ -241,58 +241,57 @@ fn bad_lists(rt: HostRuntime) -> Result<(), Fail> {
         "[{\"after\":1,\"node\":0,\"expire\":0}]",
         "[{\"after\":1,\"master\":0,\"expire\":0}]",
     ] {
-        let rest = format!(in rt.alloc(); ",\"faults\":{faults}")?;
-        refuses_rest(&rt, &[rest.as_str()], JobTextFault::Faults)?;
+        let rest = format!(in rt.alloc(); ",\"faults\":{faults}").expect(&rt, "no memory");
+        refuses_rest(&rt, &[rest.as_str()], JobTextFault::Faults);
     }
-    Ok(())
 }
 
 // A list of so many times this item.
-fn list_of<H: AllocGlobal + Abort>(rt: &H, item: &str, count: usize) -> Result<String, Fail> {
+fn list_of<H: AllocGlobal + Abort>(rt: &H, item: &str, count: usize) -> String {
     let mut list = String::new(rt.alloc());
     for number in 0..count {
-        list.push_str(if number == 0 { "[" } else { "," })?;
-        list.push_str(item)?;
+        list.push_str(if number == 0 { "[" } else { "," })
+            .expect(rt, "no memory");
+        list.push_str(item).expect(rt, "no memory");
     }
-    list.push(']')?;
-    Ok(list)
+    list.push(']').expect(rt, "no memory");
+    list
 }
 
 #[test]
-fn long_lists(rt: HostRuntime) -> Result<(), Fail> {
+fn long_lists(rt: HostRuntime) {
     for (count, good) in [(1000, true), (1001, false)] {
-        let splits = list_of(&rt, "\"a\"", count)?;
+        let splits = list_of(&rt, "\"a\"", count);
         let rest = format!(in rt.alloc();
             "\"job\":\"wordcount\",\"reduces\":1,\"splits\":{splits}"
-        )?;
+        ).expect(&rt, "no memory");
         if good {
             prints(
                 &rt,
-                of_job(&rt, &rest)?.as_bytes(),
+                of_job(&rt, &rest).as_bytes(),
                 b"== part-r-00000 7\na\t1000\n",
-            )?;
+            );
         } else {
-            refuses_job(&rt, &[rest.as_str()], JobTextFault::Splits)?;
+            refuses_job(&rt, &[rest.as_str()], JobTextFault::Splits);
         }
     }
     for (count, good) in [(100, true), (101, false)] {
-        let faults = list_of(&rt, "{\"after\":1,\"node\":0}", count)?;
-        let rest = format!(in rt.alloc(); ",\"faults\":{faults}")?;
+        let faults = list_of(&rt, "{\"after\":1,\"node\":0}", count);
+        let rest = format!(in rt.alloc(); ",\"faults\":{faults}").expect(&rt, "no memory");
         if good {
             prints(
                 &rt,
-                of_splits(&rt, &rest)?.as_bytes(),
+                of_splits(&rt, &rest).as_bytes(),
                 b"== part-r-00000 4\na\t1\n",
-            )?;
+            );
         } else {
-            refuses_rest(&rt, &[rest.as_str()], JobTextFault::Faults)?;
+            refuses_rest(&rt, &[rest.as_str()], JobTextFault::Faults);
         }
     }
-    Ok(())
 }
 
 #[test]
-fn seq_statuses(rt: HostRuntime) -> Result<(), Fail> {
+fn seq_statuses(rt: HostRuntime) {
     for (fault, text) in [
         (SimFault::Job(JobTextFault::Text), "mrsim: job: text"),
         (SimFault::Job(JobTextFault::Id), "mrsim: job: id"),
@@ -307,16 +306,20 @@ fn seq_statuses(rt: HostRuntime) -> Result<(), Fail> {
     ] {
         assert_eq!(rt; fault.status(), 3);
         assert_eq!(rt; exit_status(Ending::Failed(fault)), 3);
-        assert!(rt; format!(in rt.alloc(); "{fault}")?.as_str() == text);
+        assert!(rt;
+            format!(in rt.alloc(); "{fault}")
+                .expect(&rt, "no memory")
+                .as_str()
+                == text
+        );
     }
-    Ok(())
 }
 
 // What a job text gives, with the defaults and without.
 #[test]
-fn read_submission(rt: HostRuntime) -> Result<(), Fail> {
+fn read_submission(rt: HostRuntime) {
     let alloc = rt.alloc();
-    let job = read_job_text(alloc, of_splits(&rt, "")?.as_bytes())?;
+    let job = read_job_text(alloc, of_splits(&rt, "").as_bytes()).expect(&rt, "a fault");
     assert!(rt;
         job.id
             == JobId {
@@ -331,7 +334,7 @@ fn read_submission(rt: HostRuntime) -> Result<(), Fail> {
     assert!(rt; job.splits.into_vec()[0].as_slice() == b"a".as_slice());
     let rest =
         ",\"v2from\":1000,\"nodes\":2,\"limit\":3,\"faults\":[{\"after\":7,\"node\":1},{\"after\":8,\"master\":9},{\"after\":0,\"expire\":1}]";
-    let job = read_job_text(alloc, of_splits(&rt, rest)?.as_bytes())?;
+    let job = read_job_text(alloc, of_splits(&rt, rest).as_bytes()).expect(&rt, "a fault");
     assert!(rt; job.nodes == 2 && job.limit == 3 && job.v2_from == 1000);
     let faults = [
         PlanFault {
@@ -348,5 +351,4 @@ fn read_submission(rt: HostRuntime) -> Result<(), Fail> {
         },
     ];
     assert!(rt; job.faults.into_vec().as_slice() == faults.as_slice());
-    Ok(())
 }

@@ -5,64 +5,62 @@ use mr_sim::{Command, Part, Shown};
 use std::process::Abort;
 use std::rt::Clock;
 use std::sync::Wait;
-use std::test::Fail;
 use std::thread::Threads;
 
 // What is printed of a run that came to no end.
 const NONE: &str = "r 0 none\nmarker no\noutcome none\n";
 
 /// The script is run for wordcount of `a b a` with this behind its splits, and this and then these segments are shown.
-fn keeps<H: AllocGlobal + Clock + Threads + Wait + Sync + Abort>(
+fn keeps<H: AllocGlobal + Eprint + Clock + Threads + Wait + Sync + Abort>(
     rt: &H,
     rest: &str,
     script: &str,
     end: &str,
     segments: &str,
-) -> Result<(), Fail> {
+) {
     let input = format!(in rt.alloc();
         "{{\"id\":\"job_200707121733_0003\",\"job\":\"wordcount\",\"reduces\":1,\"splits\":[\"a b a\"]{rest}}}\n{script}"
-    )?;
-    let all = format!(in rt.alloc(); "{end}{segments}")?;
+    ).expect(rt, "no memory");
+    let all = format!(in rt.alloc(); "{end}{segments}").expect(rt, "no memory");
     let shown = Shown {
         trace: false,
         history: true,
     };
-    let text = printed(rt, Command::PlayShown(shown), &input)?;
+    let text = printed(rt, Command::PlayShown(shown), &input);
     assert!(rt; text.as_str() == all.as_str(), "{text}");
-    Ok(())
 }
 
 // The history alone, with no trace: of a whole job, and of one whose first master writes version 1. Fails where the version line stands
 // in a segment of version 1 or lacks in one of version 2, where a length lacks, or where a record that a crash lost is shown.
 #[test]
-fn histories_of_whole_jobs(rt: HostRuntime) -> Result<(), Fail> {
+fn histories_of_whole_jobs(rt: HostRuntime) {
     keeps(
         &rt,
         "",
         "start 1 0\ncalm 1",
         "r 0 attempt_200707121733_0003_r_000000_0\nmarker yes\noutcome succeeded\n== part-r-00000 8\na\t2\nb\t1\n",
         "== history 1 338\n{\"version\":2}\n{\"attempt\":\"attempt_200707121733_0003_m_000000_0\",\"event\":\"started\",\"node\":0}\n{\"attempt\":\"attempt_200707121733_0003_m_000000_0\",\"event\":\"map\",\"incarnation\":1,\"node\":0}\n{\"attempt\":\"attempt_200707121733_0003_r_000000_0\",\"event\":\"started\",\"node\":0}\n{\"attempt\":\"attempt_200707121733_0003_r_000000_0\",\"bytes\":8,\"event\":\"reduce\"}\n",
-    )?;
+    );
     keeps(
         &rt,
         ",\"v2from\":2",
         "start 1 0\ncalm 1 before flush\nduty 1\ncalm 1 before flush\ncrash 1 0\nstart 2 0\ncalm 2",
         "r 0 attempt_200707121733_0003_r_000000_1000\nmarker yes\noutcome succeeded\n== part-r-00000 8\na\t2\nb\t1\n",
         "== history 1 168\n{\"attempt\":\"attempt_200707121733_0003_m_000000_0\",\"event\":\"started\",\"node\":0}\n{\"attempt\":\"attempt_200707121733_0003_m_000000_0\",\"event\":\"map\",\"incarnation\":1,\"node\":0}\n== history 2 176\n{\"version\":2}\n{\"attempt\":\"attempt_200707121733_0003_r_000000_1000\",\"event\":\"started\",\"node\":0}\n{\"attempt\":\"attempt_200707121733_0003_r_000000_1000\",\"bytes\":8,\"event\":\"reduce\"}\n",
-    )
+    );
 }
 
 // A crash keeps 100 bytes of what was not flushed: a whole line, and the beginning of the next. Fails where the torn end is left out,
 // completed, or ended by a line feed.
 #[test]
-fn torn_end_is_shown(rt: HostRuntime) -> Result<(), Fail> {
+fn torn_end_is_shown(rt: HostRuntime) {
     keeps(
         &rt,
         "",
         "start 1 0\ncalm 1 before flush\nduty 1\ncalm 1 before flush\ncrash 1 100",
         NONE,
         "== history 1 282\n{\"version\":2}\n{\"attempt\":\"attempt_200707121733_0003_m_000000_0\",\"event\":\"started\",\"node\":0}\n{\"attempt\":\"attempt_200707121733_0003_m_000000_0\",\"event\":\"map\",\"incarnation\":1,\"node\":0}\n{\"attempt\":\"attempt_200707121733_0003_r_000000_0\",\"event\":\"started\",\"node\":0}\n{\"attempt\":\"attempt_20",
-    )
+    );
 }
 
 // On two nodes, and the first failure fails the job.
@@ -77,7 +75,7 @@ const FAILS: &str =
 // The whole trace of it. Fails where the trace exchanges yes and no, success and failure, a call that was not made and one that nobody
 // heard, or a directory and a file, where it tells a Kill by another name, or where it leaves out all but the first packet of an event.
 #[test]
-fn failing_job_is_traced(rt: HostRuntime) -> Result<(), Fail> {
+fn failing_job_is_traced(rt: HostRuntime) {
     let trace = "\
 0: start 1 0 (line 2)
 1: duty 1 marks (line 3, calm) | exists /staging/COMMIT_SUCCESS: nothing
@@ -148,19 +146,18 @@ fn failing_job_is_traced(rt: HostRuntime) -> Result<(), Fail> {
 66: duty 1 abort (line 18, calm) | delete /out/_temporary: done | 24 to node 0: Outcome failed | 25 to node 1: Outcome failed
 ";
     let rest = "7: NotNow Task TooManyLive\nr 0 none\nmarker no\noutcome failed\n";
-    let all = format!(in rt.alloc(); "{trace}{rest}")?;
-    let text = traced(&rt, STRICT, FAILS)?;
+    let all = format!(in rt.alloc(); "{trace}{rest}").expect(&rt, "no memory");
+    let text = traced(&rt, STRICT, FAILS);
     assert!(rt; text.as_str() == all.as_str(), "{text}");
-    Ok(())
 }
 
 // The picture of it, in which each kind of arrow and of sign stands once in the key. Fails where a no is drawn as permission or a yes as
 // its refusal, where an abort is drawn as a task commit, where failure has the flag of success, or where what is killed has the bar of
 // what ended by itself.
 #[test]
-fn failing_job_is_drawn(rt: HostRuntime) -> Result<(), Fail> {
-    let input = format!(in rt.alloc(); "{STRICT}\n{FAILS}")?;
-    let picture = printed(&rt, Command::PlayDrawn(Part::FIRST), &input)?;
+fn failing_job_is_drawn(rt: HostRuntime) {
+    let input = format!(in rt.alloc(); "{STRICT}\n{FAILS}").expect(&rt, "no memory");
+    let picture = printed(&rt, Command::PlayDrawn(Part::FIRST), &input);
     for (words, often) in [
         (">permission to commit<", 1),
         ("class=\"yes\"", 2),
@@ -183,20 +180,22 @@ fn failing_job_is_drawn(rt: HostRuntime) -> Result<(), Fail> {
     for (words, x) in [("container 1.0", 628), ("container 1.1", 740)] {
         let head = format!(in rt.alloc();
             "<text class=\"head\" x=\"{x}\" y=\"116\">{words}</text>"
-        )?;
+        ).expect(&rt, "no memory");
         assert!(rt; picture.contains(head.as_str()), "{words}");
-        let over = format!(in rt.alloc(); "<path class=\"over\" transform=\"translate({x} ")?;
+        let over = format!(in rt.alloc(); "<path class=\"over\" transform=\"translate({x} ").expect(
+            &rt,
+            "no memory",
+        );
         assert_eq!(rt; count(&picture, &over), 1);
     }
     let killed = "<path class=\"dead\" transform=\"translate(852 1372)\"";
     assert!(rt; picture.contains("<text class=\"head\" x=\"852\" y=\"116\">container 1.2</text>"));
     assert_eq!(rt; count(&picture, killed), 1);
-    Ok(())
 }
 
 // Each reason is told by its name. Fails where a reason prints as another one.
 #[test]
-fn reasons_are_told_by_their_names(rt: HostRuntime) -> Result<(), Fail> {
+fn reasons_are_told_by_their_names(rt: HostRuntime) {
     for (why, name) in [
         (Why::WrongGeneration, "WrongGeneration"),
         (Why::NoMaster, "NoMaster"),
@@ -211,7 +210,12 @@ fn reasons_are_told_by_their_names(rt: HostRuntime) -> Result<(), Fail> {
         (Why::NoStoreCall, "NoStoreCall"),
         (Why::NotBlocks, "NotBlocks"),
     ] {
-        assert!(rt; format!(in rt.alloc(); "{why}")?.as_str() == name, "{name}");
+        assert!(rt;
+            format!(in rt.alloc(); "{why}")
+                .expect(&rt, "no memory")
+                .as_str()
+                == name,
+            "{name}"
+        );
     }
-    Ok(())
 }

@@ -1,9 +1,8 @@
 //! The traces of the folder `examples`, whole: made by `tools/examples --write`, and not by hand.
 use crate::traces;
-use std::test::Fail;
 
 #[test]
-fn barred_before_rename(rt: HostRuntime) -> Result<(), Fail> {
+fn barred_before_rename(rt: HostRuntime) {
     traces::prints(
         &rt,
         b"\
@@ -111,11 +110,11 @@ outcome succeeded\n\
 a\t2\n\
 b\t1\n\
 ",
-    )
+    );
 }
 
 #[test]
-fn crash_before_flush(rt: HostRuntime) -> Result<(), Fail> {
+fn crash_before_flush(rt: HostRuntime) {
     traces::prints(
         &rt,
         b"\
@@ -222,11 +221,11 @@ outcome succeeded\n\
 a\t2\n\
 b\t1\n\
 ",
-    )
+    );
 }
 
 #[test]
-fn superseded_in_merge(rt: HostRuntime) -> Result<(), Fail> {
+fn superseded_in_merge(rt: HostRuntime) {
     traces::prints(
         &rt,
         b"\
@@ -339,5 +338,5 @@ outcome failed\n\
 == part-r-00000 4\n\
 b\t1\n\
 ",
-    )
+    );
 }

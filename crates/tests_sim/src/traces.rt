@@ -4,7 +4,6 @@ use mr_sim::{Command, Shown, run};
 use std::process::Abort;
 use std::rt::Clock;
 use std::sync::Wait;
-use std::test::Fail;
 use std::thread::Threads;
 
 const JOB: &str =
@@ -14,23 +13,23 @@ const JOB: &str =
 const REST: &str = "r 0 none\nmarker no\noutcome none\n";
 
 /// The script is run for the job text, and this trace stands before these lines of refused events and the rest.
-fn traces<H: AllocGlobal + Clock + Threads + Wait + Sync + Abort>(
+fn traces<H: AllocGlobal + Eprint + Clock + Threads + Wait + Sync + Abort>(
     rt: &H,
     script: &str,
     trace: &str,
     refused: &str,
-) -> Result<(), Fail> {
-    let input = format!(in rt.alloc(); "{JOB}\n{script}")?;
-    let printed = format!(in rt.alloc(); "{trace}{refused}{REST}")?;
-    prints(rt, input.as_bytes(), printed.as_bytes())
+) {
+    let input = format!(in rt.alloc(); "{JOB}\n{script}").expect(rt, "no memory");
+    let printed = format!(in rt.alloc(); "{trace}{refused}{REST}").expect(rt, "no memory");
+    prints(rt, input.as_bytes(), printed.as_bytes());
 }
 
 /// For this job text and script this is printed, the trace and the rest.
-pub fn prints<H: AllocGlobal + Clock + Threads + Wait + Sync + Abort>(
+pub fn prints<H: AllocGlobal + Eprint + Clock + Threads + Wait + Sync + Abort>(
     rt: &H,
     input: &[u8],
     printed: &[u8],
-) -> Result<(), Fail> {
+) {
     let shown = Shown {
         trace: true,
         history: false,
@@ -44,12 +43,11 @@ pub fn prints<H: AllocGlobal + Clock + Threads + Wait + Sync + Abort>(
         Ok(()) => assert!(rt; writer.same && writer.left.is_empty()),
         Err(fault) => panic!(rt; "{fault}"),
     }
-    Ok(())
 }
 
 // A master opens, launches a map and writes that it began. Empty lines are counted.
 #[test]
-fn lines_and_calls_are_traced(rt: HostRuntime) -> Result<(), Fail> {
+fn lines_and_calls_are_traced(rt: HostRuntime) {
     traces(
         &rt,
         "start 1 0\nduty 1\n\ncalm 1 before launch\nlaunch 1 m 0 0\ncalm 1 before compute",
@@ -65,12 +63,12 @@ fn lines_and_calls_are_traced(rt: HostRuntime) -> Result<(), Fail> {
 8: duty 1 append (line 7, calm) | append started attempt_200707121733_0003_m_000000_0 node 0: done
 ",
         "",
-    )
+    );
 }
 
 // Nobody hears the answer of the second call, so the master stops.
 #[test]
-fn unanswered_call_is_traced(rt: HostRuntime) -> Result<(), Fail> {
+fn unanswered_call_is_traced(rt: HostRuntime) {
     traces(
         &rt,
         "start 1 0\nduty 1\nduty 1 unanswered\nduty 1",
@@ -80,12 +78,12 @@ fn unanswered_call_is_traced(rt: HostRuntime) -> Result<(), Fail> {
 2: duty 1 unanswered marks (line 4) | exists /staging/COMMIT_FAIL: unanswered
 ",
         "5: NotNow NoDuty\n",
-    )
+    );
 }
 
 // The fence of the namespace, and that of the history; a call that is not made tells nothing of either.
 #[test]
-fn superseded_master_is_traced(rt: HostRuntime) -> Result<(), Fail> {
+fn superseded_master_is_traced(rt: HostRuntime) {
     traces(
         &rt,
         "start 1 0\ncalm 1 before read\nstart 2 0\nstart 3 0\nduty 1\nduty 2\nduty 3 unavailable",
@@ -101,5 +99,5 @@ fn superseded_master_is_traced(rt: HostRuntime) -> Result<(), Fail> {
 8: duty 3 unavailable marks (line 8) | exists /staging/COMMIT_SUCCESS: unavailable
 ",
         "",
-    )
+    );
 }

@@ -119,6 +119,25 @@ fn recovered_map_is_lost(rt: HostRuntime) {
     assert!(rt; own.numbered() == 4 && own.arrived() == [a].as_slice());
 }
 
+// A map's two attempts: what is told of each is found before it is told, and only the first is accepted.
+#[test]
+fn reports_are_told_as_found(rt: HostRuntime) {
+    let mut task = machine(&rt, rt.alloc(), TaskKind::Map);
+    let a0 = launched(&rt, &mut task);
+    let a1 = launched(&rt, &mut task);
+    assert!(rt; task.heard(a0) == Ok(()) && task.heard(a1) == Ok(()));
+    for (a, reply) in [
+        (a1, DoneReply::Accepted),
+        (a0, DoneReply::Ignored),
+        (a1, DoneReply::Again),
+    ] {
+        assert!(rt; task.done_reply(a) == Ok(reply));
+        task.report(a, reply);
+    }
+    assert!(rt; task.state(a1) == Some(AttemptState::Recording));
+    assert!(rt; task.state(a0) == Some(AttemptState::Running));
+}
+
 #[test]
 fn ended_before_pending(rt: HostRuntime) {
     let mut task = machine(&rt, rt.alloc(), TaskKind::Reduce);

@@ -3,7 +3,6 @@ use mr_sim::{Command, Seen, SimFault, run};
 use std::process::Abort;
 use std::rt::Clock;
 use std::sync::Wait;
-use std::test::Fail;
 use std::thread::Threads;
 
 /// So many turns has a thread that is to have enough.
@@ -18,21 +17,21 @@ pub const FILE: &str = "== part-r-00000 8\na\t2\nb\t1\n";
 pub const FILES: &str = "== part-r-00000 4\nb\t1\n== part-r-00001 4\na\t2\n";
 
 /// A job text with these keys beside the job's identifier, on one line.
-pub fn job_text<H: AllocGlobal>(rt: &H, keys: &str) -> Result<String, Fail> {
-    Ok(format!(in rt.alloc(); "{{\"id\":\"job_200707121733_0003\",{keys}}}\n")?)
+pub fn job_text<H: AllocGlobal + Abort>(rt: &H, keys: &str) -> String {
+    format!(in rt.alloc(); "{{\"id\":\"job_200707121733_0003\",{keys}}}\n").expect(rt, "no memory")
 }
 
 /// A count of the words of these splits, with more keys behind.
-pub fn words_of<H: AllocGlobal>(rt: &H, splits: &str, keys: &str) -> Result<String, Fail> {
-    Ok(format!(in rt.alloc();
+pub fn words_of<H: AllocGlobal + Abort>(rt: &H, splits: &str, keys: &str) -> String {
+    format!(in rt.alloc();
         "{{\"id\":\"job_200707121733_0003\",\"job\":\"wordcount\",\"reduces\":1,\"splits\":[{splits}]{keys}}}\n"
-    )?)
+    ).expect(rt, "no memory")
 }
 
 /// What a command writes for a text, or its fault, with nothing written then.
-pub fn written<H: AllocGlobal + Clock + Threads + Wait + Sync + Abort>(
+pub fn written<H: AllocGlobal + Eprint + Clock + Threads + Wait + Sync + Abort>(
     rt: &H,
-    command: Command,
+    command: Command<'_>,
     text: &[u8],
 ) -> Result<Vec<u8>, SimFault> {
     let mut input = text;
@@ -49,35 +48,31 @@ pub fn written<H: AllocGlobal + Clock + Threads + Wait + Sync + Abort>(
 }
 
 /// A command writes this text.
-pub fn gives<H: AllocGlobal + Clock + Threads + Wait + Sync + Abort>(
+pub fn gives<H: AllocGlobal + Eprint + Clock + Threads + Wait + Sync + Abort>(
     rt: &H,
-    command: Command,
+    command: Command<'_>,
     text: &str,
     expected: &str,
-) -> Result<(), Fail> {
+) {
     match written(rt, command, text.as_bytes()) {
-        Ok(output) => {
-            assert!(rt; output.as_slice() == expected.as_bytes());
-            Ok(())
-        }
+        Ok(output) => assert!(rt; output.as_slice() == expected.as_bytes()),
         Err(fault) => panic!(rt; "{fault}"),
     }
 }
 
 /// A command is refused so.
-pub fn refuses<H: AllocGlobal + Clock + Threads + Wait + Sync + Abort>(
+pub fn refuses<H: AllocGlobal + Eprint + Clock + Threads + Wait + Sync + Abort>(
     rt: &H,
-    command: Command,
+    command: Command<'_>,
     text: &str,
     fault: SimFault,
-) -> Result<(), Fail> {
+) {
     let told = written(rt, command, text.as_bytes()).err();
     assert!(rt; told == Some(fault), "{told:?}");
-    Ok(())
 }
 
 /// `threads`, with as many turns as are enough.
-pub fn plain() -> Command {
+pub fn plain() -> Command<'static> {
     Command::Threads {
         turns: TURNS,
         hold: false,
@@ -85,7 +80,7 @@ pub fn plain() -> Command {
 }
 
 /// The same, and shows this of the run.
-pub fn showing(seen: Seen) -> Command {
+pub fn showing(seen: Seen) -> Command<'static> {
     Command::ThreadsSeen {
         turns: TURNS,
         hold: false,

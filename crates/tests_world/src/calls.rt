@@ -1,7 +1,7 @@
 //! The store calls of events, looked at before they happen.
 
 use crate::events::{start, store_call};
-use crate::fixtures::{Stop, attempt, container, started, takes, world};
+use crate::fixtures::{Stop, adds, attempt, container, started, takes, world};
 use mr_container::Reply;
 use mr_event::{Event, Weather};
 use mr_master_model::{StoreAnswer, StoreCall};
@@ -168,7 +168,7 @@ fn rename_of_a_barred_attempt_is_refused(rt: HostRuntime) {
         generation: 1,
         node: 0,
     };
-    assert!(rt; takes(&rt, &mut run.world, expires) == 0);
+    adds(&rt, &mut run.world, expires, 0);
     let done = hears(&rt, &run.world, Weather::Calm);
     assert!(rt; is_done(&done));
     let bars = Event::Duty {

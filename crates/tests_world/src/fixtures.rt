@@ -174,18 +174,24 @@ pub fn takes(rt: &impl Abort, world: &mut World, event: Event) -> usize {
     }
 }
 
-/// The event is not permitted, as was foreseen, and neither journal nor bag grew. Gives the reason.
-pub fn refuses(rt: &impl Abort, world: &mut World, event: Event) -> Why {
+/// The event is taken, as was foreseen, and adds so many packets.
+pub fn adds(rt: &impl Abort, world: &mut World, event: Event, count: usize) {
+    let added = takes(rt, world, event);
+    assert!(rt; added == count, "{added} packets");
+}
+
+/// The event is not permitted for this reason, as was foreseen, and neither journal nor bag grew.
+pub fn refuses(rt: &impl Abort, world: &mut World, event: Event, want: Why) {
     let answer = foreseen(world, &event);
     foresees_bytes(rt, world, &event, answer);
     let before = world.bag().len();
     let length = world.journal().len();
     match applied(rt, world, event) {
         Err(WorldFault::NotNow(why)) => {
+            assert!(rt; why == want, "{why}");
             assert!(rt; answer == Err(WorldFault::NotNow(why)));
             assert!(rt; world.bag().len() == before);
             assert!(rt; world.journal().len() == length);
-            why
         }
         _ => panic!(rt; "not refused"),
     }

@@ -3,7 +3,7 @@
 use crate::again::{applied, foreseen};
 use crate::events::{crash, expiry, launch, start};
 use crate::fixtures::{
-    Run, Stop, computes, container, foresees_bytes, started, takes, task, world,
+    Run, Stop, adds, computes, container, foresees_bytes, started, takes, task, world,
 };
 use mr_ids::TaskKind;
 use mr_packet::Bytes;
@@ -150,5 +150,5 @@ fn bag_is_full(rt: HostRuntime) {
     is_too_much(&rt, &mut world, expiry(0));
     is_too_much(&rt, &mut world, launch(task(TaskKind::Reduce, 0), 0));
     is_too_much(&rt, &mut world, Event::NodeRestart { node: 0 });
-    assert!(rt; takes(&rt, &mut world, Event::Deliver { packet: 4 }) == 0);
+    adds(&rt, &mut world, Event::Deliver { packet: 4 }, 0);
 }

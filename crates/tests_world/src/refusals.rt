@@ -2,7 +2,7 @@
 
 use crate::again::{is_marked, winner};
 use crate::events::{crash, expiry, launch, start, store_call};
-use crate::fixtures::{Run, Stop, bytes, computes, container, refuses, started, takes, task};
+use crate::fixtures::{Run, Stop, adds, bytes, computes, container, refuses, started, takes, task};
 use mr_event::{Event, Weather, Why};
 use mr_ids::{TaskId, TaskKind};
 use mr_packet::Bytes;
@@ -17,13 +17,13 @@ fn refused_events(rt: HostRuntime) {
     let alloc = rt.alloc();
     let mut world = started(&rt, alloc, 1).world;
     let map = task(TaskKind::Map, 0);
-    assert!(rt; refuses(&rt, &mut world, start(1)) == Why::WrongGeneration);
-    assert!(rt; refuses(&rt, &mut world, store_call(2)) == Why::NoMaster);
-    assert!(rt; refuses(&rt, &mut world, launch(map, 0)) == Why::NotRunning);
-    assert!(rt; refuses(&rt, &mut world, expiry(0)) == Why::NotRunning);
-    assert!(rt; refuses(&rt, &mut world, Event::Deliver { packet: 0 }) == Why::NoPacket);
-    assert!(rt; refuses(&rt, &mut world, Event::NodeRestart { node: 1 }) == Why::NoNode);
-    assert!(rt; refuses(&rt, &mut world, crash(2, 0)) == Why::NoMaster);
+    refuses(&rt, &mut world, start(1), Why::WrongGeneration);
+    refuses(&rt, &mut world, store_call(2), Why::NoMaster);
+    refuses(&rt, &mut world, launch(map, 0), Why::NotRunning);
+    refuses(&rt, &mut world, expiry(0), Why::NotRunning);
+    refuses(&rt, &mut world, Event::Deliver { packet: 0 }, Why::NoPacket);
+    refuses(&rt, &mut world, Event::NodeRestart { node: 1 }, Why::NoNode);
+    refuses(&rt, &mut world, crash(2, 0), Why::NoMaster);
     after_its_crash(&rt, world);
 }
 
@@ -31,9 +31,9 @@ fn refused_events(rt: HostRuntime) {
 fn after_its_crash(rt: &impl Abort, mut world: World) {
     let map = task(TaskKind::Map, 0);
     takes(rt, &mut world, crash(1, 0));
-    assert!(rt; refuses(rt, &mut world, store_call(1)) == Why::NoMaster);
-    assert!(rt; refuses(rt, &mut world, launch(map, 0)) == Why::NoMaster);
-    assert!(rt; refuses(rt, &mut world, expiry(0)) == Why::NoMaster);
+    refuses(rt, &mut world, store_call(1), Why::NoMaster);
+    refuses(rt, &mut world, launch(map, 0), Why::NoMaster);
+    refuses(rt, &mut world, expiry(0), Why::NoMaster);
     assert!(rt; world.outcome().is_none());
     assert!(rt; !is_marked(rt, &world));
     assert!(rt; winner(rt, &world, task(TaskKind::Reduce, 0)).is_none());
@@ -46,9 +46,9 @@ fn running(rt: &impl Abort, alloc: Global) -> Run {
     run
 }
 
-// Whether the launch is refused for this reason.
-fn no_launch(rt: &impl Abort, run: &mut Run, task: TaskId, node: u32) -> Why {
-    refuses(rt, &mut run.world, launch(task, node))
+// The launch is refused for this reason.
+fn no_launch(rt: &impl Abort, run: &mut Run, task: TaskId, node: u32, want: Why) {
+    refuses(rt, &mut run.world, launch(task, node), want);
 }
 
 #[test]
@@ -56,13 +56,13 @@ fn launches_are_refused_in_order(rt: HostRuntime) {
     let alloc = rt.alloc();
     let mut run = running(&rt, alloc);
     let map = task(TaskKind::Map, 0);
-    assert!(rt; no_launch(&rt, &mut run, task(TaskKind::Map, 1), 1) == Why::NoTask);
-    assert!(rt; no_launch(&rt, &mut run, map, 1) == Why::NoNode);
-    assert!(rt; takes(&rt, &mut run.world, launch(map, 0)) == 1);
-    assert!(rt; no_launch(&rt, &mut run, map, 0) == Why::Task(TaskFault::TooManyLive));
+    no_launch(&rt, &mut run, task(TaskKind::Map, 1), 1, Why::NoTask);
+    no_launch(&rt, &mut run, map, 1, Why::NoNode);
+    adds(&rt, &mut run.world, launch(map, 0), 1);
+    no_launch(&rt, &mut run, map, 0, Why::Task(TaskFault::TooManyLive));
     run.calms(&rt, alloc, 1, Stop::BeforeStep);
-    assert!(rt; refuses(&rt, &mut run.world, store_call(1)) == Why::NoDuty);
-    assert!(rt; refuses(&rt, &mut run.world, expiry(1)) == Why::NoNode);
+    refuses(&rt, &mut run.world, store_call(1), Why::NoDuty);
+    refuses(&rt, &mut run.world, expiry(1), Why::NoNode);
 }
 
 // No container of this number lives.
@@ -74,16 +74,16 @@ fn no_container(rt: HostRuntime) {
         container: container(&rt, 7),
         weather: Weather::Calm,
     };
-    assert!(rt; refuses(&rt, &mut run.world, step) == Why::NoContainer);
+    refuses(&rt, &mut run.world, step, Why::NoContainer);
     let computed = Event::Computed {
         container: container(&rt, 7),
         bytes: Bytes::new(alloc),
     };
-    assert!(rt; refuses(&rt, &mut run.world, computed) == Why::NoContainer);
+    refuses(&rt, &mut run.world, computed, Why::NoContainer);
     let dies = Event::Die {
         container: container(&rt, 7),
     };
-    assert!(rt; refuses(&rt, &mut run.world, dies) == Why::NoContainer);
+    refuses(&rt, &mut run.world, dies, Why::NoContainer);
 }
 
 // The first container's step.
@@ -108,14 +108,19 @@ fn steps_are_refused_in_order(rt: HostRuntime) {
     let alloc = rt.alloc();
     let mut run = running(&rt, alloc);
     let lost = Weather::Unanswered;
-    assert!(rt; refuses(&rt, &mut run.world, step(&rt, Weather::Calm)) == Why::WrongWish);
-    assert!(rt; refuses(&rt, &mut run.world, step(&rt, lost)) == Why::WrongWish);
+    refuses(
+        &rt,
+        &mut run.world,
+        step(&rt, Weather::Calm),
+        Why::WrongWish,
+    );
+    refuses(&rt, &mut run.world, step(&rt, lost), Why::WrongWish);
     let wrong = computed(&rt, alloc, b"abc");
-    assert!(rt; refuses(&rt, &mut run.world, wrong) == Why::NotBlocks);
+    refuses(&rt, &mut run.world, wrong, Why::NotBlocks);
     computes(&rt, alloc, &mut run.world, container(&rt, 0));
     let again = computed(&rt, alloc, b"");
-    assert!(rt; refuses(&rt, &mut run.world, again) == Why::WrongWish);
-    assert!(rt; refuses(&rt, &mut run.world, step(&rt, lost)) == Why::NoStoreCall);
+    refuses(&rt, &mut run.world, again, Why::WrongWish);
+    refuses(&rt, &mut run.world, step(&rt, lost), Why::NoStoreCall);
 }
 
 // The container dies before it hears that its master heard it.
@@ -125,19 +130,14 @@ fn nobody_hears(rt: HostRuntime) {
     let mut run = running(&rt, alloc);
     computes(&rt, alloc, &mut run.world, container(&rt, 0));
     let done = run.world.bag().len() as u64;
-    assert!(rt; takes(&rt, &mut run.world, step(&rt, Weather::Calm)) == 1);
-    assert!(rt; takes(&rt, &mut run.world, Event::Deliver { packet: done }) == 1);
-    assert!(rt;
-        takes(
-            &rt,
-            &mut run.world,
-            Event::Die {
-                container: container(&rt, 0)
-            }
-        ) == 1
-    );
+    adds(&rt, &mut run.world, step(&rt, Weather::Calm), 1);
+    adds(&rt, &mut run.world, Event::Deliver { packet: done }, 1);
+    let dies = Event::Die {
+        container: container(&rt, 0),
+    };
+    adds(&rt, &mut run.world, dies, 1);
     let heard = Event::Deliver {
         packet: done.wrapping_add(1),
     };
-    assert!(rt; refuses(&rt, &mut run.world, heard) == Why::NoAddressee);
+    refuses(&rt, &mut run.world, heard, Why::NoAddressee);
 }

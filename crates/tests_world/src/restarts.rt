@@ -1,7 +1,7 @@
 //! Nodes that restart.
 
 use crate::events::{crash, launch, start, store_call};
-use crate::fixtures::{Run, Stop, container, started, takes, task};
+use crate::fixtures::{Run, Stop, adds, container, started, takes, task};
 use mr_event::{Event, Weather};
 use mr_ids::TaskKind;
 use mr_master_model::DutyName;
@@ -60,8 +60,8 @@ fn output_of_a_restarted_node_is_lost(rt: HostRuntime) {
     let alloc = rt.alloc();
     let mut run = reduce_asks(&rt, alloc);
     assert!(rt; !launched_anew(&run));
-    assert!(rt; takes(&rt, &mut run.world, Event::NodeRestart { node: 0 }) == 1);
-    assert!(rt; takes(&rt, &mut run.world, Event::Deliver { packet: 0 }) == 0);
+    adds(&rt, &mut run.world, Event::NodeRestart { node: 0 }, 1);
+    adds(&rt, &mut run.world, Event::Deliver { packet: 0 }, 0);
     steps(&rt, &mut run);
     run.calms(&rt, alloc, 1, Stop::Never);
     assert!(rt; told_of_the_loss(&rt, &run) && launched_anew(&run));
@@ -72,7 +72,7 @@ fn output_of_a_restarted_node_is_lost(rt: HostRuntime) {
 fn masters_are_told_by_generation(rt: HostRuntime) {
     let mut run = started(&rt, rt.alloc(), 2);
     takes(&rt, &mut run.world, start(2));
-    assert!(rt; takes(&rt, &mut run.world, Event::NodeRestart { node: 1 }) == 2);
+    adds(&rt, &mut run.world, Event::NodeRestart { node: 1 }, 2);
     takes(&rt, &mut run.world, crash(1, 0));
-    assert!(rt; takes(&rt, &mut run.world, Event::NodeRestart { node: 1 }) == 1);
+    adds(&rt, &mut run.world, Event::NodeRestart { node: 1 }, 1);
 }
