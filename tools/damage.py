@@ -74,6 +74,9 @@ def committer_line(chance):
     return word
 
 
+# Keys of a job text that say nothing are told, a line each.
+IDLE_KEYS = re.compile(rb"(mrsim: job: no such key: [^\n]*\n)*")
+
 BEFORE = "marks read setup recover bar append flush started merge cleanup marker success fail abort where fetch lost compute mkdirs create write close needs pending poll look clear rename report failed launch step".split()
 
 
@@ -205,7 +208,7 @@ class Kind:
             is_unmet = run.err.endswith(UNMET)
             return None if run.status != 3 * is_unmet else "not as expected" if is_unmet else "texts"
         if run.status == 0:
-            return "texts" if not run.err else None
+            return "texts" if IDLE_KEYS.fullmatch(run.err) else None
         if run.out or not self.faults.fullmatch(run.fault):
             return None
         said = run.fault.decode().strip()
