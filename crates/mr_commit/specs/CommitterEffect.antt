@@ -62,8 +62,8 @@ longest (path ∷ paths) = max (length path) (longest paths)
 abbrev pub deepest : Content → ℕ
 deepest c = longest (finite.keys c)
 
--- at most how many calls it takes to merge the children of a directory that has so many levels beneath it, where no
--- directory has more than so many entries: for each child at most three calls, and what is beneath it
+-- at most how many calls it takes to merge the children of a directory. Given are the number of levels beneath it, and how many entries a
+-- directory has at most. It is three calls for each child, and what is beneath it
 unfoldable pub merge_calls : ℕ → ℕ → ℕ
 merge_calls entries zero = 1
 merge_calls entries (suc levels) = suc (entries * (3 + merge_calls entries levels))

@@ -22,14 +22,16 @@ use std::marker::Model;
 
 /// One container: what it was launched as, and how far it came.
 ///
-/// It tells what it wishes to do next (`wish`), and what that is as a namespace call (`call`, made as `caller`) or as a packet
-/// (`packet`). Whoever runs it makes the call and hands in the answer (`on`), sends the packet (`send`, or `sent` after it was put
-/// into the bag by another way), or computes and hands in the bytes (`computed`). What is delivered to it is handed to `hear`.
+/// It tells what it wishes to do next (`wish`), and what that is as a namespace call (`call`, made as `caller`) or as a
+/// packet (`packet`). Whoever runs it does one of three things. It makes the call and hands in the answer (`on`). It
+/// sends the packet (`send`, or `sent` after it was put into the bag by another way). Or it computes and hands in the
+/// bytes (`computed`). What is delivered to it is handed to `hear`.
 ///
-/// A map's wishes are to compute and to report. A reduce's are, for each map in turn, to ask where its output lies and to fetch its
-/// block of it; then to compute, to write its part file into its task attempt path, to ask for permission to commit until it is told yes,
-/// to make the three calls of the task's commit, and to report. Any refusal or fault of a call leads to the task's abort and then to `Failed`
-/// (Hadoop's `YarnChild` and task runs over an output committer).
+/// A map's wishes are to compute and to report. A reduce's are, for each map in turn, to ask where its output lies and
+/// to fetch its block of it. Then it computes, and writes its part file into its task attempt path. It asks for
+/// permission to commit until it is told yes, makes the three calls of the task's commit, and reports. Any refusal or
+/// fault of a call leads to the task's abort and then to `Failed` (Hadoop's `YarnChild` and task runs over an output
+/// committer).
 ///
 /// `call`, `hear` and `copy` may allocate, and then nothing has changed. All others take none, so that nothing can be
 /// refused after a store was changed.
@@ -115,8 +117,9 @@ impl ContainerMachine {
         self.pieces.blocks()
     }
 
-    /// Who calls when it makes its calls: the generation of the master that launched it, below whose fence no call is heard, and for a
-    /// reduce its own attempt, so that it is refused once that is barred. It takes no memory.
+    /// Who calls when it makes its calls. It has the generation of the master that launched it, below whose fence no
+    /// call is heard. A reduce's has its own attempt too, so that it is refused once that is barred. It takes no
+    /// memory.
     pub fn caller(&self) -> Caller
         ensures { result ≡ caller_of self.now.id self.now.place.attempt }
     {
@@ -374,8 +377,8 @@ impl ContainerMachine {
 
     /// The namespace call that it wished to make was answered so. It takes no memory.
     ///
-    /// An allocation failure, or a limit of the namespace that refuses a whole event, is no answer of a call and is not handed in: it would be taken for
-    /// a refusal, and the attempt be aborted.
+    /// An allocation failure, or a limit of the namespace that refuses a whole event, is no answer of a call. It is not
+    /// handed in: it would be taken for a refusal, and the attempt be aborted.
     #[tactic(auto, unfolding(crate::specs::Readings::next_seen))]
     pub fn on(&mut self, reply: Reply)
         ensures stands { (op : Op) → Stands self.old (Calls op reply) self.new }

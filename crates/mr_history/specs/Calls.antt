@@ -1,6 +1,6 @@
--- The calls of the history: when each is refused, what it answers and what it leaves. That a generation
--- recovers from the history of those before it restates the Hadoop MapReduce application master as the committer
--- architecture document describes it; segments, seals and the fence are our own profile.
+-- The calls of the history: when each is refused, what it answers and what it leaves. That a generation recovers from the history of those
+-- before it restates the Hadoop MapReduce application master, as the committer architecture document describes it. Segments, seals and the
+-- fence are our own profile.
 use Rattle.std.specs.Prelude.{◌≡◌, ◌<◌, ◌-◌, ℕ, nat_lt, List, ◌++◌, take, drop, map, set, get_or, flat_map, Option, Some, None, unwrap_or, Result, Ok, Err, if◌then◌else◌}
 use Rattle.mr_history.specs.declared.record.Record.{Record}
 use Rattle.mr_history.specs.declared.fault.HistoryFault.{HistoryFault}

@@ -98,8 +98,8 @@ impl History {
         self.fence = k.number();
     }
 
-    /// Adds the line of a record to the tail of the segment of `k`, as the segment's version tells it; the first
-    /// record of a segment of version 2 comes with the version line.
+    /// Adds the line of a record to the tail of the segment of `k`, as the segment's version tells it. The first record
+    /// of a segment of version 2 comes with the version line.
     ///
     /// Refusals in order: `Superseded` where `k` is below the fence, `Sealed`, `Full`, `NoMemory`.
     pub fn append(&mut self, k: AppAttempt, record: Record) -> Result<(), HistoryFault>

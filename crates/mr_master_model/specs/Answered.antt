@@ -1,6 +1,6 @@
 -- What the answer of the store call that was due changes.
 -- The order of the calls is that of setupJob, recoverTask, commitJob and abortJob of Hadoop's OutputCommitter, between the marks of its
--- application master; what a fault makes of each is our own profile.
+-- application master. What a fault makes of each is our own profile.
 use Rattle.std.specs.Prelude.{Bool, true, false, ◌&&◌, ◌||◌, not, nat_lt, List, [], ◌∷◌, ◌++◌, Option, Some, None, is_some, Result, Ok, Err, if◌then◌else◌}
 use Rattle.std.specs.List.{list_any, find}
 use Rattle.mr_ids.specs.Attempt.{Attempt}

@@ -62,8 +62,8 @@ pub fn settles()
     ensures sound { SoundStays }
 {}
 
-/// The barred attempts only grow, and only by bars; a bar changes no content; from a bar that was answered on, each call
-/// whose caller has that attempt is refused, whoever called or raised the fence in between.
+/// The barred attempts only grow, and only by bars; a bar changes no content. From a bar that was answered on, each
+/// call whose caller has that attempt is refused, whoever called or raised the fence in between.
 pub fn bars_stay()
     ensures grow { BarredGrow }
     ensures only { OnlyBarBars }

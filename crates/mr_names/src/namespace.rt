@@ -27,8 +27,8 @@ pub const MAX_BARRED: usize = 100_000;
 ///
 /// Contracts see its content, a finite map from paths to nodes, its fence, and the barred attempts, a finite set. The
 /// root is always a directory, and so is the parent of each other entry. Each call first compares its caller with the
-/// fence, then looks whether the caller's attempt is barred, then answers the first of its own refusals that applies,
-/// then [`NameFault::Full`], and [`NameFault::NoMemory`] last. A refusal changes nothing.
+/// fence, then looks whether the caller's attempt is barred. Then it answers the first of its own refusals that
+/// applies, then [`NameFault::Full`], and [`NameFault::NoMemory`] last. A refusal changes nothing.
 pub struct Namespace {
     tree: Tree,
     fence: u32,

@@ -26,8 +26,9 @@ pub const MAX_PIECE_LEN: usize = 65_536;
 /// live, and which packet is added. It remembers each container that it launched or was asked to kill, over restarts, so that no
 /// launch that comes late or twice is obeyed.
 ///
-/// That a node launches, kills and serves map outputs to reduces is Hadoop's node manager with its shuffle handler, and Dean and Ghemawat 2004,
-/// section 3.3, in that a lost node's map outputs are lost; incarnations and what is remembered over restarts are own profile.
+/// That a node launches, kills and serves map outputs to reduces is Hadoop's node manager with its shuffle handler.
+/// That a lost node's map outputs are lost is Dean and Ghemawat 2004, section 3.3. Incarnations and what is remembered
+/// over restarts are own profile.
 pub struct NodeMachine {
     alloc: Global,
     number: u32,
@@ -197,9 +198,9 @@ impl NodeMachine {
         }
     }
 
-    /// What is answered to a container that wants the block of a reduce in an attempt's output, from an offset in bytes on: at most
-    /// `MAX_PIECE_LEN` bytes of it, with the block's length. `FetchLost` where the incarnation is not the node's own, the output
-    /// is not on its shelf, or the offset is above the block's length.
+    /// What is answered to a container that wants the block of a reduce in an attempt's output, from an offset in bytes
+    /// on. It is at most `MAX_PIECE_LEN` bytes of it, with the block's length. `FetchLost` where the incarnation is not
+    /// the node's own, the output is not on its shelf, or the offset is above the block's length.
     ///
     /// It may allocate for the bytes, and refuses nothing else. It changes nothing. The bytes are copied once.
     pub fn fetch(

@@ -29,9 +29,9 @@ pub const MAX_LIVE: usize = 2;
 /// those that asked and did not end, the one that asked first. A reduce's `done` is accepted only from the named attempt, which
 /// then is named for good; a map's from any live attempt while no other is Recording or Succeeded.
 ///
-/// That the first attempt to ask is the commit attempt, that all others are told no, and that another may be when it fails,
-/// restates `canCommit` of Apache Hadoop's application master; the order of those that wait, the name for good, the limits and
-/// the numbers are our own profile.
+/// This restates `canCommit` of Apache Hadoop's application master: the first attempt to ask is the commit attempt, all
+/// others are told no, and another may be when it fails. The order of those that wait, the name for good, the limits
+/// and the numbers are our own profile.
 pub struct TaskMachine {
     task: TaskId,
     app: AppAttempt,
@@ -211,8 +211,9 @@ impl TaskMachine {
 
     /// The attempt says that it is done.
     ///
-    /// A reduce's is accepted while the attempt is named, and from then on the name is for good; a map's while the attempt is
-    /// live and no other is Recording or Succeeded. Refused `Unknown` where the machine never had it; that changes nothing.
+    /// A reduce's is accepted while the attempt is named, and from then on the name is for good. A map's is accepted
+    /// while the attempt is live and no other is Recording or Succeeded. Refused `Unknown` where the machine never had
+    /// it; that changes nothing.
     pub fn done(&mut self, attempt: AttemptId) -> Result<DoneReply, TaskFault>
         ensures answer { Answers self.old (done_answer attempt) result }
         ensures stands { Stands self.old (Reports attempt) self.new }

@@ -24,7 +24,7 @@ const INLINE_LEN: usize = 16;
 /// A text of any bytes, fewer than 2^32 of them. Texts are ordered byte by byte.
 #[derive(Debug, Drop)]
 pub struct Text {
-    // The first eight bytes as a number, the first the highest, and zeros for those that are wanting: of two texts
+    // The first eight bytes as a number, the first the highest, with zeros for those that are wanting. Of two texts
     // with unlike fronts the lesser is that with the lesser front.
     front: u64,
     bytes: SmallVec<u8, INLINE_LEN>,
