@@ -23,8 +23,9 @@
 //!
 //! - **`AttemptMachine::on`** is exactly the table of the crate's README (`moved`, `reaction`). Where the table has a
 //!   next state for the event, the attempt is in it and the answer is `Moved`. Else nothing changes and the answer is
-//!   `Ignored`. It takes no memory. `AttemptState::next` is the table itself, for a program that asks without moving.
-//!   `new` is in `New`, `copy` is equal, `attempt`, `state`, `is_live`, `is_won` and `is_over` are what they say.
+//!   `Ignored`. No call of the crate takes memory. `AttemptState::next` is the table itself, for a program that asks
+//!   without moving. `new` is in `New`, `copy` is equal, `attempt`, `state`, `is_live`, `is_won` and `is_over` are what
+//!   they say.
 //! - Laws, on functions that do nothing, for every list of events. An attempt that failed or was killed is never in
 //!   another state (`ends_are_final`). Once `Done` was accepted a reduce's attempt is Recording or Succeeded for good,
 //!   a map's too or it is Killed by `Lost` (`wins`). Only `Launch` makes an attempt live, and never again once it is

@@ -89,7 +89,7 @@ going_on (Ok done.More) left t on = on left t
 going_on (Ok done.Finished) left t on = (Ok tt, t)
 going_on (Err f) left t on = (Err f, t)
 
--- at most n calls. No table gets to the first equation
+-- at most n calls are made. `whole` takes n so large that no table gets to the first equation
 unfoldable pub run : ℕ → List Line → State → Caller → Result (Unit {0}) CommitFault × State
 run zero lines s caller = (Err fault.Over, s)
 run (suc n) lines s caller = going_on (step_of lines s caller).0.0 (step_of lines s caller).0.1 (step_of lines s caller).1 (λ left t. run n left t caller)

@@ -40,7 +40,7 @@
 //!   adds `Ended` exactly where the container is over;
 //! - `blocks` lends the whole blocks, in the order of the maps, without a copy;
 //! - a packet that the wish does not wait for changes nothing. `hear` and `copy` may allocate, and where that fails the
-//!   machine is as it was. `call` may allocate and changes nothing. All others take no memory, so nothing can be
+//!   machine is as it was. `call` may allocate and changes nothing. No other call takes memory, so nothing can be
 //!   refused after a store was changed.
 //!
 //! Laws, on functions that do nothing, over every past:

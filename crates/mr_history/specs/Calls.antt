@@ -90,7 +90,7 @@ MakesAlways shows old k call (Err f) new = call_of old k call ≡ (Err f, new)
 abbrev pub sealed_at : ℕ → ℕ → State → State
 sealed_at k kept h = with_segment h k (sealed kept (segment h k))
 
--- one of this version
+-- the segment with this version
 abbrev pub with_version : ℕ → SegmentState → SegmentState
 with_version version s = record s { version = version }
 

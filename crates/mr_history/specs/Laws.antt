@@ -118,8 +118,7 @@ pub record IsHistory (h : State) : Type 0 where
   pub older : (k : ℕ) → 1 ≤ k → k < h.fence → (segment h k).is_sealed ≡ true
   pub unraised : AreUnraised h
 
--- A change of a history, by the generation that it is of: a call, a seal that keeps so many bytes, and a raise
--- that gives a version, too.
+-- A change of a history, by the generation that it is of. A seal tells how many bytes it keeps, and a raise gives a version too.
 pub data Change : Type 0 where
   Calls : ℕ → Call → Change
   Seals : ℕ → ℕ → Change

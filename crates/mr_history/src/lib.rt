@@ -38,8 +38,9 @@
 //!   `NoMemory`; a refused call changes nothing.
 //! - `History::append`, `flush`, `read` are exactly the call of the definition (`Makes`, `MakesAlways`): first
 //!   `Superseded` below the fence, then the segment's refusals. `raise` seals every older segment and no other and
-//!   gives its own segment its version, `seal` one alone, `tail` is the length of a tail. `raise`, `seal`, `flush`
-//!   and `tail` take no memory: a flush or a seal moves a mark over bytes that `append` stored.
+//!   gives its own segment its version, `seal` one alone, `tail` is the length of a tail. Memory may be taken by
+//!   `History::new`, `append`, `read` and `records`, by `replay`, and by what adds to `Records`. No other call takes
+//!   any. A flush or a seal moves a mark over bytes that `append` stored.
 //! - `History::append_refusal` and `flush_refusal` tell without memory why the call would be refused: exactly the word
 //!   by which `append` and `flush` are refused (`refused`). The law is `refusals_are_heard`: a call that has a refusal
 //!   answers it and changes nothing, and one that has none is made, or answers `NoMemory` and changes nothing.

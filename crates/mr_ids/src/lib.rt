@@ -25,7 +25,7 @@
 //!   `attempt_200707121733_0003_m_000005_0`, a generation's decimal). Proved: `write` appends exactly it, and where
 //!   memory is refused appends nothing. `{}` prints exactly it. `parse` and `text.parse()` answer v exactly where the
 //!   text is v's text, and else the first fault from the left. That fault is a function of the fields between the bars.
-//!   `parse` takes no memory.
+//!   Memory may be taken by each `write`, by `Bytes::extend` and by `Bytes::copy`, and by no other call of the crate.
 //! - Proved: `generation` is number / 1000 + 1 and `first_attempt_number` of generation k is 1000 * (k - 1), and the
 //!   two are inverse (`numbers_tell_generations`). `is_map`, `is_reduce`, `new`, `task` and `number` are what they say.
 //!   `==`, the order and the hash are those of the parts (derived).

@@ -76,7 +76,7 @@ with_known s n i = record s { known = λ m. if nat_eq m n then i else s.known m 
 abbrev pub dead_below : Setting → Seen → ℕ → ℕ → TaskId → List Attempt
 dead_below w s n i t = live_where w s (λ a. launched_below n i (launch_of w s a)) t
 
--- of a reduce no output lies on a node
+-- only outputs of maps lie on a node: of a reduce the list is empty
 abbrev pub of_maps : TaskKind → List Attempt → List Attempt
 of_maps Map as' = as'
 of_maps Reduce as' = []

@@ -31,7 +31,7 @@ tell_each f (a ∷ as') c = tell_each f as' (tell a.task (f a) c)
 abbrev pub is_launched : Seen → Attempt → Bool
 is_launched s a = is_some (find_launched s.launched a)
 
--- of an attempt that this master launched
+-- a task is told of an attempt that this master launched, and of no other
 abbrev pub tell_launched : Seen → Attempt → TaskCall → Calls → Calls
 tell_launched s a call c = if is_launched s a then tell a.task call c else c
 

@@ -27,7 +27,7 @@
 //! - what ties the definitions to the crates beneath:
 //!   - paths are the layout's (`paths_are_the_layouts`);
 //!   - each call of the namespace, for callers with and without an attempt, is answered as the definitions say and
-//!     leaves what they say; so is each call of the history, in both versions (`stores_are_the_models`);
+//!     leaves what they say. So is each call of the history, in both versions (`stores_are_the_models`);
 //!   - so both stores go on as the world's at every event: starts, crashes, and the calls of masters and containers in
 //!     each weather (`stores_go_on`);
 //!   - whatever a master appends the history takes, in each version (`appended_records_fit`), and a living master was
@@ -40,8 +40,8 @@
 //! - what ties containers and nodes to their machines:
 //!   - their pasts, packets and calls are those of `mr_container`, `mr_node`, `mr_packet` and `mr_names`; what is read
 //!     off them is what these machines are proved to read (`containers_agree`, `nodes_agree`);
-//!   - so a machine that stands for its container's past in a run has the wish, the call, the caller and the packet of
-//!     the definitions (`containers_say`, under limits on what is handed in). It hears what the namespace answered
+//!   - so a machine that stands for its container's past in a run has the wish, call, caller and packet of the
+//!     definitions (`containers_say`, under limits on what is handed in). It hears what the namespace answered
 //!     (`answers_are_heard`);
 //!   - what each kind of event changes of all machines of containers and nodes, who lives after it, and what it adds to
 //!     the bag (`masters_act`, `containers_act`, `maps_act`, `nodes_act`);

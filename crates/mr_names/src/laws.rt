@@ -24,7 +24,8 @@ pub fn delete_takes_out()
     ensures { DeleteTakesOut }
 {}
 
-/// A call leaves as it was whatever it does not name; what it does not make or take away comes and goes by no call.
+/// A call leaves as it was whatever it does not name. Nothing comes to be where a call makes nothing. Directories and closed
+/// files stay where it takes nothing away.
 pub fn others_stay()
     ensures others { OthersStay }
     ensures absent { OnlyMakersMake }

@@ -35,10 +35,11 @@
 //! - `foresee` tells exactly the refusal that the call would meet, an allocation failure aside. `raise` makes the fence
 //!   the greater of the two, and keeps the content and the barred attempts;
 //! - the barred attempts are a finite set, kept for good: `bar` adds one and changes no content, and nothing takes one
-//!   out. Of one that is there a `bar` wants no memory and does nothing (clause `there`), and looking a caller up wants
-//!   none (`check_caller`);
-//! - `raise`, `fence`, `foresee`, `check_caller`, `exists`, `close`, `delete` never answer `NoMemory`
-//!   (also `perform` of those three: its clause `always`);
+//!   out. Of one that is there a `bar` wants no memory and does nothing (clause `there`);
+//! - memory may be taken by `mkdirs`, `create`, `append`, `rename`, `list`, `read`, `bar` and `perform` of these, and
+//!   by `Namespace::new`, `walk` and `Op::copy`. No other call takes any. So `raise`, `fence`, `foresee`,
+//!   `check_caller`, `exists`, `close`, `delete` never answer `NoMemory` (nor does `perform` of the last three: its
+//!   clause `always`);
 //! - each namespace's content is a tree: the root is a directory, and so is the parent of each other entry. It has at
 //!   most 65,536 entries without the root, and each file at most 2^24 bytes. Its fence is at most 1,000, and at most
 //!   100,000 attempts are barred (`fence`, clause `sound`).
@@ -55,8 +56,8 @@
 //! - that a caller below the fence, or whose attempt is barred, is refused whatever it asks, and that any two callers
 //!   that are neither are answered alike (`settles`);
 //! - that the barred attempts only grow, and only by `bar`. From a `bar` that was answered on, each call of a caller
-//!   with that attempt is refused `Superseded` or `Barred` and changes nothing, whoever called or raised the fence in
-//!   between (`bars_stay`);
+//!   with that attempt is refused `Superseded` or `Barred` and changes nothing. That holds whoever called or raised the
+//!   fence in between (`bars_stay`);
 //! - that a listing has exactly what is directly beneath its path, each name once, by its bytes (`listings`);
 //! - three runs of calls with their answers, computed (`runs`).
 //!

@@ -37,7 +37,8 @@ pub struct NodeMachine {
     shelf: ShelfOfNode,
 }
 
-// By hand, so that a node is dropped by this call: a derived drop is taken apart by the check at each place where one is dropped.
+// Written by hand, so that the check takes the drop of a node as one call. A derived drop it takes apart at each place where one is
+// dropped.
 impl Drop for NodeMachine {
     fn drop(self) {
         let NodeMachine {
@@ -61,7 +62,7 @@ impl Model for NodeMachine {
 }
 
 impl NodeMachine {
-    /// A node that begins, in its first incarnation. It takes no memory.
+    /// A node that begins, in its first incarnation.
     pub fn new(alloc: Global, number: u32, reduces: u32) -> NodeMachine
         ensures stands { StandsFor result number reduces [] }
         ensures made { result ≡ record { number = number; seen = opening reduces } }
@@ -81,21 +82,21 @@ impl NodeMachine {
         }
     }
 
-    /// The node's number. It takes no memory.
+    /// The node's number.
     pub fn number(&self) -> u32
         ensures { result ≡ self.now.number }
     {
         self.number
     }
 
-    /// The incarnation that it runs in. It takes no memory.
+    /// The incarnation that it runs in.
     pub fn incarnation(&self) -> u32
         ensures { result ≡ self.now.seen.incarnation }
     {
         self.incarnation
     }
 
-    /// Whether it launched this container or was asked to kill it, in whichever incarnation. It takes no memory.
+    /// Whether it launched this container or was asked to kill it, in whichever incarnation.
     pub fn knows(&self, c: &ContainerId) -> bool
         ensures { result ≡ has self.now.seen.known c.now }
     {
@@ -171,7 +172,7 @@ impl NodeMachine {
         Ok(ended)
     }
 
-    /// The packet of a container's end, for whatever reason but a restart of the node. It takes no memory.
+    /// The packet of a container's end, for whatever reason but a restart of the node.
     pub fn died(&self, c: ContainerId) -> Envelope
         ensures added { result ≡ ended c }
         ensures stands { Stands self.now (Ends c) self.now }
@@ -179,13 +180,13 @@ impl NodeMachine {
         ended(&c)
     }
 
-    /// It is told of a winner (`Won`) or of the outcome, which makes it do nothing. It takes no memory.
+    /// It is told of a winner (`Won`) or of the outcome, which makes it do nothing.
     pub fn told(&self)
         ensures won { (t : TaskId) (a : Attempt) → Stands self.now (Hears (Packet.Won t a)) self.now }
         ensures outcome { (succeeded : Bool) → Stands self.now (Hears (Packet.Outcome succeeded)) self.now }
     {}
 
-    /// The packet by which a master is told of the node's incarnation. It takes no memory.
+    /// The packet by which a master is told of the node's incarnation.
     pub fn up(&self, master: AppAttempt) -> Envelope
         ensures { result ≡ up self.now.number self.now.seen.incarnation master }
     {
@@ -291,7 +292,7 @@ impl NodeMachine {
         self.shelf.put(a, output)
     }
 
-    /// Begins anew: in the next incarnation, with an empty shelf. Which containers it knows stays. It takes no memory.
+    /// Begins anew: in the next incarnation, with an empty shelf. Which containers it knows stays.
     ///
     /// Whoever runs it lets its containers end without a packet, and adds `up` for each living master.
     #[tactic(auto, unfolding(crate::specs::Readings::next_seen))]
@@ -384,7 +385,7 @@ fn max_piece_len() -> usize
     MAX_PIECE_LEN
 }
 
-// At most so many bytes.
+// The first `most` bytes, or all where there are fewer.
 #[tactic(auto, using(crate::proofs::Taking::all_taken, crate::proofs::Taking::front_taken))]
 fn front(bytes: &[u8], most: usize) -> &[u8]
     ensures { result.now ≡ take most bytes.now }

@@ -13,6 +13,8 @@
 //!   which the records say that an output lies there.
 //! - `Earlier` answers by the last record of a success; `winners` are those of the recovery plan, by rising number.
 //! - `Writing` gives the append or the flush that is due.
+//! - Memory may be taken by what makes or copies a table, by each `reserve`, by `Nodes::note`, `Spread::add` and
+//!   `winners`, and by `push_won` and `push_outcome`. No other call takes any.
 #![tactic(auto)]
 
 mod bars;

@@ -15,10 +15,10 @@ use std::alloc::{AllocError, Global};
 use std::cmp::Ordering;
 use std::marker::Model;
 
-// So many bytes make a text's front.
+// Bytes of a text's front.
 const FRONT_LEN: usize = 8;
 
-// A text of so many bytes takes no block of the heap.
+// A text of at most this many bytes takes no block of the heap.
 const INLINE_LEN: usize = 16;
 
 /// A text of any bytes, fewer than 2^32 of them. Texts are ordered byte by byte.
@@ -122,7 +122,7 @@ fn front_of(bytes: &[u8]) -> u64
     ])
 }
 
-// The byte at a place, 0 where there are not so many.
+// The byte at a place, or 0 past the end.
 fn byte_at(bytes: &[u8], place: usize) -> u8
     ensures { result ≡ slice_index bytes.now place }
 {

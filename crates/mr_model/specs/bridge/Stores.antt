@@ -1,5 +1,5 @@
--- For whoever runs machines of masters: what one is told of its store call, what the call leaves of both stores, and what each event is to the pasts of masters. Our
--- own: it ties two sets of definitions.
+-- For whoever runs machines of masters: what one is told of its store call, and what the call leaves of both stores. Also what each event is to the pasts of
+-- masters. Our own: it ties two sets of definitions.
 use Rattle.std.specs.Prelude.{◌≡◌, ℕ, Bool, true, false, ◌&&◌, ◌||◌, not, nat_eq, List, [], ◌∷◌, Some, None, Result, Ok, Err}
 use Rattle.mr_ids.specs.declared.id.TaskId.{TaskId}
 use Rattle.mr_names.specs.declared.op.Op.{Op}
