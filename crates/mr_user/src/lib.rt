@@ -34,9 +34,11 @@
 //!   proved: `mrsim seq` is no slower than tools/plain_seq.rs, a program with no proof (`tools/bench seq`; figures
 //!   in the README of this crate).
 //! - `Splits` is the list of splits that it was made of. `from_vec`, `into_vec`, `as_slice`, `len`, `get` are what they
-//!   say and take no memory. `copy` gives equal splits (it refuses for want of memory alone), and `==` is that of the
-//!   lists.
+//!   say. `copy` gives equal splits (it refuses for want of memory alone), and `==` is that of the lists.
 //! - **`groups`**: the keys of pairs, rising, each once and with its values in order.
+//! - Memory may be taken by `sequential`, `shares`, `write_lines`, `sort_pairs`, `groups`, `Text::from_slice` and
+//!   `Splits::copy`, by the methods of a job but `partition`, and by `write` and `read` of a form. No other call takes
+//!   any.
 //! - **Gates**: `trait Gate`, whose `refuses` says where it may refuse work of a kind (anywhere, if it does not say
 //!   it); `OpenGate` answers `Ok` at once and refuses nothing (proved).
 //! - Laws on functions that do nothing:
