@@ -1,6 +1,6 @@
--- The table of one task attempt: what each event does in each state. The states are those of Hadoop's task attempt in the
--- application master, as far as permission to commit needs them (`COMMIT_PENDING` waits for the answer of `canCommit`); that a
--- success is known only once it is recorded (`Recording`), and which pairs are ignored, is our own profile.
+-- The table of one task attempt: what each event does in each state. The states are those of Hadoop's task attempt in the application
+-- master, as far as permission to commit needs them (`COMMIT_PENDING` waits for the answer of `canCommit`). Our own profile is that a
+-- success is known only once it is recorded (`Recording`), and which pairs are ignored.
 use Rattle.std.specs.Prelude.{Bool, true, false, List, [], ◌∷◌, Option, Some, None, unwrap_or}
 use Rattle.mr_ids.specs.declared.id.TaskKind.{TaskKind}
 use Rattle.mr_ids.specs.declared.id.TaskKind.TheVariants.{Map, Reduce}

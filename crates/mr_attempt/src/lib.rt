@@ -21,15 +21,15 @@
 //!
 //! # What is proved
 //!
-//! - **`AttemptMachine::on`** is exactly the table of the crate's README (`moved`, `reaction`): where the table has a
-//!   next state for the event, the attempt is in it and the answer is `Moved`; else nothing changes and the answer
-//!   is `Ignored`. It takes no memory. `AttemptState::next` is the table itself, for a program that asks without
-//!   moving. `new` is in `New`, `copy` is equal, `attempt`, `state`, `is_live`, `is_won` and `is_over` are what
+//! - **`AttemptMachine::on`** is exactly the table of the crate's README (`moved`, `reaction`). Where the table has a
+//!   next state for the event, the attempt is in it and the answer is `Moved`. Else nothing changes and the answer is
+//!   `Ignored`. No call of the crate takes memory. `AttemptState::next` is the table itself, for a program that asks
+//!   without moving. `new` is in `New`, `copy` is equal, `attempt`, `state`, `is_live`, `is_won` and `is_over` are what
 //!   they say.
-//! - Laws, on functions that do nothing, for every list of events: an attempt that failed or was killed is never in
-//!   another state (`ends_are_final`); once `Done` was accepted a reduce's attempt is Recording or Succeeded for
-//!   good, a map's too or it is Killed by `Lost` (`wins`); only `Launch` makes an attempt live, and never again
-//!   once it is not (`lives`).
+//! - Laws, on functions that do nothing, for every list of events. An attempt that failed or was killed is never in
+//!   another state (`ends_are_final`). Once `Done` was accepted a reduce's attempt is Recording or Succeeded for good,
+//!   a map's too or it is Killed by `Lost` (`wins`). Only `Launch` makes an attempt live, and never again once it is
+//!   not (`lives`).
 //! - Proved: `{}` of a state prints its name. Only tested: three of the names, and what `{:?}` prints of an event.
 #![tactic(auto)]
 

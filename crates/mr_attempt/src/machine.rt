@@ -7,7 +7,7 @@ use crate::state::{AttemptEvent, AttemptState, Reaction};
 use mr_ids::AttemptId;
 use std::marker::Model;
 
-/// One task attempt and its state. It takes no memory.
+/// One task attempt and its state.
 #[derive(Clone, Copy, Debug, PartialEq, Eq)]
 pub struct AttemptMachine {
     attempt: AttemptId,

@@ -1,16 +1,19 @@
-//! What is kept of the containers and nodes of a cluster: the machines of the containers that are alive, in order, those of all nodes, by
-//! number, and the packets of a container's step. Only the types here know how they are kept.
+//! What is kept of the containers and nodes of a cluster: the machines of the containers that are alive, in order, and
+//! those of all nodes, by number. Also the packets of a container's step. Only the types here know how they are kept.
 //!
 //! None of them knows a master, the namespace or the bag. The world that keeps them is `mr_world`; which past they stand for is said there.
 //!
 //! # What is proved
 //!
-//! - Each call changes the machine of one container (`Changes`) or of one node (`ChangesNode`) as that machine's own step does, and those of no
-//!   other; where memory is refused, all is as it was. Of who does not live, and of a number that no node has, nothing changes.
+//! - Each call changes the machine of one container (`Changes`) or of one node (`ChangesNode`) as that machine's own
+//!   step does, and those of no other. Where memory is refused, all is as it was. Of who does not live, and of a number
+//!   that no node has, nothing changes.
 //! - `Living::end_on` ends the containers that were launched on a node, and no other.
+//! - Memory may be taken by `Living::insert`, `Living::hear`, `Living::all`, `Nodes::new`, `Nodes::put` and
+//!   `Nodes::hear`. No other call takes any.
 //! - `Living::all` lists who lives, by generation, then number; `Living::next` is the next one after another, in cyclic order.
-//! - `Living::letters` tells the packet of a container's step, and whether it is its last; `Living::would_end` and `Nodes::would_answer` tell
-//!   beforehand what a packet would lead to, change nothing, and take no memory.
+//! - `Living::letters` tells the packet of a container's step, and whether it is its last. `Living::would_end` and
+//!   `Nodes::would_answer` tell beforehand what a packet would lead to, and change nothing.
 #![tactic(auto)]
 
 mod letters;

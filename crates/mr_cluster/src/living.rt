@@ -30,7 +30,7 @@ pub struct Living {
 }
 
 impl Living {
-    /// None lives. It takes no memory.
+    /// No container lives yet.
     #[tactic(auto, unfolding(crate::specs::Living::kept))]
     pub fn new(alloc: Global) -> Living
         ensures { (d : ContainerId) → kept result d ≡ None }
@@ -40,7 +40,7 @@ impl Living {
         }
     }
 
-    /// The machine of a container, if it lives. It takes no memory.
+    /// The machine of a container, if it lives.
     #[tactic(auto, unfolding(crate::specs::Living::kept))]
     pub fn get(&self, c: &ContainerId) -> Option<&ContainerMachine>
         ensures { option_copied result ≡ kept self.now c.now }
@@ -48,7 +48,7 @@ impl Living {
         self.machines.get(c)
     }
 
-    /// Whether a container lives. It takes no memory.
+    /// Whether a container lives.
     #[tactic(auto, unfolding(crate::specs::Living::kept))]
     pub fn contains(&self, c: &ContainerId) -> bool
         ensures { result ≡ is_some (kept self.now c.now) }
@@ -66,7 +66,7 @@ impl Living {
         Ok(())
     }
 
-    /// The container, if it lives, hears the answer of its store call. It takes no memory.
+    /// The container, if it lives, hears the answer of its store call.
     #[tactic(auto, using(crate::proofs::Keys::changed), unfolding(crate::specs::Living::kept))]
     pub fn on(&mut self, c: &ContainerId, reply: Reply)
         ensures { (op : Op) → Changes self.old c.now (stepped self.old c.now (Calls op reply)) self.new }
@@ -77,11 +77,11 @@ impl Living {
         }
     }
 
-    /// The container, if it lives, was handed in its bytes. It takes no memory.
+    /// The container, if it lives, was handed in its bytes.
     #[tactic(auto, using(crate::proofs::Keys::changed), unfolding(crate::specs::Living::kept))]
     pub fn computed(&mut self, c: &ContainerId, bytes: Bytes)
         ensures changed { Changes self.old c.now (stepped self.old c.now (Computes bytes)) self.new }
-        // Which bytes they are is not kept of a map.
+        // Of a map it does not matter which bytes they are: they are not kept.
         ensures of_map { IfSome (kept self.old c.now) (λ m. m.place.attempt.task.kind ≡ Map) → (others : List ℕ) → Changes self.old c.now (stepped self.old c.now (Computes others)) self.new }
     {
         match self.machines.get_mut(c) {
@@ -90,7 +90,7 @@ impl Living {
         }
     }
 
-    /// The container lives no longer. It takes no memory.
+    /// The container lives no longer.
     #[tactic(auto, using(crate::proofs::Keys::changed), unfolding(crate::specs::Living::kept))]
     pub fn remove(&mut self, c: &ContainerId)
         ensures { Changes self.old c.now None self.new }
@@ -98,7 +98,7 @@ impl Living {
         self.machines.remove(c);
     }
 
-    /// The containers that were launched on this node live no longer. It takes no memory.
+    /// The containers that were launched on this node live no longer.
     #[tactic(auto, unfolding(crate::specs::Living::kept))]
     pub fn end_on(&mut self, n: u32)
         ensures { (d : ContainerId) → kept self.new d ≡ unless_on n (kept self.old d) }
@@ -120,7 +120,7 @@ impl Living {
         }
     }
 
-    /// What the container's next step puts into the bag, if it lives, where that is no store call. It takes no memory.
+    /// What the container's next step puts into the bag, if it lives, where that is no store call.
     #[tactic(auto, unfolding(crate::specs::Living::kept))]
     pub fn letters(&self, c: &ContainerId) -> Letters
         ensures { result ≡ letters_of (kept self.now c.now) }
@@ -131,7 +131,7 @@ impl Living {
         }
     }
 
-    /// The packet that the container wished to send was sent. It takes no memory.
+    /// The packet that the container wished to send was sent.
     #[tactic(auto, using(crate::proofs::Keys::changed), unfolding(crate::specs::Living::kept))]
     pub fn sent(&mut self, c: &ContainerId)
         ensures { (packet : Packet) → Changes self.old c.now (stepped self.old c.now (Sends packet)) self.new }
@@ -142,7 +142,7 @@ impl Living {
         }
     }
 
-    /// Whether the container, if it lives, would come to its end by a packet. It takes no memory.
+    /// Whether the container, if it lives, would come to its end by a packet.
     #[tactic(auto, unfolding(crate::specs::Living::kept))]
     pub fn would_end(&self, c: &ContainerId, packet: &Packet) -> bool
         ensures { result ≡ is_over (stepped self.now c.now (Hears packet.now)) }
@@ -156,7 +156,7 @@ impl Living {
 
 // Who lives, in order.
 impl Living {
-    /// The containers stand in order. This call does nothing: it tells the caller so.
+    /// A lemma, which does nothing: the containers stand in order. It tells a caller's proof the type's invariant.
     #[tactic(auto, unfolding(crate::specs::Order::in_order))]
     pub fn tell_order(&self)
         ensures { IsStrictlySortedBy container_cmp (in_order self.now) }
@@ -176,7 +176,8 @@ impl Living {
         Ok(all)
     }
 
-    /// The next one that lives after a container, in cyclic order; the first, where none is given. It takes no memory, and walks over none.
+    /// The next one that lives after a container, in cyclic order, or the first where none is given. It is looked up,
+    /// without a walk over all that live.
     #[tactic(auto, unfolding(crate::specs::Order::in_order))]
     pub fn next(&self, after: Option<ContainerId>) -> Option<ContainerId>
         ensures { result ≡ next_living (in_order self.now) after }
@@ -189,7 +190,7 @@ impl Living {
         self.first()
     }
 
-    // The first of all.
+    // The first container that lives.
     #[tactic(auto, unfolding(crate::specs::Order::in_order))]
     fn first(&self) -> Option<ContainerId>
         ensures { result ≡ slice_get (in_order self.now) 0 }
@@ -256,7 +257,7 @@ fn letters(machine: &ContainerMachine) -> Letters
     }
 }
 
-// Who tells that it failed does nothing more.
+// Whether the wish's packet is the container's last: after it told that it failed it does nothing more.
 fn is_last(wish: &Wish) -> bool
     ensures { result ≡ is_last wish.now }
 {

@@ -18,7 +18,7 @@ pub struct Nodes {
 }
 
 impl Nodes {
-    /// So many nodes that begin, in a job of so many reduces. Its only error is an allocation failure.
+    /// `count` nodes that begin, in a job of `reduces` reduces. Its only error is an allocation failure.
     #[tactic(auto, unfolding(crate::specs::Nodes::node_of))]
     pub fn new(alloc: Global, count: u32, reduces: u32) -> Result<Nodes, AllocError>
         ensures { IfOk result (λ nodes. (n : ℕ) → node_of nodes n ≡ (if nat_lt n count then Some (record { number = n; seen = opening reduces }) else None)) }
@@ -30,7 +30,7 @@ impl Nodes {
         Ok(Nodes { machines })
     }
 
-    /// The machine of a node, if there is one of this number. It takes no memory.
+    /// The machine of a node, if there is one of this number.
     #[tactic(auto, unfolding(crate::specs::Nodes::node_of))]
     pub fn get(&self, n: u32) -> Option<&NodeMachine>
         ensures { option_copied result ≡ node_of self.now n }
@@ -63,7 +63,7 @@ impl Nodes {
         }
     }
 
-    /// Whether a node would answer a packet with one. It takes no memory.
+    /// Whether a node would answer a packet with one.
     #[tactic(auto, unfolding(crate::specs::Nodes::node_of))]
     pub fn would_answer(&self, n: u32, packet: &Packet) -> bool
         ensures { result ≡ is_some (added_by (reaction_of (node_of self.now n) packet.now)) }
@@ -74,7 +74,7 @@ impl Nodes {
         }
     }
 
-    /// A node, if there is one of this number, begins anew: in the next incarnation, of which there is one, and with an empty shelf. It takes no memory.
+    /// A node, if there is one of this number, begins anew: in the next incarnation, of which there is one, and with an empty shelf.
     #[tactic(auto, unfolding(crate::specs::Nodes::node_of))]
     pub fn restart(&mut self, n: u32)
         requires { IfSome (node_of self.old n) (λ m. m.seen.incarnation < 2 ^ 32 - 1) }
@@ -86,8 +86,8 @@ impl Nodes {
     }
 }
 
-// Whether a node would answer a packet with one. It always answers who asks it to kill or to send; whose launch comes for another
-// incarnation is told of the node's, unless it knows the container.
+// Whether a node would answer a packet with one. It answers whoever asks it to kill or to send. It answers a launch for another
+// incarnation with its own incarnation, unless it knows the container.
 #[tactic(auto, unfolding(mr_node::specs::Readings::reaction), using(crate::proofs::Replying::answers_launch))]
 fn would_answer(machine: &NodeMachine, packet: &Packet) -> bool
     ensures { result ≡ is_some (added_by (reaction machine.now.number machine.now.seen packet.now)) }

@@ -62,8 +62,8 @@ longest (path ∷ paths) = max (length path) (longest paths)
 abbrev pub deepest : Content → ℕ
 deepest c = longest (finite.keys c)
 
--- at most how many calls it takes to merge the children of a directory that has so many levels beneath it, where no
--- directory has more than so many entries: for each child at most three calls, and what is beneath it
+-- at most how many calls it takes to merge the children of a directory. Given are the number of levels beneath it, and how many entries a
+-- directory has at most. It is three calls for each child, and what is beneath it
 unfoldable pub merge_calls : ℕ → ℕ → ℕ
 merge_calls entries zero = 1
 merge_calls entries (suc levels) = suc (entries * (3 + merge_calls entries levels))
@@ -89,7 +89,7 @@ going_on (Ok done.More) left t on = on left t
 going_on (Ok done.Finished) left t on = (Ok tt, t)
 going_on (Err f) left t on = (Err f, t)
 
--- at most n calls. No table gets to the first equation
+-- at most n calls are made. `whole` takes n so large that no table gets to the first equation
 unfoldable pub run : ℕ → List Line → State → Caller → Result (Unit {0}) CommitFault × State
 run zero lines s caller = (Err fault.Over, s)
 run (suc n) lines s caller = going_on (step_of lines s caller).0.0 (step_of lines s caller).0.1 (step_of lines s caller).1 (λ left t. run n left t caller)

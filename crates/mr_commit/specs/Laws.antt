@@ -77,9 +77,9 @@ pub record IsPublished (dest : List (List ℕ)) (k : ℕ) (before after : Conten
   pub others : (path : List (List ℕ)) → within (temporary dest) path ≡ false → path ≢ marker dest
       → ((entry name bytes : List ℕ) → IsTaskFile dest k before entry name bytes → path ≢ dest ++ name ∷ []) → node_at after path ≡ node_at before path
 
--- A job commit that was answered: commitJob of algorithm version 1 of the Hadoop MapReduce committer architecture document, which
--- merges each task's committed path into the destination, deletes `_temporary` and creates the marker. That the destination is a
--- directory, that it had no marker, and that no task's file is called `_SUCCESS` or `_temporary` is not asked: it follows.
+-- A job commit that was answered is commitJob of algorithm version 1 of the Hadoop MapReduce committer architecture document. It merges
+-- each task's committed path into the destination, deletes `_temporary` and creates the marker. That the destination is a directory, that
+-- it had no marker, and that no task's file is called `_SUCCESS` or `_temporary` is not asked: it follows.
 abbrev pub JobCommits : Type 0
 JobCommits = (dest : List (List ℕ)) (k : ℕ) (s t : State) (caller : Caller) → IsTree s.content → AreTaskFiles dest k s.content
     → whole (commit_job dest k) s caller ≡ (Ok tt, t) → IsPublished dest k s.content t.content × (t.fence ≡ s.fence) × (t.barred ≡ s.barred)

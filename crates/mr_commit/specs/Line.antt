@@ -1,7 +1,7 @@
 -- One line of a committer's table: its call, and what follows from the answer.
--- The lines and the merge are those of FileOutputCommitter, algorithm version 1 (Hadoop MapReduce committer
--- architecture document). That a refused delete of nothing passes where the tables say so, that a recovery looks at all earlier
--- generations, newest first, and that it measures the part file is our own profile.
+-- The lines and the merge are those of FileOutputCommitter, algorithm version 1 (Hadoop MapReduce committer architecture document). Our own
+-- profile is that a refused delete of nothing passes where the tables say so. So is that a recovery looks at all earlier generations,
+-- newest first, and measures the part file.
 use Rattle.std.specs.Prelude.{ℕ, Bool, true, false, not, ◌&&◌, ◌||◌, List, [], ◌∷◌, ◌++◌, map, filter, length, ◌-◌, ◌==◌, nat_lt, Option, Some, None, Result, Ok, Err, nat_eq, if◌then◌else◌}
 use Rattle.std.specs.Cmp.Lexicographic.{pointwise}
 use Rattle.mr_ids.specs.declared.id.TaskId.{TaskId}

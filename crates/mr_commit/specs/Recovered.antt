@@ -61,6 +61,6 @@ pub record TaskRecovers (dest : List (List ℕ)) (k : ℕ) (task : TaskId) (byte
   pub unheard : (why : NameFault) → 1 < k → unheard s caller ≡ Some why → recovered (recover_task dest k task bytes) s caller ≡ (Err (fault.Names why), s)
   pub faults : (f : CommitFault) → recovered (recover_task dest k task bytes) s caller ≡ (Err f, t) → t ≡ s
 
--- in a tree
+-- the same of each namespace whose content is a tree
 abbrev pub TasksRecover : Type 0
 TasksRecover = (dest : List (List ℕ)) (k : ℕ) (task : TaskId) (bytes : Option ℕ) (s t : State) (caller : Caller) → IsTree s.content → TaskRecovers dest k task bytes s t caller

@@ -1,5 +1,5 @@
--- Recovery of a task: generation k takes over what the newest earlier generation committed of it. recoverTask of Hadoop's
--- OutputCommitter API; that all earlier generations are looked at, newest first, and that the length is measured is our own profile.
+-- Recovery of a task: generation k takes over what the newest earlier generation committed of it. recoverTask of Hadoop's OutputCommitter
+-- API. That all earlier generations are looked at, newest first, and that the length is measured, is our own profile.
 use Rattle.std.specs.Prelude.{◌≡◌, ℕ, Bool, true, false, List, [], ◌∷◌, Option, Some, None, Result, Err}
 use Rattle.mr_ids.specs.declared.id.TaskId.{TaskId}
 use Rattle.mr_names.specs.declared.fault.NameFault.{NameFault}

@@ -27,7 +27,7 @@ pub fn needs_task_commit(
 
 /// Refuses a destination that is there already: `DestinationExists`.
 ///
-/// One call, `exists` of the destination. It takes no memory.
+/// One call, `exists` of the destination.
 pub fn check_output(names: &Namespace, caller: Caller, layout: &Layout) -> Result<(), CommitFault>
     ensures { result ≡ checked layout.now.dest names.now caller }
 {

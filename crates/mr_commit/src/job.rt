@@ -14,7 +14,7 @@ use std::alloc::AllocError;
 use std::collections::LinkedList;
 
 impl Step {
-    /// The commit of a job, of what the master's generation `k` holds: all committed output is merged onto the
+    /// The commit of a job, of what the master's generation `k` holds. All committed output is merged onto the
     /// destination, then what was temporary is deleted, and the marker is created last.
     ///
     /// It is not to be made twice: a marker that is there already is `Names(Exists)`.

@@ -25,9 +25,9 @@ pub fn task_commits()
     ensures { TaskCommits }
 {}
 
-/// After a job commit that was answered, where each task had committed one file and nothing at the destination had its
-/// name: each of these files stands in the destination with its bytes, nothing is at `_temporary` or beneath it, the marker
-/// is an empty closed file, and nothing else changed.
+/// A job commit that was answered, where each task had committed one file and nothing at the destination had its name.
+/// After it each of these files stands in the destination with its bytes. Nothing is at `_temporary` or beneath it, the
+/// marker is an empty closed file, and nothing else changed.
 pub fn job_commits()
     ensures { JobCommits }
 {}
@@ -39,8 +39,8 @@ pub fn aborts_leave()
 {}
 
 /// After a task's recovery that was answered the committed path holds what the newest earlier generation had committed,
-/// of the recorded length where one is recorded, that generation holds nothing of the task, and nothing else changed.
-/// A fault changes nothing, and tells why: `OutputMissing`, `WrongLength`, or that the caller is not heard.
+/// of the recorded length where one is recorded. That generation holds nothing of the task, and nothing else changed. A
+/// fault changes nothing, and tells why: `OutputMissing`, `WrongLength`, or that the caller is not heard.
 pub fn task_recovers()
     ensures { TasksRecover }
 {}

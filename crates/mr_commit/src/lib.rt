@@ -27,57 +27,58 @@
 //! # What is proved
 //!
 //! The output committer of a job, one call of the namespace at a time. Six operations of Hadoop's `OutputCommitter`
-//! stand as step values, so that a machine, a driver or a crash can stop between any two calls: a `Step`, made by
-//! `Step::setup_job`, `Step::commit_task`, `Step::abort_task`, `Step::commit_job` or `Step::abort_job`, and
+//! stand as step values, so that a machine, a driver or a crash can stop between any two calls. Five are a `Step`, made
+//! by `Step::setup_job`, `Step::commit_task`, `Step::abort_task`, `Step::commit_job` or `Step::abort_job`. The sixth is
 //! `RecoverTask`, which stands over one.
 //!
 //! What is proved, and by which contract:
 //!
-//! - **The next call, and nothing else.** `next` (clause `Steps`), `call` (`next_call`) and `took` (`Hears`) are
-//!   one definition: a step value is the list of lines of its table that are left; the first line has a call; its
+//! - **The next call, and nothing else.** `next` (clause `Steps`), `call` (`next_call`) and `took` (`Hears`) are one
+//!   definition. A step value is the list of lines of its table that are left. The first line has a call, and its
 //!   answer puts the lines that follow in its place. `next` is `call`, `Namespace::perform` and `took` in one.
-//! - **The same in two halves.** `follow` makes ready for an answer (the lines that follow, and whether calls are left
-//!   then, or the fault) and changes nothing; `go_on` puts these lines in the place of the first and takes no memory.
-//!   Together they are `took` (`Follows`, of a recovery `FollowsOf`). So whoever has to make ready for an answer before
-//!   its call is made copies no lines.
+//! - **The same in two halves.** `follow` makes ready for an answer and changes nothing: it gives the lines that
+//!   follow, and whether calls are left then, or the fault. `go_on` puts these lines in the place of the first and
+//!   takes no memory. Together they are `took` (`Follows`, of a recovery `FollowsOf`). So whoever has to make ready for
+//!   an answer before its call is made copies no lines.
 //! - **Over is over.** After `Finished`, and after each fault but `NoMemory`, no line is left: the answer is `Over`
 //!   from then on and no call is made. After `NoMemory` the step value and the namespace are as before, and
 //!   `NoMemory` is answered only by a line that may allocate and whose call is not refused.
 //! - **`call` lends the operation and takes no memory.** Each line holds its call ready made. So `took` wants
 //!   memory only after `list` or `exists`, which change nothing; after a `delete`, `rename`, `mkdirs` or `create`
 //!   it only drops the line.
-//! - **Recovery.** `RecoverTask` looks at the earlier generations from the newest down to the first, and what it
-//!   finds takes the place of what this generation had committed; where a length was recorded, the part file is
-//!   read first: another length is `WrongLength`, no file there is `OutputMissing`, as is nothing found at all.
-//!   Generation 1 has no earlier one: `call` gives none, the first `next` answers `OutputMissing` without a call,
-//!   also to a caller that is superseded or barred, and then it is over (`next_of`, `StepsOf`, `HearsOf`; whole:
-//!   `RecoveryHas`, `RecoveryMade`).
-//! - **Whole forms** `setup_job`, `commit_task`, `abort_task`, `recover_task`, `commit_job`, `abort_job` end and
-//!   have the committer effect: for every answer but `NoMemory`, `whole table before caller ≡ (answer, after)`
-//!   (clause `effect`), and the same said as a path of steps (clause `made`); `NoMemory` leaves what the earlier
-//!   calls did, and comes in two places only: where the caller is neither superseded nor barred and the namespace
-//!   is as it was (no memory for the table's lines), or where the line that is next may allocate and its call is
-//!   not refused (`Commits`).
-//! - `needs_task_commit` and `check_output` are their one `exists`; `check_output` takes no memory.
+//! - **Recovery.** `RecoverTask` looks at the earlier generations from the newest down to the first, and what it finds
+//!   takes the place of what this generation had committed. Where a length was recorded, the part file is read first:
+//!   another length is `WrongLength`, no file there is `OutputMissing`. `OutputMissing` is also answered where nothing
+//!   is found at all. Generation 1 has no earlier one: `call` gives none, and the first `next` answers `OutputMissing`
+//!   without a call, also to a caller that is superseded or barred. Then it is over (`next_of`, `StepsOf`, `HearsOf`;
+//!   whole: `RecoveryHas`, `RecoveryMade`).
+//! - **Whole forms** `setup_job`, `commit_task`, `abort_task`, `recover_task`, `commit_job`, `abort_job` end and have
+//!   the committer effect. For every answer but `NoMemory` it is `whole table before caller ≡ (answer, after)` (clause
+//!   `effect`), and the same said as a path of steps (clause `made`). `NoMemory` leaves what the earlier calls did, and
+//!   comes in two places only (`Commits`). One is that there was no memory for the table's lines: then the caller is
+//!   neither superseded nor barred, and the namespace is as it was. The other is that the line that is next may
+//!   allocate and its call is not refused.
+//! - `needs_task_commit` and `check_output` are their one `exists`.
 //! - **An answer of another call is a fault**: `took` and `follow` answer `WrongAnswer` to it, and nothing goes on. What
 //!   the namespace answers is always of its call (law `answers_own_calls`).
-//! - `copy` of a step value is an equal value.
-//! - **Laws**: steps lead to one answer and one namespace (`one_result`); whole forms end, and the tables meet the
-//!   condition for it (`whole_forms_end`); after a task commit that was answered the committed path holds what the
-//!   attempt path held, the attempt path holds nothing, nothing else changed, and the fence is as before
-//!   (`task_commits`). After a job commit that was answered, where each task had committed one closed file and
-//!   nothing else, no two of one name, and nothing in the destination had such a name: each of these files stands in
-//!   the destination with its bytes, closed; nothing is at `$dest/_temporary` or beneath it; the marker is an empty
-//!   closed file; no other path differs, fence and barred attempts are as before (`job_commits`). After a task's
-//!   abort that was answered nothing is at the attempt path or beneath it, after a job's abort nothing at
-//!   `$dest/_temporary` or beneath it; no other path differs, fence and barred attempts are as before; an abort that
-//!   was not answered changes nothing (`aborts_leave`). After a recovery that was answered the committed path of this
-//!   generation and every path beneath it hold what the newest earlier generation with committed output held there,
-//!   that one holds nothing of the task any more, no other path differs, fence and barred attempts are as before, and
-//!   where a length was recorded the part file has it; `OutputMissing` says that no earlier generation committed
-//!   output, or that a length is recorded and the newest one has no part file; `WrongLength` that its part file has
-//!   another length; a superseded or barred caller is refused, but in generation 1; and each fault leaves the
-//!   namespace as it was (`task_recovers`, of the committer effect, so an allocation failure aside).
+//! - `copy` of a step value is an equal value. Memory may be taken by what makes or copies a step value, by `follow`,
+//!   `took` and `next`, by the whole forms, and by `needs_task_commit`. No other call takes any.
+//! - **Laws**: steps lead to one answer and one namespace (`one_result`). Whole forms end, and the tables meet the
+//!   condition for it (`whole_forms_end`). After a task commit that was answered the committed path holds what the
+//!   attempt path held, and the attempt path holds nothing. Nothing else changed, and the fence is as before
+//!   (`task_commits`). The law of a job commit asks that each task had committed one closed file and nothing else, no
+//!   two of one name, with no such name in the destination. After one that was answered each of these files stands in
+//!   the destination with its bytes, closed. Nothing is at `$dest/_temporary` or beneath it, and the marker is an empty
+//!   closed file. No other path differs, fence and barred attempts are as before (`job_commits`). After a task's abort
+//!   that was answered nothing is at the attempt path or beneath it, after a job's abort nothing at `$dest/_temporary`
+//!   or beneath it. No other path differs, fence and barred attempts are as before. An abort that was not answered
+//!   changes nothing (`aborts_leave`). The last law is of a recovery (`task_recovers`), of the committer effect, so an
+//!   allocation failure aside. After one that was answered the committed path of this generation, and every path
+//!   beneath it, hold what the newest earlier generation with committed output held there. That one holds nothing of
+//!   the task any more. No other path differs, fence and barred attempts are as before, and where a length was recorded
+//!   the part file has it. `OutputMissing` says that no earlier generation committed output, or that a length is
+//!   recorded and the newest one has no part file. `WrongLength` says that its part file has another length. A
+//!   superseded or barred caller is refused, but in generation 1. Each fault leaves the namespace as it was.
 //!
 //! Only tested: that memory suffices where there is plenty; the printed text of two faults.
 #![tactic(auto)]

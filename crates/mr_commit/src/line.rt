@@ -47,7 +47,7 @@ enum Rule {
         k: AppAttempt,
         j: AppAttempt,
     },
-    /// Nothing follows, if the file that is read has so many bytes.
+    /// Nothing follows, if the file that is read has this number of bytes.
     Measure(u32),
 }
 
@@ -195,7 +195,7 @@ impl TableLine {
         })
     }
 
-    /// The file at the path has to have so many bytes.
+    /// The file at the path has to have `bytes` bytes.
     pub fn measures(path: Path, bytes: u32) -> TableLine
         ensures { result ≡ Measures path bytes }
     {

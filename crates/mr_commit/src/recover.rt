@@ -63,7 +63,7 @@ impl RecoverTask {
         }
     }
 
-    /// The next call, or none where it is over or there is no earlier generation. It takes no memory.
+    /// The next call, or none where it is over or there is no earlier generation.
     pub fn call(&self) -> Option<&Op>
         ensures { option_copied result ≡ next_of self.now }
     {
@@ -101,7 +101,7 @@ impl RecoverTask {
         }
     }
 
-    /// Hears the answer that it was made ready for: the second half of `took`. It takes no memory.
+    /// Hears the answer that it was made ready for: the second half of `took`.
     pub fn go_on(&mut self, following: Following)
         requires { FitsOf following.lines self.old }
         ensures { self.new ≡ gone_on following.lines self.old }

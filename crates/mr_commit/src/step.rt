@@ -72,7 +72,7 @@ impl Step {
         self.left.clear();
     }
 
-    /// The next call, or none where it is over. It takes no memory.
+    /// The next call, or none where it is over.
     pub fn call(&self) -> Option<&Op>
         ensures { option_copied result ≡ next_call self.now }
     {
@@ -80,7 +80,7 @@ impl Step {
     }
 
     /// Whether the next call is a deletion for which a missing path is accepted: in a job's commit, that of what was
-    /// temporary. It takes no memory.
+    /// temporary.
     pub fn cleans_up(&self) -> bool
         ensures { result ≡ next_passes self.now }
     {
@@ -142,7 +142,7 @@ impl Step {
         }
     }
 
-    /// Hears the answer that it was made ready for: the second half of `took`. It takes no memory.
+    /// Hears the answer that it was made ready for: the second half of `took`.
     pub fn go_on(&mut self, following: Following)
         requires { Fits following.lines self.old }
         ensures { self.new ≡ following.lines ++ drop 1 self.old }

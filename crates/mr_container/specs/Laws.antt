@@ -67,8 +67,8 @@ pub record CommitsByTable : Type 0 where
   pub aborts : (dest : List (List ℕ)) (k : ℕ) (x : Attempt) (result : List ℕ)
       → map (λ (w : Wish). wished_op dest k x result w) (wish.Abort ∷ []) ≡ map (λ (l : Line). Some (op_of l)) (abort_task dest k x)
 
--- how many blocks are there fits the wish: while one is missing, it asks for the first that is, fetches it, or tells that it is lost;
--- else all are there
+-- how many blocks are there fits the wish. While one is missing, it asks for the first that is, fetches it, or tells that it is lost; else
+-- all are there
 unfoldable pub Fits : ℕ → ℕ → Wish → Type 0
 Fits maps count (wish.Where m) = (m ≡ count) × (count < maps)
 Fits maps count (wish.Fetch a n i) = count < maps

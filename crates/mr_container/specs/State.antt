@@ -12,7 +12,7 @@ pub record Container : Type 0 where
   pub maps : ℕ
   pub seen : Seen
 
--- The machine m stands for the past of container c in a job with so many maps: what it stores is what is read off the past.
+-- The machine m stands for the past of container c in a job with `count` maps: what it stores is what is read off the past.
 pub record StandsFor (m : Container) (c : ContainerId) (count : ℕ) (past : Past) : Type 0 where
   pub id : m.id ≡ c
   pub place : m.place ≡ past.launched

@@ -1,6 +1,6 @@
 -- What a container calls or sends for each of its wishes.
--- The calls are those that FileOutputCommitter, algorithm version 1, makes for needsTaskCommit, commitTask and abortTask; the packets restate
--- Hadoop's task umbilical protocol; the part file's own calls are our own profile.
+-- The calls are those that FileOutputCommitter, algorithm version 1, makes for needsTaskCommit, commitTask and abortTask. The packets restate
+-- Hadoop's task umbilical protocol. The part file's own calls are our own profile.
 use Rattle.std.specs.Prelude.{ℕ, ◌-◌, ◌^◌, false, nat_lt, List, [], ◌∷◌, ◌++◌, Option, Some, None, if◌then◌else◌, length}
 use Rattle.mr_ids.specs.Attempt.{Attempt}
 use Rattle.mr_ids.specs.declared.id.TaskKind.{TaskKind}

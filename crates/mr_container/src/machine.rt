@@ -22,17 +22,19 @@ use std::marker::Model;
 
 /// One container: what it was launched as, and how far it came.
 ///
-/// It tells what it wishes to do next (`wish`), and what that is as a namespace call (`call`, made as `caller`) or as a packet
-/// (`packet`). Whoever runs it makes the call and hands in the answer (`on`), sends the packet (`send`, or `sent` after it was put
-/// into the bag by another way), or computes and hands in the bytes (`computed`). What is delivered to it is handed to `hear`.
+/// It tells what it wishes to do next (`wish`), and what that is as a namespace call (`call`, made as `caller`) or as a
+/// packet (`packet`). Whoever runs it does one of three things. It makes the call and hands in the answer (`on`). It
+/// sends the packet (`send`, or `sent` after it was put into the bag by another way). Or it computes and hands in the
+/// bytes (`computed`). What is delivered to it is handed to `hear`.
 ///
-/// A map's wishes are to compute and to report. A reduce's are, for each map in turn, to ask where its output lies and to fetch its
-/// block of it; then to compute, to write its part file into its task attempt path, to ask for permission to commit until it is told yes,
-/// to make the three calls of the task's commit, and to report. Any refusal or fault of a call leads to the task's abort and then to `Failed`
-/// (Hadoop's `YarnChild` and task runs over an output committer).
+/// A map's wishes are to compute and to report. A reduce's are, for each map in turn, to ask where its output lies and
+/// to fetch its block of it. Then it computes, and writes its part file into its task attempt path. It asks for
+/// permission to commit until it is told yes, makes the three calls of the task's commit, and reports. Any refusal or
+/// fault of a call leads to the task's abort and then to `Failed` (Hadoop's `YarnChild` and task runs over an output
+/// committer).
 ///
-/// `call`, `hear` and `copy` may allocate, and then nothing has changed. All others take none, so that nothing can be
-/// refused after a store was changed.
+/// `call`, `hear` and `copy` may allocate, and where that is refused nothing has changed. No other call takes memory, so
+/// nothing can be refused after a store was changed.
 pub struct ContainerMachine {
     id: ContainerId,
     place: Place,
@@ -42,7 +44,8 @@ pub struct ContainerMachine {
     result: Bytes,
 }
 
-// By hand, so that a container is dropped by this call: a derived drop is taken apart by the check at each place where one is dropped.
+// Written by hand, so that the check takes the drop of a container as one call. A derived drop it takes apart at each place where one is
+// dropped.
 impl Drop for ContainerMachine {
     fn drop(self) {
         let ContainerMachine {
@@ -65,7 +68,7 @@ impl Model for ContainerMachine {
 }
 
 impl ContainerMachine {
-    /// A container that was launched as `place`, in a job with so many maps. It takes no memory.
+    /// A container that was launched as `place`, in a job with `maps` maps.
     pub fn new(alloc: Global, id: ContainerId, place: Place, maps: u32) -> ContainerMachine
         ensures stands { StandsFor result id maps (launched_as place) }
         ensures made { result ≡ record { id = id; place = place; maps = maps; seen = opening maps place.attempt } }
@@ -87,36 +90,36 @@ impl ContainerMachine {
         }
     }
 
-    /// Which container it is. It takes no memory.
+    /// Which container it is.
     pub fn id(&self) -> ContainerId
         ensures { result ≡ self.now.id }
     {
         self.id
     }
 
-    /// What it was launched as. It takes no memory.
+    /// What it was launched as.
     pub fn place(&self) -> Place
         ensures { result ≡ self.now.place }
     {
         self.place
     }
 
-    /// What it wishes to do next. It takes no memory.
+    /// What it wishes to do next.
     pub fn wish(&self) -> Wish
         ensures { result ≡ self.now.seen.wish }
     {
         self.wish
     }
 
-    /// The blocks that were fetched, in the order of their maps: what a reduce computes from, lent without a copy. It takes no memory.
+    /// The blocks that were fetched, in the order of their maps: what a reduce computes from, lent without a copy.
     pub fn blocks(&self) -> &[Bytes]
         ensures { result.now ≡ self.now.seen.pieces.blocks }
     {
         self.pieces.blocks()
     }
 
-    /// Who calls when it makes its calls: the generation of the master that launched it, below whose fence no call is heard, and for a
-    /// reduce its own attempt, so that it is refused once that is barred. It takes no memory.
+    /// The caller of its namespace calls: the generation of the master that launched it, below whose fence no call is
+    /// heard. A reduce's caller has its attempt too, so that it is refused once that is barred.
     pub fn caller(&self) -> Caller
         ensures { result ≡ caller_of self.now.id self.now.place.attempt }
     {
@@ -150,7 +153,7 @@ impl ContainerMachine {
         )
     }
 
-    /// The packet that it wishes to send, if its wish is one. It takes no memory.
+    /// The packet that it wishes to send, if its wish is one.
     #[tactic(auto, unfolding(crate::specs::Wished::wished_packet))]
     pub fn packet(&self) -> Option<Envelope>
         ensures { result ≡ wished_packet self.now.id self.now.place.attempt self.now.seen self.now.seen.wish }
@@ -320,7 +323,7 @@ impl ContainerMachine {
         }
     }
 
-    /// Sends the packet that it wishes to send, if its wish is one. If that was its last, `Ended` follows it. It takes no memory: the room
+    /// Sends the packet that it wishes to send, if its wish is one. If that was its last, `Ended` follows it. The room
     /// is the bag's.
     #[tactic(auto, unfolding(crate::specs::Readings::next_seen))]
     pub fn send(&mut self, bag: &mut Bag)
@@ -341,7 +344,7 @@ impl ContainerMachine {
     }
 
     /// If it came to its end, its master is told so. It is called once for a container that ended: by `send`, and by whoever delivers a packet
-    /// to it, after `hear`. It takes no memory: the room is the bag's.
+    /// to it, after `hear`. The room is the bag's.
     pub fn tell_end(&self, bag: &mut Bag)
         requires room { 0 < bag.old.spare }
         requires few { length bag.old.packets < 1000000 }
@@ -353,7 +356,7 @@ impl ContainerMachine {
         }
     }
 
-    /// The packet that it wished to send was sent. It takes no memory.
+    /// The packet that it wished to send was sent.
     #[tactic(auto, unfolding(crate::specs::Readings::next_seen))]
     pub fn sent(&mut self)
         ensures stands { (packet : Packet) → Stands self.old (Sends packet) self.new }
@@ -372,10 +375,10 @@ impl ContainerMachine {
         }
     }
 
-    /// The namespace call that it wished to make was answered so. It takes no memory.
+    /// The namespace call that it wished to make was answered so.
     ///
-    /// An allocation failure, or a limit of the namespace that refuses a whole event, is no answer of a call and is not handed in: it would be taken for
-    /// a refusal, and the attempt be aborted.
+    /// An allocation failure, or a limit of the namespace that refuses a whole event, is no answer of a call. It is not
+    /// handed in: it would be taken for a refusal, and the attempt be aborted.
     #[tactic(auto, unfolding(crate::specs::Readings::next_seen))]
     pub fn on(&mut self, reply: Reply)
         ensures stands { (op : Op) → Stands self.old (Calls op reply) self.new }
@@ -391,12 +394,12 @@ impl ContainerMachine {
     }
 
     /// Its bytes are handed in. Those of a reduce are kept, to be written; those of a map are let go, since they lie on its node's shelf.
-    /// At another wish than to compute it does nothing. It takes no memory.
+    /// At another wish than to compute it does nothing.
     #[tactic(auto, unfolding(crate::specs::Readings::next_seen))]
     pub fn computed(&mut self, bytes: Bytes)
         ensures stands { Stands self.old (Computes bytes) self.new }
         ensures after { self.new ≡ after self.old (Computes bytes) }
-        // Which bytes they are is not kept of a map.
+        // Of a map it does not matter which bytes they are: they are not kept.
         ensures of_map { self.old.place.attempt.task.kind ≡ Map → (others : List ℕ) → self.new ≡ after self.old (Computes others) }
     {
         self.note_bytes(bytes);
@@ -440,7 +443,7 @@ fn first_wish(kind: TaskKind, maps: u32) -> Wish
     }
 }
 
-// The wish after so many blocks were fetched.
+// The wish after `count` blocks were fetched.
 fn ask_next(maps: u32, count: usize) -> Wish
     ensures next { (blocks : List (List ℕ)) → length blocks ≡ count → result ≡ ask_next maps blocks }
     ensures first { count ≡ 0 → result ≡ ask_next maps [] }

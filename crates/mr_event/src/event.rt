@@ -22,28 +22,28 @@ pub enum Weather {
 pub enum Event {
     /// A master starts. It raises the fence of both stores to its generation.
     Start {
-        /// That of the master.
+        /// The master's generation.
         generation: u32,
         /// How many bytes stay of what was not flushed of the history's newest unsealed segment.
         kept: u64,
     },
     /// A master crashes.
     Crash {
-        /// That of the master.
+        /// The master's generation.
         generation: u32,
         /// How many bytes stay of what it did not flush.
         kept: u64,
     },
     /// A master makes the store call that is due.
     Duty {
-        /// That of the master.
+        /// The master's generation.
         generation: u32,
         /// What befalls the call.
         weather: Weather,
     },
     /// A master launches an attempt.
     LaunchOn {
-        /// That of the master.
+        /// The master's generation.
         generation: u32,
         /// The task of the attempt.
         task: TaskId,
@@ -77,7 +77,7 @@ pub enum Event {
     },
     /// A master gives a node up.
     Expire {
-        /// That of the master.
+        /// The master's generation.
         generation: u32,
         node: u32,
     },

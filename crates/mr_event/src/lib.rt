@@ -12,7 +12,8 @@
 //!
 //! # What is proved
 //!
-//! - `Event::copy` gives an equal event; only computed bytes take memory. `PlanFaults::copy` gives equal faults; `from_vec`, `into_vec` and `as_slice` are what they say.
+//! - `Event::copy` gives an equal event, and takes memory for computed bytes alone. `PlanFaults::copy` gives equal
+//!   faults, and may take memory; `from_vec`, `into_vec` and `as_slice` are what they say. No other call takes any.
 //! - `==` of two events, and of the faults of two plans, holds exactly where they are equal (`events_are_compared`, `plans_are_compared`: laws, on functions that do nothing).
 //! - Only tested: the texts of the reasons, and that the copies succeed with ample memory.
 #![tactic(auto)]

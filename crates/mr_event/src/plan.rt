@@ -13,7 +13,7 @@ use std::marker::Model;
 pub enum PlanAct {
     /// This node restarts.
     Node(u32),
-    /// The newest master crashes, so many bytes of its unflushed history are kept, and the next master starts.
+    /// The newest master crashes, and the next one starts. This number of bytes of its unflushed history is kept.
     Master(u64),
     /// The newest master gives this node up.
     Expire(u32),
@@ -43,14 +43,14 @@ impl Model for PlanFaults {
 }
 
 impl PlanFaults {
-    /// These faults, without taking memory.
+    /// These faults, without a copy.
     pub fn from_vec(items: Vec<PlanFault>) -> PlanFaults
         ensures { result ≡ items.items }
     {
         PlanFaults { items }
     }
 
-    /// The faults as a vector, without taking memory.
+    /// The faults as a vector, without a copy.
     pub fn into_vec(self) -> Vec<PlanFault>
         ensures { result.items ≡ self }
     {

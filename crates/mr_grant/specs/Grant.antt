@@ -1,7 +1,7 @@
 -- Permission to commit a task. That the attempt which asks first is the commit attempt, and that all others are told no, is what
--- `canCommit` of Hadoop's application master does (`TaskImpl.canCommit`, asked over the umbilical protocol). That those who ask
--- later wait in their order, that the next is named when the first is released, and that the permission can be fixed for good is
--- our own profile.
+-- `canCommit` of Hadoop's application master does. (It is `TaskImpl.canCommit`, asked over the umbilical protocol.) Our own profile is that
+-- those who ask later wait in their order, and that the next is named when the first is released. So is that the permission can be fixed
+-- for good.
 use Rattle.std.specs.Prelude.{Bool, true, false, List, [], ◌∷◌, if◌then◌else◌}
 use Rattle.mr_ids.specs.Attempt.{Attempt}
 use Rattle.mr_grant.specs.Attempts.{is_first, with_last, without}

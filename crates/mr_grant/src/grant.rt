@@ -28,7 +28,7 @@ impl Model for Grant {
 }
 
 impl Grant {
-    /// A grant that nobody asked for. It takes no memory until somebody asks.
+    /// A grant that nobody asked for.
     pub fn new(alloc: Global) -> Grant
         ensures { result ≡ nobody }
     {

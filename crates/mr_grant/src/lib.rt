@@ -17,15 +17,15 @@
 //!
 //! # What is proved
 //!
-//! - **`Grant`** is the attempts that are kept, in order of arrival, and whether it is fixed; each call is an
-//!   equation on that. `can_commit` is yes exactly for the first of those kept; `pending` adds an attempt as the
-//!   last if it is not there, allocates only then, and where it is refused has changed nothing; `release` takes
-//!   an attempt out exactly where the grant is not fixed; `fix` tells whether the attempt is the first, and if so
-//!   the grant is fixed from then on. `can_commit`, `release`, `fix`, `first`, `attempts`, `is_fixed` and `new`
-//!   take no memory. Each attempt is kept once; `copy` is equal.
-//! - Laws, on functions that do nothing, for every list of calls: who is first stays first until it is released
-//!   itself (`first_stays`); a fixed grant stays fixed and its first is the first for good (`fixed_stays`); yes is
-//!   for one attempt at a time (`one_is_first`); the test for one attempt is equality (`same_attempts`).
+//! - **`Grant`** is the attempts that are kept, in order of arrival, and whether it is fixed; each call is an equation
+//!   on that. `can_commit` is yes exactly for the first of those kept. `pending` adds an attempt as the last if it is
+//!   not there, allocates only then, and where it is refused has changed nothing. `release` takes an attempt out
+//!   exactly where the grant is not fixed. `fix` tells whether the attempt is the first, and if so the grant is fixed
+//!   from then on. Each attempt is kept once; `copy` is equal. Memory may be taken by `pending` and `copy`, and by no
+//!   other call.
+//! - Laws, on functions that do nothing, for every list of calls. Who is first stays first until it is released itself
+//!   (`first_stays`). A fixed grant stays fixed, and its first is the first for good (`fixed_stays`). Yes is for one
+//!   attempt at a time (`one_is_first`), and the test for one attempt is equality (`same_attempts`).
 //! - Only tested: that `pending` and `copy` succeed with ample memory.
 #![tactic(auto)]
 

@@ -1,6 +1,6 @@
--- The calls of the history: when each is refused, what it answers and what it leaves. That a generation
--- recovers from the history of those before it restates the Hadoop MapReduce application master as the committer
--- architecture document describes it; segments, seals and the fence are our own profile.
+-- The calls of the history: when each is refused, what it answers and what it leaves. That a generation recovers from the history of those
+-- before it restates the Hadoop MapReduce application master, as the committer architecture document describes it. Segments, seals and the
+-- fence are our own profile.
 use Rattle.std.specs.Prelude.{◌≡◌, ◌<◌, ◌-◌, ℕ, nat_lt, List, ◌++◌, take, drop, map, set, get_or, flat_map, Option, Some, None, unwrap_or, Result, Ok, Err, if◌then◌else◌}
 use Rattle.mr_history.specs.declared.record.Record.{Record}
 use Rattle.mr_history.specs.declared.fault.HistoryFault.{HistoryFault}
@@ -90,7 +90,7 @@ MakesAlways shows old k call (Err f) new = call_of old k call ≡ (Err f, new)
 abbrev pub sealed_at : ℕ → ℕ → State → State
 sealed_at k kept h = with_segment h k (sealed kept (segment h k))
 
--- one of this version
+-- the segment with this version
 abbrev pub with_version : ℕ → SegmentState → SegmentState
 with_version version s = record s { version = version }
 

@@ -118,8 +118,7 @@ pub record IsHistory (h : State) : Type 0 where
   pub older : (k : ℕ) → 1 ≤ k → k < h.fence → (segment h k).is_sealed ≡ true
   pub unraised : AreUnraised h
 
--- A change of a history, by the generation that it is of: a call, a seal that keeps so many bytes, and a raise
--- that gives a version, too.
+-- A change of a history, by the generation that it is of. A seal tells how many bytes it keeps, and a raise gives a version too.
 pub data Change : Type 0 where
   Calls : ℕ → Call → Change
   Seals : ℕ → ℕ → Change
@@ -148,8 +147,8 @@ pub record HistoriesStay : Type 0 where
   pub of_change : (h : State) (c : Change) → IsHistory h → IsChange h c → IsHistory (after h c)
   pub each : (h : State) (k : ℕ) → IsHistory h → IsSound (segment h k)
 
--- What is stable stays, whatever changes a history: a sealed segment is as it was, stable bytes only grow at their end,
--- and the segments below the fence tell the records that they told. The fence is never lowered.
+-- What is stable stays, whatever changes a history. A sealed segment is as it was, stable bytes only grow at their end, and the segments
+-- below the fence tell the records that they told. The fence is never lowered.
 pub record StableStays : Type 0 where
   pub of_sealed : (h : State) (c : Change) (j : ℕ) → IsHistory h → IsChange h c → 1 ≤ j → (segment h j).is_sealed ≡ true → segment (after h c) j ≡ segment h j
   pub grows : (h : State) (c : Change) (j : ℕ) → IsHistory h → IsChange h c → 1 ≤ j → j ≤ 1000 → (more : List ℕ) × ((segment (after h c) j).stable ≡ (segment h j).stable ++ more)

@@ -24,8 +24,8 @@ use Rattle.mr_history.specs.Line.{line_of, version_line, fits, is_of}
 abbrev pub is_text : List ℕ → List ℕ → Bool
 is_text xs ys = pointwise nat_eq xs ys
 
--- An attempt, a number or a record that a text may tell: whatever else the text holds is not looked at here,
--- since a line is a record only where it is the record's own line.
+-- An attempt, a number or a record that a text may tell. Whatever else the text holds is not looked at here, since a line is a record only
+-- where it is the record's own line.
 abbrev pub number_told : List ℕ → ℕ
 number_told text = digits_value 10 text
 

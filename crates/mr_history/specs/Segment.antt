@@ -34,7 +34,7 @@ abbrev pub first_of : List (Bool × HistoryFault) → Option HistoryFault
 first_of [] = None
 first_of (row ∷ rows) = if row.0 then Some row.1 else first_of rows
 
--- of so many bytes more, behind the version line where it is still to come
+-- why `more` bytes are refused; the version line comes before them where it is still to come
 abbrev pub growth_refusal : ℕ → SegmentState → Option HistoryFault
 growth_refusal more s = first_of (
     (s.is_sealed, fault.Sealed)

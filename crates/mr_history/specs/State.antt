@@ -1,5 +1,5 @@
 -- A segment and a history as what they hold.
--- A segment for each application attempt is Hadoop's job history file, which a later attempt reads; a stable part and a tail that a crash cuts
+-- A segment for each application attempt is Hadoop's job history file, which a later attempt reads. A stable part and a tail that a crash cuts
 -- are those of any write-ahead log. The fence is our own profile.
 use Rattle.std.specs.Prelude.{ℕ, Bool, List}
 

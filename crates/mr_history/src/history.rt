@@ -19,7 +19,8 @@ pub struct History {
     alloc: Global,
 }
 
-// By hand, so that a history is dropped by this call: a derived drop is taken apart by the check at each place where one is dropped.
+// Written by hand, so that the check takes the drop of a history as one call. A derived drop it takes apart at each place where one is
+// dropped.
 impl Drop for History {
     fn drop(self) {
         let History {
@@ -98,8 +99,8 @@ impl History {
         self.fence = k.number();
     }
 
-    /// Adds the line of a record to the tail of the segment of `k`, as the segment's version tells it; the first
-    /// record of a segment of version 2 comes with the version line.
+    /// Adds the line of a record to the tail of the segment of `k`, as the segment's version tells it. The first record
+    /// of a segment of version 2 comes with the version line.
     ///
     /// Refusals in order: `Superseded` where `k` is below the fence, `Sealed`, `Full`, `NoMemory`.
     pub fn append(&mut self, k: AppAttempt, record: Record) -> Result<(), HistoryFault>
@@ -128,7 +129,7 @@ impl History {
     }
 
     /// Why `append` would refuse this record of `k`, memory aside: the first that applies of `Superseded`, `Sealed` and
-    /// `Full`. It takes no memory.
+    /// `Full`.
     pub fn append_refusal(&self, k: AppAttempt, record: &Record) -> Option<HistoryFault>
         requires { k ≤ self.now.fence }
         ensures { result ≡ refused self.now k (Append «record».now) }
@@ -139,7 +140,7 @@ impl History {
         }
     }
 
-    /// Why `flush` would be refused for `k`: the first that applies of `Superseded` and `Sealed`. It takes no memory.
+    /// Why `flush` would be refused for `k`: the first that applies of `Superseded` and `Sealed`.
     pub fn flush_refusal(&self, k: AppAttempt) -> Option<HistoryFault>
         requires { k ≤ self.now.fence }
         ensures { result ≡ refused self.now k Flush }
@@ -199,7 +200,7 @@ impl History {
         self.first_records(self.fence as usize)
     }
 
-    // The records of so many first segments, from stable bytes alone.
+    // The records of the first `count` segments, from stable bytes alone.
     fn first_records(&self, count: usize) -> Result<Records, HistoryFault>
         requires { count ≤ 1000 }
         ensures told { IfOk result (λ told. told ≡ records_in (take count self.now.segments)) }

@@ -109,7 +109,7 @@ pub fn whole_line(alloc: Global, record: &Record) -> Result<String, AllocError>
     Ok(text)
 }
 
-/// How many bytes the line of a record takes, with its line feed. It takes no memory.
+/// How many bytes the line of a record takes, with its line feed.
 pub fn width(record: &Record) -> usize
     ensures width { result ≡ width «record».now }
     ensures small { result ≤ 200 }

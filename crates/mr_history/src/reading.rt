@@ -21,9 +21,9 @@ pub struct Replayed {
 
 /// The version, the records of the whole lines, and how many bytes stand after the last line feed.
 ///
-/// A whole line that is neither the line of a record of that version nor its version line at the head is answered by
-/// `BadLine`, the first of them, numbered from 1; the version line counts. Each line of at most `MAX_LINE_LEN` bytes
-/// is read in memory, so `NoMemory` may come before a later bad line is seen; a longer one is bad, and takes none.
+/// `BadLine` answers the first whole line that is neither the line of a record of that version nor its version line at
+/// the head. Lines are numbered from 1, and the version line counts. Each line of at most `MAX_LINE_LEN` bytes is read
+/// in memory, so `NoMemory` may come before a later bad line is seen; a longer one is bad, and takes none.
 pub fn replay(alloc: Global, bytes: &[u8]) -> Result<Replayed, HistoryFault>
     ensures { Replays bytes.now result }
 {

@@ -125,14 +125,14 @@ impl Records {
         }
     }
 
-    /// These records, without taking memory.
+    /// These records, without a copy.
     pub fn from_vec(items: Vec<Record>) -> Records
         ensures { result ≡ items.items }
     {
         Records { items }
     }
 
-    /// The records as a vector, without taking memory.
+    /// The records as a vector, without a copy.
     pub fn into_vec(self) -> Vec<Record>
         ensures { result.items ≡ self }
     {

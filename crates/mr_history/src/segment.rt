@@ -80,15 +80,14 @@ impl Segment {
         Ok(())
     }
 
-    /// Why `append` would refuse this record, memory aside: the first that applies of `Sealed` and `Full`. It takes no
-    /// memory.
+    /// Why `append` would refuse this record, memory aside: the first that applies of `Sealed` and `Full`.
     pub fn append_refusal(&self, record: &Record) -> Option<HistoryFault>
         ensures { result ≡ append_refusal «record».now self.now }
     {
         self.append_refused(&record.as_written(self.version))
     }
 
-    /// Why `flush` would be refused: `Sealed`, or not at all. It takes no memory.
+    /// Why `flush` would be refused: `Sealed`, or not at all.
     pub fn flush_refusal(&self) -> Option<HistoryFault>
         ensures { result ≡ flush_refusal self.now }
     {

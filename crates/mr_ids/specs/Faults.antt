@@ -1,4 +1,4 @@
--- What is wrong with a text that is no identifier: which of its fields is the first from the left that is not what stands there, and how.
+-- What is wrong with a text that is no identifier: its first field from the left that is not what its place asks for, and how.
 -- The fields are the pieces of the text between its bars. All of this is our own profile.
 use Rattle.std.specs.Prelude.{ℕ, Bool, true, false, List, [], ◌∷◌, ◌++◌, ◌^◌, length, nat_eq, nat_lt, ◌&&◌, ◌||◌, Option, Some, None, codes}
 use Rattle.std.specs.List.{list_all}

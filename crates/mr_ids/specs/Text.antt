@@ -55,7 +55,7 @@ pub record IsAttempt (a : Attempt) : Type 0 where
   pub task : IsTask a.task
   pub number : a.number < 1000000
 
--- a text of ASCII letters, digits and bars alone, with at least one byte and at most so many: it can name a file
+-- a text of ASCII letters, digits and bars alone, with at least one byte and at most `most`: it can name a file
 pub record IsPlain (most : ℕ) (text : List ℕ) : Type 0 where
   pub some : 0 < length text
   pub short : length text ≤ most

@@ -22,7 +22,7 @@ impl Model for Bytes {
 }
 
 impl Bytes {
-    /// No bytes. It takes no memory.
+    /// No bytes.
     pub fn new(alloc: Global) -> Bytes
         ensures { result ≡ [] }
     {
@@ -31,35 +31,35 @@ impl Bytes {
         }
     }
 
-    /// These bytes, without taking memory.
+    /// These bytes, without a copy.
     pub fn from_vec(items: Vec<u8>) -> Bytes
         ensures { result ≡ items.items }
     {
         Bytes { items }
     }
 
-    /// The bytes as a vector, without taking memory.
+    /// The bytes as a vector, without a copy.
     pub fn into_vec(self) -> Vec<u8>
         ensures { result.items ≡ self }
     {
         self.items
     }
 
-    /// The bytes as a slice. It takes no memory.
+    /// The bytes as a slice.
     pub fn as_slice(&self) -> &[u8]
         ensures { result.now ≡ self.now }
     {
         &self.items
     }
 
-    /// How many bytes there are. It takes no memory.
+    /// How many bytes there are.
     pub fn len(&self) -> usize
         ensures { result ≡ length self.now }
     {
         self.items.len()
     }
 
-    /// Whether there are none. It takes no memory.
+    /// Whether there are none.
     pub fn is_empty(&self) -> bool
         ensures { IsTrue result ↔ (self.now ≡ []) }
     {

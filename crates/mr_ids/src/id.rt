@@ -26,7 +26,7 @@ pub struct JobId {
 
 impl JobId {
     /// Reads a job's text. Any other text is refused, another spelling of a number too, with the
-    /// first fault from the left. Takes no memory.
+    /// first fault from the left.
     pub fn parse(text: &str) -> Result<JobId, IdFault>
         // What is read is spelled so, and in range.
         ensures found { IfOk result (λ j. text.now ≡ job_text j) }
@@ -106,7 +106,7 @@ pub struct TaskId {
 
 impl TaskId {
     /// Reads a task's text. Any other text is refused, another spelling of a number too, with the
-    /// first fault from the left. Takes no memory.
+    /// first fault from the left.
     pub fn parse(text: &str) -> Result<TaskId, IdFault>
         // What is read is spelled so, and in range.
         ensures found { IfOk result (λ t. text.now ≡ task_text t) }
@@ -211,7 +211,7 @@ impl AttemptId {
     }
 
     /// Reads an attempt's text. Any other text is refused, another spelling of a number too, with
-    /// the first fault from the left. Takes no memory.
+    /// the first fault from the left.
     pub fn parse(text: &str) -> Result<AttemptId, IdFault>
         // What is read is spelled so, and in range.
         ensures found { IfOk result (λ a. text.now ≡ attempt_text a) }

@@ -23,20 +23,22 @@
 //! private fields.
 //! - Each identifier has one text (`job_200707121733_0003`, `task_200707121733_0003_m_000005`,
 //!   `attempt_200707121733_0003_m_000005_0`, a generation's decimal). Proved: `write` appends exactly it, and where
-//!   memory is refused appends nothing; `{}` prints exactly it; `parse` and `text.parse()` answer v exactly where
-//!   the text is v's text, and else the first fault from the left, which is a function of the fields between the
-//!   bars. `parse` takes no memory.
+//!   memory is refused appends nothing. `{}` prints exactly it. `parse` and `text.parse()` answer v exactly where the
+//!   text is v's text, and else the first fault from the left. That fault is a function of the fields between the bars.
+//!   Memory may be taken by each `write`, by `Bytes::extend` and by `Bytes::copy`, and by no other call of the crate.
 //! - Proved: `generation` is number / 1000 + 1 and `first_attempt_number` of generation k is 1000 * (k - 1), and the
-//!   two are inverse (`numbers_tell_generations`); `is_map`, `is_reduce`, `new`, `task` and `number` are what they say; `==`, the order and
-//!   the hash are those of the parts (derived).
-//! - Proved laws, on functions that do nothing, for the layers above: no two identifiers have one text, of one kind
-//!   or of different kinds (`texts_are_distinct`); a numeral is of one number alone (`numerals_are_distinct`); a
-//!   text has only letters, digits and bars, and at most 35, 49 or 59 bytes (`texts_are_plain`, and beside each
-//!   `write`); a numeral has only digits, at least its width and no more than its number needs
-//!   (`numerals_are_digits`); the ranges of each identifier's numbers (`ranges`).
-//! - **`Bytes`** is the bytes that it was made of, seen as a list: `new`, `from_vec`, `into_vec`, `as_slice`, `len`, `is_empty` are
-//!   what they say, `extend` adds at the end or changes nothing, `copy` gives equal bytes, `==` is that of the lists. `extend` and `copy`
-//!   refuse for want of memory alone, and never of no bytes.
+//!   two are inverse (`numbers_tell_generations`). `is_map`, `is_reduce`, `new`, `task` and `number` are what they say.
+//!   `==`, the order and the hash are those of the parts (derived).
+//! - Proved laws, on functions that do nothing, for the layers above:
+//!   - no two identifiers have one text, of one kind or of different kinds (`texts_are_distinct`);
+//!   - a numeral is of one number alone (`numerals_are_distinct`);
+//!   - a text has only letters, digits and bars, and at most 35, 49 or 59 bytes (`texts_are_plain`, and beside each
+//!     `write`);
+//!   - a numeral has only digits, at least its width and no more than its number needs (`numerals_are_digits`);
+//!   - the ranges of each identifier's numbers (`ranges`).
+//! - **`Bytes`** is the bytes that it was made of, seen as a list: `new`, `from_vec`, `into_vec`, `as_slice`, `len`,
+//!   `is_empty` are what they say. `extend` adds at the end or changes nothing, `copy` gives equal bytes, and `==` is
+//!   that of the lists. `extend` and `copy` refuse for want of memory alone, and never of no bytes.
 //! - Only tested: the texts of the faults, what `{:?}` prints, and that the calls succeed with ample memory.
 #![tactic(auto)]
 

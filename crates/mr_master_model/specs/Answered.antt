@@ -1,6 +1,6 @@
 -- What the answer of the store call that was due changes.
 -- The order of the calls is that of setupJob, recoverTask, commitJob and abortJob of Hadoop's OutputCommitter, between the marks of its
--- application master; what a fault makes of each is our own profile.
+-- application master. What a fault makes of each is our own profile.
 use Rattle.std.specs.Prelude.{Bool, true, false, ◌&&◌, ◌||◌, not, nat_lt, List, [], ◌∷◌, ◌++◌, Option, Some, None, is_some, Result, Ok, Err, if◌then◌else◌}
 use Rattle.std.specs.List.{list_any, find}
 use Rattle.mr_ids.specs.Attempt.{Attempt}
@@ -44,7 +44,7 @@ abbrev pub is_superseded : StoreAnswer → Bool
 is_superseded (answer.Names (Err (names.Superseded fence))) = true
 is_superseded _ = false
 
--- what is next where something was found, where nothing was, and else
+-- what is next: where something was found, where nothing was found, and at any other answer
 abbrev pub looked : StoreAnswer → (there absent : Work) → Work
 looked (answer.Names (Ok (found.Found (Some kind)))) there absent = there
 looked (answer.Names (Ok (found.Found None))) there absent = absent
@@ -55,7 +55,7 @@ abbrev pub heard_by : List Line → StoreAnswer → Result StepDone CommitFault 
 heard_by left (answer.Names r) = heard left r
 heard_by left _ = (Err fault.Over, [])
 
--- what is next where lines are left, where none is, and at a refusal or fault
+-- what is next: where lines are left, where no line is left, and at a refusal or fault
 abbrev pub goes_on : Result StepDone CommitFault → List Line → (List Line → Work) → (finished refused : Work) → Work
 goes_on (Ok done.More) left more finished refused = more left
 goes_on (Ok done.Finished) left more finished refused = finished

@@ -1,6 +1,6 @@
 -- The next store call of a master: its duty, with its name.
--- setupJob, recoverTask, commitJob and abortJob of Hadoop's OutputCommitter, between COMMIT_STARTED and COMMIT_SUCCESS or COMMIT_FAIL, as its
--- application master calls them; looks, records, flushes and bars in their order are our own profile.
+-- setupJob, recoverTask, commitJob and abortJob are of Hadoop's OutputCommitter, between COMMIT_STARTED and COMMIT_SUCCESS or COMMIT_FAIL, as
+-- its application master calls them. Looks, records, flushes and bars in their order are our own profile.
 use Rattle.std.specs.Prelude.{ℕ, Bool, true, false, List, [], ◌∷◌, codes, Option, Some, None, if◌then◌else◌}
 use Rattle.std.specs.List.{list_any, find}
 use Rattle.std.specs.Option.{option_map}

@@ -1,5 +1,5 @@
 -- What each packet, a launch and an expiry change.
--- commitPending, canCommit and done restate Hadoop's task umbilical protocol, lost outputs Dean and Ghemawat 3.3; expiry and bars are our own
+-- commitPending, canCommit and done restate Hadoop's task umbilical protocol, lost outputs Dean and Ghemawat 3.3. Expiry and bars are our own
 -- profile.
 use Rattle.std.specs.Prelude.{ℕ, Bool, true, false, ◌&&◌, not, nat_eq, nat_lt, nat_le, List, [], ◌∷◌, ◌++◌, filter, flat_map, Option, Some, None, is_none, if◌then◌else◌}
 use Rattle.mr_ids.specs.Attempt.{Attempt}
@@ -40,8 +40,8 @@ after_done w s a bytes (Some l) =
     then with_due (tell s a.task (task_call.Reports a)) (success_of a.task.kind a l bytes ∷ [])
     else tell s a.task (task_call.Reports a)
 
--- ---- Failed, Ended: where the attempt becomes Failed by it, its record is due; and where its task, which is then not won, has failed
--- as often as the limit, the job fails
+-- ---- Failed, Ended: where the attempt becomes Failed by it, its record is due. Where its task, which is then not won, has failed as often
+-- as the limit, the job fails
 
 abbrev pub is_spent : Setting → Seen → TaskId → Bool
 is_spent w s t = not (task.is_won (of_task w s t)) && nat_le w.limit (task.failures (of_task w s t))
@@ -67,8 +67,8 @@ abbrev pub after_ended : Setting → Seen → ContainerId → Option (Attempt ×
 after_ended w s c None = s
 after_ended w s c (Some p) = after_end w s p.0 (task_call.Ends p.0 (s.killed c.number)) (not (s.killed c.number))
 
--- ---- NodeUp: a greater incarnation is known from then on. While Running, the live attempts that were launched on the node in a lower
--- one are killed, and the Succeeded maps whose output lies there in a lower one are lost
+-- ---- NodeUp: a greater incarnation is known from then on. While Running, the live attempts that were launched on the node in a lower one
+-- are killed. The Succeeded maps whose output lies there in a lower one are lost
 
 abbrev pub with_known : Seen → ℕ → ℕ → Seen
 with_known s n i = record s { known = λ m. if nat_eq m n then i else s.known m }
@@ -76,7 +76,7 @@ with_known s n i = record s { known = λ m. if nat_eq m n then i else s.known m 
 abbrev pub dead_below : Setting → Seen → ℕ → ℕ → TaskId → List Attempt
 dead_below w s n i t = live_where w s (λ a. launched_below n i (launch_of w s a)) t
 
--- of a reduce no output lies on a node
+-- only outputs of maps lie on a node: of a reduce the list is empty
 abbrev pub of_maps : TaskKind → List Attempt → List Attempt
 of_maps Map as' = as'
 of_maps Reduce as' = []
@@ -141,8 +141,8 @@ after_launch w s t n =
     then with_launch (tell s t task_call.Launches) (next_attempt w s t) (launched_as w s n)
     else s
 
--- ---- an expiry: the live maps' attempts that were launched on the node are killed, the Succeeded maps whose output lies there are
--- lost, and of each live reduce's attempt that was launched there a bar is due, if none was
+-- ---- an expiry: the live maps' attempts that were launched on the node are killed, and the Succeeded maps whose output lies there are
+-- lost. Of each live reduce's attempt that was launched there a bar is due, if none was
 
 abbrev pub given_up : Setting → Seen → ℕ → TaskId → List Attempt
 given_up w s n t = live_where w s (λ a. launched_on n (launch_of w s a)) t

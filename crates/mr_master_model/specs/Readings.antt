@@ -1,10 +1,10 @@
 -- What a master has seen: what is read off its past. What concerns one task is the list of the calls that the task got, read off
 -- by the words of tasks: who is over, named, accepted, live, how many failed.
 --
--- That there is one master at a time, that it keeps what it needs to start again in a job history, launches attempts, says which may
--- commit, and commits the job once all tasks are done is Apache Hadoop's MapReduce application master (MRAppMaster, JobImpl, TaskImpl,
--- CommitterEventHandler); that a map whose node is lost runs again is Dean and Ghemawat, section 3.3. Generations' numbers, incarnations,
--- bars and the order of duties are our own profile.
+-- Apache Hadoop's MapReduce application master (MRAppMaster, JobImpl, TaskImpl, CommitterEventHandler) is restated here. There is one
+-- master at a time, and it keeps what it needs to start again in a job history. It launches attempts, says which may commit, and commits
+-- the job once all tasks are done. That a map whose node is lost runs again is Dean and Ghemawat, section 3.3. Generations' numbers,
+-- incarnations, bars and the order of duties are our own profile.
 use Rattle.std.specs.Prelude.{ℕ, Bool, true, false, ◌&&◌, not, nat_eq, nat_lt, List, [], ◌∷◌, ◌++◌, filter, length, slice_get, Option, Some, None, is_some, is_none, if◌then◌else◌}
 use Rattle.std.specs.Map.{lookup}
 use Rattle.std.specs.List.{list_all, find}

@@ -1,5 +1,5 @@
 -- The packets that a master sends at each step, in order.
--- Answers restate Hadoop's canCommit and done, and that reduces are told where outputs lie Dean and Ghemawat 3.1 and 3.3; that nodes are told
+-- Answers restate Hadoop's canCommit and done. That reduces are told where outputs lie is Dean and Ghemawat 3.1 and 3.3; that nodes are told
 -- winners and outcomes is our own profile.
 use Rattle.std.specs.Prelude.{ℕ, zero, suc, Bool, false, ◌||◌, nat_eq, List, [], ◌∷◌, ◌++◌, flat_map, Option, Some, None, is_some, is_none, if◌then◌else◌}
 use Rattle.std.specs.List.{find}

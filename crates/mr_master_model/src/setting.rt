@@ -1,5 +1,5 @@
-//! What a master is made for, once and for all: its generation, its job and how many maps, reduces and nodes there are, the limit of failures, and the paths
-//! of the job's output.
+//! What a master is made for, once and for all. It has its generation, its job and how many maps, reduces and nodes
+//! there are, the limit of failures, and the paths of the job's output.
 use mr_ids::{AppAttempt, JobId};
 use mr_paths::Layout;
 

@@ -31,8 +31,8 @@ pub record ContainerIn (cfg : Config) (w : World) (c : ContainerId) (m : contain
 abbrev pub NodeIn : Config → World → ℕ → node.Node → Type 0
 NodeIn cfg w n m = node.StandsFor m n cfg.reduces (w.node_past n)
 
--- What a machine says is what the cluster's definitions say of its container: what it was launched as, its wish, whether it computes, its call and
--- who makes it, its packet
+-- What a machine says is what the cluster's definitions say of its container. That is what it was launched as, its wish, whether it computes, its
+-- call and who makes it, its packet
 pub record ContainerSays (cfg : Config) (w : World) (c : ContainerId) (m : container.Container) : Type 0 where
   pub place : w.place c ≡ Some m.place
   pub wish : wish_of cfg w c ≡ wish_of_seen m.seen

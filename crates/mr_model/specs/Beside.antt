@@ -1,5 +1,5 @@
--- What the four facts need beside them, each of every run: which container may still change a reduce's committed directory, what a container's directory
--- holds, that an end is an end, and how a job commit begins and fails. Our own.
+-- What the four facts need beside them, each of every run. It is which container may still change a reduce's committed directory, what a container's
+-- directory holds, that an end is an end, and how a job commit begins and fails. Our own.
 use Rattle.std.specs.Prelude.{ℕ, Bool, true, false, List, [], ◌∷◌, ◌++◌, ◌≡◌, ◌≤◌, ◌||◌, Option, Some, None, ◌⊎◌, is_some}
 use Rattle.mr_container.specs.declared.reply.Reply as reply
 use Rattle.mr_container.specs.Readings.{is_fine}
@@ -32,8 +32,8 @@ pub record RecordedIsSucceeded (cfg : Config) (within : Limits) : Type 0 where
   pub recorded : (es : List Event) (a : Attempt) → (world_of cfg within es).is_master (world_of cfg within es).fence ≡ true → is_at_work (seen_by cfg (world_of cfg within es) (world_of cfg within es).fence).phase ≡ true →
       HasSucceeded (seen_by cfg (world_of cfg within es) (world_of cfg within es).fence) a → IsRecorded cfg (world_of cfg within es) a
 
--- Where an attempt is recorded, no container of its master that was launched for another attempt at its reduce lives, is not barred and was sent a yes, for whatever attempt.
--- (The recorded attempt's own may be dead: DoneAck ends it before the flush.)
+-- Take a container of a recorded attempt's master that was launched for the same reduce. If it lives, is not barred and was sent a yes, for whatever attempt, it was launched
+-- for the recorded one. (The recorded attempt's own may be dead: DoneAck ends it before the flush.)
 abbrev pub OnlyTheRecordedMayCommit : Config → Limits → Type 0
 OnlyTheRecordedMayCommit cfg within = (es : List Event) (a b : Attempt) (c : ContainerId) (p : Place) → IsRecorded cfg (world_of cfg within es) a → c.app ≡ generation a →
     (world_of cfg within es).place c ≡ Some p → p.attempt.task ≡ a.task → (world_of cfg within es).is_alive c ≡ true → has (world_of cfg within es).barred p.attempt ≡ false →
@@ -91,7 +91,7 @@ pub record HasOneFile (w : World) (d : Path) (t : TaskId) (bytes : List ℕ) : T
   pub file : entry_at w.content (d ++ part_name t ∷ []) ≡ Some (File bytes true)
   pub only : (x : Path) → (x ≡ [] → ⊥) → (x ≡ part_name t ∷ [] → ⊥) → entry_at w.content (d ++ x) ≡ None
 
--- From the close to the rename an attempt's directory has exactly its one file, with the bytes that were handed in, or nothing is there: a job commit or abort took it away.
+-- From the close to the rename an attempt's directory has exactly its one file, with the bytes that were handed in. Or nothing is there: a job commit or abort took it away.
 -- Nobody else adds to it, of whatever generation it is, and whatever the masters do.
 abbrev pub AttemptsHoldTheirFiles : Config → Limits → Type 0
 AttemptsHoldTheirFiles cfg within = (es : List Event) (c : ContainerId) (p : Place) → (world_of cfg within es).place c ≡ Some p → is_reduce p.attempt ≡ true →
@@ -132,8 +132,8 @@ unfoldable pub has_run : Config → ℕ → List Master_step → Bool
 has_run cfg k [] = false
 has_run cfg k (x ∷ h) = is_running (seen cfg k (x ∷ h)).phase || has_run cfg k h
 
--- Until a master runs it launches and accepts nothing, also where it stops, ends or fails by what it finds; and as it begins to run, it is the newest, no reduce has succeeded but those that have
--- winners among the records of the generations before it, and these are the winners among all records there are then
+-- Until a master runs it launches and accepts nothing, also where it stops, ends or fails by what it finds. As it begins to run, it is the newest, and no reduce has succeeded but
+-- those that have winners among the records of the generations before it. These are the winners among all records there are then
 pub record BeginsWithItsWinners (cfg : Config) (within : Limits) : Type 0 where
   pub launches : (es : List Event) (k : ℕ) → has_run cfg k ((world_of cfg within es).master_past k) ≡ false → (seen_by cfg (world_of cfg within es) k).launched ≡ []
   pub accepts : (es : List Event) (k : ℕ) → has_run cfg k ((world_of cfg within es).master_past k) ≡ false → (seen_by cfg (world_of cfg within es) k).accepted ≡ []

@@ -31,7 +31,7 @@ tell_each f (a ∷ as') c = tell_each f as' (tell a.task (f a) c)
 abbrev pub is_launched : Seen → Attempt → Bool
 is_launched s a = is_some (find_launched s.launched a)
 
--- of an attempt that this master launched
+-- a task is told of an attempt that this master launched, and of no other
 abbrev pub tell_launched : Seen → Attempt → TaskCall → Calls → Calls
 tell_launched s a call c = if is_launched s a then tell a.task call c else c
 
@@ -174,8 +174,8 @@ abbrev pub AllOfJob : Config → ℕ → List Master_step → Type 0
 AllOfJob cfg k [] = Unit {0}
 AllOfJob cfg k (x ∷ h) = IsOfJob cfg k (seen cfg k h) x × AllOfJob cfg k h
 
--- What is read off a map's calls is what is read off the master's past: as for a reduce, with what stands and what is recorded in place
--- of who is named.
+-- What is read off a map's calls is what is read off the master's past. It is as for a reduce, with what stands and what is recorded in
+-- place of who is named.
 pub record MapAgrees (k : ℕ) (s : Seen) (t : TaskId) (r : task.Seen) : Type 0 where
   pub over : (a : Attempt) → a.task ≡ t → task.is_over r.ended a ≡ is_over s.ended a
   pub live : (a : Attempt) → a.task ≡ t → task.is_live r a ≡ is_live s a

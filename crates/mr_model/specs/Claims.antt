@@ -1,5 +1,5 @@
 -- What is claimed of every run: the winner, what nodes are told, what a reader of the destination sees, and the outcome.
--- That the marker tells a whole output, and that hidden names are no output, is Hadoop's committer document's; that one attempt of a task
+-- That the marker tells a whole output, and that hidden names are no output, is Hadoop's committer document's. That one attempt of a task
 -- counts is the OutputCommitter API's and Dean and Ghemawat's (3.3). What is claimed of crashes, restarts and suspicion is our own.
 use Rattle.std.specs.Prelude.{ℕ, suc, nat_lt, ◌<◌, ◌≤◌, Bool, true, false, List, [], ◌∷◌, ◌++◌, ◌≡◌, Option, Some, None, if◌then◌else◌, ◌⊎◌, length}
 use Rattle.mr_model.specs.Ids.{Attempt, ContainerId, Path, Name, JobId, TaskId, is_reduce, reduce_of, dest, marker, part, is_hidden, committed, part_name, commit_started}

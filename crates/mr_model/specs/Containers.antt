@@ -21,7 +21,7 @@ abbrev pub AllWished : ℕ → Attempt → List Step → Type 0
 AllWished maps x [] = Unit {0}
 AllWished maps x (s ∷ h) = IsWished (container.seen maps x h).wish s × AllWished maps x h
 
--- For each past of a container of attempt x in a job of so many maps: its wish, the blocks that it fetched, and whether it is over
+-- For each past of a container of attempt x in a job of `maps` maps: its wish, the blocks that it fetched, and whether it is over
 pub record ContainersAgree : Type 0 where
   pub wishes : (maps : ℕ) (x : Attempt) (h : List Step) → wish maps x h ≡ wish_of_seen (container.seen maps x h)
   pub blocks : (maps : ℕ) (x : Attempt) (h : List Step) → fetched maps x h ≡ (container.seen maps x h).pieces.blocks

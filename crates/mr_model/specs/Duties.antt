@@ -1,5 +1,5 @@
--- The store calls of a master, their answers, its phases and its duties: setupJob, recoverTask, commitJob and abortJob of Hadoop's OutputCommitter
--- (algorithm version 1), call by call, between the marks COMMIT_STARTED, COMMIT_SUCCESS and COMMIT_FAIL of its application master. That a started commit is not resumed,
+-- The store calls of a master, their answers, its phases and its duties. They are setupJob, recoverTask, commitJob and abortJob of Hadoop's OutputCommitter (algorithm
+-- version 1), call by call. They stand between the marks COMMIT_STARTED, COMMIT_SUCCESS and COMMIT_FAIL of its application master. That a started commit is not resumed,
 -- that recovery looks through all earlier generations, and that each mark's fault stops the master are our own profile.
 use Rattle.std.specs.Prelude.{ℕ, zero, suc, ◌-◌, Bool, true, false, ◌&&◌, ◌||◌, not, nat_eq, nat_lt, nat_le, List, [], ◌∷◌, ◌++◌, Option, Some, None, if◌then◌else◌, is_some, length}
 use Rattle.mr_model.specs.Ids.{Attempt, Path, Name, JobId, TaskId, reduce_of, task_eq, temporary_name, attempt_eq, name_eq, committed, job_attempt, part_name, dest, temporary, marker, commit_started, commit_success, commit_fail}

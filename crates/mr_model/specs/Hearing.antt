@@ -1,5 +1,5 @@
 -- What is read off a master's past, and what it hears. That one of a task's attempts may commit restates Hadoop's `canCommit`; that a lost map
--- runs again, Dean and Ghemawat 3.3; who is named once that attempt ends, expiry and bars are our own profile.
+-- runs again, Dean and Ghemawat 3.3. Who is named once that attempt ends, expiry and bars are our own profile.
 use Rattle.std.specs.Prelude.{ℕ, suc, Bool, true, false, ◌&&◌, ◌||◌, not, nat_eq, nat_lt, nat_le, List, [], ◌∷◌, ◌++◌, Option, Some, None, if◌then◌else◌, is_some, is_none}
 use Rattle.mr_model.specs.Ids.{Attempt, ContainerId, Path, TaskId, is_reduce, task_eq, bool_eq, attempt_eq, container_eq}
 use Rattle.mr_model.specs.Records.{Record, MapSucceeded, ReduceSucceeded, AttemptFailed, JobUnsuccessful}

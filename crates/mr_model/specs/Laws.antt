@@ -59,7 +59,7 @@ pub record IsRanged (cfg : Config) (w : World) : Type 0 where
   pub generations : w.fence ≤ 1000
   pub incarnations : (n : ℕ) → incarnation_of (w.node_past n) < 2 ^ 32
 
--- Whatever a master appends is a record that the history takes, in each version: its attempt is of the kind that succeeds so, its incarnation is one, and the success of a
+-- Whatever a master appends is a record that the history takes, in each version. Its attempt is of the kind that succeeds so, its incarnation is one, and the success of a
 -- reduce has a length, at most a file's. (A longer write is refused to its container.) So what is stored tells a length exactly where its segment is of version 2.
 pub record AppendedRecordsFit : Type 0 where
   pub fits : (cfg : Config) (within : Limits) (es : List Event) (k : ℕ) (r : Record) → duty cfg (world_of cfg within es) k ≡ Some (Append_record r) → lines.fits r ≡ true

@@ -1,5 +1,5 @@
--- The cluster, and what holds in every run of it, in the order in which to read it. Up to Wanted it is defined, from Claims to Sequential stands what is claimed
--- of runs, and all behind that is for whoever ties these words to the crates beneath or to machines that run.
+-- The cluster, and what holds in every run of it, in the order in which to read it. Up to Wanted it is defined. From Claims to Sequential stands what is claimed
+-- of runs. All behind that is for whoever ties these words to the crates beneath or to machines that run.
 pub mod Ids
 pub mod Content
 pub mod Records

@@ -31,8 +31,8 @@ IsAsked cfg (Poll a) = is_reduce a ≡ true
 IsAsked cfg (Where c m) = nat_lt m (length cfg.splits) ≡ true
 IsAsked cfg _ = Unit {0}
 
--- What a packet asks is of the job; a launch is the next one of a task of the job that has no fault, on a node; an expiry is a node's; a store call is the one
--- that was due, and what is read was written by earlier generations.
+-- What a packet asks is of the job. A launch is the next one of a task of the job that has no fault, on a node, and an expiry is a node's. A store call is the
+-- one that was due, and what is read was written by earlier generations.
 abbrev pub IsMade : Config → ℕ → Seen → Master_step → Type 0
 IsMade cfg k s (Came p) = IsAsked cfg p
 IsMade cfg k s (Launches l) =

@@ -25,7 +25,7 @@ started n i Nothing = None
 started n i (Starts c a) = Some (record { container = c; place = record { attempt = a; node = n; incarnation = i } })
 started n i (Adds e) = None
 
--- For each past of a node in a job of so many reduces: its incarnation, what it knows, and the blocks on its shelf
+-- For each past of a node in a job of `reduces` reduces: its incarnation, what it knows, and the blocks on its shelf
 pub record NodesAgree : Type 0 where
   pub incarnations : (reduces : ℕ) (h : List Node_step) → incarnation_of h ≡ (node.seen reduces h).incarnation
   pub known : (reduces : ℕ) (h : List Node_step) (c : ContainerId) → is_known h c ≡ container.has (node.seen reduces h).known c

@@ -1,5 +1,5 @@
--- The packets of the cluster, the calls of its stores, and the config. What is asked and answered restates Hadoop's `commitPending`,
--- `canCommit` and `done` between a task and its application master, and Dean and Ghemawat's (3.1, 3.3) maps that tell where their output lies; the rest is our own profile.
+-- The packets of the cluster, the calls of its stores, and the config. What is asked and answered restates Hadoop's `commitPending`, `canCommit` and `done` between a task
+-- and its application master. That maps tell where their output lies is Dean and Ghemawat's (3.1, 3.3). The rest is our own profile.
 use Rattle.std.specs.Prelude.{ℕ, List, Option}
 use Rattle.mr_model.specs.Ids.{JobId}
 use Rattle.mr_model.specs.Content.{Op, NameFault, Kind, Listed}

@@ -1,5 +1,5 @@
--- The job history: one segment for each generation of the master, with a flushed part and a tail that a crash may cut. Records, versions and
--- segments are those of mr_history, which says what of them is Hadoop's and what our own profile; a history by generation, and what is read off it, are here.
+-- The job history: one segment for each generation of the master, with a flushed part and a tail that a crash may cut. Records, versions and segments are
+-- those of mr_history, which says what of them is Hadoop's and what our own profile. A history by generation, and what is read off it, are here.
 use Rattle.std.specs.Prelude.{ℕ, zero, suc, nat_eq, nat_lt, List, [], ◌∷◌, ◌++◌, Option, Some, None, if◌then◌else◌}
 use Rattle.mr_history.specs.Recorded.{SegmentRecords, unwritten, added, settled, cut}
 use Rattle.mr_model.specs.Ids.{Attempt, TaskId, task_eq}

@@ -13,7 +13,7 @@ use Rattle.mr_model.specs.Claims.{IsReduce, Limits, world_of, IsMarked, IsWhole}
 
 -- What a job with deterministic functions gives. (Filled by the crates of the user functions, of the map side and of the shuffle)
 pub record Job : Type 0 where
-  -- the whole output of map m over its split, for so many reduces; none where it refuses a line
+  -- the whole output of map m over its split, for `reduces` reduces; none where it refuses a line
   pub output : (reduces m : ℕ) → (split : List ℕ) → Option (List ℕ)
   -- what map m hands to reduce r
   pub block : (reduces r m : ℕ) → (split : List ℕ) → Option (List ℕ)
@@ -22,7 +22,7 @@ pub record Job : Type 0 where
   -- what the sequential execution over the splits writes for reduce r; none where a line is refused
   pub sequential : (reduces r : ℕ) → (splits : List (List ℕ)) → Option (List ℕ)
 
--- a map's output has at most so many bytes
+-- most bytes of a map's output
 unfoldable pub most_output : ℕ
 most_output = MAX_OUTPUT_LEN
 

@@ -1,5 +1,5 @@
--- Which task a Running master launches next, where whoever runs the cluster lets it: the first that waits for a launch, maps before reduces, and no reduce before
--- every map is Succeeded (our own profile). A launch of any other task that has no fault is permitted as well (`not_now`).
+-- Which task a Running master launches next, where whoever runs the cluster lets it (our own profile). It is the first that waits for a launch, maps before
+-- reduces, and no reduce before every map is Succeeded. A launch of any other task that has no fault is permitted as well (`not_now`).
 use Rattle.std.specs.Prelude.{ℕ, zero, suc, ◌≡◌, ◌<◌, Bool, true, false, ◌&&◌, not, nat_eq, nat_lt, Option, Some, None, if◌then◌else◌, length}
 use Rattle.std.specs.Option.{option_or}
 use Rattle.mr_model.specs.Ids.{TaskId, of_reduces, map_of, reduce_of}
@@ -37,7 +37,7 @@ wanted_reduce cfg s = if maps_succeeded s (length cfg.splits) then first_waiting
 abbrev pub wanted : Config → Seen → Option TaskId
 wanted cfg s = if is_running s.phase then option_or (first_waiting s (map_of cfg.job) (length cfg.splits)) (wanted_reduce cfg s) else None
 
--- The task that is wanted may be launched, on any node; it waits, and no task of its kind with a lower number does; where it is a reduce, every map is Succeeded.
+-- The task that is wanted may be launched, on any node. It waits, and no task of its kind with a lower number does. Where it is a reduce, every map is Succeeded.
 pub record WantedMayBeLaunched : Type 0 where
   pub may : (cfg : Config) (w : World) (k n : ℕ) (t : TaskId) → w.is_master k ≡ true → nat_lt n cfg.nodes ≡ true → wanted cfg (seen_by cfg w k) ≡ Some t → not_now cfg w (LaunchOn k t n) ≡ None
   pub waiting : (cfg : Config) (s : Seen) (t : TaskId) → wanted cfg s ≡ Some t → waits s t ≡ true

@@ -171,7 +171,7 @@ abbrev pub block_there : ℕ → Option (List ℕ) → ℕ → Option (List ℕ)
 block_there reduces None r = None
 block_there reduces (Some bytes) r = block_at (cut reduces bytes) r
 
--- a piece has at most so many bytes
+-- most bytes of a piece
 unfoldable pub piece_limit : ℕ
 piece_limit = 65536
 

@@ -1,5 +1,5 @@
 -- That a master of the cluster (mr_model) and the machine of a master (mr_master_model) do the same where they have seen the same. The files stand in the order
--- in which to read them: how the one's past is the other's, what agrees, what keeps it so, and, for whoever runs masters, what their stores answer.
+-- in which to read them: how the one's past is the other's, what agrees, and what keeps it so. For whoever runs masters they say what their stores answer.
 pub mod Steps
 pub mod Works
 pub mod Agreement

@@ -8,20 +8,20 @@ ghost use Rattle.mr_model.specs.Stored.{StoresGoOn};
 ghost use Rattle.mr_model.specs.Addressed.{PacketsFindTheirNodes};
 ghost use Rattle.mr_model.specs.Acts.{ContainersAct, MapsAct, MastersAct, NodesAct};
 
-/// What is read off a container's past is what mr_container reads of it: its wish, the blocks that it fetched, what it computed, its call and
-/// who makes it, its packet, and whether it is over.
+/// What is read off a container's past is what mr_container reads of it. It is its wish, the blocks that it fetched,
+/// what it computed, its call and who makes it, its packet, and whether it is over.
 pub fn containers_agree()
     ensures { ContainersAgree }
 {}
 
-/// What is read off a node's past is what mr_node reads of it: its incarnation, the containers that it knows, the blocks on its shelf, and what a
-/// packet makes it add and start.
+/// What is read off a node's past is what mr_node reads of it. It is its incarnation, the containers that it knows, the
+/// blocks on its shelf, and what a packet makes it add and start.
 pub fn nodes_agree()
     ensures { NodesAgree }
 {}
 
-/// A machine that stands for its container's past in a run has the wish, the call, the caller and the packet of the definitions, if the limits bound
-/// the bytes that are handed in.
+/// A machine that stands for its container's past in a run has the wish, the call, the caller and the packet of the
+/// definitions. The limits have to bound the bytes that are handed in.
 pub fn containers_say()
     ensures { ContainersSay }
 {}

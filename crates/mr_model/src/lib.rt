@@ -3,19 +3,17 @@
 //!
 //! # What is proved
 //!
-//! The cluster as definitions (`crates/mr_model/specs/`, 3,000 lines, in a reader's order), and what holds over
-//! **every list of events**: deliveries, losses, repeats and reorderings of packets, containers that die,
-//! nodes that restart or are given up, masters that crash and start, store calls that are lost or whose answers are
-//! lost. There is no code in this crate: each law is the contract of a function that does nothing. **These are
-//! theorems about the definitions; of running code the headline is `HeadlineHolds` of `mr_world`**, which rests on
-//! them. They have no premises, but for sequential files.
+//! The cluster as definitions (`crates/mr_model/specs/`, 3,000 lines, in a reader's order), and what holds over **every
+//! list of events**. Packets are delivered, lost, repeated and reordered; containers die; nodes restart or are given
+//! up; masters crash and start. Store calls are lost, or their answers are. There is no code in this crate: each law is
+//! the contract of a function that does nothing. **These are theorems about the definitions; of running code the
+//! headline is `HeadlineHolds` of `mr_world`**, which rests on them. They have no premises, but for sequential files.
 //! Proved:
 //!
-//! - the headline: `the_winner_stays`, `nodes_are_told_the_winner`, `a_marker_means_whole_files`,
-//!   `a_marker_is_final`, `sequential_files`, `one_outcome`, `recovery_finds_the_winners`,
-//!   `a_wrong_suspicion_does_no_harm` (expiries are events of
-//!   the same lists, so all laws hold over them); for each job of `mr_user`, sequential files with no premise but
-//!   the limits on splits and map outputs: `files_of_jobs_are_sequential` (`mr_sequential`);
+//! - the headline: `the_winner_stays`, `nodes_are_told_the_winner`, `a_marker_means_whole_files`, `a_marker_is_final`,
+//!   `sequential_files`, `one_outcome`, `recovery_finds_the_winners`, `a_wrong_suspicion_does_no_harm`. (Expiries are
+//!   events of the same lists, so all laws hold over them.) For each job of `mr_user`, sequential files have no premise
+//!   but the limits on splits and map outputs: `files_of_jobs_are_sequential` (`mr_sequential`);
 //! - the facts beneath it: `one_attempt_is_recorded`, `one_container_was_told_yes`,
 //!   `the_committed_file_is_the_winners`, `the_published_files_are_the_winners`, `an_attempt_has_one_whole_output`,
 //!   `recorded_lengths_are_right`;
@@ -26,27 +24,35 @@
 //! - which task is launched next, where it is asked for: one that may be launched, the first that waits, maps before reduces
 //!   (`the_wanted_task_may_be_launched`);
 //! - that it is not said of nothing: `a_marked_world_is_reached` (one job, event by event, to its told success);
-//! - what ties the definitions to the crates beneath: paths are the layout's (`paths_are_the_layouts`); each call
-//!   of the namespace, for callers with and without an attempt, and of the history, in both versions, is answered
-//!   as the definitions say and leaves what they say
-//!   (`stores_are_the_models`), so that both stores go on as the world's at every event: starts, crashes, and the
-//!   calls of masters and containers in each weather (`stores_go_on`); whatever a master appends the history takes, in each version (`appended_records_fit`); a
-//!   living master was raised to (`masters_are_raised`); what is read off the calls of a task's machine (`mr_task`)
-//!   is what is read off the master's
-//!   past (`calls_agree`: clause `agree` for reduces; clause `maps` for the maps of the job, also which attempts
-//!   stand and which are recorded). Its premises say that each step fits, as all steps of a run do
-//!   (`pasts_are_made`);
-//! - what ties containers and nodes to their machines: their pasts, packets and calls are those of `mr_container`,
-//!   `mr_node`, `mr_packet` and `mr_names`; what is read off them is what these machines are proved to read
-//!   (`containers_agree`, `nodes_agree`), so that a machine that stands for its container's past in a run has the
-//!   wish, the call, the caller and the packet of the definitions (`containers_say`, under limits on what is handed
-//!   in) and hears what the namespace answered (`answers_are_heard`); what each kind of event changes of all
-//!   machines of containers and nodes, who lives after it, and what it adds to the bag (`masters_act`,
-//!   `containers_act`, `maps_act`, `nodes_act`); a packet to a node goes to one of the cluster's (`packets_find_their_nodes`); bytes are handed in only as wished (`pasts_are_wished`), and no
-//!   container begins twice (`begins_once`), or is placed elsewhere than on one of the cluster's nodes (`places_are_nodes`).
+//! - what ties the definitions to the crates beneath:
+//!   - paths are the layout's (`paths_are_the_layouts`);
+//!   - each call of the namespace, for callers with and without an attempt, is answered as the definitions say and
+//!     leaves what they say. So is each call of the history, in both versions (`stores_are_the_models`);
+//!   - so both stores go on as the world's at every event: starts, crashes, and the calls of masters and containers in
+//!     each weather (`stores_go_on`);
+//!   - whatever a master appends the history takes, in each version (`appended_records_fit`), and a living master was
+//!     raised to (`masters_are_raised`);
+//!   - what is read off the calls of a task's machine (`mr_task`) is what is read off the master's past
+//!     (`calls_agree`). Its clause `agree` is of reduces. Its clause `maps` is of the maps of the job: also which
+//!     attempts stand and which are recorded.
 //!
-//! - the bridge to the machine of a master (`specs/bridge`, `src/machines.rt`): at every point of a past a master here acts as its machine
-//!   (`mr_master_model`): what it calls next, refuses, launches next and sends (`masters_agree`).
+//!   Its premises say that each step fits, as all steps of a run do (`pasts_are_made`);
+//! - what ties containers and nodes to their machines:
+//!   - their pasts, packets and calls are those of `mr_container`, `mr_node`, `mr_packet` and `mr_names`; what is read
+//!     off them is what these machines are proved to read (`containers_agree`, `nodes_agree`);
+//!   - so a machine that stands for its container's past in a run has the wish, call, caller and packet of the
+//!     definitions (`containers_say`, under limits on what is handed in). It hears what the namespace answered
+//!     (`answers_are_heard`);
+//!   - what each kind of event changes of all machines of containers and nodes, who lives after it, and what it adds to
+//!     the bag (`masters_act`, `containers_act`, `maps_act`, `nodes_act`);
+//!   - a packet to a node goes to one of the cluster's (`packets_find_their_nodes`), and bytes are handed in only as
+//!     wished (`pasts_are_wished`);
+//!   - no container begins twice (`begins_once`), or is placed elsewhere than on one of the cluster's nodes
+//!     (`places_are_nodes`).
+//!
+//! - the bridge to the machine of a master (`specs/bridge`, `src/machines.rt`): at every point of a past a master here
+//!   acts as its machine (`mr_master_model`). That is what it calls next, refuses, launches next and sends
+//!   (`masters_agree`).
 //!
 //! What each word means: [README.md](../README.md#its-words). Why it holds:
 //! [docs/INVARIANT.md](../../../docs/INVARIANT.md). That a world of machines which is run is one of these is said in `mr_world`.
@@ -112,15 +118,15 @@ pub fn one_outcome()
     ensures one { (config : Config) (within : Limits) → OneOutcome config within }
 {}
 
-/// The outcome that was told first is the only one, and no further event changes it; the files that a reader of the destination sees stay once the marker is there, or an
-/// outcome was told.
+/// The outcome that was told first is the only one, and no further event changes it. The files that a reader of the
+/// destination sees stay once the marker is there, or an outcome was told.
 pub fn results_stay()
     ensures stay { (config : Config) (within : Limits) → ResultsStay config within }
 {}
 
-/// The newest master, while it runs, has found the winners of the earlier generations, and their whole files in its own generation; until it runs, if ever, it launches
-/// nothing; as it begins to, no other reduce has succeeded, and these are the winners of all records; and it never launches a reduce that had a winner, nor one whose
-/// success it accepted.
+/// The newest master, while it runs, has found the winners of the earlier generations, and their whole files in its own
+/// generation. Until it runs, if ever, it launches nothing. As it begins to, no other reduce has succeeded, and these
+/// are the winners of all records. It never launches a reduce that had a winner, nor one whose success it accepted.
 pub fn recovery_finds_the_winners()
     ensures finds { (config : Config) (within : Limits) → RecoveryFindsTheWinners config within }
     ensures first { (config : Config) (within : Limits) → BeginsWithItsWinners config within }
@@ -233,16 +239,18 @@ pub fn masters_are_raised()
     ensures { MastersAreRaised }
 {}
 
-/// What is read off the calls that a reduce's machine gets is what is read off the master's past. So it is of a map's, where all maps are
-/// the job's and the record that is appended is the first that is due: also which attempts stand and which are recorded.
+/// What is read off the calls that a reduce's machine gets is what is read off the master's past. So it is of a map's,
+/// where all maps are the job's and the record that is appended is the first that is due. There it is also which
+/// attempts stand and which are recorded.
 pub fn calls_agree()
     ensures agree { CallsAgree }
     ensures maps { MapCallsAgree }
 {}
 
-/// Each step of a master's past is what an event makes: a launch is the next one of a task of the job that has no fault, a store call is the one that
-/// was due, what is read was written by earlier generations, and what asks to commit is a reduce; so is the step that an event that may happen makes. So launches,
-/// and what is taken over, meet the conditions of `calls_agree`.
+/// Each step of a master's past is what an event makes. A launch is the next one of a task of the job that has no
+/// fault, and a store call is the one that was due. What is read was written by earlier generations, and what asks to
+/// commit is a reduce. The step that an event that may happen makes is such a step too. So launches, and what is taken
+/// over, meet the conditions of `calls_agree`.
 pub fn pasts_are_made()
     ensures { PastsAreMade }
 {}

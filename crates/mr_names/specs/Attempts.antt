@@ -28,7 +28,7 @@ attempt_total =
     (then_total (on_total (λ (a : Attempt). kind_place a.task.kind) nat_cmp_total)
     (then_total (on_total (λ (a : Attempt). a.task.number) nat_cmp_total) (on_total (λ (a : Attempt). a.number) nat_cmp_total))))
 
--- two that tie are one
+-- two attempts that tie are one
 
 both : (o p : Ordering) → ordering_then o p ≡ Equal → (o ≡ Equal) × (p ≡ Equal)
 both Less p e = absurd (cc)

@@ -18,11 +18,11 @@ barred_code = set.code attempt_code
 abbrev pub is_barred : Barred → Attempt → Bool
 is_barred barred a = set.contains barred a
 
--- whether a caller's attempt is. A caller without one is not
+-- whether a caller's attempt is barred. A caller without an attempt is not
 abbrev pub bars : Barred → Option Attempt → Bool
 bars barred None = false
 bars barred (Some a) = is_barred barred a
 
--- whether an attempt finds no room, since so many others are barred. One that is barred needs none
+-- whether an attempt finds no room, since MAX_BARRED others are barred. One that is barred needs none
 abbrev pub has_no_room : Barred → Attempt → Bool
 has_no_room barred a = not (is_barred barred a) && nat_lt MAX_BARRED (set.len barred + 1)

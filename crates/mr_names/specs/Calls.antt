@@ -1,7 +1,7 @@
 -- The calls of the namespace: when each is refused, what it answers and what it leaves.
--- Of these the Hadoop MapReduce committer architecture document and the Hadoop OutputCommitter API assume mkdirs with its parents, a delete
--- with all beneath, and a rename of a directory in one step, on which section 3.3 of Dean and Ghemawat (2004) rests too. The fence, the
--- bars, the limits, the faults and their order are our own profile.
+-- Three of these are assumed by the Hadoop MapReduce committer architecture document and the Hadoop OutputCommitter API. They are mkdirs
+-- with its parents, a delete with all beneath, and a rename of a directory in one step. Section 3.3 of Dean and Ghemawat (2004) rests on
+-- the rename too. The fence, the bars, the limits, the faults and their order are our own profile.
 use Rattle.std.specs.Prelude.{◌≡◌, ◌≤◌, ℕ, ◌+◌, ◌-◌, Bool, true, false, not, ◌||◌, List, [], ◌∷◌, length, filter, Option, Some, None, Result, Ok, Err, is_some, unwrap_or, nat_lt, ◌==◌, max, refl, if◌then◌else◌}
 use Rattle.std.specs.List.{list_any}
 use Rattle.std.specs.Option.{option_map, option_or}

@@ -24,7 +24,8 @@ pub fn delete_takes_out()
     ensures { DeleteTakesOut }
 {}
 
-/// A call leaves as it was whatever it does not name; what it does not make or take away comes and goes by no call.
+/// A call leaves as it was whatever it does not name. Nothing comes to be where a call makes nothing. Directories and closed
+/// files stay where it takes nothing away.
 pub fn others_stay()
     ensures others { OthersStay }
     ensures absent { OnlyMakersMake }
@@ -62,8 +63,8 @@ pub fn settles()
     ensures sound { SoundStays }
 {}
 
-/// The barred attempts only grow, and only by bars; a bar changes no content; from a bar that was answered on, each call
-/// whose caller has that attempt is refused, whoever called or raised the fence in between.
+/// The barred attempts only grow, and only by bars; a bar changes no content. From a bar that was answered on, each
+/// call whose caller has that attempt is refused, whoever called or raised the fence in between.
 pub fn bars_stay()
     ensures grow { BarredGrow }
     ensures only { OnlyBarBars }

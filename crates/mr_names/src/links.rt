@@ -243,7 +243,8 @@ fn first_above(nodes: &Slab<Place>, at: usize) -> Option<usize>
     }
 }
 
-/// Takes out entry after entry beneath the node `top`, by first names from below, from the node `at` beneath it on.
+/// Deletes what is beneath the node `top`, bottom-up, from the node `start` beneath it on. Of several entries the one whose
+/// name comes first goes first.
 pub fn cut_on(nodes: &mut Slab<Place>, top: usize, start: usize)
     ensures { CutBeneath nodes.old nodes.new top start }
 {

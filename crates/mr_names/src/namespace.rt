@@ -27,8 +27,8 @@ pub const MAX_BARRED: usize = 100_000;
 ///
 /// Contracts see its content, a finite map from paths to nodes, its fence, and the barred attempts, a finite set. The
 /// root is always a directory, and so is the parent of each other entry. Each call first compares its caller with the
-/// fence, then looks whether the caller's attempt is barred, then answers the first of its own refusals that applies,
-/// then [`NameFault::Full`], and [`NameFault::NoMemory`] last. A refusal changes nothing.
+/// fence, then looks whether the caller's attempt is barred. Then it answers the first of its own refusals that
+/// applies, then [`NameFault::Full`], and [`NameFault::NoMemory`] last. A refusal changes nothing.
 pub struct Namespace {
     tree: Tree,
     fence: u32,
@@ -36,7 +36,8 @@ pub struct Namespace {
     alloc: Global,
 }
 
-// By hand, so that a namespace is dropped by this call: a derived drop is taken apart by the check at each place where one is dropped.
+// Written by hand, so that the check takes the drop of a namespace as one call. A derived drop it takes apart at each place where one is
+// dropped.
 impl Drop for Namespace {
     fn drop(self) {
         let Namespace {
@@ -86,7 +87,7 @@ impl Namespace {
         self.fence
     }
 
-    /// Refuses a caller that no call hears: `Superseded` below the fence, else `Barred`. It takes no memory.
+    /// Refuses a caller that no call hears: `Superseded` below the fence, else `Barred`.
     pub fn check_caller(&self, caller: Caller) -> Result<(), NameFault>
         ensures { Refuses (unheard self.now caller) result }
     {
@@ -110,7 +111,7 @@ impl Namespace {
     /// there. Refused `NotDir` where the path or one above it is a file, `Full`.
     pub fn mkdirs(&mut self, caller: Caller, path: &Path) -> Result<(), NameFault>
         ensures made { Makes (λ _. Answer.Done) self.old caller (Op.Mkdirs path.now) result self.new }
-        // One that is there wants no memory.
+        // A directory that is there wants no memory.
         ensures always { may_want_memory self.old (Op.Mkdirs path.now) ≡ false → MakesAlways (λ _. Answer.Done) self.old caller (Op.Mkdirs path.now) result self.new }
     {
         self.check_mkdirs(caller, path)?;
@@ -135,7 +136,7 @@ impl Namespace {
     /// Adds bytes at the end of a file. Refused `Missing`, `NotFile`, `Closed`, `Full`.
     pub fn append(&mut self, caller: Caller, path: &Path, more: &[u8]) -> Result<(), NameFault>
         ensures made { Makes (λ _. Answer.Done) self.old caller (Op.Append path.now more.now) result self.new }
-        // No bytes want no memory.
+        // An append of no bytes wants no memory.
         ensures always { may_want_memory self.old (Op.Append path.now more.now) ≡ false → MakesAlways (λ _. Answer.Done) self.old caller (Op.Append path.now more.now) result self.new }
     {
         self.check_append(caller, path, more)?;
@@ -209,7 +210,7 @@ impl Namespace {
     /// Refused `Full` where [`MAX_BARRED`] others are.
     pub fn bar(&mut self, caller: Caller, attempt: AttemptId) -> Result<(), NameFault>
         ensures made { Makes (λ _. Answer.Done) self.old caller (Op.Bar attempt) result self.new }
-        // One that is barred wants no memory.
+        // An attempt that is barred wants no memory.
         ensures always { may_want_memory self.old (Op.Bar attempt) ≡ false → MakesAlways (λ _. Answer.Done) self.old caller (Op.Bar attempt) result self.new }
     {
         self.check_bar(caller, attempt)?;

@@ -6,7 +6,7 @@ use std::collections::BTreeMap;
 /// A node of the tree: what stands there, and beneath a directory the keys of its entries' nodes by their names.
 #[derive(Drop)]
 pub struct Place {
-    /// The key of the node above, which saves a delete the way down from the top. Nothing rests on it: it is tried.
+    /// The key of the node above. It saves a delete the way down from the top. No contract rests on it: it is tried before it is used.
     pub above: usize,
     pub node: Node,
     pub children: BTreeMap<Name, usize>,

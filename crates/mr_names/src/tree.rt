@@ -204,7 +204,7 @@ impl Tree {
         }
     }
 
-    /// Takes out what is at and beneath a path, which is not the root: entry after entry, from below.
+    /// Deletes what is at and beneath a path, bottom-up. The path is not the root.
     pub fn take_out(&mut self, top: &[Name])
         requires { 0 < length top.now }
         ensures { self.new ≡ without top.now self.old }
@@ -212,8 +212,8 @@ impl Tree {
         while self.take_leaf(top) {}
     }
 
-    // Takes out an entry at or beneath a path that has no entries, and then one after another on the way up from there.
-    // False where nothing is at the path.
+    // Deletes a leaf, an entry that has no entries, at or beneath a path. Then it goes on beneath the path, bottom-up. False
+    // where nothing is at the path.
     fn take_leaf(&mut self, top: &[Name]) -> bool
         requires { 0 < length top.now }
         ensures more { IsTrue result → (without top.now self.new ≡ without top.now self.old) × (map.len self.new < map.len self.old) }

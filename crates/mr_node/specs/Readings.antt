@@ -20,7 +20,7 @@ pub record Seen : Type 0 where
   pub known : List ContainerId  -- what the node launched or was asked to kill, in order of arrival; it stays over restarts
   pub shelf : Shelf  -- the outputs that were handed in since the newest restart
 
--- nothing yet
+-- what is read off the past of a node that only began
 abbrev pub opening : ℕ → Seen
 opening reduces = record { incarnation = 1; known = []; shelf = without_outputs reduces }
 
@@ -45,7 +45,7 @@ next_seen s (Shelves a bytes) = with_shelved s a bytes
 next_seen s (Ends c) = s
 next_seen s Restarts = restarted s
 
--- what is read off the past of a node of a job with so many reduces
+-- what is read off the past of a node, in a job with the given number of reduces
 unfoldable pub seen : ℕ → List Step → Seen
 seen reduces [] = opening reduces
 seen reduces (step ∷ h) = next_seen (seen reduces h) step

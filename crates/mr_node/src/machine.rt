@@ -26,8 +26,9 @@ pub const MAX_PIECE_LEN: usize = 65_536;
 /// live, and which packet is added. It remembers each container that it launched or was asked to kill, over restarts, so that no
 /// launch that comes late or twice is obeyed.
 ///
-/// That a node launches, kills and serves map outputs to reduces is Hadoop's node manager with its shuffle handler, and Dean and Ghemawat 2004,
-/// section 3.3, in that a lost node's map outputs are lost; incarnations and what is remembered over restarts are own profile.
+/// That a node launches, kills and serves map outputs to reduces is Hadoop's node manager with its shuffle handler.
+/// That a lost node's map outputs are lost is Dean and Ghemawat 2004, section 3.3. Incarnations and what is remembered
+/// over restarts are own profile.
 pub struct NodeMachine {
     alloc: Global,
     number: u32,
@@ -36,7 +37,8 @@ pub struct NodeMachine {
     shelf: ShelfOfNode,
 }
 
-// By hand, so that a node is dropped by this call: a derived drop is taken apart by the check at each place where one is dropped.
+// Written by hand, so that the check takes the drop of a node as one call. A derived drop it takes apart at each place where one is
+// dropped.
 impl Drop for NodeMachine {
     fn drop(self) {
         let NodeMachine {
@@ -60,7 +62,7 @@ impl Model for NodeMachine {
 }
 
 impl NodeMachine {
-    /// A node that begins, in its first incarnation. It takes no memory.
+    /// A node that begins, in its first incarnation.
     pub fn new(alloc: Global, number: u32, reduces: u32) -> NodeMachine
         ensures stands { StandsFor result number reduces [] }
         ensures made { result ≡ record { number = number; seen = opening reduces } }
@@ -80,21 +82,21 @@ impl NodeMachine {
         }
     }
 
-    /// The node's number. It takes no memory.
+    /// The node's number.
     pub fn number(&self) -> u32
         ensures { result ≡ self.now.number }
     {
         self.number
     }
 
-    /// The incarnation that it runs in. It takes no memory.
+    /// The incarnation that it runs in.
     pub fn incarnation(&self) -> u32
         ensures { result ≡ self.now.seen.incarnation }
     {
         self.incarnation
     }
 
-    /// Whether it launched this container or was asked to kill it, in whichever incarnation. It takes no memory.
+    /// Whether it launched this container or was asked to kill it, in whichever incarnation.
     pub fn knows(&self, c: &ContainerId) -> bool
         ensures { result ≡ has self.now.seen.known c.now }
     {
@@ -170,7 +172,7 @@ impl NodeMachine {
         Ok(ended)
     }
 
-    /// The packet of a container's end, for whatever reason but a restart of the node. It takes no memory.
+    /// The packet of a container's end, for whatever reason but a restart of the node.
     pub fn died(&self, c: ContainerId) -> Envelope
         ensures added { result ≡ ended c }
         ensures stands { Stands self.now (Ends c) self.now }
@@ -178,13 +180,13 @@ impl NodeMachine {
         ended(&c)
     }
 
-    /// It is told of a winner (`Won`) or of the outcome, which makes it do nothing. It takes no memory.
+    /// It is told of a winner (`Won`) or of the outcome, which makes it do nothing.
     pub fn told(&self)
         ensures won { (t : TaskId) (a : Attempt) → Stands self.now (Hears (Packet.Won t a)) self.now }
         ensures outcome { (succeeded : Bool) → Stands self.now (Hears (Packet.Outcome succeeded)) self.now }
     {}
 
-    /// The packet by which a master is told of the node's incarnation. It takes no memory.
+    /// The packet by which a master is told of the node's incarnation.
     pub fn up(&self, master: AppAttempt) -> Envelope
         ensures { result ≡ up self.now.number self.now.seen.incarnation master }
     {
@@ -197,9 +199,9 @@ impl NodeMachine {
         }
     }
 
-    /// What is answered to a container that wants the block of a reduce in an attempt's output, from an offset in bytes on: at most
-    /// `MAX_PIECE_LEN` bytes of it, with the block's length. `FetchLost` where the incarnation is not the node's own, the output
-    /// is not on its shelf, or the offset is above the block's length.
+    /// What is answered to a container that wants the block of a reduce in an attempt's output, from an offset in bytes
+    /// on. It is at most `MAX_PIECE_LEN` bytes of it, with the block's length. `FetchLost` where the incarnation is not
+    /// the node's own, the output is not on its shelf, or the offset is above the block's length.
     ///
     /// It may allocate for the bytes, and refuses nothing else. It changes nothing. The bytes are copied once.
     pub fn fetch(
@@ -290,7 +292,7 @@ impl NodeMachine {
         self.shelf.put(a, output)
     }
 
-    /// Begins anew: in the next incarnation, with an empty shelf. Which containers it knows stays. It takes no memory.
+    /// Begins anew: in the next incarnation, with an empty shelf. Which containers it knows stays.
     ///
     /// Whoever runs it lets its containers end without a packet, and adds `up` for each living master.
     #[tactic(auto, unfolding(crate::specs::Readings::next_seen))]
@@ -383,7 +385,7 @@ fn max_piece_len() -> usize
     MAX_PIECE_LEN
 }
 
-// At most so many bytes.
+// The first `most` bytes, or all where there are fewer.
 #[tactic(auto, using(crate::proofs::Taking::all_taken, crate::proofs::Taking::front_taken))]
 fn front(bytes: &[u8], most: usize) -> &[u8]
     ensures { result.now ≡ take most bytes.now }

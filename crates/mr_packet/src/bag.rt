@@ -33,7 +33,7 @@ impl Model for Bag {
 }
 
 impl Bag {
-    /// A bag with no packet. It takes no memory.
+    /// A bag with no packet.
     pub fn new(alloc: Global) -> Bag
         ensures { result.packets ≡ [] }
     {
@@ -72,7 +72,7 @@ impl Bag {
         Ok(())
     }
 
-    /// Adds a packet as the last, where there is room. It takes no memory and refuses nothing.
+    /// Adds a packet as the last, where there is room: nothing can refuse it.
     pub fn push_reserved(&mut self, envelope: Envelope)
         requires room { 0 < self.old.spare }
         requires few { length self.old.packets < MAX_PACKETS }
@@ -82,14 +82,14 @@ impl Bag {
         self.packets.push_reserved(envelope);
     }
 
-    /// The packet at a place, counted from 0; none past the last. It takes no memory.
+    /// The packet at a place, counted from 0; none past the last.
     pub fn get(&self, place: usize) -> Option<&Envelope>
         ensures { option_copied result ≡ slice_get self.now.packets place }
     {
         self.packets.get(place)
     }
 
-    /// How many packets there are. It takes no memory.
+    /// How many packets there are.
     pub fn len(&self) -> usize
         ensures len { result ≡ length self.now.packets }
         ensures most { result ≤ MAX_PACKETS }
@@ -97,7 +97,7 @@ impl Bag {
         self.packets.len()
     }
 
-    /// All packets, in the order of their sending. It takes no memory.
+    /// All packets, in the order of their sending.
     pub fn packets(&self) -> &[Envelope]
         ensures { result.now ≡ self.now.packets }
     {

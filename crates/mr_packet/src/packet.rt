@@ -20,12 +20,12 @@ pub enum Address {
     Node(u32),
 }
 
-/// What is told. The first five go to nodes, the next seven to masters, the last four to containers; `FetchLost` goes from a node to a
-/// container, and from the container on to its master.
+/// What is told. The first five go to nodes, the next seven to masters, the last four to containers. `FetchLost` goes
+/// from a node to a container, and from the container on to its master.
 ///
-/// The packets between a container and its master restate the calls of Hadoop's umbilical protocol (commit pending, can commit,
-/// done, failed), those to and from a node its container launcher and shuffle handler; incarnations, offsets and the
-/// recorded length are this project's profile.
+/// The packets between a container and its master restate the calls of Hadoop's umbilical protocol (commit pending, can
+/// commit, done, failed). Those to and from a node restate its container launcher and shuffle handler. Incarnations,
+/// offsets and the recorded length are this project's profile.
 #[derive(Drop)]
 pub enum Packet {
     /// To a node: the container is to run the attempt, in this incarnation of the node.

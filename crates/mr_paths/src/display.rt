@@ -7,7 +7,7 @@ use crate::name::Name;
 use crate::path::Path;
 use std::fmt;
 
-/// The bytes as text. Where they are none, each wrong part is shown as U+FFFD.
+/// The bytes as text. Each part that is no UTF-8 is shown as U+FFFD.
 impl fmt::Display for Name {
     ghost output = { λ name. Some (utf8_lossy name) };
 

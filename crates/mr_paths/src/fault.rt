@@ -8,7 +8,7 @@ use thiserror::Error;
 /// Why a text was not read as a path or as a name.
 #[derive(Clone, Copy, Debug, PartialEq, Eq, Error)]
 pub enum PathFault {
-    /// It is none.
+    /// It is no path, or no name.
     #[error("BadName")]
     BadName,
     /// It is one, but there was no memory for it.

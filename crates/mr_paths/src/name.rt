@@ -48,7 +48,7 @@ impl Name {
         })
     }
 
-    /// The same, of bytes that are handed over: it takes no memory.
+    /// The same, of bytes that are handed over.
     pub fn from_bytes(bytes: Vec<u8>) -> Name
         requires { IsName bytes.items }
         ensures { result ≡ bytes.items }

@@ -51,7 +51,7 @@ impl Path {
         Ok(read_names(alloc, rest)?)
     }
 
-    /// The root: the path with no name. It takes no memory.
+    /// The root: the path with no name.
     pub fn root(alloc: Global) -> Path
         ensures { result ≡ [] }
     {

@@ -1,7 +1,7 @@
--- The recovery plan: what a master that starts does with the work of the masters before it, by the marks in the staging folder and
--- the records of the history. That a job commit which began and left no outcome failed, and is not resumed, is what Hadoop's
--- application master does (a committer whose job commit is not repeatable); that a later master reports the outcome of an earlier
--- one's mark, and that a reduce's winner is taken over with its length, is our own profile.
+-- The recovery plan: what a master that starts does with the work of the masters before it, by the marks in the staging folder and the
+-- records of the history. A job commit which began and left no outcome failed, and is not resumed, as Hadoop's application master has it (a
+-- committer whose job commit is not repeatable). Our own profile is that a later master reports the outcome of an earlier one's mark, and
+-- that a reduce's winner is taken over with its length.
 use Rattle.std.specs.Prelude.{◌≡◌, Bool, true, false, ◌||◌, nat_eq, nat_lt, List, [], ◌∷◌, Option, Some, None, if◌then◌else◌}
 use Rattle.std.specs.List.{find}
 use Rattle.std.specs.Option.{option_map}

@@ -25,11 +25,11 @@
 //!
 //! # What is proved
 //!
-//! `Recovery::plan(alloc, records, staging)` answers `Succeeded` where `COMMIT_SUCCESS` is there, else `Failed`
-//! where `COMMIT_FAIL` or `COMMIT_STARTED` is, else `Resume` of the winners (clause `plan`, by `IsPlan`): the list
-//! rises by task (job, maps first, number), and of every task it says exactly what the records say, its winner with
-//! the length that the winner's record tells, or nothing (`AreWinners`). Its only fault is `NoMemory` (clause
-//! `memory`). Only tested: that it succeeds with ample memory.
+//! `Recovery::plan(alloc, records, staging)` answers `Succeeded` where `COMMIT_SUCCESS` is there, else `Failed` where
+//! `COMMIT_FAIL` or `COMMIT_STARTED` is, else `Resume` of the winners (clause `plan`, by `IsPlan`). Their list rises by
+//! task (job, maps first, number). Of every task it says exactly what the records say (`AreWinners`): its winner, with
+//! the length that the winner's record tells, or nothing. Its only fault is `NoMemory` (clause `memory`), and no other
+//! call of the crate takes memory. Only tested: that it succeeds with ample memory.
 #![tactic(auto)]
 
 mod fault;

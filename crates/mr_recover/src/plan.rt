@@ -1,4 +1,5 @@
-//! The recovery plan of a master that starts: from the marks in the staging folder and the records of the job history, what it does with the work of earlier ones.
+//! The recovery plan of a master that starts: what it does with the work of earlier ones. It comes of the marks in the
+//! staging folder and the records of the job history.
 ghost use Rattle.std.specs.Prelude.{◌≡◌, IfOk, IsOkUnless};
 ghost use Rattle.mr_recover.specs.Plan.{IsPlan};
 

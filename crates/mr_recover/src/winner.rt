@@ -83,7 +83,7 @@ impl Winners {
         &self.items
     }
 
-    /// The winners as a vector, without taking memory.
+    /// The winners as a vector, without a copy.
     pub fn into_vec(self) -> Vec<TaskWinner>
         ensures { result.items ≡ self }
     {

@@ -27,13 +27,14 @@
 //!
 //! # What is proved
 //!
-//! - `script_in` answers exactly the commands of the text in a language, each with the number of its line (`AreLines`), or
-//!   `BadCommand(n)` where line n is the first that says something and is no command (`IsFirstNoLine`), or `NoMemory`.
+//! - `script_in` answers exactly the commands of the text in a language, each with the number of its line (`AreLines`).
+//!   Or it answers `BadCommand(n)`, where line n is the first that says something and is no command (`IsFirstNoLine`),
+//!   or `NoMemory`.
 //! - `commands_of` is that for the commands of the table: a line is a command exactly where it is the line that the command is written
 //!   as (`IsLine`).
-//! - `split_once` cuts at the first byte of a kind; `number`, `long_number` and `generation` read a word exactly where it is the decimal of
-//!   a number below 2^32, below 2^64, from 1 to 1,000; `attempt` exactly where it is an attempt's name; `event_named` exactly where it is
-//!   the name of an event. None of these takes memory.
+//! - `split_once` cuts at the first byte of a kind. `number`, `long_number` and `generation` read a word exactly where
+//!   it is the decimal of a number below 2^32, below 2^64, from 1 to 1,000. `attempt` reads it exactly where it is an
+//!   attempt's name, `event_named` exactly where it is the name of an event. None of these takes memory.
 //! - Laws, on functions that do nothing: a script has at most one reading (`one_reading`), is not both read and bad (`read_or_bad`), and
 //!   has at most one first bad line (`one_first_bad`). No command is a comment (`comments_are_no_commands`).
 //! - Only tested: that it succeeds with ample memory.

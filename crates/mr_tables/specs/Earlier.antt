@@ -32,7 +32,7 @@ success_told JobUnsuccessful = None
 abbrev pub TellsPlaces : List (Attempt × (ℕ × ℕ)) → List Record → Type 0
 TellsPlaces places rs = (a : Attempt) → lookup (same_attempt a) places ≡ option_map where_told (place_in rs a)
 
--- and of each task which is the newest success of a map that they tell
+-- the entries say of each map its newest success, by the records
 abbrev pub TellsNewest : List (TaskId × (Attempt × ℕ × ℕ)) → List Record → Type 0
 TellsNewest newest rs = (t : TaskId) → lookup (same_task t) newest ≡ option_map told_place (newest_in rs t)
 
@@ -44,7 +44,7 @@ TellsSpots spread rs = (a : Attempt) (p : Place) → place_in rs a ≡ Some p �
 abbrev pub IsUntold : List Record → ℕ → ℕ → Type 0
 IsUntold rs node number = (a : Attempt) (p : Place) → place_in rs a ≡ Some p → a.task.kind ≡ Map → a.task.number ≡ number → nat_eq p.node node ≡ false
 
--- of none of the maps whose numbers are from one on, up to another
+-- the same of all maps whose numbers are from one on, up to another
 abbrev pub AreUntold : List Record → ℕ → ℕ → ℕ → Type 0
 AreUntold rs node from to = (number : ℕ) → from ≤ number → number < to → IsUntold rs node number
 

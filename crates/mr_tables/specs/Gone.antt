@@ -30,6 +30,6 @@ lost_of w s g t = of_maps t.kind (succeeded_where w s (λ a. is_lost g (place_of
 abbrev pub if_gone : Setting → Seen → Gone → Attempt → List Attempt
 if_gone w s g a = if is_gone g (launch_of w s a) then a ∷ [] else []
 
--- of a task of the job
+-- the list for a task of the job, and nothing for any other task
 abbrev pub of_job : {A : Type 0} → Setting → TaskId → List A → List A
 of_job w t as' = if is_task w t then as' else []

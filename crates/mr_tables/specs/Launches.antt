@@ -5,7 +5,7 @@ use Rattle.mr_packet.specs.declared.packet.Envelope.{Envelope}
 use Rattle.mr_master_model.specs.declared.launch.Launch.{Launch}
 use Rattle.mr_master_model.specs.Sends.{killed_by}
 
--- with how many more need no memory for sure
+-- the launches, and how many more need no memory for sure
 pub record Entries : Type 0 where
   pub entries : List (Attempt × Launch)
   pub spare : ℕ

@@ -72,7 +72,7 @@ impl Bars {
         self.due.get_index(place).copied()
     }
 
-    /// Makes room: after it so many more can be added without taking memory. Where memory is refused, nothing changes.
+    /// Makes room: after it `additional` more can be added without taking memory. Where memory is refused, nothing changes.
     pub fn reserve(&mut self, additional: usize) -> Result<(), AllocError>
         ensures due { self.new.due ≡ self.old.due }
         ensures room { OnOk result (additional ≤ self.new.room) }
@@ -83,7 +83,7 @@ impl Bars {
         Ok(())
     }
 
-    /// Adds attempts as the last, one after another, if they are not there. It takes no memory.
+    /// Adds attempts as the last, one after another, if they are not there. The room was made by `reserve`.
     pub fn add_all_reserved(&mut self, attempts: &[AttemptId])
         requires { length attempts.now ≤ self.old.room }
         ensures { self.new.due ≡ all_added self.old.due attempts.now }

@@ -36,7 +36,7 @@ impl ByTask {
         }
     }
 
-    /// Those of a list.
+    /// The first winners of a list.
     pub fn of_list(alloc: Global, winners: &[TaskWinner]) -> Result<ByTask, AllocError>
         ensures { IfOk result (λ by_task. SaysListed by_task winners.now) }
     {

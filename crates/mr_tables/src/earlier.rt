@@ -20,8 +20,8 @@ use std::alloc::{AllocError, Global};
 use std::collections::VecDeque;
 use std::marker::Model;
 
-/// What was read of the earlier segments, with where the output of each map's attempt lies that they tell of, which is its map's newest,
-/// and the maps by the nodes where those outputs lie.
+/// What was read of the earlier segments: where the output of each map's attempt lies that they tell of, which is its
+/// map's newest. Also the maps by the nodes where those outputs lie.
 #[derive(Drop)]
 pub struct Earlier {
     records: Records,

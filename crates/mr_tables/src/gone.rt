@@ -8,7 +8,7 @@ use mr_master_model::Launch;
 /// What is gone with a node.
 #[derive(Clone, Copy, Drop)]
 pub enum Gone {
-    /// The node runs in this incarnation: all of lower ones is.
+    /// The node runs in this incarnation: what was launched or lies there in a lower one is gone.
     Restarted(u32, u32),
     /// The node was given up.
     GivenUp(u32),

@@ -1,16 +1,20 @@
-//! The tables of a master, each of which is the only place that knows how it is kept: its launches, the incarnations of nodes, its bars, the
-//! records that it writes, what the records of earlier masters say, the tasks by node, marks of places; and the packets that it sends.
+//! The tables of a master, each of which is the only place that knows how it is kept. They are its launches, the
+//! incarnations of nodes, its bars, the records that it writes, what the records of earlier masters say, the tasks by
+//! node, and marks of places. The packets that it sends stand here too.
 //!
 //! None of them calls the namespace. The machine that keeps them is `mr_master`; which past it stands for is said there.
 //!
 //! # What is proved
 //!
-//! - Each call changes its table as its contract says, and answers what is stored; where memory is refused a table is as it was, or it is
-//!   let go by its owner.
-//! - `Marks::first` is the first place that is marked. `Spread::next` passes over no task that is on the node, `Launches::next_on` over none
-//!   of which an attempt was launched there, `Earlier::next_on` over no map of which the records say that an output lies there.
+//! - Each call changes its table as its contract says, and answers what is stored. Where memory is refused a table is
+//!   as it was, or it is let go by its owner.
+//! - `Marks::first` is the first place that is marked. `Spread::next` passes over no task that is on the node.
+//!   `Launches::next_on` passes over none of which an attempt was launched there, `Earlier::next_on` over no map of
+//!   which the records say that an output lies there.
 //! - `Earlier` answers by the last record of a success; `winners` are those of the recovery plan, by rising number.
 //! - `Writing` gives the append or the flush that is due.
+//! - Memory may be taken by what makes or copies a table, by each `reserve`, by `Nodes::note`, `Spread::add` and
+//!   `winners`, and by `push_won` and `push_outcome`. No other call takes any.
 #![tactic(auto)]
 
 mod bars;

@@ -27,7 +27,7 @@ impl Model for Marks {
 }
 
 impl Marks {
-    /// So many places at least, none of which is marked.
+    /// At least `count` places, none of which is marked.
     pub fn new(alloc: Global, count: usize) -> Result<Marks, AllocError>
         requires { count ≤ 2 ^ 40 }
         ensures room { IfOk result (λ marks. count ≤ length marks) }

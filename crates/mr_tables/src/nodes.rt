@@ -6,7 +6,7 @@ use indexmap::IndexMap;
 use std::alloc::{AllocError, Global};
 use std::marker::Model;
 
-/// The known incarnations: 1 of each node that none is noted of.
+/// The known incarnations. That of a node of which none was noted is 1.
 #[derive(Drop)]
 pub struct Nodes {
     known: IndexMap<u32, u32>,

@@ -50,7 +50,7 @@ impl Writing {
         }
     }
 
-    /// The same records. Of spare room only that is copied which what is due will take once it is appended.
+    /// The same records. The copy has room for the records that are due, to be appended later, and no other spare room.
     pub fn copy(&self) -> Result<Writing, AllocError>
         ensures { IfOk result (λ writing. SameRecords self.now writing) }
     {
@@ -64,7 +64,7 @@ impl Writing {
         })
     }
 
-    /// Makes room: after it so many more records can be due, and be appended later, without taking memory.
+    /// Makes room: after it `additional` more records can be due, and be appended later, without taking memory.
     pub fn reserve(&mut self, additional: usize) -> Result<(), AllocError>
         ensures same { SameRecords self.old self.new }
         ensures room { OnOk result (additional ≤ self.new.room) }
@@ -128,7 +128,7 @@ impl Writing {
         }
     }
 
-    /// The first record that is due was appended. It takes no memory: the room for it was made as it came to be due.
+    /// The first record that is due was appended. The room for it was made as it came to be due.
     pub fn append_first(&mut self)
         ensures { (due tail : List Record) → KeepsRecords self.old due tail → KeepsRecords self.new (drop 1 due) (tail ++ take 1 due) }
     {

@@ -53,8 +53,8 @@ pub record NumbersAreFresh : Type 0 where
   pub from : (t : TaskId) (k : ℕ) (calls : List TaskCall) → first_attempt_number k ≤ (next_attempt t k (seen t k calls)).number
   pub below : (t : TaskId) (k : ℕ) (calls : List TaskCall) → 1 ≤ k → launch_refusal (seen t k calls) ≡ None → (next_attempt t k (seen t k calls)).number < 1000 * k
 
--- The state of an attempt tells what was heard of it, the Succeeded attempt is the one whose record was heard and whose output
--- is not lost, and where one is Recording or Succeeded none is launched.
+-- The state of an attempt tells what was heard of it. The Succeeded attempt is the one whose record was heard and whose output is not lost,
+-- and where one is Recording or Succeeded none is launched.
 pub record StatesTell : Type 0 where
   pub live : (t : TaskId) (k : ℕ) (calls : List TaskCall) (a : Attempt) → is_live (seen t k calls) a ≡ table.is_live (state_of t k calls a)
   pub stands : (t : TaskId) (k : ℕ) (calls : List TaskCall) (a : Attempt) → stands (seen t k calls) a ≡ table.is_won (state_of t k calls a)

@@ -1,11 +1,11 @@
 -- What is read off the calls that one task got. Each reading is a function of the whole list, prefix by prefix: what a call
 -- tells depends on what was read of the calls before it.
 --
--- That an attempt asks before it commits, that the first to ask is the commit attempt, that all others are told no, and that
--- another may be when it fails, is what Apache Hadoop's application master does: an attempt reports `commitPending` over the
--- umbilical protocol and then asks `canCommit` until it hears yes (`TaskImpl.canCommit`, `TaskImpl` on a failed commit attempt).
--- That those who ask later wait in order, that the name is for good once `Done` of the named attempt was heard, what counts as a
--- failure, the limits and the numbers are our own profile.
+-- Apache Hadoop's application master is restated here. An attempt asks before it commits, the first to ask is the commit attempt, all
+-- others are told no, and another may be when it fails. An attempt reports `commitPending` over the umbilical protocol, and then asks
+-- `canCommit` until it hears yes. (See `TaskImpl.canCommit`, and `TaskImpl` on a failed commit attempt.) Our own profile is that those who
+-- ask later wait in order, and that the name is for good once `Done` of the named attempt was heard. So are what counts as a failure, the
+-- limits and the numbers.
 use Rattle.std.specs.Prelude.{◌≡◌, ℕ, ◌+◌, ◌-◌, Bool, true, false, ◌&&◌, ◌||◌, not, nat_le, nat_lt, List, [], ◌∷◌, ◌++◌, filter, count_by, Option, Some, None, is_none, if◌then◌else◌}
 use Rattle.std.specs.List.{list_any, find}
 use Rattle.mr_ids.specs.Attempt.{Attempt}

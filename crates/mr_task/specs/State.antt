@@ -17,7 +17,7 @@ use Rattle.mr_task.specs.Steps.{Task}
 abbrev pub entry_of : TaskId → ℕ → List TaskCall → Attempt → Entry
 entry_of t k calls a = record { machine = record { attempt = a; state = state_of t k calls a }; accepted = has (seen t k calls).accepted a }
 
--- of each of some attempts
+-- some attempts, each with what is kept of it
 abbrev pub kept : (Attempt → Entry) → List Attempt → List (Attempt × Entry)
 kept f [] = []
 kept f (a ∷ as') = (a, f a) ∷ kept f as'

@@ -29,9 +29,9 @@ pub const MAX_LIVE: usize = 2;
 /// those that asked and did not end, the one that asked first. A reduce's `done` is accepted only from the named attempt, which
 /// then is named for good; a map's from any live attempt while no other is Recording or Succeeded.
 ///
-/// That the first attempt to ask is the commit attempt, that all others are told no, and that another may be when it fails,
-/// restates `canCommit` of Apache Hadoop's application master; the order of those that wait, the name for good, the limits and
-/// the numbers are our own profile.
+/// This restates `canCommit` of Apache Hadoop's application master: the first attempt to ask is the commit attempt, all
+/// others are told no, and another may be when it fails. The order of those that wait, the name for good, the limits
+/// and the numbers are our own profile.
 pub struct TaskMachine {
     task: TaskId,
     app: AppAttempt,
@@ -40,7 +40,8 @@ pub struct TaskMachine {
     numbered: u32,
 }
 
-// By hand, so that a machine is dropped by this call: a derived drop is taken apart by the check at each place where one is dropped.
+// Written by hand, so that the check takes the drop of a machine as one call. A derived drop it takes apart at each place where one is
+// dropped.
 impl Drop for TaskMachine {
     fn drop(self) {
         let TaskMachine {
@@ -66,7 +67,7 @@ impl Model for TaskMachine {
 }
 
 impl TaskMachine {
-    /// The machine of a task under the master of a generation: no attempt yet. It takes no memory until the first one.
+    /// The machine of a task under the master of a generation: no attempt yet.
     pub fn new(alloc: Global, task: TaskId, app: AppAttempt) -> TaskMachine
         ensures stands { StandsFor result task app [] }
         ensures task { result.task ≡ task }
@@ -96,7 +97,7 @@ impl TaskMachine {
         })
     }
 
-    /// Each machine stands for some calls. This call does nothing: it tells the caller so.
+    /// A lemma, which does nothing: each machine stands for some calls. It tells a caller's proof the type's invariant.
     pub fn stands(&self)
         ensures { StandsForSome self.now }
     {
@@ -144,7 +145,7 @@ impl TaskMachine {
         Ok(attempt)
     }
 
-    /// Why `launch` would refuse, memory aside: none where an attempt may be launched. It takes no memory and changes nothing.
+    /// Why `launch` would refuse, memory aside: none where an attempt may be launched. It changes nothing.
     pub fn launch_refusal(&self) -> Option<TaskFault>
         ensures refusal { Answers self.now (λ t k calls. launch_refusal (seen t k calls)) result }
         ensures room { IfNone result (self.now.numbered < 1000) }
@@ -188,14 +189,14 @@ impl TaskMachine {
         self.ask(&attempt)
     }
 
-    /// Whether the attempt would be the named one once it asked. It takes no memory and changes nothing.
+    /// Whether the attempt would be the named one once it asked. It changes nothing.
     pub fn would_name(&self, attempt: AttemptId) -> bool
         ensures { Answers self.now (λ t k calls. is_named (seen t k (Asks attempt ∷ calls)) attempt) result }
     {
         self.is_first_if_asked(&attempt)
     }
 
-    /// What `done` of the attempt would be answered. It takes no memory and changes nothing.
+    /// What `done` of the attempt would be answered. It changes nothing.
     pub fn done_reply(&self, attempt: AttemptId) -> Result<DoneReply, TaskFault>
         ensures { Answers self.now (done_answer attempt) result }
     {
@@ -211,8 +212,9 @@ impl TaskMachine {
 
     /// The attempt says that it is done.
     ///
-    /// A reduce's is accepted while the attempt is named, and from then on the name is for good; a map's while the attempt is
-    /// live and no other is Recording or Succeeded. Refused `Unknown` where the machine never had it; that changes nothing.
+    /// A reduce's is accepted while the attempt is named, and from then on the name is for good. A map's is accepted
+    /// while the attempt is live and no other is Recording or Succeeded. Refused `Unknown` where the machine never had
+    /// it; that changes nothing.
     pub fn done(&mut self, attempt: AttemptId) -> Result<DoneReply, TaskFault>
         ensures answer { Answers self.old (done_answer attempt) result }
         ensures stands { Stands self.old (Reports attempt) self.new }

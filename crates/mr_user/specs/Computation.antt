@@ -12,7 +12,7 @@ pub record Codec (A : Type 0) : Type 0 where
 pub record Functions (K V : Type 0) : Type 0 where
   -- the pairs of a line, from the split's number, the line's number and its bytes; none where the line is refused
   pub mapped : ℕ → ℕ → List ℕ → Option (List (K × V))
-  -- the reduce that a key goes to, of so many reduces
+  -- the reduce that a key goes to, of the given number of reduces
   pub partition_of : K → ℕ → ℕ
   -- a list that is reduced to the same
   pub combined : K → List V → List V

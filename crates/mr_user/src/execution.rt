@@ -11,11 +11,11 @@ use crate::gathering::{Gathered, gather_split, no_groups};
 use crate::job::Job;
 use std::alloc::{AllocError, Global};
 
-/// A sequential execution takes at most so many splits.
+/// Most splits of a sequential execution.
 pub const MAX_SPLITS: usize = 1000;
-/// A split has at most so many bytes.
+/// Most bytes of a split.
 pub const MAX_SPLIT_LEN: usize = 16777216;
-/// A job has at most so many reduces.
+/// Most reduces of a job.
 pub const MAX_REDUCES: u32 = 1000;
 
 /// What a sequential execution of a job writes: for each reduce, in order, the bytes of its file.
@@ -97,7 +97,7 @@ pub fn shares<J: Job>(
     Ok(shares)
 }
 
-// So many empty lists.
+// `count` empty lists.
 fn empty_shares<T: Drop>(alloc: Global, count: u32) -> Result<Vec<Vec<T>>, AllocError>
     ensures count { IfOk result (λ shares. length shares.items ≡ count) }
     ensures empty { IfOk result (λ shares. All (λ share. length share.items ≡ 0) shares.items) }

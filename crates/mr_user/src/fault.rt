@@ -14,7 +14,7 @@ pub enum UserFault {
     /// The bytes begin with no value of the type.
     #[error("BadWire")]
     BadWire,
-    /// A growth was refused.
+    /// Memory was refused.
     #[error("NoMemory")]
     NoMemory,
 }

@@ -6,7 +6,7 @@ use crate::fault::GateFault;
 use mr_ids::TaskKind;
 
 /// What each map work and each reduce work enters once before it begins.
-/// Its answer carries nothing into what the work gives.
+/// What the gate answers has no effect on what the work gives.
 pub trait Gate {
     /// Where the gate may refuse work of a kind: anywhere, for a gate that does not say it.
     ghost refuses: { Self → TaskKind → Type 0 } = { λ _ _. ⊤ };

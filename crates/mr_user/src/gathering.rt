@@ -76,7 +76,7 @@ fn put<K: Ord + Drop, V: Drop>(
     Ok(())
 }
 
-// No groups, for so many reduces.
+// No groups yet, one place for each reduce.
 pub fn no_groups<J: Job>(alloc: Global, reduces: u32) -> Result<Vec<Gathered<J>>, AllocError>
     ensures { let all = computation J.Key.cmp J.Key.codec J.Value.codec J.functions in
         IfOk result (λ parts. IsGathered all reduces parts.items []) }

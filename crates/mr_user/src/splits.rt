@@ -29,7 +29,7 @@ impl Model for Splits {
 }
 
 impl Splits {
-    /// These splits, without taking memory.
+    /// These splits, without a copy.
     pub fn from_vec(items: Vec<Vec<u8>>) -> Splits
         ensures { result ≡ map (λ split. split.items) items.items }
     {
@@ -37,35 +37,35 @@ impl Splits {
         Splits { items }
     }
 
-    /// Each split is of bytes: of numbers below 256. This call does nothing: it tells the caller so.
+    /// A lemma, which does nothing: each split is of bytes, of numbers below 256. It tells a caller's proof the type's invariant.
     pub fn tell_bytes(&self)
         ensures { AllByRecursion AreBytes self.now }
     {
         let _len = self.items.len();
     }
 
-    /// The splits as a vector, without taking memory.
+    /// The splits as a vector, without a copy.
     pub fn into_vec(self) -> Vec<Vec<u8>>
         ensures { map (λ split. split.items) result.items ≡ self }
     {
         self.items
     }
 
-    /// The splits as a slice. It takes no memory.
+    /// The splits as a slice.
     pub fn as_slice(&self) -> &[Vec<u8>]
         ensures { map (λ split. split.items) result.now ≡ self.now }
     {
         &self.items
     }
 
-    /// How many splits there are. It takes no memory.
+    /// How many splits there are.
     pub fn len(&self) -> usize
         ensures { result ≡ length self.now }
     {
         self.items.len()
     }
 
-    /// The bytes of the split at this place; none past the last. It takes no memory.
+    /// The bytes of the split at this place; none past the last.
     pub fn get(&self, place: usize) -> Option<&[u8]>
         ensures { option_map (λ bytes. bytes.now) result ≡ slice_get self.now place }
     {

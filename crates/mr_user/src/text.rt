@@ -15,16 +15,16 @@ use std::alloc::{AllocError, Global};
 use std::cmp::Ordering;
 use std::marker::Model;
 
-// So many bytes make a text's front.
+// Bytes of a text's front.
 const FRONT_LEN: usize = 8;
 
-// A text of so many bytes takes no block of the heap.
+// A text of at most this many bytes takes no block of the heap.
 const INLINE_LEN: usize = 16;
 
 /// A text of any bytes, fewer than 2^32 of them. Texts are ordered byte by byte.
 #[derive(Debug, Drop)]
 pub struct Text {
-    // The first eight bytes as a number, the first the highest, and zeros for those that are wanting: of two texts
+    // The first eight bytes as a number, the first the highest, with zeros for those that are wanting. Of two texts
     // with unlike fronts the lesser is that with the lesser front.
     front: u64,
     bytes: SmallVec<u8, INLINE_LEN>,
@@ -122,7 +122,7 @@ fn front_of(bytes: &[u8]) -> u64
     ])
 }
 
-// The byte at a place, 0 where there are not so many.
+// The byte at a place, or 0 past the end.
 fn byte_at(bytes: &[u8], place: usize) -> u8
     ensures { result ≡ slice_index bytes.now place }
 {

@@ -28,8 +28,8 @@ abbrev pub SetUp : Config → ℕ → Seen → read.Seen → Phase → Type 0
 SetUp cfg k s m Setting_up = winners (setting cfg k) m ≡ map winner_of s.winners
 SetUp cfg k s m _ = Unit {0}
 
--- Of a phase that a master can be in: what its machine is at is of the same phase; the machine's next store call is the master's, if the records that are
--- due and in the tail are; and an answer leads to what the master's phase is then.
+-- Of a phase that a master can be in: what its machine is at is of the same phase. The machine's next store call is the master's, if the records that are
+-- due and in the tail are. An answer leads to what the master's phase is then.
 pub record TurnsAgree : Type 0 where
   pub phases : (k : ℕ) (p : Phase) → CanBe p → machine.phase_of (work_at k p) ≡ phase_of p
   pub duties : (cfg : Config) (k : ℕ) (s : Seen) (m : read.Seen) (p : Phase) → CanBe p → m.due ≡ s.due → m.tail ≡ s.tail → NeedsRests cfg k s m p

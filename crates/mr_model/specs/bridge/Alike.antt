@@ -11,8 +11,9 @@ use Rattle.mr_model.specs.bridge.Points.{Alike}
 abbrev pub After : TaskId → ℕ → task.Seen → TaskCall → task.Seen
 After t k r call = task.next_seen t k r call
 
--- Tasks that are alike stay so where they hear the same. An end of an attempt that is not live, the loss of one that is not recorded or of a reduce, and that an
--- attempt is heard of, change nothing; a second loss tells nothing new. Endings and losses may come in any order.
+-- Tasks that are alike stay so where they hear the same. An end of an attempt that is not live changes nothing, nor does the loss of one that is not
+-- recorded or of a reduce. That an attempt is heard of changes nothing either. A second loss tells nothing new. Endings and losses may come in any
+-- order.
 pub record TasksStayAlike : Type 0 where
   pub same : (t : TaskId) (k : ℕ) (r x : task.Seen) (call : TaskCall) → Alike r x → Alike (After t k r call) (After t k x call)
   pub heard : (t : TaskId) (k : ℕ) (r : task.Seen) (a : Attempt) → Alike r (After t k r (Hears a))

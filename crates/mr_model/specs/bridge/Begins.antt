@@ -18,7 +18,7 @@ abbrev pub attempts_in : TaskId → List Attempt → List Attempt
 attempts_in t [] = []
 attempts_in t (a ∷ as') = if task_eq a.task t then a ∷ attempts_in t as' else attempts_in t as'
 
--- Until a master runs, its past tells no task anything; and of each task the master and its machine take the same attempt over from what was read: its newest
+-- Until a master runs, its past tells no task anything. Of each task the master and its machine take the same attempt over from what was read: its newest
 -- success, unless its node is known in a higher incarnation.
 pub record BeginningsAgree : Type 0 where
   pub quiet : (cfg : Config) (k : ℕ) (past : List Master_step) (t : TaskId) → AllMade cfg k past → has_not_run (seen cfg k past).phase ≡ true → calls cfg k past t ≡ []

@@ -17,7 +17,7 @@ use Rattle.mr_model.specs.bridge.Steps.{setting, step_of}
 use Rattle.mr_model.specs.bridge.Agreement.{machine_seen}
 use Rattle.mr_model.specs.bridge.Points.{StandsAt, launch_as, in_order}
 
--- m stands where the master's past has led, launched what it launched, knows the nodes as it does, read what it read; and while it runs, the same containers
+-- m stands where the master's past has led, launched what it launched, knows the nodes as it does, and read what it read. While it runs, the same containers
 -- were sent a Kill
 pub record Holds (cfg : Config) (k : ℕ) (past : List Master_step) (m : read.Seen) : Type 0 where
   pub stands : StandsAt cfg k past m

@@ -12,8 +12,8 @@ use Rattle.mr_model.specs.bridge.Steps.{setting, step_of}
 use Rattle.mr_model.specs.bridge.Agreement.{machine_seen}
 use Rattle.mr_model.specs.bridge.Points.{PointAgrees}
 
--- The phase, the next store call with what it is for, why nothing is launched and no node given up, the next attempt, what is sent at each step that can be
--- made then, which incarnation of each node is known, and the task that is launched next.
+-- The phase, the next store call with what it is for, why nothing is launched and no node given up, and the next attempt. Also what is sent at each step
+-- that can be made then, which incarnation of each node is known, and the task that is launched next.
 pub record MasterAgrees (cfg : Config) (k : ℕ) (s : Seen) (m : read.Seen) : Type 0 where
   pub point : PointAgrees cfg k s m
   pub sends : (x : Master_step) → IsMade cfg k s x → next.sent_by (setting cfg k) m (step_of x) ≡ step_sends cfg s (next_seen cfg k s x) x

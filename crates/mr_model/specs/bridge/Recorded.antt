@@ -8,7 +8,7 @@ use Rattle.mr_model.specs.Duties.{Master_step, seen}
 use Rattle.mr_model.specs.Calls.{of_task}
 use Rattle.mr_model.specs.Made.{AllMade}
 
--- While a master runs, a reduce has a Succeeded attempt, by the words of tasks, exactly where the master recorded one of it or read its winner: this is what
+-- While a master runs, a reduce has a Succeeded attempt, by the words of tasks, exactly where the master recorded one of it or read its winner. This is what
 -- the start of the job commit waits for.
 abbrev pub ReducesAreRecorded : Type 0
 ReducesAreRecorded = (cfg : Config) (k : ℕ) (past : List Master_step) (t : TaskId) → of_reduces t.kind ≡ true → AllMade cfg k past → is_running (seen cfg k past).phase ≡ true

@@ -1,5 +1,5 @@
--- What the machine of a master is told of its store call, what the call leaves of both stores, and what each event is to the pasts of masters: for whoever runs them.
--- Our own: it ties two sets of definitions.
+-- For whoever runs machines of masters: what one is told of its store call, and what the call leaves of both stores. Also what each event is to the pasts of
+-- masters. Our own: it ties two sets of definitions.
 use Rattle.std.specs.Prelude.{◌≡◌, ℕ, Bool, true, false, ◌&&◌, ◌||◌, not, nat_eq, List, [], ◌∷◌, Some, None, Result, Ok, Err}
 use Rattle.mr_ids.specs.declared.id.TaskId.{TaskId}
 use Rattle.mr_names.specs.declared.op.Op.{Op}
@@ -26,7 +26,7 @@ use Rattle.mr_model.specs.bridge.Agreement.{machine_seen}
 
 -- ---- what each event is to the pasts of masters
 
--- An event that is a step of master k: the past of its machine grows by it, those of all others and who lives stay, and the packets of the event are the step's.
+-- An event that is a step of master k. The past of its machine grows by it, those of all others and who lives stay, and the packets of the event are the step's.
 pub record MasterMoves (cfg : Config) (w : World) (e : Event) (k : ℕ) (x : Master_step) : Type 0 where
   pub now : steps ((effect cfg w e).master_past k) ≡ step_of x ∷ steps (w.master_past k)
   pub others : (j : ℕ) → (j ≡ k → ⊥) → (effect cfg w e).master_past j ≡ w.master_past j

@@ -97,7 +97,7 @@ pub record NodeCut (old new : Slab Place) (at : ℕ) (name : List ℕ) (key : �
   pub out : nodes_of new key ≡ None
   pub nodes : (other : ℕ) → (other ≡ key → ⊥) → nodes_of new other ≡ nodes_of old other
 
--- entries are cut beneath a node, from another beneath it on: all that goes is beneath the path that leads to the first
+-- entries are deleted beneath the node `top`: all that goes is beneath the path that leads to it. The deletion begins at the node `at`
 abbrev pub CutBeneath : Slab Place → Slab Place → ℕ → ℕ → Type 0
 CutBeneath old new top at =
     (root : ℕ) (c : Content) (t p : List (List ℕ)) → IsTold (edges_of old) (nodes_of old) root c → steps (edges_of old) (Some root) t ≡ Some top → steps (edges_of old) (Some root) p ≡ Some at → within t p ≡ true
@@ -131,7 +131,7 @@ abbrev pub DirsAdded : Slab Place → Slab Place → ℕ → List (List ℕ) →
 DirsAdded old new at names =
     (root : ℕ) (c : Content) (above : List (List ℕ)) → HasRoom old root c above at names → IsTold (edges_of new) (nodes_of new) root (with_dirs c (paths_down above names))
 
--- some of them are: all that is new is at and beneath the first
+-- some of these directories are added: all that is new is at and beneath the first of them
 abbrev pub SomeAdded : Slab Place → Slab Place → ℕ → List (List ℕ) → Type 0
 SomeAdded old new at names =
     (root : ℕ) (c : Content) (above : List (List ℕ)) → HasRoom old root c above at names
