@@ -60,7 +60,7 @@ impl AttemptMachine {
         }
     }
 
-    /// The attempt.
+    /// The attempt that the machine is of.
     pub fn attempt(&self) -> AttemptId
         ensures { result ≡ self.now.attempt }
     {

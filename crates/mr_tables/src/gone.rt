@@ -15,7 +15,7 @@ pub enum Gone {
 }
 
 impl Gone {
-    /// The node.
+    /// The node that was restarted or given up.
     pub fn node(&self) -> u32
         ensures { result ≡ node_of self.now }
     {

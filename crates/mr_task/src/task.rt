@@ -104,14 +104,14 @@ impl TaskMachine {
         let _task = &self.task;
     }
 
-    /// The task.
+    /// The task that the machine is of.
     pub fn task(&self) -> TaskId
         ensures { result ≡ self.now.task }
     {
         self.task
     }
 
-    /// The generation.
+    /// The generation of the master that keeps the machine.
     pub fn app(&self) -> AppAttempt
         ensures { result ≡ self.now.app }
     {

@@ -52,7 +52,7 @@ impl Text {
         Ok(Text { front, bytes })
     }
 
-    /// Its bytes.
+    /// The bytes of the text.
     pub fn as_slice(&self) -> &[u8]
         ensures value { result.now ≡ self.now }
         ensures short { length self.now < 2 ^ 32 }
