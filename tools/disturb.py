@@ -18,6 +18,7 @@ EVERY = (1 << 62) - 1
 ORDER, TOLD = struct.Struct("<6q"), struct.Struct("<10q")
 HERE = os.path.dirname(os.path.realpath(__file__))
 SECONDS = 20  # of a processor
+FIRST_ALL = 500
 # the line that may stand behind the text of a fault: how it is put is the program's own
 HELP = re.compile(rb"  [ -~]+\n")
 
@@ -125,6 +126,15 @@ class Program:
         status, *seen, marks = TOLD.unpack(told)[:6]
         status = os.waitstatus_to_exitcode(status)
         return Run(status, self.read("out"), self.read("err"), seen, TOLD.unpack(told)[6 : 6 + marks])
+
+
+def spread(count, most):
+    """The places from 1 to `count`, or where they are more than `most`, the first ones and then an even stride."""
+    if count <= most:
+        return range(1, count + 1), ""
+    first = min(FIRST_ALL, most // 2)
+    stride = -(-(count - first) // (most - first))
+    return [*range(1, first + 1), *range(first + 1, count + 1, stride)], f" (the first {first} and then one of {stride})"
 
 
 def lowered():

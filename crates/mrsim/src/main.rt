@@ -6,8 +6,6 @@ ghost use Rattle.std.specs.Process.{exit_status};
 ghost use Rattle.mr_sim.specs.Fault.{exit_status_of};
 
 mod explore;
-#[cfg(test)]
-mod tests;
 mod threads;
 mod words;
 

@@ -1,33 +1,10 @@
-//! Tests of the simulator: what its subcommands print.
+//! Tests of the simulator as a library: streams that fail, texts that no run of the program prints, and hints. What the program
+//! prints is tried by `tools/hostile`.
 #![tactic(auto)]
 
 #[cfg(test)]
-mod committer;
-#[cfg(test)]
-mod examples;
-#[cfg(test)]
-mod expectations;
-#[cfg(test)]
-mod explored;
-#[cfg(test)]
 mod hints;
 #[cfg(test)]
-mod json;
+mod streams;
 #[cfg(test)]
-mod pictures;
-#[cfg(test)]
-mod play;
-#[cfg(test)]
-mod rows;
-#[cfg(test)]
-mod scripts;
-#[cfg(test)]
-mod segments;
-#[cfg(test)]
-mod seq;
-#[cfg(test)]
-mod shown;
-#[cfg(test)]
-mod traced;
-#[cfg(test)]
-mod traces;
+mod texts;

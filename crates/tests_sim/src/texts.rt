@@ -1,0 +1,146 @@
+//! What is answered from bytes alone, and texts that no run of the program prints.
+use mr_commands::{JobKind, read_job_text};
+use mr_event::{PlanAct, PlanFault, Why};
+use mr_ids::JobId;
+use mr_sim::{Asked, Command, Form, JobTextFault, Seen, SimFault, answer};
+use std::process::Abort;
+
+// One map and one reduce.
+const ONE: &[u8] =
+    b"{\"id\":\"job_200707121733_0003\",\"job\":\"wordcount\",\"reduces\":1,\"splits\":[\"a b a\"]}\n";
+
+// This is the answer to the command.
+fn answers<H: AllocGlobal + Abort>(rt: &H, command: Command<'_>, input: &[u8], text: &[u8]) {
+    match answer(rt.alloc(), command, input) {
+        Ok(printed) => assert!(rt; printed.as_slice() == text),
+        Err(fault) => panic!(rt; "{fault}"),
+    }
+}
+
+// The command is refused so.
+fn refuses<H: AllocGlobal + Abort>(rt: &H, command: Command<'_>, input: &[u8], fault: SimFault) {
+    let told = answer(rt.alloc(), command, input).err();
+    assert!(rt; told == Some(fault), "{told:?}");
+}
+
+#[test]
+fn answers_without_a_handle(rt: HostRuntime) {
+    answers(
+        &rt,
+        Command::Committer,
+        b"setup\n",
+        b"out/\nout/_temporary/\nout/_temporary/1/\n",
+    );
+    refuses(
+        &rt,
+        Command::Committer,
+        b"setup\nset\n",
+        SimFault::BadCommand(2),
+    );
+    let asked = Asked {
+        faults: 0,
+        most: u64::MAX,
+        goal: Some("marker no, marker yes"),
+        form: Form::Text,
+    };
+    let command = Command::Explore {
+        asked,
+        progress: false,
+    };
+    answers(&rt, command, ONE, b"# 1 run with at most 0 faults\nnone\n");
+}
+
+// Without a handle there is no thread. A bad job text is told all the same.
+#[test]
+fn no_thread_without_a_handle(rt: HostRuntime) {
+    let plain = Command::Threads {
+        turns: 100_000,
+        hold: false,
+    };
+    let seen = Command::ThreadsSeen {
+        turns: 100_000,
+        hold: false,
+        seen: Seen::Script,
+    };
+    for command in [plain, seen] {
+        refuses(&rt, command, ONE, SimFault::Thread);
+        refuses(&rt, command, b"[]", SimFault::Job(JobTextFault::Text));
+    }
+}
+
+// Two faults that a sound run of the program never says.
+#[test]
+fn texts_of_threads(rt: HostRuntime) {
+    for (fault, text) in [
+        (SimFault::JournalMismatch, "mrsim: journal mismatch"),
+        (SimFault::Thread, "mrsim: thread"),
+    ] {
+        let shown = format!(in rt.alloc(); "{fault}").expect(&rt, "no memory");
+        assert!(rt; shown.as_str() == text);
+    }
+}
+
+// Each reason is told by its name. Fails where a reason prints as another one.
+#[test]
+fn reasons_are_told_by_their_names(rt: HostRuntime) {
+    for (why, name) in [
+        (Why::WrongGeneration, "WrongGeneration"),
+        (Why::NoMaster, "NoMaster"),
+        (Why::NoDuty, "NoDuty"),
+        (Why::NotRunning, "NotRunning"),
+        (Why::NoTask, "NoTask"),
+        (Why::NoNode, "NoNode"),
+        (Why::NoPacket, "NoPacket"),
+        (Why::NoAddressee, "NoAddressee"),
+        (Why::NoContainer, "NoContainer"),
+        (Why::WrongWish, "WrongWish"),
+        (Why::NoStoreCall, "NoStoreCall"),
+        (Why::NotBlocks, "NotBlocks"),
+    ] {
+        assert!(rt;
+            format!(in rt.alloc(); "{why}")
+                .expect(&rt, "no memory")
+                .as_str()
+                == name,
+            "{name}"
+        );
+    }
+}
+
+// What a job text gives, with the defaults and without.
+#[test]
+fn read_submission(rt: HostRuntime) {
+    let alloc = rt.alloc();
+    let job = read_job_text(alloc, ONE).expect(&rt, "a fault");
+    assert!(rt;
+        job.id
+            == JobId {
+                start: 200707121733,
+                number: 3
+            }
+    );
+    assert!(rt; job.job == JobKind::WordCount && job.reduces == 1);
+    assert!(rt; job.nodes == 1 && job.limit == 4 && job.v2_from == 1);
+    assert!(rt; job.faults.as_slice().is_empty());
+    assert!(rt; job.splits.as_slice().len() == 1);
+    assert!(rt; job.splits.into_vec()[0].as_slice() == b"a b a".as_slice());
+    let text =
+        b"{\"id\":\"job_200707121733_0003\",\"job\":\"wordcount\",\"reduces\":1,\"splits\":[\"a\"],\"v2from\":1000,\"nodes\":2,\"limit\":3,\"faults\":[{\"after\":7,\"node\":1},{\"after\":8,\"master\":9},{\"after\":0,\"expire\":1}]}";
+    let job = read_job_text(alloc, text).expect(&rt, "a fault");
+    assert!(rt; job.nodes == 2 && job.limit == 3 && job.v2_from == 1000);
+    let faults = [
+        PlanFault {
+            after: 7,
+            act: PlanAct::Node(1),
+        },
+        PlanFault {
+            after: 8,
+            act: PlanAct::Master(9),
+        },
+        PlanFault {
+            after: 0,
+            act: PlanAct::Expire(1),
+        },
+    ];
+    assert!(rt; job.faults.into_vec().as_slice() == faults.as_slice());
+}
