@@ -1,10 +1,9 @@
 ghost use Rattle.mr_commands.specs.job.Submission.{IsWithinLimits};
 
 use mr_commands::{Submission, read_job_text};
-use mr_drive::{DriveFault, PairGate, Plan, Report, drive};
-use mr_event::Event;
+use mr_drive::{DriveFault, Plan, Report, drive};
 use mr_ids::TaskKind;
-use mr_user::{Gate, GateFault, MaxByKey, OpenGate, WordCount};
+use mr_user::{Gate, GateFault, WordCount};
 use mr_world::Config;
 use std::alloc::Global;
 use std::process::Abort;
@@ -45,131 +44,8 @@ fn planned(submission: Submission) -> Plan
     }
 }
 
-// Whether this event stands at this place of the report's journal.
-fn happens_at(report: &Report, place: usize, event: &Event) -> bool {
-    match report.world.journal().get(place) {
-        Some(made) => made == event,
-        None => false,
-    }
-}
-
 fn is_counted(report: &Report) -> bool {
     report.succeeded && report.files.len() == 1 && report.files[0].bytes.as_slice() == TEXT
-}
-
-#[test]
-fn threads_hold(rt: HostRuntime) {
-    let two = plan(
-        &rt,
-        rt.alloc(),
-        r#""job":"wordcount","splits":["a b","a"],"nodes":2"#,
-    );
-    let report = drive(
-        &rt,
-        rt.alloc(),
-        &WordCount,
-        &PairGate::new(&rt, TURNS),
-        &two,
-        TURNS,
-    )
-    .expect(&rt, "no memory");
-    assert!(rt; is_counted(&report));
-    let one = plan(&rt, rt.alloc(), r#""job":"wordcount","splits":["a b","a"]"#);
-    let fault = drive(
-        &rt,
-        rt.alloc(),
-        &WordCount,
-        &PairGate::new(&rt, 100),
-        &one,
-        TURNS,
-    )
-    .err();
-    assert!(rt; fault == Some(DriveFault::TurnsSpent), "{fault:?}");
-}
-
-#[test]
-fn threads_with_faults(rt: HostRuntime) {
-    let plan = plan(
-        &rt,
-        rt.alloc(),
-        r#""job":"wordcount","splits":["a b a"],"faults":[{"after":12,"node":0}]"#,
-    );
-    let report = drive(&rt, rt.alloc(), &WordCount, &OpenGate, &plan, TURNS).expect(&rt, "a fault");
-    assert!(rt; is_counted(&report));
-    assert!(rt; happens_at(&report, 12, &Event::NodeRestart { node: 0 }));
-    let fault = drive(&rt, rt.alloc(), &WordCount, &OpenGate, &plan, 1).err();
-    assert!(rt; fault == Some(DriveFault::TurnsSpent), "{fault:?}");
-}
-
-#[test]
-fn a_master_crashes_at_once(rt: HostRuntime) {
-    let plan = plan(
-        &rt,
-        rt.alloc(),
-        r#""job":"wordcount","splits":["a b a"],"faults":[{"after":1,"master":0}]"#,
-    );
-    let report = drive(&rt, rt.alloc(), &WordCount, &OpenGate, &plan, TURNS).expect(&rt, "a fault");
-    assert!(rt; is_counted(&report));
-    assert!(rt;
-        happens_at(
-            &report,
-            1,
-            &Event::Crash {
-                generation: 1,
-                kept: 0
-            }
-        )
-    );
-    assert!(rt;
-        happens_at(
-            &report,
-            2,
-            &Event::Start {
-                generation: 2,
-                kept: 0
-            }
-        )
-    );
-}
-
-#[test]
-fn threads_with_expiry(rt: HostRuntime) {
-    let plan = plan(
-        &rt,
-        rt.alloc(),
-        r#""job":"wordcount","splits":["a b a"],"faults":[{"after":12,"expire":0}]"#,
-    );
-    let report = drive(&rt, rt.alloc(), &WordCount, &OpenGate, &plan, TURNS).expect(&rt, "a fault");
-    assert!(rt; is_counted(&report));
-    assert!(rt;
-        happens_at(
-            &report,
-            12,
-            &Event::Expire {
-                generation: 1,
-                node: 0
-            }
-        )
-    );
-}
-
-#[test]
-fn a_fault_that_never_comes_is_dropped(rt: HostRuntime) {
-    let plan = plan(
-        &rt,
-        rt.alloc(),
-        r#""job":"wordcount","splits":["a b a"],"faults":[{"after":1000000,"node":0}]"#,
-    );
-    let report = drive(&rt, rt.alloc(), &WordCount, &OpenGate, &plan, TURNS).expect(&rt, "a fault");
-    assert!(rt; is_counted(&report));
-}
-
-#[test]
-fn a_job_that_refuses_fails(rt: HostRuntime) {
-    let plan = plan(&rt, rt.alloc(), r#""job":"maxbykey","splits":["x"]"#);
-    let report = drive(&rt, rt.alloc(), &MaxByKey, &OpenGate, &plan, TURNS).expect(&rt, "a fault");
-    assert!(rt; !report.succeeded);
-    assert!(rt; report.files.is_empty());
 }
 
 // Holds each work of a kind until four have entered; counts the works of both.

@@ -1,14 +1,14 @@
 //! What is refused while a master commits its job, and while its job fails.
 
-use crate::fixtures::{answered, due, is_done, lists_nothing, writes};
-use crate::outcomes::fails;
+use crate::fixtures::{answered, due, is_done, launched, lists_nothing, replies, writes};
 use crate::running::{reduce, running};
-use crate::stopping::{stops, superseded, won};
+use crate::stopping::{stops, won};
 use mr_history::HistoryFault;
+use mr_ids::AttemptId;
 use mr_master::MasterMachine;
-use mr_master_model::{DutyName, LaunchFault, Phase, StoreAnswer};
+use mr_master_model::{DutyName, Phase, StoreAnswer};
 use mr_names::{Answer, NameFault};
-use mr_task::TaskFault;
+use mr_packet::Packet;
 use std::alloc::Global;
 use std::process::Abort;
 
@@ -63,11 +63,13 @@ fn refused_marker_fails_the_job(rt: HostRuntime) {
     stops(&rt, &mut master, DutyName::Success, exists());
 }
 
-// A later master stops the job commit at its cleanup.
-#[test]
-fn later_master_stops_the_cleanup(rt: HostRuntime) {
-    let mut master = merged(&rt, rt.alloc());
-    stops(&rt, &mut master, DutyName::Cleanup, superseded());
+// The attempt of this number is launched and fails.
+fn fails(rt: &impl Abort, master: &mut MasterMachine, number: u32) {
+    launched(rt, master, reduce(), 0);
+    let Some(a) = AttemptId::new(reduce(), number) else {
+        panic!(rt; "no attempt of this number");
+    };
+    replies(rt, master, &Packet::Failed { a }, 0);
 }
 
 // The job fails: nine records are due.
@@ -92,12 +94,4 @@ fn refused_record_stops_a_failing_master(rt: HostRuntime) {
     }
     let later = StoreAnswer::Wrote(Err(HistoryFault::Superseded(2)));
     stops(&rt, &mut master, DutyName::Flush, later);
-}
-
-// Where its reduce is won, nothing more of it is launched.
-#[test]
-fn won_task_is_not_launched(rt: HostRuntime) {
-    let master = won(&rt, rt.alloc());
-    let is_won = Some(LaunchFault::Task(TaskFault::AlreadyWon));
-    assert!(rt; master.launch_refusal(reduce(), 0) == is_won);
 }

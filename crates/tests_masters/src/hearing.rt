@@ -3,11 +3,11 @@
 use crate::fixtures::{
     attempt, container, due, first, hears, launched, master_of, opens, replies, task, writes,
 };
-use crate::running::{finishes, first_attempt, launches, reduce, running};
+use crate::running::{launches, reduce, running};
 use mr_history::Records;
 use mr_ids::{AttemptId, TaskId, TaskKind};
 use mr_master::MasterMachine;
-use mr_packet::{Address, ContainerId, Envelope, Packet};
+use mr_packet::{ContainerId, Packet};
 use std::alloc::Global;
 use std::process::Abort;
 
@@ -55,37 +55,6 @@ fn unknown_ones_are_not_heard(rt: HostRuntime) {
     assert!(rt; due(&rt, &master).is_none());
 }
 
-// Whether the container of this number is told whether its attempt may commit.
-fn is_answer(rt: &impl Abort, packets: &[Envelope], number: u32, may: bool) -> bool {
-    if packets.len() != 1 {
-        return false;
-    }
-    let told = match &packets[0].body {
-        Packet::Answer { yes, .. } => *yes == may,
-        _ => false,
-    };
-    told && packets[0].to == Address::Container(container_of(rt, number))
-}
-
-// The first to ask may commit; the other is told no, also once the first is done.
-#[test]
-fn one_may_commit(rt: HostRuntime) {
-    let mut master = running(&rt, rt.alloc());
-    launches(&rt, &mut master);
-    launched(&rt, &mut master, reduce(), 0);
-    finishes(&rt, &mut master);
-    let poll = Packet::Poll {
-        a: second_attempt(&rt),
-    };
-    let no = hears(&rt, &mut master, &poll);
-    assert!(rt; is_answer(&rt, &no, 1, false));
-    let poll = Packet::Poll {
-        a: first_attempt(&rt),
-    };
-    let yes = hears(&rt, &mut master, &poll);
-    assert!(rt; is_answer(&rt, &yes, 0, true));
-}
-
 // The map of the job.
 fn map() -> TaskId {
     task(TaskKind::Map, 0)
@@ -108,47 +77,6 @@ fn mapped(rt: &impl Abort, alloc: Global) -> MasterMachine {
     assert!(rt; master.wanted() == Some(reduce()));
     launched(rt, &mut master, reduce(), 1);
     master
-}
-
-// Whether the reduce's container is told that the map's output lies on node 0, in incarnation 1.
-fn is_there(rt: &impl Abort, packets: &[Envelope]) -> bool {
-    if packets.len() != 1 {
-        return false;
-    }
-    let told = match &packets[0].body {
-        Packet::MapReady {
-            map: 0,
-            a,
-            n: 0,
-            incarnation: 1,
-        } => *a == attempt(rt, map()),
-        _ => false,
-    };
-    told && packets[0].to == Address::Container(container_of(rt, 1))
-}
-
-// The reduce's container asks where the map's output lies.
-fn asks(rt: &impl Abort) -> Packet {
-    let c = container_of(rt, 1);
-    Packet::Where { c, map: 0 }
-}
-
-// It does not find the output there.
-fn loses(rt: &impl Abort) -> Packet {
-    let c = container_of(rt, 1);
-    let a = attempt(rt, map());
-    Packet::FetchLost { c, a }
-}
-
-// Who asks is told where the output lies. Once it is lost, the map is wanted again, and who asks is told nothing.
-#[test]
-fn lost_output_is_made_again(rt: HostRuntime) {
-    let mut master = mapped(&rt, rt.alloc());
-    let told = hears(&rt, &mut master, &asks(&rt));
-    assert!(rt; is_there(&rt, &told));
-    replies(&rt, &mut master, &loses(&rt), 0);
-    assert!(rt; master.wanted() == Some(map()));
-    replies(&rt, &mut master, &asks(&rt), 0);
 }
 
 // A node that runs again has lost the output; the same incarnation, told again, changes nothing.

@@ -8,13 +8,9 @@ mod fixtures;
 #[cfg(test)]
 mod hearing;
 #[cfg(test)]
-mod launches;
-#[cfg(test)]
 mod leaving;
 #[cfg(test)]
 mod opening;
-#[cfg(test)]
-mod outcomes;
 #[cfg(test)]
 mod recovering;
 #[cfg(test)]

@@ -1,14 +1,12 @@
 //! What makes a master Stopped, and what else ends its job.
 
-use crate::fixtures::{
-    answered, due, generation_of, given_up, is_done, master, replies, sends, writes,
-};
+use crate::fixtures::{answered, due, generation_of, given_up, is_done, master, sends, writes};
 use crate::running::{finishes, first_attempt, launches, running};
 use mr_history::{HistoryFault, Record, Records};
 use mr_ids::AppAttempt;
 use mr_master::MasterMachine;
 use mr_master_model::{DutyName, Phase, StoreAnswer};
-use mr_names::{Answer, Kind, NameFault};
+use mr_names::{Answer, NameFault};
 use mr_packet::{Address, Envelope, Packet};
 use std::alloc::Global;
 use std::process::Abort;
@@ -19,7 +17,7 @@ fn missing() -> StoreAnswer {
 }
 
 // A later master is there.
-pub fn superseded() -> StoreAnswer {
+fn superseded() -> StoreAnswer {
     StoreAnswer::Names(Err(NameFault::Superseded(2)))
 }
 
@@ -55,32 +53,6 @@ fn looks(rt: &impl Abort, master: &mut MasterMachine, count: u32) {
         let absent = StoreAnswer::Names(Ok(Answer::Found(None)));
         sends(rt, master, absent, 0);
     }
-}
-
-// A mark is found after so many others were looked for: the job ended, and each node is told how.
-fn finds(rt: &impl Abort, alloc: Global, count: u32, succeeded: bool) {
-    let mut master = master(rt, alloc);
-    looks(rt, &mut master, count);
-    let there = StoreAnswer::Names(Ok(Answer::Found(Some(Kind::File))));
-    let told = answered(rt, &mut master, there);
-    assert!(rt; is_outcome(&told, succeeded), "{count}");
-    assert!(rt;
-        master.phase() == Phase::Ended && due(rt, &master).is_none(),
-        "{count}"
-    );
-}
-
-#[test]
-fn marks_tell_the_outcome(rt: HostRuntime) {
-    finds(&rt, rt.alloc(), 0, true);
-    finds(&rt, rt.alloc(), 1, false);
-    finds(&rt, rt.alloc(), 2, false);
-}
-
-#[test]
-fn fault_stops_a_look(rt: HostRuntime) {
-    let mut master = master(&rt, rt.alloc());
-    stops(&rt, &mut master, DutyName::Marks, StoreAnswer::Fault);
 }
 
 #[test]
@@ -138,14 +110,6 @@ fn recorded_failure_is_aborted(rt: HostRuntime) {
 }
 
 #[test]
-fn fault_stops_an_append(rt: HostRuntime) {
-    let mut master = running(&rt, rt.alloc());
-    launches(&rt, &mut master);
-    let full = StoreAnswer::Wrote(Err(HistoryFault::Full));
-    stops(&rt, &mut master, DutyName::Append, full);
-}
-
-#[test]
 fn refusal_stops_a_bar(rt: HostRuntime) {
     let mut master = running(&rt, rt.alloc());
     launches(&rt, &mut master);
@@ -164,23 +128,11 @@ fn done(rt: &impl Abort, alloc: Global) -> MasterMachine {
     master
 }
 
-#[test]
-fn lost_answer_stops_a_flush(rt: HostRuntime) {
-    let mut master = done(&rt, rt.alloc());
-    stops(&rt, &mut master, DutyName::Flush, StoreAnswer::Fault);
-}
-
 // The same, and they are stable: the job commit is to start.
 pub fn won(rt: &impl Abort, alloc: Global) -> MasterMachine {
     let mut master = done(rt, alloc);
     writes(rt, &mut master, 1);
     master
-}
-
-#[test]
-fn fault_stops_the_start(rt: HostRuntime) {
-    let mut master = won(&rt, rt.alloc());
-    stops(&rt, &mut master, DutyName::Started, StoreAnswer::Fault);
 }
 
 // A later master stops the job commit. Any other refusal fails the job, which is marked, and then aborted.
@@ -204,22 +156,4 @@ fn aborts(rt: &impl Abort, master: &mut MasterMachine) {
     let told = answered(rt, master, StoreAnswer::Fault);
     assert!(rt; told.len() == 1 && is_told(&told[0], 0, false));
     assert!(rt; master.phase() == Phase::Ended);
-}
-
-// A master that stopped hears nothing, NodeUp neither.
-#[test]
-fn stopped_master_hears_nothing(rt: HostRuntime) {
-    let mut master = running(&rt, rt.alloc());
-    launches(&rt, &mut master);
-    stops(&rt, &mut master, DutyName::Append, StoreAnswer::Fault);
-    let pending = Packet::Pending {
-        a: first_attempt(&rt),
-    };
-    replies(&rt, &mut master, &pending, 0);
-    let up = Packet::NodeUp {
-        n: 0,
-        incarnation: 2,
-    };
-    replies(&rt, &mut master, &up, 0);
-    assert!(rt; master.phase() == Phase::Stopped && due(&rt, &master).is_none());
 }

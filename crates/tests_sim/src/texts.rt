@@ -1,6 +1,6 @@
 //! What is answered from bytes alone, and texts that no run of the program prints.
 use mr_commands::{JobKind, read_job_text};
-use mr_event::{PlanAct, PlanFault, Why};
+use mr_event::{PlanAct, PlanFault};
 use mr_ids::JobId;
 use mr_sim::{Asked, Command, Form, JobTextFault, Seen, SimFault, answer};
 use std::process::Abort;
@@ -77,33 +77,6 @@ fn texts_of_threads(rt: HostRuntime) {
     ] {
         let shown = format!(in rt.alloc(); "{fault}").expect(&rt, "no memory");
         assert!(rt; shown.as_str() == text);
-    }
-}
-
-// Each reason is told by its name. Fails where a reason prints as another one.
-#[test]
-fn reasons_are_told_by_their_names(rt: HostRuntime) {
-    for (why, name) in [
-        (Why::WrongGeneration, "WrongGeneration"),
-        (Why::NoMaster, "NoMaster"),
-        (Why::NoDuty, "NoDuty"),
-        (Why::NotRunning, "NotRunning"),
-        (Why::NoTask, "NoTask"),
-        (Why::NoNode, "NoNode"),
-        (Why::NoPacket, "NoPacket"),
-        (Why::NoAddressee, "NoAddressee"),
-        (Why::NoContainer, "NoContainer"),
-        (Why::WrongWish, "WrongWish"),
-        (Why::NoStoreCall, "NoStoreCall"),
-        (Why::NotBlocks, "NotBlocks"),
-    ] {
-        assert!(rt;
-            format!(in rt.alloc(); "{why}")
-                .expect(&rt, "no memory")
-                .as_str()
-                == name,
-            "{name}"
-        );
     }
 }
 

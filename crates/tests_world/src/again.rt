@@ -4,7 +4,7 @@ use mr_event::Event;
 use mr_ids::{AttemptId, TaskId};
 use mr_master_model::{DutyName, Phase};
 use mr_packet::ContainerId;
-use mr_world::{Took, VisibleFile, World, WorldFault};
+use mr_world::{Took, World, WorldFault};
 use std::process::Abort;
 
 /// What is read of a world without memory, of its newest master where it is of a master.
@@ -39,7 +39,7 @@ impl Look {
 }
 
 /// A copy of the event.
-pub fn copied(rt: &impl Abort, event: &Event) -> Event {
+fn copied(rt: &impl Abort, event: &Event) -> Event {
     match event.copy() {
         Ok(copy) => copy,
         Err(_) => event.copy().expect(rt, "no memory"),
@@ -76,14 +76,6 @@ pub fn due(rt: &impl Abort, world: &World, k: u32) -> Option<DutyName> {
     }
 }
 
-/// The winner of each reduce.
-pub fn winners(rt: &impl Abort, world: &World) -> Vec<Option<AttemptId>> {
-    match world.winners() {
-        Ok(winners) => winners,
-        Err(_) => world.winners().expect(rt, "no memory"),
-    }
-}
-
 /// The winner of a task.
 pub fn winner(rt: &impl Abort, world: &World, task: TaskId) -> Option<AttemptId> {
     match world.winner(task) {
@@ -97,21 +89,5 @@ pub fn living(rt: &impl Abort, world: &World) -> Vec<ContainerId> {
     match world.living() {
         Ok(living) => living,
         Err(_) => world.living().expect(rt, "no memory"),
-    }
-}
-
-/// Whether the success marker is there.
-pub fn is_marked(rt: &impl Abort, world: &World) -> bool {
-    match world.marker() {
-        Ok(marker) => marker,
-        Err(_) => world.marker().expect(rt, "no memory"),
-    }
-}
-
-/// The files that a reader sees.
-pub fn shown(rt: &impl Abort, world: &World) -> Vec<VisibleFile> {
-    match world.visible() {
-        Ok(files) => files,
-        Err(_) => world.visible().expect(rt, "no memory"),
     }
 }

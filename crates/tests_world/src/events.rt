@@ -1,6 +1,5 @@
-//! Events that many tests make. A master's store call is answered, and what only one master does the first one does.
+//! Events that many tests make. A master's store call is answered.
 
-use mr_ids::TaskId;
 use mr_world::{Event, Weather};
 
 /// The master of this generation starts. Of what was not flushed nothing stays.
@@ -21,22 +20,5 @@ pub fn store_call(generation: u32) -> Event {
     Event::Duty {
         generation,
         weather: Weather::Calm,
-    }
-}
-
-/// The first master launches an attempt.
-pub fn launch(task: TaskId, node: u32) -> Event {
-    Event::LaunchOn {
-        generation: 1,
-        task,
-        node,
-    }
-}
-
-/// The first master gives a node up.
-pub fn expiry(node: u32) -> Event {
-    Event::Expire {
-        generation: 1,
-        node,
     }
 }

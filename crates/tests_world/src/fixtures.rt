@@ -1,13 +1,13 @@
 //! What the tests begin with: a job of the words of `a b a`, and a run of it.
 
-use crate::again::{applied, due, foreseen, is_marked, shown, winners};
+use crate::again::{applied, due, foreseen};
 use crate::events::{start, store_call};
 use mr_container::Wish;
 use mr_event::{Event, Weather, Why};
-use mr_ids::{AppAttempt, AttemptId, JobId, TaskId, TaskKind};
-use mr_master_model::{DutyName, Phase};
+use mr_ids::{AppAttempt, JobId, TaskId, TaskKind};
+use mr_master_model::Phase;
 use mr_packet::{Bytes, ContainerId};
-use mr_world::{Config, Input, Splits, VisibleFile, World, WorldFault};
+use mr_world::{Config, Input, Splits, World, WorldFault};
 use std::alloc::{AllocError, Global};
 use std::process::Abort;
 
@@ -16,19 +16,8 @@ const BLOCK: [u8; 30] = [
     0, 0, 0, 26, 0, 0, 0, 1, 97, 0, 0, 0, 0, 0, 0, 0, 2, 0, 0, 0, 1, 98, 0, 0, 0, 0, 0, 0, 0, 1,
 ];
 
-/// What it makes for two reduces: a block of `b` with 1, and one of `a` with 2.
-const BLOCKS: [u8; 34] = [
-    0, 0, 0, 13, 0, 0, 0, 1, 98, 0, 0, 0, 0, 0, 0, 0, 1, 0, 0, 0, 13, 0, 0, 0, 1, 97, 0, 0, 0, 0,
-    0, 0, 0, 2,
-];
-
 /// What the one reduce makes of its block.
-pub const TEXT: &[u8] = b"a\t2\nb\t1\n";
-
-/// What the first and the second of two reduces make of theirs.
-const FIRST: &[u8] = b"b\t1\n";
-
-const SECOND: &[u8] = b"a\t2\n";
+const TEXT: &[u8] = b"a\t2\nb\t1\n";
 
 /// How far a run is: its world, how many packets were delivered or passed over, and who stepped last.
 #[derive(Drop)]
@@ -42,11 +31,9 @@ pub struct Run {
 #[derive(Clone, Copy, Debug, PartialEq, Eq)]
 pub enum Stop {
     Never,
-    Before(DutyName),
     BeforeStep,
     BeforeCompute,
     BeforeWrite,
-    BeforeRename,
 }
 
 /// A task of the job.
@@ -58,19 +45,6 @@ pub fn task(kind: TaskKind, number: u32) -> TaskId {
         },
         kind,
         number,
-    }
-}
-
-/// The attempt of this number at reduce 0.
-pub fn attempt(rt: &impl Abort, number: u32) -> AttemptId {
-    attempt_at(rt, 0, number)
-}
-
-/// The attempt of this number at a reduce.
-pub fn attempt_at(rt: &impl Abort, reduce: u32, number: u32) -> AttemptId {
-    match AttemptId::new(task(TaskKind::Reduce, reduce), number) {
-        Some(attempt) => attempt,
-        None => panic!(rt; "no attempt has this number"),
     }
 }
 
@@ -90,49 +64,34 @@ pub fn bytes(rt: &impl Abort, alloc: Global, items: &[u8]) -> Bytes {
     }
 }
 
-/// A job of one map, of the split `a b a`, and of so many reduces, on so many nodes.
-fn config(rt: &impl Abort, alloc: Global, nodes: u32, reduces: u32) -> Result<Config, AllocError> {
+/// A job of one map, of the split `a b a`, and of one reduce, on so many nodes.
+fn config(rt: &impl Abort, alloc: Global, nodes: u32) -> Result<Config, AllocError> {
     let mut splits = Vec::new(alloc);
     let split = Vec::from_slice(alloc, b"a b a")?;
     assert!(rt; split.len() <= 16_777_216);
     splits.push(split)?;
     assert!(rt; nodes >= 1 && nodes <= 64);
-    assert!(rt; reduces >= 1 && reduces <= 2);
     Ok(Config {
         job: task(TaskKind::Map, 0).job,
         splits: Splits::from_vec(splits),
-        reduces,
+        reduces: 1,
         nodes,
         limit: 4,
         v2_from: 1,
     })
 }
 
-/// The opening world of the job of one reduce.
+/// The opening world of the job.
 pub fn world(rt: &impl Abort, alloc: Global, nodes: u32) -> World {
-    opening(rt, alloc, nodes, 1)
-}
-
-/// The opening world of a job.
-fn opening(rt: &impl Abort, alloc: Global, nodes: u32, reduces: u32) -> World {
-    match opened(rt, alloc, nodes, reduces) {
+    match opened(rt, alloc, nodes) {
         Ok(world) => world,
-        Err(_) => opened(rt, alloc, nodes, reduces).expect(rt, "no memory"),
+        Err(_) => opened(rt, alloc, nodes).expect(rt, "no memory"),
     }
 }
 
 /// It, or what refuses it.
-fn opened(rt: &impl Abort, alloc: Global, nodes: u32, reduces: u32) -> Result<World, WorldFault> {
-    World::new(alloc, config(rt, alloc, nodes, reduces)?)
-}
-
-/// A run of the job of so many reduces on one node, before its first event.
-pub fn begun(rt: &impl Abort, alloc: Global, reduces: u32) -> Run {
-    Run {
-        world: opening(rt, alloc, 1, reduces),
-        next: 0,
-        last: None,
-    }
+fn opened(rt: &impl Abort, alloc: Global, nodes: u32) -> Result<World, WorldFault> {
+    World::new(alloc, config(rt, alloc, nodes)?)
 }
 
 /// A run whose first master started.
@@ -158,8 +117,8 @@ pub fn foresees_bytes(
     }
 }
 
-/// The event is taken, as was foreseen. Gives how many packets it added, which are the last ones of the bag.
-pub fn takes(rt: &impl Abort, world: &mut World, event: Event) -> usize {
+/// The event is taken, as was foreseen. The packets that it added are the last ones of the bag.
+pub fn takes(rt: &impl Abort, world: &mut World, event: Event) {
     assert!(rt; foreseen(world, &event).is_ok());
     foresees_bytes(rt, world, &event, Ok(()));
     let before = world.bag().len();
@@ -168,16 +127,9 @@ pub fn takes(rt: &impl Abort, world: &mut World, event: Event) -> usize {
         Ok(took) => {
             assert!(rt; took.first == before);
             assert!(rt; world.journal().len() > length);
-            took.count
         }
         Err(_) => panic!(rt; "refused"),
     }
-}
-
-/// The event is taken, as was foreseen, and adds so many packets.
-pub fn adds(rt: &impl Abort, world: &mut World, event: Event, count: usize) {
-    let added = takes(rt, world, event);
-    assert!(rt; added == count, "{added} packets");
 }
 
 /// The event is not permitted for this reason, as was foreseen, and neither journal nor bag grew.
@@ -199,10 +151,9 @@ pub fn refuses(rt: &impl Abort, world: &mut World, event: Event, want: Why) {
 
 /// Bytes are handed in to the container: what the job makes of what it asks for.
 pub fn computes(rt: &impl Abort, alloc: Global, world: &mut World, c: ContainerId) {
-    let reduces = world.config().reduce_count();
     let made = match world.input(&c) {
-        Some(Input::Map { .. }) => bytes(rt, alloc, output(reduces)),
-        Some(Input::Reduce { reduce, .. }) => bytes(rt, alloc, text(reduces, reduce)),
+        Some(Input::Map { .. }) => bytes(rt, alloc, &BLOCK),
+        Some(Input::Reduce { .. }) => bytes(rt, alloc, TEXT),
         None => panic!(rt; "it does not compute"),
     };
     takes(
@@ -213,31 +164,6 @@ pub fn computes(rt: &impl Abort, alloc: Global, world: &mut World, c: ContainerI
             bytes: made,
         },
     );
-}
-
-/// What the map makes for so many reduces.
-fn output(reduces: u32) -> &'static [u8] {
-    if reduces == 1 {
-        BLOCK.as_slice()
-    } else {
-        BLOCKS.as_slice()
-    }
-}
-
-/// What a reduce of so many makes.
-fn text(reduces: u32, reduce: u32) -> &'static [u8] {
-    if reduces == 1 {
-        TEXT
-    } else if reduce == 0 {
-        FIRST
-    } else {
-        SECOND
-    }
-}
-
-// Whether the file has this name and these bytes.
-fn is_part(file: &VisibleFile, name: &[u8], text: &[u8]) -> bool {
-    file.name.as_bytes() == name && file.bytes.as_slice() == text
 }
 
 impl Run {
@@ -259,8 +185,7 @@ impl Run {
         match stop {
             Stop::BeforeCompute => self.world.wish(c) == Some(Wish::Compute),
             Stop::BeforeWrite => self.world.wish(c) == Some(Wish::Write),
-            Stop::BeforeRename => self.world.wish(c) == Some(Wish::Rename),
-            Stop::Never | Stop::Before(_) | Stop::BeforeStep => false,
+            Stop::Never | Stop::BeforeStep => false,
         }
     }
 
@@ -269,10 +194,7 @@ impl Run {
         if self.delivers(rt) {
             return true;
         }
-        if let Some(duty) = due(rt, &self.world, k) {
-            if stop == Stop::Before(duty) {
-                return false;
-            }
+        if due(rt, &self.world, k).is_some() {
             takes(rt, &mut self.world, store_call(k));
             return true;
         }
@@ -331,63 +253,5 @@ impl Run {
             );
         }
         true
-    }
-
-    /// The job succeeded: the winner of its reduce is the attempt of this number, and its one visible file is the text.
-    pub fn succeeded(&self, rt: &impl Abort, number: u32) {
-        self.ended(rt, true, true);
-        self.is_won_by(rt, number);
-        self.shows_the_file(rt);
-    }
-
-    /// The winner of the one reduce is the attempt of this number.
-    pub fn is_won_by(&self, rt: &impl Abort, number: u32) {
-        let won = winners(rt, &self.world);
-        assert!(rt; won.as_slice() == [Some(attempt(rt, number))].as_slice());
-    }
-
-    /// The job of two reduces succeeded: the winners are the attempts of these numbers.
-    pub fn both_succeeded(&self, rt: &impl Abort, first: u32, second: u32) {
-        self.ended(rt, true, true);
-        self.are_won_by(rt, first, Some(second));
-        self.shows_both_files(rt);
-    }
-
-    /// The job of two reduces failed: the first attempt won reduce 0, none won reduce 1, and no file is visible.
-    pub fn failed(&self, rt: &impl Abort) {
-        self.ended(rt, false, false);
-        self.are_won_by(rt, 0, None);
-        assert!(rt; shown(rt, &self.world).is_empty());
-    }
-
-    // The winners of two reduces are the attempts of these numbers.
-    fn are_won_by(&self, rt: &impl Abort, first: u32, second: Option<u32>) {
-        let won = winners(rt, &self.world);
-        let second = match second {
-            Some(number) => Some(attempt_at(rt, 1, number)),
-            None => None,
-        };
-        assert!(rt; won.as_slice() == [Some(attempt(rt, first)), second].as_slice());
-    }
-
-    /// Whether the success marker is there, and which outcome was told first.
-    pub fn ended(&self, rt: &impl Abort, marked: bool, succeeded: bool) {
-        assert!(rt; is_marked(rt, &self.world) == marked);
-        assert!(rt; self.world.outcome() == Some(succeeded));
-    }
-
-    /// The visible files of a job of one reduce: its text.
-    pub fn shows_the_file(&self, rt: &impl Abort) {
-        let files = shown(rt, &self.world);
-        assert!(rt; files.len() == 1);
-        assert!(rt; is_part(&files[0], b"part-r-00000", TEXT));
-    }
-
-    /// The visible files of a job of two reduces: their texts.
-    pub fn shows_both_files(&self, rt: &impl Abort) {
-        let files = shown(rt, &self.world);
-        assert!(rt; files.len() == 2);
-        assert!(rt; is_part(&files[0], b"part-r-00000", FIRST));
-        assert!(rt; is_part(&files[1], b"part-r-00001", SECOND));
     }
 }

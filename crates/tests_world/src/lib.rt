@@ -4,10 +4,6 @@
 #[cfg(test)]
 mod again;
 #[cfg(test)]
-mod calls;
-#[cfg(test)]
-mod cuts;
-#[cfg(test)]
 mod events;
 #[cfg(test)]
 mod fixtures;
@@ -17,11 +13,5 @@ mod limits;
 mod readings;
 #[cfg(test)]
 mod refusals;
-#[cfg(test)]
-mod restarts;
-#[cfg(test)]
-mod runs;
-#[cfg(test)]
-mod sweeps;
 #[cfg(test)]
 mod texts;

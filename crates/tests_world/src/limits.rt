@@ -1,11 +1,8 @@
 //! Events that would pass a limit: each is refused so, and nothing has changed.
 
 use crate::again::{applied, foreseen};
-use crate::events::{crash, expiry, launch, start};
-use crate::fixtures::{
-    Run, Stop, adds, computes, container, foresees_bytes, started, takes, task, world,
-};
-use mr_ids::TaskKind;
+use crate::events::start;
+use crate::fixtures::{Run, Stop, computes, container, foresees_bytes, started, takes, world};
 use mr_packet::Bytes;
 use mr_world::{Event, Weather, World, WorldFault};
 use std::alloc::Global;
@@ -115,40 +112,4 @@ fn map_output_is_too_long(rt: HostRuntime) {
     is_too_much(&rt, &mut run.world, computed(&rt, 0, long));
     let most = one_block(&rt, alloc, 16_777_212, [0, 255, 255, 252]);
     takes(&rt, &mut run.world, computed(&rt, 0, most));
-}
-
-// A master runs, its map is done and reports so, and another attempt of it was launched: neither packet has come. Restarts of the node
-// tell a thousand masters, and the last one those that are left: the bag is full.
-fn full(rt: &impl Abort, alloc: Global) -> World {
-    let mut run = started(rt, alloc, 1);
-    run.calms(rt, alloc, 1, Stop::BeforeStep);
-    let mut world = run.world;
-    computes(rt, alloc, &mut world, container(rt, 0));
-    takes(rt, &mut world, step(rt, 0, Weather::Calm));
-    takes(rt, &mut world, launch(task(TaskKind::Map, 0), 0));
-    assert!(rt; world.bag().len() == 3);
-    masters_start(rt, &mut world, 2);
-    for _ in 0..999 {
-        takes(rt, &mut world, Event::NodeRestart { node: 0 });
-    }
-    for generation in 998..=1000 {
-        takes(rt, &mut world, crash(generation, 0));
-    }
-    takes(rt, &mut world, Event::NodeRestart { node: 0 });
-    assert!(rt; world.bag().len() == 1_000_000);
-    world
-}
-
-// The master would answer the report, and the node the launch, which is for another incarnation; who gives the node up kills what it
-// launched there; a launch and a restart send a packet, too. A packet that nobody answers is delivered. Fails where one of these passes
-// a full bag, or is refused by another fault, or where a delivery that sends nothing is refused.
-#[test]
-fn bag_is_full(rt: HostRuntime) {
-    let mut world = full(&rt, rt.alloc());
-    is_too_much(&rt, &mut world, Event::Deliver { packet: 1 });
-    is_too_much(&rt, &mut world, Event::Deliver { packet: 2 });
-    is_too_much(&rt, &mut world, expiry(0));
-    is_too_much(&rt, &mut world, launch(task(TaskKind::Reduce, 0), 0));
-    is_too_much(&rt, &mut world, Event::NodeRestart { node: 0 });
-    adds(&rt, &mut world, Event::Deliver { packet: 4 }, 0);
 }
