@@ -24,6 +24,7 @@ pub mod Losing
 pub mod Distinct
 pub mod Aborts
 pub mod Steps
+pub mod Unboxed
 pub mod Taken
 pub mod Called
 pub mod GivenUp

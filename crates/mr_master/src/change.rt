@@ -3,6 +3,7 @@ ghost use Rattle.std.specs.Prelude.{◌≡◌};
 ghost use Rattle.mr_master.specs.Prepared.{room_of};
 ghost use Rattle.mr_master.specs.Told.{due_count};
 
+use crate::boxed::Boxed;
 use crate::ending::{Blame, Ending};
 use crate::tasks::Tasks;
 use crate::work::Work;
@@ -13,7 +14,7 @@ use mr_master_model::Launch;
 use mr_tables::{Earlier, Nodes};
 use mr_task::{DoneReply, TaskMachine};
 
-/// What changes. To make it takes no memory.
+/// What changes. To make it takes no memory. What is large stands in a box, since a change is moved often.
 #[derive(Drop)]
 pub enum Change {
     Nothing,
@@ -22,12 +23,12 @@ pub enum Change {
     /// The committer's table goes on with these lines.
     GoesOn(Following),
     /// The earlier segments were read.
-    HasRead(Earlier, Work),
+    HasRead(Boxed<Earlier>, Work),
     /// A reduce was taken over: the machine at this place is this one from then on. To the work that is next are moved the reduces that are
     /// left after its own.
-    EntersOne(usize, TaskMachine, Work),
+    EntersOne(usize, Boxed<TaskMachine>, Work),
     /// The master begins to run: these are the machines of the tasks from then on.
-    Enters(Tasks, Work),
+    Enters(Boxed<Tasks>, Work),
     /// An attempt was barred: it ends.
     Dies(AttemptId),
     /// The first record due was appended.
@@ -37,7 +38,7 @@ pub enum Change {
     /// The attempt, whose task's machine is at this place, is heard of.
     Hears(usize, AttemptId),
     /// It asks: the machine of its task is this one from then on.
-    Asks(usize, AttemptId, TaskMachine),
+    Asks(usize, AttemptId, Boxed<TaskMachine>),
     /// It says that it is done, which is answered so: where it is accepted now, this record is due.
     Reports(usize, AttemptId, DoneReply, Option<Record>),
     /// It ended so, by whose failure.
@@ -47,7 +48,7 @@ pub enum Change {
     /// A node is known in this incarnation: what is known of the nodes then, the attempts that end, and those whose outputs are lost.
     Knows(u32, u32, Nodes, Vec<AttemptId>, Vec<AttemptId>),
     /// The attempt is launched so: the machine of its task, at this place, is this one from then on.
-    Launches(usize, AttemptId, TaskMachine, Launch),
+    Launches(usize, AttemptId, Boxed<TaskMachine>, Launch),
     /// A node is given up: the attempts that end, those whose outputs are lost, and those whose bars are due, if they were not.
     GivesUp(Vec<AttemptId>, Vec<AttemptId>, Vec<AttemptId>),
 }

@@ -16,6 +16,7 @@ ghost use Rattle.mr_master.specs.Refused.{MOST_CONTAINERS, launch_error};
 ghost use Rattle.mr_master.specs.Taking.{IsTold};
 ghost use Rattle.mr_master.specs.Tasks.{AnswersAt};
 
+use crate::boxed::Boxed;
 use crate::change::Change;
 use crate::machine::Machine;
 use crate::places::place_of;
@@ -89,7 +90,8 @@ impl Machine {
         requires { place < length self.now.tasks.machines }
         ensures { IfOk result (λ prepared. LaunchesNext self.now place launch prepared) }
     {
-        let (attempt, machine) = self.tasks.launched(place)?;
+        let (attempt, launched) = self.tasks.launched(place)?;
+        let machine = Boxed::new(self.alloc, launched)?;
         let prepared = Prepared::of_one(
             self.alloc,
             told(attempt, &launch),
@@ -118,7 +120,7 @@ impl Machine {
         &mut self,
         place: usize,
         attempt: AttemptId,
-        machine: TaskMachine,
+        machine: Boxed<TaskMachine>,
         launch: Launch,
     )
         requires at { LaunchesAt self.old place attempt machine }
@@ -126,7 +128,7 @@ impl Machine {
         ensures { MovesOn self.old (λ w s. with_launch (tell s attempt.task Launches) attempt launch) self.new }
     {
         let node = launch.node;
-        self.tasks.put(place, machine);
+        self.tasks.put(place, machine.into_inner());
         self.launches.push_reserved(attempt, launch);
         self.writing
             .push_reserved(Record::AttemptStarted { attempt, node });

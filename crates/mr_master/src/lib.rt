@@ -33,6 +33,7 @@
 
 mod answer;
 mod bars;
+mod boxed;
 mod change;
 mod copy;
 mod duty;

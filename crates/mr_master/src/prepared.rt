@@ -11,6 +11,7 @@ ghost use Rattle.mr_master.specs.WorkKinds.{left_of, with_left, others_of, with_
 ghost use Rattle.mr_master.specs.Taking.{winner_of, after_winner, after_table, EntersAt, KeepsAfter};
 ghost use Rattle.mr_master_model.specs.Readings.{is_running};
 
+use crate::boxed::Boxed;
 use crate::change::{Change, Room};
 use crate::machine::Machine;
 use crate::tasks::Tasks;
@@ -216,29 +217,29 @@ impl Machine {
     }
 
     // The earlier segments were read.
-    fn has_read(&mut self, records: Earlier, work: Work)
+    fn has_read(&mut self, records: Boxed<Earlier>, work: Work)
         ensures { Moves self.old (λ w s. record s { earlier = records; work = work }) self.new }
     {
-        self.earlier = records;
+        self.earlier = records.into_inner();
         self.work.set(work);
     }
 
     // The task at this place has this machine from then on: a reduce was taken over, and others are left.
-    fn enters_one(&mut self, place: usize, machine: TaskMachine, work: Work)
+    fn enters_one(&mut self, place: usize, machine: Boxed<TaskMachine>, work: Work)
         requires { EntersAt self.old place machine }
         ensures { Moves self.old (λ w s. record s { calls = (after_winner s (winner_of s.work)).calls; work = with_others work (drop 1 (others_of s.work)) }) self.new }
     {
         let alloc = self.alloc;
-        self.tasks.put(place, machine);
+        self.tasks.put(place, machine.into_inner());
         self.work.move_on(alloc, work);
     }
 
     // The tasks have these machines from then on.
-    fn enters(&mut self, tasks: Tasks, work: Work)
+    fn enters(&mut self, tasks: Boxed<Tasks>, work: Work)
         requires { KeepsAfter self.old (winner_of self.old.work) (is_running work) tasks }
         ensures { Moves self.old (λ w s. record s { calls = (after_table w s (winner_of s.work) (is_running work)).calls; work = work }) self.new }
     {
-        self.tasks = tasks;
+        self.tasks = tasks.into_inner();
         self.work.set(work);
     }
 

@@ -98,6 +98,9 @@ fn mark(tree: &mut Vec<bool>, size: usize, place: usize, on: bool)
     ensures others { (j : ℕ) → size ≤ j → (j ≡ size + place → ⊥) → slice_index_or tree.new.items j false ≡ slice_index_or tree.old.items j false }
 {
     let leaf = size + place;
+    if tree[leaf] == on {
+        return;
+    }
     tree[leaf] = on;
     let mut node = leaf / 2;
     while node > 0 {

@@ -8,6 +8,7 @@ ghost use Rattle.mr_master_model.specs.Answered.{is_unsuccessful};
 ghost use Rattle.mr_master.specs.WorkKinds.{is_read, records_in};
 ghost use Rattle.mr_master.specs.Prepared.{PlansDue};
 
+use crate::boxed::Boxed;
 use crate::change::Change;
 use crate::machine::Machine;
 use crate::prepared::Prepared;
@@ -27,7 +28,8 @@ impl Machine {
             return Ok(Prepared::silent(self.alloc, Change::Becomes(Work::stopped())));
         };
         let next = read_work(&self.setting, records.as_slice())?;
-        let earlier = Earlier::of(self.alloc, records)?;
+        let read = Earlier::of(self.alloc, records)?;
+        let earlier = Boxed::new(self.alloc, read)?;
         Ok(Prepared::silent(self.alloc, Change::HasRead(earlier, next)))
     }
 }

@@ -8,6 +8,7 @@ ghost use Rattle.mr_master.specs.State.{Reads};
 ghost use Rattle.mr_master.specs.Taking.{winner_of, won_of, after_winner, after_table};
 ghost use Rattle.mr_master.specs.Prepared.{Plans, PlansDue};
 
+use crate::boxed::Boxed;
 use crate::change::Change;
 use crate::machine::Machine;
 use crate::places::place_in_job;
@@ -67,7 +68,8 @@ impl Machine {
         requires placed { IsPlaced self.now }
         ensures { IfOk result (λ ready. Plans self.now ready (λ w s. won_of w (winner_of s.work)) (λ w s. record s { calls = (after_table w s (winner_of s.work) (is_running next)).calls; work = next })) }
     {
-        let tasks = self.tasks_after()?;
+        let after = self.tasks_after()?;
+        let tasks = Boxed::new(self.alloc, after)?;
         let packets = self.won_packets()?;
         Ok(Prepared::new(packets, Change::Enters(tasks, next)))
     }
@@ -79,7 +81,8 @@ impl Machine {
         ensures { IfOk result (λ ready. Plans self.now ready (λ w s. won_of w (winner_of s.work)) (λ w s. record s { calls = (after_winner s (winner_of s.work)).calls; work = with_others next (drop 1 (others_of s.work)) })) }
     {
         let place = place_in_job(&self.setting, winner.task);
-        let machine = self.tasks.recovered(place, winner.attempt)?;
+        let recovered = self.tasks.recovered(place, winner.attempt)?;
+        let machine = Boxed::new(self.alloc, recovered)?;
         let packets = self.won_packets()?;
         Ok(Prepared::new(packets, Change::EntersOne(place, machine, next)))
     }

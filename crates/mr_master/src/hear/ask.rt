@@ -10,6 +10,7 @@ ghost use Rattle.mr_master.specs.Taking.{IsTold};
 ghost use Rattle.mr_master.specs.Prepared.{IsAt, Plans};
 ghost use Rattle.mr_master.specs.State.{Moves};
 
+use crate::boxed::Boxed;
 use crate::change::Change;
 use crate::machine::Machine;
 use crate::prepared::Prepared;
@@ -60,7 +61,8 @@ impl Machine {
             return Ok(Prepared::silent(self.alloc, Change::Nothing));
         };
         let may = self.tasks.would_name(place, attempt);
-        let machine = self.tasks.asked(place, attempt)?;
+        let asked = self.tasks.asked(place, attempt)?;
+        let machine = Boxed::new(self.alloc, asked)?;
         let ready = Prepared::of_one(
             self.alloc,
             answer(launch.container, attempt, may),
@@ -70,12 +72,12 @@ impl Machine {
     }
 
     // The attempt asked.
-    pub fn asks(&mut self, place: usize, attempt: AttemptId, machine: TaskMachine)
+    pub fn asks(&mut self, place: usize, attempt: AttemptId, machine: Boxed<TaskMachine>)
         requires at { IsAt self.old place attempt }
         requires told { IsTold self.old.tasks.machines place (Asks attempt) machine }
         ensures { Moves self.old (λ w s. tell s attempt.task (Asks attempt)) self.new }
     {
-        self.tasks.put(place, machine);
+        self.tasks.put(place, machine.into_inner());
     }
 }
 

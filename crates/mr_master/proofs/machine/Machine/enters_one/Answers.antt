@@ -10,12 +10,13 @@ use Rattle.mr_master.specs.State.{Master}
 use Rattle.mr_master.proofs.Keeping.{held}
 use Rattle.mr_master.proofs.Parts.{with-work, with-tasks}
 use Rattle.mr_master.proofs.Taken.{winner-enters}
+use Rattle.mr_master.proofs.Unboxed.{same-told}
 use Rattle.mr_master.proofs.machine.Machine.enters_one.Goals as goal
 
 pub put-requires : goal.put-requires
 put-requires c =
     let e = subst (λ (x : Master). EntersAt x c.args.place c.args.machine) (sym c.self.view_is) c.requires in
-    (Recovers e.winner.attempt, e.told)
+    (Recovers e.winner.attempt, same-told c.into_inner.ensures e.told)
 
 pub returns : goal.returns
 returns c = λ w s keeps. let k = held c.self.view_is keeps in
@@ -25,4 +26,4 @@ returns c = λ w s keeps. let k = held c.self.view_is keeps in
     with-work c.move_on.new.self (with_others c.args.work (drop 1 (others_of s.work)))
     (c.move_on.ensures ∙ ap (λ (x : Work). with_others c.args.work (drop 1 (others_of x))) k.work)
     (with-tasks c.put.new.self (calls_with (winner_of s.work) s.calls)
-    (winner-enters _ c.put.new.self w e.winner (winner_of s.work) c.args.place s.calls (e.is ∙ ap (λ (x : Work). winner_of x) k.work) (own, at) (c.put.ensures (Recovers e.winner.attempt) e.told) k.tasks) k)
+    (winner-enters _ c.put.new.self w e.winner (winner_of s.work) c.args.place s.calls (e.is ∙ ap (λ (x : Work). winner_of x) k.work) (own, at) (c.put.ensures (Recovers e.winner.attempt) (same-told c.into_inner.ensures e.told)) k.tasks) k)

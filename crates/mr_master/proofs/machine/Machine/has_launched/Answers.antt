@@ -6,15 +6,16 @@ use Rattle.mr_master.specs.Taking.{IsTold}
 use Rattle.mr_master.specs.State.{Master}
 use Rattle.mr_master.proofs.Keeping.{held}
 use Rattle.mr_master.proofs.Entering.{launched-keeps}
+use Rattle.mr_master.proofs.Unboxed.{same-told}
 use Rattle.mr_master.proofs.machine.Machine.has_launched.Goals as goal
 
 pub put-requires : goal.put-requires
-put-requires c = (Launches, subst (λ (x : Master). IsTold x.tasks.machines c.args.place Launches c.args.machine) (sym c.self.view_is) c.requires.at.told)
+put-requires c = (Launches, same-told c.into_inner.ensures (subst (λ (x : Master). IsTold x.tasks.machines c.args.place Launches c.args.machine) (sym c.self.view_is) c.requires.at.told))
 
 pub returns : goal.returns
 returns c = λ w s keeps spared.
     let a = c.args.attempt in
-    let told = subst (λ (x : Master). IsTold x.tasks.machines c.args.place Launches c.args.machine) (sym c.self.view_is) c.requires.at.told in
+    let told = same-told c.into_inner.ensures (subst (λ (x : Master). IsTold x.tasks.machines c.args.place Launches c.args.machine) (sym c.self.view_is) c.requires.at.told) in
     let new = subst (λ (x : Master). lookup (same_attempt a) x.launches.entries ≡ None) (sym c.self.view_is) c.requires.at.new in
     launched-keeps w s c.args.place a c.args.launch c.put.new.self c.push_reserved.new.self c.push_reserved-2.new.self
     (held c.self.view_is keeps) (c.requires.at.at.own w s keeps) (c.requires.at.at.at w s keeps) (c.put.ensures Launches told)

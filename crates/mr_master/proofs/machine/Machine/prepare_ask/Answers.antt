@@ -6,6 +6,7 @@ use Rattle.mr_master.specs.Prepared.{Plans}
 use Rattle.mr_master.specs.State.{Master}
 use Rattle.mr_master.proofs.Keeping.{held, none-mapped}
 use Rattle.mr_master.proofs.Planned.{nothing-asked, plan-ask}
+use Rattle.mr_master.proofs.Unboxed.{same-told}
 use Rattle.mr_master.proofs.machine.Machine.prepare_ask.Goals as goal
 
 pub returns-in_default : goal.returns-in_default
@@ -20,4 +21,4 @@ returns c =
     (plan-ask a c.in-Some.place c.in-Some.launch c.would_name-may.result y c.answer.result c.in_ok-ready.ensures c.answer.ensures
     (subst (λ (x : Master). c.in-Some.place < length x.tasks.machines) (sym c.self.view_is) c.in-Some.ensures.within)
     (λ w s k. c.in-Some.ensures.known w s (held (sym c.self.view_is) k))
-    c.would_name-may.ensures c.in_ok-machine.ensures)
+    c.would_name-may.ensures (same-told c.in_ok-machine.ensures c.in_ok-asked.ensures))

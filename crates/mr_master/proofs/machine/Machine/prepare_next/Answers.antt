@@ -2,16 +2,17 @@ use Rattle.std.proofs.Common.{[], ◌∷◌, subst, ◌∙◌}
 use Rattle.mr_master.specs.declared.change.Change.TheVariants as change
 use Rattle.mr_master.specs.inner.Launching.{LaunchesNext}
 use Rattle.mr_master.specs.State.{Master}
+use Rattle.mr_master.proofs.Unboxed.{same-told}
 use Rattle.mr_master.proofs.machine.Machine.prepare_next.Goals as goal
 
 pub returns : goal.returns
 returns c =
     let a = c.in_ok-attempt.attempt in
-    let y = c.in_ok-attempt.machine in
+    let y = c.in_ok-machine.machine in
     subst (λ (x : Master). LaunchesNext x c.args.place c.args.launch c.in_ok-prepared.prepared) c.self.view_is (record {
       attempt = a;
       machine = y;
       is = c.in_ok-prepared.ensures ∙ (λ j. record { packets = c.told.ensures j ∷ []; change = change.Launches c.args.place a y c.args.launch });
       answers = c.in_ok-attempt.ensures.attempt;
-      told = c.in_ok-attempt.ensures.told;
+      told = same-told c.in_ok-machine.ensures c.in_ok-attempt.ensures.told;
     })

@@ -4,6 +4,7 @@ use Rattle.mr_master.specs.Taking.{winner_of, EntersAt}
 use Rattle.mr_master.specs.State.{Master}
 use Rattle.mr_master.specs.inner.Placed.{IsPlaced}
 use Rattle.mr_master.proofs.Made.{plan-as}
+use Rattle.mr_master.proofs.Unboxed.{same-told}
 use Rattle.mr_master.proofs.machine.Machine.ready_winner.Goals as goal
 
 pub recovered-requires : goal.recovered-requires
@@ -19,7 +20,7 @@ returns c =
     let is = subst (λ (v : Master). Some x ≡ winner_of v.work) (sym c.self.view_is) c.requires.winner in
     let p = subst (λ (v : Master). IsPlaced v) (sym c.self.view_is) c.requires.placed x is in
     let i = c.place_in_job-place.result in
-    plan-as c.in_ok-packets.packets.items (change.EntersOne i c.in_ok-machine.machine c.args.next) c.new.ensures
+    plan-as c.in_ok-packets.packets.items (change.EntersOne i c.in_ok-machine.machine c.args.next) c.new-2.ensures
     (subst (λ (v : Master). EntersAt v i c.in_ok-machine.machine) c.self.view_is
-    (record { winner = x; told = c.in_ok-machine.ensures; is = is; own = p.0; at = c.place_in_job-place.ensures }))
+    (record { winner = x; told = same-told c.in_ok-machine.ensures c.in_ok-recovered.ensures; is = is; own = p.0; at = c.place_in_job-place.ensures }))
     c.in_ok-packets.ensures (λ w s keeps. refl)
