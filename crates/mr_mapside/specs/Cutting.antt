@@ -9,13 +9,13 @@ use Rattle.mr_mapside.specs.Block.{framed}
 abbrev pub IsShort : List ℕ → Type 0
 IsShort block = length block < 2 ^ 32
 
--- bytes are so many blocks, each behind its length, and nothing else
+-- bytes are this many blocks, each behind its length, and nothing else
 pub record AreBlocks (bytes : List ℕ) (count : ℕ) (blocks : List (List ℕ)) : Type 0 where
   pub whole : bytes ≡ flat_map framed blocks
   pub many : length blocks ≡ count
   pub short : AllByRecursion IsShort blocks
 
--- the first so many bytes, and the bytes after them
+-- the first bytes, as many as is said, and the bytes after them
 abbrev pub parted : ℕ → List ℕ → Option (List ℕ × List ℕ)
 parted len bytes = cond (nat_lt (length bytes) len) None (Some (take len bytes, drop len bytes))
 
@@ -23,7 +23,7 @@ parted len bytes = cond (nat_lt (length bytes) len) None (Some (take len bytes, 
 abbrev pub first_block : List ℕ → Option (List ℕ × List ℕ)
 first_block bytes = option_and_then (λ found. parted (from_be_bytes w32 found.0) found.1) (parted 4 bytes)
 
--- the blocks of bytes that are so many
+-- the blocks of bytes that are this many blocks
 abbrev pub cut : ℕ → List ℕ → Option (List (List ℕ))
 cut zero [] = Some []
 cut zero (b ∷ bytes) = None

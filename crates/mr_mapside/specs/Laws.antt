@@ -5,7 +5,7 @@ use Rattle.mr_user.specs.Computation.{Computation}
 use Rattle.mr_mapside.specs.Block.{block, map_output}
 use Rattle.mr_mapside.specs.Cutting.{AreBlocks}
 
--- bytes are so many blocks in one way alone
+-- bytes are a number of blocks in one way alone
 abbrev pub BlocksAreOne : Type 0
 BlocksAreOne = (bytes : List ℕ) (count : ℕ) (blocks others : List (List ℕ)) → AreBlocks bytes count blocks → AreBlocks bytes count others → blocks ≡ others
 

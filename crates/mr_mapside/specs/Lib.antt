@@ -1,4 +1,5 @@
--- What a map work gives to the reduces, and which bytes that is. Read Block, Cutting and Runs in this order; Work has the faults, and Laws what follows.
+-- What a map work gives to the reduces, and which bytes that is. Read Block, Cutting and Runs in this order. Work has
+-- the faults, and Laws what follows.
 pub mod Block
 pub mod Cutting
 pub mod Laws

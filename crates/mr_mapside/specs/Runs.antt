@@ -1,5 +1,5 @@
--- Runs: pairs by rising keys, kept as they are written, and merged by key (our own profile; the values of a key come by run and
--- then by place).
+-- Runs: pairs by rising keys, kept as they are written, and merged by key. The values of a key come by run and then
+-- by place. Our own profile.
 use Rattle.std.specs.Prelude.{◌≡◌, ℕ, IsTrue, zero, suc, ◌+◌, nat_eq, cond, false, List, [], ◌∷◌, length, drop, Option, Some, None}
 use Rattle.std.specs.Option.{option_map, option_map_or, option_and_then}
 use Rattle.std.specs.List.{flat_map, starts_with, AllByRecursion}
@@ -55,7 +55,8 @@ module _ {K V : Type 0} (job : Computation K V) where
   abbrev pub merged : List (List ℕ) → List (K × List V)
   merged lists = groups_of job.cmp (pairs_in_all lists)
 
--- What is given where the groups of the first list were to come and those of the second are left: the first of them, or none.
+-- What is given, where the groups of the first list were to come and those of the second are left. It is the first
+-- group that was to come, or none.
 abbrev pub GivesGroup : {K V W : Type 0} → (W → List V) → List (K × List V) → Option (K × W) → List (K × List V) → Type 0
 GivesGroup values before None after = (before ≡ []) × (after ≡ [])
 GivesGroup values before (Some group) after = before ≡ (group.0, values group.1) ∷ after

@@ -25,8 +25,8 @@ FullIf (Shuffle fault) bytes = ⊥
 FullIf Full bytes = 2 ^ 24 < length bytes
 FullIf NoMemory bytes = Unit {0}
 
--- a map work's fault, where the output is none or some bytes: the gate's, where the gate may refuse; a refused line, where
--- one is refused; bytes that pass what an output may have; or an allocation failure
+-- A map work's fault, where the output is none or some bytes. It is the gate's, where the gate may refuse, or a
+-- refused line, where one is refused. Or the bytes pass what an output may have, or it is an allocation failure.
 abbrev pub MapFaultIs : (GateRefuses : Type 0) → WorkFault → Option (List ℕ) → Type 0
 MapFaultIs GateRefuses (User fault) output = RefusedWhere fault (output ≡ None)
 MapFaultIs GateRefuses (Gate fault) output = GateRefuses

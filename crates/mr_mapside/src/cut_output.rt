@@ -47,8 +47,8 @@ impl CutOutput {
         Ok(CutOutput { output, places })
     }
 
-    /// The block of a reduce, where the bytes are as many blocks as there are reduces. None where they are not, and where
-    /// there is no such reduce. It takes the same time for each reduce.
+    /// The block of a reduce, where the bytes are as many blocks as there are reduces. None where the bytes are not,
+    /// and where there is no such reduce. It takes the same time for each reduce.
     pub fn block(&self, reduces: u32, reduce: u32) -> Option<&[u8]>
         ensures { option_map (λ block. block.now) result ≡ option_and_then (λ blocks. slice_get blocks reduce) (cut reduces self.now) }
     {
@@ -79,7 +79,7 @@ impl Clone for CutOutput {
     }
 }
 
-// The places of the blocks that bytes are, however many; none where the bytes are no whole blocks.
+// The places of the blocks that bytes are, however many these are; none where the bytes are no whole blocks.
 fn places_of(alloc: Global, bytes: &[u8]) -> Result<Option<Vec<Place>>, AllocError>
     requires { length bytes.now ≤ 16777216 }
     ensures { IfOk result (λ places. ArePlaces bytes.now (option_map (λ places. places.items) places)) }

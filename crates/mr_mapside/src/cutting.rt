@@ -1,5 +1,5 @@
 //! The blocks of a map's output.
-//! Bytes are cut into one block for each reduce, and no memory is taken.
+//! Bytes are cut into one block for each reduce.
 ghost use Rattle.std.specs.Prelude.{◌≡◌, ℕ, List, length, IfSome, Some};
 ghost use Rattle.std.specs.Option.{option_map, IfNone};
 ghost use Rattle.std.specs.List.{slice_get};
@@ -35,7 +35,7 @@ impl<'a> OutputBlocks<'a> {
         self.count
     }
 
-    /// The block of a reduce; none where there are not so many blocks.
+    /// The block of a reduce; none where there is no such block.
     /// It walks over the blocks before it.
     pub fn get(&self, reduce: u32) -> Option<&'a [u8]>
         ensures { option_map (λ block. block.now) result ≡ slice_get self.now reduce }
@@ -53,8 +53,8 @@ impl<'a> OutputBlocks<'a> {
     }
 }
 
-/// Cuts bytes into blocks, one for each reduce: some exactly where the bytes are so many blocks,
-/// each behind its length, and nothing else. It takes no memory.
+/// Cuts bytes into blocks, one for each reduce. It is some exactly where the bytes are that many blocks, each behind
+/// its length, and nothing else.
 pub fn blocks(bytes: &[u8], reduces: u32) -> Option<OutputBlocks<'_>>
     ensures value { result ≡ cut reduces bytes.now }
     ensures some { IfSome result (λ blocks. AreBlocks bytes.now reduces blocks) }

@@ -1,5 +1,6 @@
 //! The runs that a map keeps of its pairs.
-//! So many pairs at a time are sorted, shared out among the reduces and kept as bytes, which `work` merges at the end.
+//! Each time that `RUN_LEN` pairs are there, they are sorted, shared out among the reduces and kept as bytes. `work`
+//! merges these at the end.
 ghost use Rattle.std.specs.Prelude.{◌≡◌, ◌≤◌, ◌<◌, ◌++◌, ◌∷◌, [], List, length, map, Some, None, IfOk, IfErr, OnOk};
 ghost use Rattle.std.specs.List.{AllByRecursion};
 ghost use Rattle.mr_user.specs.Computation.{computation};
@@ -14,7 +15,7 @@ use std::alloc::{AllocError, Global};
 use std::marker::Model;
 use std::mem;
 
-// So many pairs make a run.
+// How many pairs make a run.
 const RUN_LEN: usize = 4096;
 
 // The runs for one reduce, each as it is written. Contracts see them as a list of lists of bytes.
@@ -128,7 +129,7 @@ fn add_pairs<J: Job>(
     Ok(())
 }
 
-// No runs, for so many reduces.
+// For each reduce no runs.
 fn no_runs(alloc: Global, reduces: u32) -> Result<Vec<KeptRuns>, AllocError>
     ensures many { IfOk result (λ kept. length kept.items ≡ reduces) }
     ensures empty { IfOk result (λ kept. AllByRecursion (λ runs. runs ≡ []) kept.items) }

@@ -60,8 +60,9 @@ fn add_front<J: Job>(
     }
 }
 
-/// The value of the pair at the front of bytes, and the pair's length, where the bytes begin with a key as it is written: the key is not
-/// read. None where they do not, and where no value follows it. Answers no fault but an allocation failure.
+/// The value of the pair at the front of bytes, and the pair's length, where the bytes begin with a key as it is
+/// written. The key is not read. None where the bytes do not begin so, and where no value follows the key. Answers no
+/// fault but an allocation failure.
 pub fn read_value<J: Job>(
     alloc: Global,
     key: &J::Key,
@@ -84,7 +85,8 @@ pub fn read_value<J: Job>(
     }
 }
 
-// Whether bytes begin with a name. Most of those that do not differ in its last byte, so that one is looked at first.
+// Whether bytes begin with a name. Most bytes that do not begin with it differ in its last byte, so that one is
+// looked at first.
 fn begins_with(bytes: &[u8], name: &[u8]) -> bool
     ensures { result ≡ starts_with nat_eq bytes.now name.now }
 {
@@ -105,7 +107,8 @@ fn no_memory(fault: UserFault) -> Result<(), AllocError>
     }
 }
 
-// Takes the first bytes of a list off it, then the pairs of a key that follow them, and adds the pair that is then its first.
+// Takes the first bytes of a list off it, then the pairs of a key that follow them, and adds the pair that is then
+// its first.
 fn take_run<'a, J: Job>(
     alloc: Global,
     lists: &mut Vec<&'a [u8]>,
@@ -201,9 +204,9 @@ fn take_group<'a, J: Job>(
     Ok(Some((key, values)))
 }
 
-/// The groups of runs: the keys in any run, rising, each with all its values by run and then by place. It holds one pair of
-/// each run at a time, beside the values of the group that it gives. For n pairs in m runs it compares keys n log m times.
-/// Contracts see the groups that are still to come.
+/// The groups of runs: the keys in any run, rising, each with all its values by run and then by place. It holds one
+/// pair of each run at a time, beside the values of the group that it gives. For n pairs in m runs it compares keys n
+/// log m times. Contracts see the groups that are still to come.
 #[derive(Drop)]
 pub struct RunGroups<'a, J: Job> {
     lists: Vec<&'a [u8]>,
@@ -237,7 +240,8 @@ impl<'a, J: Job> RunGroups<'a, J> {
         Ok(RunGroups { lists, fronts })
     }
 
-    /// The next group. Answers no fault but an allocation failure, and that only where a group was to come; then nothing comes after it.
+    /// The next group. Its only fault is an allocation failure, and that only where a group was to come. Nothing
+    /// comes after it.
     pub fn next_group(
         &mut self,
         alloc: Global,

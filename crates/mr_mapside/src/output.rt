@@ -1,4 +1,5 @@
-//! What a map work gives: the blocks of all reduces in one list of bytes, for the map's node to keep and for reduces to fetch from.
+//! What a map work gives: the blocks of all reduces in one list of bytes, for the map's node to keep and for reduces
+//! to fetch from.
 ghost use Rattle.std.specs.Prelude.{◌≡◌, ◌≤◌, length, IfOk};
 
 use crate::MAX_OUTPUT_LEN;

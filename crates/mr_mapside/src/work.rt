@@ -16,14 +16,15 @@ use mr_ids::TaskKind;
 use mr_user::{Gate, Job, MAX_REDUCES, MAX_SPLIT_LEN, Wire};
 use std::alloc::{AllocError, Global};
 
-/// The output of map `number` over its split, for so many reduces: for each reduce, in order, the length of its block
-/// in 4 bytes, the highest first, and the block, which is the pairs of the keys that go to that reduce, rising,
+/// The output of map `number` over its split. It has, for each reduce in order, the length of its block in 4 bytes,
+/// the highest first, and then the block. A block is the pairs of the keys that go to that reduce, by rising keys,
 /// each key's values combined.
 ///
-/// The gate is entered once, before the work, and a gate that answers a fault is answered `Gate`. Then `User(Refused)`
-/// is answered where the job refuses a line, `Full` where the output would pass `MAX_OUTPUT_LEN`, and `NoMemory` only
-/// where a growth was refused. For n pairs it compares keys n log n times. It holds at most 4,096 decoded pairs beside those of
-/// the present line and the values of the one key that is combined; the others are kept as they are written.
+/// The gate is entered once, before the work, and a gate that answers a fault is answered `Gate`. Then
+/// `User(Refused)` is answered where the job refuses a line, and `Full` where the output would pass `MAX_OUTPUT_LEN`.
+/// `NoMemory` is answered only where a growth was refused. For n pairs it compares keys n log n times. It holds at
+/// most 4,096 decoded pairs, beside those of the present line and the values of the one key that is combined. The
+/// others are kept as they are written.
 pub fn map_work<J: Job, G: Gate>(
     alloc: Global,
     job: &J,

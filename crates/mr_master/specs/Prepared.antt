@@ -1,4 +1,5 @@
--- What is prepared before a step is taken: the packets that will be sent, and what will change. Our own: where code and definitions meet.
+-- What is prepared before a step is taken: the packets that will be sent, and what will change. Our own: where code
+-- and definitions meet.
 use Rattle.std.specs.Prelude.{◌≡◌, ◌<◌, ◌≤◌, ℕ, true, None, length, List, [], ◌∷◌, ◌++◌, drop}
 use Rattle.std.specs.Map.{lookup}
 use Rattle.mr_ids.specs.Attempt.{Attempt}
@@ -87,7 +88,7 @@ IsSound m _ = Unit
 
 -- ---- room
 
--- for so many records
+-- for this number of records
 pub record HasRecordRoom (m : Master) (n : ℕ) : Type 0 where
   pub due : n ≤ m.writing.room
   pub tail : n ≤ m.writing.tail_room

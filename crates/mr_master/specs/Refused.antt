@@ -1,4 +1,5 @@
--- Why a launch comes to nothing. That a master has no more than 2^32 containers, whose numbers are those of 32 bits, is the project's own.
+-- Why a launch comes to nothing. That a master has no more than 2^32 containers, whose numbers are those of 32 bits,
+-- is the project's own.
 use Rattle.std.specs.Prelude.{ℕ, nat_lt, length, Option, Some, None, if◌then◌else◌}
 use Rattle.mr_ids.specs.declared.id.TaskId.{TaskId}
 use Rattle.mr_master_model.specs.declared.phase.LaunchFault.{LaunchFault}

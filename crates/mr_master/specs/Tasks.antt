@@ -46,7 +46,7 @@ pub record NewTasks (w : Setting) (kind : TaskKind) (n : ℕ) (old new : List Ta
   pub stand : (i : ℕ) (x : Task) → i < n → slice_get new (length old + i) ≡ Some x → task.StandsFor x (task_of w kind i) w.app []
   pub others : (j : ℕ) → j < length old → slice_get new j ≡ slice_get old j
 
--- what the task at place i answers the attempt's Done; one that it never had it ignores
+-- What the task at place i answers the attempt's Done. An attempt that it never had it ignores.
 abbrev pub IsReplyAt : List Task → ℕ → Attempt → DoneReply → Type 0
 IsReplyAt ms i a reply = AnswersAt ms i (λ t k calls. reply_or (task.done_answer a t k calls) Ignored) reply
 

@@ -1,5 +1,6 @@
 -- Some attempts' tasks are told something, one attempt after another.
--- So the machines of these tasks get a call for each, as that an attempt dies or that its output is lost. Our own: where code and definitions meet.
+-- So the machines of these tasks get a call for each: that an attempt dies, say, or that its output is lost. Our own:
+-- where code and definitions meet.
 use Rattle.std.specs.Prelude.{ℕ, Bool, false, ◌&&◌, List, [], ◌∷◌, ◌++◌, Option, Some, None, if◌then◌else◌}
 use Rattle.mr_ids.specs.Attempt as ids
 use Rattle.mr_ids.specs.Same.{same_task}
@@ -27,7 +28,7 @@ abbrev pub told_all : Setting → (ids.Attempt → TaskCall) → List ids.Attemp
 told_all w call [] calls = calls
 told_all w call (a ∷ as') calls = told_all w call as' (told_one w call a calls)
 
--- the attempts end, and that is no failure of theirs; the outputs of the attempts are lost
+-- The attempts end, and that is no failure of theirs. The outputs of the attempts are lost.
 abbrev pub with_deaths : Setting → Seen → List ids.Attempt → Seen
 with_deaths w s as' = record s { calls = told_all w Dies as' s.calls }
 

@@ -24,8 +24,8 @@ use mr_master_model::StoreAnswer;
 use std::alloc::AllocError;
 
 impl Machine {
-    // What the answer of the call that is due will change and send; where none is due, nothing. None of the first bars, so many, is of a
-    // live attempt, and what is taken over is of a task of the job.
+    // What the answer of the call that is due will change and send. Where none is due, it is nothing. None of the
+    // first `passed` bars is of a live attempt, and what is taken over is of a task of the job.
     pub fn ready_for(&self, answer: StoreAnswer, passed: usize) -> Result<Prepared, AllocError>
         requires none_live { NoneLive self.now passed }
         requires placed { IsPlaced self.now }

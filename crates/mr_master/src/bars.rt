@@ -1,4 +1,4 @@
-//! Bars that are past: their attempts were accepted or are over, and so none of them is live, or ever will be.
+//! Bars that are past: their attempts were accepted or are over, so none of them is live or ever will be.
 ghost use Rattle.std.specs.Prelude.{◌≡◌, true};
 ghost use Rattle.std.specs.List.{find};
 ghost use Rattle.mr_task.specs.Readings.{seen};
@@ -13,7 +13,7 @@ use mr_ids::AttemptId;
 use mr_task::TaskMachine;
 
 impl Machine {
-    // Of the attempts whose bar is due, the first that is live. None of so many is.
+    // Of the attempts whose bar is due, the first that is live. None of the first `passed` ones is live.
     pub fn first_bar(&self, passed: usize) -> Option<AttemptId>
         requires { NoneLive self.now passed }
         ensures { Reads self.now (λ w s. find (is_live w s) s.bars) result }
@@ -28,7 +28,7 @@ impl Machine {
         None
     }
 
-    // How many bars are past, where so many are.
+    // How many of the first bars are past, where `first` of them are.
     pub fn passed(&self, first: usize) -> usize
         ensures { Passes self.now first result }
     {

@@ -14,7 +14,7 @@ use mr_master_model::Launch;
 use mr_tables::{Earlier, Nodes};
 use mr_task::{DoneReply, TaskMachine};
 
-/// What changes. To make it takes no memory. What is large stands in a box, since a change is moved often.
+/// What changes. To make the change takes no memory. What is large stands in a box, since a change is moved often.
 #[derive(Drop)]
 pub enum Change {
     Nothing,
@@ -24,8 +24,8 @@ pub enum Change {
     GoesOn(Following),
     /// The earlier segments were read.
     HasRead(Boxed<Earlier>, Work),
-    /// A reduce was taken over: the machine at this place is this one from then on. To the work that is next are moved the reduces that are
-    /// left after its own.
+    /// A reduce was taken over: the machine at this place is this one from then on. The reduces that are left after
+    /// the next one are moved to the work that is next.
     EntersOne(usize, Boxed<TaskMachine>, Work),
     /// The master begins to run: these are the machines of the tasks from then on.
     Enters(Boxed<Tasks>, Work),
@@ -39,28 +39,30 @@ pub enum Change {
     Hears(usize, AttemptId),
     /// It asks: the machine of its task is this one from then on.
     Asks(usize, AttemptId, Boxed<TaskMachine>),
-    /// It says that it is done, which is answered so: where it is accepted now, this record is due.
+    /// It says that it is done, and this is the answer. Where it is accepted now, this record is due.
     Reports(usize, AttemptId, DoneReply, Option<Record>),
     /// It ended so, by whose failure.
     Ends(usize, AttemptId, Ending, Blame),
     /// Its output is lost.
     Loses(usize, AttemptId),
-    /// A node is known in this incarnation: what is known of the nodes then, the attempts that end, and those whose outputs are lost.
+    /// A node is known in this incarnation: what is known of the nodes then, the attempts that end, and those whose
+    /// outputs are lost.
     Knows(u32, u32, Nodes, Vec<AttemptId>, Vec<AttemptId>),
     /// The attempt is launched so: the machine of its task, at this place, is this one from then on.
     Launches(usize, AttemptId, Boxed<TaskMachine>, Launch),
-    /// A node is given up: the attempts that end, those whose outputs are lost, and those whose bars are due, if they were not.
+    /// A node is given up: the attempts that end, those whose outputs are lost, and those whose bars are due, if they
+    /// were not.
     GivesUp(Vec<AttemptId>, Vec<AttemptId>, Vec<AttemptId>),
 }
 
 /// What room a change wants.
 #[derive(Clone, Copy, Debug, PartialEq, Eq)]
 pub enum Room {
-    /// For so many records that come due.
+    /// For this number of records that come due.
     Records(usize),
     /// For a launch of the task on the node, and its record.
     Launch(TaskId, u32),
-    /// For so many bars.
+    /// For this number of bars.
     Bars(usize),
 }
 

@@ -20,7 +20,8 @@ struct Running {
     launches: Launches,
 }
 
-// The part of a machine that tells what is known of nodes and of earlier masters, and what is to be written down and barred.
+// The part of a machine that tells what is known of nodes and of earlier masters, and what is to be written down and
+// barred.
 #[derive(Drop)]
 struct Noted {
     nodes: Nodes,

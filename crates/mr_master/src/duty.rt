@@ -1,5 +1,6 @@
 //! The next store call of a master.
-//! While Running it is a bar, else an append or a flush, else COMMIT_STARTED once all reduces are Succeeded; in most other phases it follows from `work`.
+//! While Running it is a bar, else an append or a flush, else COMMIT_STARTED once all reduces are Succeeded. In most
+//! other phases it follows from `work`.
 ghost use Rattle.std.specs.Prelude.{◌≡◌, true, Some, None, IfOk, OnErr};
 ghost use Rattle.std.specs.Option.{is_some, option_map, option_copied};
 ghost use Rattle.mr_names.specs.declared.op.Op.TheVariants as op;
@@ -22,7 +23,7 @@ use mr_tables::Duty;
 use std::alloc::AllocError;
 
 impl Machine {
-    // The next store call, if there is one to make. None of the first bars, so many, is of a live attempt.
+    // The next store call, if there is one to make. None of the first `passed` bars is of a live attempt.
     pub fn duty(&self, passed: usize) -> Result<Option<Duty>, AllocError>
         requires { NoneLive self.now passed }
         ensures due { IfOk result (λ due. Reads self.now (λ w s. duty w s) due) }

@@ -1,5 +1,5 @@
 //! How attempts end.
-//! An attempt says that it failed, or its container ended; and whether that counts as a failure.
+//! An attempt says that it failed, or its container ended. Whether that counts as a failure is told here.
 ghost use Rattle.std.specs.Prelude.{◌≡◌};
 ghost use Rattle.mr_master.specs.inner.Ends.{is_failure};
 ghost use Rattle.mr_master.specs.Told.{blame_count};

@@ -1,5 +1,6 @@
 //! Launches of attempts.
-//! Why one is refused, and what it leaves: the task's next attempt, its container, the record of its start, and the packet to the node.
+//! Why one is refused, and what it leaves: the task's next attempt, its container, the record of its start, and the
+//! packet to the node.
 ghost use Rattle.std.specs.Prelude.{◌≡◌, ◌<◌, ◌≤◌, Some, None, Ok, IfOk, IfErr, IfSome, IfNone, OnOk, length, if◌then◌else◌};
 ghost use Rattle.mr_task.specs.Calls.{Launches};
 ghost use Rattle.mr_task.specs.State.{Answers, Stands, launch_answer};
@@ -158,7 +159,8 @@ fn by_task(refusal: Option<TaskFault>) -> Option<LaunchFault>
 }
 
 impl Tasks {
-    // The attempt of the task that is launched next, and a machine as the one at the place would be then. An error where it is refused too.
+    // The attempt of the task that is launched next, and a machine as the one at the place would be then. An error
+    // where it is refused too.
     pub fn launched(&self, place: usize) -> Result<(AttemptId, TaskMachine), AllocError>
         requires { place < length self.now.machines }
         ensures attempt { IfOk result (λ p. AnswersAt self.now.machines place launch_answer (Ok p.0)) }
@@ -191,7 +193,7 @@ fn launch_next(task: &mut TaskMachine) -> Result<AttemptId, AllocError>
     }
 }
 
-// The number of the next container after so many; none where no number is left.
+// The number of the next container, after `count` of them; none where no number is left.
 fn number_after(count: usize) -> Option<u32>
     ensures some { IfSome result (λ number. number ≡ count) }
     ensures none { IfNone result (MOST_CONTAINERS ≤ count) }

@@ -28,7 +28,8 @@ pub struct Machine {
     pub bars: Bars,
 }
 
-// By hand, so that a machine is dropped by this call: a derived drop is taken apart by the check at each place where one is dropped.
+// By hand, so that a machine is dropped by this call: a derived drop is taken apart by the check at each place where
+// one is dropped.
 impl Drop for Machine {
     fn drop(self) {
         let Machine {

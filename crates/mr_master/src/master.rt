@@ -1,4 +1,5 @@
-//! The application master as whoever runs it sees it: `MasterMachine`, whose calls are handed on to the `Machine` of `machine` and its parts.
+//! The application master as whoever runs it sees it: `MasterMachine`, whose calls are handed on to the `Machine` of
+//! `machine` and its parts.
 ghost use Rattle.std.specs.Prelude.{◌≡◌, true, [], ◌∷◌, None, IfOk, IfErr, OnOk, OnErr, unwrap_or};
 ghost use Rattle.std.specs.Option.{is_some};
 ghost use Rattle.mr_master.specs.State.{StandsFor, StandsForSome, Stands, StandsStill, Answers};
@@ -23,11 +24,12 @@ use std::marker::Model;
 /// The master of one generation.
 pub struct MasterMachine {
     machine: Machine,
-    // so many of the first bars are past
+    // how many of the first bars are past at least
     passed: usize,
 }
 
-// By hand, so that a master is dropped by this call: a derived drop is taken apart by the check at each place where one is dropped.
+// By hand, so that a master is dropped by this call: a derived drop is taken apart by the check at each place where
+// one is dropped.
 impl Drop for MasterMachine {
     fn drop(self) {
         let MasterMachine {
@@ -57,7 +59,8 @@ impl MasterMachine {
         Ok(MasterMachine { machine, passed: 0 })
     }
 
-    /// Another machine, which stands for whatever this one stands for. Spare room is not copied. Where memory is refused: an error.
+    /// Another machine, which stands for each past that this one stands for. Spare room is not copied. Where memory
+    /// is refused: an error.
     pub fn copy(&self) -> Result<MasterMachine, AllocError>
         ensures { IfOk result (λ machine. StandsStill self.now machine) }
     {
@@ -77,8 +80,9 @@ impl MasterMachine {
 }
 
 impl MasterMachine {
-    /// The next store call, and what it is for: the first that applies by the table of phases. Without one: there is nothing to do
-    /// until something is heard or launched, or the master is Ended or Stopped. Where memory is refused: an error, and then a call is due.
+    /// The next store call, and what it is for: the first that applies by the table of phases. Where there is none,
+    /// there is nothing to do until something is heard or launched, or the master is Ended or Stopped. Where memory
+    /// is refused: an error, and then a call is due.
     pub fn duty(&self) -> Result<Option<Duty>, AllocError>
         ensures due { IfOk result (λ due. Answers self.now (λ w past. duty w (seen w past)) due) }
         ensures due_on_memory { OnErr result (Answers self.now (λ w past. is_some (duty w (seen w past))) true) }
@@ -87,30 +91,30 @@ impl MasterMachine {
         Ok(due)
     }
 
-    /// Why `launch` would launch nothing of a task on a node, memory aside: the first that applies. It takes no memory.
+    /// Why `launch` would launch nothing of a task on a node, memory aside: the first that applies.
     pub fn launch_refusal(&self, task: TaskId, node: u32) -> Option<LaunchFault>
         ensures { Answers self.now (λ w past. launch_refusal w (seen w past) task node) result }
     {
         self.machine.launch_refusal(task, node)
     }
 
-    /// The phase that it is in. It takes no memory.
+    /// The phase that it is in.
     pub fn phase(&self) -> Phase
         ensures { Answers self.now (λ w past. phase_of (seen w past).work) result }
     {
         self.machine.work.phase()
     }
 
-    /// The task that is to be launched next: the first that waits for a launch while the master is Running, maps first, a reduce only
-    /// once every map is Succeeded. A task waits while none of its attempts is live, Recording or Succeeded and numbers are left. It
-    /// takes no memory.
+    /// The task that is to be launched next: the first that waits for a launch while the master is Running. Maps come
+    /// first, a reduce only once every map is Succeeded. A task waits while none of its attempts is live, Recording
+    /// or Succeeded and numbers are left.
     pub fn wanted(&self) -> Option<TaskId>
         ensures { Answers self.now (λ w past. wanted w (seen w past)) result }
     {
         self.machine.wanted()
     }
 
-    /// Why `expire` would not give a node up, memory aside: the first that applies. It takes no memory.
+    /// Why `expire` would not give a node up, memory aside: the first that applies.
     pub fn expire_refusal(&self, node: u32) -> Option<LaunchFault>
         ensures { Answers self.now (λ w past. expire_refusal w (seen w past) node) result }
     {
@@ -118,13 +122,14 @@ impl MasterMachine {
     }
 }
 
-// How each step is taken: it is prepared, there is made room for it, and it is taken.
+// How each step is taken: it is prepared, room is made for it, and it is taken.
 impl MasterMachine {
-    /// What the master will send once it hears this packet, and what will change then. It changes nothing. Where memory is refused: an
-    /// error.
+    /// What the master will send once it hears this packet, and what will change then. It changes nothing. Where
+    /// memory is refused: an error.
     ///
-    /// While Running every packet of an attempt, container or node is heard, in each other phase but Ended and Stopped only `NodeUp`;
-    /// what is told of an attempt or container that is not known is not heard: then nothing is sent, and nothing will change.
+    /// While Running every packet of an attempt, container or node is heard. In each other phase only `NodeUp` is
+    /// heard, and in Ended and Stopped nothing. What is told of an attempt or container that is not known is not
+    /// heard. Of a packet that is not heard nothing is sent, and nothing will change.
     pub fn prepare_packet(&self, packet: &Packet) -> Result<Prepared, AllocError>
         ensures sent { IfOk result (λ prepared. Answers self.now (λ w past. sent w past (Hears packet.now)) prepared.packets) }
         ensures planned { IfOk result (λ prepared. PlansFor self.now (Hears packet.now) prepared) }
@@ -133,12 +138,13 @@ impl MasterMachine {
         Ok(prepared)
     }
 
-    /// What the master will send once it launches the next attempt of a task on a node, in the incarnation that is known of it, and what
-    /// will change then. It changes nothing. One packet is sent, which tells the node so.
+    /// What the master will send once it launches the next attempt of a task on a node, in the incarnation that is
+    /// known of it, and what will change then. It changes nothing. One packet is sent, which tells the node so.
     ///
-    /// Errors in order: `Refused` with `NotRunning`, `NoTask` where the task is not the job's, `NoNode`, or `Task` with the task's own
-    /// refusal (it is won, has two live attempts, or no numbers are left); `Full` where it launched 2^32 containers, whose numbers have 32
-    /// bits; `NoMemory`.
+    /// Errors in order: `Refused`, then `Full`, then `NoMemory`. `Refused` comes with `NotRunning`, `NoTask` where
+    /// the task is not the job's, `NoNode`, or `Task` with the task's own refusal, in this order. A task refuses
+    /// where it is won, has two live attempts, or no numbers are left. `Full` comes where the master launched 2^32
+    /// containers, whose numbers have 32 bits.
     pub fn prepare_launch(&self, task: TaskId, node: u32) -> Result<Prepared, LaunchError>
         ensures sent { IfOk result (λ prepared. Answers self.now (λ w past. sent w past (Launches task node)) prepared.packets) }
         ensures planned { IfOk result (λ prepared. PlansFor self.now (Launches task node) prepared) }
@@ -151,11 +157,12 @@ impl MasterMachine {
         Ok(prepared)
     }
 
-    /// What the master will send once it gives up a node whose containers may still run, and what will change then. It changes nothing.
+    /// What the master will send once it gives up a node whose containers may still run, and what will change then.
+    /// It changes nothing.
     ///
-    /// A Kill is sent to the container of each live attempt of a map there, by map number, then arrival. These attempts end, the outputs of
-    /// the Succeeded maps there count as lost, and of each live attempt of a reduce there a bar is due, if none was. Launches on the node
-    /// go on. Room is wanted for the bars alone.
+    /// A Kill is sent to the container of each live attempt of a map there, by map number, then arrival. These
+    /// attempts end, and the outputs of the Succeeded maps there count as lost. Of each live attempt of a reduce
+    /// there a bar is due, if none was. Launches on the node go on. Room is wanted for the bars alone.
     ///
     /// Refusals in order: `NotRunning`, `NoNode`, and `Task(NoMemory)` where memory is refused.
     pub fn prepare_expiry(&self, node: u32) -> Result<Prepared, LaunchFault>
@@ -169,14 +176,17 @@ impl MasterMachine {
         Ok(prepared)
     }
 
-    /// What the master will send once it hears this answer of the store call that is due (`duty`), which is known beforehand, or was made
-    /// already if it changes nothing; and what will change then. It changes nothing. Where memory is refused: an error.
+    /// What the master will send once it hears this answer of the store call that is due (`duty`), and what will
+    /// change then. The answer is known beforehand, or the call, which changes nothing, was made already. To prepare
+    /// changes nothing. Where memory is refused: an error.
     ///
-    /// Of a bar a Kill is sent, of a flush the winners and Kills, of a reduce that is taken over its winner, and where the job ended the
-    /// outcome, to every node. Where no call is due, nothing is sent, and nothing will change.
+    /// Of a bar a Kill is sent, and of a flush the winners and Kills. Of a reduce that is taken over its winner is
+    /// sent, and where the job ended the outcome, to every node. Where no call is due, nothing is sent, and nothing
+    /// will change.
     ///
-    /// The steps of setup, recovery and job commit go on with the lines that follow; a reduce that is taken over is entered as Succeeded,
-    /// and where the master begins to run, each map's newest success is, unless its node is known in a higher incarnation.
+    /// The steps of setup, recovery and job commit go on with the lines that follow. A reduce that is taken over is
+    /// entered as Succeeded. Where the master begins to run, each map's newest success is entered so, unless its node
+    /// is known in a higher incarnation.
     pub fn prepare_answer(&self, answer: StoreAnswer) -> Result<Prepared, AllocError>
         ensures sent { IfOk result (λ prepared. Answers self.now (λ w past. sent w past (Answered answer)) prepared.packets) }
         ensures planned { IfOk result (λ prepared. PlansFor self.now (Answered answer) prepared) }
@@ -185,8 +195,8 @@ impl MasterMachine {
         Ok(prepared)
     }
 
-    /// Makes room for what is prepared. Nothing else changes, also where memory is refused: the master stands for what it stood for, and of
-    /// an expiry it is the machine that it was.
+    /// Makes room for what is prepared. Nothing else changes, also where memory is refused: the master stands for
+    /// what it stood for. Of an expiry it is the machine that it was.
     pub fn reserve(&mut self, prepared: &Prepared) -> Result<(), AllocError>
         ensures still { StandsStill self.old self.new }
         ensures ready { OnOk result ((step : Step) → PlansFor self.old step prepared.now → IsReadyFor self.new step prepared.now) }
@@ -195,7 +205,8 @@ impl MasterMachine {
         self.machine.reserve(prepared)
     }
 
-    /// Takes the step that was prepared, for which there is room, and gives the packets that are sent. It takes no memory.
+    /// Takes the step that was prepared, for which there is room, and gives the packets that are sent. It takes no
+    /// memory and refuses nothing.
     pub fn take(&mut self, prepared: Prepared) -> Vec<Envelope>
         requires { IsReadyForStep self.old prepared }
         ensures packets { result.items ≡ prepared.packets }
@@ -209,8 +220,8 @@ impl MasterMachine {
 
 // The same in one call, for whoever has no bag to make room in.
 impl MasterMachine {
-    /// Hears a packet, and gives the packets that are sent (`prepare_packet`). Where memory is refused: an error, and the master stands for
-    /// what it stood for.
+    /// Hears a packet, and gives the packets that are sent (`prepare_packet`). Where memory is refused: an error, and
+    /// the master stands for what it stood for.
     pub fn hear(&mut self, packet: &Packet) -> Result<Vec<Envelope>, AllocError>
         ensures sent { IfOk result (λ packets. Answers self.old (λ w past. sent w past (Hears packet.now)) packets.items) }
         ensures stands { OnOk result (Stands self.old (Hears packet.now) self.new) }
@@ -255,8 +266,8 @@ impl MasterMachine {
         }
     }
 
-    /// Hears the answer of the store call that was due, and gives the packets that are sent (`prepare_answer`). Where memory is refused: an
-    /// error, and the master stands for what it stood for.
+    /// Hears the answer of the store call that was due, and gives the packets that are sent (`prepare_answer`). Where
+    /// memory is refused: an error, and the master stands for what it stood for.
     pub fn answer(&mut self, answer: StoreAnswer) -> Result<Vec<Envelope>, AllocError>
         ensures sent { IfOk result (λ packets. Answers self.old (λ w past. sent w past (Answered answer)) packets.items) }
         ensures stands { OnOk result (Stands self.old (Answered answer) self.new) }

@@ -140,8 +140,8 @@ impl Machine {
         Ok(())
     }
 
-    // Of the maps from this number on, the first whose output may be lost: an attempt was launched on the node, or it is told that the
-    // output of one lies there.
+    // Of the maps from this number on, the first whose output may be lost. An attempt of it was launched on the node,
+    // or it is told that the output of one lies there.
     fn next_output(&self, gone: &Gone, from: u32) -> Option<u32>
         ensures from { IfSome result (λ number. from ≤ number) }
         ensures first { IfSome result (λ number. NoneLost self.now gone.now from number) }

@@ -24,8 +24,8 @@ use mr_task::TaskMachine;
 use std::alloc::{AllocError, Global};
 use std::marker::Model;
 
-/// The packets that a master will send once it takes a step, and what will change then. As long as it has not taken it, nothing has
-/// changed.
+/// The packets that a master will send once it takes a step, and what will change then. As long as it has not taken
+/// it, nothing has changed.
 pub struct Prepared {
     packets: Vec<Envelope>,
     change: Change,
@@ -125,7 +125,8 @@ fn one(alloc: Global, packet: Envelope) -> Result<Vec<Envelope>, AllocError>
 }
 
 impl Machine {
-    // Makes room for what is planned. Nothing else changes, and where a node is given up and memory is refused, nothing at all.
+    // Makes room for what is planned. Nothing else changes. Where a node is given up and memory is refused, nothing
+    // at all changes.
     pub fn reserve(&mut self, prepared: &Prepared) -> Result<(), AllocError>
         ensures same { Unchanged self.old self.new }
         ensures room { OnOk result (HasRoom self.new prepared.now.change) }
@@ -148,7 +149,7 @@ impl Machine {
         Ok(())
     }
 
-    // What was prepared is done; it takes no memory. Gives the packets.
+    // What was prepared is done. Gives the packets.
     pub fn take(&mut self, prepared: Prepared) -> Vec<Envelope>
         requires sound { IsSound self.old prepared.change }
         requires room { HasRoom self.old prepared.change }

@@ -14,7 +14,8 @@ use mr_task::{MAX_LAUNCHES, TaskMachine};
 use std::alloc::{AllocError, Global};
 use std::marker::Model;
 
-/// Which places are those of tasks that wait for a launch, of maps that are not Succeeded, of reduces that are not.
+/// Which places are those of tasks that wait for a launch, of maps that are not Succeeded, and of reduces that are
+/// not.
 #[derive(Drop)]
 pub struct Progress {
     waiting: Marks,
@@ -43,7 +44,7 @@ impl Progress {
         Ok(progress)
     }
 
-    // So many places at least, none of which is marked.
+    // `count` places at least, none of which is marked.
     fn new(alloc: Global, count: usize) -> Result<Progress, AllocError>
         requires { count ≤ 2 ^ 40 }
         ensures room { IfOk result (λ progress. HasRoom progress count) }

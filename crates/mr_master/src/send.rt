@@ -1,4 +1,5 @@
-//! Kills to the containers of attempts that are live: of one, of a task's, and of all but the one whose end failed the job.
+//! Kills to the containers of attempts that are live: of one, of a task's, and of all but the one whose end failed
+//! the job.
 ghost use Rattle.std.specs.Prelude.{◌≡◌, ◌&&◌, not, flat_map, IfOk, OnOk};
 ghost use Rattle.mr_grant.specs.Attempts.{same_attempt};
 ghost use Rattle.mr_task.specs.Readings.{seen, is_live};

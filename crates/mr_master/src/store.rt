@@ -73,7 +73,8 @@ fn found(told: &Answer) -> Look
     }
 }
 
-// What a committer's table hears; none where it hears nothing, as after a fault, or where the namespace had no memory.
+// What a committer's table hears. None where it hears nothing, as after a fault, or where the namespace had no
+// memory.
 pub fn named(answer: &StoreAnswer) -> Option<&Result<Answer, NameFault>>
     ensures some { IfSome result (λ r. answer.now ≡ StoreAnswer.Names r.now) }
     ensures wanting { IfSome result (λ r. r.now ≡ Err NameFault.NoMemory → ⊥) }

@@ -1,5 +1,5 @@
-//! What succeeded under earlier masters is taken over: into machines of the tasks that are built beside the ones that are there, so that
-//! nothing has changed where memory is refused.
+//! What succeeded under earlier masters is taken over, into machines of the tasks that are built beside the ones that
+//! are there. So nothing has changed where memory is refused.
 ghost use Rattle.std.specs.Prelude.{◌≡◌, ◌<◌, true, length, List, [], ◌∷◌, ◌++◌, flat_map, OnOk, OnErr, IfOk, vec_len};
 ghost use Rattle.mr_ids.specs.declared.id.TaskId.{TaskId};
 ghost use Rattle.mr_task.specs.Calls.{TaskCall, Recovers};

@@ -157,7 +157,8 @@ impl Tasks {
         }
     }
 
-    // Whether the task is not won, and would have failed as often as the limit if the attempt failed, which is live.
+    // Whether the task is not won, and would have failed as often as the limit once the attempt, which is live,
+    // failed.
     pub fn would_spend(&self, place: usize, attempt: AttemptId, limit: u32) -> bool
         requires { place < length self.now.machines }
         ensures { AnswersAt self.now.machines place (λ t k calls. is_live (seen t k calls) attempt && (not (is_won (seen t k calls)) && nat_le limit (failures (seen t k calls) + 1))) result }

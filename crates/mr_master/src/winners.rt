@@ -8,8 +8,8 @@ use mr_recover::TaskWinner;
 use std::alloc::{AllocError, Global};
 use std::collections::VecDeque;
 
-// What is next: a reduce is taken over, or where none is left the master runs. Where there is no earlier generation there is no
-// output to take over.
+// What is next: a reduce is taken over, or where none is left the master runs. Where there is no earlier generation
+// there is no output to take over.
 pub fn next_winner(setting: &Setting, others: VecDeque<TaskWinner>) -> Result<Work, AllocError>
     ensures { IfOk result (λ work. work ≡ next_winner setting.now others.items) }
 {

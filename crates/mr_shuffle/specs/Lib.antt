@@ -1,4 +1,5 @@
--- What a reduce makes of the maps' blocks. Read Part first, then PieceMeaning, Merging and Work, and SequentialText for what it comes to; Shelf stands alone.
+-- What a reduce makes of the maps' blocks. Read Part first, then PieceMeaning, Merging and Work, and SequentialText
+-- for what it comes to. Shelf stands alone.
 pub mod Merging
 pub mod Part
 pub mod PieceMeaning

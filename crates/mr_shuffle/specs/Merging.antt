@@ -1,5 +1,5 @@
 -- The merge of pieces by key (Dean and Ghemawat 2004, section 3.1: sorted by key, so that all values of a key stand
--- together; the order of one key's values and the faults are our own profile).
+-- together). The order of one key's values and the faults are our own profile.
 use Rattle.std.specs.Prelude.{◌≡◌, ◌≢◌, ◌⊎◌, ℕ, List, [], ◌∷◌, ◌++◌, map, Option, Some, None, Result, Ok, Err}
 use Rattle.std.specs.Option.{option_to_list}
 use Rattle.mr_user.specs.Computation.{Computation}
@@ -17,15 +17,16 @@ abbrev pub items_of : {K V : Type 0} → List (K × List V) → Option ShuffleFa
 items_of groups fault = map Ok groups ++ map Err (option_to_list fault)
 
 module _ {K V : Type 0} (job : Computation K V) where
-  -- The items of the merge of pieces: the keys in any piece, rising, each with its values by piece and then by place, where
-  -- all pieces can be read and are in order; else the first fault in the order of the pieces and then of the bytes, alone:
-  -- no group comes before it.
+  -- The items of the merge of pieces. Where all pieces can be read and are in order, they are the keys in any piece,
+  -- rising, each with its values by piece and then by place. Else it is the first fault alone, in the order of the
+  -- pieces and then of the bytes, and no group comes before it.
   pub record IsMergeOf (pieces : List (List ℕ)) (items : List (Item K V)) : Type 0 where
     pub whole : (ps : List (K × V)) → pairs_of_all job pieces ≡ Ok ps → items ≡ items_of (groups_of job.cmp ps) None
     pub broken : (first : ShuffleFault) → pairs_of_all job pieces ≡ Err first → items ≡ items_of [] (Some first)
 
--- What a call answers, where the items of the first list were to come and those of the second are left: the first of
--- them; or an allocation failure, after which nothing comes; or nothing, where nothing was to come.
+-- What a call answers, where the items of the first list were to come and those of the second are left. It is the
+-- first that was to come, or an allocation failure, after which nothing comes. Where nothing was to come it is
+-- nothing.
 abbrev pub Gives : {K V W : Type 0} → (W → List V) → List (Item K V) → Option (Result (K × W) ShuffleFault) → List (Item K V) → Type 0
 Gives values before None after = (before ≡ []) × (after ≡ [])
 Gives values before (Some (Ok group)) after = before ≡ Ok (group.0, values group.1) ∷ after

@@ -1,6 +1,6 @@
--- What a reduce makes of the pieces that the maps handed to it (Dean and Ghemawat 2004, section 3.1: the reduce worker
--- reads all intermediate pairs, sorted by key so that all values of a key stand together, and passes each key with its
--- values to the reduce function). The bytes of a piece and the faults are our own profile.
+-- What a reduce makes of the pieces that the maps handed to it (Dean and Ghemawat 2004, section 3.1). The reduce
+-- worker reads all intermediate pairs, sorted by key so that all values of a key stand together. It passes each key
+-- with its values to the reduce function. The bytes of a piece and the faults are our own profile.
 use Rattle.std.specs.Prelude.{ℕ, zero, suc, Bool, false, cond, List, [], ◌∷◌, length, drop, Option, Some, None, Result, Ok, Err}
 use Rattle.std.specs.Option.{option_map_or}
 use Rattle.std.specs.List.{flat_map}

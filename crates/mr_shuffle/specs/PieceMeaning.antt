@@ -23,8 +23,9 @@ module _ {K V : Type 0} (job : Computation K V) where
   abbrev pub BeginsNoPair : List ℕ → Type 0
   BeginsNoPair bytes = (p : K × V) (rest : List ℕ) → PairFits job p → bytes ≢ spelled_pair job p ++ rest
 
-  -- Ok ps: the bytes are these pairs and nothing more. Truncated: they are pairs and then a rest, not empty, with which no
-  -- pair begins. Disorder: they are pairs, a pair whose key is less than the last, and a rest. No piece says another fault.
+  -- Ok ps: the bytes are these pairs and nothing more. Truncated: they are pairs and then a rest, not empty, with
+  -- which no pair begins. Disorder: they are pairs, a pair whose key is less than the last, and a rest. No piece says
+  -- another fault.
   abbrev pub Says : List ℕ → Result (List (K × V)) ShuffleFault → Type 0
   Says piece (Ok ps) = ArePairsThen piece ps []
   Says piece (Err shuffle.Truncated) = (ps : List (K × V)) × (rest : List ℕ) × ArePairsThen piece ps rest × (rest ≢ []) × BeginsNoPair rest

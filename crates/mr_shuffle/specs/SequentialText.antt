@@ -22,7 +22,8 @@ ShuffleGivesSequentialText job =
     (splits : List (List ℕ)) (reduces r : ℕ) → AreSplits splits → option_map (part job) (blocks_from job reduces r 0 splits) ≡ option_map Ok (output job reduces r splits)
 
 module _ {K V : Type 0} (job : Computation K V) where
-  -- the piece that reduce r gets of map m: the block at place r of the blocks that the output of a map work over the split is cut into
+  -- the piece that reduce r gets of map m: the block at place r of the blocks that the output of a map work over the
+  -- split is cut into
   pub record IsPieceOf (reduces r m : ℕ) (split piece : List ℕ) : Type 0 where
     pub output : List ℕ
     pub blocks : List (List ℕ)
@@ -38,8 +39,8 @@ module _ {K V : Type 0} (job : Computation K V) where
   ArePiecesOfSplits reduces r m (split ∷ splits) [] = ⊥
   ArePiecesOfSplits reduces r m (split ∷ splits) (piece ∷ pieces) = IsPieceOf reduces r m split piece × ArePiecesOfSplits reduces r (m + 1) splits pieces
 
-  -- Map works over all splits, where each gives an output, and the blocks of these for reduce r: then the sequential execution
-  -- has a text for r, and the part of the blocks is that text.
+  -- Let each map work over the splits give an output, and take the blocks of these for reduce r. Then the sequential
+  -- execution has a text for r, and the part of the blocks is that text.
   abbrev pub WorksGiveSequentialText : Type 0
   WorksGiveSequentialText =
       (splits pieces : List (List ℕ)) (reduces r : ℕ) → AreSplits splits → r < reduces → ArePiecesOfSplits reduces r 0 splits pieces →

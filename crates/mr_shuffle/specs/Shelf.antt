@@ -1,5 +1,6 @@
--- The map outputs that lie on a node (Dean and Ghemawat 2004, section 3.1: the intermediate files of a map stay on its
--- worker's local disk, from where the reduce workers read them). Which of them are kept, and until when, is our own profile.
+-- The map outputs that lie on a node (Dean and Ghemawat 2004, section 3.1). The intermediate files of a map stay on
+-- its worker's local disk, from where the reduce workers read them. Which of them are kept, and until when, is our
+-- own profile.
 use Rattle.std.specs.Prelude.{◌≡◌, ◌↔◌, ℕ, true, List, [], ◌∷◌, Option, refl}
 use Rattle.std.specs.Coded.{Coded, code_by, coded×, coded_ℕ, coded_list}
 use Rattle.std.specs.Cmp.Lexicographic.{slice_cmp}
@@ -39,7 +40,7 @@ pub record Shelf : Type 0 where
   pub reduces : ℕ
   pub outputs : Outputs
 
--- an output is put, in place of one of the same attempt
+-- an output is put, and replaces one of the same attempt
 abbrev pub with_output : Shelf → Attempt → List ℕ → Shelf
 with_output shelf a bytes = record { reduces = shelf.reduces; outputs = finite.insert shelf.outputs a bytes }
 
@@ -47,7 +48,8 @@ with_output shelf a bytes = record { reduces = shelf.reduces; outputs = finite.i
 abbrev pub without_outputs : ℕ → Shelf
 without_outputs reduces = record { reduces = reduces; outputs = finite.empty }
 
--- the block of a reduce in what was put of an attempt, if something was put that is so many blocks
+-- the block of a reduce in what was put of an attempt, if something was put that is as many blocks as there are
+-- reduces
 abbrev pub block_there : Shelf → Attempt → ℕ → Option (List ℕ)
 block_there shelf a reduce = option_and_then (λ bytes. option_and_then (λ blocks. slice_get blocks reduce) (cut shelf.reduces bytes)) (finite.get shelf.outputs a)
 

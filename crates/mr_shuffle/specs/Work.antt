@@ -22,9 +22,9 @@ in_work shuffle.WrongPiece = work.Shuffle shuffle.WrongPiece
 in_work shuffle.Truncated = work.Shuffle shuffle.Truncated
 in_work shuffle.Disorder = work.Shuffle shuffle.Disorder
 
--- the fault that a reduce work answers, where the gate may refuse, its pieces may be in place, and its part is a text or a
--- fault: the gate's, then WrongPiece, then the part's own, then Full, where the text is longer than most. An allocation failure is none of these, but
--- comes only where the pieces are in place.
+-- The fault that a reduce work answers, by whether the gate may refuse, whether its pieces are in place, and its
+-- part, a text or a fault. It is the gate's, then WrongPiece, then the part's own, then Full, where the text is
+-- longer than `most`. An allocation failure is none of these, but comes only where the pieces are in place.
 abbrev pub ReduceFaultIs : (GateRefuses InPlace : Type 0) → Result (List ℕ) ShuffleFault → ℕ → WorkFault → Type 0
 ReduceFaultIs GateRefuses InPlace part most (work.User fault) = ⊥
 ReduceFaultIs GateRefuses InPlace part most (work.Gate fault) = GateRefuses

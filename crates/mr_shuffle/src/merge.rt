@@ -13,9 +13,9 @@ use std::alloc::{AllocError, Global};
 use std::marker::Model;
 
 /// The groups of pieces: the keys in any piece, rising, each with all its values by piece and then by place. Where a
-/// piece can't be read or is not in order, the first fault comes alone: no group before it, and nothing after it. It
-/// holds one pair of each piece at a time, beside the values of the group that it gives.
-/// Contracts see the items that are still to come.
+/// piece can't be read or is not in order, the first fault comes alone, with no group before it and nothing after it.
+/// It holds one pair of each piece at a time, beside the values of the group that it gives. Contracts see the items
+/// that are still to come.
 #[derive(Drop)]
 pub struct Merge<'a, J: Job> {
     alloc: Global,
@@ -33,8 +33,8 @@ impl<'a, J: Job> Model for Merge<'a, J> {
 }
 
 impl<'a, J: Job> Merge<'a, J> {
-    /// The merge of pieces, in their order: they are read through once, and each pair is read again when it comes. It reads
-    /// what they hold and not of which map and reduce they are. Answers no fault but an allocation failure.
+    /// The merge of pieces, in their order. They are read through once, and each pair is read again when it comes. It
+    /// reads what they hold and not of which map and reduce they are. Its only fault is an allocation failure.
     pub fn new(alloc: Global, parts: &'a [Piece]) -> Result<Merge<'a, J>, AllocError>
         ensures { IfOk result (IsMergeOf (computation J.Key.cmp J.Key.codec J.Value.codec J.functions) (bytes_of parts.now)) }
     {
@@ -63,8 +63,8 @@ impl<'a, J: Job> Iterator for Merge<'a, J> {
 
     ghost remaining = { item_count (λ items. items) };
 
-    /// The next group or the fault. An allocation failure is answered as a fault, after which nothing comes either; it is answered only
-    /// where something was to come.
+    /// The next group or the fault. An allocation failure is answered as a fault, and only where something was to
+    /// come. Nothing comes after it.
     fn next(&mut self) -> Option<Result<(J::Key, Vec<J::Value>), ShuffleFault>> {
         match self.groups.next_group(self.alloc) {
             Ok(Some(group)) => Some(Ok(group)),

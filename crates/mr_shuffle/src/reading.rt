@@ -30,7 +30,8 @@ fn read_fault(fault: UserFault) -> ShuffleFault
     }
 }
 
-// The length of the pair that bytes begin with, where they begin with the key before it as it is written: then that key is not read again.
+// The length of the pair that bytes begin with, where they begin with the key before it as it is written. That key is
+// not read again.
 fn repeated_len<J: Job>(
     alloc: Global,
     before: &Option<J::Key>,
@@ -71,8 +72,8 @@ fn next_key<J: Job>(
     }
 }
 
-// Reads the pair that bytes begin with, behind the key before it and that key as it is written, and leaves its own key there. Answers how many bytes it
-// takes. Where it has the key before it the key is not read again.
+// Reads the pair that bytes begin with. It is given the key before it, and that key as it is written, and leaves the
+// pair's own key there. Answers how many bytes the pair takes. A key that is the one before it is not read again.
 fn next_len<J: Job>(
     alloc: Global,
     before: &mut Option<J::Key>,

@@ -9,8 +9,8 @@ use mr_mapside::{CutOutput, MapOutput};
 use std::alloc::{AllocError, Global};
 use std::marker::Model;
 
-/// The outputs of the map attempts that ran on a node, from where reduces fetch their blocks.
-/// Contracts see how many reduces the outputs are cut for, and a finite map from attempts to the bytes that were put of them.
+/// The outputs of the map attempts that ran on a node, from where reduces fetch their blocks. Contracts see how many
+/// reduces the outputs are cut for, and a finite map from attempts to the bytes that were put of them.
 #[derive(Drop)]
 pub struct ShelfOfNode {
     reduces: u32,
@@ -29,7 +29,7 @@ impl Model for ShelfOfNode {
 }
 
 impl ShelfOfNode {
-    /// An empty shelf, for outputs that are cut for so many reduces. It takes no memory until something is put.
+    /// An empty shelf, for outputs that are cut for this number of reduces.
     pub fn new(alloc: Global, reduces: u32) -> ShelfOfNode
         ensures { result ≡ without_outputs reduces }
     {
@@ -39,8 +39,8 @@ impl ShelfOfNode {
         }
     }
 
-    /// Puts the output of an attempt, in place of one that was put of it before, and finds its blocks: one walk over it.
-    /// Answers no fault but an allocation failure, and then nothing has changed.
+    /// Puts the output of an attempt, and finds its blocks in one walk over it. It replaces one that was put of the
+    /// attempt before. Answers no fault but an allocation failure, and then nothing has changed.
     pub fn put(&mut self, a: AttemptId, output: MapOutput) -> Result<(), AllocError>
         ensures ok { OnOk result (self.new ≡ with_output self.old a output) }
         ensures err { OnErr result (self.new ≡ self.old) }
@@ -51,8 +51,8 @@ impl ShelfOfNode {
     }
 
     /// The block of a reduce in the output of an attempt. None where no output of the attempt was put since all were
-    /// dropped, where it is not as many blocks as there are reduces, and where there is no such reduce. Nothing is walked over:
-    /// all blocks of an output cost no more than so many look-ups.
+    /// dropped. None too where it is not as many blocks as there are reduces, and where there is no such reduce.
+    /// Nothing is walked over: each block costs a look-up.
     pub fn get(&self, a: AttemptId, reduce: u32) -> Option<&[u8]>
         ensures { option_map (λ block. block.now) result ≡ block_there self.now a reduce }
     {

@@ -1,4 +1,5 @@
-//! The work of a reduce task: the pieces of all maps, read through, merged by key, and reduced to the text of its part file.
+//! The work of a reduce task. The pieces of all maps are read through, merged by key, and reduced to the text of its
+//! part file.
 ghost use Rattle.std.specs.Prelude.{◌≡◌, ◌≤◌, length, map, None, Ok, IfOk, IfErr, OnOk};
 ghost use Rattle.std.specs.List.{flat_map};
 ghost use Rattle.std.specs.Result.{result_err};
@@ -18,16 +19,17 @@ use mr_mapside::{MAX_OUTPUT_LEN, RunGroups, ShuffleFault, WorkFault};
 use mr_user::{Gate, Job, write_lines};
 use std::alloc::{AllocError, Global};
 
-/// The text of reduce `reduce`: the lines of the keys in any piece, rising, each reduced with all its values by piece and
-/// then by place. `parts` has the pieces of the maps 0, 1, 2 and so on, all of them for this reduce; no pieces make an
-/// empty text. The gate is entered once, before the work.
+/// The text of reduce `reduce`: the lines of the keys in any piece, rising, each reduced with all its values by piece
+/// and then by place. `parts` has the pieces of the maps 0, 1, 2 and so on, all of them for this reduce. Without
+/// pieces the text is empty. The gate is entered once, before the work.
 ///
-/// Answers `Gate` where the gate lets no work pass; `Shuffle(WrongPiece)` where the piece at some place is not of the map
-/// of that number and of this reduce; `Shuffle(Truncated)` where at some place of a piece no pair can be read and
-/// `Shuffle(Disorder)` where a key of a piece is less than the one before it, whichever is the first in the order of the
-/// pieces and then of the bytes; `Full` where the text would be longer than `MAX_OUTPUT_LEN`; and `NoMemory` only where a
-/// growth was refused, the pieces being in place. It never answers `User`. For n pairs it compares keys n log n times.
-/// It reads the pieces through once, and then holds one decoded pair of each beside the values of the one key that is reduced.
+/// Answers `Gate` where the gate lets no work pass, and then `Shuffle(WrongPiece)` where the piece at some place is
+/// not of the map of that number and of this reduce. `Shuffle(Truncated)` says that at some place of a piece no pair
+/// can be read, and `Shuffle(Disorder)` that a key of a piece is less than the one before it. The first of these is
+/// answered, in the order of the pieces and then of the bytes. Then comes `Full`, where the text would be longer than
+/// `MAX_OUTPUT_LEN`. `NoMemory` is answered only where a growth was refused, the pieces being in place. It never
+/// answers `User`. For n pairs it compares keys n log n times. It reads the pieces through once, and then holds one
+/// decoded pair of each, beside the values of the one key that is reduced.
 pub fn reduce_work<J: Job, G: Gate>(
     alloc: Global,
     job: &J,

@@ -20,7 +20,9 @@ pub record CanHappen (j : Journal) (e : Event) : Type 0 where
   pub now : not_now j.config (world_in j) e ≡ None
   pub fits : fits j e ≡ true
 
--- the first reason why an event is not permitted, or else that it would pass a limit, or else an allocation failure, which may also come while it is found out whether it would pass one that takes memory to find
+-- The fault: the first reason why an event is not permitted, or else that it would pass a limit, or else an
+-- allocation failure. That may also come while it is found out whether the event would pass a limit that takes memory
+-- to find.
 abbrev pub IsRefused : Journal → Event → WorldFault → Type 0
 IsRefused j e f = Refuses (not_now j.config (world_in j) e) (fits j e) (fits_first j e) f
 
@@ -29,7 +31,8 @@ abbrev pub Foretells : {A : Type 0} → Journal → Event → Result A WorldFaul
 Foretells j e (Ok a) = CanHappen j e
 Foretells j e (Err f) = IsRefused j e f
 
--- what a look tells that never wants for memory: the first reason why an event is not permitted, or else that it would pass a limit, or else that it would be taken
+-- What a look tells that never wants for memory. It is the first reason why an event is not permitted, or else that
+-- it would pass a limit, or else that it would be taken.
 abbrev pub foretold : Option Why → Bool → Result (Unit {0}) WorldFault
 foretold (Some why) fits = Err (fault.NotNow why)
 foretold None false = Err fault.Full
@@ -38,7 +41,8 @@ foretold None true = Ok tt
 abbrev pub foretold_in : Journal → Event → Result (Unit {0}) WorldFault
 foretold_in j e = foretold (not_now j.config (world_in j) e) (fits j e)
 
--- An event was taken: it could happen, it is the last of the journal, the world after it is that of the definitions, and the packets that it added are the last of the bag.
+-- An event was taken: it could happen, and it is the last of the journal. The world after it is that of the
+-- definitions, and the packets that it added are the last of the bag.
 pub record Takes (old : Journal) (e : Event) (took : Took) (new : Journal) : Type 0 where
   pub could : CanHappen old e
   pub journal : new ≡ record { config = old.config; events = old.events ++ e ∷ [] }
@@ -56,8 +60,8 @@ abbrev pub AllFit : Config → World → List Event → Type 0
 AllFit cfg w [] = Unit {0}
 AllFit cfg w (e ∷ es) = (not_now cfg w e ≡ None → within cfg w e ≡ true) × AllFit cfg (happens cfg (within cfg) w e) es
 
--- These events were run: those that were taken are in the journal from then on, all others were not permitted when they came, and the world is that of the journal and
--- these events.
+-- These events were run. Those that were taken are in the journal from then on, and all others were not permitted
+-- when they came. The world is that of the journal and these events.
 pub record Ran (old : Journal) (es : List Event) (new : Journal) : Type 0 where
   pub journal : new ≡ record { config = old.config; events = old.events ++ taken old.config (world_in old) es }
   pub fits : AllFit old.config (world_in old) es
@@ -82,7 +86,7 @@ abbrev pub Runs : {A : Type 0} → Journal → List Event → Result A WorldFaul
 Runs old es (Ok a) new = Ran old es new
 Runs old es (Err f) new = StopsAt old es f new
 
--- ---- what is said of the parts, where a journal of so many events goes with them
+-- ---- what is said of the parts, where a journal of n events goes with them
 
 abbrev pub RefusesAt : Parts → ℕ → Event → WorldFault → Type 0
 RefusesAt p n e f = (w : World) → Standing p w → Refuses (not_now p.config w e) (nat_lt n MAX_EVENTS && within p.config w e) (nat_lt n MAX_EVENTS && fits_counted p.config w e) f

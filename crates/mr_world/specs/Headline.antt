@@ -1,4 +1,5 @@
--- The headline, of a world before and after a call. What is claimed is mr_model's, which says what of it is Hadoop's and Dean and Ghemawat's.
+-- The headline, of a world before and after a call. What is claimed is mr_model's, which says what of it is Hadoop's
+-- and Dean and Ghemawat's.
 use Rattle.std.specs.Prelude.{◌≡◌, ◌≤◌, ℕ, Bool, true, nat_lt, List, [], Some, None, if◌then◌else◌}
 use Rattle.mr_model.specs.Ids.{Attempt, Path, TaskId, is_reduce, part}
 use Rattle.mr_model.specs.Content.{Entry, File, Op, Superseded, Barred, entry_at}
@@ -40,9 +41,11 @@ pub record HeadlineHolds (old new : Journal) : Type 0 where
   pub settled : (b : Bool) → outcome (world_in old) ≡ Some b → LooksTheSame (world_in old) (world_in new)
   pub files_settled : (b : Bool) → outcome (world_in old) ≡ Some b → visible (world_in new) ≡ visible (world_in old)
   pub marker_settled : (b : Bool) → outcome (world_in old) ≡ Some b → IsMarked (world_in new) → IsMarked (world_in old)
-  -- with deterministic functions, each of whose results is the definition's, the files are the sequential execution's, once the marker is there
+  -- with deterministic functions, each of whose results is the definition's, the files are the sequential
+  -- execution's, once the marker is there
   pub sequential : (job : Job) → JobLaws job new.config → IsFaithful job new.config (within new.config) new.events → IsMarked (world_in new) → SeesSequential job new.config (world_in new)
-  -- recovery finds the winners: while the newest master runs, each earlier winner's whole file is in its own generation, and it takes exactly these for won
+  -- recovery finds the winners: while the newest master runs, each earlier winner's whole file is in its own
+  -- generation, and it takes exactly these for won
   pub recovered : (t : TaskId) (a : Attempt) → is_running (newest new).phase ≡ true → IsReduce new.config t → winner_in (records_below (world_in new).history (world_in new).fence) t ≡ Some a → HoldsWhole (world_in new) (world_in new).fence t a
   pub exactly : is_running (newest new).phase ≡ true → (newest new).winners ≡ winners_of (records_below (world_in new).history (world_in new).fence) new.config.job new.config.reduces
   -- a master launches nothing before it runs, and never a reduce that had a winner in a generation below its own

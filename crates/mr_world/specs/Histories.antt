@@ -1,5 +1,6 @@
--- The job history in bytes, as a journal's events leave it. When a master starts, crashes or calls is mr_model's, and what that makes of the history is mr_history's: mr_model itself keeps of a segment its records alone.
--- Our own: where code and definitions meet.
+-- The job history in bytes, as a journal's events leave it. mr_model says when a master starts, crashes or calls, and
+-- mr_history what that makes of the history. Of a segment mr_model itself keeps the records alone. Our own: where
+-- code and definitions meet.
 use Rattle.std.specs.Prelude.{ℕ, ◌&&◌, nat_lt, nat_le, List, [], ◌∷◌, Option, Some, None, if◌then◌else◌, replicate}
 use Rattle.std.specs.Option.{option_and_then, option_map}
 use Rattle.mr_history.specs.State.{State}

@@ -39,7 +39,8 @@ abbrev pub taken : Config → World → List Event → List Event
 taken cfg w [] = []
 taken cfg w (e ∷ es) = if_taken cfg w e ++ taken cfg (happens cfg (within cfg) w e) es
 
--- The parts stand for the world that the journal leads to, each event of it was taken, and it has room. This is where the code of a world and the definitions meet.
+-- The parts stand for the world that the journal leads to, each event of it was taken, and it has room. This is where
+-- the code of a world and the definitions meet.
 pub record Keeps (p : Parts) (es : List Event) : Type 0 where
   pub stands : Standing p (run_of p.config es)
   pub taken : taken p.config opening_world es ≡ es

@@ -1,5 +1,6 @@
--- What a world's contracts say. Read Ranges, Limits, Journal, Applying and Headline for what its calls promise, and Readings, VisibleFiles, Histories and Asks for what is read;
--- Machines and Standing say how its parts stand for the world of mr_model (of mr_cluster, Living and Nodes).
+-- What a world's contracts say. Read Ranges, Limits, Journal, Applying and Headline for what its calls promise. Read
+-- Readings, VisibleFiles, Histories and Asks for what is read. Machines and Standing say how its parts stand for the
+-- world of mr_model (of mr_cluster, Living and Nodes).
 pub mod Ranges
 pub mod Limits
 pub mod Machines

@@ -72,7 +72,8 @@ abbrev pub fits_bytes : Option Place → ℕ → Bool
 fits_bytes None n = nat_lt n (2 ^ 32)
 fits_bytes (Some p) n = if is_reduce p.attempt then nat_lt n (2 ^ 32) else nat_le n MAX_OUTPUT_LEN
 
--- generations, launches, bytes that are handed in, and incarnations of a node (which no list of 1,000,000 events can use up)
+-- generations, launches, bytes that are handed in, and incarnations of a node (which no list of 1,000,000 events can
+-- use up)
 abbrev pub fits_own : World → Event → Bool
 fits_own w (Start k kept) = nat_le k MAX_APP_ATTEMPTS
 fits_own w (LaunchOn k t n) = nat_lt (launch_count w) MAX_CONTAINERS
@@ -101,7 +102,8 @@ is_of_master w (Duty k f) = true
 is_of_master w (Expire k n) = true
 is_of_master w _ = false
 
--- The limits that are found without memory: an event's own, and room in the bag, but for what a master sends. (Whether a store call finds its store full takes the call's paths to find out.)
+-- The limits that are found without memory: an event's own, and room in the bag, but for what a master sends. (To
+-- find out whether a store call finds its store full takes the call's paths.)
 abbrev pub fits_counted : Config → World → Event → Bool
 fits_counted cfg w e = fits_own w e && (is_of_master w e || fits_bag cfg w e)
 

@@ -73,8 +73,9 @@ pub record IsTaken (cfg : Config) (w : World) (e : Event) : Type 0 where
   pub now : not_now cfg w e ≡ None
   pub fits : within cfg w e ≡ true
 
--- The fault that is answered: the first reason why an event is not permitted, or else that it would pass a limit, or else an allocation failure. Where it passes none of
--- the limits that are found without memory, an allocation failure may also come while it is found out whether it passes another.
+-- The fault that is answered: the first reason why an event is not permitted, or else that it would pass a limit, or
+-- else an allocation failure. An event may pass none of the limits that are found without memory. Then an allocation
+-- failure may also come while it is found out whether it passes another.
 abbrev pub Refuses : Option Why → Bool → Bool → WorldFault → Type 0
 Refuses (Some why) fits counted f = f ≡ fault.NotNow why
 Refuses None true counted f = f ≡ fault.NoMemory

@@ -1,5 +1,6 @@
-//! A master takes a step: what it would send and change is prepared, room is made for it in the bag and in the master, and the step is taken.
-//! Up to there all may be refused, and nothing changes but spare room; from there on nothing is.
+//! A master takes a step. What it would send and change is prepared, room is made for it in the bag and in the
+//! master, and the step is taken. Before the step is taken all may be refused, and nothing changes but spare room.
+//! From then on nothing is refused.
 ghost use Rattle.std.specs.Prelude.{◌≡◌, ◌≤◌, ◌+◌, length, true, is_some, IfOk, OnOk};
 ghost use Rattle.mr_master_model.specs.Past.{Step, Answered};
 ghost use Rattle.mr_model.specs.World.{World};
@@ -60,7 +61,7 @@ impl Parts {
         Ok(())
     }
 
-    /// The master takes the step that was prepared, and its packets are sent. It takes no memory.
+    /// The master takes the step that was prepared, and its packets are sent.
     pub fn act(&mut self, k: u32, prepared: Prepared)
         requires { (step : Step) × IsSet self.old k step prepared }
         ensures taken { (step : Step) → IsSet self.old k step prepared → HasTaken self.old k step prepared self.new }

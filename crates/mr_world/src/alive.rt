@@ -1,4 +1,5 @@
-//! Whether the master of a generation is alive: asked before it crashes or makes a store call, and for its unflushed bytes.
+//! Whether the master of a generation is alive: asked before it crashes or makes a store call, and for its unflushed
+//! bytes.
 ghost use Rattle.std.specs.Prelude.{◌≡◌, ◌≤◌, true, false, is_some, IfOk, OnOk, IfErr};
 ghost use Rattle.mr_event.specs.declared.why.Why.TheVariants.{NoMaster};
 ghost use Rattle.mr_model.specs.World.{World};

@@ -1,4 +1,5 @@
-//! A master's store call is made, with what it leaves of both stores. What the master hears of it is foretold in `foretell`.
+//! A master's store call is made, with what it leaves of both stores. What the master hears of it is foretold in
+//! `foretell`.
 ghost use Rattle.std.specs.Prelude.{◌≡◌, ◌≤◌, OnOk, OnErr};
 ghost use Rattle.mr_names.specs.Calls.{call_of};
 ghost use Rattle.mr_history.specs.Calls as segments;
@@ -16,8 +17,8 @@ use mr_names::{Namespace, Op};
 use std::alloc::AllocError;
 
 impl Parts {
-    /// A master's store call is made, if it is in this weather: the stores are left as it leaves them, refused or not. It may allocate,
-    /// and then nothing has changed.
+    /// A master's store call is made, if it is in this weather: the stores are left as it leaves them, refused or
+    /// not. Where memory is refused nothing has changed.
     pub fn ask(
         &mut self,
         app: AppAttempt,

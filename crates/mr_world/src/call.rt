@@ -24,7 +24,8 @@ pub struct StoreCall {
 }
 
 impl Parts {
-    /// The store call that the container makes in its next step, if it can take one now; none where that step is no store call.
+    /// The store call that the container makes in its next step, if it can take one now. None where that step is no
+    /// store call.
     pub fn foresee_call(
         &self,
         c: &ContainerId,
@@ -56,7 +57,7 @@ impl Parts {
         Ok(Some(call))
     }
 
-    /// The container makes its store call, and hears of the answer. It may allocate, and then nothing has changed.
+    /// The container makes its store call, and hears of the answer. Where memory is refused nothing has changed.
     pub fn call_store(
         &mut self,
         c: &ContainerId,
@@ -132,7 +133,7 @@ pub fn is_full(refusal: Option<NameFault>) -> bool
     matches!(refusal, Some(NameFault::Full))
 }
 
-// What its caller hears of a call, in this weather. It may allocate, and then nothing has changed.
+// What its caller hears of a call, in this weather. Where memory is refused nothing has changed.
 fn make(names: &mut Namespace, call: &StoreCall, weather: Weather) -> Result<Reply, AllocError>
     ensures heard { IfOk result (λ reply. reply ≡ heard_in weather (answer_of names.old call.now).0) }
     ensures left { OnOk result (names.new ≡ left_in weather names.old (answer_of names.old call.now).1) }

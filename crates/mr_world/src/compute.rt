@@ -1,4 +1,5 @@
-//! The event by which a container's bytes are handed in: a map's lie on its node's shelf from then on, a reduce's are kept, to be written.
+//! The event by which a container's bytes are handed in. A map's lie on its node's shelf from then on; a reduce's are
+//! kept, to be written.
 ghost use Rattle.std.specs.Prelude.{◌≡◌, IfOk, IfErr, None, ℕ};
 ghost use Rattle.mr_ids.specs.declared.id.TaskKind.TheVariants.{Map, Reduce};
 ghost use Rattle.mr_model.specs.World.{Compute};
@@ -16,7 +17,8 @@ use mr_mapside::{MAX_OUTPUT_LEN, MapOutput, blocks};
 use mr_packet::{Bytes, ContainerId};
 
 impl Parts {
-    /// Whether these bytes can be handed in to the container now; and what it was launched as. It takes no memory.
+    /// Whether these bytes can be handed in to the container now, and what it was launched as. It takes no memory:
+    /// `foresee_computed` rests on that.
     pub fn check_compute(&self, c: &ContainerId, bytes: &Bytes) -> Result<Place, WorldFault>
         ensures foresees { Foresees self.now (Compute c.now bytes.now) result }
         ensures computes { IfOk result (λ place. Computes (kept self.now.living c.now) place) }

@@ -1,4 +1,5 @@
-//! What a world is made for: the job with its splits and reduces, the nodes, the limit of failures, and from which generation on the history has version 2.
+//! What a world is made for. It is the job with its splits and reduces, the nodes, the limit of failures, and from
+//! which generation on the history has version 2.
 ghost use Rattle.std.specs.Prelude.{◌≡◌, IfOk, length, option_map, slice_get};
 ghost use Rattle.mr_shuffle.specs.SequentialText.{AreSplits};
 ghost use Rattle.mr_world.specs.Ranges.{IsInRange};
@@ -39,8 +40,8 @@ impl Model for Config {
 }
 
 impl Config {
-    /// The numbers of a config are in their ranges, and its splits are those of a job: at most 1,000, each of bytes and at most 2^24 long. This call does
-    /// nothing: it tells the caller so.
+    /// The numbers of a config are in their ranges. Its splits are those of a job: at most 1,000, each of bytes and
+    /// at most 2^24 long. This call does nothing: it tells the caller so.
     pub fn ranges(&self)
         ensures numbers { IsInRange self.now }
         ensures splits { AreSplits self.now.splits }
@@ -48,7 +49,7 @@ impl Config {
         self.splits.tell_bytes();
     }
 
-    /// An equal config. It may allocate, and refuses nothing else.
+    /// An equal config. Its only fault is an allocation failure.
     pub fn copy(&self) -> Result<Config, AllocError>
         ensures { IfOk result (λ config. config ≡ self.now) }
     {
@@ -62,21 +63,21 @@ impl Config {
         })
     }
 
-    /// The job's identifier. It takes no memory.
+    /// The job's identifier.
     pub fn job_id(&self) -> JobId
         ensures { result ≡ self.now.job }
     {
         self.job
     }
 
-    /// How many reduces there are. It takes no memory.
+    /// How many reduces there are.
     pub fn reduce_count(&self) -> u32
         ensures { result ≡ self.now.reduces }
     {
         self.reduces
     }
 
-    /// How many maps there are: one for each split. It takes no memory.
+    /// How many maps there are: one for each split.
     pub fn maps(&self) -> u32
         ensures { result ≡ length self.now.splits }
     {
@@ -84,7 +85,7 @@ impl Config {
         self.splits.len() as u32
     }
 
-    /// The bytes of the split of this number, from 0; none where there is no such split. It takes no memory.
+    /// The bytes of the split of this number, from 0; none where there is no such split.
     pub fn split(&self, number: u32) -> Option<&[u8]>
         ensures { option_map (λ bytes. bytes.now) result ≡ slice_get self.now.splits number }
     {

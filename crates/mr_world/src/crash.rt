@@ -1,4 +1,5 @@
-//! The event by which a master crashes: so many bytes that it had not flushed stay, and its segment is sealed.
+//! The event by which a master crashes. Of the bytes that it had not flushed a given number stay, and its segment is
+//! sealed.
 ghost use Rattle.mr_history.specs.Calls.{sealed_at};
 ghost use Rattle.mr_model.specs.World.{Crash};
 ghost use Rattle.mr_world.specs.Machines.{master_of};
@@ -22,7 +23,8 @@ impl Parts {
         Ok(app)
     }
 
-    /// The master of this generation crashes: of what it has not flushed so many bytes stay, and its segment is sealed.
+    /// The master of this generation crashes. Of what it has not flushed `kept` bytes stay, and its segment is
+    /// sealed.
     pub fn crash(&mut self, k: u32, kept: u64) -> Result<(), WorldFault>
         ensures tries { Tries self.old (Crash k kept) result self.new }
         ensures config { self.new.config ≡ self.old.config }

@@ -1,4 +1,5 @@
-//! The event by which a packet of the bag is delivered: it is handed on to `hear_master`, `hear_container` or `hear_node`, by its address.
+//! The event by which a packet of the bag is delivered: it is handed on to `hear_master`, `hear_container` or
+//! `hear_node`, by its address.
 ghost use Rattle.std.specs.Prelude.{◌≡◌, slice_get};
 ghost use Rattle.mr_model.specs.World.{Deliver};
 ghost use Rattle.mr_world.specs.inner.Addressees.{whom};

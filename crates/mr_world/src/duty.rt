@@ -47,8 +47,8 @@ impl Parts {
         Ok(())
     }
 
-    /// The master of this generation makes its store call, and hears of the answer: that of the store, a refusal too, or in bad weather
-    /// that nobody can tell. It sends the packets that follow.
+    /// The master of this generation makes its store call, and hears of the answer. That is the store's, a refusal
+    /// too; in bad weather it hears that nobody can tell. It sends the packets that follow.
     pub fn duty(&mut self, k: u32, weather: Weather) -> Result<(), WorldFault>
         requires { (w : World) × Standing self.old w }
         ensures tries { Tries self.old (Duty k weather) result self.new }

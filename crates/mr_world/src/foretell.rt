@@ -1,4 +1,5 @@
-//! What a master will hear of its store call, found out before the call is made, so that the master can be made ready for it.
+//! What a master will hear of its store call, found out before the call is made, so that the master can be made ready
+//! for it.
 ghost use Rattle.std.specs.Prelude.{◌≡◌, ◌≤◌, ◌<◌, ◌^◌, ◌&&◌, true, false, not, None, IfOk, IfErr, OnOk};
 ghost use Rattle.mr_names.specs.Calls.{call_of, refused, answer};
 ghost use Rattle.mr_history.specs.Calls as segments;
@@ -20,7 +21,8 @@ use mr_names::{Answer, Caller, NameFault, Namespace, Op};
 use std::alloc::AllocError;
 
 impl Parts {
-    /// What a master will be told of its store call in this weather. Refused `Full` where the call is made and finds a store full.
+    /// What a master will be told of its store call in this weather. Refused `Full` where the call is made and finds
+    /// a store full.
     pub fn foretell(
         &self,
         app: AppAttempt,
@@ -55,7 +57,8 @@ impl Parts {
         }
     }
 
-    // What both stores will answer. What changes nothing is asked for at once; of all else the answer is known beforehand.
+    // What both stores will answer. What changes nothing is asked for at once; of all else the answer is known
+    // beforehand.
     fn answer(&self, app: AppAttempt, call: &StoreCall) -> Result<StoreAnswer, AllocError>
         requires { app ≤ self.now.history.fence }
         ensures { IfOk result (λ answer. answer ≡ answer_to self.now.names self.now.history app call.now) }
@@ -141,7 +144,8 @@ fn read(history: &History, app: AppAttempt) -> Result<StoreAnswer, AllocError>
     }
 }
 
-// The numbers of a record that is appended are in the ranges of their types. This call does nothing: it tells the caller so.
+// The numbers of a record that is appended are in the ranges of their types. This call does nothing: it tells the
+// caller so.
 fn tell_ranges(call: &StoreCall)
     ensures { IsRanged call.now }
 {

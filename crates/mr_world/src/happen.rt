@@ -1,4 +1,5 @@
-//! Any event, handed on to the file of its kind: whether it can happen now, and that it happens. And whether the journal has room for it.
+//! Any event, handed on to the file of its kind: whether it can happen now, and that it happens. Whether the journal
+//! has room for it is told here too.
 ghost use Rattle.std.specs.Prelude.{◌≡◌, ◌<◌, IfErr, IfOk, OnOk, length, vec_capacity, vec_len};
 ghost use Rattle.mr_model.specs.World.{World, Compute};
 ghost use Rattle.mr_world.specs.Applying.{Counts, ForetellsAt, LeavesHistory, RefusesAt, foretold_at};
@@ -108,7 +109,7 @@ pub fn take(parts: &mut Parts, event: &Event) -> Result<Took, WorldFault>
     })
 }
 
-/// Whether an event can happen now, with a journal of so many events.
+/// Whether an event can happen now, with a journal of `journaled` events.
 pub fn foresee(parts: &Parts, journaled: usize, event: &Event) -> Result<(), WorldFault>
     ensures { ForetellsAt parts.now journaled event.now result }
 {
@@ -122,7 +123,8 @@ pub fn foresee(parts: &Parts, journaled: usize, event: &Event) -> Result<(), Wor
     }
 }
 
-/// Whether these bytes can be handed in to the container now, with a journal of so many events. It takes no memory, so it never wants for any.
+/// Whether these bytes can be handed in to the container now, with a journal of `journaled` events. It takes no
+/// memory, so it never wants for any.
 pub fn foresee_computed(
     parts: &Parts,
     journaled: usize,
@@ -139,8 +141,8 @@ pub fn foresee_computed(
     }
 }
 
-/// Makes room for one event more in the journal. Where there is none, the event is refused as it would be, were there memory; else for want of
-/// memory. Nothing changes.
+/// Makes room for one event more in the journal. Where there is none, the event is refused for what `foresee` would
+/// refuse it for, else for want of memory. Nothing changes.
 pub fn make_room(parts: &Parts, journal: &mut Vec<Event>, event: &Event) -> Result<(), WorldFault>
     ensures kept { journal.new.items ≡ journal.old.items }
     ensures few { OnOk result (length journal.old.items < MAX_EVENTS) }

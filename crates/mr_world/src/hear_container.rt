@@ -38,7 +38,8 @@ impl Parts {
         Ok(())
     }
 
-    /// The packet at this place is delivered to its container, which may come to its end by it; then its master is told so.
+    /// The packet at this place is delivered to its container, which may come to its end by it; then its master is
+    /// told so.
     pub fn hear_container(&mut self, i: usize, c: &ContainerId) -> Result<(), WorldFault>
         requires { IsTo self.old i (Container c.now) }
         ensures tries { Tries self.old (Deliver i) result self.new }

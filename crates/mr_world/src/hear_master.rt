@@ -17,7 +17,8 @@ use mr_packet::{Bag, MAX_PACKETS};
 use std::alloc::AllocError;
 
 impl Parts {
-    /// Whether the packet at this place can be delivered to its master now, and what the master would send and change then.
+    /// Whether the packet at this place can be delivered to its master now, and what the master would send and change
+    /// then.
     pub fn check_hear_master(&self, i: usize, k: u32) -> Result<Prepared, WorldFault>
         requires { IsTo self.now i (Master k) }
         ensures foresees { Foresees self.now (Deliver i) result }

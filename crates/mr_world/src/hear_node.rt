@@ -39,8 +39,8 @@ impl Parts {
         Ok(())
     }
 
-    /// The packet at this place is delivered to its node: a launch that the node obeys begins a container, a `Kill` ends one, and a
-    /// packet may be answered.
+    /// The packet at this place is delivered to its node: a launch that the node obeys begins a container, a `Kill`
+    /// ends one, and a packet may be answered.
     pub fn hear_node(&mut self, i: usize, n: u32) -> Result<(), WorldFault>
         requires { IsTo self.old i (Node n) }
         ensures tries { Tries self.old (Deliver i) result self.new }
@@ -78,7 +78,8 @@ fn would_answer(bag: &Bag, i: usize, nodes: &Nodes, n: u32) -> bool
     }
 }
 
-// The node hears the packet at this place, and who lives changes with it: the packet that is added. Where memory is refused nothing changes.
+// The node hears the packet at this place, and who lives changes with it: the packet that is added. Where memory is
+// refused nothing changes.
 fn hear(
     alloc: Global,
     bag: &Bag,
@@ -111,7 +112,8 @@ fn added(reaction: Reaction) -> Option<Envelope>
     }
 }
 
-// A node is asked to launch a container. Its machine is put in before the node hears of it, since nothing may be refused after that.
+// A node is asked to launch a container. Its machine is put in before the node hears of it, since nothing may be
+// refused after that.
 fn hear_launch(
     alloc: Global,
     nodes: &mut Nodes,
@@ -165,7 +167,8 @@ fn place_on(nodes: &Nodes, n: u32, a: AttemptId) -> Option<Place>
     })
 }
 
-// A node hears a packet, and who lives changes with it: the packet that is added. Where memory is refused nothing changes.
+// A node hears a packet, and who lives changes with it: the packet that is added. Where memory is refused nothing
+// changes.
 fn hear_packet(
     alloc: Global,
     nodes: &mut Nodes,

@@ -21,7 +21,7 @@ pub enum Input<'a> {
 }
 
 impl Parts {
-    /// What a container was launched as; none where it is not alive. It takes no memory.
+    /// What a container was launched as; none where it is not alive.
     pub fn place(&self, c: &ContainerId) -> Option<Place>
         ensures { (w : World) → Standing self.now w → result ≡ place_in w c.now }
     {
@@ -29,7 +29,7 @@ impl Parts {
         Some(machine.place())
     }
 
-    /// What a container wishes to do next; none where it is not alive. It takes no memory.
+    /// What a container wishes to do next; none where it is not alive.
     pub fn wish(&self, c: &ContainerId) -> Option<Wish>
         ensures { (w : World) → Standing self.now w → result ≡ wish_in self.now.config w c.now }
     {
@@ -37,7 +37,7 @@ impl Parts {
         Some(machine.wish())
     }
 
-    /// What a container is to compute from; none where it is not alive, or does not wish to compute. It takes no memory.
+    /// What a container is to compute from; none where it is not alive, or does not wish to compute.
     pub fn input(&self, c: &ContainerId) -> Option<Input<'_>>
         ensures { (w : World) → Standing self.now w → option_map as_input result ≡ input_in self.now.config w c.now }
     {

@@ -1,5 +1,6 @@
-//! The world: a cluster that is run, event by event, in one process: a namespace, a history, a bag of packets, the machines of masters, nodes and
-//! containers. It is at each point what `mr_model` defines to be the run of the events that it took, its *journal*.
+//! The world: a cluster that is run, event by event, in one process. It has a namespace, a history, a bag of packets,
+//! and the machines of masters, nodes and containers. It is at each point what `mr_model` defines to be the run of
+//! the events that it took, its *journal*.
 //!
 //! # How to begin
 //!
@@ -71,34 +72,51 @@
 //! }
 //! ```
 //!
-//! (Both are run in `crates/tests_guides`.) Events, weather and reasons are those of `mr_event`, which this crate gives on.
+//! (Both are run in `crates/tests_guides`.) Events, weather and reasons are those of `mr_event`, which this crate
+//! gives on.
 //!
 //! # What is proved
 //!
-//! Contracts see a `World` as its config and its journal (`specs/Journal`), and `world_in` of that is the world of the definitions, under the limits of
-//! `specs/Limits`. For every world, every event and every list of events:
+//! Contracts see a `World` as its config and its journal (`specs/Journal`). `world_in` of that is the world of the
+//! definitions, under the limits of `specs/Limits`. For every world, every event and every list of events:
 //!
-//! - `World::new` has an empty journal, `journal` and `config` lend what contracts see; a `Config` is copied and compared, and tells that its splits are those of a job
-//!   (`Config::ranges`), so that `mr_sequential::jobs_have_their_laws` holds of each world;
-//! - `apply` refuses an event with the first reason why it is not permitted, else `Full` where it would pass a limit, else `NoMemory`, and then nothing has changed;
-//!   else the event is the journal's last, the world after it is the definitions', and the packets that it added are told (`Applies`). `foresee` tells the refusal
-//!   beforehand and changes nothing (`Foretells`), and `foresee_computed` does so of bytes that a container computed, without a copy of them and without memory (`foretold_in`);
-//! - `run` passes over what is not permitted and over nothing else, and leads to the world of the journal and all its events; it stops at the first that is `Full` or meets an allocation failure, and those
-//!   before it have happened (`Runs`);
-//! - **the headline** stands on `apply` and `run` themselves, of the world before and after (`HeadlineHolds`): a recorded winner stays, and every node told of it is told
-//!   the same; where the success marker is, a reader sees each reduce's winner's whole file and nothing else, from then on; one outcome is told; with deterministic
-//!   functions the files are the sequential execution's; recovery finds the winners, and a barred attempt's calls are refused from then on;
-//! - what is read is what the definitions read: for those outside `winner`, `winners`, `marker`, `outcome`, `visible`; for programs `bag`, `undeliverable`, `newest`,
-//!   `phase`, `duty`, `wanted`, `unflushed`, `stable`, `living`, `next_living`, `place`, `wish`, `input` (`specs/Readings`; the bytes of `stable` are those
-//!   that the calls of the journal's events leave in the history, a torn end among them: `specs/Histories`), and `asks`: the store call that an event
-//!   would make now, by whom, and what its caller would hear (`specs/Asks`).
+//! - `World::new` has an empty journal, and `journal` and `config` lend what contracts see. A `Config` is copied and
+//!   compared. It tells that its splits are those of a job (`Config::ranges`), so that
+//!   `mr_sequential::jobs_have_their_laws` holds of each world;
+//! - `apply` refuses an event with the first reason why it is not permitted, else `Full` where it would pass a limit,
+//!   else `NoMemory`. Then nothing has changed. Else the event is the journal's last, the world after it is the
+//!   definitions', and the packets that it added are told (`Applies`);
+//! - `foresee` tells the refusal beforehand and changes nothing (`Foretells`). `foresee_computed` does so of bytes
+//!   that a container computed, without a copy of them and without memory (`foretold_in`);
+//! - `run` passes over what is not permitted and over nothing else, and leads to the world of the journal and all its
+//!   events. It stops at the first event that is `Full` or meets an allocation failure, and those before it have
+//!   happened (`Runs`);
+//! - **the headline** stands on `apply` and `run` themselves, of the world before and after (`HeadlineHolds`). A
+//!   recorded winner stays, and every node told of it is told the same. Where the success marker is, a reader sees
+//!   each reduce's winner's whole file and nothing else, from then on. One outcome is told. With deterministic
+//!   functions the files are the sequential execution's. Recovery finds the winners, and a barred attempt's calls are
+//!   refused from then on;
+//! - what is read is what the definitions read (`specs/Readings`). Those outside read `winner`, `winners`, `marker`,
+//!   `outcome` and `visible`. Programs read `bag`, `undeliverable`, `newest`, `phase`, `duty`, `wanted`, `unflushed`,
+//!   `stable`, `living`, `next_living`, `place`, `wish` and `input`;
+//! - the bytes of `stable` are those that the calls of the journal's events leave in the history, a torn end among
+//!   them (`specs/Histories`);
+//! - `asks` tells the store call that an event would make now, by whom, and what its caller would hear
+//!   (`specs/Asks`);
+//! - memory may be taken by `World::new`, `Config::copy`, `apply`, `foresee` and `run`, and by `winner`, `winners`,
+//!   `marker`, `visible`, `duty`, `living` and `asks`. No other call takes any.
 //!
-//! A world's invariant is that its parts (`Parts`) *stand for* the world of its journal (`specs/Standing`): one clause a part, each machine for its past there. Each event's
-//! call keeps it (`Tries`), and everything that can fail comes before the first change that can't be taken back.
+//! A world's invariant is that its parts (`Parts`) *stand for* the world of its journal (`specs/Standing`): one
+//! clause a part, each machine for its past there. Each event's call keeps it (`Tries`), and everything that can fail
+//! comes before the first change that can't be taken back.
 //!
-//! An allocation failure never comes in place of a reason, nor of `Full`. One exception: it takes memory to find out which packets a step of a master would send (a packet that it hears, a duty,
-//! an expiry), and which paths a container's store call names; where that was refused, an allocation failure may be answered though a limit of the bag or of a store is passed. All other
-//! limits are found without memory (`fits_counted` of `specs/Limits`). A master is told what a store answers, a refusal too; only where a store is full the whole event is refused.
+//! A reason is always answered before an allocation failure, and so is `Full`, but for one exception. It takes memory
+//! to find out which paths a container's store call names, and which packets a step of a master would send. Such a
+//! step is a packet that the master hears, a duty or an expiry. Where that memory was refused, an allocation failure
+//! may be answered though a limit of the bag or of a store is passed. All other limits are found without memory
+//! (`fits_counted` of `specs/Limits`).
+//!
+//! A master is told what a store answers, a refusal too; only where a store is full the whole event is refused.
 #![tactic(auto)]
 
 mod act;

@@ -1,4 +1,5 @@
-//! Two limits of a world: how many events and how many containers. Most bytes of a map's output are `mr_mapside::MAX_OUTPUT_LEN`.
+//! Two limits of a world: how many events and how many containers. Most bytes of a map's output are
+//! `mr_mapside::MAX_OUTPUT_LEN`.
 
 /// Most events of a journal.
 pub const MAX_EVENTS: usize = 1_000_000;

@@ -21,8 +21,8 @@ impl Parts {
         Ok(all)
     }
 
-    /// The next container that is alive after another, in cyclic order by generation, then number; the first, where none is given. It takes
-    /// no memory, and walks over none.
+    /// The next container that is alive after another, in cyclic order by generation, then number. Where none is
+    /// given, it is the first. It walks over none.
     pub fn next_living(&self, after: Option<ContainerId>) -> Option<ContainerId>
         ensures { (w : World) → Standing self.now w → result ≡ next_living (living self.now.config w) after }
     {

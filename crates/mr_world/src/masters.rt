@@ -10,14 +10,15 @@ use mr_master::{MasterMachine, Prepared};
 use mr_packet::Envelope;
 use std::alloc::{AllocError, Global};
 
-/// The machines of the masters by generation, from 1: those that are alive. Of each other one that was started an empty place is kept.
+/// The machines of the masters that are alive, by generation, from 1. For each other one that was started an empty
+/// place is kept.
 #[derive(Drop)]
 pub struct Masters {
     machines: Vec<Option<MasterMachine>>,
 }
 
 impl Masters {
-    /// No master was started. It takes no memory.
+    /// No master was started.
     #[tactic(auto, unfolding(crate::specs::Machines::master_of, crate::specs::Machines::master_count))]
     pub fn new(alloc: Global) -> Masters
         ensures none { (k : ℕ) → master_of result k ≡ None }
@@ -28,7 +29,7 @@ impl Masters {
         }
     }
 
-    /// The machine of the master of this generation, if it is alive. It takes no memory.
+    /// The machine of the master of this generation, if it is alive.
     #[tactic(auto, unfolding(crate::specs::Machines::master_of))]
     pub fn get(&self, k: u32) -> Option<&MasterMachine>
         ensures { option_copied result ≡ master_of self.now k }
@@ -37,7 +38,7 @@ impl Masters {
         self.machines.get(place as usize)?.as_ref()
     }
 
-    /// Whether the master of this generation is alive. It takes no memory.
+    /// Whether the master of this generation is alive.
     pub fn contains(&self, k: u32) -> bool
         ensures { result ≡ is_some (master_of self.now k) }
     {
@@ -54,7 +55,7 @@ impl Masters {
         Ok(())
     }
 
-    /// The master of this generation is alive no longer. It takes no memory.
+    /// The master of this generation is alive no longer.
     #[tactic(auto, unfolding(crate::specs::Machines::master_of, crate::specs::Machines::master_count))]
     pub fn cease(&mut self, k: u32)
         ensures { Ceases self.old k self.new }
@@ -79,7 +80,7 @@ impl Masters {
         reserve_in(place, prepared)
     }
 
-    /// A master takes the step that was prepared: the packets that it sends. It takes no memory.
+    /// A master takes the step that was prepared. Gives the packets that it sends.
     pub fn act(&mut self, k: u32, prepared: Prepared) -> Vec<Envelope>
         requires { (step : Step) × IsReadyAt self.old k step prepared }
         ensures packets { result.items ≡ prepared.packets }

@@ -11,8 +11,8 @@ use mr_event::Why;
 use mr_master::Duty;
 
 impl Parts {
-    /// The store call that a living master makes next, and what it is for. Refused `NoDuty` where there is none, and `NoMemory` only where
-    /// there is one.
+    /// The store call that a living master makes next, and what it is for. Refused `NoDuty` where there is none, and
+    /// `NoMemory` only where there is one.
     pub fn next_call(&self, k: u32) -> Result<Duty, WorldFault>
         requires { is_some (master_of self.now.masters k) ≡ true }
         ensures due { IfOk result (λ duty. HasDuty self.now k duty.call) }

@@ -1,4 +1,5 @@
-//! What stands before the first event: the staging folder, an empty history, nodes in their first incarnation, and no master.
+//! What stands before the first event: the staging folder, an empty history, nodes in their first incarnation, and no
+//! master.
 ghost use Rattle.std.specs.Prelude.{◌≡◌, IfOk};
 ghost use Rattle.mr_names.specs.Calls as names;
 ghost use Rattle.mr_names.specs.declared.op.Op.TheVariants as op;

@@ -1,5 +1,5 @@
-//! All that a world stores: both stores, the bag, and the machines of masters, containers and nodes. Most other files give it the calls of one kind of
-//! event, or of what is read.
+//! All that a world stores: both stores, the bag, and the machines of masters, containers and nodes. Most other files
+//! give it the calls of one kind of event, or of what is read.
 ghost use Rattle.std.specs.Prelude.{◌≡◌, ◌<◌, ◌≤◌, ◌+◌, length, OnOk, IfErr};
 ghost use Rattle.mr_world.specs.declared.fault.WorldFault.TheVariants.{Full};
 
@@ -12,7 +12,7 @@ use mr_names::Namespace;
 use mr_packet::{Bag, MAX_PACKETS};
 use mr_paths::Layout;
 
-/// What a world stores. Of old masters and of containers that are over nothing is kept but an empty place for each master.
+/// What a world stores. Of containers that are over nothing is kept, and of old masters an empty place for each.
 pub struct Parts {
     pub config: Config,
     /// The paths of the job's committer, at the destination.
@@ -27,7 +27,8 @@ pub struct Parts {
     pub launched: u32,
 }
 
-// By hand, so that what a world stores is dropped by this call: a derived drop is taken apart by the check at each place where one is dropped.
+// By hand, so that what a world stores is dropped by this call: a derived drop is taken apart by the check at each
+// place where one is dropped.
 impl Drop for Parts {
     fn drop(self) {
         let Parts {
@@ -45,7 +46,7 @@ impl Drop for Parts {
 }
 
 impl Parts {
-    /// Refuses `Full` where so many more packets find no room in the bag.
+    /// Refuses `Full` where `more` packets find no room in the bag.
     pub fn check_room(&self, more: usize) -> Result<(), WorldFault>
         ensures room { OnOk result (length self.now.bag.packets + more ≤ MAX_PACKETS) }
         ensures full { IfErr result (λ fault. (fault ≡ WorldFault.Full) × (MAX_PACKETS < length self.now.bag.packets + more)) }

@@ -3,7 +3,7 @@ ghost use Rattle.std.specs.Prelude.{◌≡◌, ◌≤◌, ◌+◌, ◌++◌, len
 
 use mr_packet::{Bag, Envelope, MAX_PACKETS};
 
-/// Adds these packets in order, where there is room for them. It takes no memory.
+/// Adds these packets in order, where there is room for them.
 pub fn push_all(bag: &mut Bag, packets: Vec<Envelope>)
     requires room { length packets.items ≤ bag.old.spare }
     requires few { length bag.old.packets + length packets.items ≤ MAX_PACKETS }

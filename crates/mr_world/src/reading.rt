@@ -20,22 +20,22 @@ use mr_master_model::{DutyName, Phase};
 use mr_packet::Envelope;
 
 impl Parts {
-    /// All packets that were ever sent, in the order of their sending. It takes no memory.
+    /// All packets that were ever sent, in the order of their sending.
     pub fn packets(&self) -> &[Envelope]
         ensures { (w : World) → Standing self.now w → result.now ≡ w.bag }
     {
         self.bag.packets()
     }
 
-    /// How many masters were started: the newest is of this generation. It takes no memory.
+    /// How many masters were started: the newest is of this generation.
     pub fn newest(&self) -> u32
         ensures { (w : World) → Standing self.now w → result ≡ w.fence }
     {
         self.history.fence()
     }
 
-    /// Why the packet at this place of the bag can't be delivered now: `NoPacket`, or `NoAddressee` where it goes to nobody who is alive;
-    /// none where it can. It takes no memory.
+    /// Why the packet at this place of the bag can't be delivered now: `NoPacket`, or `NoAddressee` where it goes to
+    /// nobody who is alive; none where it can.
     pub fn undeliverable(&self, i: usize) -> Option<Why>
         ensures { (w : World) → Standing self.now w → result ≡ addressee w (slice_get w.bag i) }
     {
@@ -52,7 +52,7 @@ impl Parts {
         }
     }
 
-    /// The phase of the master of this generation; none where it is not alive. It takes no memory.
+    /// The phase of the master of this generation; none where it is not alive.
     pub fn phase(&self, k: u32) -> Option<Phase>
         ensures { (w : World) → Standing self.now w → result ≡ phase_in self.now.config w k }
     {
@@ -60,7 +60,7 @@ impl Parts {
         Some(machine.phase())
     }
 
-    /// The task that the master of this generation launches next, if there is one; none where it is not alive. It takes no memory.
+    /// The task that the master of this generation launches next, if there is one; none where it is not alive.
     pub fn wanted(&self, k: u32) -> Option<TaskId>
         ensures { (w : World) → Standing self.now w → result ≡ wanted_in self.now.config w k }
     {
@@ -68,7 +68,7 @@ impl Parts {
         machine.wanted()
     }
 
-    /// How many bytes of its segment the master of this generation has not flushed; none where it is not alive. It takes no memory.
+    /// How many bytes of its segment the master of this generation has not flushed; none where it is not alive.
     pub fn unflushed(&self, k: u32) -> Option<usize>
         ensures { (w : World) → Standing self.now w → result ≡ unflushed_in w k }
     {
@@ -78,8 +78,8 @@ impl Parts {
         }
     }
 
-    /// What the next store call of the master of this generation is for, if there is one; none where the master is not alive. It refuses
-    /// an allocation failure alone.
+    /// What the next store call of the master of this generation is for, if there is one; none where the master is
+    /// not alive. Its only fault is an allocation failure.
     pub fn due(&self, k: u32) -> Result<Option<DutyName>, WorldFault>
         ensures is { IfOk result (λ due. (w : World) → Standing self.now w → due ≡ due_in self.now.config w k) }
         ensures memory { IfErr result (λ fault. fault ≡ WorldFault.NoMemory) }
@@ -90,7 +90,7 @@ impl Parts {
         }
     }
 
-    /// The stable bytes of the segment of this generation; none where its master was not started. It takes no memory.
+    /// The stable bytes of the segment of this generation; none where its master was not started.
     pub fn stable(&self, k: u32) -> &[u8]
         ensures bytes { result.now ≡ stable_bytes self.now.history k }
         ensures stable { (w : World) → Standing self.now w → k ≤ w.fence → records_of result.now ≡ (w.history k).stable }

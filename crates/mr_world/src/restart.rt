@@ -1,4 +1,5 @@
-//! The event by which a node restarts: its containers end, its shelf is empty, and the living masters are told of its next incarnation.
+//! The event by which a node restarts: its containers end, its shelf is empty, and the living masters are told of its
+//! next incarnation.
 ghost use Rattle.std.specs.Prelude.{◌≡◌, ◌<◌, ◌≤◌, ◌+◌, ◌-◌, ◌^◌, length, is_some, IfOk, IfSome, if◌then◌else◌, Some, None};
 ghost use Rattle.mr_packet.specs.declared.packet.Packet.{Packet};
 ghost use Rattle.mr_packet.specs.declared.packet.Packet.TheVariants.{NodeUp};
@@ -50,7 +51,8 @@ impl Parts {
         Ok(packets)
     }
 
-    /// The node begins anew, in its next incarnation and with an empty shelf: its containers end, and the living masters are told.
+    /// The node begins anew, in its next incarnation and with an empty shelf: its containers end, and the living
+    /// masters are told.
     pub fn restart(&mut self, n: u32) -> Result<(), WorldFault>
         ensures tries { Tries self.old (NodeRestart n) result self.new }
         ensures config { self.new.config ≡ self.old.config }
@@ -66,7 +68,7 @@ impl Parts {
 }
 
 impl Masters {
-    /// How many masters, up to this generation, are alive. It takes no memory.
+    /// How many masters, up to this generation, are alive.
     pub fn count_alive(&self, newest: u32) -> usize
         requires few { newest ≤ 1000 }
         ensures { (p : Packet) → result ≡ length (to_masters (λ k. is_some (master_of self.now k)) newest p) }

@@ -30,7 +30,7 @@ pub struct VisibleFile {
 }
 
 impl Parts {
-    /// The outcome of the job that was told first, if one was told: whether the job succeeded. It takes no memory.
+    /// The outcome of the job that was told first, if one was told: whether the job succeeded.
     pub fn outcome(&self) -> Option<bool>
         ensures { (w : World) → Standing self.now w → result ≡ outcome w }
     {
@@ -46,7 +46,8 @@ impl Parts {
         Ok(is_file(kind_at(&self.names, &path)))
     }
 
-    /// The files directly beneath the destination whose names are not hidden, by rising name. Its only fault is an allocation failure.
+    /// The files directly beneath the destination whose names are not hidden, by rising name. Its only fault is an
+    /// allocation failure.
     pub fn visible(&self) -> Result<Vec<VisibleFile>, WorldFault>
         ensures is { IfOk result (λ files. (w : World) → Standing self.now w → map as_pair files.items ≡ visible w) }
         ensures memory { IfErr result (λ fault. fault ≡ WorldFault.NoMemory) }

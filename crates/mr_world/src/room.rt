@@ -1,10 +1,10 @@
-//! Room in the bag, made before anything changes: so that packets are sent later without memory.
+//! Room in the bag, made before anything changes, so that packets are sent later without memory.
 ghost use Rattle.std.specs.Prelude.{◌≡◌, ◌≤◌, OnOk, length};
 
 use mr_packet::{Bag, MAX_PACKETS};
 use std::alloc::AllocError;
 
-/// Makes room for so many packets, and changes nothing else.
+/// Makes room for `more` packets, and changes nothing else.
 pub fn reserve(bag: &mut Bag, more: usize) -> Result<(), AllocError>
     ensures kept { bag.new.packets ≡ bag.old.packets }
     ensures room { OnOk result (more ≤ bag.new.spare) }

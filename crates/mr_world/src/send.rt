@@ -27,7 +27,8 @@ impl Parts {
         Ok(letters)
     }
 
-    /// The container takes its next step, which is permitted and no store call: it sends the packet that it wishes to send, if it wishes to.
+    /// The container takes its next step, which is permitted and no store call: it sends the packet that it wishes to
+    /// send, if it wishes to.
     pub fn send_packet(&mut self, c: &ContainerId, weather: Weather) -> Result<(), WorldFault>
         requires { IsAlone self.old c.now weather }
         ensures tries { Tries self.old (ContainerStep c.now weather) result self.new }

@@ -22,7 +22,8 @@ impl Parts {
         }
     }
 
-    /// The container takes its next step: it makes a store call and hears the answer, or sends a packet, or nothing happens.
+    /// The container takes its next step: it makes a store call and hears the answer, or sends a packet, or nothing
+    /// happens.
     pub fn step(&mut self, c: &ContainerId, weather: Weather) -> Result<(), WorldFault>
         ensures tries { Tries self.old (ContainerStep c.now weather) result self.new }
         ensures config { self.new.config ≡ self.old.config }

@@ -1,4 +1,4 @@
-//! What a world answers to an event that it took: which packets that added to the bag.
+//! What a world answers to an event that it took: which packets the event added to the bag.
 
 /// The packets that an event added to the bag: they are the last ones of it.
 #[derive(Clone, Copy, Debug, PartialEq, Eq)]

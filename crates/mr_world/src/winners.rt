@@ -16,7 +16,8 @@ use mr_ids::{AttemptId, JobId, TaskId, TaskKind};
 use std::alloc::{AllocError, Global};
 
 impl Parts {
-    /// The recorded winner of a reduce, if it has one: the attempt of its first success that is stable. Its only fault is an allocation failure.
+    /// The recorded winner of a reduce, if it has one: the attempt of its first success that is stable. Its only
+    /// fault is an allocation failure.
     pub fn winner(&self, task: TaskId) -> Result<Option<AttemptId>, WorldFault>
         ensures is { IfOk result (λ won. (w : World) → Standing self.now w → won ≡ winner w task) }
         ensures memory { IfErr result (λ fault. fault ≡ WorldFault.NoMemory) }
@@ -25,7 +26,8 @@ impl Parts {
         Ok(winner_of(told.as_slice(), task))
     }
 
-    /// The recorded winner of each reduce of the job, by number. Its only fault is an allocation failure; it reads the history once.
+    /// The recorded winner of each reduce of the job, by number. Its only fault is an allocation failure; it reads
+    /// the history once.
     pub fn winners(&self) -> Result<Vec<Option<AttemptId>>, WorldFault>
         ensures is { IfOk result (λ all. (w : World) → Standing self.now w → all.items ≡ map (λ r. winner w (reduce_of self.now.config.job r)) (range_with_len 0 self.now.config.reduces)) }
         ensures memory { IfErr result (λ fault. fault ≡ WorldFault.NoMemory) }
@@ -96,7 +98,7 @@ fn winners_of(
     Ok(all)
 }
 
-// Of so many reduces no winner is known.
+// No winner is known of any reduce.
 fn none_yet(alloc: Global, reduces: u32) -> Result<Vec<Option<AttemptId>>, AllocError>
     ensures { IfOk result (λ all. all.items ≡ replicate reduces None) }
 {

@@ -34,14 +34,15 @@ use mr_packet::{Bytes, ContainerId, Envelope};
 use std::alloc::Global;
 use std::marker::Model;
 
-/// A cluster that is run, event by event. Contracts see its config and its journal, the events that were taken, in order: the world is at each
-/// point the run of its journal.
+/// A cluster that is run, event by event. Contracts see its config and its journal, the events that were taken, in
+/// order. The world is at each point the run of its journal.
 pub struct World {
     parts: Parts,
     journal: Vec<Event>,
 }
 
-// By hand, so that a world is dropped by this call: a derived drop is taken apart by the check at each place where one is dropped.
+// By hand, so that a world is dropped by this call: a derived drop is taken apart by the check at each place where
+// one is dropped.
 impl Drop for World {
     fn drop(self) {
         let World {
@@ -62,7 +63,7 @@ impl Model for World {
 }
 
 impl World {
-    /// The opening world of a config, with an empty journal. It may allocate; nothing else is refused.
+    /// The opening world of a config, with an empty journal. Its only fault is an allocation failure.
     pub fn new(alloc: Global, config: Config) -> Result<World, WorldFault>
         ensures opens { IfOk result (λ world. world ≡ record { config = config; events = [] }) }
         ensures memory { IfErr result (λ fault. fault ≡ WorldFault.NoMemory) }
@@ -76,9 +77,10 @@ impl World {
 
     /// The event happens: it is the last of the journal from then on.
     ///
-    /// Refusals in order: `NotNow` with the first reason why the event is not permitted, `Full` where it would pass a limit or the journal has
-    /// `MAX_EVENTS` events, `NoMemory`. One exception: of a step of a master (a packet that it hears, a duty, an expiry) and of a container's store
-    /// call, `NoMemory` may come in place of `Full`. Nothing has changed then.
+    /// Refusals in order: `NotNow` with the first reason why the event is not permitted, `Full` where it would pass a
+    /// limit or the journal has `MAX_EVENTS` events, `NoMemory`. A refusal changes nothing. One exception to the
+    /// order: where `Full` applies, `NoMemory` may be answered to a step of a master or a container's store call.
+    /// Such a step is a packet that the master hears, a duty or an expiry.
     pub fn apply(&mut self, event: Event) -> Result<Took, WorldFault>
         ensures applies { Applies self.old event result self.new }
         ensures headline { HeadlineHolds self.old self.new }
@@ -89,15 +91,16 @@ impl World {
         Ok(took)
     }
 
-    /// Whether the event would be taken now; else what `apply` would refuse it for. It changes nothing, and may allocate.
+    /// Whether the event would be taken now; else what `apply` would refuse it for. It changes nothing.
     pub fn foresee(&self, event: &Event) -> Result<(), WorldFault>
         ensures { Foretells self.now event.now result }
     {
         foresee(&self.parts, self.journal.len(), event)
     }
 
-    /// As `foresee` of these bytes as what the container computed, without a copy of them. It takes no memory, so its refusals are `NotNow` and, where that
-    /// event would pass a limit or the journal has `MAX_EVENTS` events, `Full`.
+    /// As `foresee` of these bytes as what the container computed, without a copy of them. It takes no memory, so it
+    /// has two refusals. They are `NotNow`, and `Full` where that event would pass a limit or the journal has
+    /// `MAX_EVENTS` events.
     pub fn foresee_computed(&self, c: &ContainerId, bytes: &Bytes) -> Result<(), WorldFault>
         ensures { result ≡ foretold_in self.now (Compute c.now bytes.now) }
     {
@@ -129,21 +132,21 @@ impl World {
         }
     }
 
-    /// The events that were taken, in order. It takes no memory.
+    /// The events that were taken, in order.
     pub fn journal(&self) -> &[Event]
         ensures { result.now ≡ self.now.events }
     {
         self.journal.as_slice()
     }
 
-    /// The config that the world was made with. It takes no memory.
+    /// The config that the world was made with.
     pub fn config(&self) -> &Config
         ensures { result.now ≡ self.now.config }
     {
         &self.parts.config
     }
 
-    /// All packets that were ever sent, in the order of their sending. It takes no memory.
+    /// All packets that were ever sent, in the order of their sending.
     pub fn bag(&self) -> &[Envelope]
         ensures { result.now ≡ (world_in self.now).bag }
     {
@@ -153,7 +156,8 @@ impl World {
 
 // What comes of the world for those outside
 impl World {
-    /// The recorded winner of a reduce, if it has one: the attempt of its first success that is stable. Its only fault is an allocation failure.
+    /// The recorded winner of a reduce, if it has one: the attempt of its first success that is stable. Its only
+    /// fault is an allocation failure.
     pub fn winner(&self, task: TaskId) -> Result<Option<AttemptId>, WorldFault>
         ensures is { IfOk result (λ won. won ≡ winner (world_in self.now) task) }
         ensures memory { IfErr result (λ fault. fault ≡ WorldFault.NoMemory) }
@@ -161,7 +165,8 @@ impl World {
         self.parts.winner(task)
     }
 
-    /// The recorded winner of each reduce of the job, by number. Its only fault is an allocation failure; it reads the history once.
+    /// The recorded winner of each reduce of the job, by number. Its only fault is an allocation failure; it reads
+    /// the history once.
     pub fn winners(&self) -> Result<Vec<Option<AttemptId>>, WorldFault>
         ensures is { IfOk result (λ all. all.items ≡ map (λ r. winner (world_in self.now) (reduce_of self.now.config.job r)) (range_with_len 0 self.now.config.reduces)) }
         ensures memory { IfErr result (λ fault. fault ≡ WorldFault.NoMemory) }
@@ -177,14 +182,15 @@ impl World {
         self.parts.marker()
     }
 
-    /// The outcome of the job that was told first, if one was told: whether the job succeeded. It takes no memory.
+    /// The outcome of the job that was told first, if one was told: whether the job succeeded.
     pub fn outcome(&self) -> Option<bool>
         ensures { result ≡ outcome (world_in self.now) }
     {
         self.parts.outcome()
     }
 
-    /// The files directly beneath the destination whose names are not hidden, by rising name. Its only fault is an allocation failure.
+    /// The files directly beneath the destination whose names are not hidden, by rising name. Its only fault is an
+    /// allocation failure.
     pub fn visible(&self) -> Result<Vec<VisibleFile>, WorldFault>
         ensures is { IfOk result (λ files. map as_pair files.items ≡ visible (world_in self.now)) }
         ensures memory { IfErr result (λ fault. fault ≡ WorldFault.NoMemory) }
@@ -195,22 +201,22 @@ impl World {
 
 // What programs read of masters, and of packets
 impl World {
-    /// How many masters were started: the newest is of this generation. It takes no memory.
+    /// How many masters were started: the newest is of this generation.
     pub fn newest(&self) -> u32
         ensures { result ≡ (world_in self.now).fence }
     {
         self.parts.newest()
     }
 
-    /// The phase of the master of this generation; none where it is not alive. It takes no memory.
+    /// The phase of the master of this generation; none where it is not alive.
     pub fn phase(&self, k: u32) -> Option<Phase>
         ensures { result ≡ phase_in self.now.config (world_in self.now) k }
     {
         self.parts.phase(k)
     }
 
-    /// What the next store call of the master of this generation is for, if there is one; none where the master is not alive. It refuses
-    /// an allocation failure alone.
+    /// What the next store call of the master of this generation is for, if there is one; none where the master is
+    /// not alive. Its only fault is an allocation failure.
     pub fn duty(&self, k: u32) -> Result<Option<DutyName>, WorldFault>
         ensures is { IfOk result (λ due. due ≡ due_in self.now.config (world_in self.now) k) }
         ensures memory { IfErr result (λ fault. fault ≡ WorldFault.NoMemory) }
@@ -218,21 +224,22 @@ impl World {
         self.parts.due(k)
     }
 
-    /// The task that the master of this generation launches next, if there is one; none where it is not alive. It takes no memory.
+    /// The task that the master of this generation launches next, if there is one; none where it is not alive.
     pub fn wanted(&self, k: u32) -> Option<TaskId>
         ensures { result ≡ wanted_in self.now.config (world_in self.now) k }
     {
         self.parts.wanted(k)
     }
 
-    /// How many bytes of its segment the master of this generation has not flushed; none where it is not alive. It takes no memory.
+    /// How many bytes of its segment the master of this generation has not flushed; none where it is not alive.
     pub fn unflushed(&self, k: u32) -> Option<usize>
         ensures { result ≡ unflushed_in (world_in self.now) k }
     {
         self.parts.unflushed(k)
     }
 
-    /// The stable bytes of the history segment of this generation, a torn end among them; none where its master was not started. It takes no memory.
+    /// The stable bytes of the history segment of this generation, a torn end among them; none where its master was
+    /// not started.
     pub fn stable(&self, k: u32) -> &[u8]
         ensures bytes { result.now ≡ stable_bytes (history_in self.now) k }
         ensures stable { k ≤ (world_in self.now).fence → records_of result.now ≡ ((world_in self.now).history k).stable }
@@ -241,8 +248,8 @@ impl World {
         self.parts.stable(k)
     }
 
-    /// Why the packet at this place of the bag can't be delivered now: `NoPacket`, or `NoAddressee` where it goes to nobody who is alive;
-    /// none where it can. It takes no memory.
+    /// Why the packet at this place of the bag can't be delivered now: `NoPacket`, or `NoAddressee` where it goes to
+    /// nobody who is alive; none where it can.
     pub fn undeliverable(&self, i: usize) -> Option<Why>
         ensures { result ≡ addressee (world_in self.now) (slice_get (world_in self.now).bag i) }
     {
@@ -260,30 +267,30 @@ impl World {
         self.parts.living()
     }
 
-    /// The next container that is alive after another, in cyclic order by generation, then number; the first, where none is given. It takes
-    /// no memory, and walks over none.
+    /// The next container that is alive after another, in cyclic order by generation, then number. Where none is
+    /// given, it is the first. It walks over none.
     pub fn next_living(&self, after: Option<ContainerId>) -> Option<ContainerId>
         ensures { result ≡ next_living (living self.now.config (world_in self.now)) after }
     {
         self.parts.next_living(after)
     }
 
-    /// What a container was launched as: for which attempt, and on which node in which of its incarnations; none where it is not alive. It takes no
-    /// memory.
+    /// What a container was launched as: for which attempt, and on which node in which of its incarnations. None
+    /// where it is not alive.
     pub fn place(&self, c: &ContainerId) -> Option<Place>
         ensures { result ≡ place_in (world_in self.now) c.now }
     {
         self.parts.place(c)
     }
 
-    /// What a container wishes to do next; none where it is not alive. It takes no memory.
+    /// What a container wishes to do next; none where it is not alive.
     pub fn wish(&self, c: &ContainerId) -> Option<Wish>
         ensures { result ≡ wish_in self.now.config (world_in self.now) c.now }
     {
         self.parts.wish(c)
     }
 
-    /// What a container is to compute from; none where it is not alive, or does not wish to compute. It takes no memory.
+    /// What a container is to compute from; none where it is not alive, or does not wish to compute.
     pub fn input(&self, c: &ContainerId) -> Option<Input<'_>>
         ensures { option_map as_input result ≡ input_in self.now.config (world_in self.now) c.now }
     {
@@ -293,8 +300,9 @@ impl World {
 
 // What programs read of an event before it happens
 impl World {
-    /// The store call that this event would make now, by whom, and what its caller would hear: the answer, a refusal too, or in bad weather
-    /// nothing. None where the event makes no store call, or would not be taken. It changes nothing, and its only fault is an allocation failure.
+    /// The store call that this event would make now, by whom, and what its caller would hear. That is the answer, a
+    /// refusal too, or in bad weather nothing. None where the event makes no store call, or would not be taken. It
+    /// changes nothing, and its only fault is an allocation failure.
     pub fn asks(&self, event: &Event) -> Result<Option<Asked>, WorldFault>
         ensures is { IfOk result (λ asked. asked ≡ asked_in self.now event.now) }
         ensures memory { IfErr result (λ fault. fault ≡ WorldFault.NoMemory) }

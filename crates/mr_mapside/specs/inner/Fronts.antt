@@ -42,7 +42,7 @@ module _ {K V : Type 0} (job : Computation K V) where
     pub there : slice_get lists f.list ≡ Some bytes
     pub pair : pair_at job bytes ≡ Some ((f.key, f.value), f.len)
 
-  -- the fronts of lists, so many of each
+  -- the fronts of lists, of each list as many as is said
   pub record AreFronts (many : ℕ → ℕ) (lists : List (List ℕ)) (fronts : List (Reverse (Front K V))) : Type 0 where
     pub order : IsHeap front_cmp fronts
     pub first : AllByRecursion (λ f. IsFirst lists f.0) fronts
@@ -71,8 +71,8 @@ module _ {K V : Type 0} (job : Computation K V) where
   BeginWith k [] bytes rest = bytes ≡ rest
   BeginWith k (v ∷ vs) bytes rest = (len : ℕ) × (pair_at job bytes ≡ Some ((k, v), len)) × BeginWith k vs (drop len bytes) rest
 
-  -- The list at a place becomes what follows some pairs of a key that bytes begin with: their values are taken, and the front of
-  -- what follows is added.
+  -- The list at a place becomes what follows some pairs of a key that bytes begin with. Their values are taken, and
+  -- the front of what follows is added.
   pub record TakesRun (k : K) (i : ℕ) (bytes : List ℕ) (lists : List (List ℕ)) (fronts : List (Reverse (Front K V))) (values : List V) (lists_then : List (List ℕ)) (fronts_then : List (Reverse (Front K V))) (values_then : List V) : Type 0 where
     pub taken : List V
     pub rest : List ℕ

@@ -12,7 +12,8 @@ abbrev pub SameValues : {K V : Type 0} → (K → K → Ordering) → List (K ×
 SameValues {K} cmp xs ys = (k : K) → filter (λ p. eq_by_cmp cmp k p.0) xs ≡ filter (λ p. eq_by_cmp cmp k p.0) ys
 
 module _ {K V : Type 0} (job : Computation K V) where
-  -- the runs that are kept for reduce r, and what of a run that is not kept yet goes to it, have the values of what of all pairs goes to it
+  -- The pairs for reduce r: those of the runs that are kept for it, and then those of a run that is not kept yet.
+  -- They have the values of what goes to r of all pairs.
   pub record KeptAt (reduces r : ℕ) (runs : List (List ℕ)) (run done : List (K × V)) : Type 0 where
     pub rising : AreRuns job runs
     pub same : SameValues job.cmp (pairs_in_all job runs ++ part_of job reduces r run) (part_of job reduces r done)

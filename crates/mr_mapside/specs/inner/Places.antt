@@ -12,11 +12,11 @@ at_place bytes place = take (place.end - place.start) (drop place.start bytes)
 abbrev pub IsWithin : List ℕ → Place → Type 0
 IsWithin bytes place = (place.start ≤ place.end) × (place.end ≤ length bytes)
 
--- the blocks at places, if they are so many
+-- the blocks at places, if these are as many as is said
 abbrev pub blocks_at : ℕ → List ℕ → List Place → Option (List (List ℕ))
 blocks_at count bytes places = cond (nat_eq (length places) count) (Some (map (at_place bytes) places)) None
 
--- The places are those of the blocks that bytes are cut into; none where the bytes are no blocks, however many.
+-- The places are those of the blocks that bytes are cut into; none where the bytes are not blocks in any number.
 pub record ArePlaces (bytes : List ℕ) (places : Option (List Place)) : Type 0 where
   pub within : IfSome places (AllByRecursion (IsWithin bytes))
   pub cut : (count : ℕ) → cut count bytes ≡ option_and_then (blocks_at count bytes) places

@@ -1,4 +1,4 @@
--- Bars that are past: their attempts were accepted or are over, so that none of them is live, or ever will be.
+-- Bars that are past: their attempts were accepted or are over, so none of them is live or ever will be.
 use Rattle.std.specs.Prelude.{◌≡◌, ◌<◌, ◌≤◌, ℕ, Bool, true, false, ◌||◌, List, length, slice_get, Some}
 use Rattle.mr_ids.specs.Attempt.{Attempt}
 use Rattle.mr_grant.specs.Attempts.{has}
@@ -29,7 +29,7 @@ HasPassed m n = (past : List Step) × StandsFor m m.setting past × ArePast n m.
 abbrev pub NoneLive : Master → ℕ → Type 0
 NoneLive m n = (w : Setting) (s : Seen) (i : ℕ) (a : Attempt) → Keeps m w s → i < n → slice_get s.bars i ≡ Some a → is_live w s a ≡ false
 
--- whatever it keeps: where the first bars are past, so many are
+-- whatever it keeps: where as many bars as `first` says are past, the first n are
 abbrev pub Passes : Master → ℕ → ℕ → Type 0
 Passes m first n = (w : Setting) (s : Seen) → Keeps m w s → ArePast first w s → ArePast n w s
 

@@ -14,7 +14,8 @@ use mr_tables::push_won;
 use std::alloc::AllocError;
 
 impl Machine {
-    // The packets of a flush: for each record in order, the win to every node, then a Kill to each other live attempt of its task.
+    // The packets of a flush: for each record in order, the win to every node, then a Kill to each other live attempt
+    // of its task.
     pub fn flush_packets(&self) -> Result<Vec<Envelope>, AllocError>
         ensures { IfOk result (λ packets. Reads self.now (λ w s. flush_sends w s s.tail) packets.items) }
     {

@@ -42,8 +42,8 @@ impl Machine {
         }
     }
 
-    // The call was the last one: what is taken over will be entered, and told to every node. Where nothing is, the work alone changes, and
-    // as long as the master does not run, a reduce changes the machine of its task alone.
+    // The call was the last one: what is taken over will be entered, and told to every node. Where nothing is, the
+    // work alone changes, and as long as the master does not run, a reduce changes the machine of its task alone.
     fn ready_finished(&self) -> Result<Prepared, AllocError>
         requires step { is_step self.now.work ≡ true }
         requires placed { IsPlaced self.now }
@@ -74,7 +74,8 @@ impl Machine {
         Ok(Prepared::new(packets, Change::Enters(tasks, next)))
     }
 
-    // The output of a reduce was taken over, and the master will not run yet: to the next work will be moved the reduces that are left.
+    // The output of a reduce was taken over, and the master will not run yet: to the next work will be moved the
+    // reduces that are left.
     fn ready_winner(&self, winner: &TaskWinner, next: Work) -> Result<Prepared, AllocError>
         requires winner { Some winner.now ≡ winner_of self.now.work }
         requires placed { IsPlaced self.now }
@@ -87,7 +88,8 @@ impl Machine {
         Ok(Prepared::new(packets, Change::EntersOne(place, machine, next)))
     }
 
-    // What is next after the last call of the table. Where a reduce was taken over, those that are left after the next one are not in it yet.
+    // What is next after the last call of the table. Where a reduce was taken over, those that are left after the
+    // next one are not in it yet.
     fn next_work(&self) -> Result<Work, AllocError>
         requires { is_step self.now.work ≡ true }
         ensures { IfOk result (λ next. Reads self.now (λ w s. begun_by w s s.work) next) }

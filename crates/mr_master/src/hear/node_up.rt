@@ -14,8 +14,8 @@ use mr_tables::{Gone, Nodes};
 use std::alloc::AllocError;
 
 impl Machine {
-    // It is known in this incarnation from then on, if that is a greater one. While Running, the attempts that were launched there in a
-    // lower one end, and the outputs that lay there are lost.
+    // It is known in this incarnation from then on, if that is a greater one. While Running, the attempts that were
+    // launched there in a lower one end, and the outputs that lay there are lost.
     pub fn prepare_node_up(&self, node: u32, incarnation: u32) -> Result<Prepared, AllocError>
         ensures { IfOk result (λ ready. Plans self.now ready (λ w s. []) (λ w s. if is_over s.work then s else after_node_up w s node incarnation)) }
     {

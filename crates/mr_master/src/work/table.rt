@@ -21,8 +21,8 @@ use std::collections::VecDeque;
 use std::mem;
 
 impl Work {
-    // What is next after the last call of a table, by the records of earlier masters. Where a reduce was taken over, those that are left
-    // after the next one are not in it yet: `move_on` moves them.
+    // What is next after the last call of a table, by the records of earlier masters. Where a reduce was taken over,
+    // those that are left after the next one are not in it yet: `move_on` moves them.
     pub fn finished(
         &self,
         alloc: Global,
@@ -45,8 +45,8 @@ impl Work {
         }
     }
 
-    // The next work is gone on with: what it takes over next is the first of the reduces that are left, and the others are moved to it. It
-    // takes no memory.
+    // The next work is gone on with: what it takes over next is the first of the reduces that are left, and the
+    // others are moved to it.
     pub fn move_on(&mut self, alloc: Global, next: Work)
         ensures { self.new ≡ with_others next (drop 1 (others_of self.old)) }
     {
@@ -92,7 +92,7 @@ impl Work {
         }
     }
 
-    // The lines that follow take the place of the one whose call was answered. It takes no memory.
+    // The lines that follow take the place of the one whose call was answered.
     pub fn go_on(&mut self, following: Following)
         requires { Fits following.lines (left_of self.old) }
         ensures { self.new ≡ with_left self.old (following.lines ++ drop 1 (left_of self.old)) }

@@ -47,7 +47,8 @@ is_made Calm = true
 is_made Unavailable = false
 is_made Unanswered = true
 
--- A look at a container's step: its store call, with which the step would be taken; none, where it is permitted and is no store call; or it is refused so.
+-- A look at a container's step. It is its store call, with which the step would be taken, or none, where the step is
+-- permitted and is no store call. Or it is refused so.
 abbrev pub ForeseesCall : Parts → ContainerId → Weather → Result (Option StoreCall) WorldFault → Type 0
 ForeseesCall p c f (Ok (Some call)) = (w : World) → Standing p w → IsTaken p.config w (ContainerStep c f) × (op_of p.config w c ≡ Some call.op) × (caller_of w c ≡ call.caller)
 ForeseesCall p c f (Ok None) = (w : World) → Standing p w → (not_now p.config w (ContainerStep c f) ≡ None) × (op_of p.config w c ≡ None)

@@ -112,8 +112,8 @@ says_then cfg w k a = next.sent (setting cfg k) (steps (w.master_past k)) (Answe
 abbrev pub fits_then : Config → World → ℕ → StoreAnswer → Bool
 fits_then cfg w k a = nat_le (length w.bag + length (says_then cfg w k a)) MAX_PACKETS
 
--- What would be sent and changed at an answer: in every world that the parts stand for the packets are what is sent then, and find room; or they find no
--- room, or memory was refused.
+-- What would be sent and changed at an answer. In every world that the parts stand for the packets are what is sent
+-- then, and find room. Else they find no room, or memory was refused.
 abbrev pub PlansAnswer : Parts → ℕ → StoreAnswer → Result Prepared WorldFault → Type 0
 PlansAnswer parts k a (Ok p) = IsPlannedAt parts.masters k (Answered a) p × ((w : World) → Standing parts w → (p.packets ≡ says_then parts.config w k a) × (fits_then parts.config w k a ≡ true))
 PlansAnswer parts k a (Err fault) = (w : World) → Standing parts w → Refuses None (fits_then parts.config w k a) true fault

@@ -14,7 +14,7 @@ use Rattle.mr_cluster.specs.declared.nodes.Nodes.{Nodes}
 use Rattle.mr_cluster.specs.Living.{kept}
 use Rattle.mr_cluster.specs.Nodes.{node_of, reaction_of}
 
--- the machine of a container that node m starts by this reaction, in a job of so many maps
+-- the machine of a container that node m starts by this reaction, in a job of this many maps
 abbrev pub begun_by : node.Node → ℕ → Reaction → Option Container
 begun_by m maps (Starts c a) = Some (record { id = c; place = record { attempt = a; node = m.number; incarnation = m.seen.incarnation }; maps = maps; seen = opening maps a })
 begun_by m maps (Adds e) = None
