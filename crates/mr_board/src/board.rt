@@ -43,7 +43,8 @@ impl<J: Job> Model for Board<J> {
 }
 
 impl<J: Job> Board<J> {
-    /// A board over a world in which nothing has happened, and its seats, numbered from 0. It may allocate; nothing else is refused.
+    /// A board over a world in which nothing has happened, and its seats, numbered from 0. It fails for want of
+    /// memory alone.
     pub fn new(
         alloc: Global,
         _job: &J,
@@ -107,8 +108,10 @@ impl<J: Job> Board<J> {
 
     /// Hands in what a work gave, from a seat.
     ///
-    /// Refusals in order: `NotNow(NoContainer)` where the work's container is not alive, `NotNow(WrongWish)` where it does not wish to compute, or what it
-    /// is to compute is another input or for another number of reduces, and those of `World::apply` for the bytes. Nothing has changed then.
+    /// Refusals in order: `NotNow(NoContainer)` where the work's container is not alive, then `NotNow(WrongWish)`,
+    /// then those of `World::apply` for the bytes. `WrongWish` is answered where the container does not wish to
+    /// compute. It is answered too where it is to compute another input, or for another number of reduces. A refusal
+    /// changes nothing.
     pub fn computed_as(&mut self, seat: &mut Seat, done: &Finished<J>) -> Result<Took, WorldFault>
         ensures hands { Hands self.old seat.old done.now result self.new seat.new }
         ensures headline { HeadlineHolds self.old.world self.new.world }

@@ -81,8 +81,9 @@ impl Work {
 
     /// Passes the gate, and computes. It needs no board, and returns where the gate's `enter` does.
     ///
-    /// Its refusals are those of `mr_work::work`: `Gate` where the gate lets no work pass; `User` where the job refuses a line; `Shuffle` where
-    /// the pieces can't be merged; `Full` where the bytes are too many; `NoMemory`.
+    /// Its refusals are those of `mr_work::work`. `Gate` is answered where the gate lets no work pass, `User` where
+    /// the job refuses a line, and `Shuffle` where the pieces can't be merged. `Full` is answered where the bytes are
+    /// too many, and `NoMemory` where memory was refused.
     pub fn run<J: Job, G: Gate>(
         self,
         alloc: Global,

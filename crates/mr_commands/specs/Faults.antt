@@ -31,7 +31,7 @@ CommitterFails input NoMemory = Unit {0}
 CommitterFails input (BadCommand n) = IsFirstBad 1 (lines_of input) n
 CommitterFails input _ = ⊥
 
--- `history`: the first whole line that is neither a record nor the version line at the head
+-- `history`: the first whole line that is no record and not the version line at the head
 abbrev pub HistoryFails : List ℕ → SimFault → Type 0
 HistoryFails input NoMemory = Unit {0}
 HistoryFails input (BadRecord n) = bad_line input ≡ Some n

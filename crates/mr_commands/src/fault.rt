@@ -56,7 +56,8 @@ pub enum SimFault {
     /// This line of a script, counted from 1, is the first that is no command.
     #[error("mrsim: line {0}: bad command")]
     BadCommand(usize),
-    /// This whole line of a history segment, counted from 1, is the first that is neither a record nor the version line at its head.
+    /// This whole line of a history segment, counted from 1, is the first that is no record and not the version
+    /// line at its head.
     #[error("mrsim: history: bad line {0}")]
     BadRecord(usize),
     /// The input is no job text: which of its keys is the first that is bad, if it is one JSON object.
@@ -83,9 +84,9 @@ pub enum SimFault {
 }
 
 impl SimFault {
-    /// The exit status of the program: 1 for a job that failed; 3 for a refused input; 4 for a stream that failed; 5 for an allocation
-    /// failure; 6 where turns were spent; 7 for a limit that was passed, and for threads that could not be made or did not account for their
-    /// run.
+    /// The exit status of the program: 1 for a job that failed, 3 for a refused input, 4 for a stream that failed,
+    /// and 5 for an allocation failure. It is 6 where turns were spent, and 7 for a limit that was passed. It is also
+    /// 7 for threads that could not be made or did not account for their run.
     pub fn status(&self) -> u8
         ensures { result ≡ status_of self.now }
     {

@@ -35,7 +35,8 @@ fn print_records(out: &mut Vec<u8>, records: &[Record]) -> Result<(), AllocError
 
 /// The printed text of the bytes of a segment.
 ///
-/// `BadLine` names the first whole line, from 1, that is neither a record nor the version line at the head. `NoMemory` may come at any bytes.
+/// `BadLine` names the first whole line, from 1, that is no record and not the version line at the head. `NoMemory`
+/// may come at any bytes.
 fn text_of(alloc: Global, input: &[u8]) -> Result<Vec<u8>, HistoryFault>
     ensures ok { IfOk result (λ text. PrintsHistory input.now text.items) }
     ensures fault { IfErr result (λ e. RefusesHistory input.now e) }
@@ -51,8 +52,8 @@ fn text_of(alloc: Global, input: &[u8]) -> Result<Vec<u8>, HistoryFault>
 
 /// What `history` prints for the bytes of a segment.
 ///
-/// `BadRecord` names the first whole line, from 1, that is neither a record nor the version line at the head. `NoMemory` may come
-/// at any bytes; no other fault comes.
+/// `BadRecord` names the first whole line, from 1, that is no record and not the version line at the head. `NoMemory`
+/// may come at any bytes; no other fault comes.
 pub fn history_output(alloc: Global, input: &[u8]) -> Result<Vec<u8>, SimFault>
     ensures ok { IfOk result (λ v. PrintsHistory input.now v.items) }
     ensures fault { IfErr result (HistoryFails input.now) }

@@ -5,26 +5,28 @@
 //!
 //! Each subcommand is a function from the bytes of its input to the bytes of its output, for every input:
 //!
-//! - **`committer_output`**: where it answers Ok, the bytes are what the commands of the script print, by the committer effect, and then the
-//!   listing of what they leave (`PrintsCommitter`); else line n is the first that is no command, or there was no memory (`CommitterFails`);
+//! - **`committer_output`**: where it answers Ok, the bytes are what the commands of the script print, by the
+//!   committer effect, and then the listing of what they leave (`PrintsCommitter`). Else it tells the first line that
+//!   is no command, or there was no memory (`CommitterFails`);
 //! - **`history_output`**: the records of a segment's whole lines and the number of torn bytes (`PrintsHistory`); else the first bad
 //!   line, or no memory (`HistoryFails`);
-//! - **`seq_output`**: the sequential execution of the job that the text submits: for each reduce, by rising name, `== `, the part file's
-//!   name and length, and its bytes (`PrintsSeq`); else the first bad key of the job text, a line of a split that the job refuses, or no memory
-//!   (`SeqFails`).
+//! - **`seq_output`**: the sequential execution of the job that the text submits. For each reduce, by rising name, it
+//!   has `== `, the part file's name and length, and its bytes (`PrintsSeq`). Else it tells the first bad key of the
+//!   job text, a line of a split that the job refuses, or no memory (`SeqFails`).
 //!
-//! **Job texts** (`read_job_text`): it answers exactly what the definition `submission_of` says of the bytes: the
-//! job that is submitted, or the first bad key in the order `id`, `job`, `reduces`, `splits`, `nodes`, `limit`,
-//! `faults`, `v2from`, or that there is no JSON object. The definition is a function of the value that `serde_json`'s own
-//! definition reads the text as, key by key. A job that is read is within the limits of docs/MRSIM.md (clause
-//! `limits`).
+//! **Job texts** (`read_job_text`): it answers exactly what the definition `submission_of` says of the bytes. That is
+//! the job that is submitted, or the first bad key, or that there is no JSON object. The keys are in the order `id`,
+//! `job`, `reduces`, `splits`, `nodes`, `limit`, `faults`, `v2from`. The definition is a function of the value that
+//! `serde_json`'s own definition reads the text as, key by key. A job that is read is within the limits of
+//! docs/MRSIM.md (clause `limits`).
 //!
-//! **Parts of an output** that others print too: a file with its name and length (`print_file`), a record in words (`print_record`), and names with
-//! slashes between them (`print_names`), each behind what is there already.
+//! **Parts of an output** that others print too: a file with its name and length (`print_file`), a record in words
+//! (`print_record`), and names with slashes between them (`print_names`). Each is put behind what is there already.
 //!
-//! Laws, each on a function of its own: a script has at most one reading (`one_reading`), is not both read and bad
-//! (`read_or_bad`), has at most one first bad line (`one_first_bad`), and none of its commands is a comment (`comments_are_no_commands`); a job text has at most one print
-//! (`one_seq_text`). `SimFault::status` is exactly the table of statuses.
+//! Laws, each on a function of its own. A script has at most one reading (`one_reading`), is not both read and bad
+//! (`read_or_bad`), and has at most one first bad line (`one_first_bad`). None of its commands is a comment
+//! (`comments_are_no_commands`). A job text has at most one print (`one_seq_text`). `SimFault::status` is exactly the
+//! table of statuses.
 //!
 //! Only tested: the texts of `SimFault` (derived by thiserror), and the examples.
 #![tactic(auto)]

@@ -100,7 +100,7 @@ fn row_at(places: &Places, row: usize) -> u64 {
     below(places.top, row)
 }
 
-// So many rows below a place.
+// The place that is this number of rows below a place.
 fn below(top: u64, rows: usize) -> u64 {
     (rows as u64).saturating_mul(ROW).saturating_add(top)
 }

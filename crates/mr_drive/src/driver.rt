@@ -20,11 +20,13 @@ use std::thread::Threads;
 
 /// Runs a job by threads that share one board, until an outcome is told or the newest master is Stopped.
 ///
-/// There is a thread for each node, one for each master that the plan can start, and one for starts and faults; each makes at most `turns` turns, and at most one event in each. A fault of the plan
-/// that is due comes before any other event. Faults that did not come until the end are dropped, and so are those that are not permitted when they come.
+/// There is a thread for each node, one for each master that the plan can start, and one for starts and faults. Each
+/// makes at most `turns` turns, and at most one event in each. A fault of the plan that is due comes before any other
+/// event. Faults that did not come until the end are dropped, and so are those that are not permitted when they come.
 ///
-/// There is no report (`DriveFault`) where turns or the gate's looks are spent, where no thread finds anything to do, where a limit would be passed, where a thread can't be made, where the
-/// seats do not account for the journal, or where memory was refused.
+/// There is no report (`DriveFault`) where turns or the gate's looks are spent, or where no thread finds anything to
+/// do. There is none where a limit would be passed, where a thread can't be made, or where memory was refused. Last,
+/// there is none where the seats do not account for the journal.
 pub fn drive<R: Threads + Wait + Sync, J: Job + Send + Sync, G: Gate + Sync>(
     rt: &R,
     alloc: Global,

@@ -2,13 +2,15 @@
 //!
 //! # What is proved
 //!
-//! - **`drive`**, for every job, gate, plan and number of turns: a `Report` is of the world of a closed board, of the plan's config. Each result in its journal is what the job's functions give; an outcome was
-//!   told, or the newest master is Stopped; `files` is what a reader of the destination sees; `succeeded` is whether success was told, and then the files are the job's sequential execution's, and nothing
-//!   else (`IsReported`).
+//! - **`drive`**, for every job, gate, plan and number of turns: a `Report` is of the world of a closed board, of the
+//!   plan's config. Each result in its journal is what the job's functions give. An outcome was told, or the newest
+//!   master is Stopped. `files` is what a reader of the destination sees. `succeeded` is whether success was told.
+//!   Where it was, the files are the job's sequential execution's, and nothing else (`IsReported`).
 //!
 //! No fact of locks, wakes or joins is used: the board's invariant is its type's, and `close` tests the seats.
 //!
-//! In no clause: that there is a report, that the plan's faults are made, that several works are done at once, that the gate is entered.
+//! In no clause: that there is a report, that the plan's faults are made, that several works are done at once, and
+//! that the gate is entered.
 //!
 //! Never claimed: that `drive` ends, that two threads run, fairness, freedom from deadlock.
 #![tactic(auto)]

@@ -14,8 +14,9 @@ use mr_script::split_once;
 use serde_json::Value;
 use std::alloc::{AllocError, Global};
 
-/// The ends that came, an object a line, those of the fewest faults first; or of those that meet a goal the best, if one does. The last line tells how many runs were
-/// made. It fails where there is no memory.
+/// The ends that came, an object a line, those of the fewest faults first. Where a goal is sought, only the best of
+/// those that meet it is there, if one does. The last line tells how many runs were made. It fails where there is no
+/// memory.
 pub fn put_ends(
     out: &mut Vec<u8>,
     alloc: Global,

@@ -10,7 +10,8 @@ pub record Came : Type 0 where
   pub faults : ℕ
   pub events : List Event
 
--- an end: what is printed of it, and how many runs came to it; and of the first shortest of them how many faults and events it has, and the script that repeats it
+-- an end: what is printed of it, and how many runs came to it. Of the first shortest of these runs it has how many
+-- faults and events there are, and the script that repeats it
 pub record End : Type 0 where
   pub end : List ℕ
   pub runs : ℕ

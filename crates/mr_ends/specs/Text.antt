@@ -14,7 +14,8 @@ abbrev pub behind_lines : ℕ → List ℕ → List ℕ
 behind_lines zero bytes = bytes
 behind_lines (suc n) bytes = behind_lines n (unwrap_or (after 10 bytes) [])
 
--- what `seq` prints of the job, if it prints anything, and how many lines of an end stand before its files: a winner for each reduce, the marker, and the outcome
+-- what `seq` prints of the job, if it prints anything, and how many lines of an end stand before its files. These are
+-- a winner for each reduce, the marker, and the outcome
 pub record Sequential : Type 0 where
   pub files : Option (List ℕ)
   pub lines : ℕ

@@ -8,7 +8,8 @@ use crate::goal::meets;
 use crate::row::Row;
 use crate::table::Table;
 
-/// Of the ends that meet a goal the first of those with the fewest faults, and then the fewest events; none where none meets it.
+/// Of the ends that meet a goal, the first of those with the fewest faults, and then the fewest events. There is none
+/// where no end meets it.
 pub fn best_of<'a>(table: &'a Table, goal: &[u8]) -> Option<&'a Row>
     ensures { option_map (λ row. as_end row.now) result ≡ best_of goal.now table.now.ends }
 {

@@ -27,7 +27,8 @@ abbrev pub AreFilesOf : List ℕ → Option (List ℕ) → Type 0
 AreFilesOf text (Some files) = PrintsSeq text files
 AreFilesOf text None = RefusesSeq text
 
--- the files of the sequential execution of the job of an input; of an end a line for each reduce, and one for the marker and for the outcome, stand before the files
+-- the files of the sequential execution of the job of an input. Before the files of an end stand a line for each
+-- reduce, one for the marker, and one for the outcome
 pub record IsSequentialOf (input : List ℕ) (s : Sequential) : Type 0 where
   pub job : Submission
   pub said : submission_of (job_line input) ≡ Ok job

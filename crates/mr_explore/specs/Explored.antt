@@ -21,7 +21,8 @@ goal_of asked = option_map (λ g. g.now) asked.goal
 abbrev pub found_in : ℕ → List MadeRun → List (walk.Found Exploring) → Found
 found_in faults made rest = record { table = table_of (map (came faults) made); faults = faults; whole = no_more rest }
 
--- Of all runs of the input with at most as many faults as are asked for, the first `asked.most` were made, or all; and this is printed of their ends.
+-- Of all runs of the input with at most as many faults as are asked for, the first `asked.most` were made, or all.
+-- This is printed of their ends.
 pub record PrintsExplored (asked : Asked) (input text : List ℕ) : Type 0 where
   pub run : Exploring
   pub is_run : IsRunOf input run

@@ -64,13 +64,13 @@ Fails most x fault.JournalMismatch = Unit {0}
 Fails most x fault.Full = IsFullBehind most x.left
 Fails most x _ = ⊥
 
--- the first run that was left was made, and noted; or none was left
+-- the first run that was left was made, and noted; or no run was left
 abbrev pub MakesOne : Remaining → Result Bool SimFault → Remaining → Type 0
 MakesOne old (Ok true) new = (m : MadeRun) × (old.left ≡ as_found m ∷ new.left) × (new.faults ≡ old.faults) × (new.table ≡ all_noted (came old.faults m ∷ []) old.table)
 MakesOne old (Ok false) new = (old.left ≡ []) × (new ≡ old)
 MakesOne old (Err f) new = Fails 1 old f
 
--- `most` runs were made; or fewer, and then none is left
+-- `most` runs were made; or fewer were made, and then no run is left
 abbrev pub AreMost : ℕ → List MadeRun → List (Found Exploring) → Type 0
 AreMost most made rest = (length made ≤ most) × ((length made ≡ most) ⊎ (rest ≡ []))
 

@@ -1,4 +1,5 @@
--- What one fault is, and where it may befall a run (our own profile). Where there is none, a run goes on as a calm of the newest master does.
+-- What one fault is, and where it may befall a run (our own profile). Without a fault a run goes on as a calm of the
+-- newest master does.
 use Rattle.std.specs.Prelude.{ℕ, suc, ◌+◌, ◌-◌, ◌*◌, min, List, [], ◌∷◌, ◌++◌, drop, length, map, slice_get, Option, Some, None, is_none, if◌then◌else◌}
 use Rattle.std.specs.List.{flat_map, range_with_len}
 use Rattle.std.specs.Option.{option_and_then}
@@ -21,8 +22,8 @@ use Rattle.mr_faults.specs.Next.{without_next}
 abbrev pub ends_behind : List ℕ → List ℕ → List ℕ
 ends_behind before after = ends_from 0 (drop (length before) after)
 
--- How many events a run makes by itself at most, behind its beginning or a fault: so many for the job and for each of its tasks, and no more than a calm. Where nobody answers a
--- container, it asks for ever.
+-- How many events a run makes by itself at most, behind its beginning or a fault: 200 for the job and 200 for each of
+-- its tasks. It is no more than a calm makes. Where nobody answers a container, it asks for ever.
 abbrev pub most_steps : Config → ℕ
 most_steps cfg = min (200 * (length cfg.splits + cfg.reduces + 1)) most_calm
 
@@ -111,7 +112,7 @@ module _ (job : Job) (cfg : Config) (within : Limits) where
   abbrev pub listed : Option Event → Played → List Fault
   listed next s = of_event next s ++ of_world s ++ of_crashes s
 
-  -- All that may be tried. What the calm makes next anyway is no fault, and what can't befall the run there is none either.
+  -- All that may be tried. What the calm makes next anyway is no fault. What can't befall the run there is no fault.
   abbrev pub faults_by : Option Event → Played → List Fault
   faults_by next s = without_next next (listed next s)
 

@@ -1,5 +1,6 @@
--- What is explored: Faults is where a fault may befall a run and what then comes of it, Runs which runs there are, Exploring what an exploration promises, Ends
--- what is told of the ends, Explored what is printed of an input, and Laws what follows.
+-- What is explored. Faults is where a fault may befall a run and what then comes of it. Runs is which runs there are.
+-- Exploring is what an exploration promises. Ends is what is told of the ends, and Explored what is printed of an
+-- input. Laws is what follows.
 pub mod Ends
 pub mod Explored
 pub mod Exploring

@@ -1,4 +1,5 @@
--- Which runs there are of an input (our own profile): all that come of it by at most a given number of faults, as mr_walk says it, where a run goes on as a calm of the newest master.
+-- Which runs there are of an input (our own profile): all that come of it by at most a given number of faults, as
+-- mr_walk says it. A run goes on as a calm of the newest master.
 use Rattle.std.specs.Prelude.{◌≡◌, ◌≢◌, ◌⊎◌, ℕ, nat_lt, List, length, Option, Some, None, if◌then◌else◌}
 use Rattle.std.specs.Option.{option_map}
 use Rattle.mr_model.specs.Packets.{Config}

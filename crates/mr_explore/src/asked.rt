@@ -16,7 +16,7 @@ pub struct Asked<'a> {
     pub faults: u32,
     /// How many runs are made at most.
     pub most: u64,
-    /// Lines of the end that is sought, as `marker yes, outcome failed`; all ends are told where none is sought.
+    /// Lines of the end that is sought, as `marker yes, outcome failed`; all ends are told where no end is sought.
     pub goal: Option<&'a str>,
     pub form: Form,
 }

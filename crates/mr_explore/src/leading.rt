@@ -14,7 +14,8 @@ use std::alloc::{AllocError, Global};
 
 /// Plays the script of each end behind the job text of an input: it leads to the end.
 ///
-/// It fails by an allocation failure. Where `play` came to another end, or to none, which it never does, `JournalMismatch` is answered.
+/// It fails by an allocation failure. `JournalMismatch` is answered where `play` came to another end or to no end,
+/// which it never does.
 pub fn check_scripts(alloc: Global, input: &[u8], table: &Table) -> Result<(), SimFault>
     ensures lead { OnOk result (LeadToEnds input.now table.now.ends) }
     ensures fault { IfErr result IsUnchecked }

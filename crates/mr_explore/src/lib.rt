@@ -1,20 +1,25 @@
 //! Every run of a job with at most a given number of faults, and the shortest script to each end.
 //!
-//! A job text with a script is played, and goes on as a calm of the newest master does. Into this calm faults are put, at each place. What one fault is, and where it
-//! may befall a run, is defined in `specs/Faults` (and its kinds in mr_faults); which runs there are, in `specs/Runs`; what is told of their ends, in `specs/Ends` and in mr_ends; and what
-//! `explore` prints, in `specs/Explored`.
+//! A job text with a script is played, and goes on as a calm of the newest master does. Into this calm faults are
+//! put, at each place. What one fault is, and where it may befall a run, is defined in `specs/Faults` (and its kinds
+//! in mr_faults). Which runs there are is defined in `specs/Runs`, and what `explore` prints in `specs/Explored`.
+//! What is told of the ends of runs is defined in `specs/Ends` and in mr_ends.
 //!
 //! # What is proved
 //!
-//! - **What `explore` prints** (`explore_output`, for every input): exactly the text of the definitions (`PrintsExplored`), byte for byte. Of all runs with at most as many faults as are asked for, the
-//!   first `most` were made, or all; and this is what is told of their ends. A fault is one that the input has (`ExploredFails`): the first bad key of the job text, else the first bad line of the
-//!   script, else `Full`. A limit may be passed by the script, by the first master's start, or by one of these runs.
+//! - **What `explore` prints** (`explore_output`, for every input): exactly the text of the definitions
+//!   (`PrintsExplored`), byte for byte. Of all runs with at most as many faults as are asked for, the first `most`
+//!   were made, or all. The text tells of their ends. A fault is one that the input has (`ExploredFails`): the first
+//!   bad key of the job text, else the first bad line of the script, else `Full`. A limit may be passed by the
+//!   script, by the first master's start, or by one of these runs.
 //! - **A run is one of mr_walk's** (`Explored`): its calm, what may befall it at a place, and what then comes of it are exactly those of the definitions.
-//! - **The runs that are made are exactly those of the definition, in its order, each once** (`Exploration::new`, `make`): all runs that come of the first one by at
-//!   most `faults` faults (`runs_with`, of which mr_walk says that these are all) are before it; each call of `make` takes the first of those that are left and notes their ends, and
-//!   `is_whole` says whether none is left. A call returns, since it makes at most `runs` runs.
-//! - **The first run is the one that `play` plays**: what it computes is what the job text says, and it is as far as the script; where no master was started, the first one's start comes next
-//!   (`IsRunOf`). An input has one such run at most, and nothing is printed of an input that is refused (`explored_or_refused`).
+//! - **The runs that are made are exactly those of the definition, in its order, each once** (`Exploration::new`,
+//!   `make`). At first all runs are left that come of the first one by at most `faults` faults (`runs_with`, of which
+//!   mr_walk says that these are all). Each call of `make` takes the first of those that are left and notes their
+//!   ends. `is_whole` says whether none is left. A call returns, since it makes at most `runs` runs.
+//! - **The first run is the one that `play` plays**: what it computes is what the job text says, and it is as far as
+//!   the script. Where no master was started, the first one's start comes next (`IsRunOf`). An input has one such run
+//!   at most, and nothing is printed of an input that is refused (`explored_or_refused`).
 //! - **Each script of the table leads to the end beside it**, by `play`'s own definition (`check_scripts`: `PrintsPlay` of the job text and the script). `explored_text`
 //!   plays each before it prints any.
 //!

@@ -16,10 +16,12 @@ use mr_end_lines::put_ends;
 use mr_ends::{Found, Sequential, put_found};
 use std::alloc::{AllocError, Global};
 
-/// What `explore` prints of an input, which is a job text and a script behind it: the ends of its runs with at most `asked.faults` faults, of which at most `asked.most` are made.
+/// What `explore` prints of an input, which is a job text and a script behind it. It tells the ends of the input's
+/// runs with at most `asked.faults` faults, of which at most `asked.most` are made.
 ///
-/// The first bad key of the job text is told (`Job`), else the first bad line of the script (`BadCommand`), else `Full` where the script, the start of the first
-/// master, or one of these runs would pass a limit of the world. `NoMemory` may come at any input. `JournalMismatch` would come where the events of a run could not happen
+/// The first bad key of the job text is told (`Job`), else the first bad line of the script (`BadCommand`). Else
+/// `Full` is told where the script, the start of the first master, or one of these runs would pass a limit of the
+/// world. `NoMemory` may come at any input. `JournalMismatch` would come where the events of a run could not happen
 /// once more, or a script led to another end.
 pub fn explore_output<W: Watch>(
     alloc: Global,

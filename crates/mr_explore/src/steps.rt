@@ -5,7 +5,7 @@ ghost use Rattle.mr_explore.specs.Faults.{most_steps};
 use mr_play::MOST_CALM;
 use mr_world::Config;
 
-// So many for the job, and for each of its tasks.
+// The most events for the job, and as many for each of its tasks.
 const STEPS_OF_A_TASK: u64 = 200;
 
 /// How many events a run of this job makes by itself at most, behind its beginning or a fault.

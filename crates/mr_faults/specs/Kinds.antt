@@ -8,7 +8,7 @@ use Rattle.mr_model.specs.World.{Event, Deliver}
 use Rattle.mr_faults.specs.declared.fault.Fault.{Fault}
 use Rattle.mr_faults.specs.declared.fault.Fault.TheVariants as fault
 
--- a packet that comes next may be lost, or be late by up to so many events
+-- a packet that comes next may be lost, or be late by 1 to `events` events
 abbrev pub of_packet : ℕ → ℕ → List Fault
 of_packet i events = fault.Lost i ∷ map (λ n. fault.Late i (n + 1)) (range_with_len 0 events)
 

@@ -13,6 +13,6 @@ is_next (Some (Die c)) (fault.Death d) = same_container c d
 is_next (Some (LaunchOn k t n)) (fault.Attempt u m) = same_task t u && (n == m)
 is_next _ f = false
 
--- those of the faults that are none of what comes next
+-- the faults that are not what comes next
 abbrev pub without_next : Option Event → List Fault → List Fault
 without_next e = filter (λ f. not (is_next e f))

@@ -11,7 +11,7 @@ use mr_packet::ContainerId;
 use std::alloc::AllocFailed;
 use std::collections::LinkedList;
 
-/// Each packet of so many that was delivered, once more.
+/// Each of the first `packets` packets, once more, if it was delivered.
 pub fn add_of_bag(
     faults: &mut LinkedList<Fault>,
     journal: &[Event],
@@ -125,7 +125,7 @@ pub fn add_of_ends(faults: &mut LinkedList<Fault>, bytes: &[u8]) -> Result<(), A
     Ok(())
 }
 
-/// A crash of the newest master, and its being superseded, where so many bytes stay.
+/// A crash of the newest master, and its being superseded, where `kept` bytes of its unflushed history stay.
 pub fn add_of_kept(faults: &mut LinkedList<Fault>, kept: u64) -> Result<(), AllocFailed<Fault>>
     ensures { OnOk result (faults.new ≡ faults.old ++ of_kept kept) }
 {
@@ -135,7 +135,7 @@ pub fn add_of_kept(faults: &mut LinkedList<Fault>, kept: u64) -> Result<(), Allo
     Ok(())
 }
 
-/// The packet is lost, or late by up to so many events.
+/// The packet is lost, or late by 1 to `events` events.
 pub fn add_of_packet(
     faults: &mut LinkedList<Fault>,
     packet: u64,

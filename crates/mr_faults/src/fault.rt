@@ -12,13 +12,13 @@ pub enum Fault {
     Step(ContainerId, Weather),
     /// This packet is never delivered.
     Lost(u64),
-    /// This packet is delivered after so many further events of the calm.
+    /// The packet of the first number is delivered after as many further events of the calm as the second says.
     Late(u64, u64),
     /// A packet that was delivered is delivered once more.
     Again(u64),
-    /// Master `k` crashes, so many bytes of its unflushed history stay, and master `k + 1` starts.
+    /// Master `k` crashes, this number of bytes of its unflushed history stay, and master `k + 1` starts.
     Crash(u64),
-    /// Master `k + 1` starts while `k` lives, and so many bytes of what `k` did not flush stay.
+    /// Master `k + 1` starts while `k` lives, and this number of bytes of what `k` did not flush stay.
     Superseded(u64),
     /// The same, and `k` makes the store call that is due behind it.
     SupersededLate(u64),

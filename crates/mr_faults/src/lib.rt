@@ -3,7 +3,8 @@
 //! # What is proved
 //!
 //! - The calls named `add_of_..` put exactly the faults of their kind behind a list, each in its place (`specs/Kinds`): none is left out.
-//! - `without_next` takes from a list exactly those that are what comes next anyway (`specs/Next`), so that no run is told as one with a fault that has none.
+//! - `without_next` takes from a list exactly those that are what comes next anyway (`specs/Next`). So a run without
+//!   a fault is never told as one with a fault.
 //!
 //! A call that adds fails where there is no memory, and then the list has what was added so far.
 #![tactic(auto)]

@@ -11,7 +11,7 @@ use mr_packet::ContainerId;
 use std::alloc::{AllocFailed, Global};
 use std::collections::LinkedList;
 
-/// Those of the faults that are none of the event that comes next.
+/// The faults that are not the event that comes next.
 pub fn without_next(
     alloc: Global,
     mut faults: LinkedList<Fault>,

@@ -99,7 +99,7 @@ fn put_forms<W: fmt::Write>(f: &mut fmt::Formatter<W>, forms: &str) -> fmt::Resu
     Ok(())
 }
 
-/// What is to be told of a line of a script that is no command; nothing where each of its words fits. It takes no memory.
+/// What is to be told of a line of a script that is no command; nothing where each of its words fits.
 pub fn hint_of(script: Script, line: &[u8]) -> Option<Hint> {
     let forms = forms_for(&script, line);
     let trouble = match forms {

@@ -1,7 +1,8 @@
 //! What is told behind `bad command`: which word of the line does not fit, and how its command is written.
 //!
-//! The words of a line are tried one by one by what reads them in a script (`mr_script`), so a word that is told as bad is one that its command does
-//! not take there. No byte of the line is repeated, since it may be no text. Nothing here takes memory.
+//! The words of a line are tried one by one by what reads them in a script (`mr_script`). So a word that is told as
+//! bad is one that its command does not take there. No byte of the line is repeated, since it may be no text. Nothing
+//! here takes memory.
 #![tactic(auto)]
 
 mod forms;

@@ -12,7 +12,8 @@ use Rattle.mr_json.specs.Endings.{json_text}
 abbrev pub Tells : List ℕ → Journal → List ℕ → Type 0
 Tells told j printed = printed ≡ told ++ world_text j.config (world_in j)
 
--- the lines of the run of which `play` prints its text for the input, with the line of the script that made each event, and with what that text tells of lines
+-- the lines of the run of which `play` prints its text for the input, with the line of the script that made each
+-- event. They have what that text tells of lines too
 pub record TellsPlay (within : Config → Limits) (input text : List ℕ) : Type 0 where
   pub printed : List ℕ
   pub told : List ℕ

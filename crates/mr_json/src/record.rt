@@ -18,8 +18,8 @@ use std::alloc::{AllocError, Global};
 
 /// The records of a segment, an object a line, in order, and last one with the version and how many bytes are torn.
 ///
-/// `BadRecord` names the first whole line, from 1, that is neither a record nor the version line at the head. `NoMemory` may come
-/// at any bytes; no other fault comes.
+/// `BadRecord` names the first whole line, from 1, that is no record and not the version line at the head. `NoMemory`
+/// may come at any bytes; no other fault comes.
 pub fn history_json(alloc: Global, input: &[u8]) -> Result<Vec<u8>, SimFault>
     ensures ok { IfOk result (λ v. TellsHistory input.now v.items) }
     ensures fault { IfErr result (HistoryFails input.now) }

@@ -46,8 +46,8 @@ fn is_of_job(line: &[u8]) -> bool {
     line.starts_with(b"marker ") || line.starts_with(b"outcome ")
 }
 
-/// The picture of a part of a world's run, with who made each event where that is not a script, and the lines of refused events among what came of
-/// the whole run.
+/// The picture of a part of a world's run, with who made each event where that is not a script. The lines of refused
+/// events stand among what came of the whole run.
 pub fn drawn(
     alloc: Global,
     world: &World,

@@ -107,7 +107,8 @@ unfoldable pub most_calm : ℕ
 most_calm = 10000
 
 module _ (job : Job) (cfg : Config) (within : Limits) where
-  -- the definition's bytes of a container's input; its death where a user function or the shuffle refuses; none where they are more than a work may give
+  -- the definition's bytes of a container's input; its death where a user function or the shuffle refuses; no event
+  -- where the bytes are too many
   abbrev pub result_of : ContainerId → Option (List ℕ) → Option Event
   result_of c None = Some (Die c)
   result_of c (Some bytes) = if nat_le (length bytes) most_output then Some (Compute c bytes) else None

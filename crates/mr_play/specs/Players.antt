@@ -73,7 +73,7 @@ Applies old e last (Ok None) new = (not_now old.world.config (cluster_in old) e 
 Applies old e last (Ok (Some why)) new = (not_now old.world.config (cluster_in old) e ≡ Some why) × (new ≡ old)
 Applies old e last (Err f) new = FullWhere f ((not_now old.world.config (cluster_in old) e ≡ None) × (taken (job_as old.job) old.world.config (within old.world.config) e last (state_in old) ≡ None))
 
--- the event that is said; none is where its work is too much
+-- the event that is said; no event is said where its work is too much
 abbrev pub IsEvent : Option Event → Result Event SimFault → Type 0
 IsEvent said (Ok e) = said ≡ Some e
 IsEvent said (Err f) = FullWhere f (said ≡ None)
@@ -82,7 +82,7 @@ IsEvent said (Err f) = FullWhere f (said ≡ None)
 abbrev pub Works : Option (List ℕ) → Result (List ℕ) WorkFault → Type 0
 Works said r = works.Works ⊥ said r
 
--- the split of an input is not too long, nor are its pieces too many
+-- the split of an input is not too long, and its pieces are not too many
 abbrev pub IsShort : Option Input → Type 0
 IsShort input = IfSome input works.IsShort
 

@@ -19,7 +19,8 @@ small = record { job = record { start = 200707121733; number = 3 }; splits = cod
 abbrev pub any : Limits
 any w e = true
 
--- commands lead to these events and print these refusals; no calm has passed a packet, none was dropped, none has stepped, and nothing was expected
+-- commands lead to these events and print these refusals. No calm has passed a packet, no packet was dropped, no
+-- container has stepped last, and nothing was expected
 abbrev pub LeadTo : List (ℕ × Command) → List Event → List ℕ → Type 0
 LeadTo cs events refused = (job : Job) → played job small any cs begun ≡ Some (record { events = events; cursor = 0; dropped = []; stepped = None; told = refused; met = true })
 
@@ -32,7 +33,7 @@ pub record PlayedRows : Type 0 where
       (refused_line 3 WrongGeneration ++ refused_line 4 NoMaster ++ refused_line 5 NotRunning ++ refused_line 6 NoPacket ++ refused_line 8 NoMaster)
   -- a calm stops before the event that it is told
   pub stops : LeadTo ((2, command.Makes (Start 1 0)) ∷ (3, command.Calm 1 (Some name.Marks)) ∷ []) (Start 1 0 ∷ []) []
-  -- a calm of a master that is not there makes nothing, nor one of a master that has stopped
+  -- a calm of a master that is not there makes nothing, and so does a calm of a master that has stopped
   pub absent : LeadTo ((2, command.Calm 1 None) ∷ []) [] []
   pub stopped : LeadTo ((2, command.Makes (Start 1 0)) ∷ (3, command.Makes (Duty 1 Unavailable)) ∷ (4, command.Calm 1 None) ∷ (6, command.Makes (Duty 1 Calm)) ∷ [])
       (Start 1 0 ∷ Duty 1 Unavailable ∷ []) (refused_line 6 NoDuty)

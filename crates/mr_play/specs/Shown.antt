@@ -38,8 +38,8 @@ AddsSegments j n old new = (more : List ℕ) × AreSegments j n more × (new ≡
 abbrev pub text_in : Player → List ℕ
 text_in p = p.told.items ++ world_text p.world.config (world_in p.world)
 
--- a player has played what an input says: it computes what the job text says, and is as far as the script; its text is printed, of its cluster, and it knows
--- whether all is as expected, and which line made which events
+-- a player has played what an input says: it computes what the job text says, and is as far as the script. Its text
+-- is printed, of its cluster. It knows whether all is as expected, and which line made which events
 pub record HasPrinted (input : List ℕ) (p : Player) : Type 0 where
   pub prints : PrintsPlay within input (text_in p)
   pub kind : prints.job.job ≡ p.job

@@ -17,7 +17,7 @@ abbrev pub stretch_of : ℕ → Command → ℕ → Stretch
 stretch_of line c end = record { source = record { line = line; is_calm = is_calm c }; end = end }
 
 module _ (job : Job) (cfg : Config) (within : Limits) where
-  -- of a line that was played, and then of those behind it; of one that passes a limit there are none
+  -- the stretches of a line that was played, and then of those behind it; a line that passes a limit has none
   abbrev pub noted : (Played → List Stretch) → ℕ × Command → Option Played → List Stretch
   noted behind c None = []
   noted behind c (Some s) = stretch_of c.0 c.1 (length s.events) ∷ behind s

@@ -46,7 +46,8 @@ impl Player {
     /// A player of its own that is as far as this one: the same events happen in a world of its own. Which line made which events, and the lines for standard
     /// error, it does not have.
     ///
-    /// It fails by an allocation failure; `Full` and `JournalMismatch` are answered where the events can't happen once more, which no world comes to.
+    /// It fails by an allocation failure. `Full` and `JournalMismatch` are answered where the events can't happen
+    /// once more, which no world comes to.
     pub fn fork(&self, alloc: Global) -> Result<Player, SimFault>
         ensures is { IfOk result (Forks self.now) }
         ensures fault { IfErr result Refuses }

@@ -25,8 +25,9 @@ pub fn scripts_are_faithful()
     ensures { ScriptsAreFaithful }
 {}
 
-/// **Where `play` prints `marker yes`, the files that it prints behind are those that `seq` prints for the same job text**, whatever the script; and a job text that `seq`
-/// refuses is never marked. The input is a job text, which is its first line, and a script.
+/// **Where `play` prints `marker yes`, the files that it prints behind are those that `seq` prints for the same job
+/// text**, whatever the script. A job text that `seq` refuses is never marked. The input is a job text, which is its
+/// first line, and a script.
 ///
 /// It reads the job text, and prints nothing. Its faults are those of reading it: the first bad key (`Job`), and `NoMemory`.
 pub fn marked_files_are_those_of_seq(alloc: Global, input: &[u8]) -> Result<(), SimFault>

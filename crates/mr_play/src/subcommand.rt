@@ -78,9 +78,9 @@ fn printed_of(player: Player) -> Result<Printed, SimFault>
 
 /// The player of a job text and a script, which has played the script.
 ///
-/// The first bad key of the job text is told (`Job`), else the first bad line of the script (`BadCommand`, lines of the whole input, from
-/// 1), else `Full` where an event of the script, or a work, passes a limit of the world. `NoMemory` may come at any input; no other
-/// fault comes.
+/// The first bad key of the job text is told (`Job`), else the first bad line of the script (`BadCommand`, lines of
+/// the whole input, from 1). Else `Full` is told where an event of the script, or a work, passes a limit of the
+/// world. `NoMemory` may come at any input; no other fault comes.
 pub fn played(alloc: Global, input: &[u8]) -> Result<Player, SimFault>
     ensures ok { IfOk result (HasPrinted input.now) }
     ensures fault { IfErr result (PlayFails within input.now) }

@@ -19,8 +19,9 @@ use mr_work::{work_of_map, work_of_reduce};
 use mr_world::{Config, Input};
 use std::alloc::Global;
 
-/// The event of a container's `compute`: its bytes are handed in, no bytes where it has no input; it ends where a user function
-/// or the shuffle refuses. Answers `Full` where the bytes are more than a work may give, and `NoMemory` only where a growth was refused.
+/// The event of a container's `compute`. Its bytes are handed in, and these are no bytes where it has no input. It
+/// ends where a user function or the shuffle refuses. Answers `Full` where the bytes are more than a work may give,
+/// and `NoMemory` only where a growth was refused.
 pub fn computed(
     alloc: Global,
     job: JobKind,

@@ -48,7 +48,7 @@ module _ {C : Type 0} (IsLine : List ℕ → C → Type 0) where
   AreLines n ((b ∷ line) ∷ lines) [] = ⊥
   AreLines n ((b ∷ line) ∷ lines) (c ∷ cs) = (c.0 ≡ n) × IsLine (b ∷ line) c.1 × AreLines (n + 1) lines cs
 
-  -- Line k is the first that is neither empty nor a command, where the lines are numbered from n on.
+  -- Line k is the first that is not empty and is no command, where the lines are numbered from n on.
   abbrev pub IsFirstNoLine : ℕ → List (List ℕ) → ℕ → Type 0
   IsFirstNoLine n [] k = ⊥
   IsFirstNoLine n ([] ∷ lines) k = IsFirstNoLine (n + 1) lines k

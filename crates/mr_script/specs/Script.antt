@@ -79,6 +79,6 @@ IsBad job line = IsNoLine (IsLine job) line
 abbrev pub AreCommands : JobId → ℕ → List (List ℕ) → List (ℕ × Command) → Type 0
 AreCommands job n lines cs = AreLines (IsLine job) n lines cs
 
--- Line k is the first that is neither empty nor a command, where the lines are numbered from n on.
+-- Line k is the first that is not empty and is no command, where the lines are numbered from n on.
 abbrev pub IsFirstBad : JobId → ℕ → List (List ℕ) → ℕ → Type 0
 IsFirstBad job n lines k = IsFirstNoLine (IsLine job) n lines k

@@ -20,7 +20,8 @@ pub record ShowsSequential (job : Job) (cfg : Config) (w : World) : Type 0 where
   pub texts : (r : ℕ) → r < cfg.reduces → slice_get files r ≡ job.sequential cfg.reduces r cfg.splits
   pub seen : visible w ≡ named 0 files
 
--- so it is over a faithful list, once the marker is there, of at most 1,000 reduces (more than 100,000 part files would not stand in the order of their numbers)
+-- so it is over a faithful list of a job of at most 1,000 reduces, once the marker is there. More than 100,000 part
+-- files would not stand in the order of their numbers
 abbrev pub MarkedWorldsShowSequential : Type 0
 MarkedWorldsShowSequential = (job : Job) (cfg : Config) (within : Limits) → JobLaws job cfg → BoundsOutputs within → cfg.reduces ≤ 1000 →
     (es : List Event) → IsFaithful job cfg within es → IsMarked (world_of cfg within es) → ShowsSequential job cfg (world_of cfg within es)

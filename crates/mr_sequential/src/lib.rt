@@ -7,13 +7,15 @@
 //!
 //! - `jobs_have_their_laws`: it has the two laws that the cluster's definitions (`mr_model`) ask of a job. A map's output is its blocks, and the part of all blocks is the sequential text.
 //!   So `sequential` of `mr_world`'s `HeadlineHolds`, which asks for these laws, is promised of it;
-//! - `files_of_jobs_are_sequential`: over every list of events in which each result that is taken is what the job's functions give, and under limits that let no map's output of more than 2^24
-//!   bytes pass, the whole output of each reduce's attempt is the text of the sequential execution, and where the success marker is, so are the files.
+//! - `files_of_jobs_are_sequential` is over every list of events in which each result that is taken is what the job's
+//!   functions give. The limits let no map's output of more than 2^24 bytes pass. The whole output of each reduce's
+//!   attempt is the text of the sequential execution. Where the success marker is, the files are those of the
+//!   sequential execution.
 //!
 //! And of every job with the two laws, of at most 1,000 reduces:
 //!
-//! - `marked_worlds_show_sequential_files`: where the success marker is, what a reader of the destination sees is the part file of each reduce with the text of the sequential
-//!   execution, by rising name, and nothing else.
+//! - `marked_worlds_show_sequential_files`: where the success marker is, a reader of the destination sees the part
+//!   file of each reduce, by rising name, and nothing else. Each has the text of the sequential execution.
 //!
 //! All are laws alone: there is nothing to be tested.
 #![tactic(auto)]
@@ -24,19 +26,21 @@ ghost use Rattle.mr_sequential.specs.Shown.{MarkedWorldsShowSequential};
 
 use mr_user::Job;
 
-/// Over every faithful list of events, whole outputs, and the files once the success marker is there, are those of the sequential execution of the job, which then exists.
+/// Over every faithful list of events, whole outputs are those of the sequential execution of the job, which then
+/// exists. So are the files once the success marker is there.
 pub fn files_of_jobs_are_sequential<J: Job>()
     ensures { FilesOf (computation J.Key.cmp J.Key.codec J.Value.codec J.functions) }
 {}
 
-/// Each job has the laws that the cluster's definitions ask of one: a map's output is its blocks, and the part of all blocks is the sequential text. So whatever is
-/// promised of a job with these laws is promised of it.
+/// Each job has the laws that the cluster's definitions ask of one: a map's output is its blocks, and the part of all
+/// blocks is the sequential text. So whatever is promised of a job with these laws is promised of it.
 pub fn jobs_have_their_laws<J: Job>()
     ensures { LawsOf (computation J.Key.cmp J.Key.codec J.Value.codec J.functions) }
 {}
 
-/// Over every faithful list, where the success marker is, what a reader of the destination sees is the part file of each reduce with the text of the sequential execution,
-/// by rising name, and nothing else; of jobs of at most 1,000 reduces, with the two laws of a job, under limits that let no map's output of more than 2^24 bytes pass.
+/// Over every faithful list, where the success marker is, a reader of the destination sees the part file of each
+/// reduce, by rising name, and nothing else. Each has the text of the sequential execution. The job has at most 1,000
+/// reduces and the two laws of a job, and the limits let no map's output of more than 2^24 bytes pass.
 pub fn marked_worlds_show_sequential_files()
     ensures { MarkedWorldsShowSequential }
 {}

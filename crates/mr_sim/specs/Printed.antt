@@ -55,7 +55,7 @@ IsBadLine (Threads turns hold) input n = ⊥
 IsBadLine (ThreadsSeen turns hold seen) input n = ⊥
 IsBadLine (Explore asked progress) input n = IsBadPlayLine input n
 
--- the first whole line of a segment that is neither a record nor the version line at its head
+-- the first whole line of a segment that is no record and not the version line at its head
 abbrev pub IsBadRecord : Command → List ℕ → ℕ → Type 0
 IsBadRecord Committer input n = ⊥
 IsBadRecord Play input n = ⊥

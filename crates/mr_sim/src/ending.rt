@@ -19,8 +19,9 @@ pub enum Ending {
     Failed(SimFault),
 }
 
-/// The exit status of the program: 0 where the subcommand was done, or what the words asked for was printed; 2 where the command line
-/// was refused; 3 where the run was not as its script expects. Where there is a fault it is the fault's.
+/// The exit status of the program. It is 0 where the subcommand was done, or what the words asked for was printed. It
+/// is 2 where the command line was refused, and 3 where the run was not as its script expects. Where there is a fault
+/// it is the fault's.
 pub fn exit_status(ending: Ending) -> u8
     ensures { result ≡ exit_status_of ending }
 {

@@ -1,12 +1,14 @@
-//! The simulator: what `mrsim` reads and writes. The subcommands stand beneath it: those that need no cluster in mr_commands, `play` in mr_play,
-//! what is shown beside it in mr_trace, mr_picture and mr_json, `explore` in mr_explore, and `threads` in mr_threads.
+//! The simulator: what `mrsim` reads and writes. The subcommands stand beneath it. Those that need no cluster are in
+//! mr_commands, `play` is in mr_play, and what is shown beside it in mr_trace, mr_picture and mr_json. `explore` is
+//! in mr_explore, and `threads` in mr_threads.
 //!
 //! # What is proved
 //!
-//! **`answer`, from the bytes of an input to those that are printed**, for every input, with no condition. Where it answers Ok, the bytes are exactly
-//! what the subcommand prints for the input (clause `ok`, by `Prints`). A fault is one that the input has, or there was no memory
-//! (clause `fault`, by `RefusesText`). This is what is proved of the output of `mrsim`: its standard streams tell no bytes to a
-//! contract, so the clauses of `run_streams` and `run` speak of nothing there.
+//! **`answer`, from the bytes of an input to those that are printed**, for every input, with no condition. Where it
+//! answers Ok, the bytes are exactly what the subcommand prints for the input (clause `ok`, by `Prints`). A fault is
+//! one that the input has, or there was no memory (clause `fault`, by `RefusesText`). This is what is proved of the
+//! output of `mrsim`. Its standard streams tell no bytes to a contract, so the clauses of `run_streams` and `run`
+//! speak of nothing there.
 //!
 //! `Prints` has a case for each subcommand:
 //!
@@ -51,13 +53,15 @@
 //! **`run_with_help`** is the call that `mrsim` makes, and `run_with_remarks` hands on to it. It has the same clauses. Where there is a fault it hands out
 //! beside it what was expected in place of what is bad (`Refusal`). The fault is the contract. What the help says is in no clause, and takes no memory.
 //!
-//! Each input has at most one text, by the laws of mr_commands and mr_play. No input is both printed and refused, by any subcommand
-//! (`printed_or_refused`): where there is a text for an input of at most 2^24 bytes, the clause `fault` leaves `NoMemory`, `Read` and `Write` alone. There
-//! are two exceptions. Where runs are made once more, it leaves `JournalMismatch` too. Where threads run a job, whether there is a run and whether it fails
-//! depends on the schedule as well.
+//! Each input has at most one text, by the laws of mr_commands and mr_play. No input is both printed and refused, by
+//! any subcommand (`printed_or_refused`). Where there is a text for an input of at most 2^24 bytes, the clause
+//! `fault` leaves only `NoMemory`, `Read` and `Write`. There are two exceptions. Where runs are made once more, it
+//! leaves `JournalMismatch` too. Where threads run a job, whether there is a run and whether it fails depends on the
+//! schedule as well.
 //!
-//! `SimFault::status` is exactly the table of statuses, and `exit_status` is the program's: 0 where it was done or help was asked for; 2 where the words
-//! were refused; 3 where the run was not as its script expects; else that of the fault.
+//! `SimFault::status` is exactly the table of statuses, and `exit_status` is the program's. It is 0 where it was done
+//! or help was asked for, 2 where the words were refused, and 3 where the run was not as its script expects. Else it
+//! is that of the fault.
 //!
 //! Only tested, of the library:
 //!

@@ -138,7 +138,8 @@ pub fn run_streams<R: Read, W: Write>(
     write_text(writer, &text)
 }
 
-/// Runs a subcommand over streams, with a handle that may start threads and wait: as `run_streams`, but that jobs are run by threads where the subcommand says so.
+/// Runs a subcommand over streams, with a handle that may start threads and wait. It is as `run_streams`, but jobs
+/// are run by threads where the subcommand says so.
 ///
 /// There the faults are `JobFailed`, where a failure was told or the newest master stopped, and `TurnsSpent`, `JournalMismatch`, `Thread` and `Full`, as
 /// `mr_drive` has them. A function with a handle that may wait owes no return by its contract; that `run_streams` returns is proved.

@@ -22,7 +22,8 @@ pub record IsRun (job : Job) (config : Config) (j : Journal) : Type 0 where
   -- where the success marker is, a reader sees the files of the sequential execution, and nothing else
   pub marked : IsMarked (world_in j) → ShowsSequential job j.config (world_in j)
 
--- a report of a run: it succeeded exactly where success was told, and then with the files of the sequential execution; its files are what a reader sees
+-- a report of a run: its files are what a reader sees. It succeeded exactly where success was told, and then with the
+-- files of the sequential execution
 pub record IsReportOf (job : Job) (config : Config) (r : Report) : Type 0 where
   pub run : IsRun job config r.world
   pub told : r.succeeded ≡ true → outcome (world_in r.world) ≡ Some true

@@ -27,7 +27,8 @@ use Rattle.mr_threads.specs.declared.seen.Seen.TheVariants as seen
 abbrev pub text_of_run : Journal → List ℕ
 text_of_run j = world_text j.config (world_in j)
 
--- before it the trace of the run, with the thread that made each event, and behind it the history: each where it is asked for, else nothing
+-- before it stands the trace of the run, with the thread that made each event, and behind it the history. Each is
+-- there exactly where it is asked for
 pub record TellsRun (shown : Shown) (j : Journal) (text : List ℕ) : Type 0 where
   pub before : List ℕ
   pub behind : List ℕ
@@ -69,8 +70,9 @@ pub record HasFailed (input : List ℕ) : Type 0 where
   pub is : IsRun (job_as job.job) (config_of job) run
   pub failed : outcome (world_in run) ≡ Some true → ⊥
 
--- The first bad key of the job text is told, else that there is no run to be shown: turns are spent, the seats do not account for the journal, a thread can't be made or a
--- limit is passed. An allocation failure may come at any input.
+-- The first bad key of the job text is told, else why there is no run to be shown. Then turns are spent, the seats do
+-- not account for the journal, a thread can't be made or a limit is passed. An allocation failure may come at any
+-- input.
 abbrev pub ShownFails : List ℕ → SimFault → Type 0
 ShownFails input NoMemory = Unit {0}
 ShownFails input (Job e) = submission_of input ≡ Err e

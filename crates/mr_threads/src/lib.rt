@@ -4,8 +4,9 @@
 //!
 //! For every input, number of turns and gate, whatever the schedule was:
 //!
-//! - **`threads_output`**: what it prints is what `seq` prints for the same job text (`PrintsSeq`). Else it tells the first bad key of the text; or there
-//!   was a run in which no success was told, or no run, or memory was refused (`ThreadsFail`).
+//! - **`threads_output`**: what it prints is what `seq` prints for the same job text (`PrintsSeq`). Else it tells the
+//!   first bad key of the text. Or there was a run in which no success was told, or no run, or memory was refused
+//!   (`ThreadsFail`).
 //! - **`threads_seen`**: what it shows is of a run of the job that the text says (`ShowsRun`). Each result in that run is what the job's functions give.
 //!   An outcome was told, or its newest master is Stopped. Where the marker is, the files in the text of `play` are those that `seq` prints. What stands
 //!   there is in the table below.
@@ -13,7 +14,7 @@
 //!
 //! | Asked for | What is shown |
 //! |---|---|
-//! | `Shown` | the text that `play` prints of the run. Where they are asked for, before it exactly the trace of that run, with the thread that made each event; behind it exactly the history |
+//! | `Shown` | the text that `play` prints of the run. Where they are asked for, exactly the trace of that run stands before it, with the thread that made each event, and exactly the history behind it |
 //! | `Json` | exactly the lines of the run, with the thread that made each event |
 //! | `Script` | exactly the commands of the run's events, and then the text of `play`, as comments |
 //!

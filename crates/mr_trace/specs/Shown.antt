@@ -8,8 +8,9 @@ use Rattle.mr_play.specs.Text.{PrintsPlay, printed_journal, printed_stretches}
 use Rattle.mr_trace.specs.Happened.{by_lines}
 use Rattle.mr_trace.specs.Trace.{trace_text}
 
--- The text has what `play` prints. Before it stands the trace of the run of which that is printed, with the line of the script that made each event, and behind it the history of
--- that run: each where it is asked for, else nothing.
+-- The text has what `play` prints. Before it stands the trace of the run of which that is printed, with the line of
+-- the script that made each event. Behind it stands the history of that run. Each is there exactly where it is asked
+-- for.
 pub record Shows (within : Config → Limits) (shown : Shown) (input text : List ℕ) : Type 0 where
   pub before : List ℕ
   pub printed : List ℕ

@@ -1,4 +1,5 @@
--- The words of a trace (our own profile): an event's are those of the script's command that makes it again, a container's and an attempt's those of scripts.
+-- The words of a trace (our own profile). An event has those of the script's command that makes it again. A container
+-- and an attempt have those of scripts.
 use Rattle.std.specs.Prelude.{ℕ, Bool, List, [], ◌∷◌, ◌++◌, length, Option, Some, None, Ok, Err, if◌then◌else◌, nat_eq, codes, decimal}
 use Rattle.std.specs.List.{join_with_byte}
 use Rattle.mr_ids.specs.Text.{attempt_text}

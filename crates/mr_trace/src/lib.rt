@@ -4,14 +4,17 @@
 //!
 //! For every input:
 //!
-//! - **`trace_of`**: the trace of a world's run, with who made its events, is exactly the text of what happened in it (`trace_text` of `specs/Trace`). For
-//!   each event of the journal this is its place, the event in the words of its command, what the duty or the wish was, and who made it; then its store
-//!   call with what the caller heard, and the packets that it added (`Happened` of `specs/Happened`). It fails by nothing but an allocation failure.
-//! - **`play_shown`**: the text has what `play` prints (`Shows`). Where they are asked for, before it stands exactly the trace of the run of which that is
-//!   printed, each event with the line of the script that made it; behind it stands exactly the history. Its faults are those of `play` (`PlayFails`).
+//! - **`trace_of`**: the trace of a world's run, with who made its events, is exactly the text of what happened in it
+//!   (`trace_text` of `specs/Trace`). For each event of the journal it has its place, the event in the words of its
+//!   command, what the duty or the wish was, and who made it. Then come its store call with what the caller heard,
+//!   and the packets that it added (`Happened` of `specs/Happened`). It fails by nothing but an allocation failure.
+//! - **`play_shown`**: the text has what `play` prints (`Shows`). Where a trace is asked for, it stands before that,
+//!   each event with the line of the script that made it. Where the history is asked for, it stands behind. Both are
+//!   exactly those of the run of which the text is printed. Its faults are those of `play` (`PlayFails`).
 //!
-//! Whoever shows a run in another way finds here what tells one event, each call with its clause: `maker_of` and `left_at` (who made it), `name_of` (its
-//! duty or wish), `opened` and `happen` (a world in which the events happen once more), and the words of `specs/Words`.
+//! Whoever shows a run in another way finds here what tells one event, each call with its clause. `maker_of` and
+//! `left_at` tell who made it, and `name_of` its duty or wish. `opened` and `happen` give a world in which the events
+//! happen once more. `specs/Words` has the words.
 #![tactic(auto)]
 
 mod asked;

@@ -17,9 +17,9 @@ use mr_script::EventName;
 use mr_world::{Config, World};
 use std::alloc::{AllocError, Global};
 
-/// A line for each event of a world's journal: its place there, the event in the words of a script, what the duty or the wish was, and
-/// who made it; then its store call with the answer, and the packets that it added. For this the events happen once more, in a world of
-/// their own. It fails by nothing but an allocation failure.
+/// A line for each event of a world's journal. It has its place there, the event in the words of a script, what the
+/// duty or the wish was, and who made it. Then come its store call with the answer, and the packets that it added.
+/// For this the events happen once more, in a world of their own. It fails by nothing but an allocation failure.
 pub fn trace_of(alloc: Global, world: &World, makers: &Makers<'_>) -> Result<Vec<u8>, SimFault>
     ensures text { IfOk result (λ text. text.items ≡ trace_text (maker_of makers.now) world.now) }
     ensures memory { IfErr result (λ e. e ≡ SimFault.NoMemory) }

@@ -8,8 +8,9 @@ abbrev pub In : {A : Type 0} → A → List A → Type 0
 In x [] = ⊥
 In x (y ∷ ys) = (y ≡ x) ⊎ In x ys
 
--- A run that may have n faults more, and makes at most `left` steps more by itself, comes to this: it has ended, or has made all its steps, or its next step would pass
--- a limit; or it makes a step by itself; or a fault befalls it that may befall it where it is.
+-- What may come of a run that may have n faults more, and makes at most `left` steps more by itself. It has ended, or
+-- has made all its steps, or its next step would pass a limit. Or it makes a step by itself, or a fault befalls it
+-- that may befall it where it is.
 pub data Comes {S F : Type 0} (steps : Steps S F) (most : ℕ) : ℕ → ℕ → S → Found S → Type 0 where
   Has_ended : (n left : ℕ) (s t : S) → steps.onward s ≡ Ends t → Comes steps most n (suc left) s (Run n t)
   Has_made_all : (n : ℕ) (s : S) → Comes steps most n zero s (Run n s)

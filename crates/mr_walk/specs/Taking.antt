@@ -13,7 +13,7 @@ Takes {S} old (Err fault.Full) new = ((rest : List (Found S)) × (old ≡ Passes
 Takes old (Err fault.NoMemory) new = new ≡ []
 Takes old (Err fault.Mismatch) new = new ≡ []
 
--- none is left
+-- whether nothing is left
 abbrev pub no_more : {A : Type 0} → List A → Bool
 no_more [] = true
 no_more (x ∷ xs) = false

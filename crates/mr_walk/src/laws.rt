@@ -3,7 +3,8 @@ ghost use Rattle.mr_walk.specs.Laws.{RunsAreAllThatComes};
 
 use crate::run::Run;
 
-/// The runs of a walk are just those that come of its first run, by steps that it makes by itself and by faults that may befall it where it is. A walk says how many faults there are at most.
+/// The runs of a walk are just those that come of its first run. They come by steps that it makes by itself and by
+/// faults that may befall it where it is. A walk says how many faults there are at most.
 pub fn runs_are_all_that_comes<R: Run>()
     ensures { RunsAreAllThatComes R.steps }
 {}

@@ -36,7 +36,7 @@ impl<T: Drop> Stack<T> {
         self.items.push(item)
     }
 
-    /// What is on top comes off; none where there is nothing.
+    /// What is on top comes off, if there is anything.
     pub fn pop(&mut self) -> Option<T>
         ensures item { IfSome result (λ item. self.old ≡ item ∷ self.new) }
         ensures none { IfNone result ((self.old ≡ []) × (self.new ≡ [])) }

@@ -178,7 +178,7 @@ fn turn<R: Run>(
     }
 }
 
-/// Turns are made until a run is at its end; none where nothing is left.
+/// Turns are made until a run is at its end, or nothing is left.
 pub fn next_of<R: Run>(
     alloc: Global,
     levels: &mut Stack<Level<R, R::Fault>>,

@@ -43,7 +43,7 @@ impl<R: Run> Walk<R> {
         Ok(Walk { levels, most })
     }
 
-    /// Makes the next run; none where all were made.
+    /// Makes the next run; it answers no run where all were made.
     ///
     /// Refusals: `Full` where it would pass a limit, or an allocation failure. Then the walk is at its end.
     pub fn next_run(&mut self, alloc: Global) -> Result<Option<Ended<R>>, WalkFault>

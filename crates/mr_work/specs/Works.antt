@@ -38,7 +38,8 @@ IsShort (Pieces reduce pieces) = length pieces ≤ 1000
 abbrev pub InputsAreShort : Type 0
 InputsAreShort = (cfg : Config) (w : World) (c : ContainerId) → length cfg.splits ≤ 1000 → AllByRecursion (λ split. length split ≤ 2 ^ 24) cfg.splits → IfSome (input_of cfg w c) IsShort
 
--- A work whose gate may refuse gave the bytes that are meant, none where they are refused; or the gate refused it, they are too many, or memory was refused.
+-- A work whose gate may refuse gave the bytes that are meant; no bytes are meant where they are refused. Or the gate
+-- refused it, the bytes are too many, or memory was refused.
 abbrev pub Works : (refuses : Type 0) → Option (List ℕ) → Result (List ℕ) WorkFault → Type 0
 Works refuses meant (Ok bytes) = (meant ≡ Some bytes) × (length bytes ≤ most_output)
 Works refuses meant (Err (work.User f)) = meant ≡ None

@@ -25,14 +25,14 @@ impl Model for Pieces {
 }
 
 impl Pieces {
-    /// These pieces. It takes no memory.
+    /// These pieces.
     pub fn from_vec(items: Vec<Bytes>) -> Pieces
         ensures { result ≡ items.items }
     {
         Pieces { items }
     }
 
-    /// A copy of these pieces. It may allocate, and refuses nothing else.
+    /// A copy of these pieces.
     pub fn from_slice(alloc: Global, pieces: &[Bytes]) -> Result<Pieces, AllocError>
         ensures { IfOk result (λ copied. copied ≡ pieces.now) }
     {
@@ -43,7 +43,7 @@ impl Pieces {
         Ok(Pieces { items })
     }
 
-    /// The pieces. It takes no memory.
+    /// The pieces.
     pub fn as_slice(&self) -> &[Bytes]
         ensures { result.now ≡ self.now }
     {
@@ -75,7 +75,7 @@ pub enum Input {
 }
 
 impl Input {
-    /// What a map is given, copied. It may allocate, and refuses nothing else.
+    /// What a map is given, copied.
     pub fn of_map(alloc: Global, split: u32, bytes: &[u8]) -> Result<Input, AllocError>
         ensures { IfOk result (λ input. as_input input ≡ Split split bytes.now) }
     {
@@ -83,7 +83,7 @@ impl Input {
         Ok(Input::Map { split, bytes })
     }
 
-    /// What a reduce is given, copied. It may allocate, and refuses nothing else.
+    /// What a reduce is given, copied.
     pub fn of_reduce(alloc: Global, reduce: u32, pieces: &[Bytes]) -> Result<Input, AllocError>
         ensures { IfOk result (λ input. as_input input ≡ Fetched reduce pieces.now) }
     {
@@ -91,7 +91,7 @@ impl Input {
         Ok(Input::Reduce { reduce, pieces })
     }
 
-    /// An equal input. It may allocate, and refuses nothing else.
+    /// An equal input.
     pub fn copy(&self, alloc: Global) -> Result<Input, AllocError>
         ensures { IfOk result (λ input. input ≡ self.now) }
     {
@@ -103,7 +103,7 @@ impl Input {
         }
     }
 
-    /// Whether a map is given it, or a reduce. It takes no memory.
+    /// Whether a map is given it, or a reduce.
     pub fn kind(&self) -> TaskKind
         ensures { result ≡ kind_of self.now }
     {
@@ -113,7 +113,7 @@ impl Input {
         }
     }
 
-    /// Whether it is what a map is given for these bytes of this split. It takes no memory.
+    /// Whether it is what a map is given for these bytes of this split.
     pub fn is_of_map(&self, number: u32, split_bytes: &[u8]) -> bool
         ensures { IsTrue result ↔ (as_input self.now ≡ Split number split_bytes.now) }
     {
@@ -123,7 +123,7 @@ impl Input {
         }
     }
 
-    /// Whether it is what this reduce is given for these pieces. It takes no memory.
+    /// Whether it is what this reduce is given for these pieces.
     pub fn is_of_reduce(&self, number: u32, fetched: &[Bytes]) -> bool
         ensures { IsTrue result ↔ (as_input self.now ≡ Fetched number fetched.now) }
     {

@@ -15,11 +15,12 @@ use mr_shuffle::{Piece, reduce_work};
 use mr_user::{Gate, Job, MAX_REDUCES, MAX_SPLIT_LEN};
 use std::alloc::{AllocError, Global};
 
-/// What a job makes of an input, for so many reduces: a map's output, or a reduce's text.
+/// What a job makes of an input, for this number of reduces: a map's output, or a reduce's text.
 ///
-/// The gate is entered once, before the work, and a gate that answers a fault is answered `Gate`. Then a map's input is answered
-/// `User(Refused)` where the job refuses a line; a reduce's `Shuffle(Truncated)` or `Shuffle(Disorder)`, the first fault of its pieces. `Full` is
-/// answered where the bytes would be more than `MAX_OUTPUT_LEN`, `NoMemory` only where a growth was refused.
+/// The gate is entered once, before the work, and a gate that answers a fault is answered `Gate`. Then a map's input
+/// is answered `User(Refused)` where the job refuses a line. A reduce's input is answered `Shuffle(Truncated)` or
+/// `Shuffle(Disorder)`, the first fault of its pieces. `Full` is answered where the bytes would be more than
+/// `MAX_OUTPUT_LEN`, `NoMemory` only where a growth was refused.
 pub fn work<J: Job, G: Gate>(
     alloc: Global,
     job: &J,
@@ -44,7 +45,8 @@ pub fn work<J: Job, G: Gate>(
     }
 }
 
-/// What a job makes of the split of a map, for so many reduces: the map's output. Its refusals are those of `work`.
+/// What a job makes of the split of a map, for this number of reduces: the map's output. Its refusals are those of
+/// `work`.
 pub fn work_of_map<J: Job, G: Gate>(
     alloc: Global,
     job: &J,

@@ -104,7 +104,7 @@ fn form_of(words: &ArgMatches<'_>) -> Form {
     }
 }
 
-/// The end that is sought, if that is none of the lines that `play` prints of an end.
+/// The end that is sought, if that is not one of the lines that `play` prints of an end.
 pub fn bad_goal<'a>(
     alloc: Global,
     command: &mr_sim::Command<'a>,

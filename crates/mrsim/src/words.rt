@@ -308,8 +308,8 @@ pub fn file_of<'a>(matches: &ArgMatches<'a>) -> Option<&'a str> {
     }
 }
 
-/// How the program ends at words that name no subcommand to be run: they ask for help or the version, or are refused, or there was
-/// no memory to read them.
+/// How the program ends at words that name no subcommand to be run. They ask for help or the version, or are refused,
+/// or there was no memory to read them.
 pub fn ending_of(error: &Error) -> Ending
     ensures help { kind_of error.now ≡ ErrorKind.DisplayHelp → result ≡ Ending.Helped }
     ensures version { kind_of error.now ≡ ErrorKind.DisplayVersion → result ≡ Ending.Helped }

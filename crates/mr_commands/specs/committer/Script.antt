@@ -83,6 +83,6 @@ IsBad line = IsNoLine IsLine line
 abbrev pub AreCommands : ℕ → List (List ℕ) → List (ℕ × ScriptCommand) → Type 0
 AreCommands n lines cs = AreLines IsLine n lines cs
 
--- Line k is the first that is neither empty nor a command, where the lines are numbered from n on.
+-- Line k is the first that is not empty and is no command, where the lines are numbered from n on.
 abbrev pub IsFirstBad : ℕ → List (List ℕ) → ℕ → Type 0
 IsFirstBad n lines k = IsFirstNoLine IsLine n lines k

@@ -7,6 +7,6 @@ use Rattle.mr_history.specs.Reading.{records_of}
 use Rattle.mr_model.specs.Ids.{reduce_of}
 use Rattle.mr_model.specs.Records.{winner_in}
 
--- the winners of so many reduces of a job, by the bytes of the segments in their order
+-- the winners of the first `reduces` reduces of a job, by the bytes of the segments in their order
 abbrev pub told_winners : JobId → ℕ → List (List ℕ) → List (Option Attempt)
 told_winners job reduces segments = map (λ r. winner_in (flat_map records_of segments) (reduce_of job r)) (range_with_len 0 reduces)

@@ -8,7 +8,7 @@ use Rattle.mr_walk.specs.declared.fault.WalkFault.{WalkFault}
 use Rattle.mr_walk.specs.declared.fault.WalkFault.TheVariants as fault
 
 module _ {S F : Type 0} (steps : Steps S F) where
-  -- where no fault is spared none is tried
+  -- where a run may have no more faults, no fault is tried
   abbrev pub worth : ℕ → List F → List F
   worth zero fs = []
   worth (suc n) fs = fs
