@@ -4,7 +4,7 @@ use mr_event::Event;
 use mr_ids::{AttemptId, TaskId};
 use mr_master_model::{DutyName, Phase};
 use mr_packet::ContainerId;
-use mr_world::{Took, World, WorldFault};
+use mr_world::{Took, VisibleFile, World, WorldFault};
 use std::process::Abort;
 
 /// What is read of a world without memory, of its newest master where it is of a master.
@@ -89,5 +89,37 @@ pub fn living(rt: &impl Abort, world: &World) -> Vec<ContainerId> {
     match world.living() {
         Ok(living) => living,
         Err(_) => world.living().expect(rt, "no memory"),
+    }
+}
+
+/// The winner of each reduce.
+pub fn winners(rt: &impl Abort, world: &World) -> Vec<Option<AttemptId>> {
+    match world.winners() {
+        Ok(winners) => winners,
+        Err(_) => world.winners().expect(rt, "no memory"),
+    }
+}
+
+/// Whether the success marker is there.
+pub fn is_marked(rt: &impl Abort, world: &World) -> bool {
+    match world.marker() {
+        Ok(marker) => marker,
+        Err(_) => world.marker().expect(rt, "no memory"),
+    }
+}
+
+/// The files that a reader sees.
+pub fn shown(rt: &impl Abort, world: &World) -> Vec<VisibleFile> {
+    match world.visible() {
+        Ok(files) => files,
+        Err(_) => world.visible().expect(rt, "no memory"),
+    }
+}
+
+/// Whether the event would make a store call.
+pub fn asks(rt: &impl Abort, world: &World, event: &Event) -> bool {
+    match world.asks(event) {
+        Ok(asked) => asked.is_some(),
+        Err(_) => world.asks(event).expect(rt, "no memory").is_some(),
     }
 }

@@ -1,8 +1,8 @@
 //! What is read of a world, and a list of events.
 
-use crate::again::{due, living, winner};
+use crate::again::{asks, due, is_marked, living, shown, winner, winners};
 use crate::events::{crash, start, store_call};
-use crate::fixtures::{Stop, container, started, task, world};
+use crate::fixtures::{Stop, container, started, takes, task, world};
 use mr_container::Wish;
 use mr_event::Event;
 use mr_ids::TaskKind;
@@ -129,4 +129,18 @@ fn records_wait_for_a_flush(rt: HostRuntime) {
     assert!(rt; run.world.unflushed(1) == Some(0));
     assert!(rt; run.world.stable(1).starts_with(started.as_slice()));
     assert!(rt; winner(&rt, &run.world, task(TaskKind::Reduce, 0)).is_some());
+}
+
+// Of a job whose master has just begun: its reduce has no winner, no marker and no file is there, and the master is to make a call.
+#[test]
+fn job_that_began(rt: HostRuntime) {
+    let alloc = rt.alloc();
+    let mut world = world(&rt, alloc, 2);
+    takes(&rt, &mut world, start(1));
+    let won = winners(&rt, &world);
+    assert!(rt; won.len() == 1 && matches!(won.first(), Some(None)));
+    assert!(rt; !is_marked(&rt, &world));
+    assert!(rt; shown(&rt, &world).is_empty());
+    assert!(rt; asks(&rt, &world, &store_call(1)));
+    assert!(rt; !asks(&rt, &world, &crash(1, 0)));
 }
