@@ -9,7 +9,7 @@ use crate::fault::HistoryFault;
 use crate::record::{Record, Records};
 use crate::segment::Segment;
 use mr_ids::{AppAttempt, MAX_APP_ATTEMPTS};
-use std::alloc::Global;
+use std::alloc::{AllocError, Global};
 use std::marker::Model;
 
 /// The segments of all generations, and the fence below which no master is heard.
@@ -57,6 +57,18 @@ impl History {
             segments,
             fence: 0,
             alloc,
+        })
+    }
+
+    /// A history of its own, with the same segments and the same fence. Its only fault is an allocation failure. A
+    /// segment in which nothing was written takes no memory of its own.
+    pub fn copy(&self) -> Result<History, AllocError>
+        ensures { IfOk result (λ history. history ≡ self.now) }
+    {
+        Ok(History {
+            segments: self.segments.clone()?,
+            fence: self.fence,
+            alloc: self.alloc,
         })
     }
 

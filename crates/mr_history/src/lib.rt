@@ -39,8 +39,8 @@
 //! - `History::append`, `flush`, `read` are exactly the call of the definition (`Makes`, `MakesAlways`): first
 //!   `Superseded` below the fence, then the segment's refusals. `raise` seals every older segment and no other and
 //!   gives its own segment its version, `seal` one alone, `tail` is the length of a tail. Memory may be taken by
-//!   `History::new`, `append`, `read` and `records`, by `replay`, and by what adds to `Records`. No other call takes
-//!   any. A flush or a seal moves a mark over bytes that `append` stored.
+//!   `History::new`, `append`, `read`, `records` and `copy`, by `replay`, and by what adds to `Records`. No other call
+//!   takes any. A flush or a seal moves a mark over bytes that `append` stored.
 //! - `History::append_refusal` and `flush_refusal` tell without memory why the call would be refused: exactly the word
 //!   by which `append` and `flush` are refused (`refused`). The law is `refusals_are_heard`: a call that has a refusal
 //!   answers it and changes nothing, and one that has none is made, or answers `NoMemory` and changes nothing.
@@ -51,6 +51,8 @@
 //!   within the version line). Where there is no record before the caller's segment it takes no memory (clause
 //!   `nothing`); so does `History::records` where there is none. The history keeps as an invariant that no segment
 //!   above the fence was written to.
+//! - `History::copy` gives a history of its own with the same segments and the same fence, and refuses for want of
+//!   memory alone.
 //! - Laws for the layers above, each on a public function with an empty body: `lines_replay`, `segments_stay_sound`,
 //!   `others_stay`, `winners_stay`, and three more. `fronts_replay`: a front of a segment's bytes tells the records of
 //!   its whole lines, for every number of bytes, in both versions. `segments_record`: what each change does to a

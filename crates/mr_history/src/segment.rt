@@ -10,7 +10,7 @@ use crate::fault::HistoryFault;
 use crate::line::{whole_line, width};
 use crate::reading::replay;
 use crate::record::{Record, Records};
-use std::alloc::Global;
+use std::alloc::{AllocError, Global};
 use std::marker::Model;
 
 /// Most bytes of a segment.
@@ -53,6 +53,19 @@ impl Segment {
             sealed: false,
             alloc,
         }
+    }
+
+    /// An equal segment. Where nothing was written it takes no memory.
+    pub fn copy(&self) -> Result<Segment, AllocError>
+        ensures { IfOk result (λ segment. segment ≡ self.now) }
+    {
+        Ok(Segment {
+            version: self.version,
+            bytes: Vec::from_slice(self.alloc, &self.bytes)?,
+            mark: self.mark,
+            sealed: self.sealed,
+            alloc: self.alloc,
+        })
     }
 
     /// The version, 1 or 2.
@@ -201,5 +214,13 @@ impl Segment {
             Ok(replayed) => Ok(replayed.records),
             Err(fault) => Err(fault),
         }
+    }
+}
+
+impl Clone for Segment {
+    ghost is_clone = { λ a b. b ≡ a };
+
+    fn clone(&self) -> Result<Segment, AllocError> {
+        self.copy()
     }
 }

@@ -4,6 +4,7 @@ pub mod CallLaws
 pub mod CallerLaws
 pub mod Callers
 pub mod ContentLaws
+pub mod Copying
 pub mod Counting
 pub mod Deleting
 pub mod Graph

@@ -1,5 +1,5 @@
 //! The attempts that are barred, as the namespace keeps them: every call of theirs is refused.
-ghost use Rattle.std.specs.Prelude.{◌≡◌, OnOk, OnErr, ◌<◌, ◌^◌, false};
+ghost use Rattle.std.specs.Prelude.{◌≡◌, IfOk, OnOk, OnErr, ◌<◌, ◌^◌, false};
 ghost use Rattle.std.specs.FinSet as set;
 ghost use Rattle.mr_names.specs.Barred.{bars};
 
@@ -32,6 +32,15 @@ impl Barred {
         Barred {
             attempts: IndexSet::new(alloc),
         }
+    }
+
+    /// An equal set.
+    pub fn copy(&self) -> Result<Barred, AllocError>
+        ensures { IfOk result (λ barred. barred ≡ self.now) }
+    {
+        Ok(Barred {
+            attempts: self.attempts.clone()?,
+        })
     }
 
     pub fn contains(&self, a: AttemptId) -> bool

@@ -37,14 +37,15 @@
 //! - the barred attempts are a finite set, kept for good: `bar` adds one and changes no content, and nothing takes one
 //!   out. Of one that is there a `bar` wants no memory and does nothing (clause `there`);
 //! - memory may be taken by `mkdirs`, `create`, `append`, `rename`, `list`, `read`, `bar` and `perform` of these, and
-//!   by `Namespace::new`, `walk` and `Op::copy`. No other call takes any. So `raise`, `fence`, `foresee`,
+//!   by `Namespace::new`, `walk` and the copies. No other call takes any. So `raise`, `fence`, `foresee`,
 //!   `check_caller`, `exists`, `close`, `delete` never answer `NoMemory` (nor does `perform` of the last three: its
 //!   clause `always`);
 //! - each namespace's content is a tree: the root is a directory, and so is the parent of each other entry. It has at
 //!   most 65,536 entries without the root, and each file at most 2^24 bytes. Its fence is at most 1,000, and at most
 //!   100,000 attempts are barred (`fence`, clause `sound`).
 //!
-//! `Op::copy` gives an equal call, and refuses for want of memory alone.
+//! `Op::copy` gives an equal call. `Namespace::copy` gives a namespace of its own with the same content, fence and
+//! barred attempts. Both refuse for want of memory alone.
 //!
 //! Laws that follow from the definition alone stand on functions with empty bodies:
 //! - what each path holds after each call that is answered (`each_path`);

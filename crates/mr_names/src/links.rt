@@ -193,6 +193,14 @@ pub fn root_alone(alloc: Global) -> Result<(Slab<Place>, usize), AllocError>
     Ok((nodes, root))
 }
 
+/// The same nodes with the same edges, under the same keys.
+#[tactic(auto, using(crate::proofs::Copying::graph_copied))]
+pub fn copy_nodes(nodes: &Slab<Place>) -> Result<Slab<Place>, AllocError>
+    ensures { IfOk result (SameGraph nodes.now) }
+{
+    nodes.clone()
+}
+
 /// Takes out an edge, and the node to which it leads.
 pub fn cut(nodes: &mut Slab<Place>, at: usize, name: &Name, key: usize)
     ensures { NodeCut nodes.old nodes.new at name.now key }

@@ -78,6 +78,19 @@ impl Namespace {
         })
     }
 
+    /// A namespace of its own, with the same content, fence and barred attempts. Its only fault is an allocation
+    /// failure.
+    pub fn copy(&self) -> Result<Namespace, AllocError>
+        ensures { IfOk result (λ names. names ≡ self.now) }
+    {
+        Ok(Namespace {
+            tree: self.tree.copy()?,
+            fence: self.fence,
+            barred: self.barred.copy()?,
+            alloc: self.alloc,
+        })
+    }
+
     /// The generation below which no caller is heard: 0 at first, and never above 1,000, so that a caller of
     /// generation 1,000 is always heard.
     pub fn fence(&self) -> u32

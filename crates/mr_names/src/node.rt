@@ -27,6 +27,19 @@ pub enum Node {
 }
 
 impl Node {
+    /// An equal node. It may allocate, and refuses nothing else.
+    pub fn copy(&self) -> Result<Node, AllocError>
+        ensures { IfOk result (λ node. node ≡ self.now) }
+    {
+        Ok(match self {
+            Node::Dir => Node::Dir,
+            Node::File { bytes, closed } => Node::File {
+                bytes: bytes.copy()?,
+                closed: *closed,
+            },
+        })
+    }
+
     /// Adds bytes at the end of a file. A directory stays as it is.
     pub fn append(&mut self, more: &[u8]) -> Result<(), AllocError>
         ensures ok { OnOk result (self.new ≡ appended more.now self.old) }

@@ -14,8 +14,8 @@ ghost use Rattle.mr_names.specs.Held.{is_absent, missing_count};
 ghost use Rattle.mr_paths.specs.Path.{parent, prefixes};
 
 use crate::links::{
-    add_dirs, add_node, append_at, child, close_at, cut, cut_first, cut_on, find, first_child,
-    list, move_edge, push_ahead, reach, root_alone,
+    add_dirs, add_node, append_at, child, close_at, copy_nodes, cut, cut_first, cut_on, find,
+    first_child, list, move_edge, push_ahead, reach, root_alone,
 };
 use crate::node::{Entries, Node};
 use crate::place::{Ahead, Place};
@@ -180,6 +180,17 @@ impl Tree {
     {
         let (nodes, root) = root_alone(alloc)?;
         Ok(Tree { nodes, root })
+    }
+
+    /// The same nodes by the same paths.
+    pub fn copy(&self) -> Result<Tree, AllocError>
+        ensures { IfOk result (λ tree. tree ≡ self.now) }
+    {
+        let nodes = copy_nodes(&self.nodes)?;
+        Ok(Tree {
+            nodes,
+            root: self.root,
+        })
     }
 
     /// Adds bytes at the end of a file.

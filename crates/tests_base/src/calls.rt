@@ -1,6 +1,6 @@
 //! Each call of the namespace once, by name and as a value, and the walk.
 
-use crate::fixtures::{by_generation, generation, new_namespace, path};
+use crate::fixtures::{TASK, attempt, by_generation, generation, new_namespace, path};
 use crate::rows::{Row, holds, told};
 use mr_names::{Answer, Bytes, Caller, Entries, Kind, NameFault, Namespace, Op};
 use mr_paths::Path;
@@ -223,4 +223,43 @@ fn calls_are_copied(rt: HostRuntime) {
     };
     is_copied(&rt, &append);
     is_copied(&rt, &rename);
+}
+
+fn copied(rt: &impl Abort, names: &Namespace) -> Namespace {
+    match names.copy() {
+        Ok(copy) => copy,
+        Err(_) => panic!(rt; "no memory"),
+    }
+}
+
+// Both hold the same entries, walked path by path.
+fn are_alike(rt: &impl Abort, names: &Namespace, copy: &Namespace) {
+    match (names.walk(), copy.walk()) {
+        (Ok(first), Ok(second)) => assert!(rt; first == second),
+        _ => panic!(rt; "no memory"),
+    }
+}
+
+// A copy has the same entries, bytes, fence and barred attempts. What the copy deletes stays in the first one.
+#[test]
+fn namespace_copy(rt: HostRuntime) {
+    let alloc = rt.alloc();
+    let one = &by_generation(&rt, 1);
+    let mut names = new_namespace(&rt, alloc);
+    changes_are_done(&rt, alloc, &mut names, one);
+    let barred = attempt(&rt, TASK, 0);
+    is_done(&rt, &mut names, one, Op::Bar(barred));
+    names.raise(generation(&rt, 2));
+    let two = &by_generation(&rt, 2);
+    let mut copy = copied(&rt, &names);
+    are_alike(&rt, &names, &copy);
+    reads(&rt, alloc, &copy, two, "/c/f", b"xy");
+    assert!(rt; copy.fence() == 2);
+    let by_container = Caller {
+        app: two.app,
+        attempt: Some(barred),
+    };
+    assert!(rt; copy.check_caller(by_container) == Err(NameFault::Barred));
+    holds(&rt, alloc, &mut copy, two, Row::Delete("/c", Ok(())));
+    reads(&rt, alloc, &names, two, "/c/f", b"xy");
 }

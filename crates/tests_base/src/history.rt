@@ -411,3 +411,29 @@ fn every_seal_of_version_2(rt: HostRuntime) {
         reads(&rt, alloc, segment.stable(), version, count, torn);
     }
 }
+
+fn copied(rt: &impl Abort, history: &History) -> History {
+    match history.copy() {
+        Ok(copy) => copy,
+        Err(_) => panic!(rt; "no memory"),
+    }
+}
+
+// A copy has the same fence, the same stable bytes and the same tail. A flush of the copy is none of the first one.
+#[test]
+fn history_copy(rt: HostRuntime) {
+    let alloc = rt.alloc();
+    let (one, two) = (generation(&rt, 1), generation(&rt, 2));
+    let mut history = raised(&rt, alloc, one);
+    writes(&rt, &mut history, one, started(&rt), None);
+    history.raise(two, 200, 2);
+    writes(&rt, &mut history, two, Record::JobUnsuccessful, None);
+    let mut copy = copied(&rt, &history);
+    assert!(rt; copy.fence() == 2);
+    is_stable(&rt, &copy, one, STARTED.as_bytes());
+    assert!(rt; tail(&rt, &copy, two) == 39);
+    flushes_all(&rt, &mut copy, two, None);
+    let flushed = "{\"version\":2}\n{\"event\":\"unsuccessful\"}\n";
+    is_stable(&rt, &copy, two, flushed.as_bytes());
+    assert!(rt; tail(&rt, &history, two) == 39);
+}

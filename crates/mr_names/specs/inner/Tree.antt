@@ -67,6 +67,10 @@ pub record SameGraph (old new : Slab Place) : Type 0 where
   pub edges : (key : ℕ) (name : List ℕ) → edges_of new key name ≡ edges_of old key name
   pub nodes : (key : ℕ) → nodes_of new key ≡ nodes_of old key
 
+-- the same node, and the same edges by the same names
+abbrev pub SamePlace : Place → Place → Type 0
+SamePlace old new = (new.node ≡ old.node) × (new.children.entries ≡ old.children.entries)
+
 -- a node with no edges is added at the end of a new edge, and all else stays
 pub record NodeAdded (old new : Slab Place) (at : ℕ) (name : List ℕ) (node : Node) (key : ℕ) : Type 0 where
   pub vacant : nodes_of old key ≡ None
