@@ -29,12 +29,13 @@ use Rattle.mr_master.specs.Tasks.{Tasks, AnswersAt, Takes, told}
 use Rattle.mr_tables.specs.Launches.{Launched, KeepsLaunches}
 use Rattle.mr_tables.specs.Records.{Writing}
 use Rattle.mr_master.specs.declared.change.Change.TheVariants as change
-use Rattle.mr_master.specs.inner.Launching.{LaunchesNext}
+use Rattle.mr_master.specs.inner.Launching.{IsFree, LaunchesNext}
 use Rattle.mr_master.specs.Prepared.{Prepared, LaunchesAt, PlansFor}
 use Rattle.mr_master.specs.State.{Master, Keeps, Reads, StandsForSome}
 use Rattle.mr_master.proofs.Made.{plan-as}
 use Rattle.mr_master.proofs.Keeping.{read-at}
 use Rattle.mr_master.proofs.Opening.{front, seam}
+use Rattle.mr_master.proofs.Refusals.{is-free}
 
 none-is : {A : Type 0} (o : Option A) → o ≡ None → is_none o ≡ true
 none-is o e = ap (λ x. is_none x) e
@@ -120,6 +121,12 @@ found-place w t i e = by (is_task w t) refl e
     by : (b : Bool) → is_task w t ≡ b → Some i ≡ (if b then Some (place_of w t) else None) → (is_task w t ≡ true) × (i ≡ place_of w t)
     by true q h = (q, cc)
     by false q h = cc
+
+-- its machine refuses no launch
+pub free-place : {m : Master} (w : Setting) (s : Seen) (t : TaskId) (n i : ℕ) → Keeps m w s → launch_refusal w s t n ≡ None → Some i ≡ (if is_task w t then Some (place_of w t) else None) → IsFree m i
+free-place {m} w s t n i k none place =
+    let p = found-place w t i place in
+    is-free m.tasks w s.calls t i k.tasks p.0 p.1 (is-none _ (may-launch w s t n (none-is _ none)).task)
 
 -- ---- what is planned
 

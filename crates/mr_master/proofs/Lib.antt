@@ -16,6 +16,7 @@ pub mod Gathering
 pub mod Dying
 pub mod AllDone
 pub mod Due
+pub mod Refusals
 pub mod Entering
 pub mod Waiting
 pub mod Flushes

@@ -3,13 +3,14 @@
 //! packet to the node.
 ghost use Rattle.std.specs.Prelude.{◌≡◌, ◌<◌, ◌≤◌, Some, None, Ok, IfOk, IfErr, IfSome, IfNone, OnOk, length, if◌then◌else◌};
 ghost use Rattle.mr_task.specs.Calls.{Launches};
+ghost use Rattle.mr_task.specs.Readings as reading;
 ghost use Rattle.mr_task.specs.State.{Answers, Stands, launch_answer};
 ghost use Rattle.mr_packet.specs.Sends.{to_node};
 ghost use Rattle.mr_master_model.specs.Job.{is_task};
 ghost use Rattle.mr_master_model.specs.Readings.{launch_refusal, launched_as, by_task, tell};
 ghost use Rattle.mr_master_model.specs.Hearing.{with_launch};
 ghost use Rattle.mr_master_model.specs.Past as past;
-ghost use Rattle.mr_master.specs.inner.Launching.{LaunchesNext};
+ghost use Rattle.mr_master.specs.inner.Launching.{IsFree, LaunchesNext};
 ghost use Rattle.mr_master.specs.Places.{place_of};
 ghost use Rattle.mr_master.specs.Prepared.{IsOne, LaunchesAt, HasLaunchRoom, PlansFor};
 ghost use Rattle.mr_master.specs.State.{Reads, MovesOn, StandsForSome};
@@ -20,6 +21,7 @@ ghost use Rattle.mr_master.specs.Tasks.{AnswersAt};
 use crate::boxed::Boxed;
 use crate::change::Change;
 use crate::machine::Machine;
+use crate::memory::{copied, wants_memory};
 use crate::places::place_of;
 use crate::prepared::Prepared;
 use crate::tasks::Tasks;
@@ -88,7 +90,8 @@ impl Machine {
 
     // The same where nothing refuses it: the next attempt of the task at this place is launched so.
     fn prepare_next(&self, place: usize, launch: Launch) -> Result<Prepared, AllocError>
-        requires { place < length self.now.tasks.machines }
+        requires within { place < length self.now.tasks.machines }
+        requires free { IsFree self.now place }
         ensures { IfOk result (λ prepared. LaunchesNext self.now place launch prepared) }
     {
         let (attempt, launched) = self.tasks.launched(place)?;
@@ -159,10 +162,11 @@ fn by_task(refusal: Option<TaskFault>) -> Option<LaunchFault>
 }
 
 impl Tasks {
-    // The attempt of the task that is launched next, and a machine as the one at the place would be then. An error
-    // where it is refused too.
+    // The attempt of the task that is launched next, and a machine as the one at the place would be then. Nothing
+    // refuses the launch.
     pub fn launched(&self, place: usize) -> Result<(AttemptId, TaskMachine), AllocError>
-        requires { place < length self.now.machines }
+        requires within { place < length self.now.machines }
+        requires allowed { AnswersAt self.now.machines place (λ t k calls. reading.launch_refusal (reading.seen t k calls)) None }
         ensures attempt { IfOk result (λ p. AnswersAt self.now.machines place launch_answer (Ok p.0)) }
         ensures told { IfOk result (λ p. IsTold self.now.machines place Launches p.1) }
     {
@@ -173,23 +177,24 @@ impl Tasks {
 
 // An equal machine, of which the next attempt is launched, and that attempt.
 fn launched(task: &TaskMachine) -> Result<(AttemptId, TaskMachine), AllocError>
+    requires { Answers task.now (λ t k calls. reading.launch_refusal (reading.seen t k calls)) None }
     ensures attempt { IfOk result (λ p. Answers task.now launch_answer (Ok p.0)) }
     ensures told { IfOk result (λ p. Stands task.now Launches p.1) }
 {
-    let Ok(mut copy) = task.copy() else {
-        return Err(AllocError);
-    };
+    let mut copy = copied(task)?;
     let attempt = launch_next(&mut copy)?;
     Ok((attempt, copy))
 }
 
 fn launch_next(task: &mut TaskMachine) -> Result<AttemptId, AllocError>
+    requires { Answers task.old (λ t k calls. reading.launch_refusal (reading.seen t k calls)) None }
     ensures attempt { IfOk result (λ attempt. Answers task.old launch_answer (Ok attempt)) }
     ensures told { OnOk result (Stands task.old Launches task.new) }
 {
+    task.stands();
     match task.launch() {
         Ok(attempt) => Ok(attempt),
-        Err(_) => Err(AllocError),
+        Err(fault) => Err(wants_memory(fault)),
     }
 }
 

@@ -51,6 +51,7 @@ mod launch;
 mod machine;
 mod marks;
 mod master;
+mod memory;
 mod nodes;
 mod outputs;
 mod places;

@@ -1,7 +1,10 @@
 //! The machine of a master, part by part.
-ghost use Rattle.std.specs.Prelude.{◌≡◌, ◌<◌, length, option_map, Some, None, IfSome, IfOk, [], if◌then◌else◌};
+ghost use Rattle.std.specs.Prelude.{◌≡◌, ◌<◌, true, length, option_map, Some, None, IfSome, IfOk, [], if◌then◌else◌};
+ghost use Rattle.mr_grant.specs.Attempts.{has};
+ghost use Rattle.mr_task.specs.Readings.{seen};
 ghost use Rattle.mr_master_model.specs.Readings.{launch_of, is_known, launched_in};
 ghost use Rattle.mr_master.specs.Places.{place_of};
+ghost use Rattle.mr_master.specs.Tasks.{AnswersAt};
 ghost use Rattle.mr_master.specs.State.{StandsFor, Reads};
 
 use crate::places::place_of;
@@ -102,6 +105,7 @@ impl Machine {
     pub fn known(&self, attempt: AttemptId) -> Option<(usize, Launch)>
         ensures known { Reads self.now (λ w s. option_map (λ l. (place_of w attempt.task, l)) (launch_of w s attempt)) result }
         ensures within { IfSome result (λ p. p.0 < length self.now.tasks.machines) }
+        ensures arrived { IfSome result (λ p. AnswersAt self.now.tasks.machines p.0 (λ t k calls. has (seen t k calls).arrived attempt) true) }
     {
         let place = place_of(&self.setting, attempt.task())?;
         if !self.tasks.is_arrived(place, attempt) {

@@ -15,11 +15,12 @@ ghost use Rattle.mr_master.specs.State.{Keeps, Reads, Adds};
 ghost use Rattle.mr_master.specs.inner.Placed.{IsPlaced};
 
 use crate::machine::Machine;
+use crate::memory::{copied, wants_memory};
 use crate::places::{place_in_job, place_of};
 use crate::tasks::{Tasks, follow};
 use mr_ids::{AttemptId, TaskId, TaskKind};
 use mr_master_model::Setting;
-use mr_task::{TaskFault, TaskMachine};
+use mr_task::TaskMachine;
 use std::alloc::{AllocError, Global};
 
 impl Tasks {
@@ -86,9 +87,7 @@ impl Tasks {
 fn push_copy(machines: &mut Vec<TaskMachine>, task: &TaskMachine) -> Result<(), AllocError>
     ensures { OnOk result (machines.new.items ≡ machines.old.items ++ task.now ∷ []) }
 {
-    let Ok(copy) = task.copy() else {
-        return Err(AllocError);
-    };
+    let copy = copied(task)?;
     machines.push(copy)?;
     Ok(())
 }
@@ -120,26 +119,11 @@ fn recover(task: &mut TaskMachine, attempt: AttemptId) -> Result<(), AllocError>
     }
 }
 
-// What is left of a task's faults where it has no refusal.
-fn wants_memory(fault: TaskFault) -> AllocError
-    requires { fault ≡ TaskFault.NoMemory }
-{
-    match fault {
-        TaskFault::NoMemory => AllocError,
-        TaskFault::AlreadyWon => unreachable!(),
-        TaskFault::TooManyLive => unreachable!(),
-        TaskFault::TooManyAttempts => unreachable!(),
-        TaskFault::Unknown => unreachable!(),
-    }
-}
-
 // An equal machine, into which the attempt is entered.
 fn recovered(task: &TaskMachine, attempt: AttemptId) -> Result<TaskMachine, AllocError>
     ensures { IfOk result (λ machine. Stands task.now (Recovers attempt) machine) }
 {
-    let Ok(mut copy) = task.copy() else {
-        return Err(AllocError);
-    };
+    let mut copy = copied(task)?;
     recover(&mut copy, attempt)?;
     Ok(copy)
 }

@@ -1,7 +1,8 @@
 -- What is planned where the next attempt of a task is launched.
-use Rattle.std.specs.Prelude.{◌≡◌, ℕ, [], ◌∷◌, Ok}
+use Rattle.std.specs.Prelude.{◌≡◌, ℕ, [], ◌∷◌, None, Ok}
 use Rattle.mr_ids.specs.Attempt.{Attempt}
 use Rattle.mr_task.specs.Calls as task_call
+use Rattle.mr_task.specs.Readings as task
 use Rattle.mr_task.specs.State.{launch_answer}
 use Rattle.mr_task.specs.Steps.{Task}
 use Rattle.mr_packet.specs.declared.packet.Packet.TheVariants as packet
@@ -12,6 +13,10 @@ use Rattle.mr_master.specs.Prepared.{Prepared}
 use Rattle.mr_master.specs.State.{Master}
 use Rattle.mr_master.specs.Taking.{IsTold}
 use Rattle.mr_master.specs.Tasks.{AnswersAt}
+
+-- the task at place i refuses no launch
+abbrev pub IsFree : Master → ℕ → Type 0
+IsFree m i = AnswersAt m.tasks.machines i (λ t k calls. task.launch_refusal (task.seen t k calls)) None
 
 -- the node is told of the next attempt of the task at place i, which is launched so
 pub record LaunchesNext (m : Master) (i : ℕ) (l : Launch) (p : Prepared) : Type 0 where

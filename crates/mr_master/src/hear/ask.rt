@@ -1,18 +1,22 @@
 //! An attempt asks for permission to commit, for the first time or again.
-ghost use Rattle.std.specs.Prelude.{◌≡◌, ◌<◌, length, IfOk, OnOk};
+ghost use Rattle.std.specs.Prelude.{◌≡◌, ◌<◌, true, length, IfOk, OnOk};
+ghost use Rattle.mr_grant.specs.Attempts.{has};
 ghost use Rattle.mr_packet.specs.Sends.{to_container};
 ghost use Rattle.mr_task.specs.Calls.{Asks};
-ghost use Rattle.mr_task.specs.State.{Stands};
+ghost use Rattle.mr_task.specs.Readings.{seen};
+ghost use Rattle.mr_task.specs.State.{Answers, Stands};
 ghost use Rattle.mr_master_model.specs.Readings.{launch_of, tell};
 ghost use Rattle.mr_master_model.specs.Hearing.{after_ask};
 ghost use Rattle.mr_master_model.specs.Sends.{pending_answer};
 ghost use Rattle.mr_master.specs.Taking.{IsTold};
+ghost use Rattle.mr_master.specs.Tasks.{AnswersAt};
 ghost use Rattle.mr_master.specs.Prepared.{IsAt, Plans};
 ghost use Rattle.mr_master.specs.State.{Moves};
 
 use crate::boxed::Boxed;
 use crate::change::Change;
 use crate::machine::Machine;
+use crate::memory::{copied, wants_memory};
 use crate::prepared::Prepared;
 use crate::tasks::Tasks;
 use mr_ids::AttemptId;
@@ -22,9 +26,10 @@ use mr_task::TaskMachine;
 use std::alloc::AllocError;
 
 impl Tasks {
-    // A machine as the one at the place would be once the attempt asked.
+    // A machine as the one at the place would be once the attempt asked. The task has the attempt.
     pub fn asked(&self, place: usize, attempt: AttemptId) -> Result<TaskMachine, AllocError>
-        requires { place < length self.now.machines }
+        requires within { place < length self.now.machines }
+        requires arrived { AnswersAt self.now.machines place (λ t k calls. has (seen t k calls).arrived attempt) true }
         ensures { IfOk result (λ machine. IsTold self.now.machines place (Asks attempt) machine) }
     {
         let task = &self.machines[place];
@@ -34,21 +39,22 @@ impl Tasks {
 
 // An equal machine, of which the attempt asks.
 fn asked(task: &TaskMachine, attempt: AttemptId) -> Result<TaskMachine, AllocError>
+    requires { Answers task.now (λ t k calls. has (seen t k calls).arrived attempt) true }
     ensures { IfOk result (λ machine. Stands task.now (Asks attempt) machine) }
 {
-    let Ok(mut copy) = task.copy() else {
-        return Err(AllocError);
-    };
+    let mut copy = copied(task)?;
     ask(&mut copy, attempt)?;
     Ok(copy)
 }
 
 fn ask(task: &mut TaskMachine, attempt: AttemptId) -> Result<(), AllocError>
+    requires { Answers task.old (λ t k calls. has (seen t k calls).arrived attempt) true }
     ensures { OnOk result (Stands task.old (Asks attempt) task.new) }
 {
+    task.stands();
     match task.pending(attempt) {
         Ok(()) => Ok(()),
-        Err(_) => Err(AllocError),
+        Err(fault) => Err(wants_memory(fault)),
     }
 }
 

@@ -1,7 +1,10 @@
-use Rattle.std.proofs.Common.{◌<◌, length, sym, subst, ◌∙◌}
+use Rattle.std.proofs.Common.{◌<◌, true, length, sym, subst, ◌∙◌}
+use Rattle.mr_grant.specs.Attempts.{has}
+use Rattle.mr_task.specs.Readings.{seen}
 use Rattle.mr_master_model.specs.Readings.{launch_of}
 use Rattle.mr_master_model.specs.Hearing.{after_ask}
 use Rattle.mr_master_model.specs.Sends.{pending_answer}
+use Rattle.mr_master.specs.Tasks.{AnswersAt}
 use Rattle.mr_master.specs.Prepared.{Plans}
 use Rattle.mr_master.specs.State.{Master}
 use Rattle.mr_master.proofs.Keeping.{held, none-mapped}
@@ -12,6 +15,10 @@ use Rattle.mr_master.proofs.machine.Machine.prepare_ask.Goals as goal
 pub returns-in_default : goal.returns-in_default
 returns-in_default c = nothing-asked c.args.attempt c.silent.ensures
     (λ w s keeps. none-mapped _ (launch_of w s c.args.attempt) (sym c.in_default.is ∙ c.known.ensures.known w s keeps))
+
+pub asked-requires-clause-arrived : goal.asked-requires-clause-arrived
+asked-requires-clause-arrived c =
+    subst (λ (x : Master). AnswersAt x.tasks.machines c.in-Some.place (λ t k calls. has (seen t k calls).arrived c.args.attempt) true) (sym c.self.view_is) c.in-Some.ensures.arrived
 
 pub returns : goal.returns
 returns c =

@@ -6,7 +6,7 @@ use Rattle.mr_master_model.specs.Next.{seen}
 use Rattle.mr_master.specs.Prepared.{Prepared}
 use Rattle.mr_master.specs.State.{Master}
 use Rattle.mr_master.proofs.Keeping.{not-placed}
-use Rattle.mr_master.proofs.Entering.{of-the-job, plan-launch}
+use Rattle.mr_master.proofs.Entering.{of-the-job, free-place, plan-launch}
 use Rattle.mr_master.proofs.machine.Machine.prepare_launch.Goals as goal
 
 pub unreachable-requires : goal.unreachable-requires
@@ -21,6 +21,13 @@ unreachable-requires c =
 
 pub launch_on-requires : goal.launch_on-requires
 launch_on-requires c = subst (λ (x : Master). c.in-Some-number_after.number ≡ length x.launches.entries) c.self.view_is (c.in-Some-number_after.ensures.some ∙ c.len.ensures)
+
+pub prepare_next-requires-clause-free : goal.prepare_next-requires-clause-free
+prepare_next-requires-clause-free c =
+    let w = c.args.self.now.setting in
+    let keeps = c.requires.1 in
+    let s = seen w c.requires.0 in
+    free-place w s c.args.task c.args.node c.in-Some-place_within.place keeps (sym (sym c.in_default.is ∙ c.launch_refusal.ensures w s keeps)) (c.in-Some-place_within.ensures.place w s keeps)
 
 pub returns-in-Ok-clause-planned : goal.returns-in-Ok-clause-planned
 returns-in-Ok-clause-planned c =

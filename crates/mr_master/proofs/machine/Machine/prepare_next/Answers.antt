@@ -1,9 +1,12 @@
-use Rattle.std.proofs.Common.{[], ◌∷◌, subst, ◌∙◌}
+use Rattle.std.proofs.Common.{[], ◌∷◌, sym, subst, ◌∙◌}
 use Rattle.mr_master.specs.declared.change.Change.TheVariants as change
-use Rattle.mr_master.specs.inner.Launching.{LaunchesNext}
+use Rattle.mr_master.specs.inner.Launching.{IsFree, LaunchesNext}
 use Rattle.mr_master.specs.State.{Master}
 use Rattle.mr_master.proofs.Unboxed.{same-told}
 use Rattle.mr_master.proofs.machine.Machine.prepare_next.Goals as goal
+
+pub launched-requires-clause-allowed : goal.launched-requires-clause-allowed
+launched-requires-clause-allowed c = subst (λ (x : Master). IsFree x c.args.place) (sym c.self.view_is) c.requires.free
 
 pub returns : goal.returns
 returns c =
