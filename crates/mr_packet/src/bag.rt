@@ -1,5 +1,5 @@
 //! The bag: all packets that were ever sent, which stands for a network that loses, repeats and reorders them.
-ghost use Rattle.std.specs.Prelude.{◌≡◌, ◌≤◌, ◌<◌, ◌+◌, ◌++◌, [], ◌∷◌, length, OnOk, OnErr, IfErr, IsOkUnless, slice_get};
+ghost use Rattle.std.specs.Prelude.{◌≡◌, ◌≤◌, ◌<◌, ◌+◌, ◌++◌, [], ◌∷◌, length, IfOk, OnOk, OnErr, IfErr, IsOkUnless, slice_get};
 ghost use Rattle.std.specs.Option.{option_copied};
 
 use crate::fault::BagFault;
@@ -95,6 +95,15 @@ impl Bag {
         ensures most { result ≤ MAX_PACKETS }
     {
         self.packets.len()
+    }
+
+    /// A bag of its own with the same packets. Spare room is not copied. Its only fault is an allocation failure.
+    pub fn copy(&self) -> Result<Bag, AllocError>
+        ensures { IfOk result (λ bag. bag.packets ≡ self.now.packets) }
+    {
+        Ok(Bag {
+            packets: self.packets.clone()?,
+        })
     }
 
     /// All packets, in the order of their sending.

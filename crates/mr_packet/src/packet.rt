@@ -1,5 +1,8 @@
 //! The packets that masters, nodes and containers send one another, to whom they go, and how a container is named.
+ghost use Rattle.std.specs.Prelude.{◌≡◌, IfOk};
+
 use mr_ids::{AppAttempt, AttemptId, Bytes, TaskId};
+use std::alloc::AllocError;
 
 /// A container, by the generation of the master that launched it and its number under that master, counted from 0.
 /// No two launches have one.
@@ -119,9 +122,90 @@ pub enum Packet {
     },
 }
 
+impl Packet {
+    /// An equal packet. It may allocate, but only for the bytes of a `Piece`, and refuses nothing else.
+    pub fn copy(&self) -> Result<Packet, AllocError>
+        ensures { IfOk result (λ packet. packet ≡ self.now) }
+    {
+        Ok(match *self {
+            Packet::Launch { c, a, incarnation } => Packet::Launch { c, a, incarnation },
+            Packet::Kill { c } => Packet::Kill { c },
+            Packet::Fetch {
+                c,
+                a,
+                reduce,
+                incarnation,
+                offset,
+            } => Packet::Fetch {
+                c,
+                a,
+                reduce,
+                incarnation,
+                offset,
+            },
+            Packet::Won { t, a } => Packet::Won { t, a },
+            Packet::Outcome { succeeded } => Packet::Outcome { succeeded },
+            Packet::Pending { a } => Packet::Pending { a },
+            Packet::Poll { a } => Packet::Poll { a },
+            Packet::Done { a, bytes } => Packet::Done { a, bytes },
+            Packet::Failed { a } => Packet::Failed { a },
+            Packet::Ended { c } => Packet::Ended { c },
+            Packet::NodeUp { n, incarnation } => Packet::NodeUp { n, incarnation },
+            Packet::Where { c, map } => Packet::Where { c, map },
+            Packet::FetchLost { c, a } => Packet::FetchLost { c, a },
+            Packet::Answer { a, yes } => Packet::Answer { a, yes },
+            Packet::DoneAck { a } => Packet::DoneAck { a },
+            Packet::MapReady {
+                map,
+                a,
+                n,
+                incarnation,
+            } => Packet::MapReady {
+                map,
+                a,
+                n,
+                incarnation,
+            },
+            Packet::Piece {
+                a,
+                reduce,
+                offset,
+                total,
+                ref bytes,
+            } => Packet::Piece {
+                a,
+                reduce,
+                offset,
+                total,
+                bytes: bytes.copy()?,
+            },
+        })
+    }
+}
+
 /// A packet and to whom it goes.
 #[derive(Drop)]
 pub struct Envelope {
     pub to: Address,
     pub body: Packet,
+}
+
+impl Envelope {
+    /// An equal envelope. It may allocate, but only for the bytes of a `Piece`, and refuses nothing else.
+    pub fn copy(&self) -> Result<Envelope, AllocError>
+        ensures { IfOk result (λ envelope. envelope ≡ self.now) }
+    {
+        Ok(Envelope {
+            to: self.to,
+            body: self.body.copy()?,
+        })
+    }
+}
+
+impl Clone for Envelope {
+    ghost is_clone = { λ a b. b ≡ a };
+
+    fn clone(&self) -> Result<Envelope, AllocError> {
+        self.copy()
+    }
 }
