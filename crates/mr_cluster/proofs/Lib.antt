@@ -4,3 +4,4 @@ pub mod Ending
 pub mod Living_next
 pub mod Ends
 pub mod Replying
+pub mod Copying

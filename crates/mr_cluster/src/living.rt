@@ -40,6 +40,16 @@ impl Living {
         }
     }
 
+    /// Equal machines of the same containers. Its only fault is an allocation failure.
+    #[tactic(auto, using(crate::proofs::Copying::living_copied))]
+    pub fn copy(&self) -> Result<Living, AllocError>
+        ensures { IfOk result (Same self.now) }
+    {
+        Ok(Living {
+            machines: self.machines.clone()?,
+        })
+    }
+
     /// The machine of a container, if it lives.
     #[tactic(auto, unfolding(crate::specs::Living::kept))]
     pub fn get(&self, c: &ContainerId) -> Option<&ContainerMachine>

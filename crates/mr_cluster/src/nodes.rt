@@ -30,6 +30,18 @@ impl Nodes {
         Ok(Nodes { machines })
     }
 
+    /// Equal machines of the same nodes. Its only fault is an allocation failure.
+    #[tactic(auto, unfolding(crate::specs::Nodes::node_of))]
+    pub fn copy(&self) -> Result<Nodes, AllocError>
+        ensures { IfOk result (SameNodes self.now) }
+    {
+        let mut machines = Vec::with_capacity(*self.machines.allocator(), self.machines.len())?;
+        for machine in &self.machines {
+            machines.push(machine.copy()?)?;
+        }
+        Ok(Nodes { machines })
+    }
+
     /// The machine of a node, if there is one of this number.
     #[tactic(auto, unfolding(crate::specs::Nodes::node_of))]
     pub fn get(&self, n: u32) -> Option<&NodeMachine>

@@ -434,6 +434,14 @@ impl ContainerMachine {
     }
 }
 
+impl Clone for ContainerMachine {
+    ghost is_clone = { λ a b. b ≡ a };
+
+    fn clone(&self) -> Result<ContainerMachine, AllocError> {
+        self.copy()
+    }
+}
+
 fn first_wish(kind: TaskKind, maps: u32) -> Wish
     ensures { result ≡ first_wish maps kind }
 {

@@ -7,40 +7,10 @@ ghost use Rattle.mr_play.specs.Played.{losing};
 ghost use Rattle.mr_play.specs.Players.{state_in, Goes};
 
 use crate::player::Player;
+use crate::world_text::read;
 use mr_commands::SimFault;
 use mr_event::Event;
-use mr_world::{World, WorldFault};
 use std::alloc::Global;
-
-// A world of its own, of the same events.
-fn repeated(alloc: Global, world: &World) -> Result<World, SimFault>
-    ensures is { IfOk result (λ again. again ≡ world.now) }
-    ensures fault { IfErr result Refuses }
-{
-    let config = world.config().copy()?;
-    let mut again = match World::new(alloc, config) {
-        Ok(again) => again,
-        Err(_) => return Err(SimFault::NoMemory),
-    };
-    let events = world.journal();
-    for event in events {
-        repeat(&mut again, event)?;
-    }
-    Ok(again)
-}
-
-// The event happens in this world too.
-fn repeat(world: &mut World, event: &Event) -> Result<(), SimFault>
-    ensures is { OnOk result (world.new ≡ record { config = world.old.config; events = world.old.events ++ event.now ∷ [] }) }
-    ensures fault { IfErr result Refuses }
-{
-    match world.apply(event.copy()?) {
-        Ok(_took) => Ok(()),
-        Err(WorldFault::NotNow(_)) => Err(SimFault::JournalMismatch),
-        Err(WorldFault::Full) => Err(SimFault::Full),
-        Err(WorldFault::NoMemory) => Err(SimFault::NoMemory),
-    }
-}
 
 impl Player {
     /// A player of its own that is as far as this one: the same events happen in a world of its own. Which line made which events, and the lines for standard
@@ -52,7 +22,7 @@ impl Player {
         ensures is { IfOk result (Forks self.now) }
         ensures fault { IfErr result Refuses }
     {
-        let world = repeated(alloc, &self.world)?;
+        let world = read(self.world.copy())?;
         let dropped = self.dropped.clone()?;
         let told = Vec::from_slice(alloc, &self.told)?;
         Ok(Player {

@@ -35,3 +35,4 @@ pub mod Journals
 pub mod Headlines
 pub mod Happening
 pub mod Looking
+pub mod Copying

@@ -126,6 +126,7 @@ mod asked;
 mod call;
 mod compute;
 mod config;
+mod copy;
 mod crash;
 mod deliver;
 mod die;

@@ -1,10 +1,10 @@
 //! The machines of the masters that are alive, by generation.
-ghost use Rattle.std.specs.Prelude.{◌≡◌, ℕ, true, None, is_some, OnOk, OnErr};
+ghost use Rattle.std.specs.Prelude.{◌≡◌, ℕ, true, None, is_some, IfOk, OnOk, OnErr};
 ghost use Rattle.std.specs.Option.{option_copied};
 ghost use Rattle.mr_master_model.specs.Past.{Step};
 ghost use Rattle.mr_world.specs.Machines.{master_of, master_count};
 ghost use Rattle.mr_world.specs.inner.Duties.{IsKept, IsPlannedAt, IsReadyAt, HasActed, IsReserved, IsReadyIn, ActsIn};
-ghost use Rattle.mr_world.specs.inner.Masters.{SameMasters, Begins, Ceases};
+ghost use Rattle.mr_world.specs.inner.Masters.{SameMasters, Begins, Ceases, AreCopied, IsCopied};
 
 use mr_master::{MasterMachine, Prepared};
 use mr_packet::Envelope;
@@ -27,6 +27,19 @@ impl Masters {
         Masters {
             machines: Vec::new(alloc),
         }
+    }
+
+    /// Masters of the same generations, each of which stands for what it stood for. Its only fault is an allocation
+    /// failure.
+    #[tactic(auto, using(crate::proofs::Copying::masters_copied))]
+    pub fn copy(&self) -> Result<Masters, AllocError>
+        ensures { IfOk result (AreCopied self.now) }
+    {
+        let mut machines = Vec::with_capacity(*self.machines.allocator(), self.machines.len())?;
+        for machine in &self.machines {
+            machines.push(copied(machine)?)?;
+        }
+        Ok(Masters { machines })
     }
 
     /// The machine of the master of this generation, if it is alive.
@@ -113,5 +126,15 @@ fn act_in(place: &mut Option<MasterMachine>, prepared: Prepared) -> Vec<Envelope
     match place {
         Some(machine) => machine.take(prepared),
         None => unreachable!(),
+    }
+}
+
+// A machine for another place, if there is one at this.
+fn copied(place: &Option<MasterMachine>) -> Result<Option<MasterMachine>, AllocError>
+    ensures { IfOk result (IsCopied place.now) }
+{
+    match place {
+        Some(machine) => Ok(Some(machine.copy()?)),
+        None => Ok(None),
     }
 }

@@ -20,6 +20,7 @@ ghost use Rattle.mr_world.specs.VisibleFiles.{as_pair};
 
 use crate::asked::Asked;
 use crate::config::Config;
+use crate::copy::copy_events;
 use crate::fault::WorldFault;
 use crate::happen::{foresee, foresee_computed, make_room, take};
 use crate::inputs::Input;
@@ -73,6 +74,18 @@ impl World {
             parts,
             journal: Vec::new(alloc),
         })
+    }
+
+    /// A world of its own that is as far as this one: it has the same config and journal. Its only fault is an
+    /// allocation failure.
+    pub fn copy(&self) -> Result<World, WorldFault>
+        ensures is { IfOk result (λ world. world ≡ self.now) }
+        ensures memory { IfErr result (λ fault. fault ≡ WorldFault.NoMemory) }
+    {
+        let alloc = *self.journal.allocator();
+        let parts = self.parts.copy()?;
+        let journal = copy_events(alloc, &self.journal)?;
+        Ok(World { parts, journal })
     }
 
     /// The event happens: it is the last of the journal from then on.
