@@ -9,8 +9,9 @@
 //!   step does, and those of no other. Where memory is refused, all is as it was. Of who does not live, and of a number
 //!   that no node has, nothing changes.
 //! - `Living::end_on` ends the containers that were launched on a node, and no other.
-//! - Memory may be taken by `Living::insert`, `Living::hear`, `Living::all`, `Nodes::new`, `Nodes::put` and
-//!   `Nodes::hear`. No other call takes any.
+//! - `Living::copy` and `Nodes::copy` keep an equal machine of each container and each node, and of no other.
+//! - Memory may be taken by `Living::insert`, `Living::hear`, `Living::all`, `Nodes::new`, `Nodes::put`, `Nodes::hear`
+//!   and the copies. No other call takes any.
 //! - `Living::all` lists who lives, by generation, then number; `Living::next` is the next one after another, in cyclic order.
 //! - `Living::letters` tells the packet of a container's step, and whether it is its last. `Living::would_end` and
 //!   `Nodes::would_answer` tell beforehand what a packet would lead to, and change nothing.

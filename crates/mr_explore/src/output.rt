@@ -21,8 +21,7 @@ use std::alloc::{AllocError, Global};
 ///
 /// The first bad key of the job text is told (`Job`), else the first bad line of the script (`BadCommand`). Else
 /// `Full` is told where the script, the start of the first master, or one of these runs would pass a limit of the
-/// world. `NoMemory` may come at any input. `JournalMismatch` would come where the events of a run could not happen
-/// once more, or a script led to another end.
+/// world. `NoMemory` may come at any input. `JournalMismatch` would come where a script led to another end.
 pub fn explore_output<W: Watch>(
     alloc: Global,
     input: &[u8],

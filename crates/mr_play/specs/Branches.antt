@@ -17,13 +17,6 @@ pub record Forks (old new : Player) : Type 0 where
   pub config : new.world.config ≡ old.world.config
   pub state : state_in new ≡ state_in old
 
--- an allocation failure; or the events of a journal could not happen once more
-abbrev pub Refuses : SimFault → Type 0
-Refuses fault.NoMemory = Unit {0}
-Refuses fault.Full = Unit {0}
-Refuses fault.JournalMismatch = Unit {0}
-Refuses _ = ⊥
-
 -- what an event makes that happens as that of a line; none where it is not permitted or passes a limit
 abbrev pub told_by : Player → Event → Option Played
 told_by p e =

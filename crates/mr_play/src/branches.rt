@@ -1,7 +1,7 @@
 //! Players of which others are forked, and that are taken further by parts, for whoever tries what may befall a run.
 ghost use Rattle.std.specs.Prelude.{◌≡◌, ◌∷◌, ◌++◌, [], Some, OnOk, IfOk, IfErr};
 ghost use Rattle.mr_world.specs.Limits.{within};
-ghost use Rattle.mr_play.specs.Branches.{Forks, Refuses, Tries, told_by};
+ghost use Rattle.mr_play.specs.Branches.{Forks, Tries, told_by};
 ghost use Rattle.mr_play.specs.Text.{job_as};
 ghost use Rattle.mr_play.specs.Played.{losing};
 ghost use Rattle.mr_play.specs.Players.{state_in, Goes};
@@ -13,14 +13,11 @@ use mr_event::Event;
 use std::alloc::Global;
 
 impl Player {
-    /// A player of its own that is as far as this one: the same events happen in a world of its own. Which line made which events, and the lines for standard
-    /// error, it does not have.
-    ///
-    /// It fails by an allocation failure. `Full` and `JournalMismatch` are answered where the events can't happen
-    /// once more, which no world comes to.
+    /// A player of its own that is as far as this one, in a copy of its world. Which line made which events, and the lines for standard
+    /// error, it does not have. It fails by an allocation failure alone.
     pub fn fork(&self, alloc: Global) -> Result<Player, SimFault>
         ensures is { IfOk result (Forks self.now) }
-        ensures fault { IfErr result Refuses }
+        ensures fault { IfErr result (λ fault. fault ≡ SimFault.NoMemory) }
     {
         let world = read(self.world.copy())?;
         let dropped = self.dropped.clone()?;

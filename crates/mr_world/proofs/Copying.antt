@@ -1,15 +1,14 @@
 -- What the parts stand for, their copy stands for too.
-use Rattle.std.proofs.Common.{◌≡◌, ℕ, zero, suc, refl, sym, ◌∙◌, ap, subst, Bool, true, false, List, [], ◌∷◌, Option, Some, None, is_some, length, slice_get}
-use Rattle.std.proofs.lemmas.List.Elements.{length_all_zip}
+use Rattle.std.proofs.Common.{◌≡◌, ◌<◌, ◌≤◌, ◌+◌, ℕ, zero, suc, refl, sym, ◌∙◌, ap, subst, List, [], ◌∷◌, ◌++◌, Option, Some, None, is_some, length, slice_get, take, get_or}
+use Rattle.std.proofs.lemmas.List.{take_all}
+use Rattle.std.proofs.lemmas.List.Elements.{all_zip_more, length_all_zip}
 use Rattle.std.specs.List.{AllZip}
 use Rattle.std.specs.Option.{option_and_then}
-use Rattle.mr_names.specs.Calls as names
-use Rattle.mr_history.specs.State as history
-use Rattle.mr_packet.specs.Bag.{Held}
 use Rattle.mr_paths.specs.declared.layout.Layout.{Layout}
 use Rattle.mr_master.specs.State as master
 use Rattle.mr_model.specs.Packets.{Config}
-use Rattle.mr_model.specs.World.{World, Event, opening_world}
+use Rattle.mr_model.specs.World.{World}
+use Rattle.mr_model.specs.Stored.{StoresStand}
 use Rattle.mr_cluster.specs.declared.living.Living.{Living}
 use Rattle.mr_cluster.specs.declared.nodes.Nodes.{Nodes}
 use Rattle.mr_cluster.specs.Living.{Same}
@@ -17,9 +16,7 @@ use Rattle.mr_cluster.specs.Nodes.{SameNodes}
 use Rattle.mr_world.specs.declared.masters.Masters.{Masters}
 use Rattle.mr_world.specs.declared.parts.Parts.{Parts}
 use Rattle.mr_world.specs.Machines.{master_of, master_count}
-use Rattle.mr_world.specs.Histories.{history_of}
-use Rattle.mr_world.specs.Journal.{Keeps, run_of, taken}
-use Rattle.mr_world.specs.Standing.{Standing, LivingStand, NodesStand, MastersStand}
+use Rattle.mr_world.specs.Standing.{Standing, Reached, LivingStand, NodesStand, MastersStand}
 use Rattle.mr_world.specs.inner.Masters.{AreCopied, IsCopied}
 
 -- ---- masters, place by place
@@ -39,6 +36,15 @@ of-generation old new (suc n) all = at-place old.machines.items new.machines.ite
 count-same : (old new : Masters) → AllZip IsCopied old.machines.items new.machines.items → master_count new ≡ master_count old
 unfolding master_count
 count-same old new all = sym (length_all_zip IsCopied old.machines.items new.machines.items all)
+
+-- one place more is copied, of the list as it is walked over
+pub place_copied : (xs bs ys zs : List (Option master.Master)) (i : ℕ) (x y : Option master.Master) → bs ≡ xs → i < length bs → x ≡ get_or bs i x → zs ≡ ys ++ y ∷ [] → IsCopied x y → AllZip IsCopied (take i xs) ys → AllZip IsCopied (take (i + 1) xs) zs
+place_copied xs bs ys zs i x y same lt is more copied all = subst (AllZip IsCopied (take (i + 1) xs)) (sym more)
+    (all_zip_more IsCopied xs ys i x y (subst (λ (ms : List (Option master.Master)). i < length ms) same lt) (subst (λ (ms : List (Option master.Master)). x ≡ get_or ms i x) same is) all copied)
+
+-- all places are copied
+pub all_places : (xs bs ys : List (Option master.Master)) (i : ℕ) → bs ≡ xs → length bs ≤ i → AllZip IsCopied (take i xs) ys → AllZip IsCopied xs ys
+all_places xs bs ys i same past all = subst (λ (ms : List (Option master.Master)). AllZip IsCopied ms ys) (take_all i xs (subst (λ (ms : List (Option master.Master)). length ms ≤ i) same past)) all
 
 pub masters_copied : (old new : Masters) → AllZip IsCopied old.machines.items new.machines.items → AreCopied old new
 masters_copied old new all = record { count = count-same old new all; copied = λ j. of-generation old new j all }
@@ -74,25 +80,15 @@ nodes-stand cfg old new w same s = record {
   machines = λ n m is. s.machines n m (sym (same n) ∙ is);
 }
 
-pub stands-still : (p : Parts) (bag : Held) (masters : Masters) (living : Living) (nodes : Nodes) → bag.packets ≡ p.bag.packets → AreCopied p.masters masters → Same p.living living → SameNodes p.nodes nodes
-    → (w : World) → Standing p w → Standing (record p { bag = bag; masters = masters; living = living; nodes = nodes }) w
-stands-still p bag masters living nodes b m l n w s = record {
-  reached = s.reached;
-  dest = s.dest;
-  stores = s.stores;
-  bag = b ∙ s.bag;
-  living = living-stand p.config p.living living w l s.living;
-  nodes = nodes-stand p.config p.nodes nodes w n s.nodes;
-  masters = masters-stand p.config p.masters masters w m s.masters;
-  launched = s.launched;
-}
-
--- ---- the journal
-
-pub keeps-still : (p q : Parts) (es : List Event) → q.config ≡ p.config → q.history ≡ p.history → ((w : World) → Standing p w → Standing q w) → Keeps p es → Keeps q es
-keeps-still p q es config history stands k = record {
-  stands = subst (λ cfg. Standing q (run_of cfg es)) (sym config) (stands (run_of p.config es) k.stands);
-  taken = subst (λ cfg. taken cfg opening_world es ≡ es) (sym config) k.taken;
-  history = subst (λ cfg. q.history ≡ history_of cfg es) (sym config) (history ∙ k.history);
-  few = k.few;
+pub copied-parts : (p q : Parts) → q.config ≡ p.config → q.layout ≡ p.layout → q.names ≡ p.names → q.history ≡ p.history → q.bag.packets ≡ p.bag.packets
+    → AreCopied p.masters q.masters → Same p.living q.living → SameNodes p.nodes q.nodes → q.launched ≡ p.launched → (w : World) → Standing p w → Standing q w
+copied-parts p q config layout names history bag masters living nodes launched w s = record {
+  reached = subst (λ cfg. Reached cfg w) (sym config) s.reached;
+  dest = ap (λ (l : Layout). l.dest) layout ∙ s.dest;
+  stores = subst (λ n. StoresStand n q.history w) (sym names) (subst (λ h. StoresStand p.names h w) (sym history) s.stores);
+  bag = bag ∙ s.bag;
+  living = subst (λ cfg. LivingStand cfg q.living w) (sym config) (living-stand p.config p.living q.living w living s.living);
+  nodes = subst (λ cfg. NodesStand cfg q.nodes w) (sym config) (nodes-stand p.config p.nodes q.nodes w nodes s.nodes);
+  masters = subst (λ cfg. MastersStand cfg q.masters w) (sym config) (masters-stand p.config p.masters q.masters w masters s.masters);
+  launched = launched ∙ s.launched;
 }

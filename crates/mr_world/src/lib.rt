@@ -83,6 +83,8 @@
 //! - `World::new` has an empty journal, and `journal` and `config` lend what contracts see. A `Config` is copied and
 //!   compared. It tells that its splits are those of a job (`Config::ranges`), so that
 //!   `mr_sequential::jobs_have_their_laws` holds of each world;
+//! - `World::copy` gives a world of its own with the same config and the same journal, from where it goes on by itself.
+//!   It refuses for want of memory alone;
 //! - `apply` refuses an event with the first reason why it is not permitted, else `Full` where it would pass a limit,
 //!   else `NoMemory`. Then nothing has changed. Else the event is the journal's last, the world after it is the
 //!   definitions', and the packets that it added are told (`Applies`);
@@ -103,7 +105,7 @@
 //!   them (`specs/Histories`);
 //! - `asks` tells the store call that an event would make now, by whom, and what its caller would hear
 //!   (`specs/Asks`);
-//! - memory may be taken by `World::new`, `Config::copy`, `apply`, `foresee` and `run`, and by `winner`, `winners`,
+//! - memory may be taken by `World::new`, `World::copy`, `Config::copy`, `apply`, `foresee` and `run`, and by `winner`, `winners`,
 //!   `marker`, `visible`, `duty`, `living` and `asks`. No other call takes any.
 //!
 //! A world's invariant is that its parts (`Parts`) *stand for* the world of its journal (`specs/Standing`): one

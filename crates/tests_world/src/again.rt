@@ -123,3 +123,20 @@ pub fn asks(rt: &impl Abort, world: &World, event: &Event) -> bool {
         Err(_) => world.asks(event).expect(rt, "no memory").is_some(),
     }
 }
+
+/// A copy of the world.
+pub fn world_copied(rt: &impl Abort, world: &World) -> World {
+    match world.copy() {
+        Ok(copy) => copy,
+        Err(_) => world.copy().expect(rt, "no memory"),
+    }
+}
+
+/// What is read of both is the same.
+pub fn are_alike(rt: &impl Abort, world: &World, copy: &World) {
+    assert!(rt; Look::at(copy) == Look::at(world));
+    assert!(rt; copy.journal() == world.journal());
+    assert!(rt; winners(rt, copy) == winners(rt, world));
+    assert!(rt; is_marked(rt, copy) == is_marked(rt, world));
+    assert!(rt; shown(rt, copy) == shown(rt, world));
+}

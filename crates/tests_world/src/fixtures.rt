@@ -1,6 +1,6 @@
 //! What the tests begin with: a job of the words of `a b a`, and a run of it.
 
-use crate::again::{applied, due, foreseen};
+use crate::again::{applied, due, foreseen, world_copied};
 use crate::events::{start, store_call};
 use mr_container::Wish;
 use mr_event::{Event, Weather, Why};
@@ -167,6 +167,15 @@ pub fn computes(rt: &impl Abort, alloc: Global, world: &mut World, c: ContainerI
 }
 
 impl Run {
+    /// A run whose world is a copy of this one's.
+    pub fn copied(&self, rt: &impl Abort) -> Run {
+        Run {
+            world: world_copied(rt, &self.world),
+            next: self.next,
+            last: self.last,
+        }
+    }
+
     /// What happens by itself until master `k` is through, or until it stops.
     pub fn calms(&mut self, rt: &impl Abort, alloc: Global, k: u32, stop: Stop) {
         for _ in 0..1000 {

@@ -1,6 +1,6 @@
 //! What is read of a world, and a list of events.
 
-use crate::again::{asks, due, is_marked, living, shown, winner, winners};
+use crate::again::{are_alike, asks, due, is_marked, living, shown, winner, winners};
 use crate::events::{crash, start, store_call};
 use crate::fixtures::{Stop, container, started, takes, task, world};
 use mr_container::Wish;
@@ -143,4 +143,21 @@ fn job_that_began(rt: HostRuntime) {
     assert!(rt; shown(&rt, &world).is_empty());
     assert!(rt; asks(&rt, &world, &store_call(1)));
     assert!(rt; !asks(&rt, &world, &crash(1, 0)));
+}
+
+// A copy of a world in the midst of its job goes on as the world itself does, up to the marker. What the one takes the other does not.
+#[test]
+fn worlds_are_copied(rt: HostRuntime) {
+    let alloc = rt.alloc();
+    let mut run = started(&rt, alloc, 2);
+    run.calms(&rt, alloc, 1, Stop::BeforeWrite);
+    let mut other = run.copied(&rt);
+    are_alike(&rt, &run.world, &other.world);
+    let taken = run.world.journal().len();
+    run.calms(&rt, alloc, 1, Stop::Never);
+    assert!(rt; other.world.journal().len() == taken);
+    other.calms(&rt, alloc, 1, Stop::Never);
+    are_alike(&rt, &run.world, &other.world);
+    assert!(rt; is_marked(&rt, &other.world));
+    assert!(rt; shown(&rt, &other.world).len() == 1);
 }
