@@ -1,11 +1,11 @@
 -- Segments by their numbers.
 use Rattle.std.proofs.Common.{◌≡◌, ◌≢◌, ◌<◌, ◌≤◌, ◌+◌, ◌-◌, ℕ, zero, suc, Bool, true, false, cond, nat_lt, nat_eq, List, [], ◌∷◌, ◌++◌, length, take, drop, map, set, get_or, replicate, refl, sym, ap, ◌∙◌, arith, append_assoc, append-nil, add-one}
-use Rattle.std.proofs.lemmas.List.{get_or-set_same, get_or-set_other, length-set}
+use Rattle.std.proofs.lemmas.List.{get_or-set_same, get_or-set_other, length-set, take_more}
 use Rattle.std.proofs.lemmas.Bool.Decides.{nat_tests}
 use Rattle.mr_history.specs.State.{SegmentState, State}
 use Rattle.mr_history.specs.Segment.{fresh, sealed}
 use Rattle.mr_history.specs.Reading.{records_of}
-use Rattle.mr_history.specs.Calls.{records_in, segment, with_segment, with_version, raised}
+use Rattle.mr_history.specs.Calls.{records_in, segment, with_segment, with_version, raised, AreUnraised}
 
 pub replicate-more : {A : Type 0} (n : ℕ) (x : A) → replicate n x ++ x ∷ [] ≡ replicate (suc n) x
 replicate-more zero x = refl
@@ -102,3 +102,14 @@ length-raised h k kept version = by (nat_lt h.fence k) refl
     by : (b : Bool) → nat_lt h.fence k ≡ b → length (raised k kept version h).segments ≡ length h.segments
     by true e = rw e (length-set (sealed_before k kept h).segments (k - 1) (with_version version (segment h k)) ∙ length-front (sealed kept) h.segments (k - 1))
     by false e = rw e refl
+
+-- of a segment above the fence one that was not written to is a copy
+pub copied_more : (h : State) (ss : List SegmentState) (s : SegmentState) (n : ℕ) → AreUnraised h → h.fence ≤ n → n < length h.segments → ss ≡ take n h.segments → s ≡ fresh 1 → ss ++ s ∷ [] ≡ take (n + 1) h.segments
+copied_more h ss s n unraised above below are is = ap (λ l. l ++ s ∷ []) are
+    ∙ (ap (λ t. take n h.segments ++ t ∷ []) (is ∙ sym there) ∙ sym (take_more h.segments n (fresh 1) below))
+  where
+    place : n + 1 - 1 ≡ n
+    place = omega arith
+
+    there : get_or h.segments n (fresh 1) ≡ fresh 1
+    there = ap (λ m. get_or h.segments m (fresh 1)) (sym place) ∙ unraised (n + 1) (omega (arith, above))

@@ -65,8 +65,15 @@ impl History {
     pub fn copy(&self) -> Result<History, AllocError>
         ensures { IfOk result (λ history. history ≡ self.now) }
     {
+        let mut segments = Vec::with_capacity(self.alloc, MAX_APP_ATTEMPTS as usize)?;
+        for i in 0..self.fence as usize {
+            segments.push_reserved(self.segments[i].copy()?);
+        }
+        for _ in self.fence..MAX_APP_ATTEMPTS {
+            segments.push_reserved(Segment::new(self.alloc, 1));
+        }
         Ok(History {
-            segments: self.segments.clone()?,
+            segments,
             fence: self.fence,
             alloc: self.alloc,
         })
