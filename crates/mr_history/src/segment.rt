@@ -216,11 +216,3 @@ impl Segment {
         }
     }
 }
-
-impl Clone for Segment {
-    ghost is_clone = { λ a b. b ≡ a };
-
-    fn clone(&self) -> Result<Segment, AllocError> {
-        self.copy()
-    }
-}
