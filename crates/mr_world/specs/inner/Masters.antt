@@ -1,5 +1,5 @@
 -- How the machines of masters change.
-use Rattle.std.specs.Prelude.{◌≡◌, ℕ, suc, nat_eq, Option, Some, None, if◌then◌else◌, is_some}
+use Rattle.std.specs.Prelude.{◌≡◌, ℕ, suc, nat_eq, Option, Some, None, if◌then◌else◌}
 use Rattle.mr_master.specs.State as master
 use Rattle.mr_world.specs.declared.masters.Masters.{Masters}
 use Rattle.mr_world.specs.Machines.{master_of, master_count}
