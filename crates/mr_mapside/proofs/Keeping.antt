@@ -2,7 +2,7 @@
 use Rattle.std.proofs.Common.{◌≡◌, ℕ, ◌+◌, ◌<◌, ◌≤◌, Bool, true, false, ◌||◌, cond, eqb, ltb, ◌≢◌, List, [], ◌∷◌, ◌++◌, map, filter, length, get_or, take, Option, Some, None, refl, sym, ap, subst, ◌∙◌, arith, append_assoc}
 use Rattle.std.proofs.Math.ListN.{set}
 use Rattle.std.proofs.lemmas.Bool.{eqb-true, eqb-false, ltb-true, ltb-false, lt-ltb, le-ltb}
-use Rattle.std.proofs.lemmas.List.{append-nil, take_more, ext_get_or, length-map}
+use Rattle.std.proofs.lemmas.List.{append-nil, take_more, ext_get_or, length-map, length-set}
 use Rattle.std.proofs.lemmas.List.Folds.{flat_map-map}
 use Rattle.std.proofs.lemmas.List.FromFn.{length-map-range_with_len, get_or-map-range_with_len}
 use Rattle.std.proofs.lemmas.List.Concat.{flat_map-append}
@@ -14,7 +14,7 @@ use Rattle.std.specs.FinMap.{IsAntisymmetric}
 use Rattle.std.specs.List.{flat_map, AllByRecursion, range_with_len, slice_get, list_any}
 use Rattle.std.specs.List.Sorted.{IsPermutation, IsSortedByKey, IsStableByKey}
 use Rattle.std.specs.Option.{option_map}
-use Rattle.std.specs.Ordering.{eq_by_cmp, is_lt}
+use Rattle.std.specs.Ordering.{eq_by_cmp}
 use Rattle.std.specs.declared.cmp.Ordering.{Ordering}
 use Rattle.mr_user.specs.Computation.{Computation}
 use Rattle.mr_user.specs.Groups.{keys_of, values_of, groups_of}
@@ -33,23 +33,6 @@ use Rattle.mr_mapside.proofs.Spelling.{all_groups}
 some_is : {A : Type 0} (x y : A) → Some x ≡ Some y → x ≡ y
 some_is x y e = cc
 
--- two filters may change places
-filters : {A : Type 0} (p q : A → Bool) (xs : List A) → filter p (filter q xs) ≡ filter q (filter p xs)
-filters p q [] = refl
-filters {A = A} p q (x ∷ xs) =
-    elim (q x) as (λ b. q x ≡ b → filter p (cond b (x ∷ filter q xs) (filter q xs)) ≡ filter q (cond (p x) (x ∷ filter p xs) (filter p xs))) [
-      | true ↦ λ t.
-          elim (p x) as (λ b. cond b (x ∷ filter p (filter q xs)) (filter p (filter q xs)) ≡ filter q (cond b (x ∷ filter p xs) (filter p xs))) [
-            | true ↦ ap (λ ys. x ∷ ys) (filters p q xs) ∙ sym (ap (λ b. cond b (x ∷ filter q (filter p xs)) (filter q (filter p xs))) t)
-            | false ↦ filters p q xs
-          ]
-      | false ↦ λ t.
-          elim (p x) as (λ b. filter p (filter q xs) ≡ filter q (cond b (x ∷ filter p xs) (filter p xs))) [
-            | true ↦ filters p q xs ∙ sym (ap (λ b. cond b (x ∷ filter q (filter p xs)) (filter q (filter p xs))) t)
-            | false ↦ filters p q xs
-          ]
-    ] refl
-
 map_each : {A B : Type 0} (f g : A → B) → ((x : A) → f x ≡ g x) → (xs : List A) → map f xs ≡ map g xs
 map_each f g h [] = refl
 map_each f g h (x ∷ xs) = (λ i. h x i ∷ map_each f g h xs i)
@@ -59,9 +42,6 @@ some_in [] = false
 some_in (x ∷ xs) = true
 
 module _ {K V : Type 0} (cmp : K → K → Ordering) where
-  same_filtered : (t : K × V → Bool) (xs ys : List (K × V)) → SameValues cmp xs ys → SameValues cmp (filter t xs) (filter t ys)
-  same_filtered t xs ys h k = filters (λ p. eq_by_cmp cmp k p.0) t xs ∙ ap (filter t) (h k) ∙ filters t (λ p. eq_by_cmp cmp k p.0) ys
-
   same_append : (xs ys us vs : List (K × V)) → SameValues cmp xs ys → SameValues cmp us vs → SameValues cmp (xs ++ us) (ys ++ vs)
   same_append xs ys us vs h g k =
       filter-append (λ p. eq_by_cmp cmp k p.0) xs us ∙ (λ i. h k i ++ g k i) ∙ sym (filter-append (λ p. eq_by_cmp cmp k p.0) ys vs)
@@ -96,36 +76,24 @@ module _ {K V : Type 0} (job : Computation K V) (key_laws : CodecLaws job.key) (
     rises [] h = tt
     rises (p ∷ ps) h = (h.0, rises ps h.1)
 
-  run_filtered : (t : K × V → Bool) (ps : List (K × V)) → IsRun job ps → IsRun job (filter t ps)
-  run_filtered t [] h = tt
-  run_filtered t (p ∷ ps) h =
-      elim (t p) as (λ b. IsRun job (cond b (p ∷ filter t ps) (filter t ps))) [
-        | true ↦ (fewer ps h.0, run_filtered t ps h.1)
-        | false ↦ run_filtered t ps h.1
-      ] where
-        fewer : (qs : List (K × V)) → AllByRecursion (λ q. is_lt (job.cmp q.0 p.0) ≡ false) qs → AllByRecursion (λ q. is_lt (job.cmp q.0 p.0) ≡ false) (filter t qs)
-        fewer [] h = tt
-        fewer (q ∷ qs) h = elim (t q) as (λ b. AllByRecursion (λ q. is_lt (job.cmp q.0 p.0) ≡ false) (cond b (q ∷ filter t qs) (filter t qs))) [ true ↦ (h.0, fewer qs h.1) | false ↦ fewer qs h.1 ]
-
   one_run_more : (runs : List (List ℕ)) (bytes : List ℕ) → AreRuns job runs → ArePairs job bytes → IsRun job (pairs_in job bytes) → AreRuns job (runs ++ bytes ∷ [])
   one_run_more [] bytes h a r = ((a, r), tt)
   one_run_more (run ∷ runs) bytes h a r = (h.0, one_run_more runs bytes h.1 a r)
 
-  -- what of a run goes to a reduce is kept
+  -- what of a run goes to a reduce is sorted and kept
   pub run_kept : (reduces r : ℕ) (runs : List (List ℕ)) (run sorted done : List (K × V)) (bytes : List ℕ) → KeptAt job reduces r runs run done →
-      IsPermutation run sorted → IsSortedByKey (λ p. p.0) job.cmp sorted → IsStableByKey (λ p. p.0) job.cmp run sorted →
-      bytes ≡ spelled job (part_of job reduces r sorted) → PairsFit job (part_of job reduces r sorted) → KeptAt job reduces r (runs ++ bytes ∷ []) [] done
+      IsPermutation (part_of job reduces r run) sorted → IsSortedByKey (λ p. p.0) job.cmp sorted → IsStableByKey (λ p. p.0) job.cmp (part_of job reduces r run) sorted →
+      bytes ≡ spelled job sorted → PairsFit job sorted → KeptAt job reduces r (runs ++ bytes ∷ []) [] done
   run_kept reduces r runs run sorted done bytes kept moved in_order stable is fit =
-      let t : K × V → Bool = λ p. eqb (job.functions.partition_of p.0 reduces) r in
-      let part = part_of job reduces r sorted in
-      let pairs : pairs_in job bytes ≡ part = ap (pairs_in job) is ∙ read_back job key_laws value_laws part fit in
-      let all : pairs_in_all job (runs ++ bytes ∷ []) ++ [] ≡ pairs_in_all job runs ++ part =
+      let part = part_of job reduces r run in
+      let pairs : pairs_in job bytes ≡ sorted = ap (pairs_in job) is ∙ read_back job key_laws value_laws sorted fit in
+      let all : pairs_in_all job (runs ++ bytes ∷ []) ++ [] ≡ pairs_in_all job runs ++ sorted =
       append-nil (pairs_in_all job (runs ++ bytes ∷ [])) ∙ flat_map-append (pairs_in job) runs (bytes ∷ []) ∙ ap (λ ps. pairs_in_all job runs ++ ps) (append-nil (pairs_in job bytes) ∙ pairs) in
       record {
-        rising = one_run_more runs bytes kept.rising (subst (ArePairs job) (sym is) (pairs_written job key_laws value_laws part fit)) (subst (IsRun job) (sym pairs) (run_filtered t sorted (run_sorted sorted in_order)));
+        rising = one_run_more runs bytes kept.rising (subst (ArePairs job) (sym is) (pairs_written job key_laws value_laws sorted fit)) (subst (IsRun job) (sym pairs) (run_sorted sorted in_order));
         same = λ k.
             ap (filter (λ (p : K × V). eq_by_cmp job.cmp k p.0)) all
-            ∙ same_append job.cmp (pairs_in_all job runs) (pairs_in_all job runs) part (part_of job reduces r run) (λ k. refl) (same_filtered job.cmp t sorted run (sorted_same job.cmp order same run sorted moved stable)) k
+            ∙ same_append job.cmp (pairs_in_all job runs) (pairs_in_all job runs) sorted part (λ k. refl) (sorted_same job.cmp order same part sorted moved stable) k
             ∙ kept.same k;
       }
 
@@ -167,8 +135,8 @@ module _ {K V : Type 0} (job : Computation K V) (key_laws : CodecLaws job.key) (
   }
 
   pub upto_more : (reduces n : ℕ) (kept : List (List (List ℕ))) (run sorted done : List (K × V)) (runs : List (List ℕ)) (bytes : List ℕ) → slice_get kept n ≡ Some runs →
-      IsPermutation run sorted → IsSortedByKey (λ p. p.0) job.cmp sorted → IsStableByKey (λ p. p.0) job.cmp run sorted →
-      bytes ≡ spelled job (part_of job reduces n sorted) → PairsFit job (part_of job reduces n sorted) →
+      IsPermutation (part_of job reduces n run) sorted → IsSortedByKey (λ p. p.0) job.cmp sorted → IsStableByKey (λ p. p.0) job.cmp (part_of job reduces n run) sorted →
+      bytes ≡ spelled job sorted → PairsFit job sorted →
       KeptUpto reduces n kept run done → KeptUpto reduces (n + 1) (set kept n (runs ++ bytes ∷ [])) run done
   upto_more reduces n kept run sorted done runs bytes at moved in_order stable is fit h r now there =
       elim (eqb n r) as (λ b. eqb n r ≡ b → KeptAt job reduces r now (cond (ltb r (n + 1)) [] run) done) [
@@ -201,6 +169,23 @@ share_at items shares r w ps l at part = some_is (items w) ps (ap (λ w. Some (i
 
 pub there_at : {W : Type 0} (xs : List W) (r : ℕ) (w : W) → r < length xs → w ≡ get_or xs r w → slice_get xs r ≡ Some w
 there_at xs r w l at = slice_get-get_or xs r w l ∙ ap Some (sym at)
+
+-- what was put at a place is there
+pub set_at : {W : Type 0} (xs : List W) (r : ℕ) (old new now : W) → r < length xs → old ≡ get_or xs r old → now ≡ get_or (set xs r new) r now → now ≡ new
+set_at xs r old new now l at there =
+    let k : r < length (set xs r new) = omega (arith, length-set xs r new) in
+    some_is now new (sym (there_at (set xs r new) r now k there) ∙ get-set_same xs r old new (there_at xs r old l at))
+
+apart : (n k : ℕ) → n < k → eqb n k ≡ false
+apart n k l =
+    elim (eqb n k) as (λ b. eqb n k ≡ b → b ≡ false) [
+      | true ↦ λ t. absurd (let e = eqb-true n k t in omega arith)
+      | false ↦ λ f. refl
+    ] refl
+
+-- and what is at other places stays
+pub others_stay : {A W : Type 0} (items : W → List A) (xs : List W) (r k : ℕ) (new : W) (ps : List A) → r < k → option_map items (slice_get xs k) ≡ Some ps → option_map items (slice_get (set xs r new) k) ≡ Some ps
+others_stay items xs r k new ps l at = ap (option_map items) (get-set_other xs r k new (apart r k l)) ∙ at
 
 module _ {K V : Type 0} (job : Computation K V) where
   all_both : (P : K × V → Type 0) (xs ys : List (K × V)) → AllByRecursion P xs → AllByRecursion P ys → AllByRecursion P (xs ++ ys)

@@ -81,12 +81,12 @@ fn encoded<J: Job>(alloc: Global, pairs: &[(J::Key, J::Value)]) -> Result<Vec<u8
     Ok(bytes)
 }
 
-// Sorts a run by key, and keeps what of it goes to each reduce.
+// Keeps what of a run goes to each reduce, sorted by key.
 fn keep_run<J: Job>(
     alloc: Global,
     job: &J,
     kept: &mut Vec<KeptRuns>,
-    mut run: Vec<(J::Key, J::Value)>,
+    run: Vec<(J::Key, J::Value)>,
     reduces: u32,
 ) -> Result<(), AllocError>
     requires some { 0 < reduces }
@@ -95,9 +95,9 @@ fn keep_run<J: Job>(
     ensures kept { let all = computation J.Key.cmp J.Key.codec J.Value.codec J.functions in
         OnOk result ((done : List (J.Key × J.Value)) → Kept all reduces kept.old.items run.items done → Kept all reduces kept.new.items [] done) }
 {
-    sort_pairs(&mut run)?;
-    let parts = shares(alloc, job, run, reduces)?;
+    let mut parts = shares(alloc, job, run, reduces)?;
     for r in 0..reduces as usize {
+        sort_pairs(&mut parts[r])?;
         let bytes = encoded::<J>(alloc, &parts[r])?;
         kept[r].add(bytes)?;
     }
@@ -122,7 +122,8 @@ fn add_pairs<J: Job>(
     for pair in pairs {
         run.push(pair)?;
         if run.len() >= RUN_LEN {
-            let full = mem::replace(run, Vec::new(alloc));
+            let room = Vec::with_capacity(alloc, RUN_LEN)?;
+            let full = mem::replace(run, room);
             keep_run(alloc, job, kept, full, reduces)?;
         }
     }

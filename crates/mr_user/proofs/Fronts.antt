@@ -1,5 +1,5 @@
 -- Bytes are in the order of the numbers that their first eight make.
-use Rattle.std.proofs.Common.{◌≡◌, ℕ, zero, suc, ◌+◌, ◌*◌, ◌<◌, ◌≤◌, List, [], ◌∷◌, length, refl, sym, ap, subst, ◌∙◌, arith}
+use Rattle.std.proofs.Common.{◌≡◌, ◌≢◌, ℕ, zero, suc, ◌+◌, ◌*◌, ◌<◌, ◌≤◌, List, [], ◌∷◌, length, refl, sym, ap, subst, ◌∙◌, arith}
 use Rattle.std.proofs.lemmas.Cmp.{nat_list_cmp_total}
 use Rattle.std.specs.Cmp.{nat_cmp_is, ranks}
 use Rattle.std.specs.Cmp.Lexicographic.{slice_cmp}
@@ -109,3 +109,10 @@ module _ (xs ys : List ℕ) (m n : ℕ) (a : AreBytes xs) (b : AreBytes ys) (fro
 
   pub fronts_same : m ≡ n → length xs ≤ 8 → length ys ≤ 8 → slice_cmp nat_cmp xs ys ≡ nat_cmp (length xs) (length ys)
   fronts_same h i j = same_front 8 0 xs ys a b i j (sym (behind_front xs) ∙ sym front ∙ h ∙ other ∙ behind_front ys)
+
+  pub fronts_apart : m ≢ n → nat_cmp m n ≡ slice_cmp nat_cmp xs ys
+  fronts_apart h = by (nat_cmp m n) refl where
+    by : (o : Ordering) → nat_cmp m n ≡ o → o ≡ slice_cmp nat_cmp xs ys
+    by Less e = sym (fronts_less (rank m n Less e))
+    by Equal e = absurd (h (rank m n Equal e))
+    by Greater e = sym (fronts_greater (rank m n Greater e))

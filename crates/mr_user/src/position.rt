@@ -26,9 +26,12 @@ impl Wire for Position {
     }
 
     fn write(&self, out: &mut Vec<u8>) -> Result<(), AllocError> {
-        out.reserve(12)?;
-        out.extend_from_slice(&self.split.to_be_bytes())?;
-        out.extend_from_slice(&self.line.to_be_bytes())
+        let split = self.split.to_be_bytes();
+        let line = self.line.to_be_bytes();
+        out.extend_from_slice(&[
+            split[0], split[1], split[2], split[3], line[0], line[1], line[2], line[3], line[4],
+            line[5], line[6], line[7],
+        ])
     }
 
     fn read(_alloc: Global, bytes: &[u8]) -> Result<(Position, usize), UserFault> {

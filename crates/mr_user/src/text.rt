@@ -102,7 +102,12 @@ impl Ord for Text {
     ghost matches_eq = { texts_ties };
 
     fn cmp(&self, other: &Text) -> Ordering {
-        order(self.front, &self.bytes, other.front, &other.bytes)
+        if self.front == other.front {
+            return tied(self, other);
+        }
+        known_bytes(self.as_slice());
+        known_bytes(other.as_slice());
+        self.front.cmp(&other.front)
     }
 }
 
@@ -129,23 +134,20 @@ fn byte_at(bytes: &[u8], place: usize) -> u8
     if place < bytes.len() { bytes[place] } else { 0 }
 }
 
-// The order of bytes, by their fronts first.
-fn order(front: u64, bytes: &[u8], other_front: u64, others: &[u8]) -> Ordering
-    requires { (front ≡ from_be_bytes w64 bytes.now) × (other_front ≡ from_be_bytes w64 others.now) }
-    ensures { result ≡ slice_cmp nat_cmp bytes.now others.now }
+// The order of texts with one front. It stands by itself, so that the comparison of fronts is short.
+#[inline(never)]
+fn tied(text: &Text, other: &Text) -> Ordering
+    requires { from_be_bytes w64 text.now ≡ from_be_bytes w64 other.now }
+    ensures { result ≡ slice_cmp nat_cmp text.now other.now }
 {
+    let bytes = text.as_slice();
+    let others = other.as_slice();
     known_bytes(bytes);
     known_bytes(others);
-    match front.cmp(&other_front) {
-        Ordering::Less => Ordering::Less,
-        Ordering::Greater => Ordering::Greater,
-        Ordering::Equal => {
-            if bytes.len() <= FRONT_LEN && others.len() <= FRONT_LEN {
-                bytes.len().cmp(&others.len())
-            } else {
-                bytes.cmp(others)
-            }
-        }
+    if bytes.len() <= FRONT_LEN && others.len() <= FRONT_LEN {
+        bytes.len().cmp(&others.len())
+    } else {
+        bytes.cmp(others)
     }
 }
 

@@ -16,8 +16,8 @@ loop-pair-preserved g c =
           pair_more all g.met.J.Key.Wire.laws g.met.J.Value.Wire.laws g.met.J.Key.Ord.total g.met.J.Job.laws.same_key c.args.reduces c.loop-pair.kept.items c.loop-pair.run.items c.push.new.self.items done c.loop-pair.yielded c.in-Some.pair c.in_ok-push.ensures.items (c.loop-pair.invariant.kept done h);
     }
 
-pub loop-pair-preserved-in-Continue-branch-2 : goal.loop-pair-preserved-in-Continue-branch-2
-loop-pair-preserved-in-Continue-branch-2 g c =
+pub loop-pair-preserved-in-Continue-branch-3 : goal.loop-pair-preserved-in-Continue-branch-3
+loop-pair-preserved-in-Continue-branch-3 g c =
     let all = computation g.J.Key.Ord.cmp g.J.Key.Wire.codec g.J.Value.Wire.codec g.J.Job.functions in
     record {
       many = c.in_ok-keep_run.ensures.many;
@@ -25,7 +25,7 @@ loop-pair-preserved-in-Continue-branch-2 g c =
           let pushed = pair_more all g.met.J.Key.Wire.laws g.met.J.Value.Wire.laws g.met.J.Key.Ord.total g.met.J.Job.laws.same_key c.args.reduces c.loop-pair.kept.items c.loop-pair.run.items c.push.new.self.items done c.loop-pair.yielded c.in-Some.pair c.in_ok-push.ensures.items (c.loop-pair.invariant.kept done h) in
           let full : List (g.row.J-Key.Denot × g.row.J-Value.Denot) = c.replace-full.result.items in
           let all_done = done ++ (c.loop-pair.yielded ++ c.in-Some.pair ∷ []) in
-          subst (λ (run : List (g.row.J-Key.Denot × g.row.J-Value.Denot)). Kept all c.args.reduces c.keep_run.new.kept.items run all_done) (sym (ap (λ v. v.items) c.replace-full.ensures.after ∙ c.new.ensures.items))
+          subst (λ (run : List (g.row.J-Key.Denot × g.row.J-Value.Denot)). Kept all c.args.reduces c.keep_run.new.kept.items run all_done) (sym (ap (λ v. v.items) c.replace-full.ensures.after ∙ c.in_ok-room.ensures.items))
           (c.in_ok-keep_run.ensures.kept all_done (subst (λ (run : List (g.row.J-Key.Denot × g.row.J-Value.Denot)). Kept all c.args.reduces c.loop-pair.kept.items run all_done) (sym (ap (λ v. v.items) c.replace-full.ensures.value)) pushed));
     }
 
