@@ -4,6 +4,7 @@ ghost use Rattle.mr_user.specs.Computation.{computation};
 ghost use Rattle.mr_drive.specs.Reports.{IsReported};
 
 use crate::actor::{Actor, Role};
+use crate::calls::Bells;
 use crate::fault::DriveFault;
 use crate::fault_turns::Coming;
 use crate::floor::Floor;
@@ -14,7 +15,7 @@ use mr_board::{Board, Seat};
 use mr_user::{Gate, Job};
 use mr_world::World;
 use std::alloc::Global;
-use std::sync::{Condvar, Mutex, Wait};
+use std::sync::{Mutex, Wait};
 use std::thread;
 use std::thread::Threads;
 
@@ -47,7 +48,7 @@ where
     };
     let (board, all) = Board::new(alloc, job, world, seats)?;
     let coming = Coming::new(plan.faults.copy()?);
-    let floor = Mutex::new(Floor::new(board, coming, seats));
+    let floor = Mutex::new(Floor::new(alloc, board, coming, seats)?);
     let back = run_threads(rt, alloc, job, gate, &floor, nodes, all, turns)?;
     let (board, stop) = floor.into_inner().ends();
     if let Some(fault) = stop {
@@ -85,20 +86,20 @@ where
     J::Key: Send + Sync,
     J::Value: Send + Sync,
 {
-    let bell = Condvar::new();
-    let bell = &bell;
+    let bells = Bells::new();
+    let bells = &bells;
     thread::scope(thread::scope_env(), rt, |scope| {
         let mut handles = Vec::with_capacity(alloc, seats.len())?;
         let mut back = Vec::with_capacity(alloc, seats.len())?;
         for seat in seats {
             let actor = Actor::new(alloc, role_of(seat.number(), nodes));
-            match scope.spawn(move || act(rt, alloc, job, gate, floor, bell, actor, seat, turns)) {
+            match scope.spawn(move || act(rt, alloc, job, gate, floor, bells, actor, seat, turns)) {
                 Ok(handle) => {
                     if handles.push(handle).is_err() {
-                        stop_all(rt, floor, bell, DriveFault::NoMemory);
+                        stop_all(rt, floor, bells, DriveFault::NoMemory);
                     }
                 }
-                Err(_) => stop_all(rt, floor, bell, DriveFault::Thread),
+                Err(_) => stop_all(rt, floor, bells, DriveFault::Thread),
             }
         }
         for handle in handles {
@@ -117,7 +118,7 @@ fn act<R: Wait, J: Job, G: Gate>(
     job: &J,
     gate: &G,
     floor: &Mutex<Floor<J>>,
-    bell: &Condvar,
+    bells: &Bells,
     actor: Actor,
     seat: Seat,
     turns: u64,
@@ -125,18 +126,21 @@ fn act<R: Wait, J: Job, G: Gate>(
     let mut actor = actor;
     let mut seat = seat;
     for _ in 0..turns {
-        if !turn(rt, alloc, job, gate, floor, bell, &mut actor, &mut seat) {
+        if !turn(rt, alloc, job, gate, floor, bells, &mut actor, &mut seat) {
             return seat;
         }
     }
-    stop_all(rt, floor, bell, DriveFault::TurnsSpent);
+    stop_all(rt, floor, bells, DriveFault::TurnsSpent);
     seat
 }
 
 // Lets every thread end.
-fn stop_all<R: Wait, J: Job>(rt: &R, floor: &Mutex<Floor<J>>, bell: &Condvar, fault: DriveFault) {
-    floor.lock(rt).stop(fault);
-    bell.notify_all();
+fn stop_all<R: Wait, J: Job>(rt: &R, floor: &Mutex<Floor<J>>, bells: &Bells, fault: DriveFault) {
+    let mut guard = floor.lock(rt);
+    guard.stop(fault);
+    let call = guard.take_call();
+    drop(guard);
+    bells.ring(call);
 }
 
 // One turn; false if it was the last. It waits until there is something to do. User functions run outside the lock.
@@ -146,28 +150,33 @@ fn turn<R: Wait, J: Job, G: Gate>(
     job: &J,
     gate: &G,
     floor: &Mutex<Floor<J>>,
-    bell: &Condvar,
+    bells: &Bells,
     actor: &mut Actor,
     seat: &mut Seat,
 ) -> bool {
+    let bell = bells.of(seat.number());
     let mut next = Next::Goes;
-    let guard = bell.wait_while(rt, floor.lock(rt), |floor| {
-        floor.waits(alloc, actor, seat, &mut next)
-    });
-    drop(guard);
-    match next {
-        Next::Ends => {
-            bell.notify_all();
-            return false;
+    let mut guard = bell.wait_while(rt, floor.lock(rt), |floor| {
+        let waits = floor.waits(alloc, actor, seat, &mut next);
+        if waits {
+            bells.ring(floor.falls_asleep(seat));
         }
+        waits
+    });
+    let call = guard.take_call();
+    drop(guard);
+    bells.ring(call);
+    match next {
+        Next::Ends => false,
         Next::Computes(c, work) => {
             let done = work.run(alloc, job, gate);
             let mut guard = bell.wait_while(rt, floor.lock(rt), |floor| floor.is_held());
             guard.hand_in(actor, seat, &c, done);
+            let call = guard.take_call();
             drop(guard);
+            bells.ring(call);
+            true
         }
-        Next::Goes | Next::Waits(_) => {}
+        Next::Goes | Next::Waits(_) => true,
     }
-    bell.notify_all();
-    true
 }

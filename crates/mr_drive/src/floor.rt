@@ -1,5 +1,6 @@
 //! What lies under the lock: the board, the faults to come, and who finds nothing to do. No function here waits.
 use crate::actor::{Actor, Role};
+use crate::calls::{Call, Sleepers};
 use crate::fault::DriveFault;
 use crate::fault_turns::Coming;
 use crate::fetching::Fetching;
@@ -10,9 +11,10 @@ use crate::turn::{Next, Turn};
 use mr_board::{Board, Finished, Seat};
 use mr_mapside::WorkFault;
 use mr_master_model::Phase;
-use mr_packet::{ContainerId, Packet};
+use mr_packet::{Address, ContainerId, Packet};
 use mr_user::Job;
-use std::alloc::Global;
+use mr_world::World;
+use std::alloc::{AllocError, Global};
 
 /// What the threads share.
 #[derive(Drop)]
@@ -27,14 +29,20 @@ pub(crate) struct Floor<J: Job> {
     changes: u64,
     idle: u32,
     threads: u32,
+    sleepers: Sleepers,
     // How often all threads found nothing to do, and the count of changes when that was so last.
     round: u64,
     round_at: u64,
 }
 
 impl<J: Job> Floor<J> {
-    pub(crate) fn new(board: Board<J>, coming: Coming, threads: u32) -> Floor<J> {
-        Floor {
+    pub(crate) fn new(
+        alloc: Global,
+        board: Board<J>,
+        coming: Coming,
+        threads: u32,
+    ) -> Result<Floor<J>, AllocError> {
+        Ok(Floor {
             board,
             coming,
             fetching: Fetching::new(),
@@ -44,9 +52,10 @@ impl<J: Job> Floor<J> {
             changes: 0,
             idle: 0,
             threads,
+            sleepers: Sleepers::new(alloc, threads)?,
             round: 0,
             round_at: 0,
-        }
+        })
     }
 
     /// The board, and why the threads stopped where that was not the end.
@@ -61,6 +70,7 @@ impl<J: Job> Floor<J> {
             changes: _,
             idle: _,
             threads: _,
+            sleepers: _,
             round: _,
             round_at: _,
         } = self;
@@ -92,22 +102,35 @@ impl<J: Job> Floor<J> {
         }
     }
 
+    /// Whom to wake once the lock is given back.
+    pub(crate) fn take_call(&mut self) -> Call {
+        if self.has_ended() {
+            self.sleepers.call(Call::Everyone);
+        }
+        self.sleepers.take_call()
+    }
+
     // Something changed: whoever found nothing to do may look again.
     fn changed(&mut self) {
         self.changes = self.changes.wrapping_add(1);
         self.idle = 0;
     }
 
-    // Looks at the packets that are new, and at the newest master.
+    // Looks at the packets that are new, and at the newest master. Whom a packet is for is called.
     fn look(&mut self) {
         let world = self.board.world();
         for place in self.looked..world.bag().len() {
             if let Some(envelope) = world.bag().get(place) {
                 self.over = self.over || matches!(&envelope.body, Packet::Outcome { .. });
+                self.sleepers.call(call_of(world, &envelope.to));
             }
         }
         self.looked = world.bag().len();
         self.over = self.over || world.phase(world.newest()) == Some(Phase::Stopped);
+        if self.is_due() {
+            let faults = seat_of(Role::Faults, self.board.world());
+            self.sleepers.call(Call::Seat(faults));
+        }
     }
 
     // Nothing to do. Where that is so for all threads, those that wait for an answer ask again; where nothing came of that, nothing ever will.
@@ -121,6 +144,7 @@ impl<J: Job> Floor<J> {
             return Next::Ends;
         }
         self.changed();
+        self.sleepers.call(Call::Everyone);
         self.round = self.round.wrapping_add(1);
         self.round_at = self.changes;
         Next::Goes
@@ -134,13 +158,20 @@ impl<J: Job> Floor<J> {
         seat: &mut Seat,
         next: &mut Next,
     ) -> bool {
-        if let Next::Waits(changes) = next {
-            if self.is_still(*changes) {
-                return true;
-            }
+        let sleeps_on = match next {
+            Next::Waits(changes) => self.is_still(*changes),
+            _ => false,
+        };
+        if !sleeps_on {
+            self.sleepers.wakes(seat.number());
+            *next = self.turn(alloc, actor, seat);
         }
-        *next = self.turn(alloc, actor, seat);
         matches!(next, Next::Waits(_))
+    }
+
+    /// The thread of a seat falls asleep: whom it wakes before.
+    pub(crate) fn falls_asleep(&mut self, seat: &Seat) -> Call {
+        self.sleepers.falls_asleep(seat.number())
     }
 
     // Makes at most one event. Only who makes the faults acts while one is due.
@@ -155,10 +186,15 @@ impl<J: Job> Floor<J> {
             Ok(Turn::Made) => {
                 self.changed();
                 self.look();
+                if actor.role == Role::Faults {
+                    self.sleepers.call(Call::Everyone);
+                }
                 Next::Goes
             }
             Ok(Turn::Compute(c, work)) => {
                 self.idle = 0;
+                // It may be the last reduce that fetched, so works that wait may begin.
+                self.sleepers.call(Call::Everyone);
                 Next::Computes(c, work)
             }
             Ok(Turn::Nothing) => self.rests(),
@@ -205,5 +241,28 @@ impl<J: Job> Floor<J> {
             self.stop(DriveFault::NoMemory);
         }
         self.look();
+    }
+}
+
+// Whom a packet to this address gives something to do.
+fn call_of(world: &World, to: &Address) -> Call {
+    let role = match to {
+        Address::Node(n) => Role::Node(*n),
+        Address::Master(k) => Role::Master(k.number()),
+        Address::Container(c) => match world.place(c) {
+            Some(place) => Role::Node(place.node),
+            None => return Call::Nobody,
+        },
+    };
+    Call::Seat(seat_of(role, world))
+}
+
+// The number of the seat whose thread acts for a role: nodes, then faults, then masters.
+fn seat_of(role: Role, world: &World) -> u32 {
+    let nodes = world.config().nodes;
+    match role {
+        Role::Node(n) => n,
+        Role::Faults => nodes,
+        Role::Master(k) => nodes.saturating_add(k),
     }
 }

@@ -16,6 +16,7 @@
 #![tactic(auto)]
 
 mod actor;
+mod calls;
 mod driver;
 mod fault;
 mod fault_turns;
