@@ -31,11 +31,12 @@ mod befall;
 mod exploration;
 mod explored;
 mod faults_at;
+mod going;
 mod laws;
 mod leading;
 mod output;
 mod sequential;
-mod steps;
+mod vain;
 mod watch;
 mod winners;
 
