@@ -1,6 +1,6 @@
 mod Beginning
-mod Lengths
 mod Making
+mod Onwards
 mod Printing
 pub mod Refused
 mod Trying

@@ -1,6 +1,6 @@
 -- What one fault is, and where it may befall a run (our own profile). Without a fault a run goes on as a calm of the
--- newest master does.
-use Rattle.std.specs.Prelude.{ℕ, suc, ◌+◌, ◌-◌, ◌*◌, min, List, [], ◌∷◌, ◌++◌, drop, length, map, slice_get, Option, Some, None, is_none, if◌then◌else◌}
+-- newest master does, unless in vain.
+use Rattle.std.specs.Prelude.{ℕ, zero, suc, ◌&&◌, Bool, false, nat_lt, List, [], ◌∷◌, ◌++◌, drop, length, map, slice_get, Option, Some, None, is_none, if◌then◌else◌}
 use Rattle.std.specs.List.{flat_map, range_with_len}
 use Rattle.std.specs.Option.{option_and_then}
 use Rattle.mr_event.specs.declared.event.Weather.TheVariants.{Calm, Unavailable, Unanswered}
@@ -10,22 +10,34 @@ use Rattle.mr_model.specs.World.{Event, Start, Crash, Duty, LaunchOn, Deliver, C
 use Rattle.mr_model.specs.Effect.{not_now}
 use Rattle.mr_model.specs.Claims.{Limits}
 use Rattle.mr_model.specs.Sequential.{Job}
+use Rattle.mr_world.specs.declared.limits.TheConstants.{MAX_EVENTS}
 use Rattle.mr_world.specs.Histories.{history_of, stable_bytes}
 use Rattle.mr_world.specs.Readings.{living, unflushed_in}
-use Rattle.mr_play.specs.Played.{Played, calms, losing, most_calm, stepped_by, taken, world}
+use Rattle.mr_packet.specs.declared.packet.ContainerId.{ContainerId}
+use Rattle.mr_play.specs.Played.{Played, calms, losing, stepped_by, taken, world}
+use Rattle.mr_walk.specs.Steps.{Onward, Goes, Ends, Full}
 use Rattle.mr_faults.specs.declared.fault.Fault.{Fault}
 use Rattle.mr_faults.specs.declared.fault.Fault.TheVariants as fault
 use Rattle.mr_faults.specs.Kinds.{ends_from, of_delivered, of_kept, of_node, of_packet, of_tasks}
 use Rattle.mr_faults.specs.Next.{without_next}
+use Rattle.mr_explore.specs.Vain.{all_wait, ask_behind, most_ahead}
 
 -- of bytes that these go on from: how many of those behind them there are up to each line feed
 abbrev pub ends_behind : List ℕ → List ℕ → List ℕ
 ends_behind before after = ends_from 0 (drop (length before) after)
 
--- How many events a run makes by itself at most, behind its beginning or a fault: 200 for the job and 200 for each of
--- its tasks. It is no more than a calm makes. Where nobody answers a container, it asks for ever.
-abbrev pub most_steps : Config → ℕ
-most_steps cfg = min (200 * (length cfg.splits + cfg.reduces + 1)) most_calm
+-- No run is cut by a number of events: a world takes no more than these.
+unfoldable pub most_events : ℕ
+most_events = MAX_EVENTS
+
+-- a calm of one event made it, or there was none
+abbrev pub onward_by : Played → Option Played → Onward Played
+onward_by s None = Full
+onward_by s (Some t) = if nat_lt (length s.events) (length t.events) then Goes t else Ends t
+
+abbrev pub counted : (Played → ℕ) → Onward Played → ℕ
+counted more (Goes t) = suc (more t)
+counted more _ = 0
 
 module _ (job : Job) (cfg : Config) (within : Limits) where
   abbrev pub newest : Played → ℕ
@@ -34,6 +46,31 @@ module _ (job : Job) (cfg : Config) (within : Limits) where
   -- at most `most` events of the calm of the newest master; none where a limit is passed
   abbrev pub calm : ℕ → Played → Option Played
   calm most s = calms job cfg within (newest s) None most s
+
+  -- ---- how a run goes on by itself: as a calm of the newest master, unless it goes on in vain
+
+  abbrev pub only_asked : ℕ → ℕ → Option Played → Bool
+  only_asked n most None = false
+  only_asked n most (Some t) = ask_behind n most (world job cfg within t).bag t.events
+
+  -- the next `most` events of the calm are there, and all of them ask
+  abbrev pub asks_on : ℕ → Played → Bool
+  asks_on most s = only_asked (length s.events) most (calm most s)
+
+  abbrev pub waits_in_vain : List ContainerId → Played → Bool
+  waits_in_vain cs s = all_wait cfg (world job cfg within s) cs && asks_on (most_ahead cs) s
+
+  -- all who live wait, and whatever they ask in both of their ways is not answered, or is answered by no
+  abbrev pub goes_in_vain : Played → Bool
+  goes_in_vain s = waits_in_vain (living cfg (world job cfg within s)) s
+
+  abbrev pub onward : Played → Onward Played
+  onward s = if goes_in_vain s then Ends s else onward_by s (calm 1 s)
+
+  -- how many events it makes, of at most `most`; none is made where a limit is passed
+  abbrev pub steps_made : ℕ → Played → ℕ
+  steps_made zero s = 0
+  steps_made (suc most) s = counted (steps_made most) (onward s)
 
   -- an event happens, as that of a line; none where it is not permitted or passes a limit
   abbrev pub told : Event → Played → Option Played
@@ -60,26 +97,18 @@ module _ (job : Job) (cfg : Config) (within : Limits) where
 
   -- ---- what may befall a run where it is
 
-  -- the event that the calm makes next
-  abbrev pub last_of : ℕ → Option Played → Option Event
-  last_of n None = None
-  last_of n (Some t) = slice_get t.events n
+  -- the event that it makes next by itself
+  abbrev pub last_of : ℕ → Onward Played → Option Event
+  last_of n (Goes t) = slice_get t.events n
+  last_of n _ = None
 
   abbrev pub next_event : Played → Option Event
-  next_event s = last_of (length s.events) (calm 1 s)
-
-  -- how many events the run makes by itself; none are counted where a limit is passed
-  abbrev pub made_since : ℕ → Option Played → ℕ
-  made_since n None = 0
-  made_since n (Some t) = length t.events - n
-
-  abbrev pub calm_length : Played → ℕ
-  calm_length s = made_since (length s.events) (calm (most_steps cfg) s)
+  next_event s = last_of (length s.events) (onward s)
 
   abbrev pub of_event : Option Event → Played → List Fault
   of_event (Some (Duty k weather)) s = fault.Duty Unavailable ∷ fault.Duty Unanswered ∷ []
   of_event (Some (ContainerStep c weather)) s = fault.Step c Unavailable ∷ fault.Step c Unanswered ∷ []
-  of_event (Some (Deliver i)) s = of_packet i (calm_length (losing job cfg within i s))
+  of_event (Some (Deliver i)) s = of_packet i (steps_made most_events (losing job cfg within i s))
   of_event _ s = []
 
   abbrev pub stable_in : ℕ → Played → List ℕ
@@ -112,7 +141,7 @@ module _ (job : Job) (cfg : Config) (within : Limits) where
   abbrev pub listed : Option Event → Played → List Fault
   listed next s = of_event next s ++ of_world s ++ of_crashes s
 
-  -- All that may be tried. What the calm makes next anyway is no fault. What can't befall the run there is no fault.
+  -- All that may be tried. What it makes next anyway is no fault. What can't befall the run there is no fault.
   abbrev pub faults_by : Option Event → Played → List Fault
   faults_by next s = without_next next (listed next s)
 

@@ -1,6 +1,6 @@
 -- Which runs there are of an input (our own profile): all that come of it by at most a given number of faults, as
--- mr_walk says it. A run goes on as a calm of the newest master.
-use Rattle.std.specs.Prelude.{◌≡◌, ◌≢◌, ◌⊎◌, ℕ, nat_lt, List, length, Option, Some, None, if◌then◌else◌}
+-- mr_walk says it. A run goes on as a calm of the newest master, unless in vain.
+use Rattle.std.specs.Prelude.{◌≡◌, ◌≢◌, ◌⊎◌, ℕ, List, Option, Some, None}
 use Rattle.std.specs.Option.{option_map}
 use Rattle.mr_model.specs.Packets.{Config}
 use Rattle.mr_model.specs.World.{World, Start}
@@ -11,7 +11,7 @@ use Rattle.mr_play.specs.Text.{PrintsPlay, config_of, job_as}
 use Rattle.mr_walk.specs.Steps.{Onward, Goes, Ends, Full, Steps}
 use Rattle.mr_walk.specs.Runs.{Found, runs}
 use Rattle.mr_faults.specs.declared.fault.Fault.{Fault}
-use Rattle.mr_explore.specs.Faults.{befallen, calm, faults_at, most_steps, newest, told}
+use Rattle.mr_explore.specs.Faults.{befallen, faults_at, most_events, newest, onward, told}
 
 -- a run of a job's cluster, as far as it is
 pub record Exploring : Type 0 where
@@ -25,14 +25,14 @@ world_of e = world (job_as e.job) e.config (within e.config) e.played
 abbrev pub with : Exploring → Played → Exploring
 with e s = record e { played = s }
 
--- the calm made an event, or it has ended
-abbrev pub onward_to : Exploring → Option Played → Onward Exploring
-onward_to e None = Full
-onward_to e (Some s) = if nat_lt (length e.played.events) (length s.events) then Goes (with e s) else Ends (with e s)
+abbrev pub onward_with : Exploring → Onward Played → Onward Exploring
+onward_with e (Goes s) = Goes (with e s)
+onward_with e (Ends s) = Ends (with e s)
+onward_with e Full = Full
 
 abbrev pub explored : Steps Exploring Fault
 explored = record {
-  onward = λ e. onward_to e (calm (job_as e.job) e.config (within e.config) 1 e.played);
+  onward = λ e. onward_with e (onward (job_as e.job) e.config (within e.config) e.played);
   faults = λ e. faults_at (job_as e.job) e.config (within e.config) e.played;
   befallen = λ f e. option_map (with e) (befallen (job_as e.job) e.config (within e.config) f e.played);
 }
@@ -69,4 +69,4 @@ pub record CannotStart (input : List ℕ) : Type 0 where
 
 -- all its runs with at most this many faults
 abbrev pub runs_with : ℕ → Exploring → List (Found Exploring)
-runs_with faults e = runs explored (most_steps e.config) faults e
+runs_with faults e = runs explored most_events faults e

@@ -11,6 +11,7 @@ use crate::winners::Winners;
 use mr_commands::SimFault;
 use mr_ends::Table;
 use mr_walk::{Ended, Walk, WalkFault};
+use mr_world::MAX_EVENTS;
 use std::alloc::Global;
 use std::marker::Model;
 
@@ -43,8 +44,7 @@ impl Exploration {
         ensures fault { IfErr result (ExploreFails input.now) }
     {
         let run = Explored::new(alloc, input)?;
-        let most = run.most_steps();
-        match Walk::new(alloc, run, faults, most) {
+        match Walk::new(alloc, run, faults, MAX_EVENTS as u64) {
             Ok(walk) => Ok(Exploration {
                 walk,
                 faults,

@@ -4,13 +4,12 @@ ghost use Rattle.std.specs.Option.{option_map};
 ghost use Rattle.mr_play.specs.Players.{state_in};
 ghost use Rattle.mr_walk.specs.Steps.{GoesOn, IsNotFull};
 ghost use Rattle.mr_explore.specs.Exploring.{ExploreFails};
-ghost use Rattle.mr_explore.specs.Faults.{most_steps};
-ghost use Rattle.mr_explore.specs.Runs.{IsRunOf, StartsFrom, explored, newest_in, onward_to, start_first, with};
-ghost use Rattle.mr_explore.specs.inner.Players.{CannotBegin, calm_in, view_of};
+ghost use Rattle.mr_explore.specs.Runs.{IsRunOf, StartsFrom, explored, newest_in, start_first, with};
+ghost use Rattle.mr_explore.specs.inner.Players.{CannotBegin, view_of};
 
 use crate::befall::{befall, may_befall};
 use crate::faults_at::faults_at;
-use crate::steps::most_steps;
+use crate::going;
 use mr_commands::SimFault;
 use mr_event::Event;
 use mr_faults::Fault;
@@ -57,13 +56,6 @@ impl Explored {
     {
         &self.player.world
     }
-
-    /// How many events it makes by itself at most, behind its beginning or a fault.
-    pub fn most_steps(&self) -> u64
-        ensures { result ≡ most_steps self.now.config }
-    {
-        most_steps(self.player.world.config())
-    }
 }
 
 impl Run for Explored {
@@ -104,19 +96,16 @@ impl Run for Explored {
     }
 }
 
-// The calm makes an event more; whether there was one.
+// It makes an event more by itself; whether there was one.
+#[tactic(auto, using(crate::proofs::Onwards::viewed, crate::proofs::Onwards::viewed_full))]
 fn go_further(alloc: Global, player: &mut Player) -> Result<bool, WalkFault>
-    ensures { GoesOn (onward_to (view_of player.old) (calm_in player.old 1 (state_in player.old))) result (view_of player.new) }
+    ensures { GoesOn (explored.onward (view_of player.old)) result (view_of player.new) }
 {
-    let before = player.world.journal().len();
-    let newest = player.world.newest();
-    match player.calm_for(alloc, newest, None, 1) {
-        Ok(()) => {
-            let after = player.world.journal().len();
-            Ok(before < after)
-        }
+    match going::go_further(alloc, player) {
+        Ok(went) => Ok(went),
         Err(SimFault::Full) => Err(WalkFault::Full),
-        Err(_) => Err(WalkFault::NoMemory),
+        Err(SimFault::NoMemory) => Err(WalkFault::NoMemory),
+        Err(_) => Err(WalkFault::Mismatch),
     }
 }
 

@@ -5,10 +5,10 @@ ghost use Rattle.mr_faults.specs.Kinds.{of_kept};
 ghost use Rattle.mr_world.specs.Histories.{stable_bytes};
 ghost use Rattle.mr_world.specs.Journal.{history_in, world_in};
 ghost use Rattle.mr_explore.specs.Faults.{ends_behind};
-ghost use Rattle.mr_world.specs.Readings.{living};
-ghost use Rattle.mr_explore.specs.inner.Players.{faults_in, calm_length_in, kept_after, kept_of, length_in, listed_in, next_in, of_crashes_in, of_event_in, of_world_in};
+ghost use Rattle.mr_explore.specs.inner.Players.{faults_in, kept_after, kept_of, length_in, listed_in, next_in, of_crashes_in, of_event_in, of_world_in};
 
-use crate::steps::most_steps;
+use crate::going::{go_further, run_length};
+use crate::vain::living;
 use mr_commands::SimFault;
 use mr_event::{Event, Weather};
 use mr_faults::{
@@ -16,7 +16,6 @@ use mr_faults::{
     add_of_tasks, without_next,
 };
 use mr_ids::TaskKind;
-use mr_packet::ContainerId;
 use mr_play::Player;
 use mr_world::World;
 use std::alloc::Global;
@@ -80,15 +79,6 @@ fn add_of_crashes(
     add_of_unflushed(alloc, faults, player)
 }
 
-fn living(world: &World) -> Result<Vec<ContainerId>, SimFault>
-    ensures { IfOk result (λ all. all.items ≡ living world.now.config (world_in world.now)) }
-{
-    match world.living() {
-        Ok(living) => Ok(living),
-        Err(_) => Err(SimFault::NoMemory),
-    }
-}
-
 // A store call that fails, or a packet that is lost or late.
 fn add_of_event(
     alloc: Global,
@@ -118,7 +108,7 @@ fn add_of_event(
     }
 }
 
-// The event that the calm makes next.
+// The event that the run makes next by itself.
 fn next_event(alloc: Global, player: &Player) -> Result<Option<Event>, SimFault>
     ensures { IfOk result (λ event. event ≡ next_in player.now) }
 {
@@ -131,10 +121,9 @@ fn next_of(alloc: Global, ahead: &mut Player) -> Result<Option<Event>, SimFault>
     ensures { IfOk result (λ event. event ≡ next_in ahead.old) }
 {
     let place = ahead.world.journal().len();
-    let newest = ahead.world.newest();
-    match ahead.calm_for(alloc, newest, None, 1) {
-        Ok(()) => event_at(&ahead.world, place),
-        Err(SimFault::Full) => Ok(None),
+    match go_further(alloc, ahead) {
+        Ok(true) => event_at(&ahead.world, place),
+        Ok(false) | Err(SimFault::Full) => Ok(None),
         Err(fault) => Err(fault),
     }
 }
@@ -148,30 +137,13 @@ fn event_at(world: &World, place: usize) -> Result<Option<Event>, SimFault>
     }
 }
 
-// How many events the calm makes without the packet.
+// How many events the run makes by itself without the packet.
 fn length_without(alloc: Global, player: &Player, packet: u64) -> Result<u64, SimFault>
     ensures { IfOk result (λ events. events ≡ length_in player.now packet) }
 {
     let mut ahead = player.fork(alloc)?;
     ahead.drop_packet(packet)?;
-    calm_length(alloc, &mut ahead)
-}
-
-// How many events the calm makes. The player makes them.
-fn calm_length(alloc: Global, ahead: &mut Player) -> Result<u64, SimFault>
-    ensures { IfOk result (λ events. events ≡ calm_length_in ahead.old) }
-{
-    let before = ahead.world.journal().len();
-    let newest = ahead.world.newest();
-    let most = most_steps(ahead.world.config());
-    match ahead.calm_for(alloc, newest, None, most) {
-        Ok(()) => {
-            let after = ahead.world.journal().len();
-            Ok(after.saturating_sub(before) as u64)
-        }
-        Err(SimFault::Full) => Ok(0),
-        Err(fault) => Err(fault),
-    }
+    run_length(alloc, &mut ahead)
 }
 
 // What the newest master did not flush stays up to the end of one of its records.

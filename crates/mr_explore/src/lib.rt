@@ -12,7 +12,10 @@
 //!   were made, or all. The text tells of their ends. A fault is one that the input has (`ExploredFails`): the first
 //!   bad key of the job text, else the first bad line of the script, else `Full`. A limit may be passed by the
 //!   script, by the first master's start, or by one of these runs.
-//! - **A run is one of mr_walk's** (`Explored`): its calm, what may befall it at a place, and what then comes of it are exactly those of the definitions.
+//! - **A run is one of mr_walk's** (`Explored`): its calm, where it has ended, what may befall it at a place, and what
+//!   then comes of it are exactly those of the definitions. It has ended where its calm has, or where it goes on in
+//!   vain (`specs/Vain`): all who live wait for their masters, and the calm's next events are their questions alone.
+//!   That nothing comes of such a run any more is reckoned in the README, and not proved.
 //! - **The runs that are made are exactly those of the definition, in its order, each once** (`Exploration::new`,
 //!   `make`). At first all runs are left that come of the first one by at most `faults` faults (`runs_with`, of which
 //!   mr_walk says that these are all). Each call of `make` takes the first of those that are left and notes their
@@ -31,11 +34,12 @@ mod befall;
 mod exploration;
 mod explored;
 mod faults_at;
+mod going;
 mod laws;
 mod leading;
 mod output;
 mod sequential;
-mod steps;
+mod vain;
 mod watch;
 mod winners;
 

@@ -1,13 +1,14 @@
 -- The definitions, of a player.
-use Rattle.std.specs.Prelude.{◌≡◌, ℕ, List, Option, None}
+use Rattle.std.specs.Prelude.{◌≡◌, ℕ, suc, Bool, true, false, List, Option, None, Result, Ok, Err}
 use Rattle.mr_model.specs.World.{Event, Crash}
 use Rattle.mr_world.specs.Limits.{within}
 use Rattle.mr_play.specs.declared.player.Player.{Player}
 use Rattle.mr_play.specs.Played.{Played, losing}
 use Rattle.mr_play.specs.Text.{job_as}
-use Rattle.mr_play.specs.Players.{state_in}
+use Rattle.mr_play.specs.Players.{SameJob, state_in}
+use Rattle.mr_walk.specs.Steps.{Onward, Goes, Ends, Full}
 use Rattle.mr_faults.specs.declared.fault.Fault.{Fault}
-use Rattle.mr_explore.specs.Faults.{befallen_by, calm, calm_length, faults_at, faults_by, kept, kept_in, listed, next_event, of_crashes, of_event, of_world, told}
+use Rattle.mr_explore.specs.Faults.{asks_on, befallen_by, calm, faults_at, faults_by, goes_in_vain, kept, kept_in, listed, most_events, next_event, of_crashes, of_event, of_world, onward, steps_made, told}
 use Rattle.mr_commands.specs.declared.fault.SimFault.{SimFault}
 use Rattle.mr_commands.specs.declared.fault.SimFault.TheVariants as fault
 use Rattle.mr_walk.specs.declared.fault.WalkFault.{WalkFault}
@@ -35,9 +36,37 @@ next_in p = next_event (job_as p.job) p.world.config (within p.world.config) (st
 abbrev pub of_event_in : Player → Option Event → List Fault
 of_event_in p e = of_event (job_as p.job) p.world.config (within p.world.config) e (state_in p)
 
--- how many events the calm makes without a packet
+abbrev pub onward_in : Player → Onward Played
+onward_in p = onward (job_as p.job) p.world.config (within p.world.config) (state_in p)
+
+-- whether it goes on in vain
+abbrev pub vain_in : Player → Bool
+vain_in p = goes_in_vain (job_as p.job) p.world.config (within p.world.config) (state_in p)
+
+abbrev pub asks_on_in : Player → ℕ → Bool
+asks_on_in p most = asks_on (job_as p.job) p.world.config (within p.world.config) most (state_in p)
+
+abbrev pub steps_in : Player → ℕ → ℕ
+steps_in p most = steps_made (job_as p.job) p.world.config (within p.world.config) most (state_in p)
+
+-- how many events it makes by itself without a packet
 abbrev pub length_in : Player → ℕ → ℕ
-length_in p i = calm_length (job_as p.job) p.world.config (within p.world.config) (losing (job_as p.job) p.world.config (within p.world.config) i (state_in p))
+length_in p i = steps_made (job_as p.job) p.world.config (within p.world.config) most_events (losing (job_as p.job) p.world.config (within p.world.config) i (state_in p))
+
+-- a run went on as is said
+abbrev pub GoesAs : Onward Played → Player → Result Bool SimFault → Player → Type 0
+GoesAs said old (Ok true) new = SameJob old new × (said ≡ Goes (state_in new))
+GoesAs said old (Ok false) new = SameJob old new × (said ≡ Ends (state_in new))
+GoesAs said old (Err fault.Full) new = said ≡ Full
+GoesAs said old (Err fault.NoMemory) new = Unit {0}
+GoesAs said old (Err fault.JournalMismatch) new = Unit {0}
+GoesAs said old (Err _) new = ⊥
+
+-- an event more was made, or there is none
+abbrev pub StepsOnce : Player → Result Bool SimFault → Player → Type 0
+StepsOnce old (Ok true) new = (most : ℕ) → steps_in old (suc most) ≡ suc (steps_in new most)
+StepsOnce old (Ok false) new = (most : ℕ) → steps_in old (suc most) ≡ 0
+StepsOnce old (Err f) new = Unit {0}
 
 abbrev pub kept_of : Player → List ℕ
 kept_of p = kept (job_as p.job) p.world.config (within p.world.config) (state_in p)
@@ -59,10 +88,6 @@ abbrev pub fault_of : WalkFault → SimFault
 fault_of walk_fault.NoMemory = fault.NoMemory
 fault_of walk_fault.Full = fault.Full
 fault_of walk_fault.Mismatch = fault.JournalMismatch
-
--- how many events the calm makes
-abbrev pub calm_length_in : Player → ℕ
-calm_length_in p = calm_length (job_as p.job) p.world.config (within p.world.config) (state_in p)
 
 -- no memory; or a limit forbids that the first master starts
 abbrev pub CannotBegin : Exploring → SimFault → Type 0

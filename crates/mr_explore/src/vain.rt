@@ -1,0 +1,188 @@
+//! Whether a run goes on in vain: all who live wait for their masters, and all that comes is that they ask, and that nothing is answered, or no.
+ghost use Rattle.std.specs.Prelude.{◌≡◌, IfOk, IfErr};
+ghost use Rattle.std.specs.List.{list_all};
+ghost use Rattle.mr_world.specs.Journal.{world_in};
+ghost use Rattle.mr_world.specs.Readings.{living};
+ghost use Rattle.mr_play.specs.Branches.{Forks};
+ghost use Rattle.mr_explore.specs.Vain.{all_wait, ask_behind, asked_last, asks, asks_in, count_of, is_asking, is_waiting, waits};
+ghost use Rattle.mr_explore.specs.inner.Checks.{IsUnchecked};
+ghost use Rattle.mr_explore.specs.inner.Players.{asks_on_in, vain_in};
+
+use mr_commands::SimFault;
+use mr_container::Wish;
+use mr_event::Event;
+use mr_packet::{ContainerId, Envelope, Packet};
+use mr_play::Player;
+use mr_world::{MAX_CONTAINERS, World};
+use std::alloc::Global;
+
+// Two questions and two answers.
+const PACKETS_OF_A_CONTAINER: usize = 4;
+// Two steps, their questions, and the answers.
+const EVENTS_OF_A_CONTAINER: u64 = 6;
+
+/// Whether the run goes on in vain. It fails by an allocation failure, or where no other one can be forked.
+pub fn is_in_vain(alloc: Global, player: &Player) -> Result<bool, SimFault>
+    ensures is { IfOk result (λ vain. vain ≡ vain_in player.now) }
+    ensures fault { IfErr result IsUnchecked }
+{
+    let living = living(&player.world)?;
+    if all_wait(&player.world, &living) {
+        let most = EVENTS_OF_A_CONTAINER * count(&living) as u64;
+        asks_on(alloc, player, most)
+    } else {
+        Ok(false)
+    }
+}
+
+/// The containers that are alive.
+pub fn living(world: &World) -> Result<Vec<ContainerId>, SimFault>
+    ensures is { IfOk result (λ all. all.items ≡ living world.now.config (world_in world.now)) }
+    ensures memory { IfErr result (λ fault. fault ≡ SimFault.NoMemory) }
+{
+    match world.living() {
+        Ok(living) => Ok(living),
+        Err(_) => Err(SimFault::NoMemory),
+    }
+}
+
+// A world has no more than MAX_CONTAINERS.
+fn count(living: &[ContainerId]) -> usize
+    ensures { result ≡ count_of living.now }
+{
+    living.len().min(MAX_CONTAINERS as usize)
+}
+
+// Whether somebody lives, all of them wait, and nothing was sent last but what is asked and answered so.
+fn all_wait(world: &World, living: &[ContainerId]) -> bool
+    ensures { result ≡ all_wait world.now.config (world_in world.now) living.now }
+{
+    let packets = PACKETS_OF_A_CONTAINER * count(living);
+    living.len() > 0 && asked_last(world.bag(), packets) && each_waits(world, living)
+}
+
+fn each_waits(world: &World, living: &[ContainerId]) -> bool
+    ensures { result ≡ list_all (waits world.now.config (world_in world.now)) living.now }
+{
+    living.iter().all(|c| waits(world, c))
+}
+
+// Whether the container asks its master, or reports to it, until it is answered.
+fn waits(world: &World, c: &ContainerId) -> bool
+    ensures { result ≡ waits world.now.config (world_in world.now) c.now }
+{
+    match world.wish(c) {
+        Some(wish) => is_waiting(&wish),
+        None => false,
+    }
+}
+
+fn is_waiting(wish: &Wish) -> bool
+    ensures { result ≡ is_waiting wish.now }
+{
+    matches!(
+        wish,
+        Wish::Where { .. } | Wish::Pending | Wish::Poll | Wish::Report
+    )
+}
+
+// Whether the last `most` packets are questions, or tell that a container may not commit yet.
+fn asked_last(bag: &[Envelope], most: usize) -> bool
+    ensures { result ≡ asked_last most bag.now }
+{
+    if bag.len() < most {
+        return false;
+    }
+    let from = bag.len() - most;
+    all_in(&bag[from..])
+}
+
+fn all_in(packets: &[Envelope]) -> bool
+    ensures { result ≡ list_all asks_in packets.now }
+{
+    packets.iter().all(|envelope| asks_in(envelope))
+}
+
+fn asks_in(envelope: &Envelope) -> bool
+    ensures { result ≡ asks_in envelope.now }
+{
+    is_asking(&envelope.body)
+}
+
+fn is_asking(packet: &Packet) -> bool
+    ensures { result ≡ is_asking packet.now }
+{
+    match packet {
+        Packet::Where { .. } | Packet::Pending { .. } | Packet::Poll { .. } | Packet::Done { .. } =>
+            true,
+        Packet::Answer { yes, .. } => !*yes,
+        _ => false,
+    }
+}
+
+// Whether the next `most` events of the calm only ask.
+fn asks_on(alloc: Global, player: &Player, most: u64) -> Result<bool, SimFault>
+    ensures is { IfOk result (λ on. on ≡ asks_on_in player.now most) }
+    ensures fault { IfErr result IsUnchecked }
+{
+    let mut ahead = forked(alloc, player)?;
+    ahead_asks(alloc, &mut ahead, most)
+}
+
+// A player that is as far.
+fn forked(alloc: Global, player: &Player) -> Result<Player, SimFault>
+    ensures is { IfOk result (Forks player.now) }
+    ensures fault { IfErr result IsUnchecked }
+{
+    match player.fork(alloc) {
+        Ok(ahead) => Ok(ahead),
+        Err(SimFault::NoMemory) => Err(SimFault::NoMemory),
+        Err(_) => Err(SimFault::JournalMismatch),
+    }
+}
+
+// The same. The player makes the events.
+#[tactic(auto, using(crate::proofs::Onwards::asks_ahead, crate::proofs::Onwards::asks_none))]
+fn ahead_asks(alloc: Global, ahead: &mut Player, most: u64) -> Result<bool, SimFault>
+    ensures is { IfOk result (λ on. on ≡ asks_on_in ahead.old most) }
+    ensures fault { IfErr result IsUnchecked }
+{
+    let before = ahead.world.journal().len();
+    let newest = ahead.world.newest();
+    match ahead.calm_for(alloc, newest, None, most) {
+        Ok(()) => Ok(ask_behind(ahead.world.bag(), ahead.world.journal(), before, most)),
+        Err(SimFault::Full) => Ok(false),
+        Err(_) => Err(SimFault::NoMemory),
+    }
+}
+
+// Whether there are `most` events behind the first `before`, and all of them ask.
+fn ask_behind(bag: &[Envelope], events: &[Event], before: usize, most: u64) -> bool
+    ensures { result ≡ ask_behind before most bag.now events.now }
+{
+    if events.len() < before {
+        return false;
+    }
+    let made = &events[before..];
+    made.len() as u64 == most && all_ask(bag, made)
+}
+
+fn all_ask(bag: &[Envelope], events: &[Event]) -> bool
+    ensures { result ≡ list_all (asks bag.now) events.now }
+{
+    events.iter().all(|event| asks(bag, event))
+}
+
+// Whether a container makes a step, or what it asks comes, or that it may not commit yet.
+fn asks(bag: &[Envelope], event: &Event) -> bool
+    ensures { result ≡ asks bag.now event.now }
+{
+    match event {
+        Event::ContainerStep { .. } => true,
+        Event::Deliver { packet } => match bag.get(*packet as usize) {
+            Some(envelope) => asks_in(envelope),
+            None => false,
+        },
+        _ => false,
+    }
+}
