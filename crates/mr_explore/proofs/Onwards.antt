@@ -15,9 +15,6 @@ use Rattle.mr_explore.proofs.Trying.{same_by}
 
 -- ---- one event
 
-counted_in : Player → ℕ → Onward Played → ℕ
-counted_in p most = counted (steps_made (job_as p.job) p.world.config (within p.world.config) most)
-
 pub stepped : (old new : Player) (b : Bool) → GoesAs (onward_in old) old (Ok b) new → StepsOnce old (Ok b) new
 stepped old new true h = λ most. ap (counted (steps_made (job_as old.job) old.world.config (within old.world.config) most)) h.1 ∙ ap suc (sym (same_by (λ job cfg w. steps_made job cfg w most (state_in new)) old new h.0.job h.0.config))
 stepped old new false h = λ most. ap (counted (steps_made (job_as old.job) old.world.config (within old.world.config) most)) h.1
@@ -43,7 +40,7 @@ module _ (old new : Player) (k most : ℕ) (fence : k ≡ (cluster_in old).fence
   newest_calm : (t : Option Played) → calm_of old k None most ≡ t → calm_of old (cluster_in old).fence None most ≡ t
   newest_calm t h = ap (λ (j : ℕ). calm_of old j None most) (sym fence) ∙ h
 
-  asked_of : Option Played → Bool
+  abbrev asked_of : Option Played → Bool
   asked_of = only_asked (job_as old.job) old.world.config (within old.world.config) (length old.world.events) most
 
   -- what the calm made is looked at
@@ -68,7 +65,11 @@ pub record Left (begin now : Player) (most made : ℕ) : Type 0 where
   pub left : steps_in begin most ≡ made + steps_in now (most - made)
 
 pub none_made : (p : Player) (most : ℕ) → Left p p most 0
-none_made p most = let all : most ≡ most - 0 = omega arith in record { few = omega arith; left = ap (steps_in p) all }
+none_made p most =
+    let all : most ≡ most - 0 = omega arith in
+    let rest = steps_in p (most - 0) in
+    let plus : rest ≡ 0 + rest = omega arith in
+    record { few = omega arith; left = ap (steps_in p) all ∙ plus }
 
 module _ (begin now new : Player) (most made : ℕ) (l : Left begin now most made) where
   one_less : made < most → most - made ≡ suc (most - (made + 1))
