@@ -104,8 +104,7 @@ fn go_further(alloc: Global, player: &mut Player) -> Result<bool, WalkFault>
     match going::go_further(alloc, player) {
         Ok(went) => Ok(went),
         Err(SimFault::Full) => Err(WalkFault::Full),
-        Err(SimFault::NoMemory) => Err(WalkFault::NoMemory),
-        Err(_) => Err(WalkFault::Mismatch),
+        Err(_) => Err(WalkFault::NoMemory),
     }
 }
 

@@ -3,9 +3,7 @@ ghost use Rattle.std.specs.Prelude.{◌≡◌, IfOk, IfErr};
 ghost use Rattle.std.specs.List.{list_all};
 ghost use Rattle.mr_world.specs.Journal.{world_in};
 ghost use Rattle.mr_world.specs.Readings.{living};
-ghost use Rattle.mr_play.specs.Branches.{Forks};
 ghost use Rattle.mr_explore.specs.Vain.{all_wait, ask_behind, asked_last, asks, asks_in, count_of, is_asking, is_waiting, waits};
-ghost use Rattle.mr_explore.specs.inner.Checks.{IsUnchecked};
 ghost use Rattle.mr_explore.specs.inner.Players.{asks_on_in, vain_in};
 
 use mr_commands::SimFault;
@@ -21,10 +19,10 @@ const PACKETS_OF_A_CONTAINER: usize = 4;
 // Two steps, their questions, and the answers.
 const EVENTS_OF_A_CONTAINER: u64 = 6;
 
-/// Whether the run goes on in vain. It fails by an allocation failure, or where no other one can be forked.
+/// Whether the run goes on in vain. Its only fault is an allocation failure.
 pub fn is_in_vain(alloc: Global, player: &Player) -> Result<bool, SimFault>
     ensures is { IfOk result (λ vain. vain ≡ vain_in player.now) }
-    ensures fault { IfErr result IsUnchecked }
+    ensures memory { IfErr result (λ fault. fault ≡ SimFault.NoMemory) }
 {
     let living = living(&player.world)?;
     if all_wait(&player.world, &living) {
@@ -123,29 +121,17 @@ fn is_asking(packet: &Packet) -> bool
 // Whether the next `most` events of the calm only ask.
 fn asks_on(alloc: Global, player: &Player, most: u64) -> Result<bool, SimFault>
     ensures is { IfOk result (λ on. on ≡ asks_on_in player.now most) }
-    ensures fault { IfErr result IsUnchecked }
+    ensures memory { IfErr result (λ fault. fault ≡ SimFault.NoMemory) }
 {
-    let mut ahead = forked(alloc, player)?;
+    let mut ahead = player.fork(alloc)?;
     ahead_asks(alloc, &mut ahead, most)
-}
-
-// A player that is as far.
-fn forked(alloc: Global, player: &Player) -> Result<Player, SimFault>
-    ensures is { IfOk result (Forks player.now) }
-    ensures fault { IfErr result IsUnchecked }
-{
-    match player.fork(alloc) {
-        Ok(ahead) => Ok(ahead),
-        Err(SimFault::NoMemory) => Err(SimFault::NoMemory),
-        Err(_) => Err(SimFault::JournalMismatch),
-    }
 }
 
 // The same. The player makes the events.
 #[tactic(auto, using(crate::proofs::Onwards::asks_ahead, crate::proofs::Onwards::asks_none))]
 fn ahead_asks(alloc: Global, ahead: &mut Player, most: u64) -> Result<bool, SimFault>
     ensures is { IfOk result (λ on. on ≡ asks_on_in ahead.old most) }
-    ensures fault { IfErr result IsUnchecked }
+    ensures memory { IfErr result (λ fault. fault ≡ SimFault.NoMemory) }
 {
     let before = ahead.world.journal().len();
     let newest = ahead.world.newest();

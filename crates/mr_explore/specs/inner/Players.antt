@@ -59,7 +59,6 @@ GoesAs said old (Ok true) new = SameJob old new × (said ≡ Goes (state_in new)
 GoesAs said old (Ok false) new = SameJob old new × (said ≡ Ends (state_in new))
 GoesAs said old (Err fault.Full) new = said ≡ Full
 GoesAs said old (Err fault.NoMemory) new = Unit {0}
-GoesAs said old (Err fault.JournalMismatch) new = Unit {0}
 GoesAs said old (Err _) new = ⊥
 
 -- an event more was made, or there is none
