@@ -3,7 +3,7 @@ use std::alloc::{AllocError, Global};
 use std::sync::Condvar;
 use std::{array, mem};
 
-// So many bells. Seats whose numbers are equal modulo this share one.
+// How many bells there are. Seats whose numbers are equal modulo this share one.
 const BELLS: usize = 8;
 
 /// Whom what happened may give something to do, beside the thread that made it.
