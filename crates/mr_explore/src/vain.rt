@@ -142,7 +142,6 @@ fn forked(alloc: Global, player: &Player) -> Result<Player, SimFault>
 }
 
 // The same. The player makes the events.
-#[tactic(auto, using(crate::proofs::Onwards::asks_ahead, crate::proofs::Onwards::asks_none))]
 fn ahead_asks(alloc: Global, ahead: &mut Player, most: u64) -> Result<bool, SimFault>
     ensures is { IfOk result (λ on. on ≡ asks_on_in ahead.old most) }
     ensures fault { IfErr result IsUnchecked }
