@@ -1,16 +1,14 @@
 -- How a run goes on by itself.
-use Rattle.std.proofs.Common.{◌≡◌, ◌+◌, ◌-◌, ◌<◌, ◌≤◌, ℕ, suc, length, Bool, true, false, Option, Some, None, Ok, refl, sym, ap, ◌∙◌, arith}
-use Rattle.mr_walk.specs.Steps.{Onward, Goes, Ends, Full, GoesOn}
+use Rattle.std.proofs.Common.{◌≡◌, ◌+◌, ◌-◌, ◌<◌, ◌≤◌, ℕ, suc, Bool, true, false, Ok, refl, sym, ap, ◌∙◌, arith}
+use Rattle.mr_walk.specs.Steps.{Goes, Ends, Full, GoesOn}
 use Rattle.mr_world.specs.Limits.{within}
 use Rattle.mr_world.specs.declared.limits.TheConstants.{MAX_EVENTS}
 use Rattle.mr_play.specs.declared.player.Player.{Player}
 use Rattle.mr_play.specs.Text.{job_as}
-use Rattle.mr_play.specs.Played.{Played, world}
-use Rattle.mr_play.specs.Players.{Reaches, SameJob, calm_of, cluster_in, state_in}
-use Rattle.mr_explore.specs.Faults.{counted, most_events, only_asked, steps_made}
+use Rattle.mr_play.specs.Players.{SameJob, state_in}
+use Rattle.mr_explore.specs.Faults.{counted, most_events, steps_made}
 use Rattle.mr_explore.specs.Runs.{Exploring, explored, onward_with, with}
-use Rattle.mr_explore.specs.Vain.{ask_behind}
-use Rattle.mr_explore.specs.inner.Players.{GoesAs, StepsOnce, asks_on_in, onward_in, steps_in, view_of}
+use Rattle.mr_explore.specs.inner.Players.{GoesAs, StepsOnce, onward_in, steps_in, view_of}
 use Rattle.mr_explore.proofs.Trying.{same_by}
 
 -- ---- one event
@@ -33,25 +31,6 @@ viewed old new false h = ap (onward_with (view_of old)) h.1 ∙ ap (λ (e : Expl
 
 pub viewed_full : (old : Player) → onward_in old ≡ Full → explored.onward (view_of old) ≡ Full
 viewed_full old h = ap (onward_with (view_of old)) h
-
--- ---- how far is looked
-
-module _ (old new : Player) (k most : ℕ) (fence : k ≡ (cluster_in old).fence) where
-  newest_calm : (t : Option Played) → calm_of old k None most ≡ t → calm_of old (cluster_in old).fence None most ≡ t
-  newest_calm t h = ap (λ (j : ℕ). calm_of old j None most) (sym fence) ∙ h
-
-  abbrev asked_of : Option Played → Bool
-  asked_of = only_asked (job_as old.job) old.world.config (within old.world.config) (length old.world.events) most
-
-  -- what the calm made is looked at
-  pub asks_ahead : Reaches old (calm_of old k None most) new → ask_behind (length old.world.events) most (cluster_in new).bag new.world.events ≡ asks_on_in old most
-  asks_ahead h =
-      same_by (λ job cfg w. ask_behind (length old.world.events) most (world job cfg w (state_in new)).bag new.world.events) old new h.same.job h.same.config
-      ∙ sym (ap asked_of (newest_calm (Some (state_in new)) h.state))
-
-  -- it would pass a limit
-  pub asks_none : calm_of old k None most ≡ None → false ≡ asks_on_in old most
-  asks_none h = sym (ap asked_of (newest_calm None h))
 
 -- ---- all events
 

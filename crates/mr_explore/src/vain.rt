@@ -128,7 +128,6 @@ fn asks_on(alloc: Global, player: &Player, most: u64) -> Result<bool, SimFault>
 }
 
 // The same. The player makes the events.
-#[tactic(auto, using(crate::proofs::Onwards::asks_ahead, crate::proofs::Onwards::asks_none))]
 fn ahead_asks(alloc: Global, ahead: &mut Player, most: u64) -> Result<bool, SimFault>
     ensures is { IfOk result (λ on. on ≡ asks_on_in ahead.old most) }
     ensures memory { IfErr result (λ fault. fault ≡ SimFault.NoMemory) }
