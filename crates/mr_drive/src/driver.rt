@@ -1,7 +1,7 @@
 //! The threads: one a node, one a master that the plan can start, one for starts and faults. All that waits is here.
 ghost use Rattle.std.specs.Prelude.{IfOk};
 ghost use Rattle.mr_user.specs.Computation.{computation};
-ghost use Rattle.mr_drive.specs.Reports.{IsReported};
+ghost use Rattle.mr_report.specs.Reports.{IsReported};
 
 use crate::actor::{Actor, Role};
 use crate::calls::Bells;
@@ -9,9 +9,9 @@ use crate::fault::DriveFault;
 use crate::fault_turns::Coming;
 use crate::floor::Floor;
 use crate::plan::Plan;
-use crate::report::{Report, reported};
 use crate::turn::Next;
 use mr_board::{Board, Seat};
+use mr_report::{Report, reported};
 use mr_user::{Gate, Job};
 use mr_world::World;
 use std::alloc::Global;
@@ -55,7 +55,7 @@ where
         return Err(fault);
     }
     match board.close(back) {
-        Ok(world) => reported::<J>(plan, world),
+        Ok(world) => reported::<J>(&plan.config, world),
         Err(_) => Err(DriveFault::JournalMismatch),
     }
 }

@@ -28,11 +28,9 @@ mod master_turns;
 mod node_turns;
 mod pair_gate;
 mod plan;
-mod report;
 mod turn;
 
 pub use driver::drive;
-pub use fault::DriveFault;
+pub use mr_report::{DriveFault, Report};
 pub use pair_gate::PairGate;
 pub use plan::Plan;
-pub use report::Report;

@@ -9,7 +9,7 @@ use Rattle.mr_model.specs.Results.{outcome, visible}
 use Rattle.mr_sequential.specs.Shown.{named, ShowsSequential}
 use Rattle.mr_world.specs.Journal.{Journal, world_in}
 use Rattle.mr_world.specs.VisibleFiles.{as_pair}
-use Rattle.mr_drive.specs.declared.report.Report.{Report}
+use Rattle.mr_report.specs.declared.report.Report.{Report}
 use Rattle.mr_commands.specs.declared.job.submission.JobKind.{JobKind}
 use Rattle.mr_commands.specs.declared.job.submission.JobKind.TheVariants.{WordCount, MaxByKey, LineIndex}
 use Rattle.mr_commands.specs.declared.job.submission.Submission.{Submission}

@@ -8,8 +8,8 @@ use Rattle.mr_sequential.specs.Shown.{MarkedWorldsShowSequential}
 use Rattle.mr_world.specs.Limits.{within}
 use Rattle.mr_world.specs.Ranges.{IsInRange}
 use Rattle.mr_world.proofs.Headlines.{outputs-are-bounded}
-use Rattle.mr_drive.specs.Reports.{IsReported}
-use Rattle.mr_drive.specs.declared.report.Report.{Report}
+use Rattle.mr_report.specs.Reports.{IsReported}
+use Rattle.mr_report.specs.declared.report.Report.{Report}
 use Rattle.mr_commands.specs.declared.job.submission.Submission.{Submission}
 use Rattle.mr_commands.specs.job.Text.{submission_of}
 use Rattle.mr_play.specs.Text.{job_as, config_of}

@@ -8,8 +8,8 @@ use Rattle.mr_sequential.specs.Shown.{ShowsSequential}
 use Rattle.mr_world.specs.Journal.{Journal, world_in}
 use Rattle.mr_world.specs.Limits.{within}
 use Rattle.mr_world.specs.VisibleFiles.{as_pair}
-use Rattle.mr_drive.specs.Reports.{IsThrough}
-use Rattle.mr_drive.specs.declared.report.Report.{Report}
+use Rattle.mr_report.specs.Reports.{IsThrough}
+use Rattle.mr_report.specs.declared.report.Report.{Report}
 use Rattle.mr_commands.specs.declared.job.submission.Submission.{Submission}
 use Rattle.mr_commands.specs.job.Text.{submission_of}
 use Rattle.mr_play.specs.Text.{job_as, config_of}

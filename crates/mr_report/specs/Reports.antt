@@ -1,5 +1,5 @@
 -- What a report of a driven job says (our own profile). The files are those of the sequential execution (Dean and Ghemawat 3.3).
-use Rattle.std.specs.Prelude.{◌≡◌, Bool, true, List, map, Some, None}
+use Rattle.std.specs.Prelude.{◌≡◌, ◌×◌, ⊥, Bool, true, List, map, Some, None}
 use Rattle.mr_user.specs.Computation.{Computation}
 use Rattle.mr_master_model.specs.declared.phase.Phase.TheVariants.{Stopped}
 use Rattle.mr_model.specs.Packets.{Config}
@@ -11,6 +11,8 @@ use Rattle.mr_world.specs.Readings.{phase_in}
 use Rattle.mr_world.specs.VisibleFiles.{as_pair}
 use Rattle.mr_world.specs.declared.results.VisibleFile.{VisibleFile}
 use Rattle.mr_board.specs.Boards.{IsFaithfulFor}
+use Rattle.mr_report.specs.declared.fault.DriveFault.{DriveFault}
+use Rattle.mr_report.specs.declared.fault.DriveFault.TheVariants.{JournalMismatch, TurnsSpent, NoMemory}
 
 -- an outcome was told, or the newest master is Stopped
 abbrev pub IsThrough : Journal → Type 0
@@ -29,3 +31,10 @@ pub record IsReported {K V : Type 0} (job : Computation K V) (config : Config) (
   pub tells : outcome (world_in j) ≡ Some true → succeeded ≡ true
   -- and then a reader sees the files of the sequential execution, and nothing else
   pub sequential : succeeded ≡ true → ShowsSequential (job_of job) j.config (world_in j)
+
+-- why there is no report of this world, for a plan of this config: another config, an end that was not reached, or no memory
+abbrev pub IsUnreported : Config → Journal → DriveFault → Type 0
+IsUnreported config j JournalMismatch = j.config ≡ config → ⊥
+IsUnreported config j TurnsSpent = (j.config ≡ config) × (IsThrough j → ⊥)
+IsUnreported config j NoMemory = (j.config ≡ config) × IsThrough j
+IsUnreported config j _ = ⊥

@@ -20,7 +20,7 @@ use Rattle.mr_world.specs.VisibleFiles.{as_pair}
 use Rattle.mr_world.specs.declared.results.VisibleFile.{VisibleFile}
 use Rattle.mr_world.proofs.Headlines.{outputs-are-bounded}
 use Rattle.mr_board.specs.Boards.{IsFaithfulFor}
-use Rattle.mr_drive.specs.Reports.{IsReported, IsThrough}
+use Rattle.mr_report.specs.Reports.{IsReported, IsThrough}
 
 numbers-decide : (a b : ℕ) → Decides (nat_eq a b) (a ≡ b)
 numbers-decide = search (rules)

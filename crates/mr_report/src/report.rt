@@ -1,17 +1,16 @@
 //! What a run that came to its end is told as.
-ghost use Rattle.std.specs.Prelude.{◌≡◌, ◌↔◌, Some, true, IfOk, IsTrue};
+ghost use Rattle.std.specs.Prelude.{◌≡◌, ◌×◌, ◌↔◌, Some, true, IfOk, IfErr, IsTrue};
 ghost use Rattle.mr_user.specs.Computation.{computation};
 ghost use Rattle.mr_model.specs.Results.{outcome};
 ghost use Rattle.mr_world.specs.Journal.{world_in};
 ghost use Rattle.mr_board.specs.Boards.{IsFaithfulFor};
-ghost use Rattle.mr_drive.specs.Reports.{IsReported, IsThrough};
+ghost use Rattle.mr_report.specs.Reports.{IsReported, IsThrough, IsUnreported};
 
 use crate::fault::DriveFault;
-use crate::plan::Plan;
 use mr_master_model::Phase;
 use mr_sequential::{jobs_have_their_laws, marked_worlds_show_sequential_files};
 use mr_user::Job;
-use mr_world::{VisibleFile, World};
+use mr_world::{Config, VisibleFile, World};
 
 /// What came of a run.
 #[derive(Drop)]
@@ -24,15 +23,19 @@ pub struct Report {
     pub world: World,
 }
 
-/// The report of a closed world. It is tested here that the world is of the plan's config, and through.
-pub(crate) fn reported<J: Job>(plan: &Plan, world: World) -> Result<Report, DriveFault>
+/// The report of a closed board's world, for a plan of this config.
+///
+/// Refusals in order: `JournalMismatch` where the world is of another config, `TurnsSpent` where no outcome was told and
+/// the newest master is not Stopped, and `NoMemory`.
+pub fn reported<J: Job>(config: &Config, world: World) -> Result<Report, DriveFault>
     requires faithful { IsFaithfulFor (computation J.Key.cmp J.Key.codec J.Value.codec J.functions) world }
-    ensures { IfOk result (λ r. IsReported (computation J.Key.cmp J.Key.codec J.Value.codec J.functions) plan.now.config r.succeeded r.files.items r.world) }
+    ensures report { IfOk result (λ r. (r.world ≡ world) × IsReported (computation J.Key.cmp J.Key.codec J.Value.codec J.functions) config.now r.succeeded r.files.items r.world) }
+    ensures none { IfErr result (IsUnreported config.now world) }
 {
     jobs_have_their_laws::<J>();
     marked_worlds_show_sequential_files();
     world.config().ranges();
-    if !is_of(&world, plan) {
+    if !is_of(&world, config) {
         return Err(DriveFault::JournalMismatch);
     }
     if !is_through(&world) {
@@ -49,12 +52,12 @@ pub(crate) fn reported<J: Job>(plan: &Plan, world: World) -> Result<Report, Driv
     })
 }
 
-// Whether a world is of a plan's config.
+// Whether a world is of a config.
 #[tactic(auto, using(crate::proofs::Success::same_config))]
-fn is_of(world: &World, plan: &Plan) -> bool
-    ensures { IsTrue result ↔ (world.now.config ≡ plan.now.config) }
+fn is_of(world: &World, config: &Config) -> bool
+    ensures { IsTrue result ↔ (world.now.config ≡ config.now) }
 {
-    *world.config() == plan.config
+    *world.config() == *config
 }
 
 // Whether success was told.

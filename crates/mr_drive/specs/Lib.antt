@@ -1,2 +1,0 @@
--- What a report of threads promises: all of it in Reports.
-pub mod Reports

@@ -1,0 +1,2 @@
+-- What a report of a driven job promises: all of it in Reports.
+pub mod Reports
