@@ -15,7 +15,7 @@ use Rattle.mr_master_model.specs.declared.setting.Setting.{Setting}
 use Rattle.mr_master_model.specs.Readings.{Seen, of_task, launch_of, tell, with_due}
 use Rattle.mr_master_model.specs.Sends.{ack_to, answer_to, pending_answer}
 use Rattle.mr_master_model.specs.Hearing.{after_ask, after_done, success_of}
-use Rattle.mr_master.proofs.Keeping.{told-it}
+use Rattle.mr_tasks.proofs.Keeping.{told-it}
 
 abbrev pub reply_to : Seen → Setting → Attempt → DoneReply
 reply_to s w a = reply_or (done_answer a a.task w.app (s.calls a.task)) reply.Ignored

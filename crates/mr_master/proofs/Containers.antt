@@ -10,9 +10,9 @@ use Rattle.mr_master_model.specs.declared.launch.Launch.{Launch}
 use Rattle.mr_master_model.specs.declared.setting.Setting.{Setting}
 use Rattle.mr_master_model.specs.Job.{is_task}
 use Rattle.mr_master_model.specs.Readings.{Seen, of_task, is_known, if_known, launched_in}
-use Rattle.mr_master.specs.Places.{place_of}
+use Rattle.mr_tasks.specs.Places.{place_of}
 use Rattle.mr_master.specs.State.{Master, Keeps}
-use Rattle.mr_master.proofs.Keeping.{some-is}
+use Rattle.mr_tasks.proofs.Keeping.{some-is}
 
 -- ---- the place of a known attempt
 

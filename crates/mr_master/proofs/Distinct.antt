@@ -18,7 +18,7 @@ use Rattle.mr_master_model.specs.Hearing.{given_up, new_bars}
 use Rattle.mr_tables.specs.declared.gone.Gone.TheVariants.{GivenUp}
 use Rattle.mr_tables.specs.Gone.{gone_of}
 use Rattle.mr_tables.specs.Bars.{all_added}
-use Rattle.mr_master.proofs.Telling.{Own}
+use Rattle.mr_tasks.proofs.Telling.{Own}
 use Rattle.mr_master.proofs.Losing.{among-passing, gone-own}
 
 or-second : (b c : Bool) → c ≡ true → (b || c) ≡ true

@@ -24,15 +24,16 @@ use Rattle.mr_master_model.specs.Job.{is_task, all_tasks}
 use Rattle.mr_master_model.specs.Readings.{Seen, of_task, is_live, is_running, tell}
 use Rattle.mr_master_model.specs.Hearing.{is_spent, after_failure}
 use Rattle.mr_master_model.specs.Sends.{kill_at, kill_of, kill_all}
-use Rattle.mr_master.specs.declared.ending.Ending.{Ending}
-use Rattle.mr_master.specs.declared.ending.Ending.TheVariants.{Failure, Exit}
-use Rattle.mr_master.specs.declared.ending.Blame.{Blame}
-use Rattle.mr_master.specs.declared.ending.Blame.TheVariants as blame
+use Rattle.mr_tasks.specs.declared.ending.Ending.{Ending}
+use Rattle.mr_tasks.specs.declared.ending.Ending.TheVariants.{Failure, Exit}
+use Rattle.mr_master.specs.declared.blame.Blame.{Blame}
+use Rattle.mr_master.specs.declared.blame.Blame.TheVariants as blame
 use Rattle.mr_master.specs.Told.{blamed}
-use Rattle.mr_master.specs.inner.Ends.{call_of, is_failure, is_last_of, fails_job, ended, end_sends, kills_but, kills_by, blame_of}
-use Rattle.mr_master.proofs.Keeping.{told-it, told-elsewhere}
+use Rattle.mr_tasks.specs.Told.{call_of, is_failure}
+use Rattle.mr_master.specs.inner.Ends.{is_last_of, fails_job, ended, end_sends, kills_but, kills_by, blame_of}
+use Rattle.mr_tasks.proofs.Keeping.{told-it, told-elsewhere}
 use Rattle.mr_master.proofs.Gathering.{passing}
-use Rattle.mr_master.proofs.Telling.{filter-by}
+use Rattle.mr_tasks.proofs.Telling.{filter-by}
 
 -- ---- two tests
 

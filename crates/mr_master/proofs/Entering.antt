@@ -24,8 +24,8 @@ use Rattle.mr_master_model.specs.Sends.{launch_sends}
 use Rattle.mr_master_model.specs.Past.{Launches}
 use Rattle.mr_master_model.specs.Next.{moved, sent_by, seen}
 use Rattle.mr_master_model.proofs.Launching.{may-launch, launches_are_fresh}
-use Rattle.mr_master.specs.Places.{place_of}
-use Rattle.mr_master.specs.Tasks.{Tasks, AnswersAt, Takes, told}
+use Rattle.mr_tasks.specs.Places.{place_of}
+use Rattle.mr_tasks.specs.Tasks.{Tasks, AnswersAt, Takes, told}
 use Rattle.mr_tables.specs.Launches.{Launched, KeepsLaunches}
 use Rattle.mr_tables.specs.Records.{Writing}
 use Rattle.mr_master.specs.declared.change.Change.TheVariants as change
@@ -33,9 +33,9 @@ use Rattle.mr_master.specs.inner.Launching.{IsFree, LaunchesNext}
 use Rattle.mr_master.specs.Prepared.{Prepared, LaunchesAt, PlansFor}
 use Rattle.mr_master.specs.State.{Master, Keeps, Reads, StandsForSome}
 use Rattle.mr_master.proofs.Made.{plan-as}
-use Rattle.mr_master.proofs.Keeping.{read-at}
-use Rattle.mr_master.proofs.Opening.{front, seam}
-use Rattle.mr_master.proofs.Refusals.{is-free}
+use Rattle.mr_tasks.proofs.Keeping.{read-at}
+use Rattle.mr_tasks.proofs.Opening.{front, seam}
+use Rattle.mr_tasks.proofs.Refusals.{is-free}
 
 none-is : {A : Type 0} (o : Option A) → o ≡ None → is_none o ≡ true
 none-is o e = ap (λ x. is_none x) e

@@ -10,8 +10,8 @@ use Rattle.mr_master_model.specs.declared.setting.Setting.{Setting}
 use Rattle.mr_master_model.specs.Job.{is_task}
 use Rattle.mr_master_model.specs.Readings.{Seen, tell}
 use Rattle.mr_master_model.specs.Answered.{recorded, tell_recorded, success_in, moved_first}
-use Rattle.mr_master.specs.Tasks.{Tasks, Takes}
-use Rattle.mr_master.specs.Places.{place_of}
+use Rattle.mr_tasks.specs.Tasks.{Tasks, Takes}
+use Rattle.mr_tasks.specs.Places.{place_of}
 use Rattle.mr_master.specs.State.{Master, Keeps}
 use Rattle.mr_master.proofs.Keeping.{tell-keeps}
 

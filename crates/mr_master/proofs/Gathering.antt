@@ -1,24 +1,18 @@
 -- A list that a loop gathers, item by item.
-use Rattle.std.proofs.Common.{ℕ, ◌+◌, ◌<◌, ◌≤◌, length, take, add-one, append-nil, append_assoc, ◌≡◌, refl, sym, ap, ◌∙◌, Bool, true, false, List, [], ◌∷◌, ◌++◌, filter, cond, Some, None, slice_get, subst}
+use Rattle.std.proofs.Common.{ℕ, ◌+◌, ◌<◌, ◌≤◌, length, take, add-one, append-nil, append_assoc, ◌≡◌, refl, sym, ap, ◌∙◌, Bool, true, false, List, [], ◌∷◌, ◌++◌, filter, cond}
 use Rattle.std.specs.List.{flat_map}
 use Rattle.std.proofs.lemmas.Grind.{flat_map-append}
 use Rattle.std.proofs.lemmas.List.{take_all}
 use Rattle.mr_ids.specs.Attempt.{Attempt}
 use Rattle.mr_ids.specs.declared.id.TaskId.{TaskId}
 use Rattle.mr_ids.specs.declared.id.TaskKind.{TaskKind}
-use Rattle.mr_task.specs.Calls.{TaskCall}
-use Rattle.mr_task.specs.Steps.{Task}
-use Rattle.mr_task.specs.State as state
 use Rattle.mr_task.specs.Readings as task
 use Rattle.mr_master_model.specs.declared.setting.Setting.{Setting}
 use Rattle.mr_master_model.specs.Job.{is_task, task_of, count_of, first_tasks}
 use Rattle.mr_master_model.specs.Readings.{Seen, launch_of, of_task}
 use Rattle.mr_tables.specs.declared.gone.Gone.{Gone}
 use Rattle.mr_tables.specs.Gone.{is_gone, gone_of, if_gone, of_job}
-use Rattle.mr_master.specs.Places.{place_of}
-use Rattle.mr_master.specs.Tasks.{Tasks, KeepsTasks}
-use Rattle.mr_master.proofs.Keeping.{some-is, machine-of}
-use Rattle.mr_master.proofs.Telling.{task-of-is}
+use Rattle.mr_tasks.proofs.Telling.{task-of-is}
 
 -- what is done for those that pass a test
 pub passing : {X Y : Type 0} (p : X → Bool) (f : X → List Y) (xs : List X) → flat_map (λ x. cond (p x) (f x) []) xs ≡ flat_map f (filter p xs)
@@ -68,14 +62,3 @@ next-task {Y} w kind f n old mid new within before now =
 pub no-task : {Y : Type 0} (w : Setting) (kind : TaskKind) (f : TaskId → List Y) (old : List Y) → old ≡ old ++ flat_map f (first_tasks w kind 0)
 unfolding first_tasks
 no-task w kind f old = sym (append-nil old)
-
--- the machine that was found at a task's place
-pub found-at : (m : Tasks) (w : Setting) (calls : TaskId → List TaskCall) (t : TaskId) (i : ℕ) (y : Task) → KeepsTasks m w calls → is_task w t ≡ true → i ≡ place_of w t → Some y ≡ slice_get m.machines i → state.StandsFor y t w.app (calls t)
-found-at m w calls t i y k e at is =
-    let x = machine-of m w calls t k e in
-    let same : y ≡ x.0 = some-is (is ∙ ap (λ j. slice_get m.machines j) at ∙ x.1) in
-    subst (λ (z : Task). state.StandsFor z t w.app (calls t)) (sym same) x.2
-
--- each task of the job has one
-pub never-none : (m : Tasks) (w : Setting) (calls : TaskId → List TaskCall) (t : TaskId) (i : ℕ) → KeepsTasks m w calls → is_task w t ≡ true → i ≡ place_of w t → None ≡ slice_get m.machines i → ⊥
-never-none m w calls t i k e at is = let x = machine-of m w calls t k e in let bad : None ≡ Some x.0 = is ∙ ap (λ j. slice_get m.machines j) at ∙ x.1 in cc

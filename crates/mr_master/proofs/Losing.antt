@@ -18,9 +18,9 @@ use Rattle.mr_master_model.specs.Hearing.{of_maps, dead_below, lost_below, after
 use Rattle.mr_tables.specs.declared.gone.Gone.{Gone}
 use Rattle.mr_tables.specs.declared.gone.Gone.TheVariants.{Restarted, GivenUp}
 use Rattle.mr_tables.specs.Gone.{gone_of, lost_of, is_lost}
-use Rattle.mr_master.specs.Told.{told_all}
+use Rattle.mr_tasks.specs.Told.{told_all}
 use Rattle.mr_master.specs.inner.Leaving.{without}
-use Rattle.mr_master.proofs.Telling.{Own, told-all-is}
+use Rattle.mr_tasks.proofs.Telling.{Own, told-all-is}
 
 -- ---- each is of its task
 

@@ -18,7 +18,7 @@ use Rattle.mr_tables.specs.Launches.{Launched}
 use Rattle.mr_tables.specs.Records.{Writing}
 use Rattle.mr_master.specs.declared.change.Change.{Change}
 use Rattle.mr_master.specs.declared.change.Change.TheVariants as change
-use Rattle.mr_master.specs.Answering.{answered_sends, answered_seen}
+use Rattle.mr_phase.specs.Answering.{answered_sends, answered_seen}
 use Rattle.mr_master.specs.Prepared.{Prepared, changed_by, IsAt, IsSound, HasRoom, Plans, PlansFor, IsReadyFor, PlansDue}
 use Rattle.mr_master.specs.State.{Master, Keeps, Reads, MovesOn, Stands, Unchanged}
 use Rattle.mr_master.proofs.Standing.{keeps-back}

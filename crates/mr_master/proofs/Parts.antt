@@ -8,7 +8,7 @@ use Rattle.mr_master_model.specs.declared.launch.Launch.{Launch}
 use Rattle.mr_master_model.specs.declared.setting.Setting.{Setting}
 use Rattle.mr_master_model.specs.Past.{Work}
 use Rattle.mr_master_model.specs.Readings.{Seen}
-use Rattle.mr_master.specs.Tasks.{Tasks, KeepsTasks}
+use Rattle.mr_tasks.specs.Tasks.{Tasks, KeepsTasks}
 use Rattle.mr_tables.specs.Bars.{Bars}
 use Rattle.mr_tables.specs.Launches.{Launched, KeepsLaunches}
 use Rattle.mr_tables.specs.Nodes.{KeepsNodes}

@@ -36,7 +36,7 @@ use Rattle.mr_master_model.specs.Next.{moved, next_seen, seen}
 use Rattle.mr_master_model.proofs.Growing.{Grew, step-grows}
 use Rattle.mr_master.specs.State.{Master, Keeps, StandsFor, StandsForSome, Stands, Unchanged}
 use Rattle.mr_master.specs.inner.Passing.{is_out_of, is_out, ArePast, HasPassed, NoneLive, Passes, IsPastAt}
-use Rattle.mr_master.proofs.Keeping.{some-is, machine-of}
+use Rattle.mr_tasks.proofs.Keeping.{some-is, machine-of}
 use Rattle.mr_master.proofs.Standing.{unchanged-keeps}
 
 -- ---- what is heard leaves the bars, and the work too where the job does not fail: so what holds of both still holds

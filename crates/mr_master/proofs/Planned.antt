@@ -22,14 +22,15 @@ use Rattle.mr_master_model.specs.Job.{task_of}
 use Rattle.mr_master_model.specs.Readings.{Seen, is_running, is_over, launch_of, launched_in, succeeded, tell, with_due}
 use Rattle.mr_master_model.specs.Hearing.{heard, after_node_up, after_failed, after_ended, with_known, after_restart, after_ask, after_done, after_where, after_fetch_lost, success_of}
 use Rattle.mr_master_model.specs.Sends.{replies, kill_all, pending_answer, ack_to, ready_to, ready_by}
-use Rattle.mr_master.specs.declared.ending.Ending.{Ending}
-use Rattle.mr_master.specs.declared.ending.Ending.TheVariants.{Failure, Exit}
-use Rattle.mr_master.specs.declared.ending.Blame.{Blame}
-use Rattle.mr_master.specs.Told.{blamed, call_of}
+use Rattle.mr_tasks.specs.declared.ending.Ending.{Ending}
+use Rattle.mr_tasks.specs.declared.ending.Ending.TheVariants.{Failure, Exit}
+use Rattle.mr_master.specs.declared.blame.Blame.{Blame}
+use Rattle.mr_master.specs.Told.{blamed}
+use Rattle.mr_tasks.specs.Told.{call_of}
 use Rattle.mr_master.specs.inner.Ends.{blame_of, ended, end_sends, kills_by, kills_if_over}
-use Rattle.mr_master.specs.Places.{place_of}
-use Rattle.mr_master.specs.Tasks.{AnswersAt, IsReplyAt}
-use Rattle.mr_master.specs.Taking.{IsTold}
+use Rattle.mr_tasks.specs.Places.{place_of}
+use Rattle.mr_tasks.specs.Tasks.{AnswersAt, IsReplyAt}
+use Rattle.mr_tasks.specs.Tasks.{IsTold}
 use Rattle.mr_master.specs.declared.change.Change.TheVariants as change
 use Rattle.mr_master.specs.Prepared.{Prepared, IsAt, Plans, PlansFor}
 use Rattle.mr_master.specs.State.{Master, Keeps, Reads}
@@ -40,7 +41,8 @@ use Rattle.mr_master.proofs.Made.{plan-as, plans-as}
 use Rattle.mr_master.proofs.Delivering.{delivered-is, node-up-is}
 use Rattle.mr_master.proofs.Containers.{with-place, launched-is}
 use Rattle.mr_master.proofs.Ends.{blamed-is, kills-by-is}
-use Rattle.mr_master.proofs.Keeping.{known-is, read-at}
+use Rattle.mr_master.proofs.Keeping.{known-is}
+use Rattle.mr_tasks.proofs.Keeping.{read-at}
 
 -- ---- of what is not known nothing is heard
 

@@ -14,8 +14,8 @@ use Rattle.mr_master.specs.declared.change.Change.{Change}
 use Rattle.mr_master.specs.declared.change.Change.TheVariants as change
 use Rattle.mr_master.specs.declared.change.Room.{Room}
 use Rattle.mr_master.specs.declared.change.Room.TheVariants as room
-use Rattle.mr_master.specs.declared.ending.Ending.{Ending}
-use Rattle.mr_master.specs.declared.ending.Blame.{Blame}
+use Rattle.mr_tasks.specs.declared.ending.Ending.{Ending}
+use Rattle.mr_master.specs.declared.blame.Blame.{Blame}
 use Rattle.mr_master.specs.Prepared.{room_of, HasRoomFor, HasRoom, HasLaunchRoom, IsForBars, IsExpiry}
 use Rattle.mr_master.specs.State.{Master, Unchanged}
 

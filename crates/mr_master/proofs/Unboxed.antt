@@ -2,7 +2,7 @@
 use Rattle.std.proofs.Common.{ℕ, ◌≡◌, sym, subst, List}
 use Rattle.mr_task.specs.Calls.{TaskCall}
 use Rattle.mr_task.specs.Steps.{Task}
-use Rattle.mr_master.specs.Taking.{IsTold}
+use Rattle.mr_tasks.specs.Tasks.{IsTold}
 
 -- it is that of the task once it is told this
 pub same-told : {old : List Task} {i : ℕ} {call : TaskCall} {x y : Task} → y ≡ x → IsTold old i call x → IsTold old i call y

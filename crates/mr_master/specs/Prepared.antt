@@ -21,14 +21,16 @@ use Rattle.mr_master.specs.declared.change.Room.{Room}
 use Rattle.mr_master.specs.declared.change.Room.TheVariants as room
 use Rattle.mr_tables.specs.Bars.{all_added}
 use Rattle.mr_tables.specs.Nodes.{KeepsNodes}
-use Rattle.mr_master.specs.Places.{place_of}
-use Rattle.mr_master.specs.Taking.{winner_of, after_winner, after_table, EntersAt, KeepsAfter, IsTold}
-use Rattle.mr_master.specs.Tasks.{IsReplyAt}
-use Rattle.mr_master.specs.WorkKinds.{left_of, with_left, others_of, with_others}
+use Rattle.mr_tasks.specs.Places.{place_of}
+use Rattle.mr_phase.specs.Taking.{winner_of, after_winner, after_table}
+use Rattle.mr_master.specs.Taking.{EntersAt, KeepsAfter}
+use Rattle.mr_tasks.specs.Tasks.{IsTold, IsReplyAt}
+use Rattle.mr_phase.specs.WorkKinds.{left_of, with_left, others_of, with_others}
 use Rattle.mr_commit.specs.Halves.{Fits}
-use Rattle.mr_master.specs.Told.{with_deaths, with_losses, with_record, due_count, call_of, blamed, blame_count}
+use Rattle.mr_master.specs.Told.{with_deaths, with_losses, with_record, due_count, blamed, blame_count}
+use Rattle.mr_tasks.specs.Told.{call_of}
 use Rattle.mr_master.specs.State.{Master, Keeps, Reads}
-use Rattle.mr_master.specs.Answering.{answered_sends, answered_seen}
+use Rattle.mr_phase.specs.Answering.{answered_sends, answered_seen}
 
 pub record Prepared : Type 0 where
   pub packets : List Envelope

@@ -8,9 +8,9 @@ ghost use Rattle.mr_master.specs.inner.Passing.{is_out_of, is_out, NoneLive, Pas
 ghost use Rattle.mr_master.specs.State.{Reads};
 
 use crate::machine::Machine;
-use crate::places::place_of;
 use mr_ids::AttemptId;
 use mr_task::TaskMachine;
+use mr_tasks::place_of;
 
 impl Machine {
     // Of the attempts whose bar is due, the first that is live. None of the first `passed` ones is live.

@@ -3,16 +3,16 @@ ghost use Rattle.std.specs.Prelude.{◌≡◌};
 ghost use Rattle.mr_master.specs.Prepared.{room_of};
 ghost use Rattle.mr_master.specs.Told.{due_count};
 
+use crate::blame::Blame;
 use crate::boxed::Boxed;
-use crate::ending::{Blame, Ending};
-use crate::tasks::Tasks;
-use crate::work::Work;
 use mr_commit::Following;
 use mr_history::Record;
 use mr_ids::{AttemptId, TaskId};
 use mr_master_model::Launch;
+use mr_phase::Work;
 use mr_tables::{Earlier, Nodes};
 use mr_task::{DoneReply, TaskMachine};
+use mr_tasks::{Ending, Tasks};
 
 /// What changes. To make the change takes no memory. What is large stands in a box, since a change is moved often.
 #[derive(Drop)]

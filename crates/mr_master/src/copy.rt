@@ -5,10 +5,10 @@ ghost use Rattle.mr_tables.specs.Launches.{SameLaunches};
 ghost use Rattle.mr_tables.specs.Records.{SameRecords};
 
 use crate::machine::Machine;
-use crate::tasks::Tasks;
-use crate::work::Work;
 use mr_master_model::Setting;
+use mr_phase::Work;
 use mr_tables::{Bars, Earlier, Launches, Nodes, Writing};
+use mr_tasks::Tasks;
 use std::alloc::AllocError;
 
 // The part of a machine that tells what the master is at, with its tasks and containers.

@@ -1,25 +1,21 @@
 //! The next store call of a master.
 //! While Running it is a bar, else an append or a flush, else COMMIT_STARTED once all reduces are Succeeded. In most
 //! other phases it follows from `work`.
-ghost use Rattle.std.specs.Prelude.{◌≡◌, true, Some, None, IfOk, OnErr};
-ghost use Rattle.std.specs.Option.{is_some, option_map, option_copied};
-ghost use Rattle.mr_names.specs.declared.op.Op.TheVariants as op;
+ghost use Rattle.std.specs.Prelude.{true, Some, None, IfOk, OnErr};
+ghost use Rattle.std.specs.Option.{is_some};
 ghost use Rattle.mr_master_model.specs.Past.{Runs, Fails};
 ghost use Rattle.mr_master_model.specs.Readings.{is_live};
-ghost use Rattle.mr_master_model.specs.Duty.{duty, duty_at, looks, creates};
+ghost use Rattle.mr_master_model.specs.Duty.{duty, duty_at};
 ghost use Rattle.mr_master.specs.inner.Passing.{NoneLive};
 ghost use Rattle.mr_master.specs.State.{Reads};
 
 use crate::machine::Machine;
-use crate::marks::started_mark;
-use crate::places::place_of;
-use crate::tasks::is_live;
-use crate::work::abort_duty;
 use mr_ids::{AttemptId, TaskKind};
 use mr_master_model::{DutyName, StoreCall};
 use mr_names::Op;
-use mr_paths::Path;
+use mr_phase::{abort_duty, of_mark, started_mark};
 use mr_tables::Duty;
+use mr_tasks::{is_live, place_of};
 use std::alloc::AllocError;
 
 impl Machine {
@@ -85,33 +81,4 @@ impl Machine {
             None => false,
         }
     }
-}
-
-// The call of the line that is next, if there is one.
-pub fn of_line(name: DutyName, op: Option<&Op>) -> Result<Option<Duty>, AllocError>
-    ensures due { IfOk result (λ due. due ≡ option_map (λ o. record { name = name; call = StoreCall.Names o }) (option_copied op.entry)) }
-    ensures due_on_memory { OnErr result (is_some (option_copied op.entry) ≡ true) }
-{
-    match op {
-        None => Ok(None),
-        Some(op) => {
-            let op = op.copy()?;
-            Ok(Some(Duty::new(name, StoreCall::Names(op))))
-        }
-    }
-}
-
-// It looks for a mark.
-pub fn of_look(path: Path) -> Option<Duty>
-    ensures { result ≡ looks path }
-{
-    Some(Duty::new(DutyName::Marks, StoreCall::Names(Op::Exists(path))))
-}
-
-// It creates a mark.
-pub fn of_mark(name: DutyName, path: Path) -> Option<Duty>
-    ensures { result ≡ creates name path }
-{
-    let op = Op::Create { path, closed: true };
-    Some(Duty::new(name, StoreCall::Names(op)))
 }

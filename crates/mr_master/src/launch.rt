@@ -3,34 +3,28 @@
 //! packet to the node.
 ghost use Rattle.std.specs.Prelude.{◌≡◌, ◌<◌, ◌≤◌, Some, None, Ok, IfOk, IfErr, IfSome, IfNone, OnOk, length, if◌then◌else◌};
 ghost use Rattle.mr_task.specs.Calls.{Launches};
-ghost use Rattle.mr_task.specs.Readings as reading;
-ghost use Rattle.mr_task.specs.State.{Answers, Stands, launch_answer};
 ghost use Rattle.mr_packet.specs.Sends.{to_node};
 ghost use Rattle.mr_master_model.specs.Job.{is_task};
 ghost use Rattle.mr_master_model.specs.Readings.{launch_refusal, launched_as, by_task, tell};
 ghost use Rattle.mr_master_model.specs.Hearing.{with_launch};
 ghost use Rattle.mr_master_model.specs.Past as past;
 ghost use Rattle.mr_master.specs.inner.Launching.{IsFree, LaunchesNext};
-ghost use Rattle.mr_master.specs.Places.{place_of};
+ghost use Rattle.mr_tasks.specs.Places.{place_of};
 ghost use Rattle.mr_master.specs.Prepared.{IsOne, LaunchesAt, HasLaunchRoom, PlansFor};
 ghost use Rattle.mr_master.specs.State.{Reads, MovesOn, StandsForSome};
 ghost use Rattle.mr_master.specs.Refused.{MOST_CONTAINERS, launch_error};
-ghost use Rattle.mr_master.specs.Taking.{IsTold};
-ghost use Rattle.mr_master.specs.Tasks.{AnswersAt};
 
 use crate::boxed::Boxed;
 use crate::change::Change;
 use crate::machine::Machine;
-use crate::memory::{copied, wants_memory};
-use crate::places::place_of;
 use crate::prepared::Prepared;
-use crate::tasks::Tasks;
 use mr_history::Record;
 use mr_ids::{AttemptId, TaskId};
 use mr_master_model::{Launch, LaunchFault};
 use mr_packet::{ContainerId, Envelope, Packet};
 use mr_tables::to_node;
 use mr_task::{TaskFault, TaskMachine};
+use mr_tasks::place_of;
 use std::alloc::AllocError;
 
 /// Why a launch came to nothing.
@@ -158,43 +152,6 @@ fn by_task(refusal: Option<TaskFault>) -> Option<LaunchFault>
     match refusal {
         Some(fault) => Some(LaunchFault::Task(fault)),
         None => None,
-    }
-}
-
-impl Tasks {
-    // The attempt of the task that is launched next, and a machine as the one at the place would be then. Nothing
-    // refuses the launch.
-    pub fn launched(&self, place: usize) -> Result<(AttemptId, TaskMachine), AllocError>
-        requires within { place < length self.now.machines }
-        requires allowed { AnswersAt self.now.machines place (λ t k calls. reading.launch_refusal (reading.seen t k calls)) None }
-        ensures attempt { IfOk result (λ p. AnswersAt self.now.machines place launch_answer (Ok p.0)) }
-        ensures told { IfOk result (λ p. IsTold self.now.machines place Launches p.1) }
-    {
-        let task = &self.machines[place];
-        launched(task)
-    }
-}
-
-// An equal machine, of which the next attempt is launched, and that attempt.
-fn launched(task: &TaskMachine) -> Result<(AttemptId, TaskMachine), AllocError>
-    requires { Answers task.now (λ t k calls. reading.launch_refusal (reading.seen t k calls)) None }
-    ensures attempt { IfOk result (λ p. Answers task.now launch_answer (Ok p.0)) }
-    ensures told { IfOk result (λ p. Stands task.now Launches p.1) }
-{
-    let mut copy = copied(task)?;
-    let attempt = launch_next(&mut copy)?;
-    Ok((attempt, copy))
-}
-
-fn launch_next(task: &mut TaskMachine) -> Result<AttemptId, AllocError>
-    requires { Answers task.old (λ t k calls. reading.launch_refusal (reading.seen t k calls)) None }
-    ensures attempt { IfOk result (λ attempt. Answers task.old launch_answer (Ok attempt)) }
-    ensures told { OnOk result (Stands task.old Launches task.new) }
-{
-    task.stands();
-    match task.launch() {
-        Ok(attempt) => Ok(attempt),
-        Err(fault) => Err(wants_memory(fault)),
     }
 }
 

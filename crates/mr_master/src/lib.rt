@@ -40,30 +40,22 @@
 
 mod answer;
 mod bars;
+mod blame;
 mod boxed;
 mod change;
 mod copy;
 mod duty;
-mod ending;
 mod expiry;
 mod hear;
 mod launch;
 mod machine;
-mod marks;
 mod master;
-mod memory;
 mod nodes;
 mod outputs;
-mod places;
 mod prepared;
-mod progress;
 mod send;
-mod store;
 mod takeover;
-mod tasks;
 mod wanted;
-mod winners;
-mod work;
 
 pub use launch::LaunchError;
 pub use master::MasterMachine;

@@ -3,17 +3,16 @@ ghost use Rattle.std.specs.Prelude.{◌≡◌, ◌<◌, true, length, option_map
 ghost use Rattle.mr_grant.specs.Attempts.{has};
 ghost use Rattle.mr_task.specs.Readings.{seen};
 ghost use Rattle.mr_master_model.specs.Readings.{launch_of, is_known, launched_in};
-ghost use Rattle.mr_master.specs.Places.{place_of};
-ghost use Rattle.mr_master.specs.Tasks.{AnswersAt};
+ghost use Rattle.mr_tasks.specs.Places.{place_of};
+ghost use Rattle.mr_tasks.specs.Tasks.{AnswersAt};
 ghost use Rattle.mr_master.specs.State.{StandsFor, Reads};
 
-use crate::places::place_of;
-use crate::tasks::Tasks;
-use crate::work::Work;
 use mr_ids::AttemptId;
 use mr_master_model::{Launch, Setting};
 use mr_packet::ContainerId;
+use mr_phase::Work;
 use mr_tables::{Bars, Earlier, Launches, Nodes, Writing};
+use mr_tasks::{Tasks, place_of};
 use std::alloc::{AllocError, Global};
 use std::marker::Model;
 

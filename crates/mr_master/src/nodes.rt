@@ -10,11 +10,10 @@ ghost use Rattle.mr_master.specs.State.{Adds, Reads, Moves};
 ghost use Rattle.mr_master.specs.Told.{with_deaths, with_losses};
 
 use crate::machine::Machine;
-use crate::places::place_of;
-use crate::tasks::is_live;
 use mr_ids::{AttemptId, TaskId, TaskKind};
 use mr_master_model::Setting;
 use mr_tables::{Gone, lower};
+use mr_tasks::{is_live, place_of};
 use std::alloc::AllocError;
 
 impl Machine {

@@ -11,11 +11,11 @@ ghost use Rattle.mr_tables.specs.Earlier.{where_told, listed};
 ghost use Rattle.mr_master.specs.State.{Reads};
 
 use crate::machine::Machine;
-use crate::places::place_of;
 use crate::send::is_same;
 use mr_ids::{AttemptId, JobId, TaskId, TaskKind};
 use mr_packet::{ContainerId, Envelope, Packet};
 use mr_tables::to_container;
+use mr_tasks::place_of;
 
 impl Machine {
     // The Succeeded attempt of a task.

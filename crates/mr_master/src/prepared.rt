@@ -7,20 +7,21 @@ ghost use Rattle.mr_master_model.specs.Answered.{flushed};
 ghost use Rattle.mr_master_model.specs.Next.{with_kills};
 ghost use Rattle.mr_master.specs.Prepared.{changed_by, room_of, IsSound, HasRoom, HasLaunchRoom, IsExpiry};
 ghost use Rattle.mr_master.specs.State.{Moves, MovesOn, Unchanged};
-ghost use Rattle.mr_master.specs.WorkKinds.{left_of, with_left, others_of, with_others};
-ghost use Rattle.mr_master.specs.Taking.{winner_of, after_winner, after_table, EntersAt, KeepsAfter};
+ghost use Rattle.mr_phase.specs.WorkKinds.{left_of, with_left, others_of, with_others};
+ghost use Rattle.mr_phase.specs.Taking.{winner_of, after_winner, after_table};
+ghost use Rattle.mr_master.specs.Taking.{EntersAt, KeepsAfter};
 ghost use Rattle.mr_master_model.specs.Readings.{is_running};
 
 use crate::boxed::Boxed;
 use crate::change::{Change, Room};
 use crate::machine::Machine;
-use crate::tasks::Tasks;
-use crate::work::Work;
 use mr_commit::Following;
 use mr_ids::TaskId;
 use mr_packet::Envelope;
+use mr_phase::Work;
 use mr_tables::Earlier;
 use mr_task::TaskMachine;
+use mr_tasks::Tasks;
 use std::alloc::{AllocError, Global};
 use std::marker::Model;
 

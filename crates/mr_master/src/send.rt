@@ -11,12 +11,11 @@ ghost use Rattle.mr_master.specs.State.{Reads, Adds};
 
 use crate::machine::Machine;
 use crate::nodes::count_of;
-use crate::places::place_of;
-use crate::tasks::is_live;
 use mr_ids::{AttemptId, TaskId, TaskKind};
 use mr_packet::Envelope;
 use mr_tables::kill;
 use mr_task::TaskMachine;
+use mr_tasks::{is_live, place_of};
 use std::alloc::AllocError;
 
 impl Machine {

@@ -1,12 +1,13 @@
 -- The end of an attempt, as it says itself or as its container's end tells.
 -- Whether it is a failure, whether it fails the job, and which Kills are sent then.
-use Rattle.std.specs.Prelude.{◌+◌, Bool, true, ◌&&◌, not, nat_le, List, [], flat_map, filter, if◌then◌else◌}
+use Rattle.std.specs.Prelude.{◌+◌, Bool, ◌&&◌, not, nat_le, List, [], flat_map, filter, if◌then◌else◌}
 use Rattle.mr_ids.specs.Attempt.{Attempt}
 use Rattle.mr_ids.specs.declared.id.TaskId.{TaskId}
 use Rattle.mr_grant.specs.Attempts.{same_attempt}
-pub use Rattle.mr_master.specs.Told.{call_of}
-use Rattle.mr_master.specs.declared.ending.Blame.{Blame}
-use Rattle.mr_master.specs.declared.ending.Blame.TheVariants as blame
+use Rattle.mr_tasks.specs.declared.ending.Ending.{Ending}
+use Rattle.mr_tasks.specs.Told.{call_of, is_failure}
+use Rattle.mr_master.specs.declared.blame.Blame.{Blame}
+use Rattle.mr_master.specs.declared.blame.Blame.TheVariants as blame
 use Rattle.mr_task.specs.Readings as task
 use Rattle.mr_packet.specs.declared.packet.Envelope.{Envelope}
 use Rattle.mr_master_model.specs.declared.setting.Setting.{Setting}
@@ -14,13 +15,6 @@ use Rattle.mr_master_model.specs.Job.{is_task, all_tasks}
 use Rattle.mr_master_model.specs.Readings.{Seen, is_running, of_task, is_live}
 use Rattle.mr_master_model.specs.Hearing.{after_end}
 use Rattle.mr_master_model.specs.Sends.{kill_of, kill_all}
-use Rattle.mr_master.specs.declared.ending.Ending.{Ending}
-use Rattle.mr_master.specs.declared.ending.Ending.TheVariants.{Failure, Exit}
-
--- an exit that was not asked for is a failure
-abbrev pub is_failure : Ending → Bool
-is_failure Failure = true
-is_failure (Exit was_killed) = not was_killed
 
 -- whether one failure more fails the job: the task is not won, and failed then as often as the limit
 abbrev pub is_last_of : Setting → task.Seen → Bool

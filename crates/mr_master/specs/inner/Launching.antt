@@ -11,8 +11,7 @@ use Rattle.mr_master_model.specs.declared.launch.Launch.{Launch}
 use Rattle.mr_master.specs.declared.change.Change.TheVariants as change
 use Rattle.mr_master.specs.Prepared.{Prepared}
 use Rattle.mr_master.specs.State.{Master}
-use Rattle.mr_master.specs.Taking.{IsTold}
-use Rattle.mr_master.specs.Tasks.{AnswersAt}
+use Rattle.mr_tasks.specs.Tasks.{IsTold, AnswersAt}
 
 -- the task at place i refuses no launch
 abbrev pub IsFree : Master → ℕ → Type 0

@@ -2,8 +2,8 @@
 use Rattle.std.specs.Prelude.{◌≡◌, ◌<◌, true, Some, length}
 use Rattle.mr_recover.specs.declared.winner.TaskWinner.{TaskWinner}
 use Rattle.mr_master_model.specs.Job.{is_task}
-use Rattle.mr_master.specs.Places.{place_of}
-use Rattle.mr_master.specs.Taking.{winner_of}
+use Rattle.mr_tasks.specs.Places.{place_of}
+use Rattle.mr_phase.specs.Taking.{winner_of}
 use Rattle.mr_master.specs.State.{Master}
 
 -- it is of a task of the job, which has a machine

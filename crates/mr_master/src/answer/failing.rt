@@ -2,17 +2,15 @@
 //! These are an append, a flush, and the abort of the job.
 ghost use Rattle.std.specs.Prelude.{◌≡◌, ◌||◌, IfOk};
 ghost use Rattle.mr_master_model.specs.Past.{Fails};
-ghost use Rattle.mr_master.specs.WorkKinds.{passes_abort, aborted};
+ghost use Rattle.mr_phase.specs.WorkKinds.{aborted};
 ghost use Rattle.mr_master.specs.Answering.{IsDue};
 ghost use Rattle.mr_master.specs.Prepared.{PlansDue};
 
 use crate::change::Change;
 use crate::machine::Machine;
 use crate::prepared::Prepared;
-use crate::store::is_fine;
-use crate::work::Work;
 use mr_master_model::StoreAnswer;
-use mr_names::{Answer, NameFault};
+use mr_phase::{Work, aborted, is_fine};
 use std::alloc::AllocError;
 
 impl Machine {
@@ -41,27 +39,6 @@ impl Machine {
         let work = Work::fails_so(either(is_stable, unsuccessful));
         let packets = self.flush_packets()?;
         Ok(Prepared::new(packets, Change::Flushes(work)))
-    }
-}
-
-// What is next after the abort: it passes, also where there is nothing to delete, and then the job ended.
-fn aborted(answer: &StoreAnswer) -> Work
-    ensures { result ≡ aborted answer.now }
-{
-    if passes_abort(answer) {
-        Work::ends(false)
-    } else {
-        Work::stopped()
-    }
-}
-
-// Whether the abort is done: its delete was made, or there was nothing to delete.
-fn passes_abort(answer: &StoreAnswer) -> bool
-    ensures { result ≡ passes_abort answer.now }
-{
-    match answer {
-        StoreAnswer::Names(Ok(Answer::Done)) | StoreAnswer::Names(Err(NameFault::Missing)) => true,
-        _ => false,
     }
 }
 

@@ -6,11 +6,11 @@ ghost use Rattle.mr_master_model.specs.Sends.{wins, kills_beside, flush_sends};
 ghost use Rattle.mr_master.specs.State.{Moves, Reads, Adds};
 
 use crate::machine::Machine;
-use crate::places::place_of;
 use mr_history::Record;
 use mr_ids::AttemptId;
 use mr_packet::Envelope;
 use mr_tables::push_won;
+use mr_tasks::place_of;
 use std::alloc::AllocError;
 
 impl Machine {

@@ -2,16 +2,16 @@
 //! The marks are the files COMMIT_STARTED, COMMIT_SUCCESS and COMMIT_FAIL in the staging folder.
 ghost use Rattle.std.specs.Prelude.{◌≡◌, true, IfOk};
 ghost use Rattle.mr_master_model.specs.Sends.{outcome_of};
-ghost use Rattle.mr_master.specs.WorkKinds.{is_look, is_tell};
+ghost use Rattle.mr_phase.specs.WorkKinds.{is_look, is_tell};
 ghost use Rattle.mr_master.specs.State.{Reads};
 ghost use Rattle.mr_master.specs.Prepared.{Plans, PlansDue};
 
 use crate::change::Change;
 use crate::machine::Machine;
 use crate::prepared::Prepared;
-use crate::work::Work;
 use mr_master_model::StoreAnswer;
 use mr_packet::Envelope;
+use mr_phase::Work;
 use mr_tables::push_outcome;
 use std::alloc::AllocError;
 

@@ -11,10 +11,9 @@ ghost use Rattle.mr_master.specs.Prepared.{Plans, PlansDue};
 use crate::change::Change;
 use crate::machine::Machine;
 use crate::prepared::Prepared;
-use crate::store::is_fine;
-use crate::work::Work;
 use mr_ids::AttemptId;
 use mr_master_model::StoreAnswer;
+use mr_phase::{Work, is_fine};
 use std::alloc::AllocError;
 
 impl Machine {

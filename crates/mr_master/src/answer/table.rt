@@ -1,24 +1,23 @@
 //! What is ready for the answers of a committer's calls: setup, recovery, job commit.
 ghost use Rattle.std.specs.Prelude.{◌≡◌, true, drop, Some, IfOk};
 ghost use Rattle.mr_master_model.specs.Readings.{is_running};
-ghost use Rattle.mr_master.specs.WorkKinds.{is_step, finished_by, others_of, with_others};
-ghost use Rattle.mr_master.specs.inner.Coming.{begun_by};
+ghost use Rattle.mr_phase.specs.WorkKinds.{is_step, finished_by, others_of, with_others};
+ghost use Rattle.mr_phase.specs.Coming.{begun_by};
 ghost use Rattle.mr_master.specs.inner.Placed.{IsPlaced};
 ghost use Rattle.mr_master.specs.State.{Reads};
-ghost use Rattle.mr_master.specs.Taking.{winner_of, won_of, after_winner, after_table};
+ghost use Rattle.mr_phase.specs.Taking.{winner_of, won_of, after_winner, after_table};
 ghost use Rattle.mr_master.specs.Prepared.{Plans, PlansDue};
 
 use crate::boxed::Boxed;
 use crate::change::Change;
 use crate::machine::Machine;
-use crate::places::place_in_job;
 use crate::prepared::Prepared;
-use crate::store::Coming;
-use crate::work::Work;
 use mr_master_model::StoreAnswer;
 use mr_packet::Envelope;
+use mr_phase::{Coming, Work};
 use mr_recover::TaskWinner;
 use mr_tables::push_won;
+use mr_tasks::place_in_job;
 use std::alloc::AllocError;
 
 impl Machine {

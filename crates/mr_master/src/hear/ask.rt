@@ -1,62 +1,23 @@
 //! An attempt asks for permission to commit, for the first time or again.
-ghost use Rattle.std.specs.Prelude.{◌≡◌, ◌<◌, true, length, IfOk, OnOk};
-ghost use Rattle.mr_grant.specs.Attempts.{has};
+ghost use Rattle.std.specs.Prelude.{◌≡◌, ◌<◌, IfOk};
 ghost use Rattle.mr_packet.specs.Sends.{to_container};
 ghost use Rattle.mr_task.specs.Calls.{Asks};
-ghost use Rattle.mr_task.specs.Readings.{seen};
-ghost use Rattle.mr_task.specs.State.{Answers, Stands};
 ghost use Rattle.mr_master_model.specs.Readings.{launch_of, tell};
 ghost use Rattle.mr_master_model.specs.Hearing.{after_ask};
 ghost use Rattle.mr_master_model.specs.Sends.{pending_answer};
-ghost use Rattle.mr_master.specs.Taking.{IsTold};
-ghost use Rattle.mr_master.specs.Tasks.{AnswersAt};
+ghost use Rattle.mr_tasks.specs.Tasks.{IsTold};
 ghost use Rattle.mr_master.specs.Prepared.{IsAt, Plans};
 ghost use Rattle.mr_master.specs.State.{Moves};
 
 use crate::boxed::Boxed;
 use crate::change::Change;
 use crate::machine::Machine;
-use crate::memory::{copied, wants_memory};
 use crate::prepared::Prepared;
-use crate::tasks::Tasks;
 use mr_ids::AttemptId;
 use mr_packet::{ContainerId, Envelope, Packet};
 use mr_tables::to_container;
 use mr_task::TaskMachine;
 use std::alloc::AllocError;
-
-impl Tasks {
-    // A machine as the one at the place would be once the attempt asked. The task has the attempt.
-    pub fn asked(&self, place: usize, attempt: AttemptId) -> Result<TaskMachine, AllocError>
-        requires within { place < length self.now.machines }
-        requires arrived { AnswersAt self.now.machines place (λ t k calls. has (seen t k calls).arrived attempt) true }
-        ensures { IfOk result (λ machine. IsTold self.now.machines place (Asks attempt) machine) }
-    {
-        let task = &self.machines[place];
-        asked(task, attempt)
-    }
-}
-
-// An equal machine, of which the attempt asks.
-fn asked(task: &TaskMachine, attempt: AttemptId) -> Result<TaskMachine, AllocError>
-    requires { Answers task.now (λ t k calls. has (seen t k calls).arrived attempt) true }
-    ensures { IfOk result (λ machine. Stands task.now (Asks attempt) machine) }
-{
-    let mut copy = copied(task)?;
-    ask(&mut copy, attempt)?;
-    Ok(copy)
-}
-
-fn ask(task: &mut TaskMachine, attempt: AttemptId) -> Result<(), AllocError>
-    requires { Answers task.old (λ t k calls. has (seen t k calls).arrived attempt) true }
-    ensures { OnOk result (Stands task.old (Asks attempt) task.new) }
-{
-    task.stands();
-    match task.pending(attempt) {
-        Ok(()) => Ok(()),
-        Err(fault) => Err(wants_memory(fault)),
-    }
-}
 
 impl Machine {
     // The attempt is answered whether it is named once it asked.

@@ -8,7 +8,7 @@ ghost use Rattle.mr_master_model.specs.Sends.{ack_to};
 ghost use Rattle.mr_master.specs.Told.{with_record, due_count};
 ghost use Rattle.mr_master.specs.Prepared.{IsAt, HasRecordRoom, Plans};
 ghost use Rattle.mr_master.specs.State.{Moves};
-ghost use Rattle.mr_master.specs.Tasks.{IsReplyAt};
+ghost use Rattle.mr_tasks.specs.Tasks.{IsReplyAt};
 
 use crate::change::Change;
 use crate::machine::Machine;

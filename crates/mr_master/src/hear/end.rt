@@ -3,17 +3,19 @@ ghost use Rattle.std.specs.Prelude.{◌≡◌, true, IfOk};
 ghost use Rattle.mr_master_model.specs.Readings.{is_running, launch_of, launched_in, tell};
 ghost use Rattle.mr_master_model.specs.Hearing.{after_failed, after_ended};
 ghost use Rattle.mr_master.specs.inner.Ends.{blame_of, ended, end_sends, kills_by, kills_if_over};
-ghost use Rattle.mr_master.specs.Told.{blamed, blame_count, call_of};
+ghost use Rattle.mr_master.specs.Told.{blamed, blame_count};
+ghost use Rattle.mr_tasks.specs.Told.{call_of};
 ghost use Rattle.mr_master.specs.Prepared.{IsAt, HasRecordRoom, Plans};
 ghost use Rattle.mr_master.specs.State.{Moves, Reads};
 
+use crate::blame::Blame;
 use crate::change::Change;
-use crate::ending::{Blame, Ending};
 use crate::machine::Machine;
 use crate::prepared::Prepared;
 use mr_history::Record;
 use mr_ids::AttemptId;
 use mr_packet::{ContainerId, Envelope};
+use mr_tasks::Ending;
 use std::alloc::AllocError;
 
 impl Machine {

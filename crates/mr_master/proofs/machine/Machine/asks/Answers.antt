@@ -1,6 +1,6 @@
 use Rattle.std.proofs.Common.{sym, subst}
 use Rattle.mr_task.specs.Calls.{Asks}
-use Rattle.mr_master.specs.Taking.{IsTold}
+use Rattle.mr_tasks.specs.Tasks.{IsTold}
 use Rattle.mr_master.specs.State.{Master}
 use Rattle.mr_master.proofs.Keeping.{held, tell-keeps}
 use Rattle.mr_master.proofs.Unboxed.{same-told}

@@ -4,7 +4,8 @@ use Rattle.mr_master_model.specs.declared.setting.Setting.{Setting}
 use Rattle.mr_master_model.specs.Readings.{is_live, of_task}
 use Rattle.mr_master.specs.inner.Ends.{is_last_of}
 use Rattle.mr_master.proofs.Ends.{nobodys, whose}
-use Rattle.mr_master.proofs.Keeping.{held, read-at}
+use Rattle.mr_master.proofs.Keeping.{held}
+use Rattle.mr_tasks.proofs.Keeping.{read-at}
 use Rattle.mr_master.proofs.machine.Machine.blame_of.Goals as goal
 
 pub returns-then-not-is_failure : goal.returns-then-not-is_failure

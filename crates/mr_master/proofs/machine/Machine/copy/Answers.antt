@@ -1,6 +1,6 @@
 use Rattle.std.proofs.Common.{sym, subst, ◌∙◌, ap, length, slice_get, List, Bool, ℕ}
 use Rattle.mr_tables.specs.Nodes.{KeepsNodes}
-use Rattle.mr_master.specs.Tasks.{Tasks, KeepsTasks}
+use Rattle.mr_tasks.specs.Tasks.{Tasks, KeepsTasks}
 use Rattle.mr_master.proofs.machine.Machine.copy.Goals as goal
 
 pub returns : goal.returns

@@ -1,6 +1,7 @@
 use Rattle.std.proofs.Common.{sym, subst}
 use Rattle.mr_master_model.specs.Readings.{tell}
-use Rattle.mr_master.specs.Told.{call_of, blame_count}
+use Rattle.mr_tasks.specs.Told.{call_of}
+use Rattle.mr_master.specs.Told.{blame_count}
 use Rattle.mr_master.specs.Prepared.{HasRecordRoom}
 use Rattle.mr_master.specs.State.{Master}
 use Rattle.mr_master.proofs.Keeping.{held, tell-keeps}

@@ -1,6 +1,6 @@
 use Rattle.std.proofs.Common.{subst, List}
 use Rattle.mr_ids.specs.Attempt.{Attempt}
-use Rattle.mr_master.specs.Taking.{Enters}
+use Rattle.mr_tasks.specs.Tasks.{Enters}
 use Rattle.mr_master.proofs.Keeping.{held}
 use Rattle.mr_master.proofs.Taken.{maps-enter}
 use Rattle.mr_master.proofs.machine.Machine.enter_maps.Goals as goal

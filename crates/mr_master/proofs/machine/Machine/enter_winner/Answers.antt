@@ -1,9 +1,9 @@
 use Rattle.std.proofs.Common.{ℕ, ◌<◌, ◌≡◌, sym, subst, ◌∙◌, ap, length, true}
 use Rattle.mr_master_model.specs.declared.setting.Setting.{Setting}
 use Rattle.mr_master_model.specs.Job.{is_task}
-use Rattle.mr_master.specs.Places.{place_of}
+use Rattle.mr_tasks.specs.Places.{place_of}
 use Rattle.mr_master.specs.State.{Master}
-use Rattle.mr_master.specs.Taking.{winner_of}
+use Rattle.mr_phase.specs.Taking.{winner_of}
 use Rattle.mr_master.specs.inner.Placed.{IsPlaced}
 use Rattle.mr_master.proofs.Keeping.{held}
 use Rattle.mr_master.proofs.Taken.{winner-enters}

@@ -2,8 +2,8 @@ use Rattle.std.proofs.Common.{subst, sym, ap, Option}
 use Rattle.mr_recover.specs.declared.winner.TaskWinner.{TaskWinner}
 use Rattle.mr_master_model.specs.Past.{Work}
 use Rattle.mr_master_model.specs.Readings.{is_running}
-use Rattle.mr_master.specs.Taking.{winner_of, after_table}
-use Rattle.mr_master.specs.Tasks.{Tasks, KeepsTasks}
+use Rattle.mr_phase.specs.Taking.{winner_of, after_table}
+use Rattle.mr_tasks.specs.Tasks.{Tasks, KeepsTasks}
 use Rattle.mr_master.proofs.Keeping.{held}
 use Rattle.mr_master.proofs.Parts.{with-work, with-tasks}
 use Rattle.mr_master.proofs.machine.Machine.enters.Goals as goal

@@ -3,9 +3,10 @@ use Rattle.mr_task.specs.Calls.{Recovers}
 use Rattle.mr_master_model.specs.declared.setting.Setting.{Setting}
 use Rattle.mr_master_model.specs.Job.{is_task}
 use Rattle.mr_master_model.specs.Past.{Work}
-use Rattle.mr_master.specs.Places.{place_of}
-use Rattle.mr_master.specs.WorkKinds.{others_of, with_others}
-use Rattle.mr_master.specs.Taking.{winner_of, calls_with, EntersAt}
+use Rattle.mr_tasks.specs.Places.{place_of}
+use Rattle.mr_phase.specs.WorkKinds.{others_of, with_others}
+use Rattle.mr_phase.specs.Taking.{winner_of, calls_with}
+use Rattle.mr_master.specs.Taking.{EntersAt}
 use Rattle.mr_master.specs.State.{Master}
 use Rattle.mr_master.proofs.Keeping.{held}
 use Rattle.mr_master.proofs.Parts.{with-work, with-tasks}

@@ -2,7 +2,7 @@ use Rattle.std.proofs.Common.{sym, ◌∙◌, ap, None, if◌then◌else◌}
 use Rattle.mr_master_model.specs.declared.setting.Setting.{Setting}
 use Rattle.mr_master_model.specs.Duty.{abort_duty}
 use Rattle.mr_master.proofs.Keeping.{held}
-use Rattle.mr_master.proofs.Due.{fails-first, fails-next, fails-due, on-err}
+use Rattle.mr_phase.proofs.Due.{fails-first, fails-next, fails-due, on-err}
 use Rattle.mr_master.proofs.machine.Machine.failing_duty.Goals as goal
 
 pub returns-in-Some-clause-due : goal.returns-in-Some-clause-due

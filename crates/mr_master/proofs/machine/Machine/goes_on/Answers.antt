@@ -1,6 +1,6 @@
 use Rattle.std.proofs.Common.{ap, ◌∙◌, ◌++◌, drop}
 use Rattle.mr_master_model.specs.Past.{Work}
-use Rattle.mr_master.specs.WorkKinds.{left_of, with_left}
+use Rattle.mr_phase.specs.WorkKinds.{left_of, with_left}
 use Rattle.mr_master.proofs.Keeping.{held}
 use Rattle.mr_master.proofs.Parts.{with-work}
 use Rattle.mr_master.proofs.machine.Machine.goes_on.Goals as goal

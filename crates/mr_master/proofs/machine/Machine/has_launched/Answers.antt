@@ -2,7 +2,7 @@ use Rattle.std.proofs.Common.{◌≡◌, None, sym, subst}
 use Rattle.std.specs.Map.{lookup}
 use Rattle.mr_grant.specs.Attempts.{same_attempt}
 use Rattle.mr_task.specs.Calls.{Launches}
-use Rattle.mr_master.specs.Taking.{IsTold}
+use Rattle.mr_tasks.specs.Tasks.{IsTold}
 use Rattle.mr_master.specs.State.{Master}
 use Rattle.mr_master.proofs.Keeping.{held}
 use Rattle.mr_master.proofs.Entering.{launched-keeps}

@@ -1,10 +1,11 @@
 use Rattle.std.proofs.Common.{sym, ◌∙◌, ap, Some, None, if◌then◌else◌}
 use Rattle.mr_ids.specs.declared.id.TaskId.{TaskId}
 use Rattle.mr_master_model.specs.Job.{is_task}
-use Rattle.mr_master.specs.Places.{place_of}
-use Rattle.mr_master.proofs.Keeping.{held, placed, not-placed}
-use Rattle.mr_master.proofs.Gathering.{never-none}
-use Rattle.mr_master.proofs.Due.{dead-outside}
+use Rattle.mr_tasks.specs.Places.{place_of}
+use Rattle.mr_master.proofs.Keeping.{held}
+use Rattle.mr_tasks.proofs.Keeping.{placed, not-placed}
+use Rattle.mr_tasks.proofs.Keeping.{never-none}
+use Rattle.mr_master.proofs.Dying.{dead-outside}
 use Rattle.mr_master.proofs.machine.Machine.is_live.Goals as goal
 
 pub returns-in_default : goal.returns-in_default

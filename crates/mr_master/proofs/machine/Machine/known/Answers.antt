@@ -1,9 +1,10 @@
 use Rattle.std.proofs.Common.{Bool, true, subst, ◌∙◌}
 use Rattle.mr_grant.specs.Attempts.{has}
 use Rattle.mr_task.specs.Readings.{seen}
-use Rattle.mr_master.specs.Tasks.{AnswersAt}
+use Rattle.mr_tasks.specs.Tasks.{AnswersAt}
 use Rattle.mr_master.specs.State.{Master}
-use Rattle.mr_master.proofs.Keeping.{held, placed, known-answer, launched-none, launched-some}
+use Rattle.mr_master.proofs.Keeping.{held, known-answer, launched-none, launched-some}
+use Rattle.mr_tasks.proofs.Keeping.{placed}
 use Rattle.mr_master.proofs.machine.Machine.known.Goals as goal
 
 pub returns-then-not-is_arrived-clause-known : goal.returns-then-not-is_arrived-clause-known

@@ -1,6 +1,6 @@
 use Rattle.std.proofs.Common.{◌∙◌, ap}
-use Rattle.mr_master.specs.WorkKinds.{is_step}
-use Rattle.mr_master.specs.inner.Coming.{begun_by}
+use Rattle.mr_phase.specs.WorkKinds.{is_step}
+use Rattle.mr_phase.specs.Coming.{begun_by}
 use Rattle.mr_master.specs.State.{Master}
 use Rattle.mr_master.proofs.Keeping.{held}
 use Rattle.mr_master.proofs.machine.Machine.next_work.Goals as goal

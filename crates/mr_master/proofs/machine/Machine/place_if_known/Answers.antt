@@ -1,5 +1,6 @@
 use Rattle.std.proofs.Common.{◌∙◌}
-use Rattle.mr_master.proofs.Keeping.{held, placed, known-answer}
+use Rattle.mr_master.proofs.Keeping.{held, known-answer}
+use Rattle.mr_tasks.proofs.Keeping.{placed}
 use Rattle.mr_master.proofs.Containers.{known-place, unknown-place}
 use Rattle.mr_master.proofs.machine.Machine.place_if_known.Goals as goal
 

@@ -3,9 +3,9 @@ use Rattle.mr_ids.specs.declared.id.TaskId.{TaskId}
 use Rattle.mr_master_model.specs.declared.setting.Setting.{Setting}
 use Rattle.mr_master_model.specs.Job.{is_task}
 use Rattle.mr_master_model.specs.Readings.{Seen}
-use Rattle.mr_master.specs.Places.{place_of}
+use Rattle.mr_tasks.specs.Places.{place_of}
 use Rattle.mr_master.specs.State.{Keeps}
-use Rattle.mr_master.proofs.Keeping.{not-placed}
+use Rattle.mr_tasks.proofs.Keeping.{not-placed}
 use Rattle.mr_master.proofs.Entering.{found-place}
 use Rattle.mr_master.proofs.Lying.{lost-of-job}
 use Rattle.mr_master.proofs.machine.Machine.place_if_lost.Goals as goal

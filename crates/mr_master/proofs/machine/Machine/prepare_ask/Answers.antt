@@ -4,7 +4,7 @@ use Rattle.mr_task.specs.Readings.{seen}
 use Rattle.mr_master_model.specs.Readings.{launch_of}
 use Rattle.mr_master_model.specs.Hearing.{after_ask}
 use Rattle.mr_master_model.specs.Sends.{pending_answer}
-use Rattle.mr_master.specs.Tasks.{AnswersAt}
+use Rattle.mr_tasks.specs.Tasks.{AnswersAt}
 use Rattle.mr_master.specs.Prepared.{Plans}
 use Rattle.mr_master.specs.State.{Master}
 use Rattle.mr_master.proofs.Keeping.{held, none-mapped}

@@ -4,7 +4,7 @@ use Rattle.mr_task.specs.declared.reply.DoneReply.TheVariants as reply
 use Rattle.mr_master_model.specs.Readings.{launch_of}
 use Rattle.mr_master_model.specs.Hearing.{after_done}
 use Rattle.mr_master_model.specs.Sends.{ack_to}
-use Rattle.mr_master.specs.Tasks.{IsReplyAt}
+use Rattle.mr_tasks.specs.Tasks.{IsReplyAt}
 use Rattle.mr_master.specs.Prepared.{Plans}
 use Rattle.mr_master.specs.State.{Master}
 use Rattle.mr_master.proofs.Keeping.{held, none-mapped}

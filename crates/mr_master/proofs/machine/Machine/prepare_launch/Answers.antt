@@ -5,7 +5,7 @@ use Rattle.mr_master_model.specs.Job.{is_task}
 use Rattle.mr_master_model.specs.Next.{seen}
 use Rattle.mr_master.specs.Prepared.{Prepared}
 use Rattle.mr_master.specs.State.{Master}
-use Rattle.mr_master.proofs.Keeping.{not-placed}
+use Rattle.mr_tasks.proofs.Keeping.{not-placed}
 use Rattle.mr_master.proofs.Entering.{of-the-job, free-place, plan-launch}
 use Rattle.mr_master.proofs.machine.Machine.prepare_launch.Goals as goal
 

@@ -1,7 +1,9 @@
 use Rattle.std.proofs.Common.{refl, ◌∙◌, ap, List, ◌++◌}
 use Rattle.mr_ids.specs.Attempt.{Attempt}
-use Rattle.mr_master.proofs.Keeping.{held, placed}
-use Rattle.mr_master.proofs.Gathering.{gone-all, found-at}
+use Rattle.mr_master.proofs.Keeping.{held}
+use Rattle.mr_tasks.proofs.Keeping.{placed}
+use Rattle.mr_master.proofs.Gathering.{gone-all}
+use Rattle.mr_tasks.proofs.Keeping.{found-at}
 use Rattle.mr_master.proofs.machine.Machine.push_gone.Goals as goal
 
 pub returns : goal.returns

@@ -1,7 +1,8 @@
 use Rattle.std.proofs.Common.{refl, ◌∙◌, ap, List, ◌++◌}
 use Rattle.mr_packet.specs.declared.packet.Envelope.{Envelope}
-use Rattle.mr_master.proofs.Keeping.{held, placed}
-use Rattle.mr_master.proofs.Gathering.{found-at}
+use Rattle.mr_master.proofs.Keeping.{held}
+use Rattle.mr_tasks.proofs.Keeping.{placed}
+use Rattle.mr_tasks.proofs.Keeping.{found-at}
 use Rattle.mr_master.proofs.Ends.{others-all}
 use Rattle.mr_master.proofs.machine.Machine.push_kills_but.Goals as goal
 

@@ -7,7 +7,7 @@ use Rattle.mr_master_model.specs.Duty.{duty_at}
 use Rattle.mr_master.specs.declared.change.Change.TheVariants as change
 use Rattle.mr_master.specs.State.{Keeps}
 use Rattle.mr_master.proofs.Keeping.{held}
-use Rattle.mr_master.proofs.Called.{over-idle}
+use Rattle.mr_phase.proofs.Called.{over-idle}
 use Rattle.mr_master.proofs.Made.{plan-as}
 use Rattle.mr_master.proofs.machine.Machine.ready_due.Goals as goal
 

@@ -10,13 +10,13 @@ use Rattle.mr_master_model.specs.Duty.{duty}
 use Rattle.mr_master_model.specs.Answered.{is_fine, flushed, moved_first, is_unsuccessful, name_of}
 use Rattle.mr_master_model.specs.Sends.{flush_sends, outcome_of}
 use Rattle.mr_master.specs.declared.change.Change.TheVariants as change
-use Rattle.mr_master.specs.Answering.{answered_sends, answered_seen}
+use Rattle.mr_phase.specs.Answering.{answered_sends, answered_seen}
 use Rattle.mr_tables.specs.Records.{written_by}
 use Rattle.mr_master.specs.State.{Keeps}
 use Rattle.mr_master.proofs.Keeping.{held}
 use Rattle.mr_master.proofs.Made.{plans-as, plan-as}
-use Rattle.mr_master.proofs.Replies.{fails-seen, fails-sends, moved-work}
-use Rattle.mr_master.proofs.Aborts.{abort-seen, abort-sends, due-fails, fails-record, name-abort, fails-stop, appended-after, flushed-after}
+use Rattle.mr_phase.proofs.Replies.{fails-seen, fails-sends, moved-work}
+use Rattle.mr_phase.proofs.Aborts.{abort-seen, abort-sends, due-fails, fails-record, name-abort, fails-stop, appended-after, flushed-after}
 use Rattle.mr_master.proofs.machine.Machine.ready_failing.Goals as goal
 
 pub returns-in_default : goal.returns-in_default

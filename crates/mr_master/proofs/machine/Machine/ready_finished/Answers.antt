@@ -2,12 +2,12 @@ use Rattle.std.proofs.Common.{◌≡◌, ◌∙◌, refl, sym, ap, true, None, d
 use Rattle.mr_master_model.specs.declared.setting.Setting.{Setting}
 use Rattle.mr_master_model.specs.Past.{Work}
 use Rattle.mr_master_model.specs.Readings.{Seen, is_running}
-use Rattle.mr_master.specs.Taking.{winner_of, after_table}
-use Rattle.mr_master.specs.WorkKinds.{is_step, finished_by, others_of, with_others}
+use Rattle.mr_phase.specs.Taking.{winner_of, after_table}
+use Rattle.mr_phase.specs.WorkKinds.{is_step, finished_by, others_of, with_others}
 use Rattle.mr_master.specs.State.{Keeps}
 use Rattle.mr_master.proofs.Keeping.{held}
 use Rattle.mr_master.proofs.Made.{plans-as}
-use Rattle.mr_master.proofs.Steps.{nobody-told, nobody-enters, nobody-left, runs-whole, Joined, joined}
+use Rattle.mr_phase.proofs.Steps.{nobody-told, nobody-enters, nobody-left, runs-whole, Joined, joined}
 use Rattle.mr_master.proofs.machine.Machine.ready_finished.Goals as goal
 
 pub returns-then-is_running : goal.returns-then-is_running

@@ -4,11 +4,11 @@ use Rattle.mr_master_model.specs.Past.{Work}
 use Rattle.mr_master_model.specs.Readings.{Seen}
 use Rattle.mr_master_model.specs.Answered.{work_after}
 use Rattle.mr_master_model.specs.Sends.{outcome_of}
-use Rattle.mr_master.specs.WorkKinds.{is_look}
+use Rattle.mr_phase.specs.WorkKinds.{is_look}
 use Rattle.mr_master.specs.State.{Master, Keeps}
 use Rattle.mr_master.proofs.Keeping.{held}
 use Rattle.mr_master.proofs.Made.{plans-as}
-use Rattle.mr_master.proofs.Replies.{quiet-seen, quiet-sends, look-changes}
+use Rattle.mr_phase.proofs.Replies.{quiet-seen, quiet-sends, look-changes}
 use Rattle.mr_master.proofs.machine.Machine.ready_look.Goals as goal
 
 work-is : (c : goal.In_ok-ready) (w : Setting) (s : Seen) → Keeps c.args.self.now w s → c.look.result ≡ work_after w s c.args.answer.now s.work

@@ -8,7 +8,7 @@ use Rattle.mr_master_model.specs.Answered.{read_by, with_earlier, is_unsuccessfu
 use Rattle.mr_master.specs.declared.change.Change.TheVariants as change
 use Rattle.mr_master.proofs.Keeping.{held}
 use Rattle.mr_master.proofs.Made.{plan-as}
-use Rattle.mr_master.proofs.Steps.{told-is, unread, read-is, read-seen, read-sends}
+use Rattle.mr_phase.proofs.Steps.{told-is, unread, read-is, read-seen, read-sends}
 use Rattle.mr_master.proofs.machine.Machine.ready_read.Goals as goal
 
 pub returns : goal.returns

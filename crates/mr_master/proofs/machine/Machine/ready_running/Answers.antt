@@ -15,7 +15,8 @@ use Rattle.mr_tables.specs.Records.{written_by}
 use Rattle.mr_master.specs.State.{Keeps}
 use Rattle.mr_master.proofs.Keeping.{held}
 use Rattle.mr_master.proofs.Made.{plans-as, plan-as}
-use Rattle.mr_master.proofs.Replies.{runs-stop, runs-seen, runs-sends, runs-on, due-runs, name-bar, name-start, name-record, recorded-work, moved-work, found-passes, live-of-job, death-is}
+use Rattle.mr_phase.proofs.Replies.{runs-stop, runs-seen, runs-sends, runs-on, due-runs, name-bar, name-start, name-record, recorded-work, moved-work, found-passes}
+use Rattle.mr_master.proofs.Dying.{live-of-job, death-is}
 use Rattle.mr_master.proofs.machine.Machine.ready_running.Goals as goal
 
 pub returns-then-not-is_fine : goal.returns-then-not-is_fine

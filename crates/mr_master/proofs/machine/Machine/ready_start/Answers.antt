@@ -1,7 +1,8 @@
 use Rattle.std.proofs.Common.{refl, sym, subst, Bool, true}
 use Rattle.mr_master.specs.declared.change.Change.TheVariants as change
-use Rattle.mr_master.specs.Taking.{winner_of, KeepsAfter}
-use Rattle.mr_master.specs.Tasks.{Tasks}
+use Rattle.mr_phase.specs.Taking.{winner_of}
+use Rattle.mr_tasks.specs.Tasks.{Tasks}
+use Rattle.mr_master.specs.Taking.{KeepsAfter}
 use Rattle.mr_master.proofs.Made.{plan-as}
 use Rattle.mr_master.proofs.machine.Machine.ready_start.Goals as goal
 

@@ -3,15 +3,15 @@ use Rattle.mr_commit.specs.Halves.{Fits}
 use Rattle.mr_master_model.specs.declared.setting.Setting.{Setting}
 use Rattle.mr_master_model.specs.Past.{Work}
 use Rattle.mr_master_model.specs.Readings.{Seen}
-use Rattle.mr_master.specs.declared.store.Coming.TheVariants as coming
+use Rattle.mr_phase.specs.declared.store.Coming.TheVariants as coming
 use Rattle.mr_master.specs.declared.change.Change.TheVariants as change
-use Rattle.mr_master.specs.inner.Coming.{IsComing}
-use Rattle.mr_master.specs.WorkKinds.{is_step, left_of, refused_when}
+use Rattle.mr_phase.specs.Coming.{IsComing}
+use Rattle.mr_phase.specs.WorkKinds.{is_step, left_of, refused_when}
 use Rattle.mr_master_model.specs.Answered.{is_superseded}
 use Rattle.mr_master.specs.State.{Master, Keeps}
 use Rattle.mr_master.proofs.Keeping.{held}
 use Rattle.mr_master.proofs.Made.{plan-as, plans-as}
-use Rattle.mr_master.proofs.Steps.{goes-on, goes-last, goes-wrong}
+use Rattle.mr_phase.proofs.Steps.{goes-on, goes-last, goes-wrong}
 use Rattle.mr_master.proofs.machine.Machine.ready_step.Goals as goal
 
 pub returns-in-More : goal.returns-in-More

@@ -1,6 +1,7 @@
 use Rattle.std.proofs.Common.{ℕ, refl, sym, subst, ◌≡◌, ◌<◌, Some, length}
 use Rattle.mr_master.specs.declared.change.Change.TheVariants as change
-use Rattle.mr_master.specs.Taking.{winner_of, EntersAt}
+use Rattle.mr_phase.specs.Taking.{winner_of}
+use Rattle.mr_master.specs.Taking.{EntersAt}
 use Rattle.mr_master.specs.State.{Master}
 use Rattle.mr_master.specs.inner.Placed.{IsPlaced}
 use Rattle.mr_master.proofs.Made.{plan-as}

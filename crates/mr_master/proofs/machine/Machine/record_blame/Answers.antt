@@ -1,5 +1,5 @@
 use Rattle.std.proofs.Common.{subst, ap}
-use Rattle.mr_master.specs.declared.ending.Blame.{Blame}
+use Rattle.mr_master.specs.declared.blame.Blame.{Blame}
 use Rattle.mr_master.specs.Told.{blamed, blame_count}
 use Rattle.mr_master.specs.Prepared.{HasRecordRoom}
 use Rattle.mr_master.proofs.Keeping.{by-seen}

@@ -1,4 +1,5 @@
-use Rattle.mr_master.proofs.Keeping.{held, placed}
+use Rattle.mr_master.proofs.Keeping.{held}
+use Rattle.mr_tasks.proofs.Keeping.{placed}
 use Rattle.mr_master.proofs.Flushes.{success-keeps}
 use Rattle.mr_master.proofs.machine.Machine.record_success.Goals as goal
 

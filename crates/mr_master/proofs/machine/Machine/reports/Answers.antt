@@ -3,7 +3,7 @@ use Rattle.mr_task.specs.Calls.{Reports}
 use Rattle.mr_master_model.specs.Readings.{tell}
 use Rattle.mr_master.specs.Told.{due_count}
 use Rattle.mr_master.specs.Prepared.{HasRecordRoom}
-use Rattle.mr_master.specs.Tasks.{IsReplyAt}
+use Rattle.mr_tasks.specs.Tasks.{IsReplyAt}
 use Rattle.mr_master.specs.State.{Master}
 use Rattle.mr_master.proofs.Keeping.{held, tell-keeps}
 use Rattle.mr_master.proofs.machine.Machine.reports.Goals as goal

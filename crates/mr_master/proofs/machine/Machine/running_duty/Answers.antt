@@ -2,7 +2,7 @@ use Rattle.std.proofs.Common.{sym, refl, ◌∙◌, ap, true, false, Some, None}
 use Rattle.mr_master_model.specs.Duty.{creates}
 use Rattle.mr_master_model.specs.declared.phase.DutyName.TheVariants as name
 use Rattle.mr_master.proofs.Keeping.{held}
-use Rattle.mr_master.proofs.Due.{runs-bar, runs-record, runs-start, runs-due, on-err}
+use Rattle.mr_phase.proofs.Due.{runs-bar, runs-record, runs-start, runs-due, on-err}
 use Rattle.mr_master.proofs.machine.Machine.running_duty.Goals as goal
 
 pub returns-in-Some-clause-due : goal.returns-in-Some-clause-due

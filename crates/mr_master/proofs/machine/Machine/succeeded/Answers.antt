@@ -1,7 +1,8 @@
 use Rattle.std.proofs.Common.{sym, refl, ◌∙◌}
 use Rattle.mr_task.proofs.Telling.{winner-told}
-use Rattle.mr_master.proofs.Keeping.{held, placed, not-placed}
-use Rattle.mr_master.proofs.Gathering.{found-at, never-none}
+use Rattle.mr_master.proofs.Keeping.{held}
+use Rattle.mr_tasks.proofs.Keeping.{placed, not-placed}
+use Rattle.mr_tasks.proofs.Keeping.{found-at, never-none}
 use Rattle.mr_master.proofs.Lying.{none-outside}
 use Rattle.mr_master.proofs.machine.Machine.succeeded.Goals as goal
 

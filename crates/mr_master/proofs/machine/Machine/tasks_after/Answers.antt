@@ -1,7 +1,7 @@
 use Rattle.std.proofs.Common.{refl, sym, ap, subst, ◌∙◌, length, true}
-use Rattle.mr_master.specs.Tasks.{Tasks, KeepsTasks}
+use Rattle.mr_tasks.specs.Tasks.{Tasks, KeepsTasks}
 use Rattle.mr_master.specs.State.{Master}
-use Rattle.mr_master.specs.Taking.{winner_of, calls_with}
+use Rattle.mr_phase.specs.Taking.{winner_of, calls_with}
 use Rattle.mr_master.proofs.Keeping.{held}
 use Rattle.mr_master.proofs.Taken.{begins-so}
 use Rattle.mr_master.proofs.machine.Machine.tasks_after.Goals as goal

@@ -3,7 +3,8 @@ use Rattle.mr_ids.specs.Attempt.{Attempt}
 use Rattle.mr_ids.specs.declared.id.TaskId.{TaskId}
 use Rattle.mr_master_model.specs.Job.{is_task}
 use Rattle.mr_task.specs.Calls.{Dies}
-use Rattle.mr_master.proofs.Keeping.{held, placed, not-placed}
+use Rattle.mr_master.proofs.Keeping.{held}
+use Rattle.mr_tasks.proofs.Keeping.{placed, not-placed}
 use Rattle.mr_master.proofs.Dying.{one-keeps, other-keeps}
 use Rattle.mr_master.proofs.machine.Machine.tell_death.Goals as goal
 

@@ -3,9 +3,9 @@ use Rattle.mr_ids.specs.declared.id.TaskKind.{TaskKind}
 use Rattle.mr_ids.specs.declared.id.TaskKind.TheVariants.{Map, Reduce}
 use Rattle.mr_master_model.specs.Past.{Work}
 use Rattle.mr_master_model.specs.Readings.{is_running}
-use Rattle.mr_master.specs.inner.Progress.{waits, IsNextOf}
+use Rattle.mr_tasks.specs.Progress.{waits, IsNextOf}
 use Rattle.mr_master.proofs.Keeping.{held}
-use Rattle.mr_master.proofs.Following.{wants-none, wants-map, wants-reduce}
+use Rattle.mr_master.proofs.Wanting.{wants-none, wants-map, wants-reduce}
 use Rattle.mr_master.proofs.machine.Machine.wanted.Goals as goal
 
 pub returns-in_default : goal.returns-in_default

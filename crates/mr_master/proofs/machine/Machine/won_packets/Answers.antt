@@ -3,7 +3,7 @@ use Rattle.mr_packet.specs.declared.packet.Packet.TheVariants as packet
 use Rattle.mr_recover.specs.declared.winner.TaskWinner.{TaskWinner}
 use Rattle.mr_master_model.specs.Past.{Work}
 use Rattle.mr_master_model.specs.Sends.{to_all}
-use Rattle.mr_master.specs.Taking.{winner_of, won_of}
+use Rattle.mr_phase.specs.Taking.{winner_of, won_of}
 use Rattle.mr_master.proofs.Keeping.{held}
 use Rattle.mr_master.proofs.machine.Machine.won_packets.Goals as goal
 

@@ -1,0 +1,10 @@
+pub mod Apart
+pub mod Opening
+pub mod Keeping
+pub mod Telling
+pub mod KindTests
+pub mod Taken
+pub mod AllDone
+pub mod Waiting
+pub mod Following
+pub mod Refusals
