@@ -1,5 +1,5 @@
 //! What a run that came to its end is told as.
-ghost use Rattle.std.specs.Prelude.{◌≡◌, ◌×◌, ◌↔◌, Some, true, IfOk, IfErr, IsTrue};
+ghost use Rattle.std.specs.Prelude.{◌≡◌, ◌↔◌, Some, true, IfOk, IfErr, IsTrue};
 ghost use Rattle.mr_user.specs.Computation.{computation};
 ghost use Rattle.mr_model.specs.Results.{outcome};
 ghost use Rattle.mr_world.specs.Journal.{world_in};
