@@ -1,7 +1,12 @@
+mod Ahead
+mod Asking
 mod Beginning
+mod Listed
 mod Making
 mod Onwards
 mod Printing
 pub mod Refused
 mod Trying
+mod Unseen
+mod Waiting
 mod Winning

@@ -49,16 +49,16 @@ module _ (job : Job) (cfg : Config) (within : Limits) where
 
   -- ---- how a run goes on by itself: as a calm of the newest master, unless it goes on in vain
 
-  abbrev pub only_asked : ℕ → ℕ → Option Played → Bool
-  only_asked n most None = false
-  only_asked n most (Some t) = ask_behind n most (world job cfg within t).bag t.events
+  abbrev pub only_asked : List ContainerId → (n sent : ℕ) → Option Played → Bool
+  only_asked cs n sent None = false
+  only_asked cs n sent (Some t) = ask_behind cs n sent (world job cfg within t) t.events
 
-  -- the next `most` events of the calm are there, and all of them ask
-  abbrev pub asks_on : ℕ → Played → Bool
-  asks_on most s = only_asked (length s.events) most (calm most s)
+  -- the next events of the calm are there, and they only ask
+  abbrev pub asks_on : List ContainerId → Played → Bool
+  asks_on cs s = only_asked cs (length s.events) (length (world job cfg within s).bag) (calm (most_ahead cs) s)
 
   abbrev pub waits_in_vain : List ContainerId → Played → Bool
-  waits_in_vain cs s = all_wait cfg (world job cfg within s) cs && asks_on (most_ahead cs) s
+  waits_in_vain cs s = all_wait cfg (world job cfg within s) cs && asks_on cs s
 
   -- all who live wait, and whatever they ask in both of their ways is not answered, or is answered by no
   abbrev pub goes_in_vain : Played → Bool

@@ -1,7 +1,13 @@
-//! A law of the definitions: this function does nothing.
-ghost use Rattle.mr_explore.specs.Laws.{ExploredOrRefused};
+//! Laws of the definitions: these functions do nothing.
+ghost use Rattle.mr_explore.specs.Laws.{AskingShowsNothing, ExploredOrRefused};
 
 /// An input has one run at most from which it is explored, and nothing is printed of an input that is refused.
 pub fn explored_or_refused()
     ensures { ExploredOrRefused }
+{}
+
+/// An event by which somebody only asks, or is told no, changes nothing that `play` prints of a cluster. Nor does
+/// anything that is looked ahead at where a run goes on in vain.
+pub fn asking_shows_nothing()
+    ensures { AskingShowsNothing }
 {}

@@ -15,7 +15,8 @@
 //! - **A run is one of mr_walk's** (`Explored`): its calm, where it has ended, what may befall it at a place, and what
 //!   then comes of it are exactly those of the definitions. It has ended where its calm has, or where it goes on in
 //!   vain (`specs/Vain`): all who live wait for their masters, and the calm's next events are their questions alone.
-//!   That nothing comes of such a run any more is reckoned in the README, and not proved.
+//!   In these events nothing changes of what `play` prints (`asking_shows_nothing`). That nothing comes of such a run
+//!   behind them is reckoned in the README, and not proved.
 //! - **The runs that are made are exactly those of the definition, in its order, each once** (`Exploration::new`,
 //!   `make`). At first all runs are left that come of the first one by at most `faults` faults (`runs_with`, of which
 //!   mr_walk says that these are all). Each call of `make` takes the first of those that are left and notes their
@@ -46,7 +47,7 @@ mod winners;
 pub use asked::{Asked, Form};
 pub use exploration::Exploration;
 pub use explored::Explored;
-pub use laws::explored_or_refused;
+pub use laws::{asking_shows_nothing, explored_or_refused};
 pub use leading::check_scripts;
 pub use mr_ends::{Row, Table, best_of};
 pub use mr_faults::Fault;

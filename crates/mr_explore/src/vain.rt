@@ -1,9 +1,10 @@
 //! Whether a run goes on in vain: all who live wait for their masters, and all that comes is that they ask, and that nothing is answered, or no.
-ghost use Rattle.std.specs.Prelude.{◌≡◌, IfOk, IfErr};
-ghost use Rattle.std.specs.List.{list_all};
+ghost use Rattle.std.specs.Prelude.{◌≡◌, filter, length, IfOk, IfErr};
+ghost use Rattle.std.specs.List.{list_all, list_any};
+ghost use Rattle.mr_faults.specs.Kinds.{is_delivery};
 ghost use Rattle.mr_world.specs.Journal.{world_in};
 ghost use Rattle.mr_world.specs.Readings.{living};
-ghost use Rattle.mr_explore.specs.Vain.{all_wait, ask_behind, asked_last, asks, asks_in, count_of, is_asking, is_waiting, waits};
+ghost use Rattle.mr_explore.specs.Vain.{all_come, all_wait, ask_behind, asked_last, asks, asks_in, comes, count_of, is_asking, is_step, is_waiting, most_ahead, only_ask, step_twice, waits};
 ghost use Rattle.mr_explore.specs.inner.Players.{asks_on_in, vain_in};
 
 use mr_commands::SimFault;
@@ -16,8 +17,10 @@ use std::alloc::Global;
 
 // Two questions and two answers.
 const PACKETS_OF_A_CONTAINER: usize = 4;
-// Two steps, their questions, and the answers.
-const EVENTS_OF_A_CONTAINER: u64 = 6;
+// Four steps, their questions, and the answers.
+const EVENTS_OF_A_CONTAINER: usize = 12;
+// Then all that came of them has come where another step is made.
+const STEPS_OF_A_CONTAINER: usize = 2;
 
 /// Whether the run goes on in vain. Its only fault is an allocation failure.
 pub fn is_in_vain(alloc: Global, player: &Player) -> Result<bool, SimFault>
@@ -26,8 +29,7 @@ pub fn is_in_vain(alloc: Global, player: &Player) -> Result<bool, SimFault>
 {
     let living = living(&player.world)?;
     if all_wait(&player.world, &living) {
-        let most = EVENTS_OF_A_CONTAINER * count(&living) as u64;
-        asks_on(alloc, player, most)
+        asks_on(alloc, player, &living)
     } else {
         Ok(false)
     }
@@ -118,38 +120,107 @@ fn is_asking(packet: &Packet) -> bool
     }
 }
 
-// Whether the next `most` events of the calm only ask.
-fn asks_on(alloc: Global, player: &Player, most: u64) -> Result<bool, SimFault>
-    ensures is { IfOk result (λ on. on ≡ asks_on_in player.now most) }
+// Whether the next events of the calm only ask.
+fn asks_on(alloc: Global, player: &Player, living: &[ContainerId]) -> Result<bool, SimFault>
+    ensures is { IfOk result (λ on. on ≡ asks_on_in player.now living.now) }
     ensures memory { IfErr result (λ fault. fault ≡ SimFault.NoMemory) }
 {
     let mut ahead = player.fork(alloc)?;
-    ahead_asks(alloc, &mut ahead, most)
+    ahead_asks(alloc, &mut ahead, living)
 }
 
 // The same. The player makes the events.
-fn ahead_asks(alloc: Global, ahead: &mut Player, most: u64) -> Result<bool, SimFault>
-    ensures is { IfOk result (λ on. on ≡ asks_on_in ahead.old most) }
+fn ahead_asks(
+    alloc: Global,
+    ahead: &mut Player,
+    living: &[ContainerId],
+) -> Result<bool, SimFault>
+    ensures is { IfOk result (λ on. on ≡ asks_on_in ahead.old living.now) }
     ensures memory { IfErr result (λ fault. fault ≡ SimFault.NoMemory) }
 {
     let before = ahead.world.journal().len();
+    let sent = ahead.world.bag().len();
     let newest = ahead.world.newest();
-    match ahead.calm_for(alloc, newest, None, most) {
-        Ok(()) => Ok(ask_behind(ahead.world.bag(), ahead.world.journal(), before, most)),
+    match ahead.calm_for(alloc, newest, None, most_ahead(living) as u64) {
+        Ok(()) => Ok(ask_behind(&ahead.world, living, before, sent)),
         Err(SimFault::Full) => Ok(false),
         Err(_) => Err(SimFault::NoMemory),
     }
 }
 
-// Whether there are `most` events behind the first `before`, and all of them ask.
-fn ask_behind(bag: &[Envelope], events: &[Event], before: usize, most: u64) -> bool
-    ensures { result ≡ ask_behind before most bag.now events.now }
+// How many events are looked at.
+fn most_ahead(living: &[ContainerId]) -> usize
+    ensures { result ≡ most_ahead living.now }
 {
+    EVENTS_OF_A_CONTAINER * count(living)
+}
+
+// Whether there are as many events behind the first `before` as are looked at, and they only ask. The packets that they sent lie from
+// place `sent` on.
+fn ask_behind(world: &World, living: &[ContainerId], before: usize, sent: usize) -> bool
+    ensures { result ≡ ask_behind living.now before sent (world_in world.now) world.now.events }
+{
+    let events = world.journal();
     if events.len() < before {
         return false;
     }
     let made = &events[before..];
-    made.len() as u64 == most && all_ask(bag, made)
+    made.len() == most_ahead(living) && only_ask(world, living, made, sent)
+}
+
+// Whether the events only ask, and what they sent came.
+fn only_ask(world: &World, living: &[ContainerId], events: &[Event], sent: usize) -> bool
+    ensures { result ≡ only_ask living.now sent (world_in world.now) events.now }
+{
+    step_twice(living, events) && all_ask(world.bag(), events) && all_come(world, events, sent)
+}
+
+// Whether each makes two steps, and one more comes.
+fn step_twice(living: &[ContainerId], events: &[Event]) -> bool
+    ensures { result ≡ step_twice living.now events.now }
+{
+    STEPS_OF_A_CONTAINER * count(living) < steps_among(events)
+}
+
+fn steps_among(events: &[Event]) -> usize
+    ensures { result ≡ length (filter is_step events.now) }
+{
+    events.iter().filter(|event| is_step(event)).count()
+}
+
+fn is_step(event: &Event) -> bool
+    ensures { result ≡ is_step event.now }
+{
+    matches!(event, Event::ContainerStep { .. })
+}
+
+// Whether each packet from this place on came, but the last, which may be on its way.
+fn all_come(world: &World, events: &[Event], from: usize) -> bool
+    ensures { result ≡ all_come (world_in world.now) events.now from }
+{
+    let last = world.bag().len().saturating_sub(1);
+    for place in from..last {
+        if !comes(world, events, place) {
+            return false;
+        }
+    }
+    true
+}
+
+// Whether one of the events delivers the packet, or it goes to nobody who is alive.
+fn comes(world: &World, events: &[Event], place: usize) -> bool
+    ensures { result ≡ comes (world_in world.now) events.now place }
+{
+    delivers(events, place as u64) || world.undeliverable(place).is_some()
+}
+
+fn delivers(events: &[Event], place: u64) -> bool
+    ensures { result ≡ list_any (is_delivery place) events.now }
+{
+    events.iter().any(|event| match event {
+        Event::Deliver { packet } => *packet == place,
+        _ => false,
+    })
 }
 
 fn all_ask(bag: &[Envelope], events: &[Event]) -> bool

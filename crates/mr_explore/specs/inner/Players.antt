@@ -1,5 +1,6 @@
 -- The definitions, of a player.
 use Rattle.std.specs.Prelude.{◌≡◌, ℕ, suc, Bool, true, false, List, Option, None, Result, Ok, Err}
+use Rattle.mr_packet.specs.declared.packet.ContainerId.{ContainerId}
 use Rattle.mr_model.specs.World.{Event, Crash}
 use Rattle.mr_world.specs.Limits.{within}
 use Rattle.mr_play.specs.declared.player.Player.{Player}
@@ -43,8 +44,8 @@ onward_in p = onward (job_as p.job) p.world.config (within p.world.config) (stat
 abbrev pub vain_in : Player → Bool
 vain_in p = goes_in_vain (job_as p.job) p.world.config (within p.world.config) (state_in p)
 
-abbrev pub asks_on_in : Player → ℕ → Bool
-asks_on_in p most = asks_on (job_as p.job) p.world.config (within p.world.config) most (state_in p)
+abbrev pub asks_on_in : Player → List ContainerId → Bool
+asks_on_in p cs = asks_on (job_as p.job) p.world.config (within p.world.config) cs (state_in p)
 
 abbrev pub steps_in : Player → ℕ → ℕ
 steps_in p most = steps_made (job_as p.job) p.world.config (within p.world.config) most (state_in p)
