@@ -77,4 +77,4 @@ pub use merge::Merge;
 pub use mr_ids::Bytes;
 pub use piece::Piece;
 pub use shelf::ShelfOfNode;
-pub use work::reduce_work;
+pub use work::{reduce_bytes, reduce_work};
