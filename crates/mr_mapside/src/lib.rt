@@ -24,9 +24,9 @@
 //!   to that reduce, by rising keys, each key's values combined.
 //! - Its faults: `User(Refused)` is answered only where the job refuses a line of the split, and no other `User` is
 //!   ever answered. `Full` is answered only where the output's bytes pass 2^24, and `Shuffle` never.
-//! - Read in the code, not proved: it holds at most 4,096 decoded pairs, beside those of the present line and the
+//! - Read in the code, not proved: it holds at most 16,384 decoded pairs, beside those of the present line and the
 //!   values of the one key that is combined. The others are kept as they are written, in sorted runs, which it merges
-//!   at the end. The merge holds a pair of each run, which are more than 4,096 where a split has more than 16,777,216
+//!   at the end. The merge holds a pair of each run, which are more than 1,024 where a split has more than 16,777,216
 //!   pairs.
 //! - **`RunGroups`** merges lists of written pairs, each by rising keys. `next_group` gives the groups of all their
 //!   pairs, by rising keys, each key's values by list and then by place. It holds one pair of each list, beside the

@@ -23,7 +23,7 @@ use std::alloc::{AllocError, Global};
 /// The gate is entered once, before the work, and a gate that answers a fault is answered `Gate`. Then
 /// `User(Refused)` is answered where the job refuses a line, and `Full` where the output would pass `MAX_OUTPUT_LEN`.
 /// `NoMemory` is answered only where a growth was refused. For n pairs it compares keys n log n times. It holds at
-/// most 4,096 decoded pairs, beside those of the present line and the values of the one key that is combined. The
+/// most 16,384 decoded pairs, beside those of the present line and the values of the one key that is combined. The
 /// others are kept as they are written.
 pub fn map_work<J: Job, G: Gate>(
     alloc: Global,
@@ -56,8 +56,9 @@ fn merged_output<J: Job>(alloc: Global, job: &J, kept: &[KeptRuns]) -> Result<Ma
         IfErr result (λ fault. FullIf fault (flat_map (λ runs. framed (spelled all (flat_map (combined_group all) (merged all runs)))) kept.now)) }
 {
     let mut bytes = Vec::new(alloc);
+    let mut block = Vec::new(alloc);
     for runs in kept {
-        let block = merged_block(alloc, job, runs)?;
+        merged_block(alloc, job, runs, &mut block)?;
         append_block(&mut bytes, &block)?;
     }
     Ok(MapOutput::from_vec(bytes))
@@ -78,19 +79,24 @@ fn append_block(bytes: &mut Vec<u8>, block: &[u8]) -> Result<(), WorkFault>
     Ok(())
 }
 
-// The block of the runs for one reduce.
-fn merged_block<J: Job>(alloc: Global, job: &J, runs: &KeptRuns) -> Result<Vec<u8>, AllocError>
+// Writes the block of the runs for one reduce over another one, whose memory it takes.
+fn merged_block<J: Job>(
+    alloc: Global,
+    job: &J,
+    runs: &KeptRuns,
+    block: &mut Vec<u8>,
+) -> Result<(), AllocError>
     requires { AreRuns (computation J.Key.cmp J.Key.codec J.Value.codec J.functions) runs.now }
     ensures { let all = computation J.Key.cmp J.Key.codec J.Value.codec J.functions in
-        IfOk result (λ block. block.items ≡ spelled all (flat_map (combined_group all) (merged all runs.now))) }
+        OnOk result (block.new.items ≡ spelled all (flat_map (combined_group all) (merged all runs.now))) }
 {
     let mut groups = RunGroups::<J>::new(alloc, runs.lent(alloc)?)?;
-    let mut block = Vec::new(alloc);
     let mut name = Vec::new(alloc);
+    block.clear();
     while let Some((key, values)) = groups.next_group(alloc)? {
-        spell_group(alloc, job, &key, &values, &mut name, &mut block)?;
+        spell_group(alloc, job, &key, &values, &mut name, block)?;
     }
-    Ok(block)
+    Ok(())
 }
 
 // Appends the combined pairs of a key. The key is written once, to where the name of the key before stood.

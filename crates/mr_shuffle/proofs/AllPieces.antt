@@ -1,15 +1,14 @@
 -- The pairs of all pieces, piece by piece.
-use Rattle.std.proofs.Common.{◌≡◌, ℕ, zero, suc, ◌+◌, ◌<◌, ◌≤◌, List, [], ◌∷◌, length, get_or, drop, Option, Some, None, Result, Ok, Err, refl, subst, IfOk, IfErr, ◌^◌, sym, ap, ◌∙◌, arith}
+use Rattle.std.proofs.Common.{◌≡◌, ℕ, zero, suc, ◌+◌, ◌<◌, ◌≤◌, List, [], ◌∷◌, length, get_or, drop, Option, Some, None, Result, Ok, Err, refl, subst, IfOk, IfErr, Bor, map, ◌^◌, sym, ap, ◌∙◌, arith}
 use Rattle.std.specs.List.{flat_map}
 use Rattle.std.specs.Result.{IsErrAnd, result_err}
 use Rattle.std.proofs.lemmas.List.{drop_all}
 use Rattle.mr_user.specs.Computation.{Computation}
 use Rattle.mr_mapside.specs.declared.fault.ShuffleFault.{ShuffleFault}
 use Rattle.mr_mapside.specs.declared.fault.ShuffleFault.TheVariants as shuffle
-use Rattle.mr_shuffle.specs.declared.piece.Piece.{Piece}
 use Rattle.mr_shuffle.specs.Part.{result_map, first_then, pairs_of_piece, pairs_of_pieces, pairs_of_all}
 use Rattle.mr_shuffle.specs.inner.Fault.{ReadFaultIs}
-use Rattle.mr_shuffle.specs.Work.{bytes_of, in_work, ReduceFaultIs}
+use Rattle.mr_shuffle.specs.Work.{in_work, ReduceFaultIs}
 use Rattle.mr_mapside.specs.declared.fault.WorkFault.{WorkFault}
 use Rattle.mr_mapside.specs.declared.fault.WorkFault.TheVariants as work
 use Rattle.mr_mapside.specs.Work.{FullIf}
@@ -32,42 +31,46 @@ skipped (Ok x) (Ok xs) h = refl
 skipped (Ok x) (Err e) h = refl
 skipped (Err e) r h = cc
 
+-- what is lent
+abbrev pub lent : List (Bor (List ℕ)) → List (List ℕ)
+lent lists = map (λ (bytes : Bor (List ℕ)). bytes.now) lists
+
 module _ {K V : Type 0} (job : Computation K V) where
   -- one piece more was read through
-  pub piece_more : (all : Option ShuffleFault) (parts : List Piece) (i : ℕ) (p : Piece) →
-      all ≡ result_err (pairs_of_pieces job (bytes_of (drop i parts))) → i < length parts → p ≡ get_or parts i p → result_err (pairs_of_piece job p.bytes) ≡ None →
-      all ≡ result_err (pairs_of_pieces job (bytes_of (drop (i + 1) parts)))
+  pub piece_more : (all : Option ShuffleFault) (parts : List (Bor (List ℕ))) (i : ℕ) (p : Bor (List ℕ)) →
+      all ≡ result_err (pairs_of_pieces job (lent (drop i parts))) → i < length parts → p ≡ get_or parts i p → result_err (pairs_of_piece job p.now) ≡ None →
+      all ≡ result_err (pairs_of_pieces job (lent (drop (i + 1) parts)))
   piece_more all parts i p h l at read =
       let rest = drop (i + 1) parts in
       h
-      ∙ ap (λ (parts : List Piece). result_err (pairs_of_pieces job (bytes_of parts))) (drop-get parts i p l ∙ ap (λ (p : Piece). p ∷ rest) (sym at))
-      ∙ skipped (pairs_of_piece job p.bytes) (pairs_of_pieces job (bytes_of rest)) read
+      ∙ ap (λ (parts : List (Bor (List ℕ))). result_err (pairs_of_pieces job (lent parts))) (drop-get parts i p l ∙ ap (λ (p : Bor (List ℕ)). p ∷ rest) (sym at))
+      ∙ skipped (pairs_of_piece job p.now) (pairs_of_pieces job (lent rest)) read
 
   stopped : (x : Result (List (K × V)) ShuffleFault) (r : Result (List (List (K × V))) ShuffleFault) (fault : ShuffleFault) → x ≡ Err fault → result_err (first_then x r) ≡ Some fault
   stopped (Ok ps) r fault h = cc
   stopped (Err e) r fault h = let same : e ≡ fault = cc in ap Some same
 
   -- a piece has a fault, and it is that of all
-  pub piece_fault : (pieces : List (List ℕ)) (parts : List Piece) (i : ℕ) (p : Piece) (fault : ShuffleFault) →
-      result_err (pairs_of_pieces job pieces) ≡ result_err (pairs_of_pieces job (bytes_of (drop i parts))) → i < length parts → p ≡ get_or parts i p → ReadFaultIs fault (pairs_of_piece job p.bytes) → ReadFaultIs fault (pairs_of_all job pieces)
+  pub piece_fault : (pieces : List (List ℕ)) (parts : List (Bor (List ℕ))) (i : ℕ) (p : Bor (List ℕ)) (fault : ShuffleFault) →
+      result_err (pairs_of_pieces job pieces) ≡ result_err (pairs_of_pieces job (lent (drop i parts))) → i < length parts → p ≡ get_or parts i p → ReadFaultIs fault (pairs_of_piece job p.now) → ReadFaultIs fault (pairs_of_all job pieces)
   piece_fault pieces parts i p fault h l at is = by fault is where
-    to : (fault : ShuffleFault) → pairs_of_piece job p.bytes ≡ Err fault → pairs_of_all job pieces ≡ Err fault
+    to : (fault : ShuffleFault) → pairs_of_piece job p.now ≡ Err fault → pairs_of_all job pieces ≡ Err fault
     to fault e =
         ap (result_map (flat_map (λ ps. ps))) (err_only (pairs_of_pieces job pieces) fault (
         h
-        ∙ ap (λ (parts : List Piece). result_err (pairs_of_pieces job (bytes_of parts))) (drop-get parts i p l ∙ ap (λ (p : Piece). p ∷ drop (i + 1) parts) (sym at))
-        ∙ stopped (pairs_of_piece job p.bytes) (pairs_of_pieces job (bytes_of (drop (i + 1) parts))) fault e
+        ∙ ap (λ (parts : List (Bor (List ℕ))). result_err (pairs_of_pieces job (lent parts))) (drop-get parts i p l ∙ ap (λ (p : Bor (List ℕ)). p ∷ drop (i + 1) parts) (sym at))
+        ∙ stopped (pairs_of_piece job p.now) (pairs_of_pieces job (lent (drop (i + 1) parts))) fault e
         ))
 
-    by : (fault : ShuffleFault) → ReadFaultIs fault (pairs_of_piece job p.bytes) → ReadFaultIs fault (pairs_of_all job pieces)
+    by : (fault : ShuffleFault) → ReadFaultIs fault (pairs_of_piece job p.now) → ReadFaultIs fault (pairs_of_all job pieces)
     by shuffle.NoMemory is = tt
     by shuffle.WrongPiece is = absurd is
     by shuffle.Truncated is = to shuffle.Truncated is
     by shuffle.Disorder is = to shuffle.Disorder is
 
   -- all pieces were read through
-  pub pieces_end : (all : Option ShuffleFault) (parts : List Piece) (i : ℕ) → all ≡ result_err (pairs_of_pieces job (bytes_of (drop i parts))) → length parts ≤ i → all ≡ None
-  pieces_end all parts i h l = h ∙ ap (λ (parts : List Piece). result_err (pairs_of_pieces job (bytes_of parts))) (drop_all i parts l)
+  pub pieces_end : (all : Option ShuffleFault) (parts : List (Bor (List ℕ))) (i : ℕ) → all ≡ result_err (pairs_of_pieces job (lent (drop i parts))) → length parts ≤ i → all ≡ None
+  pieces_end all parts i h l = h ∙ ap (λ (parts : List (Bor (List ℕ))). result_err (pairs_of_pieces job (lent parts))) (drop_all i parts l)
 
 -- the fault of pieces is that of the work
 pub work_fault : {A : Type 0} (GateRefuses InPlace : Type 0) (f : A → List ℕ) (meant : Result A ShuffleFault) (most : ℕ) (fault : ShuffleFault) (is : WorkFault) → is ≡ in_work fault → InPlace → ReadFaultIs fault meant → ReduceFaultIs GateRefuses InPlace (result_map f meant) most is

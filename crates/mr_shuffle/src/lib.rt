@@ -36,7 +36,9 @@
 //!   where that is the first fault in the order of the pieces and then of the bytes. `Full` comes only where the part
 //!   is a text of more than 2^24 bytes, and `NoMemory` only where the pieces are in place. `User` and
 //!   `Shuffle(NoMemory)` never come.
-//! - Of both works: `Gate` is answered only where the gate may refuse work of that kind (`Gate::refuses`, which a
+//! - `reduce_bytes` is the same of what the pieces hold, in the order of the maps. It has all these
+//!   faults but `WrongPiece`.
+//! - Of every work: `Gate` is answered only where the gate may refuse work of that kind (`Gate::refuses`, which a
 //!   gate may leave open). So `OpenGate` never causes it.
 //! - What a piece says, in whole lists (`piece_is_what_it_says`): Ok exactly where its bytes are pairs written one
 //!   after the other, all fitting, no key less than the one before it. `Truncated` exactly where such pairs are
@@ -54,8 +56,8 @@
 //!   there is no such reduce.
 //! - `put` finds the blocks, in one walk over the output, and keeps their places (8 bytes a block, a growth that
 //!   `put` answers for). `get` is then a look-up and no walk (read in the code: no clause speaks of time).
-//! - Memory may be taken by `reduce_work`, `Merge::new`, `Merge::next`, `ShelfOfNode::put` and `ShelfOfNode::copy`.
-//!   No other call takes any.
+//! - Memory may be taken by `reduce_work`, `reduce_bytes`, `Merge::new`, `Merge::next`, `ShelfOfNode::put` and
+//!   `ShelfOfNode::copy`. No other call takes any.
 //!
 //! Only tested: that each work enters its gate, that calls succeed with ample memory, and the bytes of the worked
 //! examples. Also every prefix and every change of a byte of a block, and texts of exactly 2^24 bytes and of one
@@ -77,4 +79,4 @@ pub use merge::Merge;
 pub use mr_ids::Bytes;
 pub use piece::Piece;
 pub use shelf::ShelfOfNode;
-pub use work::reduce_work;
+pub use work::{reduce_bytes, reduce_work};

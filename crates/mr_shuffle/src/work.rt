@@ -1,6 +1,6 @@
 //! The work of a reduce task. The pieces of all maps are read through, merged by key, and reduced to the text of its
 //! part file.
-ghost use Rattle.std.specs.Prelude.{◌≡◌, ◌≤◌, length, map, None, Ok, IfOk, IfErr, OnOk};
+ghost use Rattle.std.specs.Prelude.{◌≡◌, ◌≤◌, length, map, None, Ok, IfOk, IfErr, OnOk, ⊤};
 ghost use Rattle.std.specs.List.{flat_map};
 ghost use Rattle.std.specs.Result.{result_err};
 ghost use Rattle.mr_ids.specs.declared.id.TaskKind.TheVariants as kind;
@@ -14,7 +14,7 @@ ghost use Rattle.mr_shuffle.specs.Work.{bytes_of, ArePiecesOf, ReduceFaultIs, in
 
 use crate::piece::{Piece, are_pieces_of};
 use crate::reading::check_piece;
-use mr_ids::TaskKind;
+use mr_ids::{Bytes, TaskKind};
 use mr_mapside::{MAX_OUTPUT_LEN, RunGroups, ShuffleFault, WorkFault};
 use mr_user::{Gate, Job, write_lines};
 use std::alloc::{AllocError, Global};
@@ -54,6 +54,28 @@ pub fn reduce_work<J: Job, G: Gate>(
     }
 }
 
+/// The text of a reduce, as `reduce_work`, of what its pieces hold: `pieces` has the bytes of those of the maps 0, 1, 2
+/// and so on. Nothing says of which map and reduce they are, so it never answers `WrongPiece`. Its other faults are
+/// those of `reduce_work`, in its order.
+pub fn reduce_bytes<J: Job, G: Gate>(
+    alloc: Global,
+    job: &J,
+    gate: &G,
+    pieces: &[Bytes],
+) -> Result<Vec<u8>, WorkFault>
+    ensures text { let all = computation J.Key.cmp J.Key.codec J.Value.codec J.functions in
+        IfOk result (λ text. part all pieces.now ≡ Ok text.items) }
+    ensures short { IfOk result (λ text. length text.items ≤ MAX_OUTPUT_LEN) }
+    ensures fault { let all = computation J.Key.cmp J.Key.codec J.Value.codec J.functions in
+        IfErr result (ReduceFaultIs (G.refuses gate.now kind.Reduce) ⊤ (part all pieces.now) MAX_OUTPUT_LEN) }
+{
+    gate.enter(TaskKind::Reduce)?;
+    match open_lists::<J>(alloc, lent(alloc, pieces)?) {
+        Ok(groups) => merged_text(alloc, job, groups),
+        Err(fault) => Err(in_work(fault)),
+    }
+}
+
 // A fault of pieces, as the fault of a work.
 fn in_work(fault: ShuffleFault) -> WorkFault
     ensures { result ≡ in_work fault }
@@ -86,15 +108,16 @@ fn merged_text<'a, J: Job>(
     Ok(text)
 }
 
-// Reads all pieces through, one pair at a time, to the first fault in the order of the pieces and then of the bytes.
-fn check_pieces<J: Job>(alloc: Global, parts: &[Piece]) -> Result<(), ShuffleFault>
+// Reads the bytes of all pieces through, one pair at a time, to the first fault in the order of the pieces and then of
+// the bytes.
+fn check_lists<J: Job>(alloc: Global, lists: &[&[u8]]) -> Result<(), ShuffleFault>
     ensures whole { let all = computation J.Key.cmp J.Key.codec J.Value.codec J.functions in
-        OnOk result (result_err (pairs_of_pieces all (bytes_of parts.now)) ≡ None) }
+        OnOk result (result_err (pairs_of_pieces all (map (λ bytes. bytes.now) lists.now)) ≡ None) }
     ensures fault { let all = computation J.Key.cmp J.Key.codec J.Value.codec J.functions in
-        IfErr result (λ fault. ReadFaultIs fault (pairs_of_all all (bytes_of parts.now))) }
+        IfErr result (λ fault. ReadFaultIs fault (pairs_of_all all (map (λ bytes. bytes.now) lists.now))) }
 {
-    for part in parts {
-        check_piece::<J>(alloc, part.bytes.as_slice())?;
+    for list in lists {
+        check_piece::<J>(alloc, list)?;
     }
     Ok(())
 }
@@ -110,6 +133,31 @@ fn lent_bytes(alloc: Global, parts: &[Piece]) -> Result<Vec<&[u8]>, AllocError>
     Ok(lists)
 }
 
+// Bytes, lent.
+fn lent(alloc: Global, pieces: &[Bytes]) -> Result<Vec<&[u8]>, AllocError>
+    ensures { IfOk result (λ lists. map (λ bytes. bytes.now) lists.items ≡ pieces.now) }
+{
+    let mut slices = Vec::with_capacity(alloc, pieces.len())?;
+    for piece in pieces {
+        slices.push(piece.as_slice())?;
+    }
+    Ok(slices)
+}
+
+// The groups of the bytes of pieces, once these have been read through, or the first fault.
+fn open_lists<'a, J: Job>(
+    alloc: Global,
+    lists: Vec<&'a [u8]>,
+) -> Result<RunGroups<'a, J>, ShuffleFault>
+    ensures groups { let all = computation J.Key.cmp J.Key.codec J.Value.codec J.functions in
+        IfOk result (λ groups. result_map (groups_of J.Key.cmp) (pairs_of_all all (map (λ bytes. bytes.now) lists.entry.items)) ≡ Ok groups) }
+    ensures fault { let all = computation J.Key.cmp J.Key.codec J.Value.codec J.functions in
+        IfErr result (λ fault. ReadFaultIs fault (pairs_of_all all (map (λ bytes. bytes.now) lists.entry.items))) }
+{
+    check_lists::<J>(alloc, &lists)?;
+    Ok(RunGroups::new(alloc, lists)?)
+}
+
 // The groups of pieces that have been read through, or the first fault.
 pub fn open_pieces<J: Job>(alloc: Global, parts: &[Piece]) -> Result<RunGroups<'_, J>, ShuffleFault>
     ensures groups { let all = computation J.Key.cmp J.Key.codec J.Value.codec J.functions in
@@ -117,6 +165,5 @@ pub fn open_pieces<J: Job>(alloc: Global, parts: &[Piece]) -> Result<RunGroups<'
     ensures fault { let all = computation J.Key.cmp J.Key.codec J.Value.codec J.functions in
         IfErr result (λ fault. ReadFaultIs fault (pairs_of_all all (bytes_of parts.now))) }
 {
-    check_pieces::<J>(alloc, parts)?;
-    Ok(RunGroups::new(alloc, lent_bytes(alloc, parts)?)?)
+    open_lists::<J>(alloc, lent_bytes(alloc, parts)?)
 }

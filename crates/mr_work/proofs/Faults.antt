@@ -49,17 +49,6 @@ reduce-refused refuses work.NoMemory InPlace meant there h = tt
 pub refused-as : (refuses : Type 0) (meant : Option (List ℕ)) (r : Result (List ℕ) WorkFault) (f : WorkFault) → IsErrAnd r (λ e. e ≡ f) → Works refuses meant (Err f) → Works refuses meant r
 refused-as refuses meant r f g h = let z = err_from_is_err_and r g in subst (Works refuses meant) (sym z.1) (subst (λ e. Works refuses meant (Err e)) (sym z.2) h)
 
--- where the pieces are in place, that says nothing
-pub in-place : (refuses InPlace : Type 0) (meant : Result (List ℕ) ShuffleFault) (most : ℕ) (f : WorkFault) → InPlace → ReduceFaultIs refuses InPlace meant most f → ReduceFaultIs refuses (Unit {0}) meant most f
-in-place refuses InPlace meant most (work.User f) there h = h
-in-place refuses InPlace meant most (work.Gate f) there h = h
-in-place refuses InPlace meant most (work.Shuffle shuffle.WrongPiece) there h = absurd (h there)
-in-place refuses InPlace meant most (work.Shuffle shuffle.Truncated) there h = (tt, h.1)
-in-place refuses InPlace meant most (work.Shuffle shuffle.Disorder) there h = (tt, h.1)
-in-place refuses InPlace meant most (work.Shuffle shuffle.NoMemory) there h = h
-in-place refuses InPlace meant most work.Full there h = (tt, h.1)
-in-place refuses InPlace meant most work.NoMemory there h = tt
-
 -- the exit of a `?` answers the fault
 pub answered-so : (P : WorkFault → Type 0) (r : Result (List ℕ) WorkFault) (f : WorkFault) → IsErrAnd r (λ e. e ≡ f) → P f → IfErr r P
 answered-so P r f g h = let z = err_from_is_err_and r g in subst (λ (x : Result (List ℕ) WorkFault). IfErr x P) (sym z.1) (subst P (sym z.2) h)

@@ -1,3 +1,2 @@
 mod Faults
 pub mod Inputs
-mod Parts

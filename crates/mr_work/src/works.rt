@@ -1,8 +1,7 @@
 //! What a container computes from its input: a map's output, or a reduce's text.
-ghost use Rattle.std.specs.Prelude.{◌≡◌, ◌≤◌, ℕ, IfOk, IfErr, length};
+ghost use Rattle.std.specs.Prelude.{◌≡◌, ◌≤◌, ℕ, IfErr, length};
 ghost use Rattle.mr_ids.specs.declared.id.TaskKind.TheVariants as kind;
 ghost use Rattle.mr_user.specs.Computation.{computation};
-ghost use Rattle.mr_shuffle.specs.Work.{ArePiecesOf, bytes_of};
 ghost use Rattle.mr_model.specs.Packets.{Config};
 ghost use Rattle.mr_model.specs.Sequential.{Split, Pieces as Fetched, made_of};
 ghost use Rattle.mr_sequential.specs.Jobs.{job_of};
@@ -11,9 +10,9 @@ ghost use Rattle.mr_work.specs.Works.{as_input, kind_of, FaultIs, InputsAreShort
 use crate::input::Input;
 use mr_ids::Bytes;
 use mr_mapside::{WorkFault, map_work};
-use mr_shuffle::{Piece, reduce_work};
+use mr_shuffle::reduce_bytes;
 use mr_user::{Gate, Job, MAX_REDUCES, MAX_SPLIT_LEN};
-use std::alloc::{AllocError, Global};
+use std::alloc::Global;
 
 /// What a job makes of an input, for this number of reduces: a map's output, or a reduce's text.
 ///
@@ -80,27 +79,8 @@ pub fn work_of_reduce<J: Job, G: Gate>(
     ensures fault { let all = computation J.Key.cmp J.Key.codec J.Value.codec J.functions in
         (reduces : ℕ) → IfErr result (FaultIs (G.refuses gate.now kind.Reduce) all reduces (Fetched reduce pieces.now)) }
 {
-    let parts = parts_of(alloc, reduce, pieces)?;
-    let text = reduce_work(alloc, job, gate, reduce, &parts)?;
+    let text = reduce_bytes(alloc, job, gate, pieces)?;
     Ok(Bytes::from_vec(text))
-}
-
-// The pieces of a reduce, each with the number of its map.
-fn parts_of(alloc: Global, reduce: u32, pieces: &[Bytes]) -> Result<Vec<Piece>, AllocError>
-    requires few { length pieces.now ≤ 1000 }
-    ensures pieces { IfOk result (λ parts. ArePiecesOf reduce parts.items) }
-    ensures bytes { IfOk result (λ parts. bytes_of parts.items ≡ pieces.now) }
-{
-    let mut parts = Vec::new(alloc);
-    for (map, piece) in pieces.iter().enumerate() {
-        let bytes = piece.copy()?;
-        parts.push(Piece {
-            map: map as u32,
-            reduce,
-            bytes,
-        })?;
-    }
-    Ok(parts)
 }
 
 /// What a container of a cluster is given is a split that is not too long, or one piece for each of its few maps.

@@ -3,8 +3,8 @@
 use mr_ids::{AttemptId, Bytes, TaskKind};
 use mr_mapside::{MAX_OUTPUT_LEN, MapOutput, ShuffleFault, WorkFault, blocks, map_work};
 use mr_shuffle::{
-    Merge, Piece, ShelfOfNode, attempts_are_apart, piece_is_what_it_says, reduce_work,
-    shuffle_gives_sequential_text, works_give_sequential_text,
+    Merge, Piece, ShelfOfNode, attempts_are_apart, piece_is_what_it_says, reduce_bytes,
+    reduce_work, shuffle_gives_sequential_text, works_give_sequential_text,
 };
 use mr_user::{
     Gate, GateFault, Job, LineIndex, MAX_SPLIT_LEN, MaxByKey, OpenGate, Text, Wire, WordCount,
@@ -168,6 +168,26 @@ fn reduce_enters_once(rt: HostRuntime) {
     assert!(rt; enters_once(alloc, &pieces(&rt, alloc, 0, 3, &[BLOCK, MORE])));
     assert!(rt; entered(alloc, &pieces(&rt, alloc, 0, 3, &[SHORT]), false) == (1, true));
     assert!(rt; entered(alloc, &pieces(&rt, alloc, 1, 3, &[BLOCK]), false) == (1, true));
+}
+
+// Bytes of pieces alone are reduced to the same text, behind a gate that is entered once.
+#[test]
+fn bytes_alone_are_reduced(rt: HostRuntime) {
+    let alloc = rt.alloc();
+    let mut all = Vec::new(alloc);
+    for bytes in [BLOCK, MORE] {
+        let bytes = with_memory(&rt, Vec::from_slice(alloc, bytes));
+        with_memory(&rt, all.push(Bytes::from_vec(bytes)));
+    }
+    let gate = Counting {
+        entered: Cell::new(0),
+        is_open: true,
+    };
+    let answer = reduce_bytes(alloc, &WordCount, &gate, &all);
+    assert!(rt; matches!(&answer, Ok(text) if same(text, b"a\t7\nb\t1\n")));
+    assert!(rt; gate.entered.get() == 1);
+    let answer = reduce_bytes(alloc, &WordCount, &MapsOnly, &all);
+    assert!(rt; matches!(answer, Err(WorkFault::Gate(GateFault::Spent))));
 }
 
 // A piece of one pair, whose key has so many bytes and whose value is 1.

@@ -12,7 +12,7 @@ returns-in_err-append_block-clause-fault g c =
     let all = computation g.J.Key.Ord.cmp g.J.Key.Wire.codec g.J.Value.Wire.codec g.J.Job.functions in
     let block : List (List ℕ) → List ℕ = λ runs. framed (block_in all g.met.J.Key.Ord.total g.met.J.Job.laws.same_key runs) in
     let was : IfErr c.from_residual-in_err-append_block.result (λ fault. FullIf fault (c.loop-runs.bytes.items ++ framed c.deref.result.now)) = search rules in
-    let less = one_more block c.args.kept.now c.loop-runs.runs-index c.runs-item.result c.loop-runs.bytes.items (framed c.deref.result.now) c.loop-runs-test.true c.runs-item.is c.loop-runs.invariant.bytes (ap framed (c.deref.ensures.value ∙ c.in_ok-block.ensures)) in
+    let less = one_more block c.args.kept.now c.loop-runs.runs-index c.runs-item.result c.loop-runs.bytes.items (framed c.deref.result.now) c.loop-runs-test.true c.runs-item.is c.loop-runs.invariant.bytes (ap framed (c.deref.ensures.value ∙ c.in_ok-merged_block.ensures)) in
     IfErr-weaker c.from_residual-in_err-append_block.result _ _ (λ fault f. full_more fault _ _ less f) was
 
 pub loop-runs-preserved : goal.loop-runs-preserved
@@ -21,6 +21,6 @@ loop-runs-preserved g c =
     let block : List (List ℕ) → List ℕ = λ runs. framed (block_in all g.met.J.Key.Ord.total g.met.J.Job.laws.same_key runs) in
     record {
       bytes = out_more block c.args.kept.now c.loop-runs.runs-index c.runs-item.result c.loop-runs.bytes.items c.append_block.new.bytes.items c.loop-runs-test.true c.runs-item.is c.loop-runs.invariant.bytes
-          (c.in_ok-append_block.ensures.ok ∙ ap (λ bytes. c.loop-runs.bytes.items ++ framed bytes) (c.deref.ensures.value ∙ c.in_ok-block.ensures));
+          (c.in_ok-append_block.ensures.ok ∙ ap (λ bytes. c.loop-runs.bytes.items ++ framed bytes) (c.deref.ensures.value ∙ c.in_ok-merged_block.ensures));
       short = c.in_ok-append_block.ensures.short;
     }
