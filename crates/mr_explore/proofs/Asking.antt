@@ -1,6 +1,6 @@
 -- Events that only ask.
-use Rattle.std.proofs.Common.{◌≡◌, ◌<◌, ℕ, Bool, true, false, List, [], ◌∷◌, ◌++◌, length, append-nil, Option, Some, None, refl, sym, ap, subst, ◌∙◌}
-use Rattle.std.specs.Prelude.{if◌then◌else◌, slice_get, is_none, ◌&&◌, not}
+use Rattle.std.proofs.Common.{◌≡◌, ℕ, Bool, true, false, List, [], ◌∷◌, ◌++◌, length, Option, Some, None, refl, ap, ◌∙◌}
+use Rattle.std.specs.Prelude.{if◌then◌else◌, slice_get, is_none, ◌&&◌}
 use Rattle.std.specs.Option.{option_or}
 use Rattle.mr_packet.specs.declared.packet.ContainerId.{ContainerId}
 use Rattle.mr_packet.specs.declared.packet.Packet.TheVariants as packet
@@ -14,11 +14,11 @@ use Rattle.mr_container.specs.Readings as container
 use Rattle.mr_model.specs.Ids.{Attempt}
 use Rattle.mr_model.specs.Content.{Op}
 use Rattle.mr_model.specs.Packets.{Config, Envelope, Packet}
-use Rattle.mr_model.specs.Pasts.{Place, Step, Wish, as_wish, computed, wish as wish_read, wished_op, wished_packet}
-use Rattle.mr_model.specs.Hearing.{Launched, Placed, Seen, find_launched, find_container, stands, is_running, may_accept, has}
+use Rattle.mr_model.specs.Pasts.{Place, Step, as_wish, computed, wish as wish_read, wished_op, wished_packet}
+use Rattle.mr_model.specs.Hearing.{Launched, Placed, Seen, find_launched, is_running, has}
 use Rattle.mr_model.specs.Duties.{Came, next_seen}
-use Rattle.mr_model.specs.World.{World, Deliver, ContainerStep, Master_act, Container_act, call_of, came_act, container_act, is_over_by, is_stopped, caller_of, master_act, op_at, op_of, op_made, packet_at, packet_of, seen_by, unless_stopped, Weather, Made}
-use Rattle.mr_model.specs.Sending.{ack_to, answer_to, if_ours, master_sends, node_replies, node_sends, own_end, ready, replies, said_ended, sent, some_packet, step_sends}
+use Rattle.mr_model.specs.World.{World, Deliver, ContainerStep, Container_act, call_of, came_act, container_act, is_over_by, is_stopped, caller_of, master_act, op_at, op_of, op_made, packet_at, packet_of, seen_by, unless_stopped, Weather}
+use Rattle.mr_model.specs.Sending.{ack_to, answer_to, master_sends, node_replies, node_sends, own_end, ready, replies, said_ended, sent, some_packet}
 use Rattle.mr_model.specs.Effect.{content_after, effect, happens, history_called, not_now}
 use Rattle.mr_model.specs.Claims.{Limits}
 use Rattle.mr_model.specs.Results.{first_told, outcome, told_by}

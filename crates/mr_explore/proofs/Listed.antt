@@ -1,5 +1,5 @@
 -- What holds of all who are listed holds of each who lives.
-use Rattle.std.proofs.Common.{◌≡◌, ◌≤◌, ◌<◌, ◌+◌, ℕ, zero, suc, Bool, true, false, List, [], ◌∷◌, ◌++◌, map, filter, length, cond, nat_eq, nat_le, Some, None, refl, sym, ap, ap₂, subst, ◌∙◌, arith}
+use Rattle.std.proofs.Common.{◌≡◌, ◌≤◌, ◌<◌, ◌+◌, ℕ, zero, suc, Bool, true, false, List, [], ◌∷◌, ◌++◌, map, filter, length, cond, nat_eq, nat_le, Some, None, refl, sym, ap₂, subst, arith}
 use Rattle.std.specs.Prelude.{◌&&◌, if◌then◌else◌}
 use Rattle.std.specs.List.{flat_map, list_all, range_with_len}
 use Rattle.std.proofs.lemmas.Bool.{and_parts, eqb-true, leb-true, leb-false}
@@ -57,12 +57,12 @@ module _ (test keep : ContainerId → Bool) where
   block_passes f k a (suc n) from to all =
       let parts = both_pass (f a) (flat_map f (range_with_len (a + 1) n)) all in
       by (nat_eq a k) refl parts.0 (λ behind. block_passes f k (a + 1) n behind (omega (arith, to)) parts.1) where
-    past : nat_eq a k ≡ false → a + 1 ≤ k
-    past e = grind (arith, nat_tests)
+        past : nat_eq a k ≡ false → a + 1 ≤ k
+        past e = grind (arith, nat_tests)
 
-    by : (b : Bool) → nat_eq a k ≡ b → list_all test (filter keep (f a)) ≡ true → (a + 1 ≤ k → list_all test (filter keep (f k)) ≡ true) → list_all test (filter keep (f k)) ≡ true
-    by true e here more = subst (λ (i : ℕ). list_all test (filter keep (f i)) ≡ true) (eqb-true a k e) here
-    by false e here more = more (past e)
+        by : (b : Bool) → nat_eq a k ≡ b → list_all test (filter keep (f a)) ≡ true → (a + 1 ≤ k → list_all test (filter keep (f k)) ≡ true) → list_all test (filter keep (f k)) ≡ true
+        by true e here more = subst (λ (i : ℕ). list_all test (filter keep (f i)) ≡ true) (eqb-true a k e) here
+        by false e here more = more (past e)
 
 -- ---- who lives was launched
 

@@ -9,7 +9,7 @@ use Rattle.mr_walk.specs.declared.ended.Ended.{Ended}
 use Rattle.mr_walk.specs.Runs.{Found, PassesLimit}
 use Rattle.mr_walk.specs.Taking.{Takes}
 use Rattle.mr_ends.specs.Table.{Came, Table, all_noted, noted}
-use Rattle.mr_explore.specs.Exploring.{AreMost, Fails, Made, MadeRun, Makes, MakesOne, Remaining, as_found, came}
+use Rattle.mr_explore.specs.Exploring.{Fails, Made, MadeRun, Makes, MakesOne, Remaining, as_found, came}
 use Rattle.mr_explore.specs.Runs.{Exploring}
 use Rattle.mr_explore.specs.inner.Players.{fault_of}
 

@@ -1,5 +1,5 @@
 -- What is printed of the runs that were made, and why nothing is.
-use Rattle.std.proofs.Common.{◌≡◌, ℕ, List, [], ◌∷◌, map, Option, Result, Ok, Err, IfOk, IfErr, OnOk, IsErrAnd, inl, inr, refl, sym, ap, subst, ◌∙◌}
+use Rattle.std.proofs.Common.{◌≡◌, ℕ, List, [], ◌∷◌, map, Result, Ok, Err, IfOk, IfErr, OnOk, IsErrAnd, inl, inr, refl, sym, subst, ◌∙◌}
 use Rattle.std.proofs.lemmas.Result.{err_from_is_err_and}
 use Rattle.std.specs.List.{AllByRecursion}
 use Rattle.mr_commands.specs.declared.fault.SimFault.{SimFault}

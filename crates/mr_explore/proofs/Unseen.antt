@@ -1,5 +1,5 @@
 -- Nothing is seen of who asks in vain.
-use Rattle.std.proofs.Common.{◌≡◌, ℕ, suc, Bool, true, false, List, [], ◌∷◌, ◌++◌, drop, length, Option, Some, None, refl, sym, ap, subst, ◌∙◌}
+use Rattle.std.proofs.Common.{◌≡◌, ℕ, suc, Bool, true, false, List, [], ◌∷◌, ◌++◌, drop, length, Option, Some, refl, sym, ap, subst, ◌∙◌}
 use Rattle.std.specs.Prelude.{if◌then◌else◌, ◌&&◌, nat_eq, nat_lt}
 use Rattle.std.specs.List.{flat_map, list_all, range_with_len}
 use Rattle.std.proofs.lemmas.Bool.{and_parts}
@@ -7,7 +7,7 @@ use Rattle.mr_packet.specs.declared.packet.ContainerId.{ContainerId}
 use Rattle.mr_model.specs.Ids.{marker, reduce_of}
 use Rattle.mr_model.specs.Content.{entry_at, is_file}
 use Rattle.mr_model.specs.Records.{records_below, winner_in}
-use Rattle.mr_model.specs.Packets.{Config, Envelope}
+use Rattle.mr_model.specs.Packets.{Config}
 use Rattle.mr_model.specs.World.{World, Event, opening_world}
 use Rattle.mr_model.specs.Effect.{happens, run}
 use Rattle.mr_model.specs.Claims.{Limits, world_of}
@@ -60,7 +60,7 @@ ahead_law job cfg within s t vain made es fs is =
     let asked : list_all (asks (world job cfg within t).bag) (drop (length s.events) t.events) ≡ true = looked_at cs (length s.events) (length w.bag) (world job cfg within t) t.events on in
     let there : list_all (asks (world job cfg within t).bag) (es ++ fs) ≡ true = subst (λ (xs : List Event). list_all (asks (world job cfg within t).bag) xs ≡ true) (ap (drop (length s.events)) is ∙ behind_all s.events (es ++ fs)) asked in
     let bag : (run cfg within w (es ++ fs)).bag ≡ (world job cfg within t).bag =
-        ap (λ (u : World). u.bag) (sym (ap (world_of cfg within) is ∙ run-append cfg within opening_world s.events (es ++ fs))) in
+    ap (λ (u : World). u.bag) (sym (ap (world_of cfg within) is ∙ run-append cfg within opening_world s.events (es ++ fs))) in
     let looks = looks_along cfg within w (world job cfg within t).bag es fs (all_who_live cfg within s.events (all_listed cfg w cs parts.0)) bag there in
     ap (world_text cfg) (run-append cfg within opening_world s.events es) ∙ same_text cfg w (run cfg within w es) looks
 

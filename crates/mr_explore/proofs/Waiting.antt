@@ -1,6 +1,6 @@
 -- Events that only ask, one after the other.
-use Rattle.std.proofs.Common.{◌≡◌, ◌<◌, ℕ, Bool, true, false, List, [], ◌∷◌, ◌++◌, length, Option, Some, None, refl, sym, ap, subst, ◌∙◌}
-use Rattle.std.specs.Prelude.{if◌then◌else◌, slice_get, ◌||◌, ◌&&◌, not, zero, suc}
+use Rattle.std.proofs.Common.{◌≡◌, ℕ, Bool, true, false, List, [], ◌∷◌, ◌++◌, length, Option, Some, None, refl, sym, ap, subst, ◌∙◌}
+use Rattle.std.specs.Prelude.{if◌then◌else◌, slice_get, ◌||◌, not, zero, suc}
 use Rattle.std.specs.List.{list_all}
 use Rattle.std.proofs.lemmas.Bool.{and_parts}
 use Rattle.mr_packet.specs.declared.packet.ContainerId.{ContainerId}
@@ -22,7 +22,7 @@ use Rattle.mr_model.specs.Effect.{addressee, effect, happens, is_obeyed, not_now
 use Rattle.mr_model.specs.Claims.{Limits}
 use Rattle.mr_model.proofs.Basic.{Extends, Extends-more, Extends-refl, Extends-trans, along, taken_or_not, unless_parts}
 use Rattle.mr_world.specs.Readings.{wish_by}
-use Rattle.mr_explore.specs.Vain.{asks, asks_here, is_asked, is_asking, is_waiting, waits, waits_by}
+use Rattle.mr_explore.specs.Vain.{asks, asks_here, is_asked, is_asking, is_waiting, waits_by}
 use Rattle.mr_explore.proofs.Asking.{LooksLike, looks, of_step}
 
 -- ---- who waits goes on waiting
@@ -174,5 +174,5 @@ looks_along cfg within w bag (e ∷ es) fs all is asked =
     let grows = bag_grows cfg within w (e ∷ (es ++ fs)) in
     let last : w.bag ++ grows.rest ≡ bag = grows.is ∙ is in
     let one = taken_or_not (λ u. LooksLike w u × AllWait cfg u) cfg within w e (record { content = refl; fence = refl; history = refl; outcome = refl }, all)
-        (λ now. let here = asks_now cfg w grows.rest e all now (ap (λ (b : List Envelope). asks b e) last ∙ parts.0) in (looks cfg w e here, all_wait_on cfg w e all here)) in
+    (λ now. let here = asks_now cfg w grows.rest e all now (ap (λ (b : List Envelope). asks b e) last ∙ parts.0) in (looks cfg w e here, all_wait_on cfg w e all here)) in
     looks_on w v (run cfg within v es) one.0 (looks_along cfg within v bag es fs one.1 is parts.1)

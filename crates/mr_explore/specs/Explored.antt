@@ -1,5 +1,5 @@
 -- What `explore` prints of an input, and why it prints nothing (our own profile).
-use Rattle.std.specs.Prelude.{◌≡◌, ◌⊎◌, ℕ, Bool, true, false, List, [], ◌∷◌, ◌++◌, map, Option}
+use Rattle.std.specs.Prelude.{◌≡◌, ◌⊎◌, ℕ, List, ◌++◌, map, Option}
 use Rattle.std.specs.Option.{option_map}
 use Rattle.mr_commands.specs.declared.fault.SimFault.{SimFault}
 use Rattle.mr_commands.specs.declared.fault.SimFault.TheVariants as fault
@@ -11,7 +11,7 @@ use Rattle.mr_ends.specs.Table.{table_of}
 use Rattle.mr_ends.specs.Text.{Found}
 use Rattle.mr_explore.specs.declared.asked.Asked.{Asked}
 use Rattle.mr_explore.specs.Ends.{TellsEnds}
-use Rattle.mr_explore.specs.Exploring.{AreMost, ExploreFails, IsFullBehind, MadeRun, as_found, came}
+use Rattle.mr_explore.specs.Exploring.{AreMost, IsFullBehind, MadeRun, as_found, came}
 use Rattle.mr_explore.specs.Runs.{CannotStart, Exploring, IsRunOf, runs_with}
 
 abbrev pub goal_of : Asked → Option (List ℕ)

@@ -130,11 +130,7 @@ fn asks_on(alloc: Global, player: &Player, living: &[ContainerId]) -> Result<boo
 }
 
 // The same. The player makes the events.
-fn ahead_asks(
-    alloc: Global,
-    ahead: &mut Player,
-    living: &[ContainerId],
-) -> Result<bool, SimFault>
+fn ahead_asks(alloc: Global, ahead: &mut Player, living: &[ContainerId]) -> Result<bool, SimFault>
     ensures is { IfOk result (λ on. on ≡ asks_on_in ahead.old living.now) }
     ensures memory { IfErr result (λ fault. fault ≡ SimFault.NoMemory) }
 {

@@ -1,4 +1,4 @@
-use Rattle.std.proofs.Common.{sym, ap, subst, ◌∙◌}
+use Rattle.std.proofs.Common.{ap, subst, ◌∙◌}
 use Rattle.mr_ends.specs.Table.{Table}
 use Rattle.mr_explore.specs.Ends.{LeadToEnds, told_text}
 use Rattle.mr_explore.proofs.Printing.{unchecked_failed, unsaid_failed}

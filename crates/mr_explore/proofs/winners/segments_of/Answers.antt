@@ -1,4 +1,4 @@
-use Rattle.std.proofs.Common.{◌≡◌, ◌≤◌, ◌<◌, map, ap, ◌∙◌, arith}
+use Rattle.std.proofs.Common.{◌≤◌, map, ap, ◌∙◌, arith}
 use Rattle.std.specs.List.{flat_map}
 use Rattle.mr_history.specs.Reading.{records_of}
 use Rattle.mr_world.specs.Journal.{world_in}

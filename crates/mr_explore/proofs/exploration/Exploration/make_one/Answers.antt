@@ -1,4 +1,4 @@
-use Rattle.std.proofs.Common.{◌≡◌, sym, ap, subst, ◌∙◌}
+use Rattle.std.proofs.Common.{sym, ap, subst, ◌∙◌}
 use Rattle.mr_ends.specs.Table.{noted}
 use Rattle.mr_explore.specs.Exploring.{Fails, Remaining, came}
 use Rattle.mr_explore.proofs.Making.{none_left, walk_failed, walk_made}
