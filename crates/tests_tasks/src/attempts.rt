@@ -33,17 +33,25 @@ pub fn attempt(rt: &impl Abort, kind: TaskKind, number: u32) -> AttemptId {
     attempt_at(rt, task_id(kind), number)
 }
 
-// Each event once where it moves and once where it is ignored, and the copy goes on.
-#[test]
-fn attempt_events(rt: HostRuntime) {
-    for (kind, moved, last) in [
-        (TaskKind::Map, Reaction::Moved, AttemptState::Killed),
-        (TaskKind::Reduce, Reaction::Ignored, AttemptState::Succeeded),
-    ] {
-        let a = attempt(&rt, kind, 7);
-        let mut machine = AttemptMachine::new(a);
-        assert!(rt; machine.attempt() == a && machine.state() == AttemptState::New);
-        for (event, reaction, state) in [
+// The machine hears these events, reacts so, and is then in this state, as its copy is.
+fn hears(
+    rt: &impl Abort,
+    machine: &mut AttemptMachine,
+    rows: &[(AttemptEvent, Reaction, AttemptState)],
+) {
+    for (event, reaction, state) in rows {
+        confirm!(rt; machine.on(*event) == *reaction, event);
+        confirm!(rt; machine.state() == *state, event);
+        confirm!(rt; machine.copy().state() == *state, event);
+    }
+}
+
+// An attempt runs up to its wait for the permission to commit, and lives.
+fn is_pending(rt: &impl Abort, machine: &mut AttemptMachine) {
+    hears(
+        rt,
+        machine,
+        &[
             (AttemptEvent::Heard, Reaction::Ignored, AttemptState::New),
             (
                 AttemptEvent::Launch,
@@ -66,19 +74,31 @@ fn attempt_events(rt: HostRuntime) {
                 Reaction::Ignored,
                 AttemptState::CommitPending,
             ),
-        ] {
-            assert!(rt; machine.on(event) == reaction, "{event:?}");
-            assert!(rt;
-                machine.state() == state && machine.copy().state() == state,
-                "{event:?}"
-            );
-        }
-        assert!(rt; machine.is_live() && machine.state().is_live());
-        let mut copy = machine.copy();
-        assert!(rt; machine.on(AttemptEvent::Fail) == Reaction::Moved);
-        assert!(rt; machine.on(AttemptEvent::Kill) == Reaction::Ignored);
-        assert!(rt; machine.state() == AttemptState::Failed && machine.state().is_over());
-        for (event, reaction, state) in [
+        ],
+    );
+    confirm!(rt; machine.is_live());
+    confirm!(rt; machine.state().is_live());
+}
+
+// It fails, and then a kill is ignored.
+fn fails(rt: &impl Abort, machine: &mut AttemptMachine) {
+    confirm!(rt; machine.on(AttemptEvent::Fail) == Reaction::Moved);
+    confirm!(rt; machine.on(AttemptEvent::Kill) == Reaction::Ignored);
+    confirm!(rt; machine.state() == AttemptState::Failed);
+    confirm!(rt; machine.state().is_over());
+}
+
+// It succeeds, and its node is lost, which moves the attempt so.
+fn succeeds_and_is_lost(
+    rt: &impl Abort,
+    machine: &mut AttemptMachine,
+    moved: Reaction,
+    last: AttemptState,
+) {
+    hears(
+        rt,
+        machine,
+        &[
             (AttemptEvent::Done, Reaction::Moved, AttemptState::Recording),
             (
                 AttemptEvent::Fail,
@@ -96,15 +116,28 @@ fn attempt_events(rt: HostRuntime) {
                 AttemptState::Succeeded,
             ),
             (AttemptEvent::Lost, moved, last),
-        ] {
-            assert!(rt; copy.on(event) == reaction, "{event:?}");
-            assert!(rt;
-                copy.state() == state && copy.copy().state() == state,
-                "{event:?}"
-            );
-        }
-        assert!(rt; copy.state().is_won() == (kind == TaskKind::Reduce) && !copy.is_live());
-        assert!(rt; last.next(kind, AttemptEvent::Kill).is_none());
+        ],
+    );
+}
+
+// Each event once where it moves and once where it is ignored, and the copy goes on.
+#[test]
+fn attempt_events(rt: HostRuntime) {
+    for (kind, moved, last) in [
+        (TaskKind::Map, Reaction::Moved, AttemptState::Killed),
+        (TaskKind::Reduce, Reaction::Ignored, AttemptState::Succeeded),
+    ] {
+        let a = attempt(&rt, kind, 7);
+        let mut machine = AttemptMachine::new(a);
+        confirm!(rt; machine.attempt() == a);
+        confirm!(rt; machine.state() == AttemptState::New);
+        is_pending(&rt, &mut machine);
+        let mut copy = machine.copy();
+        fails(&rt, &mut machine);
+        succeeds_and_is_lost(&rt, &mut copy, moved, last);
+        confirm!(rt; copy.state().is_won() == (kind == TaskKind::Reduce));
+        confirm!(rt; !copy.is_live());
+        confirm!(rt; last.next(kind, AttemptEvent::Kill).is_none());
     }
 }
 
@@ -117,6 +150,6 @@ fn state_names(rt: HostRuntime) {
         (AttemptState::Killed, "Killed"),
     ] {
         let text = format!(in alloc; "{state}").expect(&rt, "no memory");
-        assert!(rt; text.as_str() == name);
+        confirm!(rt; text.as_str() == name);
     }
 }

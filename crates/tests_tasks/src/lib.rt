@@ -1,8 +1,21 @@
 //! Tests of one attempt, the permission to commit one task, and the recovery plan.
 #![tactic(auto)]
 
+// Ends the test where the condition is not so, and tells it, and at which row. It is a call where `assert!` is a branch, and its proof
+// costs half as much. What stands below learns nothing of it: where that needs the fact, `assert!` stands.
+macro_rules! confirm {
+    ($rt:expr; $condition:expr) => {
+        crate::confirm::is_so(&$rt, $condition, stringify!($condition))
+    };
+    ($rt:expr; $condition:expr, $at:expr) => {
+        crate::confirm::is_so_at(&$rt, $condition, stringify!($condition), $at)
+    };
+}
+
 #[cfg(test)]
 mod attempts;
+#[cfg(test)]
+mod confirm;
 #[cfg(test)]
 mod grants;
 #[cfg(test)]

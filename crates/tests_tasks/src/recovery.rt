@@ -61,8 +61,8 @@ fn the_first_winners_by_rising_task(rt: HostRuntime) {
     };
     let list = winners.as_slice();
     assert!(rt; winners.len() == 2);
-    assert!(rt; list[0] == winner(reduce(0), attempt_at(&rt, reduce(0), 1000), Some(8)));
-    assert!(rt; list[1] == winner(reduce(1), attempt_at(&rt, reduce(1), 0), None));
+    confirm!(rt; list[0] == winner(reduce(0), attempt_at(&rt, reduce(0), 1000), Some(8)));
+    confirm!(rt; list[1] == winner(reduce(1), attempt_at(&rt, reduce(1), 0), None));
 }
 
 // What a plan with these marks reports, where it does not go on.
@@ -79,15 +79,15 @@ fn reports(rt: &impl Abort, plan: Result<Recovery, RecoverFault>) -> bool {
 fn the_first_mark_decides(rt: HostRuntime) {
     let told = records(&rt);
     let all = Recovery::plan(rt.alloc(), &told, marks(true, true, true));
-    assert!(rt; reports(&rt, all));
+    confirm!(rt; reports(&rt, all));
     let failed = Recovery::plan(rt.alloc(), &told, marks(false, true, true));
-    assert!(rt; !reports(&rt, failed));
+    confirm!(rt; !reports(&rt, failed));
     let started = Recovery::plan(rt.alloc(), &told, marks(false, false, true));
-    assert!(rt; !reports(&rt, started));
+    confirm!(rt; !reports(&rt, started));
 }
 
 #[test]
 fn recover_fault_text(rt: HostRuntime) {
     let text = RecoverFault::NoMemory.to_string(rt.alloc());
-    assert!(rt; text.expect(&rt, "no memory").as_str() == "NoMemory");
+    confirm!(rt; text.expect(&rt, "no memory").as_str() == "NoMemory");
 }
