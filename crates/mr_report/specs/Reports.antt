@@ -1,5 +1,5 @@
 -- What a report of a driven job says (our own profile). The files are those of the sequential execution (Dean and Ghemawat 3.3).
-use Rattle.std.specs.Prelude.{◌≡◌, ⊥, Bool, true, List, map, Some, None}
+use Rattle.std.specs.Prelude.{◌≡◌, Bool, true, List, map, Some, None}
 use Rattle.mr_user.specs.Computation.{Computation}
 use Rattle.mr_master_model.specs.declared.phase.Phase.TheVariants.{Stopped}
 use Rattle.mr_model.specs.Packets.{Config}
