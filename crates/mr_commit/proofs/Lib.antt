@@ -7,6 +7,7 @@ pub mod Effects
 pub mod TaskLaws
 pub mod AbortLaws
 pub mod RecoveryLaws
+pub mod JobPaths
 pub mod JobLaws
 pub mod Halves
 pub mod Merging

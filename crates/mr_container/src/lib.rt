@@ -60,6 +60,7 @@
 
 mod laws;
 mod machine;
+mod namespace_call;
 mod pieces;
 mod place;
 mod reply;

@@ -6,17 +6,18 @@ ghost use Rattle.mr_packet.specs.declared.packet.Envelope.{Envelope};
 ghost use Rattle.mr_names.specs.declared.op.Op.{Op};
 ghost use Rattle.mr_container.specs.Past.{Hears, Sends, Computes, Calls, launched_as};
 ghost use Rattle.mr_container.specs.Readings.{opening, first_wish, ask_next, next_seen, after_packet, after_ready, after_piece, with_piece, is_awaited, after_lost, after_answer, after_ack, wish_sent, wish_called, after_bytes, with_result, with_wish};
-ghost use Rattle.mr_container.specs.Wished.{caller_of, calling_attempt, wished_op, wished_packet, part_path, reported, told_length, end_of, step_packets};
+ghost use Rattle.mr_container.specs.Wished.{caller_of, calling_attempt, wished_op, wished_packet, reported, told_length, end_of, step_packets};
 ghost use Rattle.mr_container.specs.State.{StandsFor, Stands, after};
 
+use crate::namespace_call::wished_op;
 use crate::pieces::Pieces;
 use crate::place::Place;
 use crate::reply::Reply;
 use crate::wish::{Wish, is_same};
-use mr_ids::{AppAttempt, AttemptId, TaskKind};
+use mr_ids::{AttemptId, TaskKind};
 use mr_names::{Caller, Op};
 use mr_packet::{Address, Bag, Bytes, ContainerId, Envelope, Packet};
-use mr_paths::{Layout, Path, part_name};
+use mr_paths::Layout;
 use std::alloc::{AllocError, Global};
 use std::marker::Model;
 
@@ -249,7 +250,7 @@ impl ContainerMachine {
                 offset,
                 total,
                 bytes,
-            } => self.hear_piece(a, *reduce, *offset, *total, bytes.as_slice())?,
+            } => self.hear_piece(a, *reduce, *offset, *total, bytes)?,
             Packet::FetchLost { c: _, a } => self.hear_lost(*a),
             Packet::Answer { a, yes } => self.hear_answer(a, *yes),
             Packet::DoneAck { a } => self.hear_ack(a),
@@ -276,7 +277,7 @@ impl ContainerMachine {
         reduce: u32,
         offset: u64,
         total: u64,
-        bytes: &[u8],
+        bytes: &Bytes,
     ) -> Result<(), AllocError>
         ensures ok { OnOk result (self.new ≡ record self.old { seen = after_piece self.old.maps self.old.place.attempt self.old.seen a.now reduce offset total bytes.now }) }
         ensures err { OnErr result (self.new ≡ self.old) }
@@ -473,53 +474,4 @@ fn told_length(len: usize) -> u32
     } else {
         u32::MAX
     }
-}
-
-// The call of a wish.
-#[tactic(auto, unfolding(crate::specs::Wished::wished_op))]
-fn wished_op(
-    layout: &Layout,
-    k: AppAttempt,
-    a: AttemptId,
-    written: &Bytes,
-    wish: &Wish,
-) -> Result<Option<Op>, AllocError>
-    ensures { IfOk result (λ op. op ≡ wished_op layout.now.dest k a written.now wish.now) }
-{
-    Ok(match wish {
-        Wish::Mkdirs => Some(Op::Mkdirs(layout.task_attempt(k, a)?)),
-        Wish::Create => Some(Op::Create {
-            path: part_path(layout, k, a)?,
-            closed: false,
-        }),
-        Wish::Write => Some(Op::Append {
-            path: part_path(layout, k, a)?,
-            bytes: written.copy()?,
-        }),
-        Wish::Close => Some(Op::Close(part_path(layout, k, a)?)),
-        Wish::Needs | Wish::Look => Some(Op::Exists(layout.task_attempt(k, a)?)),
-        Wish::Clear => Some(Op::Delete(layout.committed(k, a.task())?)),
-        Wish::Rename => Some(Op::Rename {
-            from: layout.task_attempt(k, a)?,
-            to: layout.committed(k, a.task())?,
-        }),
-        Wish::Abort => Some(Op::Delete(layout.task_attempt(k, a)?)),
-        Wish::Where { .. }
-        | Wish::Fetch { .. }
-        | Wish::Lost { .. }
-        | Wish::Compute
-        | Wish::Pending
-        | Wish::Poll
-        | Wish::Report
-        | Wish::Failed
-        | Wish::Over => None,
-    })
-}
-
-fn part_path(layout: &Layout, k: AppAttempt, a: AttemptId) -> Result<Path, AllocError>
-    ensures { IfOk result (λ path. path ≡ part_path layout.now.dest k a) }
-{
-    let mut path = layout.task_attempt(k, a)?;
-    path.push(part_name(path.allocator(), a.task().number)?)?;
-    Ok(path)
 }

@@ -1,9 +1,9 @@
 //! The line of a record, written and read as JSON.
-ghost use Rattle.std.specs.Prelude.{◌≡◌, ◌<◌, ◌≤◌, ◌^◌, ◌+◌, codes, string_bytes, IfOk, IfSome, Some, None, ℕ, length, option_map, option_and_then, true};
+ghost use Rattle.std.specs.Prelude.{◌≡◌, ◌<◌, ◌≤◌, ◌^◌, ◌+◌, codes, string_bytes, IfOk, IfSome, OnOk, Some, None, ℕ, length, option_map, option_and_then, true};
 ghost use Rattle.std.specs.Int.Digits.{digits_of};
-ghost use Rattle.serde_json.specs.Data.{Data, number, unsigned, string, object, member, no_members};
+ghost use Rattle.serde_json.specs.Data.{Data, number, unsigned, string, object, member, no_members, put as with_member};
 ghost use Rattle.serde_json.specs.Find.{get, as_str};
-ghost use Rattle.serde_json.specs.View.{view};
+ghost use Rattle.serde_json.specs.View.{view, members_view};
 ghost use Rattle.mr_ids.specs.Attempt.{Attempt};
 ghost use Rattle.mr_ids.specs.Text.{attempt_text, numeral, IsAttempt};
 ghost use Rattle.mr_history.specs.Json.{told, value_of};
@@ -12,7 +12,7 @@ ghost use Rattle.mr_history.specs.Reading.{record_of};
 
 use crate::record::Record;
 use mr_ids::AttemptId;
-use serde_json::{Value, json};
+use serde_json::{Map, Value, json, put};
 use std::alloc::{AllocError, Global};
 
 /// Most bytes of a record's line, its line feed aside: those of a map's with the longest numbers.
@@ -48,12 +48,50 @@ fn text_of(alloc: Global, attempt: AttemptId) -> Result<String, AllocError>
     format!(in alloc; "{attempt}")
 }
 
+// The members that tell of an attempt, and what happened.
+fn members_of(
+    alloc: Global,
+    attempt: AttemptId,
+    event: &str,
+) -> Result<Map<String, Value>, AllocError>
+    ensures { IfOk result (λ m. object (members_view m.entries) ≡ told attempt event.now no_members) }
+{
+    let text = text_of(alloc, attempt)?;
+    let mut members = Map::new(alloc);
+    put_text(&mut members, alloc, "attempt", text.as_str())?;
+    put_text(&mut members, alloc, "event", event)?;
+    Ok(members)
+}
+
+fn put_text(
+    members: &mut Map<String, Value>,
+    alloc: Global,
+    key: &str,
+    text: &str,
+) -> Result<(), AllocError>
+    ensures { OnOk result (members_view members.new.entries ≡ with_member key.now (string text.now) (members_view members.old.entries)) }
+{
+    let value = Value::try_from_str(alloc, text)?;
+    put(members, alloc, key, value)
+}
+
+fn put_number(
+    members: &mut Map<String, Value>,
+    alloc: Global,
+    key: &str,
+    n: u32,
+) -> Result<(), AllocError>
+    ensures { OnOk result (members_view members.new.entries ≡ with_member key.now (number (unsigned n)) (members_view members.old.entries)) }
+{
+    put(members, alloc, key, Value::from(n))
+}
+
 fn started(alloc: Global, attempt: AttemptId, node: u32) -> Result<Value, AllocError>
     ensures { IfOk result (λ v. view v ≡ told attempt (codes "started") (member (codes "node") (number (unsigned node)) no_members)) }
 {
-    let text = text_of(alloc, attempt)?;
-    let text = text.as_str();
-    json!(in alloc; {"attempt": text, "event": "started", "node": node})
+    let mut members = members_of(alloc, attempt, "started")?;
+    put_number(&mut members, alloc, "node", node)?;
+    Ok(Value::Object(members))
 }
 
 fn mapped(
@@ -64,33 +102,30 @@ fn mapped(
 ) -> Result<Value, AllocError>
     ensures { IfOk result (λ v. view v ≡ told attempt (codes "map") (member (codes "incarnation") (number (unsigned incarnation)) (member (codes "node") (number (unsigned node)) no_members))) }
 {
-    let text = text_of(alloc, attempt)?;
-    let text = text.as_str();
-    json!(in alloc; {"attempt": text, "event": "map", "incarnation": incarnation, "node": node})
+    let mut members = members_of(alloc, attempt, "map")?;
+    put_number(&mut members, alloc, "incarnation", incarnation)?;
+    put_number(&mut members, alloc, "node", node)?;
+    Ok(Value::Object(members))
 }
 
 fn reduced(alloc: Global, attempt: AttemptId) -> Result<Value, AllocError>
     ensures { IfOk result (λ v. view v ≡ told attempt (codes "reduce") no_members) }
 {
-    let text = text_of(alloc, attempt)?;
-    let text = text.as_str();
-    json!(in alloc; {"attempt": text, "event": "reduce"})
+    Ok(Value::Object(members_of(alloc, attempt, "reduce")?))
 }
 
 fn reduced_to(alloc: Global, attempt: AttemptId, bytes: u32) -> Result<Value, AllocError>
     ensures { IfOk result (λ v. view v ≡ object (member (codes "attempt") (string (attempt_text attempt)) (member (codes "bytes") (number (unsigned bytes)) (member (codes "event") (string (codes "reduce")) no_members)))) }
 {
-    let text = text_of(alloc, attempt)?;
-    let text = text.as_str();
-    json!(in alloc; {"attempt": text, "bytes": bytes, "event": "reduce"})
+    let mut members = members_of(alloc, attempt, "reduce")?;
+    put_number(&mut members, alloc, "bytes", bytes)?;
+    Ok(Value::Object(members))
 }
 
 fn failed(alloc: Global, attempt: AttemptId) -> Result<Value, AllocError>
     ensures { IfOk result (λ v. view v ≡ told attempt (codes "failed") no_members) }
 {
-    let text = text_of(alloc, attempt)?;
-    let text = text.as_str();
-    json!(in alloc; {"attempt": text, "event": "failed"})
+    Ok(Value::Object(members_of(alloc, attempt, "failed")?))
 }
 
 /// The line of a record, without its line feed.

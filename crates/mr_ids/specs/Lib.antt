@@ -9,3 +9,4 @@ pub mod Same
 pub mod Kind
 pub mod Generations
 pub mod Code
+pub mod Contents

@@ -1,6 +1,6 @@
 //! A map's output whose blocks have been found.
 //! It lies on a node's shelf, from where each reduce gets its block without a search.
-ghost use Rattle.std.specs.Prelude.{◌≡◌, ◌≤◌, length, IfOk};
+ghost use Rattle.std.specs.Prelude.{◌≡◌, ◌≤◌, length, slice_range, IfOk, IfSome};
 ghost use Rattle.std.specs.Option.{option_map, option_and_then};
 ghost use Rattle.std.specs.List.{slice_get};
 ghost use Rattle.mr_mapside.specs.Cutting.{cut};
@@ -8,6 +8,7 @@ ghost use Rattle.mr_mapside.specs.inner.Places.{ArePlaces};
 
 use crate::cutting::first_block;
 use crate::output::MapOutput;
+use mr_ids::Bytes;
 use std::alloc::{AllocError, Global};
 use std::marker::Model;
 
@@ -40,9 +41,10 @@ impl Model for CutOutput {
 
 impl CutOutput {
     /// The output, its blocks found: one walk over it. Answers no fault but an allocation failure.
-    pub fn new(alloc: Global, output: MapOutput) -> Result<CutOutput, AllocError>
+    pub fn new(alloc: Global, mut output: MapOutput) -> Result<CutOutput, AllocError>
         ensures { IfOk result (λ cut. cut ≡ output) }
     {
+        output.share();
         let places = places_of(alloc, output.bytes())?;
         Ok(CutOutput { output, places })
     }
@@ -52,12 +54,30 @@ impl CutOutput {
     pub fn block(&self, reduces: u32, reduce: u32) -> Option<&[u8]>
         ensures { option_map (λ block. block.now) result ≡ option_and_then (λ blocks. slice_get blocks reduce) (cut reduces self.now) }
     {
+        let place = self.place(reduces, reduce)?;
+        Some(&self.output.bytes()[place.start as usize..place.end as usize])
+    }
+
+    /// As `block`, as bytes of their own, which share those of the output. It may allocate, and refuses nothing else.
+    pub fn share_block(&self, reduces: u32, reduce: u32) -> Result<Option<Bytes>, AllocError>
+        ensures { IfOk result (λ block. block ≡ option_and_then (λ blocks. slice_get blocks reduce) (cut reduces self.now)) }
+    {
+        match self.place(reduces, reduce) {
+            Some(place) => Ok(Some(self.output.part(place.start as usize, place.end as usize)?)),
+            None => Ok(None),
+        }
+    }
+
+    // Where the block of a reduce lies.
+    fn place(&self, reduces: u32, reduce: u32) -> Option<Place>
+        ensures within { IfSome result (λ place. (place.start ≤ place.end) × (place.end ≤ length self.now)) }
+        ensures place { option_map (λ place. slice_range self.now place.start place.end) result ≡ option_and_then (λ blocks. slice_get blocks reduce) (cut reduces self.now) }
+    {
         let places = self.places.as_ref()?;
         if places.len() != reduces as usize {
             return None;
         }
-        let place = places.get(reduce as usize)?;
-        Some(&self.output.bytes()[place.start as usize..place.end as usize])
+        places.get(reduce as usize).copied()
     }
 
     /// An equal output, with memory of the same allocator.

@@ -39,10 +39,12 @@
 //!   blocks, each behind its length, and nothing else; then it is those blocks. `OutputBlocks::get` is the block at a
 //!   place, and `count` is how many there are.
 //! - `CutOutput` is an output with the places of its blocks. `new` finds them. `block` lends the block at a place,
-//!   exactly where the bytes are as many blocks as are asked for.
-//! - `MapOutput` is a list of at most 2^24 bytes, made from a `Vec` and given back; `copy` is equal.
-//! - Memory may be taken by `map_work`, `read_pair`, `read_value`, `RunGroups::new`, `next_group`, `CutOutput::new`
-//!   and each `copy`. No other call takes any.
+//!   exactly where the bytes are as many blocks as are asked for. `share_block` gives it as bytes of its own, which share
+//!   those of the output.
+//! - `MapOutput` is a list of at most 2^24 bytes, made from a `Vec` or from bytes, and given back; `copy` is equal, and
+//!   `part` is what it says. `share` changes nothing that is seen: after it copies and parts share the bytes.
+//! - Memory may be taken by `map_work`, `read_pair`, `read_value`, `RunGroups::new`, `next_group`, `CutOutput::new`,
+//!   `share_block`, `part`, `share` and each `copy`. No other call takes any.
 //! - Laws, on functions that do nothing: bytes are blocks behind their lengths in one way alone (`blocks_are_one`).
 //!   For every job, a map's output is cut into exactly the blocks that the map hands to the reduces
 //!   (`output_is_its_blocks`).

@@ -10,7 +10,8 @@ use Rattle.mr_names.specs.declared.node.Node.{Node}
 use Rattle.mr_names.specs.Content.{Content, within, without, without_one}
 use Rattle.mr_names.specs.inner.Tree.{Edges, along, steps, standing, IsTold}
 use Rattle.mr_names.proofs.ContentLaws.{get-without_one, same, same_path, get-without}
-use Rattle.mr_names.proofs.Walks.{Names, steps-append, steps-none, absent}
+use Rattle.mr_names.proofs.LastNames.{Names}
+use Rattle.mr_names.proofs.Walks.{steps-append, steps-none, absent}
 
 some_of : (o : Option Names) → is_some o ≡ true → (r : Names) × (o ≡ Some r)
 some_of None e = absurd (true≢false (sym e))

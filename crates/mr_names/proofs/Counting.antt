@@ -20,7 +20,8 @@ use Rattle.mr_names.specs.declared.place.Place.{Place}
 use Rattle.mr_names.specs.Content.{Content}
 use Rattle.mr_names.specs.inner.Tree.{Edges, steps, standing, IsTold, edges_of, nodes_of}
 use Rattle.mr_names.proofs.ContentLaws.{same, same_path, same_itself}
-use Rattle.mr_names.proofs.Walks.{Names, there}
+use Rattle.mr_names.proofs.LastNames.{Names}
+use Rattle.mr_names.proofs.Walks.{there}
 
 -- ---- the keys of a slab
 

@@ -10,7 +10,8 @@ use Rattle.mr_paths.proofs.Paths.{strip-append, append-strip}
 use Rattle.mr_names.specs.declared.place.Place.{Place}
 use Rattle.mr_names.specs.Content.{Content, within, without, without_one}
 use Rattle.mr_names.specs.inner.Tree.{along, steps, standing, edges_of, nodes_of, IsTold, Held, NodeCut, CutBeneath, first_edge}
-use Rattle.mr_names.proofs.Walks.{Names, steps-append, snoc_same}
+use Rattle.mr_names.proofs.LastNames.{Names, snoc_same}
+use Rattle.mr_names.proofs.Walks.{steps-append}
 use Rattle.mr_names.proofs.Graph.{content_is, told_cut, cut_stays, first_is, first_none, first_stands}
 use Rattle.mr_names.proofs.Beneath.{one_first, len_falls, all_gone}
 

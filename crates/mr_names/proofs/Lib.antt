@@ -9,6 +9,7 @@ pub mod Counting
 pub mod Deleting
 pub mod Graph
 pub mod Limits
+pub mod LastNames
 pub mod ListingLaws
 pub mod NodeLines
 pub mod Making

@@ -12,7 +12,8 @@ use Rattle.mr_names.specs.Content.{Content, IsTree, within, without, with_dirs}
 use Rattle.mr_names.specs.Held.{is_absent, missing_count}
 use Rattle.mr_names.specs.inner.Tree.{Edges, along, steps, standing, edges_of, nodes_of, IsTold, NodeAdded, SameGraph, HasRoom, DirsAdded, SomeAdded, paths_down}
 use Rattle.mr_names.proofs.ContentLaws.{get-without, get_kept, drop-prefixes, none_left, there_first, count_first, counted}
-use Rattle.mr_names.proofs.Walks.{Names, steps-append}
+use Rattle.mr_names.proofs.LastNames.{Names}
+use Rattle.mr_names.proofs.Walks.{steps-append}
 use Rattle.mr_names.proofs.Beneath.{all_gone}
 use Rattle.mr_names.proofs.Graph.{told_added, told_same, added_at, added_bare}
 

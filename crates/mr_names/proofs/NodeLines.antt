@@ -22,7 +22,8 @@ use Rattle.mr_names.specs.Listing.{entry_of, children}
 use Rattle.mr_names.specs.Laws.{kind_listed}
 use Rattle.mr_names.specs.inner.Tree.{along, steps, standing, edges_of, nodes_of, IsTold, links_of, line_at, child_by, links_by}
 use Rattle.mr_names.proofs.ListingLaws.{lists_children, lists_in_order}
-use Rattle.mr_names.proofs.Walks.{Names, steps-append}
+use Rattle.mr_names.proofs.LastNames.{Names}
+use Rattle.mr_names.proofs.Walks.{steps-append}
 
 abbrev name_cmp : List ℕ → List ℕ → Ordering
 name_cmp = slice_cmp nat_cmp

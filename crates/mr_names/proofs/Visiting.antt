@@ -22,7 +22,8 @@ use Rattle.mr_names.specs.Walk.{found_of, walk}
 use Rattle.mr_names.specs.Content.{Content, within}
 use Rattle.mr_names.specs.inner.Tree.{along, steps, standing, edges_of, nodes_of, IsTold, links_of, ahead_of}
 use Rattle.mr_names.proofs.ContentLaws.{same, same_path, same_itself}
-use Rattle.mr_names.proofs.Walks.{Names, steps-append, steps-none}
+use Rattle.mr_names.proofs.LastNames.{Names}
+use Rattle.mr_names.proofs.Walks.{steps-append, steps-none}
 use Rattle.mr_names.proofs.Beneath.{within_up, within_itself}
 use Rattle.mr_names.proofs.NodeLines.{edges_by}
 

@@ -1,18 +1,20 @@
 //! The nodes as a graph: edges by name.
 //! These are the steps of `tree`: edges are followed, added, moved and taken out, and with them the nodes behind them.
-ghost use Rattle.std.specs.Prelude.{◌≡◌, Some, None, true, is_some, OnOk, OnErr, IfOk, IfSome, [], ℕ, List, MatchOption, length, nat_lt, take, ◌≤◌, ◌<◌, ◌+◌, ◌++◌, reverse};
+ghost use Rattle.std.specs.Prelude.{◌≡◌, Some, None, true, is_some, OnOk, OnErr, IfOk, IfSome, [], ◌∷◌, ℕ, List, MatchOption, length, nat_lt, take, ◌≤◌, ◌<◌, ◌+◌, ◌++◌, reverse};
 ghost use Rattle.mr_names.specs.inner.Tree.{edges_of, nodes_of, steps, IsTold, EdgeSet, SameGraph, NodeAdded, EdgeMoved, NodeChanged, NodeCut, CutBeneath, first_edge, DirsAdded, SomeAdded, links_of, line_at, ahead_of};
 ghost use Rattle.std.specs.Prelude.{map as list_map};
 ghost use Rattle.std.specs.List.{filter_map};
 ghost use Rattle.std.specs.List.Sorted.{IsStrictlySortedBy};
 ghost use Rattle.std.specs.Cmp.Lexicographic.{slice_cmp};
 ghost use Rattle.std.specs.Ordering.{nat_cmp};
+ghost use Rattle.mr_names.specs.Listing.{entry_of};
 ghost use Rattle.mr_names.specs.Node.{appended, closed_of};
 ghost use Rattle.std.specs.FinMap as map;
 ghost use Rattle.std.specs.Option.{option_map};
 
 use crate::node::{Entries, Entry, Node};
 use crate::place::{Ahead, Place};
+use mr_ids::Bytes;
 use mr_paths::{Name, Path};
 use slab::Slab;
 use std::alloc::{AllocError, Global};
@@ -157,7 +159,7 @@ pub fn move_edge(
 }
 
 /// Adds bytes at the end of the file at a node.
-pub fn append_at(nodes: &mut Slab<Place>, key: usize, more: &[u8]) -> Result<(), AllocError>
+pub fn append_at(nodes: &mut Slab<Place>, key: usize, more: &Bytes) -> Result<(), AllocError>
     ensures ok { OnOk result (NodeChanged nodes.old nodes.new key (appended more.now)) }
     ensures err { OnErr result (SameGraph nodes.old nodes.new) }
     ensures some { OnErr result (nat_lt 0 (length more.now) ≡ true) }
@@ -283,14 +285,21 @@ pub fn list(nodes: &Slab<Place>, alloc: Global, at: usize) -> Result<Entries, Al
     if let Some(place) = nodes.get(at) {
         for (name, key) in place.children.iter() {
             if let Some(found) = nodes.get(*key) {
-                entries.push(Entry {
-                    name: name.copy()?,
-                    kind: found.node.kind(),
-                })?;
+                push_entry(&mut entries, name, &found.node)?;
             }
         }
     }
     Ok(entries)
+}
+
+// Adds the entry of a node at the end.
+fn push_entry(entries: &mut Entries, name: &Name, node: &Node) -> Result<(), AllocError>
+    ensures { OnOk result (entries.new ≡ entries.old ++ entry_of name.now node.now ∷ []) }
+{
+    entries.push(Entry {
+        name: name.copy()?,
+        kind: node.kind(),
+    })
 }
 
 /// Puts the nodes to which edges lead on top of those that are ahead, the one whose name comes first on top.

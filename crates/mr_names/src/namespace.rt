@@ -153,8 +153,7 @@ impl Namespace {
         ensures always { may_want_memory self.old (Op.Append path.now more.now) ≡ false → MakesAlways (λ _. Answer.Done) self.old caller (Op.Append path.now more.now) result self.new }
     {
         self.check_append(caller, path, more)?;
-        self.tree.append(path.names(), more)?;
-        Ok(())
+        self.append_bytes(caller, path, &Bytes::from_slice(self.alloc, more)?)
     }
 
     /// Closes a file: nothing more is added to it. Refused `Missing`, `NotFile`, `Closed`.
@@ -238,18 +237,17 @@ impl Namespace {
         ensures always { may_want_memory self.old op.now ≡ false → MakesAlways (λ answer. answer) self.old caller op.now result self.new }
     {
         match op {
-            Op::Mkdirs(path) => self.mkdirs(caller, path)?,
-            Op::Create { path, closed } => self.create(caller, path, *closed)?,
-            Op::Append { path, bytes } => self.append(caller, path, bytes.as_slice())?,
-            Op::Close(path) => self.close(caller, path)?,
-            Op::Delete(path) => self.delete(caller, path)?,
-            Op::Rename { from, to } => self.rename(caller, from, to)?,
-            Op::List(path) => return Ok(Answer::Listed(self.list(caller, path)?)),
-            Op::Exists(path) => return Ok(Answer::Found(self.exists(caller, path)?)),
-            Op::Read(path) => return Ok(Answer::Contents(self.read(caller, path)?)),
-            Op::Bar(attempt) => self.bar(caller, *attempt)?,
+            Op::Mkdirs(path) => done(self.mkdirs(caller, path)),
+            Op::Create { path, closed } => done(self.create(caller, path, *closed)),
+            Op::Append { path, bytes } => done(self.append_bytes(caller, path, bytes)),
+            Op::Close(path) => done(self.close(caller, path)),
+            Op::Delete(path) => done(self.delete(caller, path)),
+            Op::Rename { from, to } => done(self.rename(caller, from, to)),
+            Op::List(path) => Ok(Answer::Listed(self.list(caller, path)?)),
+            Op::Exists(path) => Ok(Answer::Found(self.exists(caller, path)?)),
+            Op::Read(path) => Ok(Answer::Contents(self.read(caller, path)?)),
+            Op::Bar(attempt) => done(self.bar(caller, *attempt)),
         }
-        Ok(Answer::Done)
     }
 
     /// The refusal that a call would meet now, an allocation failure aside. It changes nothing.
@@ -265,6 +263,18 @@ impl Namespace {
         ensures { IfOk result (λ found. found ≡ walk self.now.content) }
     {
         self.tree.walk(self.alloc)
+    }
+}
+
+impl Namespace {
+    // As `append`, of bytes that may be shared: a file that was empty shares them then.
+    fn append_bytes(&mut self, caller: Caller, path: &Path, more: &Bytes) -> Result<(), NameFault>
+        ensures made { Makes (λ _. Answer.Done) self.old caller (Op.Append path.now more.now) result self.new }
+        ensures always { may_want_memory self.old (Op.Append path.now more.now) ≡ false → MakesAlways (λ _. Answer.Done) self.old caller (Op.Append path.now more.now) result self.new }
+    {
+        self.check_append(caller, path, more.as_slice())?;
+        self.tree.append(path.names(), more)?;
+        Ok(())
     }
 }
 
@@ -419,4 +429,13 @@ impl Namespace {
             Some(Node::File { .. }) => Ok(()),
         }
     }
+}
+
+// The answer of a call that hands nothing out.
+fn done(given: Result<(), NameFault>) -> Result<Answer, NameFault>
+    ensures made { (old new : State) (caller : Caller) (op : Op) → Makes (λ _. Answer.Done) old caller op given new → Makes (λ answer. answer) old caller op result new }
+    ensures always { (old new : State) (caller : Caller) (op : Op) → MakesAlways (λ _. Answer.Done) old caller op given new → MakesAlways (λ answer. answer) old caller op result new }
+{
+    given?;
+    Ok(Answer::Done)
 }

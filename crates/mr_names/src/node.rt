@@ -41,14 +41,14 @@ impl Node {
     }
 
     /// Adds bytes at the end of a file. A directory stays as it is.
-    pub fn append(&mut self, more: &[u8]) -> Result<(), AllocError>
+    pub fn append(&mut self, more: &Bytes) -> Result<(), AllocError>
         ensures ok { OnOk result (self.new ≡ appended more.now self.old) }
         ensures err { OnErr result (self.new ≡ self.old) }
         ensures some { OnErr result (nat_lt 0 (length more.now) ≡ true) }
     {
         match self {
             Node::Dir => Ok(()),
-            Node::File { bytes, .. } => bytes.extend(more),
+            Node::File { bytes, .. } => bytes.append(more),
         }
     }
 

@@ -20,6 +20,7 @@ use crate::links::{
 use crate::node::{Entries, Node};
 use crate::place::{Ahead, Place};
 use crate::walk::{Found, Walk};
+use mr_ids::Bytes;
 use mr_paths::{Name, Path};
 use slab::Slab;
 use std::alloc::{AllocError, Global};
@@ -194,7 +195,7 @@ impl Tree {
     }
 
     /// Adds bytes at the end of a file.
-    pub fn append(&mut self, names: &[Name], more: &[u8]) -> Result<(), AllocError>
+    pub fn append(&mut self, names: &[Name], more: &Bytes) -> Result<(), AllocError>
         ensures ok { OnOk result (self.new ≡ changed_at self.old names.now (appended more.now)) }
         ensures err { OnErr result (self.new ≡ self.old) }
         ensures some { OnErr result (nat_lt 0 (length more.now) ≡ true) }

@@ -1,5 +1,5 @@
 //! The machine of a node: which containers it launched or was asked to kill, the map outputs on its shelf, and what it does for a packet. For whoever runs nodes.
-ghost use Rattle.std.specs.Prelude.{◌≡◌, ◌<◌, ◌+◌, [], ◌∷◌, IfOk, OnOk, OnErr, take, Bool, false};
+ghost use Rattle.std.specs.Prelude.{◌≡◌, ◌<◌, ◌≤◌, ◌+◌, [], ◌∷◌, IfOk, OnOk, OnErr, length, take, drop, Bool, false};
 ghost use Rattle.mr_node.specs.Past.{Hears, Shelves, Ends, Restarts};
 ghost use Rattle.mr_ids.specs.Attempt.{Attempt};
 ghost use Rattle.mr_ids.specs.declared.id.TaskId.{TaskId};
@@ -203,7 +203,7 @@ impl NodeMachine {
     /// on. It is at most `MAX_PIECE_LEN` bytes of it, with the block's length. `FetchLost` where the incarnation is not
     /// the node's own, the output is not on its shelf, or the offset is above the block's length.
     ///
-    /// It may allocate for the bytes, and refuses nothing else. It changes nothing. The bytes are copied once.
+    /// It may allocate for the bytes, and refuses nothing else. It changes nothing. No byte is copied.
     pub fn fetch(
         &self,
         c: ContainerId,
@@ -231,8 +231,8 @@ impl NodeMachine {
         if incarnation != self.incarnation {
             return Ok(lost(&c, a));
         }
-        match self.shelf.get(a, reduce) {
-            Some(block) => piece(self.alloc, c, a, reduce, offset, block),
+        match self.shelf.share(a, reduce)? {
+            Some(block) => piece(c, a, reduce, offset, &block),
             None => Ok(lost(&c, a)),
         }
     }
@@ -352,12 +352,11 @@ fn ended(c: &ContainerId) -> Envelope
 
 // A block from an offset on.
 fn piece(
-    alloc: Global,
     c: ContainerId,
     a: AttemptId,
     reduce: u32,
     offset: u64,
-    block: &[u8],
+    block: &Bytes,
 ) -> Result<Envelope, AllocError>
     ensures { IfOk result (λ envelope. envelope ≡ piece_of c a reduce offset block.now) }
 {
@@ -365,7 +364,7 @@ fn piece(
     if offset > total as u64 {
         return Ok(lost(&c, a));
     }
-    let bytes = Vec::from_slice(alloc, front(&block[offset as usize..], max_piece_len()))?;
+    let bytes = cut_piece(block, offset as usize)?;
     Ok(Envelope {
         to: Address::Container(c),
         body: Packet::Piece {
@@ -373,7 +372,7 @@ fn piece(
             reduce,
             offset,
             total: total as u64,
-            bytes: Bytes::from_vec(bytes),
+            bytes,
         },
     })
 }
@@ -385,14 +384,16 @@ fn max_piece_len() -> usize
     MAX_PIECE_LEN
 }
 
-// The first `most` bytes, or all where there are fewer.
-#[tactic(auto, using(crate::proofs::Taking::all_taken, crate::proofs::Taking::front_taken))]
-fn front(bytes: &[u8], most: usize) -> &[u8]
-    ensures { result.now ≡ take most bytes.now }
+// What a piece holds of a block, from a byte on.
+#[tactic(auto, using(crate::proofs::Taking::front_taken, crate::proofs::Taking::rest_taken))]
+fn cut_piece(block: &Bytes, start: usize) -> Result<Bytes, AllocError>
+    requires { start ≤ length block.now }
+    ensures { IfOk result (λ bytes. bytes ≡ take piece_limit (drop start block.now)) }
 {
-    if bytes.len() > most {
-        &bytes[..most]
+    let most = max_piece_len();
+    if block.len() - start > most {
+        block.part(start, start + most)
     } else {
-        bytes
+        block.part(start, block.len())
     }
 }

@@ -29,7 +29,7 @@ pub enum Address {
 /// The packets between a container and its master restate the calls of Hadoop's umbilical protocol (commit pending, can
 /// commit, done, failed). Those to and from a node restate its container launcher and shuffle handler. Incarnations,
 /// offsets and the recorded length are this project's profile.
-#[derive(Drop)]
+#[derive(Clone, Drop)]
 pub enum Packet {
     /// To a node: the container is to run the attempt, in this incarnation of the node.
     Launch {
@@ -127,59 +127,7 @@ impl Packet {
     pub fn copy(&self) -> Result<Packet, AllocError>
         ensures { IfOk result (λ packet. packet ≡ self.now) }
     {
-        Ok(match *self {
-            Packet::Launch { c, a, incarnation } => Packet::Launch { c, a, incarnation },
-            Packet::Kill { c } => Packet::Kill { c },
-            Packet::Fetch {
-                c,
-                a,
-                reduce,
-                incarnation,
-                offset,
-            } => Packet::Fetch {
-                c,
-                a,
-                reduce,
-                incarnation,
-                offset,
-            },
-            Packet::Won { t, a } => Packet::Won { t, a },
-            Packet::Outcome { succeeded } => Packet::Outcome { succeeded },
-            Packet::Pending { a } => Packet::Pending { a },
-            Packet::Poll { a } => Packet::Poll { a },
-            Packet::Done { a, bytes } => Packet::Done { a, bytes },
-            Packet::Failed { a } => Packet::Failed { a },
-            Packet::Ended { c } => Packet::Ended { c },
-            Packet::NodeUp { n, incarnation } => Packet::NodeUp { n, incarnation },
-            Packet::Where { c, map } => Packet::Where { c, map },
-            Packet::FetchLost { c, a } => Packet::FetchLost { c, a },
-            Packet::Answer { a, yes } => Packet::Answer { a, yes },
-            Packet::DoneAck { a } => Packet::DoneAck { a },
-            Packet::MapReady {
-                map,
-                a,
-                n,
-                incarnation,
-            } => Packet::MapReady {
-                map,
-                a,
-                n,
-                incarnation,
-            },
-            Packet::Piece {
-                a,
-                reduce,
-                offset,
-                total,
-                ref bytes,
-            } => Packet::Piece {
-                a,
-                reduce,
-                offset,
-                total,
-                bytes: bytes.copy()?,
-            },
-        })
+        self.clone()
     }
 }
 

@@ -56,8 +56,11 @@
 //!   there is no such reduce.
 //! - `put` finds the blocks, in one walk over the output, and keeps their places (8 bytes a block, a growth that
 //!   `put` answers for). `get` is then a look-up and no walk (read in the code: no clause speaks of time).
-//! - Memory may be taken by `reduce_work`, `reduce_bytes`, `Merge::new`, `Merge::next`, `ShelfOfNode::put` and
-//!   `ShelfOfNode::copy`. No other call takes any.
+//! - `share(a, r)` answers the block that `get` lends, as bytes of its own, and refuses for want of memory alone.
+//!   Read in the code, not proved: where `put` had memory for it, they share those of the output, and no byte is
+//!   copied.
+//! - Memory may be taken by `reduce_work`, `reduce_bytes`, `Merge::new`, `Merge::next`, and `put`, `share` and `copy`
+//!   of `ShelfOfNode`. No other call takes any.
 //!
 //! Only tested: that each work enters its gate, that calls succeed with ample memory, and the bytes of the worked
 //! examples. Also every prefix and every change of a byte of a block, and texts of exactly 2^24 bytes and of one

@@ -4,7 +4,7 @@ ghost use Rattle.std.specs.Option.{option_map};
 ghost use Rattle.mr_shuffle.specs.Shelf.{with_output, without_outputs, block_there};
 
 use indexmap::IndexMap;
-use mr_ids::AttemptId;
+use mr_ids::{AttemptId, Bytes};
 use mr_mapside::{CutOutput, MapOutput};
 use std::alloc::{AllocError, Global};
 use std::marker::Model;
@@ -57,6 +57,16 @@ impl ShelfOfNode {
         ensures { option_map (λ block. block.now) result ≡ block_there self.now a reduce }
     {
         self.outputs.get(&a)?.block(self.reduces, reduce)
+    }
+
+    /// As `get`, as bytes of their own, which share those of the output. It may allocate, and refuses nothing else.
+    pub fn share(&self, a: AttemptId, reduce: u32) -> Result<Option<Bytes>, AllocError>
+        ensures { IfOk result (λ block. block ≡ block_there self.now a reduce) }
+    {
+        match self.outputs.get(&a) {
+            Some(output) => output.share_block(self.reduces, reduce),
+            None => Ok(None),
+        }
     }
 
     /// An equal shelf.

@@ -196,16 +196,17 @@ pub no_lines : {K V : Type 0} (job : Computation K V) (split n : ℕ) (rest : Li
 no_lines job split n [] e = refl
 no_lines job split n (b ∷ rest) e = absurd (omega arith)
 
-module _ {K V W : Type 0} (job : Computation K V) (items : W → List ℕ) where
+module _ {K V : Type 0} (job : Computation K V) where
   -- the next split
-  pub split_next : (xs : List W) (n i : ℕ) (x : W) → i < length xs → x ≡ get_or xs i x → pairs_of_splits job n (map items (drop i xs)) ≡ both (pairs_of_split job n (items x)) (pairs_of_splits job (n + 1) (map items (drop (i + 1) xs)))
+  pub split_next : (xs : List (List ℕ)) (n i : ℕ) (x : List ℕ) → i < length xs → x ≡ get_or xs i x → pairs_of_splits job n (drop i xs) ≡ both (pairs_of_split job n x) (pairs_of_splits job (n + 1) (drop (i + 1) xs))
   split_next [] n i x l is = absurd (omega arith)
-  split_next (y ∷ xs) n zero x l is = ap (λ z. both (pairs_of_split job n (items z)) (pairs_of_splits job (n + 1) (map items xs))) (sym is)
+  split_next (y ∷ xs) n zero x l is = ap (λ z. both (pairs_of_split job n z) (pairs_of_splits job (n + 1) xs)) (sym is)
   split_next (y ∷ xs) n (suc i) x l is =
       split_next xs n i x (omega arith) is
-      ∙ ap (λ k. both (pairs_of_split job n (items x)) (pairs_of_splits job (n + 1) (map items (drop k xs)))) (add-one i)
-      ∙ sym (ap (λ k. both (pairs_of_split job n (items x)) (pairs_of_splits job (n + 1) (map items (drop k (y ∷ xs))))) (add-one (suc i)))
+      ∙ ap (λ k. both (pairs_of_split job n x) (pairs_of_splits job (n + 1) (drop k xs))) (add-one i)
+      ∙ sym (ap (λ k. both (pairs_of_split job n x) (pairs_of_splits job (n + 1) (drop k (y ∷ xs)))) (add-one (suc i)))
 
+module _ {K V W : Type 0} (job : Computation K V) (items : W → List ℕ) where
   -- the file of a reduce
   pub file_gathered : (files : List W) (parts : List (List (K × List V))) (n reduces r : ℕ) (ps : List (K × V)) → map items files ≡ map (flat_map (key_lines job)) (take n parts) → length parts ≤ n → IsGathered job reduces parts ps → r < reduces →
       option_map items (slice_get files r) ≡ Some (text_of job (part_of job reduces r ps))

@@ -1,5 +1,5 @@
 //! The sequential execution of a job, against which a cluster's output is measured. And for map and reduce works the share of each reduce and the lines of a key.
-ghost use Rattle.std.specs.Prelude.{◌≡◌, ◌≤◌, ◌<◌, ◌++◌, ℕ, List, length, map, Some, None, IfOk, IfErr, OnOk, All, slice_get};
+ghost use Rattle.std.specs.Prelude.{◌≡◌, ◌≤◌, ◌<◌, ◌++◌, ◌∷◌, [], ℕ, List, length, Some, None, IfOk, IfErr, OnOk, All, slice_get};
 ghost use Rattle.std.specs.Option.{option_map};
 ghost use Rattle.mr_user.specs.Computation.{computation};
 ghost use Rattle.mr_user.specs.Sequential.{pairs_of_splits, part_of, key_lines, output};
@@ -9,6 +9,7 @@ ghost use Rattle.mr_user.specs.inner.Gathered.{IsGathered};
 use crate::fault::UserFault;
 use crate::gathering::{Gathered, gather_split, no_groups};
 use crate::job::Job;
+use mr_ids::Bytes;
 use std::alloc::{AllocError, Global};
 
 /// Most splits of a sequential execution.
@@ -25,21 +26,21 @@ pub const MAX_REDUCES: u32 = 1000;
 pub fn sequential<J: Job>(
     alloc: Global,
     job: &J,
-    splits: &[Vec<u8>],
+    splits: &[Bytes],
     reduces: u32,
 ) -> Result<Vec<Vec<u8>>, UserFault>
     requires few { length splits.now ≤ MAX_SPLITS }
-    requires short { All (λ split. length split.items ≤ MAX_SPLIT_LEN) splits.now }
+    requires short { All (λ split. length split ≤ MAX_SPLIT_LEN) splits.now }
     requires some { (1 ≤ reduces) × (reduces ≤ MAX_REDUCES) }
 
     ensures count { IfOk result (λ files. length files.items ≡ reduces) }
     ensures files { let all = computation J.Key.cmp J.Key.codec J.Value.codec J.functions in
         IfOk result (λ files. (r : ℕ) → r < reduces →
         option_map (λ file. file.items) (slice_get files.items r)
-        ≡ output all reduces r (map (λ split. split.items) splits.now)) }
+        ≡ output all reduces r splits.now) }
     ensures refused { let all = computation J.Key.cmp J.Key.codec J.Value.codec J.functions in
         IfErr result (λ fault. RefusedIf fault
-        (pairs_of_splits all 0 (map (λ split. split.items) splits.now) ≡ None)) }
+        (pairs_of_splits all 0 splits.now ≡ None)) }
 {
     let mut files = Vec::new(alloc);
     for part in &gathered(alloc, job, splits, reduces)? {
@@ -52,23 +53,23 @@ pub fn sequential<J: Job>(
 fn gathered<J: Job>(
     alloc: Global,
     job: &J,
-    splits: &[Vec<u8>],
+    splits: &[Bytes],
     reduces: u32,
 ) -> Result<Vec<Gathered<J>>, UserFault>
     requires few { length splits.now ≤ MAX_SPLITS }
-    requires short { All (λ split. length split.items ≤ MAX_SPLIT_LEN) splits.now }
+    requires short { All (λ split. length split ≤ MAX_SPLIT_LEN) splits.now }
     requires some { 0 < reduces }
     ensures groups { let all = computation J.Key.cmp J.Key.codec J.Value.codec J.functions in
         IfOk result (λ parts. (ps : List (J.Key × J.Value)) ×
-        (pairs_of_splits all 0 (map (λ split. split.items) splits.now) ≡ Some ps) × IsGathered all reduces parts.items ps) }
+        (pairs_of_splits all 0 splits.now ≡ Some ps) × IsGathered all reduces parts.items ps) }
     ensures refused { let all = computation J.Key.cmp J.Key.codec J.Value.codec J.functions in
         IfErr result (λ fault. RefusedIf fault
-        (pairs_of_splits all 0 (map (λ split. split.items) splits.now) ≡ None)) }
+        (pairs_of_splits all 0 splits.now ≡ None)) }
 {
     let mut parts = no_groups(alloc, reduces)?;
     let mut number = 0u32;
     for split in splits {
-        gather_split(alloc, job, &mut parts, number, split, reduces)?;
+        gather_split(alloc, job, &mut parts, number, split.as_slice(), reduces)?;
         number += 1;
     }
     Ok(parts)
@@ -123,10 +124,18 @@ pub fn write_lines<J: Job>(
 {
     let name = job.key_text(alloc, key)?;
     for value in &job.reduce(alloc, key, values)? {
-        out.extend_from_slice(&name)?;
-        out.push(b'\t')?;
-        out.extend_from_slice(value)?;
-        out.push(b'\n')?;
+        put_line(out, &name, value)?;
     }
+    Ok(())
+}
+
+// Appends a line: the text of a key, a tab, the text of a value and a line feed.
+fn put_line(out: &mut Vec<u8>, key: &[u8], value: &[u8]) -> Result<(), AllocError>
+    ensures { OnOk result (out.new.items ≡ out.old.items ++ (key.now ++ 9 ∷ value.now ++ 10 ∷ [])) }
+{
+    out.extend_from_slice(key)?;
+    out.push(b'\t')?;
+    out.extend_from_slice(value)?;
+    out.push(b'\n')?;
     Ok(())
 }

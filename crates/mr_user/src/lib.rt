@@ -4,7 +4,7 @@
 //!
 //! ```rust
 //! fn count_words(alloc: Global, text: &[u8]) -> Result<Vec<Vec<u8>>, UserFault> {
-//!     let split = Vec::from_slice(alloc, text)?;
+//!     let split = Bytes::from_slice(alloc, text)?;
 //!     if split.len() > MAX_SPLIT_LEN {
 //!         return Err(UserFault::Refused);
 //!     }

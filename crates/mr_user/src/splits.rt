@@ -1,5 +1,5 @@
 //! The splits of a job, in order.
-ghost use Rattle.std.specs.Prelude.{◌≡◌, IfOk, length, map, nat_eq, option_map, slice_get};
+ghost use Rattle.std.specs.Prelude.{◌≡◌, IfOk, length, nat_eq, option_map, slice_get};
 ghost use Rattle.std.specs.List.{AllByRecursion};
 ghost use Rattle.std.specs.Cmp.Lexicographic.{pointwise};
 ghost use Rattle.std.specs.Cmp.Rules.{comparing};
@@ -7,31 +7,33 @@ ghost use Rattle.std.proofs.Common.{rules};
 ghost use Rattle.mr_user.specs.Laws.{AreBytes};
 
 use crate::text::known_bytes;
+use mr_ids::Bytes;
 use std::alloc::{AllocError, Global};
 use std::marker::Model;
 
-/// The splits of a job, in order: each is the bytes of a text. Contracts see the list of their bytes.
+/// The splits of a job, in order: each is the bytes of a text. Contracts see the list of their bytes. A copy of splits whose bytes are shared copies
+/// no byte.
 #[derive(Debug, Drop)]
 pub struct Splits {
-    items: Vec<Vec<u8>>,
+    items: Vec<Bytes>,
 }
 
 impl Model for Splits {
-    ghost use Rattle.std.specs.Prelude.{ℕ, List, map};
+    ghost use Rattle.std.specs.Prelude.{ℕ, List};
     ghost use Rattle.std.specs.List.{AllByRecursion};
     ghost use Rattle.mr_user.specs.Laws.{AreBytes};
 
     ghost Value = { List (List ℕ) };
 
-    ghost view = { λ s. map (λ split. split.items) s.items.items };
+    ghost view = { λ s. s.items.items };
 
-    ghost invariant = { λ s. AllByRecursion AreBytes (map (λ split. split.items) s.items.items) };
+    ghost invariant = { λ s. AllByRecursion AreBytes s.items.items };
 }
 
 impl Splits {
     /// These splits, without a copy.
-    pub fn from_vec(items: Vec<Vec<u8>>) -> Splits
-        ensures { result ≡ map (λ split. split.items) items.items }
+    pub fn from_vec(items: Vec<Bytes>) -> Splits
+        ensures { result ≡ items.items }
     {
         known_splits(&items);
         Splits { items }
@@ -45,15 +47,15 @@ impl Splits {
     }
 
     /// The splits as a vector, without a copy.
-    pub fn into_vec(self) -> Vec<Vec<u8>>
-        ensures { map (λ split. split.items) result.items ≡ self }
+    pub fn into_vec(self) -> Vec<Bytes>
+        ensures { result.items ≡ self }
     {
         self.items
     }
 
     /// The splits as a slice.
-    pub fn as_slice(&self) -> &[Vec<u8>]
-        ensures { map (λ split. split.items) result.now ≡ self.now }
+    pub fn as_slice(&self) -> &[Bytes]
+        ensures { result.now ≡ self.now }
     {
         &self.items
     }
@@ -66,11 +68,10 @@ impl Splits {
     }
 
     /// The bytes of the split at this place; none past the last.
-    pub fn get(&self, place: usize) -> Option<&[u8]>
+    pub fn get(&self, place: usize) -> Option<&Bytes>
         ensures { option_map (λ bytes. bytes.now) result ≡ slice_get self.now place }
     {
-        let split = self.items.get(place)?;
-        Some(split.as_slice())
+        self.items.get(place)
     }
 
     /// Equal splits. It may allocate, and refuses nothing else.
@@ -97,20 +98,20 @@ impl Eq for Splits {
 }
 
 // Tells a proof that what a program holds as splits is of bytes. It does nothing.
-fn known_splits(splits: &[Vec<u8>])
-    ensures { AllByRecursion AreBytes (map (λ split. split.items) splits.now) }
+fn known_splits(splits: &[Bytes])
+    ensures { AllByRecursion AreBytes splits.now }
 {
     for split in splits {
-        known_bytes(split);
+        known_bytes(split.as_slice());
     }
 }
 
-fn copies(alloc: Global, splits: &[Vec<u8>]) -> Result<Vec<Vec<u8>>, AllocError>
-    ensures { IfOk result (λ copies. map (λ split. split.items) copies.items ≡ map (λ split. split.items) splits.now) }
+fn copies(alloc: Global, splits: &[Bytes]) -> Result<Vec<Bytes>, AllocError>
+    ensures { IfOk result (λ copies. copies.items ≡ splits.now) }
 {
     let mut copies = Vec::new(alloc);
     for split in splits {
-        copies.push(Vec::from_slice(alloc, split)?)?;
+        copies.push(split.copy()?)?;
     }
     Ok(copies)
 }

@@ -8,7 +8,7 @@ use Rattle.mr_mapside.specs.declared.fault.WorkFault.{WorkFault}
 use Rattle.mr_mapside.specs.declared.fault.WorkFault.TheVariants as work
 use Rattle.mr_mapside.specs.Work.{MapFaultIs}
 use Rattle.mr_shuffle.specs.Work.{ReduceFaultIs}
-use Rattle.mr_model.specs.Sequential.{most_output}
+use Rattle.mr_sequential.specs.mr_model.specs.Sequential.{most_output}
 use Rattle.mr_sequential.specs.Jobs.{ok_of}
 use Rattle.mr_work.specs.Works.{Works}
 

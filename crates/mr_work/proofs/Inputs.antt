@@ -9,11 +9,11 @@ use Rattle.mr_container.specs.Laws.{Fits}
 use Rattle.mr_container.specs.declared.wish.Wish.{Wish}
 use Rattle.mr_container.specs.declared.wish.Wish.TheVariants as wished
 use Rattle.mr_container.proofs.Fetching.{all-fetched}
-use Rattle.mr_model.specs.Ids.{Attempt, of_reduces}
-use Rattle.mr_model.specs.Packets.{Config}
-use Rattle.mr_model.specs.Pasts.{Place, Step, as_wish, wish, fetched}
-use Rattle.mr_model.specs.Effect.{wants_compute}
-use Rattle.mr_model.specs.Sequential.{Split, Pieces, given, input_at}
+use Rattle.mr_sequential.specs.mr_model.specs.Ids.{Attempt, of_reduces}
+use Rattle.mr_sequential.specs.mr_model.specs.Packets.{Config}
+use Rattle.mr_sequential.specs.mr_model.specs.Pasts.{Place, Step, as_wish, wish, fetched}
+use Rattle.mr_sequential.specs.mr_model.specs.Effect.{wants_compute}
+use Rattle.mr_sequential.specs.mr_model.specs.Sequential.{Split, Pieces, given, input_at}
 use Rattle.mr_work.specs.Works.{InputsAreShort, IsShort}
 
 -- a reduce that computes has all its pieces

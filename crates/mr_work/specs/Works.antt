@@ -11,11 +11,11 @@ use Rattle.mr_mapside.specs.declared.fault.WorkFault.{WorkFault}
 use Rattle.mr_mapside.specs.declared.fault.WorkFault.TheVariants as work
 use Rattle.mr_shuffle.specs.Part.{part}
 use Rattle.mr_shuffle.specs.Work.{ReduceFaultIs}
-use Rattle.mr_model.specs.Ids.{ContainerId}
-use Rattle.mr_model.specs.Packets.{Config}
-use Rattle.mr_model.specs.World.{World}
-use Rattle.mr_model.specs.Sequential as cluster
-use Rattle.mr_model.specs.Sequential.{Split, Pieces, input_of, most_output}
+use Rattle.mr_sequential.specs.mr_model.specs.Ids.{ContainerId}
+use Rattle.mr_sequential.specs.mr_model.specs.Packets.{Config}
+use Rattle.mr_sequential.specs.mr_model.specs.World.{World}
+use Rattle.mr_sequential.specs.mr_model.specs.Sequential as cluster
+use Rattle.mr_sequential.specs.mr_model.specs.Sequential.{Split, Pieces, input_of, most_output}
 use Rattle.mr_work.specs.declared.input.Input.{Input}
 use Rattle.mr_work.specs.declared.input.Input.TheVariants.{Map, Reduce}
 

@@ -3,7 +3,7 @@ ghost use Rattle.std.specs.Prelude.{◌≡◌, ◌↔◌, IfOk, IsTrue, nat_eq};
 ghost use Rattle.std.specs.Cmp.Lexicographic.{pointwise};
 ghost use Rattle.std.specs.Cmp.Rules.{comparing};
 ghost use Rattle.std.proofs.Common.{rules};
-ghost use Rattle.mr_model.specs.Sequential.{Split, Pieces as Fetched};
+ghost use Rattle.mr_sequential.specs.mr_model.specs.Sequential.{Split, Pieces as Fetched};
 ghost use Rattle.mr_work.specs.Works.{as_input, kind_of};
 
 use mr_ids::{Bytes, TaskKind};
@@ -75,11 +75,11 @@ pub enum Input {
 }
 
 impl Input {
-    /// What a map is given, copied.
-    pub fn of_map(alloc: Global, split: u32, bytes: &[u8]) -> Result<Input, AllocError>
+    /// What a map is given, copied: its bytes are shared where these are.
+    pub fn of_map(split: u32, bytes: &Bytes) -> Result<Input, AllocError>
         ensures { IfOk result (λ input. as_input input ≡ Split split bytes.now) }
     {
-        let bytes = Bytes::from_vec(Vec::from_slice(alloc, bytes)?);
+        let bytes = bytes.copy()?;
         Ok(Input::Map { split, bytes })
     }
 
@@ -96,7 +96,7 @@ impl Input {
         ensures { IfOk result (λ input. input ≡ self.now) }
     {
         match self {
-            Input::Map { split, bytes } => Input::of_map(alloc, *split, bytes.as_slice()),
+            Input::Map { split, bytes } => Input::of_map(*split, bytes),
             Input::Reduce { reduce, pieces } => {
                 Input::of_reduce(alloc, *reduce, pieces.as_slice())
             }

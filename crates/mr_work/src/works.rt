@@ -2,8 +2,8 @@
 ghost use Rattle.std.specs.Prelude.{◌≡◌, ◌≤◌, ℕ, IfErr, length};
 ghost use Rattle.mr_ids.specs.declared.id.TaskKind.TheVariants as kind;
 ghost use Rattle.mr_user.specs.Computation.{computation};
-ghost use Rattle.mr_model.specs.Packets.{Config};
-ghost use Rattle.mr_model.specs.Sequential.{Split, Pieces as Fetched, made_of};
+ghost use Rattle.mr_sequential.specs.mr_model.specs.Packets.{Config};
+ghost use Rattle.mr_sequential.specs.mr_model.specs.Sequential.{Split, Pieces as Fetched, made_of};
 ghost use Rattle.mr_sequential.specs.Jobs.{job_of};
 ghost use Rattle.mr_work.specs.Works.{as_input, kind_of, FaultIs, InputsAreShort, IsShort, Works};
 
@@ -62,7 +62,7 @@ pub fn work_of_map<J: Job, G: Gate>(
         IfErr result (FaultIs (G.refuses gate.now kind.Map) all reduces (Split number split.now)) }
 {
     let output = map_work(alloc, job, gate, number, split, reduces)?;
-    Ok(Bytes::from_vec(output.into_vec()))
+    Ok(shared(output.into_bytes()))
 }
 
 /// What a job makes of the pieces of a reduce, one of each map, by the maps' numbers: the reduce's text. Its refusals are those of `work`.
@@ -80,7 +80,16 @@ pub fn work_of_reduce<J: Job, G: Gate>(
         (reduces : ℕ) → IfErr result (FaultIs (G.refuses gate.now kind.Reduce) all reduces (Fetched reduce pieces.now)) }
 {
     let text = reduce_bytes(alloc, job, gate, pieces)?;
-    Ok(Bytes::from_vec(text))
+    Ok(shared(Bytes::from_vec(text)))
+}
+
+// The bytes of a result, which all who hold them share from now on.
+fn shared(bytes: Bytes) -> Bytes
+    ensures { result ≡ bytes }
+{
+    let mut bytes = bytes;
+    bytes.share();
+    bytes
 }
 
 /// What a container of a cluster is given is a split that is not too long, or one piece for each of its few maps.

@@ -30,7 +30,38 @@ fn bytes_are_added(rt: HostRuntime) {
     assert!(rt; bytes == copy && !bytes.is_empty() && Bytes::new(rt.alloc()).is_empty());
     bytes.extend(b"d").expect(&rt, "no memory");
     assert!(rt; bytes != copy);
-    assert!(rt; bytes.into_vec().as_slice() == b"abcd".as_slice());
+    assert!(rt; bytes.as_slice() == b"abcd".as_slice());
+}
+
+#[test]
+fn shared_bytes_outlive_their_first_holder(rt: HostRuntime) {
+    let mut bytes = bytes_of(&rt, rt.alloc(), b"abcd");
+    bytes.share();
+    assert!(rt; bytes.len() == 4);
+    let part = bytes.part(1, 3).expect(&rt, "no memory");
+    drop(bytes);
+    let mut other = part.copy().expect(&rt, "no memory");
+    other.extend(b"e").expect(&rt, "no memory");
+    assert!(rt; part.as_slice() == b"bc".as_slice() && other.as_slice() == b"bce".as_slice());
+    let mut joined = Bytes::new(part.allocator());
+    joined.append(&part).expect(&rt, "no memory");
+    joined.append(&other).expect(&rt, "no memory");
+    let want = Bytes::from_slice(rt.alloc(), b"bcbce").expect(&rt, "no memory");
+    assert!(rt; joined == want);
+}
+
+// Parts that follow one another, and one that does not, as it was added before.
+#[test]
+fn part_grows_over_what_follows(rt: HostRuntime) {
+    let mut bytes = bytes_of(&rt, rt.alloc(), b"abcd");
+    bytes.share();
+    assert!(rt; bytes.len() == 4);
+    let mut grown = bytes.part(0, 1).expect(&rt, "no memory");
+    let part = bytes.part(1, 3).expect(&rt, "no memory");
+    grown.append(&part).expect(&rt, "no memory");
+    assert!(rt; grown.as_slice() == b"abc".as_slice());
+    grown.append(&part).expect(&rt, "no memory");
+    assert!(rt; grown.as_slice() == b"abcbc".as_slice() && bytes.as_slice() == b"abcd".as_slice());
 }
 
 #[test]

@@ -181,7 +181,7 @@ fn namespace_calls_as_values(rt: HostRuntime) {
         &rt,
         names.perform(*one, &Op::Read(path(&rt, alloc, "/c/f"))),
     ) {
-        Ok(Answer::Contents(bytes)) => assert!(rt; bytes.into_vec().as_slice() == b"xy".as_slice()),
+        Ok(Answer::Contents(bytes)) => assert!(rt; bytes.as_slice() == b"xy".as_slice()),
         _ => panic!(rt; "not read"),
     }
     lists_one(&rt, &mut names, one, path(&rt, alloc, "/c"), b"f");

@@ -4,7 +4,7 @@ ghost use Rattle.std.specs.Prelude.{◌≡◌, []};
 
 use mr_board::{Board, Finished, Mismatch, Seat, Work};
 use mr_event::{Event, Weather};
-use mr_ids::{AppAttempt, JobId, TaskKind};
+use mr_ids::{AppAttempt, Bytes, JobId, TaskKind};
 use mr_packet::ContainerId;
 use mr_user::{Gate, GateFault, OpenGate, WordCount};
 use mr_world::{Config, Splits, Took, World, WorldFault};
@@ -52,7 +52,7 @@ fn world(rt: &impl Abort, alloc: Global, text: &[u8]) -> World
     ensures { result.events ≡ [] }
 {
     let mut splits = Vec::new(alloc);
-    let split = Vec::from_slice(alloc, text).expect(rt, "no memory");
+    let split = Bytes::from_slice(alloc, text).expect(rt, "no memory");
     assert!(rt; split.len() <= 16_777_216);
     if splits.push(split).is_err() {
         panic!(rt; "no memory");

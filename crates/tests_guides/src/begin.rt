@@ -62,7 +62,7 @@ pub fn put_packet(bag: &mut Bag, envelope: Envelope) -> Result<(), BagFault> {
 
 /// The words of a text, counted: the files of two reduces.
 pub fn count_words(alloc: Global, text: &[u8]) -> Result<Vec<Vec<u8>>, UserFault> {
-    let split = Vec::from_slice(alloc, text)?;
+    let split = Bytes::from_slice(alloc, text)?;
     if split.len() > MAX_SPLIT_LEN {
         return Err(UserFault::Refused);
     }

@@ -213,7 +213,9 @@ fn a_job_in_a_world(rt: HostRuntime) {
     let mut splits = Vec::new(alloc);
     let split = bytes(&rt, alloc, b"a b a");
     assert!(rt; split.len() <= MAX_SPLIT_LEN);
-    splits.push(split).expect(&rt, "no memory");
+    splits
+        .push(mr_packet::Bytes::from_vec(split))
+        .expect(&rt, "no memory");
     let config = Config {
         job: TASK.job,
         splits: Splits::from_vec(splits),

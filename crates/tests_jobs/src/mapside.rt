@@ -1,6 +1,6 @@
 //! Map works, and the blocks that their outputs are cut into.
 
-use mr_ids::TaskKind;
+use mr_ids::{Bytes, TaskKind};
 use mr_mapside::{
     CutOutput, MAX_OUTPUT_LEN, MapOutput, RunGroups, WorkFault, blocks, blocks_are_one, map_work,
     output_is_its_blocks, read_pair,
@@ -47,11 +47,11 @@ fn output_of<J: Job, G: Gate>(
     gate: &G,
     split: &[u8],
     reduces: u32,
-) -> Result<Vec<u8>, WorkFault> {
+) -> Result<Bytes, WorkFault> {
     assert!(rt; split.len() <= MAX_SPLIT_LEN);
     assert!(rt; 1 <= reduces && reduces <= MAX_REDUCES);
     match map_work(alloc, job, gate, 3, split, reduces) {
-        Ok(output) => Ok(output.into_vec()),
+        Ok(output) => Ok(output.into_bytes()),
         Err(WorkFault::NoMemory) => panic!(rt; "no memory"),
         Err(fault) => Err(fault),
     }
@@ -172,4 +172,37 @@ fn cut_output_lends_its_blocks(rt: HostRuntime) {
     let copied = with_memory(&rt, cut.clone());
     assert!(rt; matches!(copied.block(2, 1), Some(block) if block == b"c".as_slice()));
     assert!(rt; cut.block(3, 1).is_none() && cut.block(2, 2).is_none());
+}
+
+#[test]
+fn shared_output_outlives_its_first_holder(rt: HostRuntime) {
+    let bytes = with_memory(
+        &rt,
+        Bytes::from_slice(rt.alloc(), b"\0\0\0\x02ab\0\0\0\x01c"),
+    );
+    assert!(rt; bytes.len() == 11 && bytes.len() <= MAX_OUTPUT_LEN);
+    let mut output = MapOutput::from_bytes(bytes);
+    output.share();
+    assert!(rt; output.bytes().len() == 11);
+    let copied = with_memory(&rt, output.copy());
+    let part = with_memory(&rt, output.part(4, 6));
+    let none = with_memory(&rt, output.part(11, 11));
+    drop(output);
+    assert!(rt; part.as_slice() == b"ab".as_slice() && none.is_empty());
+    assert!(rt; copied.bytes() == b"\0\0\0\x02ab\0\0\0\x01c".as_slice());
+}
+
+#[test]
+fn shared_block_outlives_its_cut_output(rt: HostRuntime) {
+    let alloc = rt.alloc();
+    let bytes = with_memory(&rt, Vec::from_slice(alloc, b"\0\0\0\x02ab\0\0\0\x01c"));
+    assert!(rt; bytes.len() <= MAX_OUTPUT_LEN);
+    let cut = with_memory(&rt, CutOutput::new(alloc, MapOutput::from_vec(bytes)));
+    let first = with_memory(&rt, cut.share_block(2, 0));
+    let last = with_memory(&rt, cut.share_block(2, 1));
+    assert!(rt; with_memory(&rt, cut.share_block(3, 1)).is_none());
+    assert!(rt; with_memory(&rt, cut.share_block(2, 2)).is_none());
+    drop(cut);
+    assert!(rt; matches!(&first, Some(block) if block.as_slice() == b"ab".as_slice()));
+    assert!(rt; matches!(&last, Some(block) if block.as_slice() == b"c".as_slice()));
 }

@@ -337,6 +337,21 @@ fn shelf_keeps_until_all_is_dropped(rt: HostRuntime) {
     attempts_are_apart();
 }
 
+#[test]
+fn shared_block_outlives_its_shelf(rt: HostRuntime) {
+    let alloc = rt.alloc();
+    let a = attempt(&rt, "attempt_200707121733_0003_m_000000_0");
+    let mut shelf = ShelfOfNode::new(alloc, 2);
+    with_memory(
+        &rt,
+        shelf.put(a, output(&rt, alloc, b"\0\0\0\x02ab\0\0\0\x01c")),
+    );
+    let block = with_memory(&rt, shelf.share(a, 0));
+    shelf.drop_all();
+    assert!(rt; matches!(&block, Some(bytes) if same(bytes.as_slice(), b"ab")));
+    assert!(rt; with_memory(&rt, shelf.share(a, 0)).is_none());
+}
+
 // The text of reduce 3 of 4 over the splits, through map works, blocks and a reduce work.
 fn shuffled<J: Job>(rt: &impl Abort, alloc: Global, job: &J, splits: &[&[u8]]) -> Vec<u8> {
     let mut parts = Vec::new(alloc);
@@ -373,7 +388,7 @@ fn pieces_make_the_text(rt: HostRuntime) {
     let text = shuffled(&rt, alloc, &LineIndex, &words);
     assert!(rt; same(&text, b"c\t0:0,0:0,1:1\ng\t0:0,1:1\n"));
     let bytes = Bytes::from_vec(text);
-    assert!(rt; same(&bytes.into_vec(), b"c\t0:0,0:0,1:1\ng\t0:0,1:1\n"));
+    assert!(rt; same(bytes.as_slice(), b"c\t0:0,0:0,1:1\ng\t0:0,1:1\n"));
     shuffle_gives_sequential_text::<WordCount>();
     works_give_sequential_text::<LineIndex>();
     piece_is_what_it_says::<MaxByKey>();

@@ -1,6 +1,6 @@
 //! Jobs and their functions.
 
-use mr_ids::TaskKind;
+use mr_ids::{Bytes, TaskKind};
 use mr_user::{
     Gate, Job, LineIndex, MAX_SPLIT_LEN, MaxByKey, OpenGate, Position, Splits, Text, UserFault,
     Wire, WordCount, groups, next_line, sort_pairs, write_lines,
@@ -224,14 +224,15 @@ fn splits_are_copied(rt: HostRuntime) {
     let alloc = rt.alloc();
     let mut items = Vec::new(alloc);
     for text in [b"a b\n".as_slice(), b"".as_slice()] {
-        let split = Vec::from_slice(alloc, text).expect(&rt, "no memory");
+        let split = Bytes::from_slice(alloc, text).expect(&rt, "no memory");
         items.push(split).expect(&rt, "no memory");
     }
     let splits = Splits::from_vec(items);
     let copy = splits.copy().expect(&rt, "no memory");
     assert!(rt; copy == splits && copy.len() == 2);
     assert!(rt;
-        matches!(copy.get(0), Some(split) if same(split, b"a b\n")) && copy.get(2).is_none()
+        matches!(copy.get(0), Some(split) if same(split.as_slice(), b"a b\n"))
+            && copy.get(2).is_none()
     );
     assert!(rt; Splits::from_vec(Vec::new(alloc)) != splits);
 }

@@ -67,7 +67,7 @@ pub fn bytes(rt: &impl Abort, alloc: Global, items: &[u8]) -> Bytes {
 /// A job of one map, of the split `a b a`, and of one reduce, on so many nodes.
 fn config(rt: &impl Abort, alloc: Global, nodes: u32) -> Result<Config, AllocError> {
     let mut splits = Vec::new(alloc);
-    let split = Vec::from_slice(alloc, b"a b a")?;
+    let split = Bytes::from_slice(alloc, b"a b a")?;
     assert!(rt; split.len() <= 16_777_216);
     splits.push(split)?;
     assert!(rt; nodes >= 1 && nodes <= 64);

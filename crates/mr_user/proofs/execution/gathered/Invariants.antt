@@ -1,4 +1,4 @@
-use Rattle.std.proofs.Common.{◌≡◌, map, drop, List, Some}
+use Rattle.std.proofs.Common.{◌≡◌, drop, List, Some}
 use Rattle.mr_user.specs.Computation.{computation}
 use Rattle.mr_user.specs.inner.Gathered.{IsGathered}
 use Rattle.mr_user.specs.Sequential.{both, pairs_of_splits}
@@ -10,6 +10,6 @@ invariant-loop-split g l =
     record {
       number : l.number ≡ l.split-index;
       seen : List (g.row.J-Key.Denot × g.row.J-Value.Denot);
-      pairs : pairs_of_splits all 0 (map (λ split. split.items) l.splits) ≡ both (Some seen) (pairs_of_splits all l.split-index (map (λ split. split.items) (drop l.split-index l.splits)));
+      pairs : pairs_of_splits all 0 l.splits ≡ both (Some seen) (pairs_of_splits all l.split-index (drop l.split-index l.splits));
       groups : IsGathered all l.reduces l.parts.items seen;
     }

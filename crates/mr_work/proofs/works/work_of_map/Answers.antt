@@ -7,5 +7,5 @@ returns-in_err-output-clause-works g c = λ cfg is. rw is (refused-as _ _ c.from
 
 pub returns-clause-works : goal.returns-clause-works
 returns-clause-works g c = λ cfg is.
-    let bytes : c.from_vec.result ≡ c.in_ok-output.output = c.from_vec.ensures ∙ c.into_vec.ensures.value in
+    let bytes : c.shared.result ≡ c.in_ok-output.output = c.shared.ensures ∙ c.into_bytes.ensures.value in
     (rw (bytes, is) c.in_ok-output.ensures.output, rw bytes (not-longer _ c.in_ok-output.ensures.short))
