@@ -2,7 +2,7 @@
 //!
 //! `MasterMachine` stands for a past, a list of steps: packets that were heard, launches, expiries, answers of store
 //! calls. What it stores is what is read off that past by the words of `mr_master_model`, part by part
-//! (`specs/State.antt`). Each public call promises the past that it stands for then. What it answers or sends is what
+//! (`mr_change`). Each public call promises the past that it stands for then. What it answers or sends is what
 //! is read off the past before.
 //!
 //! Whoever runs a master keeps the bag. Each step is taken in the same way:
@@ -38,26 +38,9 @@
 //! - Only tested: that the calls succeed with ample memory, along a few ways through the phases (`crates/tests_masters`).
 #![tactic(auto)]
 
-mod answer;
-mod bars;
-mod blame;
-mod boxed;
-mod change;
-mod copy;
-mod duty;
-mod expiry;
-mod hear;
-mod launch;
-mod machine;
 mod master;
-mod nodes;
-mod outputs;
-mod prepared;
-mod send;
-mod takeover;
-mod wanted;
 
-pub use launch::LaunchError;
 pub use master::MasterMachine;
-pub use mr_tables::Duty;
-pub use prepared::Prepared;
+pub use mr_hearing::LaunchError;
+pub use mr_hearing::mr_change::Prepared;
+pub use mr_hearing::mr_tables::Duty;

@@ -1,22 +1,25 @@
 //! The application master as whoever runs it sees it: `MasterMachine`, whose calls are handed on to the `Machine` of
-//! `machine` and its parts.
+//! `mr_change`, and to what hears packets and takes answers.
 ghost use Rattle.std.specs.Prelude.{◌≡◌, true, [], ◌∷◌, None, IfOk, IfErr, OnOk, OnErr, unwrap_or};
 ghost use Rattle.std.specs.Option.{is_some};
-ghost use Rattle.mr_master.specs.State.{StandsFor, StandsForSome, Stands, StandsStill, Answers};
+ghost use Rattle.mr_hearing.specs.mr_change.specs.State.{StandsFor, StandsForSome, Stands, StandsStill, Answers};
 ghost use Rattle.mr_master_model.specs.Duty.{duty};
 ghost use Rattle.mr_master_model.specs.Past.{Step, Launches, Hears, Expires, Answered, phase_of};
 ghost use Rattle.mr_master_model.specs.Readings.{launch_refusal, expire_refusal, wanted};
 ghost use Rattle.mr_master_model.specs.Next.{seen, sent};
-ghost use Rattle.mr_master.specs.Prepared.{IsOne, IsExpiry, PlansFor, IsReadyFor, IsReadyForStep};
-ghost use Rattle.mr_master.specs.Refused.{launch_error};
+ghost use Rattle.mr_hearing.specs.mr_change.specs.Prepared.{IsOne, IsExpiry, PlansFor, IsReadyFor, IsReadyForStep};
+ghost use Rattle.mr_hearing.specs.Refused.{launch_error};
 
-use crate::launch::{LaunchError, no_memory};
-use crate::machine::Machine;
-use crate::prepared::Prepared;
+use mr_answer::{next_duty, ready_for};
+use mr_hearing::mr_change::{Machine, Prepared};
+use mr_hearing::mr_tables::Duty;
+use mr_hearing::{
+    LaunchError, expire_refusal, launch_refusal, no_memory, prepare_expiry, prepare_launch,
+    prepare_packet,
+};
 use mr_ids::TaskId;
 use mr_master_model::{LaunchFault, Phase, Setting, StoreAnswer};
 use mr_packet::{Envelope, Packet};
-use mr_tables::Duty;
 use mr_task::TaskFault;
 use std::alloc::{AllocError, Global};
 use std::marker::Model;
@@ -40,8 +43,8 @@ impl Drop for MasterMachine {
 }
 
 impl Model for MasterMachine {
-    ghost use Rattle.mr_master.specs.inner.Passing.{HasPassed};
-    ghost use Rattle.mr_master.specs.State.{Master};
+    ghost use Rattle.mr_hearing.specs.mr_change.specs.Passing.{HasPassed};
+    ghost use Rattle.mr_hearing.specs.mr_change.specs.State.{Master};
 
     ghost Value = { Master };
 
@@ -87,7 +90,7 @@ impl MasterMachine {
         ensures due { IfOk result (λ due. Answers self.now (λ w past. duty w (seen w past)) due) }
         ensures due_on_memory { OnErr result (Answers self.now (λ w past. is_some (duty w (seen w past))) true) }
     {
-        let due = self.machine.duty(self.passed)?;
+        let due = next_duty(&self.machine, self.passed)?;
         Ok(due)
     }
 
@@ -95,7 +98,7 @@ impl MasterMachine {
     pub fn launch_refusal(&self, task: TaskId, node: u32) -> Option<LaunchFault>
         ensures { Answers self.now (λ w past. launch_refusal w (seen w past) task node) result }
     {
-        self.machine.launch_refusal(task, node)
+        launch_refusal(&self.machine, task, node)
     }
 
     /// The phase that it is in.
@@ -118,7 +121,7 @@ impl MasterMachine {
     pub fn expire_refusal(&self, node: u32) -> Option<LaunchFault>
         ensures { Answers self.now (λ w past. expire_refusal w (seen w past) node) result }
     {
-        self.machine.expire_refusal(node)
+        expire_refusal(&self.machine, node)
     }
 }
 
@@ -134,7 +137,7 @@ impl MasterMachine {
         ensures sent { IfOk result (λ prepared. Answers self.now (λ w past. sent w past (Hears packet.now)) prepared.packets) }
         ensures planned { IfOk result (λ prepared. PlansFor self.now (Hears packet.now) prepared) }
     {
-        let prepared = self.machine.prepare_packet(packet)?;
+        let prepared = prepare_packet(&self.machine, packet)?;
         Ok(prepared)
     }
 
@@ -153,7 +156,7 @@ impl MasterMachine {
         ensures memory { OnOk result (Answers self.now (λ w past. launch_error w (seen w past) task node) LaunchError.NoMemory) }
         ensures refused { IfErr result (λ error. Answers self.now (λ w past. launch_error w (seen w past) task node) error) }
     {
-        let prepared = self.machine.prepare_launch(task, node)?;
+        let prepared = prepare_launch(&self.machine, task, node)?;
         Ok(prepared)
     }
 
@@ -172,7 +175,7 @@ impl MasterMachine {
         ensures allowed { OnOk result (Answers self.now (λ w past. expire_refusal w (seen w past) node) None) }
         ensures refused { IfErr result (λ fault. Answers self.now (λ w past. unwrap_or (expire_refusal w (seen w past) node) (LaunchFault.Task TaskFault.NoMemory)) fault) }
     {
-        let prepared = self.machine.prepare_expiry(node)?;
+        let prepared = prepare_expiry(&self.machine, node)?;
         Ok(prepared)
     }
 
@@ -191,7 +194,7 @@ impl MasterMachine {
         ensures sent { IfOk result (λ prepared. Answers self.now (λ w past. sent w past (Answered answer)) prepared.packets) }
         ensures planned { IfOk result (λ prepared. PlansFor self.now (Answered answer) prepared) }
     {
-        let prepared = self.machine.ready_for(answer, self.passed)?;
+        let prepared = ready_for(&self.machine, answer, self.passed)?;
         Ok(prepared)
     }
 

@@ -1,7 +1,7 @@
 //! What a master is at in its phase, which store call is due by that alone, and what is next after the call's answer.
 //!
 //! `Work` is the work of `mr_master_model`, with what is left of a committer's table. It knows no task's machine, no
-//! container and no node. The machine that keeps it is `mr_master`. Which past it stands for is said there.
+//! container and no node. The machine that keeps it is `mr_change`. Which past it stands for is said there.
 //!
 //! # What is proved
 //!

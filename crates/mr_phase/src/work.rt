@@ -26,9 +26,15 @@ use std::collections::VecDeque;
 use std::marker::Model;
 
 /// What the master is at.
-#[derive(Drop)]
 pub struct Work {
     at: At,
+}
+
+// By hand: one is dropped by this call.
+impl Drop for Work {
+    fn drop(self) {
+        let Work { at: _ } = self;
+    }
 }
 
 #[derive(Drop)]

@@ -22,12 +22,23 @@ use std::marker::Model;
 
 /// What was read of the earlier segments: where the output of each map's attempt lies that they tell of, which is its
 /// map's newest. Also the maps by the nodes where those outputs lie.
-#[derive(Drop)]
 pub struct Earlier {
     records: Records,
     places: Places,
     newest: Newest,
     spread: Spread,
+}
+
+// By hand: one is dropped by this call.
+impl Drop for Earlier {
+    fn drop(self) {
+        let Earlier {
+            records: _,
+            places: _,
+            newest: _,
+            spread: _,
+        } = self;
+    }
 }
 
 impl Model for Earlier {

@@ -15,7 +15,6 @@ use std::alloc::{AllocError, Global};
 use std::marker::Model;
 
 /// The launches of a master, in order.
-#[derive(Drop)]
 pub struct Launches {
     entries: Entries,
     // whether a Kill was sent to the container, by its number
@@ -23,6 +22,18 @@ pub struct Launches {
     // the tasks by the nodes where attempts of theirs were launched, and whether those of all launches are there
     spread: Spread,
     is_spread: bool,
+}
+
+// By hand: one is dropped by this call.
+impl Drop for Launches {
+    fn drop(self) {
+        let Launches {
+            entries: _,
+            killed: _,
+            spread: _,
+            is_spread: _,
+        } = self;
+    }
 }
 
 impl Model for Launches {

@@ -2,7 +2,7 @@
 //! incarnations of nodes, its bars, the records that it writes, what the records of earlier masters say, the tasks by
 //! node, and marks of places. The packets that it sends stand here too.
 //!
-//! None of them calls the namespace. The machine that keeps them is `mr_master`; which past it stands for is said there.
+//! None of them calls the namespace. The machine that keeps them is `mr_change`; which past it stands for is said there.
 //!
 //! # What is proved
 //!

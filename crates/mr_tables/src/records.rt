@@ -15,12 +15,22 @@ use std::collections::VecDeque;
 use std::marker::Model;
 
 /// The records that are due, and those that were appended and are not flushed, each in order.
-#[derive(Drop)]
 pub struct Writing {
     due: VecDeque<Record>,
     tail: Vec<Record>,
     // whether the tail has something that a flush is for
     is_flush_wanted: bool,
+}
+
+// By hand: one is dropped by this call.
+impl Drop for Writing {
+    fn drop(self) {
+        let Writing {
+            due: _,
+            tail: _,
+            is_flush_wanted: _,
+        } = self;
+    }
 }
 
 impl Model for Writing {

@@ -1,7 +1,7 @@
 //! The machines of a master's tasks by place, maps first, and how far the tasks have come.
 //!
 //! None of them knows a container, a node or a record, and none calls the namespace. The machine that keeps them is
-//! `mr_master`. Which past it stands for is said there.
+//! `mr_change`. Which past it stands for is said there.
 //!
 //! # What is proved
 //!

@@ -24,10 +24,19 @@ use std::alloc::{AllocError, Global};
 use std::marker::Model;
 
 /// The machines of all tasks: maps, then reduces; and how far the tasks have come.
-#[derive(Drop)]
 pub struct Tasks {
     pub(crate) machines: Vec<TaskMachine>,
     pub(crate) progress: Progress,
+}
+
+// By hand: one is dropped by this call.
+impl Drop for Tasks {
+    fn drop(self) {
+        let Tasks {
+            machines: _,
+            progress: _,
+        } = self;
+    }
 }
 
 impl Model for Tasks {

@@ -1,5 +1,5 @@
 use Rattle.mr_master.proofs.Past_stays.{none-live}
 use Rattle.mr_master.proofs.master.MasterMachine.duty.Goals as goal
 
-pub duty-requires : goal.duty-requires
-duty-requires c = none-live c.self.inside.machine c.self.inside.passed c.self.invariant
+pub next_duty-requires : goal.next_duty-requires
+next_duty-requires c = none-live c.self.inside.machine c.self.inside.passed c.self.invariant

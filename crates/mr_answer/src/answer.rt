@@ -1,0 +1,76 @@
+//! What is prepared for the answer of the store call that is due, in each phase.
+//! Each kind of call has its file.
+ghost use Rattle.std.specs.Prelude.{IfOk};
+ghost use Rattle.std.specs.Option.{is_some};
+ghost use Rattle.mr_master_model.specs.Duty.{duty};
+ghost use Rattle.mr_master_model.specs.Past.{Answered};
+ghost use Rattle.mr_change.specs.State.{Reads};
+ghost use Rattle.mr_answer.specs.Answering.{IsDue};
+ghost use Rattle.mr_change.specs.Passing.{NoneLive};
+ghost use Rattle.mr_answer.specs.Placed.{IsPlaced};
+ghost use Rattle.mr_change.specs.Prepared.{PlansFor, PlansDue};
+
+use crate::duty::next_duty;
+use crate::failing::ready_failing;
+use crate::mark::{ready_look, ready_tell};
+use crate::reading::ready_read;
+use crate::running::ready_running;
+use crate::table::ready_step;
+use mr_change::{Change, Machine, Prepared};
+use mr_master_model::StoreAnswer;
+use std::alloc::AllocError;
+
+/// What the answer of the call that is due will change and send. Where none is due, it is nothing. None of the
+/// first `passed` bars is of a live attempt, and what is taken over is of a task of the job.
+pub fn ready_for(
+    master: &Machine,
+    answer: StoreAnswer,
+    passed: usize,
+) -> Result<Prepared, AllocError>
+    requires none_live { NoneLive master.now passed }
+    requires placed { IsPlaced master.now }
+    ensures { IfOk result (λ ready. PlansFor master.now (Answered answer) ready) }
+{
+    let is_due = is_due(master, passed)?;
+    if !is_due {
+        return Ok(Prepared::silent(master.alloc, Change::Nothing));
+    }
+    let ready = ready_due(master, answer, passed)?;
+    Ok(ready)
+}
+
+// Whether a call is due.
+fn is_due(master: &Machine, passed: usize) -> Result<bool, AllocError>
+    requires { NoneLive master.now passed }
+    ensures { IfOk result (λ due. Reads master.now (λ w s. is_some (duty w s)) due) }
+{
+    let due = next_duty(master, passed)?;
+    Ok(due.is_some())
+}
+
+fn ready_due(master: &Machine, answer: StoreAnswer, passed: usize) -> Result<Prepared, AllocError>
+    requires due { IsDue master.now }
+    requires none_live { NoneLive master.now passed }
+    requires placed { IsPlaced master.now }
+    ensures { IfOk result (λ ready. PlansDue master.now answer ready) }
+{
+    if master.work.is_look() {
+        return ready_look(master, &answer);
+    }
+    if master.work.is_tell() {
+        return ready_tell(master, &answer);
+    }
+    if master.work.is_read() {
+        return ready_read(master, answer);
+    }
+    if master.work.is_step() {
+        return ready_step(master, answer);
+    }
+    if let Some(is_stable) = master.work.fails() {
+        return ready_failing(master, is_stable, &answer);
+    }
+    if master.work.is_running() {
+        return ready_running(master, &answer, passed);
+    }
+    Ok(Prepared::silent(master.alloc, Change::Nothing))
+}

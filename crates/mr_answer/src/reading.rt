@@ -1,0 +1,25 @@
+//! What is ready for the answer of the reading of the earlier segments.
+//! By what the records tell the master sets the job up, or goes on failing; where the reading is refused, it stops.
+ghost use Rattle.std.specs.Prelude.{◌≡◌, true, IfOk};
+ghost use Rattle.mr_change.specs.mr_phase.specs.WorkKinds.{is_read};
+ghost use Rattle.mr_change.specs.Prepared.{PlansDue};
+
+use mr_change::mr_phase::{Work, read_work, records_in};
+use mr_change::mr_tables::Earlier;
+use mr_change::{Boxed, Change, Machine, Prepared};
+use mr_master_model::StoreAnswer;
+use std::alloc::AllocError;
+
+// The earlier segments are read, or that is refused. Nothing is sent.
+pub fn ready_read(master: &Machine, answer: StoreAnswer) -> Result<Prepared, AllocError>
+    requires { is_read master.now.work ≡ true }
+    ensures { IfOk result (λ ready. PlansDue master.now answer ready) }
+{
+    let Some(records) = records_in(answer) else {
+        return Ok(Prepared::silent(master.alloc, Change::Becomes(Work::stopped())));
+    };
+    let next = read_work(&master.setting, records.as_slice())?;
+    let read = Earlier::of(master.alloc, records)?;
+    let earlier = Boxed::new(master.alloc, read)?;
+    Ok(Prepared::silent(master.alloc, Change::HasRead(earlier, next)))
+}

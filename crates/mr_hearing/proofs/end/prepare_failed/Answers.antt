@@ -1,0 +1,17 @@
+use Rattle.std.proofs.Common.{sym, ◌∙◌, ap}
+use Rattle.mr_master_model.specs.Past.{Work}
+use Rattle.mr_master_model.specs.Readings.{is_running, launch_of}
+use Rattle.mr_change.proofs.Keeping.{none-mapped}
+use Rattle.mr_hearing.proofs.Planned.{nothing-failed, plan-failed, at-known}
+use Rattle.mr_hearing.proofs.end.prepare_failed.Goals as goal
+
+pub returns-in_default : goal.returns-in_default
+returns-in_default c = nothing-failed c.args.attempt c.silent.ensures
+    (λ w s k. ap (λ (x : Work). is_running x) (sym k.work) ∙ c.requires)
+    (λ w s keeps. none-mapped _ (launch_of w s c.args.attempt) (sym c.in_default.is ∙ c.known.ensures.known w s keeps))
+
+pub prepare_end-requires-clause-at : goal.prepare_end-requires-clause-at
+prepare_end-requires-clause-at c = at-known c.args.attempt c.in-Some.place c.in-Some._launch c.in-Some.ensures.within c.in-Some.ensures.known
+
+pub returns : goal.returns
+returns c = plan-failed c.args.attempt c.in-Some.place c.in-Some._launch c.in-Some.ensures.known c.in_ok-ready.ensures

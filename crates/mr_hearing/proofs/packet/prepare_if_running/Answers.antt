@@ -1,0 +1,30 @@
+use Rattle.std.proofs.Common.{◌≡◌, sym, ◌∙◌, ap, true, false, [], if◌then◌else◌}
+use Rattle.mr_master_model.specs.declared.setting.Setting.{Setting}
+use Rattle.mr_master_model.specs.Past.{Work}
+use Rattle.mr_master_model.specs.Readings.{Seen, is_running}
+use Rattle.mr_master_model.specs.Hearing.{heard}
+use Rattle.mr_change.specs.declared.change.Change.TheVariants as change
+use Rattle.mr_change.specs.State.{Keeps}
+use Rattle.mr_change.proofs.Keeping.{held}
+use Rattle.mr_hearing.proofs.Delivering.{quiet-is, replies-are}
+use Rattle.mr_change.proofs.Made.{plan-as, plans-as}
+use Rattle.mr_hearing.proofs.packet.prepare_if_running.Goals as goal
+
+pub returns-then-not-is_running : goal.returns-then-not-is_running
+returns-then-not-is_running c = plan-as [] change.Nothing c.silent.ensures tt
+    (λ w s keeps. quiet-is w s c.args.packet.now (rests w s keeps))
+    (λ w s keeps. ap (λ b. if b then heard w s c.args.packet.now else s) (sym (rests w s keeps)))
+  where
+    rests : (w : Setting) (s : Seen) → Keeps c.args.master.now w s → is_running s.work ≡ false
+    rests w s keeps =
+        ap (λ (x : Work). is_running x) (sym (held c.master.view_is keeps).work) ∙ sym c.is_running.ensures ∙ c.if-not-is_running.true
+
+pub returns : goal.returns
+returns c = plans-as
+    (λ w s keeps. replies-are w s c.args.packet.now (runs w s keeps))
+    (λ w s keeps. ap (λ b. if b then heard w s c.args.packet.now else s) (sym (runs w s keeps)))
+    c.in_ok-ready.ensures
+  where
+    runs : (w : Setting) (s : Seen) → Keeps c.args.master.now w s → is_running s.work ≡ true
+    runs w s keeps =
+        ap (λ (x : Work). is_running x) (sym (held c.master.view_is keeps).work) ∙ sym c.is_running.ensures ∙ c.if-not-is_running.false

@@ -1,5 +1,0 @@
-use Rattle.mr_master.specs.inner.Passing.{NoneLive}
-use Rattle.mr_master.proofs.machine.Machine.first_bar.Given as goal
-
-abbrev pub invariant-loop-i : goal.invariant-loop-i
-invariant-loop-i l = NoneLive l.self l.i

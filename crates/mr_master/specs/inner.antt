@@ -1,8 +1,0 @@
--- Words for private contracts and for proofs. No public clause cites them.
-pub mod Ends
-pub mod Launching
-pub mod Leaving
-pub mod Expiring
-pub mod Passing
-pub mod Outputs
-pub mod Placed
