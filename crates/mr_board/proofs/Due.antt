@@ -8,8 +8,8 @@ use Rattle.mr_model.specs.World.{Compute}
 use Rattle.mr_model.specs.Effect.{not_now}
 use Rattle.mr_model.specs.Sequential.{Input, input_of}
 use Rattle.mr_work.specs.Works.{InputsAreShort, IsShort}
-use Rattle.mr_world.specs.declared.fault.WorldFault.{WorldFault}
-use Rattle.mr_world.specs.declared.fault.WorldFault.TheVariants as fault
+use Rattle.mr_world.specs.mr_parts.specs.declared.fault.WorldFault.{WorldFault}
+use Rattle.mr_world.specs.mr_parts.specs.declared.fault.WorldFault.TheVariants as fault
 use Rattle.mr_world.specs.Applying.{IsRefused, foretold, foretold_in}
 use Rattle.mr_world.specs.Journal.{Journal, fits, fits_first, world_in}
 use Rattle.mr_world.specs.Ranges.{IsInRange}

@@ -4,8 +4,8 @@ use Rattle.std.proofs.lemmas.Result.{err_from_is_err_and}
 use Rattle.mr_event.specs.declared.event.Event.{Event}
 use Rattle.mr_model.specs.Effect.{not_now}
 use Rattle.mr_model.specs.Sequential.{CarriesDefinition, Job}
-use Rattle.mr_world.specs.declared.fault.WorldFault.{WorldFault}
-use Rattle.mr_world.specs.declared.fault.WorldFault.TheVariants as fault
+use Rattle.mr_world.specs.mr_parts.specs.declared.fault.WorldFault.{WorldFault}
+use Rattle.mr_world.specs.mr_parts.specs.declared.fault.WorldFault.TheVariants as fault
 use Rattle.mr_world.specs.declared.took.Took.{Took}
 use Rattle.mr_world.specs.Applying.{CanHappen, IsRefused, Takes}
 use Rattle.mr_world.specs.Journal.{Journal, fits, fits_first, world_in}

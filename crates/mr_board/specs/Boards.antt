@@ -13,8 +13,8 @@ use Rattle.mr_sequential.specs.Jobs.{job_of}
 use Rattle.mr_model.specs.Packets.{Config}
 use Rattle.mr_model.specs.Claims.{IsMarked}
 use Rattle.mr_model.specs.Sequential.{Input, IsFaithful, Job, Pieces, SeesSequential, Split, made_of}
-use Rattle.mr_world.specs.declared.fault.WorldFault.{WorldFault}
-use Rattle.mr_world.specs.declared.fault.WorldFault.TheVariants.{NotNow, Full, NoMemory}
+use Rattle.mr_world.specs.mr_parts.specs.declared.fault.WorldFault.{WorldFault}
+use Rattle.mr_world.specs.mr_parts.specs.declared.fault.WorldFault.TheVariants.{NotNow, Full, NoMemory}
 use Rattle.mr_world.specs.declared.took.Took.{Took}
 use Rattle.mr_world.specs.Applying as world
 use Rattle.mr_world.specs.Journal.{Journal, world_in}

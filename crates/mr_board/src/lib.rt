@@ -31,5 +31,6 @@ mod work;
 
 pub use board::Board;
 pub use close::Mismatch;
+pub use mr_world;
 pub use seat::Seat;
 pub use work::{Finished, Work};

@@ -170,7 +170,7 @@ pub fn copied(alloc: Global, lent: mr_world::Input<'_>) -> Result<Input, AllocEr
     ensures { IfOk result (λ input. as_input input ≡ as_lent lent.entry) }
 {
     match lent {
-        mr_world::Input::Map { split, bytes } => Input::of_map(alloc, split, bytes),
+        mr_world::Input::Map { split, bytes } => Input::of_map(split, bytes),
         mr_world::Input::Reduce { reduce, pieces } => Input::of_reduce(alloc, reduce, pieces),
     }
 }
@@ -180,7 +180,7 @@ fn is_copy_of(input: &Input, lent: mr_world::Input<'_>) -> bool
     ensures { IsTrue result ↔ (as_input input.now ≡ as_lent lent.entry) }
 {
     match lent {
-        mr_world::Input::Map { split, bytes } => input.is_of_map(split, bytes),
+        mr_world::Input::Map { split, bytes } => input.is_of_map(split, bytes.as_slice()),
         mr_world::Input::Reduce { reduce, pieces } => input.is_of_reduce(reduce, pieces),
     }
 }

@@ -1,6 +1,6 @@
 //! Who a thread acts for, how far it has looked, and which containers are ready.
+use mr_board::mr_world::World;
 use mr_packet::{Address, ContainerId, Envelope, Packet};
-use mr_world::World;
 use std::alloc::{AllocError, Global};
 
 /// Who a thread acts for.
@@ -106,7 +106,7 @@ impl Actor {
         self.held.clear();
         let first = world.next_living(None);
         let mut at = first;
-        for _ in 0..mr_world::MAX_CONTAINERS {
+        for _ in 0..mr_board::mr_world::MAX_CONTAINERS {
             let Some(c) = at else {
                 return Ok(());
             };

@@ -1,8 +1,8 @@
 //! Whether reduces still fetch, or are still to be launched.
+use mr_board::mr_world::{MAX_CONTAINERS, World};
 use mr_container::Wish;
 use mr_ids::TaskKind;
 use mr_packet::{ContainerId, Envelope, Packet};
-use mr_world::{MAX_CONTAINERS, World};
 
 /// How many launches were sent and not heard yet, and the container that was seen to fetch last. A look begins there, so that a container
 /// which is through is passed once.

@@ -8,12 +8,12 @@ use crate::hand_in::hand_in;
 use crate::master_turns::master_turn;
 use crate::node_turns::node_turn;
 use crate::turn::{Next, Turn};
+use mr_board::mr_world::World;
 use mr_board::{Board, Finished, Seat};
 use mr_mapside::WorkFault;
 use mr_master_model::Phase;
 use mr_packet::{Address, ContainerId, Packet};
 use mr_user::Job;
-use mr_world::World;
 use std::alloc::{AllocError, Global};
 
 /// What the threads share.

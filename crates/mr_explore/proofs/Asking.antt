@@ -22,7 +22,7 @@ use Rattle.mr_model.specs.Sending.{ack_to, answer_to, master_sends, node_replies
 use Rattle.mr_model.specs.Effect.{content_after, effect, happens, history_called, not_now}
 use Rattle.mr_model.specs.Claims.{Limits}
 use Rattle.mr_model.specs.Results.{first_told, outcome, told_by}
-use Rattle.mr_world.specs.Readings.{wish_by}
+use Rattle.mr_play.specs.mr_world.specs.Readings.{wish_by}
 use Rattle.mr_explore.specs.Vain.{asks_here, is_asked, is_asking, is_waiting, waits, waits_by}
 
 -- what is printed of a world is read off these

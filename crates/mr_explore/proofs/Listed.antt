@@ -13,7 +13,7 @@ use Rattle.mr_model.specs.Claims.{In, Limits, world_of}
 use Rattle.mr_model.proofs.Beside.{numbers-always}
 use Rattle.mr_model.proofs.Cluster.{open_place, launched_as}
 use Rattle.mr_model.proofs.Ranges.{always-placed}
-use Rattle.mr_world.specs.Readings.{launched_by, living, wish_by}
+use Rattle.mr_play.specs.mr_world.specs.Readings.{launched_by, living, wish_by}
 use Rattle.mr_explore.specs.Vain.{waits, waits_by}
 use Rattle.mr_explore.proofs.Waiting.{AllWait}
 

@@ -1,8 +1,8 @@
 -- How a run goes on by itself.
 use Rattle.std.proofs.Common.{◌≡◌, ◌+◌, ◌-◌, ◌<◌, ◌≤◌, ℕ, suc, Bool, true, false, Ok, refl, sym, ap, ◌∙◌, arith}
 use Rattle.mr_walk.specs.Steps.{Goes, Ends, Full, GoesOn}
-use Rattle.mr_world.specs.Limits.{within}
-use Rattle.mr_world.specs.declared.limits.TheConstants.{MAX_EVENTS}
+use Rattle.mr_play.specs.mr_world.specs.Limits.{within}
+use Rattle.mr_play.specs.mr_world.specs.declared.limits.TheConstants.{MAX_EVENTS}
 use Rattle.mr_play.specs.declared.player.Player.{Player}
 use Rattle.mr_play.specs.Text.{job_as}
 use Rattle.mr_play.specs.Players.{SameJob, state_in}

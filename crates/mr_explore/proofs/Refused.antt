@@ -3,7 +3,7 @@ use Rattle.std.proofs.Common.{◌≡◌, ◌⊎◌, ◌<◌, ℕ, List, [], ◌�
 use Rattle.std.specs.Option.{option_map}
 use Rattle.mr_commands.specs.declared.fault.JobTextFault.{JobTextFault}
 use Rattle.mr_commands.specs.declared.job.submission.Submission.{Submission}
-use Rattle.mr_world.specs.Limits.{within}
+use Rattle.mr_play.specs.mr_world.specs.Limits.{within}
 use Rattle.mr_play.specs.Text.{config_of}
 use Rattle.mr_play.proofs.Playing.{one_end, one_play_text_law}
 use Rattle.mr_walk.specs.Runs.{Found, PassesLimit}

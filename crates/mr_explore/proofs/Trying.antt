@@ -9,13 +9,13 @@ use Rattle.mr_model.specs.World.{World, Event, Start}
 use Rattle.mr_model.specs.Effect.{not_now}
 use Rattle.mr_model.specs.Claims.{Limits}
 use Rattle.mr_model.specs.Sequential.{Job}
-use Rattle.mr_world.specs.Limits.{within}
-use Rattle.mr_world.specs.declared.fault.WorldFault.{WorldFault}
-use Rattle.mr_world.specs.declared.fault.WorldFault.TheVariants as world_fault
-use Rattle.mr_world.specs.Standing.{Refuses}
-use Rattle.mr_world.specs.Applying.{IsRefused}
-use Rattle.mr_world.specs.Journal.{world_in, fits, fits_first}
-use Rattle.mr_world.specs.declared.limits.TheConstants.{MAX_EVENTS}
+use Rattle.mr_play.specs.mr_world.specs.Limits.{within}
+use Rattle.mr_play.specs.mr_parts.specs.declared.fault.WorldFault.{WorldFault}
+use Rattle.mr_play.specs.mr_parts.specs.declared.fault.WorldFault.TheVariants as world_fault
+use Rattle.mr_play.specs.mr_world.specs.Standing.{Refuses}
+use Rattle.mr_play.specs.mr_world.specs.Applying.{IsRefused}
+use Rattle.mr_play.specs.mr_world.specs.Journal.{world_in, fits, fits_first}
+use Rattle.mr_play.specs.mr_world.specs.declared.limits.TheConstants.{MAX_EVENTS}
 use Rattle.mr_commands.specs.declared.fault.SimFault.{SimFault}
 use Rattle.mr_commands.specs.declared.job.submission.JobKind.{JobKind}
 use Rattle.mr_play.specs.declared.player.Player.{Player}

@@ -14,7 +14,7 @@ use Rattle.mr_model.specs.Claims.{Limits, world_of}
 use Rattle.mr_model.specs.Results.{visible_in}
 use Rattle.mr_model.proofs.Basic.{run-append}
 use Rattle.mr_model.specs.Sequential.{Job}
-use Rattle.mr_world.specs.Readings.{living}
+use Rattle.mr_play.specs.mr_world.specs.Readings.{living}
 use Rattle.mr_play.specs.Played.{Played, world}
 use Rattle.mr_play.specs.WorldText.{line_of_marker, line_of_outcome, line_of_winner, visible_text, world_text}
 use Rattle.mr_explore.specs.Faults.{asks_on, calm, goes_in_vain, only_asked}

@@ -21,7 +21,7 @@ use Rattle.mr_model.specs.Sending.{sent}
 use Rattle.mr_model.specs.Effect.{addressee, effect, happens, is_obeyed, not_now, run, with_container_step, with_place}
 use Rattle.mr_model.specs.Claims.{Limits}
 use Rattle.mr_model.proofs.Basic.{Extends, Extends-more, Extends-refl, Extends-trans, along, taken_or_not, unless_parts}
-use Rattle.mr_world.specs.Readings.{wish_by}
+use Rattle.mr_play.specs.mr_world.specs.Readings.{wish_by}
 use Rattle.mr_explore.specs.Vain.{asks, asks_here, is_asked, is_asking, is_waiting, waits_by}
 use Rattle.mr_explore.proofs.Asking.{LooksLike, looks, of_step}
 

@@ -1,7 +1,7 @@
 -- What is told of the ends that came (our own profile).
 use Rattle.std.specs.Prelude.{◌≡◌, ◌+◌, ℕ, List, ◌∷◌, ◌++◌, Option, Some, None, Ok}
 use Rattle.std.specs.List.{AllByRecursion}
-use Rattle.mr_world.specs.Limits.{within}
+use Rattle.mr_play.specs.mr_world.specs.Limits.{within}
 use Rattle.mr_commands.specs.declared.fault.SimFault.{SimFault}
 use Rattle.mr_commands.specs.declared.fault.SimFault.TheVariants as fault
 use Rattle.mr_commands.specs.declared.job.submission.Submission.{Submission}

@@ -3,7 +3,7 @@ use Rattle.std.specs.Prelude.{◌≡◌, ◌⊎◌, ℕ, List, ◌++◌, map, Op
 use Rattle.std.specs.Option.{option_map}
 use Rattle.mr_commands.specs.declared.fault.SimFault.{SimFault}
 use Rattle.mr_commands.specs.declared.fault.SimFault.TheVariants as fault
-use Rattle.mr_world.specs.Limits.{within}
+use Rattle.mr_play.specs.mr_world.specs.Limits.{within}
 use Rattle.mr_play.specs.Text.{IsFullPlay, PlayFails}
 use Rattle.mr_walk.specs.Runs as walk
 use Rattle.mr_walk.specs.Taking.{no_more}

@@ -2,8 +2,8 @@
 use Rattle.std.specs.Prelude.{◌≡◌, ◌≤◌, ◌<◌, ◌⊎◌, ◌-◌, ℕ, Bool, true, false, List, [], ◌∷◌, ◌++◌, length, map, Result, Ok, Err}
 use Rattle.mr_commands.specs.declared.fault.SimFault.{SimFault}
 use Rattle.mr_commands.specs.declared.fault.SimFault.TheVariants as fault
-use Rattle.mr_world.specs.Journal.{Journal, world_in}
-use Rattle.mr_world.specs.Limits.{within}
+use Rattle.mr_play.specs.mr_world.specs.Journal.{Journal, world_in}
+use Rattle.mr_play.specs.mr_world.specs.Limits.{within}
 use Rattle.mr_play.specs.Text.{IsFullPlay, PlayFails}
 use Rattle.mr_play.specs.WorldText.{world_text}
 use Rattle.mr_walk.specs.Runs.{Found, Run, PassesLimit}

@@ -10,9 +10,9 @@ use Rattle.mr_model.specs.World.{Event, Start, Crash, Duty, LaunchOn, Deliver, C
 use Rattle.mr_model.specs.Effect.{not_now}
 use Rattle.mr_model.specs.Claims.{Limits}
 use Rattle.mr_model.specs.Sequential.{Job}
-use Rattle.mr_world.specs.declared.limits.TheConstants.{MAX_EVENTS}
-use Rattle.mr_world.specs.Histories.{history_of, stable_bytes}
-use Rattle.mr_world.specs.Readings.{living, unflushed_in}
+use Rattle.mr_play.specs.mr_world.specs.declared.limits.TheConstants.{MAX_EVENTS}
+use Rattle.mr_play.specs.mr_world.specs.Histories.{history_of, stable_bytes}
+use Rattle.mr_play.specs.mr_world.specs.Readings.{living, unflushed_in}
 use Rattle.mr_packet.specs.declared.packet.ContainerId.{ContainerId}
 use Rattle.mr_play.specs.Played.{Played, calms, losing, stepped_by, taken, world}
 use Rattle.mr_walk.specs.Steps.{Onward, Goes, Ends, Full}

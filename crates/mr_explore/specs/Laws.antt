@@ -5,7 +5,7 @@ use Rattle.mr_model.specs.World.{World, Event}
 use Rattle.mr_model.specs.Effect.{happens}
 use Rattle.mr_model.specs.Claims.{Limits, world_of}
 use Rattle.mr_model.specs.Sequential.{Job}
-use Rattle.mr_world.specs.Readings.{living}
+use Rattle.mr_play.specs.mr_world.specs.Readings.{living}
 use Rattle.mr_commands.specs.declared.fault.JobTextFault.{JobTextFault}
 use Rattle.mr_play.specs.Played.{Played, world}
 use Rattle.mr_play.specs.Text.{IsBadPlayJob, IsBadPlayLine}

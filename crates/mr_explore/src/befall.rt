@@ -1,7 +1,7 @@
 //! A fault befalls a run.
 ghost use Rattle.std.specs.Prelude.{◌≡◌, suc, false, None, IfOk, IfErr};
 ghost use Rattle.mr_model.specs.World.{Start};
-ghost use Rattle.mr_world.specs.Journal.{world_in};
+ghost use Rattle.mr_play.specs.mr_world.specs.Journal.{world_in};
 ghost use Rattle.mr_play.specs.Branches.{Tries};
 ghost use Rattle.mr_play.specs.Players.{state_in};
 ghost use Rattle.mr_faults.specs.declared.fault.Fault.TheVariants as fault;
@@ -11,7 +11,7 @@ use mr_commands::SimFault;
 use mr_event::{Event, Weather};
 use mr_faults::Fault;
 use mr_play::Player;
-use mr_world::WorldFault;
+use mr_play::mr_world::WorldFault;
 use std::alloc::Global;
 
 /// The fault befalls the run; whether it can. It fails by an allocation failure.

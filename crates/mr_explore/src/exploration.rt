@@ -10,8 +10,8 @@ use crate::watch::Watch;
 use crate::winners::Winners;
 use mr_commands::SimFault;
 use mr_ends::Table;
+use mr_play::mr_world::MAX_EVENTS;
 use mr_walk::{Ended, Walk, WalkFault};
-use mr_world::MAX_EVENTS;
 use std::alloc::Global;
 use std::marker::Model;
 

@@ -2,8 +2,8 @@
 ghost use Rattle.std.specs.Prelude.{◌≡◌, ◌++◌, slice_get, IfOk, OnOk};
 ghost use Rattle.std.specs.List.{flat_map};
 ghost use Rattle.mr_faults.specs.Kinds.{of_kept};
-ghost use Rattle.mr_world.specs.Histories.{stable_bytes};
-ghost use Rattle.mr_world.specs.Journal.{history_in, world_in};
+ghost use Rattle.mr_play.specs.mr_world.specs.Histories.{stable_bytes};
+ghost use Rattle.mr_play.specs.mr_world.specs.Journal.{history_in, world_in};
 ghost use Rattle.mr_explore.specs.Faults.{ends_behind};
 ghost use Rattle.mr_explore.specs.inner.Players.{faults_in, kept_after, kept_of, length_in, listed_in, next_in, of_crashes_in, of_event_in, of_world_in};
 
@@ -17,7 +17,7 @@ use mr_faults::{
 };
 use mr_ids::TaskKind;
 use mr_play::Player;
-use mr_world::World;
+use mr_play::mr_world::World;
 use std::alloc::Global;
 use std::collections::LinkedList;
 

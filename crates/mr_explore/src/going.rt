@@ -7,7 +7,7 @@ ghost use Rattle.mr_play.specs.Players.{state_in};
 use crate::vain::is_in_vain;
 use mr_commands::SimFault;
 use mr_play::Player;
-use mr_world::MAX_EVENTS;
+use mr_play::mr_world::MAX_EVENTS;
 use std::alloc::Global;
 
 /// The run makes an event more by itself; whether there was one. It has ended too where it goes on in vain.

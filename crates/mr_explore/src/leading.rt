@@ -2,7 +2,7 @@
 ghost use Rattle.std.specs.Prelude.{◌≡◌, ◌∷◌, ◌++◌, IfOk, OnOk, IfErr};
 ghost use Rattle.std.specs.List.{AllByRecursion};
 ghost use Rattle.mr_play.specs.Text.{PrintsPlay, job_line};
-ghost use Rattle.mr_world.specs.Limits.{within};
+ghost use Rattle.mr_play.specs.mr_world.specs.Limits.{within};
 ghost use Rattle.mr_explore.specs.Ends.{LeadToEnds, LeadsTo};
 ghost use Rattle.mr_explore.specs.inner.Checks.{IsUnchecked};
 

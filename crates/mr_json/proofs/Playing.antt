@@ -1,12 +1,12 @@
 -- What is told of a player that has played what an input says.
 use Rattle.std.proofs.Common.{◌≡◌, ℕ, List, ◌++◌, sym, ap, ◌∙◌}
-use Rattle.mr_world.specs.Journal.{Journal, world_in}
-use Rattle.mr_world.specs.Limits.{within}
-use Rattle.mr_play.specs.declared.player.Player.{Player}
-use Rattle.mr_play.specs.declared.sources.Stretch.{Stretch}
-use Rattle.mr_play.specs.Shown.{HasPrinted, text_in}
-use Rattle.mr_play.specs.Text.{printed_journal}
-use Rattle.mr_play.specs.WorldText.{world_text}
+use Rattle.mr_trace.specs.mr_world.specs.Journal.{Journal, world_in}
+use Rattle.mr_trace.specs.mr_world.specs.Limits.{within}
+use Rattle.mr_trace.specs.mr_play.specs.declared.player.Player.{Player}
+use Rattle.mr_trace.specs.mr_play.specs.declared.sources.Stretch.{Stretch}
+use Rattle.mr_trace.specs.mr_play.specs.Shown.{HasPrinted, text_in}
+use Rattle.mr_trace.specs.mr_play.specs.Text.{printed_journal}
+use Rattle.mr_trace.specs.mr_play.specs.WorldText.{world_text}
 use Rattle.mr_trace.specs.Happened.{by_lines}
 use Rattle.mr_json.specs.Endings.{json_text}
 use Rattle.mr_json.specs.Plays.{TellsPlay}

@@ -9,8 +9,8 @@ use Rattle.mr_event.specs.declared.event.Event.TheVariants as event
 use Rattle.mr_event.specs.declared.event.Weather.{Weather}
 use Rattle.mr_event.specs.declared.event.Weather.TheVariants.{Calm, Unavailable, Unanswered}
 use Rattle.mr_script.specs.declared.event_name.EventName.{EventName}
-use Rattle.mr_world.specs.declared.asked.Asked.{Asked}
-use Rattle.mr_world.specs.Journal.{Journal}
+use Rattle.mr_trace.specs.mr_parts.specs.declared.asked.Asked.{Asked}
+use Rattle.mr_trace.specs.mr_world.specs.Journal.{Journal}
 use Rattle.mr_trace.specs.declared.makers.Maker.{Maker}
 use Rattle.mr_trace.specs.declared.makers.Maker.TheVariants as maker
 use Rattle.mr_trace.specs.Happened.{Happened, happened, happened_behind}

@@ -14,7 +14,7 @@ use Rattle.mr_model.specs.Packets.{Config}
 use Rattle.mr_model.specs.World.{World}
 use Rattle.mr_model.specs.Claims.{winner}
 use Rattle.mr_model.specs.Results.{outcome, visible}
-use Rattle.mr_world.specs.Journal.{Journal, world_in}
+use Rattle.mr_trace.specs.mr_world.specs.Journal.{Journal, world_in}
 use Rattle.mr_trace.specs.declared.makers.Maker.{Maker}
 use Rattle.mr_trace.specs.Happened.{happened_in}
 use Rattle.serde_json.specs.Data.{Data, boolean, null, string}

@@ -10,7 +10,7 @@ use Rattle.mr_event.specs.declared.event.Weather.TheVariants.{Calm, Unavailable,
 use Rattle.mr_script.specs.declared.event_name.EventName.{EventName}
 use Rattle.mr_script.specs.Names.{name_text}
 use Rattle.mr_script.specs.Words.{container_word}
-use Rattle.mr_world.specs.declared.asked.Asked.{Asked}
+use Rattle.mr_trace.specs.mr_parts.specs.declared.asked.Asked.{Asked}
 use Rattle.mr_trace.specs.declared.makers.Maker.{Maker}
 use Rattle.mr_trace.specs.declared.makers.Maker.TheVariants as maker
 use Rattle.mr_trace.specs.Happened.{Happened}

@@ -2,9 +2,9 @@
 use Rattle.std.specs.Prelude.{◌≡◌, ℕ, List, ◌++◌}
 use Rattle.mr_model.specs.Packets.{Config}
 use Rattle.mr_model.specs.Claims.{Limits}
-use Rattle.mr_world.specs.Journal.{Journal, world_in}
-use Rattle.mr_play.specs.Text.{PrintsPlay, printed_journal, printed_stretches}
-use Rattle.mr_play.specs.WorldText.{world_text}
+use Rattle.mr_trace.specs.mr_world.specs.Journal.{Journal, world_in}
+use Rattle.mr_trace.specs.mr_play.specs.Text.{PrintsPlay, printed_journal, printed_stretches}
+use Rattle.mr_trace.specs.mr_play.specs.WorldText.{world_text}
 use Rattle.mr_trace.specs.Happened.{by_lines}
 use Rattle.mr_json.specs.Endings.{json_text}
 

@@ -6,8 +6,8 @@ ghost use Rattle.mr_model.specs.Content.{entry_at, is_file};
 ghost use Rattle.mr_model.specs.Ids.{marker, reduce_of};
 ghost use Rattle.mr_model.specs.Results.{visible};
 ghost use Rattle.mr_script.specs.Expected.{outcome_word};
-ghost use Rattle.mr_world.specs.Journal.{world_in};
-ghost use Rattle.mr_world.specs.VisibleFiles.{as_pair};
+ghost use Rattle.mr_trace.specs.mr_world.specs.Journal.{world_in};
+ghost use Rattle.mr_trace.specs.mr_world.specs.VisibleFiles.{as_pair};
 ghost use Rattle.serde_json.specs.View.{members_view, view};
 ghost use Rattle.mr_object.specs.Members.{with_all};
 ghost use Rattle.mr_json.specs.Endings.{contents, ending_line, ending_object, file_object, winner_data};
@@ -15,7 +15,7 @@ ghost use Rattle.mr_json.specs.Endings.{contents, ending_line, ending_object, fi
 use base64::engine::general_purpose::STANDARD;
 use mr_ids::AttemptId;
 use mr_object::{Object, into_value, put_count, put_flag, put_line, put_list, put_text, put_word};
-use mr_world::{VisibleFile, World};
+use mr_trace::mr_world::{VisibleFile, World};
 use serde_json::Value;
 use std::alloc::{AllocError, Global};
 

@@ -4,7 +4,7 @@ ghost use Rattle.mr_ids.specs.Text.{task_text};
 ghost use Rattle.mr_script.specs.Words.{container_word};
 ghost use Rattle.mr_trace.specs.Happened.{happened, maker_of};
 ghost use Rattle.mr_trace.specs.Trace.{call_text, heard_text, weather_of};
-ghost use Rattle.mr_world.specs.Asks.{asked_in};
+ghost use Rattle.mr_trace.specs.mr_world.specs.Asks.{asked_in};
 ghost use Rattle.serde_json.specs.View.{members_view, view};
 ghost use Rattle.mr_object.specs.Members.{count, text, with_all};
 ghost use Rattle.mr_json.specs.Objects.{asked_members, at_node, by_container, event_members, in_weather, maker_members, name_members, of_master, packet_object, packet_objects, packets_member, weather_word, with_beginning};
@@ -13,13 +13,13 @@ use mr_event::{Event, Weather};
 use mr_ids::TaskId;
 use mr_object::{Object, into_value, put_count, put_flag, put_list, put_text, put_word};
 use mr_packet::{ContainerId, Envelope};
-use mr_play::name_word;
 use mr_repeat::put_container;
 use mr_script::EventName;
+use mr_trace::mr_play::name_word;
+use mr_trace::mr_world::{Asked, World};
 use mr_trace::{
     Maker, Makers, maker_of, name_of, put_address, put_call_of, put_heard, put_packet, put_thread,
 };
-use mr_world::{Asked, World};
 use serde_json::Value;
 use std::alloc::{AllocError, Global};
 

@@ -1,9 +1,9 @@
 //! A run as lines of JSON: an object for each event, and one for what came of it.
 ghost use Rattle.std.specs.Prelude.{◌≡◌, ◌++◌, ◌∷◌, [], IfOk, IfErr, OnOk};
 ghost use Rattle.mr_commands.specs.declared.fault.SimFault.TheVariants as fault;
-ghost use Rattle.mr_play.specs.Text.{IsAsExpected, PlayFails};
+ghost use Rattle.mr_trace.specs.mr_play.specs.Text.{IsAsExpected, PlayFails};
 ghost use Rattle.mr_trace.specs.Happened.{by_lines, happened, happened_behind, maker_of};
-ghost use Rattle.mr_world.specs.Limits.{within};
+ghost use Rattle.mr_trace.specs.mr_world.specs.Limits.{within};
 ghost use Rattle.mr_json.specs.Endings.{json_text};
 ghost use Rattle.serde_json.specs.View.{view};
 ghost use Rattle.mr_json.specs.Objects.{happened_line, happened_object, objects_text};
@@ -14,9 +14,9 @@ use crate::event::{put_beginning, put_packets};
 use mr_commands::SimFault;
 use mr_event::Event;
 use mr_object::{Object, into_value, put_line};
-use mr_play::{Player, Printed, played};
+use mr_trace::mr_play::{Player, Printed, played};
+use mr_trace::mr_world::World;
 use mr_trace::{Makers, happen, left_at, opened};
-use mr_world::World;
 use serde_json::Value;
 use std::alloc::{AllocError, Global};
 

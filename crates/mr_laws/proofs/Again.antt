@@ -11,8 +11,8 @@ use Rattle.mr_model.proofs.Cluster.{slice_get-In}
 use Rattle.mr_model.proofs.Outcomes.{outcomes_agree}
 use Rattle.mr_model.proofs.Results.{results_stay}
 use Rattle.mr_model.proofs.Won.{told_the_same}
-use Rattle.mr_world.specs.declared.fault.WorldFault.{WorldFault}
-use Rattle.mr_world.specs.declared.fault.WorldFault.TheVariants as fault
+use Rattle.mr_world.specs.mr_parts.specs.declared.fault.WorldFault.{WorldFault}
+use Rattle.mr_world.specs.mr_parts.specs.declared.fault.WorldFault.TheVariants as fault
 use Rattle.mr_world.specs.declared.results.VisibleFile.{VisibleFile}
 use Rattle.mr_world.specs.Applying.{StopsAt}
 use Rattle.mr_world.specs.Headline.{HeadlineHolds}

@@ -17,7 +17,7 @@ use Rattle.mr_model.specs.Effect.{effect, not_now, is_task, task_fault, node_pas
 use Rattle.mr_model.specs.Sending.{sent, step_sends, to_app}
 use Rattle.mr_model.proofs.Basic.{if_cases}
 use Rattle.mr_model.proofs.Entries.{Lines, refusal_in, refusal-in, left_in, reply_in, left-in, reply-in}
-use Rattle.mr_world.specs.declared.limits.TheConstants.{MAX_CONTAINERS}
+use Rattle.mr_world.specs.mr_parts.specs.declared.limits.TheConstants.{MAX_CONTAINERS}
 use Rattle.mr_world.specs.Limits.{fits_own, fits_call, fits_store, fits_bag, launches_of, launches_in, launch_count, length_with, is_full}
 
 -- the split "a" and a line feed, one reduce, one node

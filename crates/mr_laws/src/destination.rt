@@ -1,6 +1,6 @@
 //! What a reader of the destination sees: it is final once the marker was seen, or an outcome was told.
 ghost use Rattle.std.specs.Prelude.{◌≡◌, ◌⊎◌, true, IfErr, IfOk, IfSome};
-ghost use Rattle.mr_world.specs.declared.fault.WorldFault.TheVariants.{Full, NoMemory};
+ghost use Rattle.mr_world.specs.mr_parts.specs.declared.fault.WorldFault.TheVariants.{Full, NoMemory};
 
 use crate::told::Told;
 use mr_event::Event;

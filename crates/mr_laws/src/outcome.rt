@@ -1,6 +1,6 @@
 //! The outcome of the job: the first that is told is the only one, and a success is told only where the marker is.
 ghost use Rattle.std.specs.Prelude.{◌≡◌, ◌⊎◌, true, IfErr, IfOk, IsSome, Some};
-ghost use Rattle.mr_world.specs.declared.fault.WorldFault.TheVariants.{Full, NoMemory};
+ghost use Rattle.mr_world.specs.mr_parts.specs.declared.fault.WorldFault.TheVariants.{Full, NoMemory};
 
 use crate::told::Told;
 use mr_event::Event;

@@ -1,6 +1,6 @@
 //! Winners: what is told once is told for good, and nodes are told the same.
 ghost use Rattle.std.specs.Prelude.{◌≡◌, ◌⊎◌, IfErr, IfOk, IfSome, IsSome, Some};
-ghost use Rattle.mr_world.specs.declared.fault.WorldFault.TheVariants.{Full, NoMemory};
+ghost use Rattle.mr_world.specs.mr_parts.specs.declared.fault.WorldFault.TheVariants.{Full, NoMemory};
 
 use crate::told::Told;
 use mr_event::Event;

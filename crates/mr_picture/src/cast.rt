@@ -3,7 +3,7 @@ use crate::lanes::is_alive;
 use mr_event::Event;
 use mr_ids::AppAttempt;
 use mr_packet::{Address, Packet};
-use mr_world::World;
+use mr_trace::mr_world::World;
 use std::alloc::{AllocError, Global};
 
 /// The masters and the containers that are alive in a world.

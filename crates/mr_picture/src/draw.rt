@@ -13,8 +13,8 @@ use mr_drawing::{
 };
 use mr_event::Event;
 use mr_packet::{Address, Envelope, Packet};
+use mr_trace::mr_world::World;
 use mr_trace::{Makers, happen, opened, put_address, put_number, put_packet, put_seat};
-use mr_world::World;
 use std::alloc::{AllocError, Global};
 use std::ops::Range;
 

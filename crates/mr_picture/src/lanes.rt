@@ -4,8 +4,8 @@ use mr_event::Event;
 use mr_ids::{AppAttempt, AttemptId, TaskKind};
 use mr_master_model::Phase;
 use mr_packet::{Address, Packet};
+use mr_trace::mr_world::World;
 use mr_trace::{put_address, put_small};
-use mr_world::World;
 use std::alloc::{AllocError, Global};
 
 /// A lane for each master of the world that is of the cast, each node, and each container of the cast that was launched.

@@ -1,16 +1,16 @@
 //! `play` with a picture of the run in place of its text.
 ghost use Rattle.std.specs.Prelude.{◌≡◌, IfOk, IfErr};
 ghost use Rattle.mr_commands.specs.declared.fault.SimFault.TheVariants.{NoMemory};
-ghost use Rattle.mr_play.specs.Shown.{Draws};
-ghost use Rattle.mr_play.specs.Text.{IsAsExpected, PlayFails};
-ghost use Rattle.mr_world.specs.Limits.{within};
+ghost use Rattle.mr_trace.specs.mr_play.specs.Shown.{Draws};
+ghost use Rattle.mr_trace.specs.mr_play.specs.Text.{IsAsExpected, PlayFails};
+ghost use Rattle.mr_trace.specs.mr_world.specs.Limits.{within};
 
 use crate::draw::drawing_of;
 use mr_commands::SimFault;
 use mr_drawing::{Part, picture_of};
-use mr_play::{Printed, played, print_world};
 use mr_trace::Makers;
-use mr_world::World;
+use mr_trace::mr_play::{Printed, played, print_world};
+use mr_trace::mr_world::World;
 use std::alloc::{AllocError, Global};
 
 // What came of the run, in the lines of `play`, without the files, behind the lines of refused events. The marker and the outcome come first, since the
@@ -64,7 +64,6 @@ pub fn drawn(
 }
 
 /// The picture of a part of what `play` plays, with the faults of `play`.
-#[tactic(auto, using(mr_play::proofs::Showing::draws))]
 pub fn play_drawn(alloc: Global, input: &[u8], part: Part) -> Result<Printed, SimFault>
     ensures ok { IfOk result (λ v. Draws within input.now) }
     ensures met { IfOk result (λ v. IsAsExpected within input.now v.met) }

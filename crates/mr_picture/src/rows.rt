@@ -5,10 +5,10 @@ use mr_event::Event;
 use mr_ids::AttemptId;
 use mr_master_model::Phase;
 use mr_packet::Packet;
-use mr_play::name_word;
 use mr_script::EventName;
+use mr_trace::mr_play::name_word;
+use mr_trace::mr_world::World;
 use mr_trace::{name_of, put_address, put_call, put_container, put_event, put_packet, put_small};
-use mr_world::World;
 use std::alloc::{AllocError, Global};
 
 /// What is read of a world to tell what an event brought about.

@@ -1,5 +1,5 @@
 -- Where the marker is, the files that `play` prints are those that `seq` prints.
-use Rattle.std.proofs.Common.{◌≡◌, ℕ, zero, suc, ◌+◌, ◌<◌, ◌≤◌, ◌^◌, List, [], ◌∷◌, ◌++◌, length, map, take, Vec, Global, All, Some, None, Result, Ok, refl, sym, ap, subst, ◌∙◌, append_assoc, arith}
+use Rattle.std.proofs.Common.{◌≡◌, ℕ, zero, suc, ◌+◌, ◌<◌, ◌≤◌, ◌^◌, List, [], ◌∷◌, ◌++◌, length, All, Some, None, Result, Ok, refl, sym, ap, subst, ◌∙◌, append_assoc, arith}
 use Rattle.std.specs.Cmp.Lexicographic.{slice_cmp}
 use Rattle.std.specs.List.{AllByRecursion, flat_map, range_with_len, slice_get}
 use Rattle.std.specs.Ordering.{nat_cmp}
@@ -57,15 +57,6 @@ same_output LineIndex reduces r splits = refl
 short_bytes : (splits : List (List ℕ)) → All (λ split. length split ≤ 2 ^ 24) splits → AllByRecursion AreBytes splits → AllByRecursion (λ split. (length split ≤ 2 ^ 24) × AreBytes split) splits
 short_bytes [] h b = tt
 short_bytes (x ∷ xs) h b = ((h 0 x (omega arith), b.0), short_bytes xs (λ k d lt. h (suc k) d (omega arith)) b.1)
-
--- one split more is of bytes
-pub bytes_more : (splits : List (Vec ℕ Global)) (i : ℕ) (split : Vec ℕ Global) → AllByRecursion AreBytes (map (λ (s : Vec ℕ Global). s.items) (take i splits)) → slice_get splits i ≡ Some split → AreBytes split.items →
-    AllByRecursion AreBytes (map (λ (s : Vec ℕ Global). s.items) (take (i + 1) splits))
-bytes_more [] i split all there is = absurd cc
-bytes_more (s ∷ splits) zero split all there is = let same : s ≡ split = cc in (subst (λ (z : Vec ℕ Global). AreBytes z.items) (sym same) is, tt)
-bytes_more (s ∷ splits) (suc i) split all there is =
-    let e : suc (i + 1) ≡ suc i + 1 = omega arith in
-    subst (λ n. AllByRecursion AreBytes (map (λ (s : Vec ℕ Global). s.items) (take n (s ∷ splits)))) e (all.0, bytes_more splits i split all.1 there is)
 
 files-text : (n : ℕ) (files : List (List ℕ)) → flat_map visible_text (named n files) ≡ part_files_text n files
 files-text n [] = refl

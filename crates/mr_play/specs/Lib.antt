@@ -15,3 +15,6 @@ pub mod Sources
 pub mod Text
 pub mod WorldText
 pub mod inner
+-- Crates beneath that this one gives on. The crates above name them through it.
+pub use Rattle.mr_world
+pub use Rattle.mr_world.specs.mr_parts

@@ -1,11 +1,9 @@
 //! What a script hands in is what the job's definition gives. So the files that `play` prints behind `marker yes` are those that `seq` prints.
-ghost use Rattle.std.specs.Prelude.{◌≡◌, IfErr, IfOk, map};
+ghost use Rattle.std.specs.Prelude.{◌≡◌, IfErr, IfOk};
 ghost use Rattle.std.specs.Cmp.Lexicographic.{slice_cmp};
-ghost use Rattle.std.specs.List.{AllByRecursion};
 ghost use Rattle.std.specs.Ordering.{nat_cmp};
 ghost use Rattle.mr_user.specs.Codecs.{number_codec, position_codec, text_codec};
 ghost use Rattle.mr_user.specs.Computation.{computation};
-ghost use Rattle.mr_user.specs.Laws.{AreBytes};
 ghost use Rattle.mr_user.specs.LineIndex.{line_index};
 ghost use Rattle.mr_user.specs.MaxByKey.{max_by_key};
 ghost use Rattle.mr_user.specs.WordCount.{word_count};
@@ -17,7 +15,7 @@ ghost use Rattle.mr_play.specs.Text.{job_line};
 use mr_commands::{SimFault, read_job_text};
 use mr_script::split_once;
 use mr_sequential::jobs_have_their_laws;
-use mr_user::{LineIndex, MaxByKey, WordCount, known_bytes};
+use mr_user::{LineIndex, MaxByKey, WordCount};
 use std::alloc::Global;
 
 /// The events of every script are faithful: whatever is handed in and taken is what the job's definition gives for that container's input.
@@ -36,7 +34,7 @@ pub fn marked_files_are_those_of_seq(alloc: Global, input: &[u8]) -> Result<(), 
     ensures fault { IfErr result (λ e. Fails e (submission_of (job_line input.now))) }
 {
     let submission = read_job_text(alloc, job_text(input))?;
-    known_splits(submission.splits.as_slice());
+    submission.splits.tell_bytes();
     known_laws();
     Ok(())
 }
@@ -48,16 +46,6 @@ fn job_text(input: &[u8]) -> &[u8]
     match split_once(input, b'\n') {
         Some((job, _script)) => job,
         None => input,
-    }
-}
-
-// Tells a proof that what a program holds as splits are lists of bytes. It does nothing.
-#[tactic(auto, using(crate::proofs::Marked::bytes_more))]
-fn known_splits(splits: &[Vec<u8>])
-    ensures { AllByRecursion AreBytes (map (λ split. split.items) splits.now) }
-{
-    for split in splits {
-        known_bytes(split);
     }
 }
 

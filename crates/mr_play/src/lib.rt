@@ -53,6 +53,7 @@ pub use histories::print_histories;
 pub use laws::{
     calms_are_permitted, names_are_of_duties_and_wishes, one_play_text, played_rows, scripts_go_on,
 };
+pub use mr_world;
 pub use player::Player;
 pub use printed::Printed;
 pub use shown::{Shown, shown_text};

@@ -78,7 +78,14 @@ fn made<J: Job>(
     match input {
         Input::Map { split, bytes } => {
             config.ranges();
-            work_of_map(alloc, job, &OpenGate, split, bytes, config.reduce_count())
+            work_of_map(
+                alloc,
+                job,
+                &OpenGate,
+                split,
+                bytes.as_slice(),
+                config.reduce_count(),
+            )
         }
         Input::Reduce { reduce, pieces } => work_of_reduce(alloc, job, &OpenGate, reduce, pieces),
     }

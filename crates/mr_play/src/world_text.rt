@@ -1,7 +1,7 @@
 //! What came of a world, as `play` prints it.
 ghost use Rattle.std.specs.Prelude.{◌≡◌, ◌++◌, Ok, map, IfOk, IfErr, OnOk};
 ghost use Rattle.std.specs.List.{flat_map};
-ghost use Rattle.mr_world.specs.declared.fault.WorldFault.TheVariants as world;
+ghost use Rattle.mr_world.specs.mr_parts.specs.declared.fault.WorldFault.TheVariants as world;
 ghost use Rattle.mr_world.specs.Journal.{world_in};
 ghost use Rattle.mr_world.specs.VisibleFiles.{as_pair};
 ghost use Rattle.mr_commands.specs.declared.fault.SimFault.TheVariants.{NoMemory};

@@ -12,13 +12,13 @@ use Rattle.mr_model.proofs.Outcomes.{outcomes_agree}
 use Rattle.mr_model.proofs.Results.{results_stay}
 use Rattle.mr_sequential.specs.Jobs.{job_of, LawsOf}
 use Rattle.mr_sequential.specs.Shown.{ShowsSequential, MarkedWorldsShowSequential}
-use Rattle.mr_world.specs.Journal.{Journal, world_in}
-use Rattle.mr_world.specs.Limits.{within}
-use Rattle.mr_world.specs.Ranges.{IsInRange}
-use Rattle.mr_world.specs.contracts.config.ConfigPartialEq.TheImpl as compared
-use Rattle.mr_world.specs.VisibleFiles.{as_pair}
-use Rattle.mr_world.specs.declared.results.VisibleFile.{VisibleFile}
-use Rattle.mr_world.proofs.Headlines.{outputs-are-bounded}
+use Rattle.mr_board.specs.mr_world.specs.Journal.{Journal, world_in}
+use Rattle.mr_board.specs.mr_world.specs.Limits.{within}
+use Rattle.mr_board.specs.mr_world.specs.Ranges.{IsInRange}
+use Rattle.mr_board.specs.mr_parts.specs.contracts.config.ConfigPartialEq.TheImpl as compared
+use Rattle.mr_board.specs.mr_world.specs.VisibleFiles.{as_pair}
+use Rattle.mr_board.specs.mr_world.specs.declared.results.VisibleFile.{VisibleFile}
+use Rattle.mr_board.specs.mr_world.proofs.Headlines.{outputs-are-bounded}
 use Rattle.mr_board.specs.Boards.{IsFaithfulFor}
 use Rattle.mr_report.specs.Reports.{IsReported, IsThrough}
 

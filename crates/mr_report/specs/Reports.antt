@@ -6,10 +6,10 @@ use Rattle.mr_model.specs.Packets.{Config}
 use Rattle.mr_model.specs.Results.{outcome, visible}
 use Rattle.mr_sequential.specs.Jobs.{job_of}
 use Rattle.mr_sequential.specs.Shown.{ShowsSequential}
-use Rattle.mr_world.specs.Journal.{Journal, world_in}
-use Rattle.mr_world.specs.Readings.{phase_in}
-use Rattle.mr_world.specs.VisibleFiles.{as_pair}
-use Rattle.mr_world.specs.declared.results.VisibleFile.{VisibleFile}
+use Rattle.mr_board.specs.mr_world.specs.Journal.{Journal, world_in}
+use Rattle.mr_board.specs.mr_world.specs.Readings.{phase_in}
+use Rattle.mr_board.specs.mr_world.specs.VisibleFiles.{as_pair}
+use Rattle.mr_board.specs.mr_world.specs.declared.results.VisibleFile.{VisibleFile}
 use Rattle.mr_board.specs.Boards.{IsFaithfulFor}
 use Rattle.mr_report.specs.declared.fault.DriveFault.{DriveFault}
 use Rattle.mr_report.specs.declared.fault.DriveFault.TheVariants.{JournalMismatch, TurnsSpent, NoMemory}

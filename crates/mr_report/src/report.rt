@@ -2,15 +2,15 @@
 ghost use Rattle.std.specs.Prelude.{◌≡◌, ◌↔◌, Some, true, IfOk, IfErr, IsTrue};
 ghost use Rattle.mr_user.specs.Computation.{computation};
 ghost use Rattle.mr_model.specs.Results.{outcome};
-ghost use Rattle.mr_world.specs.Journal.{world_in};
+ghost use Rattle.mr_board.specs.mr_world.specs.Journal.{world_in};
 ghost use Rattle.mr_board.specs.Boards.{IsFaithfulFor};
 ghost use Rattle.mr_report.specs.Reports.{IsReported, IsThrough, IsUnreported};
 
 use crate::fault::DriveFault;
+use mr_board::mr_world::{Config, VisibleFile, World};
 use mr_master_model::Phase;
 use mr_sequential::{jobs_have_their_laws, marked_worlds_show_sequential_files};
 use mr_user::Job;
-use mr_world::{Config, VisibleFile, World};
 
 /// What came of a run.
 #[derive(Drop)]

@@ -1,6 +1,6 @@
 -- Why threads print nothing.
 use Rattle.std.proofs.Common.{◌≡◌, ℕ, Bool, true, false, List}
-use Rattle.mr_report.specs.declared.report.Report.{Report}
+use Rattle.mr_drive.specs.mr_report.specs.declared.report.Report.{Report}
 use Rattle.mr_commands.specs.declared.fault.SimFault.{SimFault}
 use Rattle.mr_commands.specs.declared.fault.SimFault.TheVariants.{NoMemory, Read, Write, TooLong, BadCommand, BadRecord, Job, Refused, Full, JobFailed, TurnsSpent, JournalMismatch, Thread}
 use Rattle.mr_commands.specs.job.Text.{submission_of, Fails}

@@ -2,17 +2,17 @@
 use Rattle.std.specs.Prelude.{◌≡◌, true, false, ℕ, List, [], ◌++◌, Some, Ok, Err}
 use Rattle.mr_model.specs.Claims.{IsMarked}
 use Rattle.mr_model.specs.Results.{outcome}
-use Rattle.mr_world.specs.Journal.{Journal, world_in}
+use Rattle.mr_trace.specs.mr_world.specs.Journal.{Journal, world_in}
 use Rattle.mr_commands.specs.declared.fault.SimFault.{SimFault}
 use Rattle.mr_commands.specs.declared.fault.SimFault.TheVariants.{NoMemory, Job, Full, JobFailed, TurnsSpent, JournalMismatch, Thread}
 use Rattle.mr_commands.specs.declared.job.submission.Submission.{Submission}
 use Rattle.mr_commands.specs.job.Text.{submission_of}
 use Rattle.mr_commands.specs.seq.Text.{PrintsSeq}
-use Rattle.mr_play.specs.declared.shown.Shown.{Shown}
-use Rattle.mr_play.specs.Faithful.{IsMarkedText}
-use Rattle.mr_play.specs.Shown.{IsHistory}
-use Rattle.mr_play.specs.Text.{config_of, job_as}
-use Rattle.mr_play.specs.WorldText.{world_text}
+use Rattle.mr_trace.specs.mr_play.specs.declared.shown.Shown.{Shown}
+use Rattle.mr_trace.specs.mr_play.specs.Faithful.{IsMarkedText}
+use Rattle.mr_trace.specs.mr_play.specs.Shown.{IsHistory}
+use Rattle.mr_trace.specs.mr_play.specs.Text.{config_of, job_as}
+use Rattle.mr_trace.specs.mr_play.specs.WorldText.{world_text}
 use Rattle.mr_trace.specs.Happened.{by_threads}
 use Rattle.mr_trace.specs.Trace.{trace_text}
 use Rattle.mr_repeat.specs.Repeating.{commented, repeating}

@@ -3,7 +3,7 @@ ghost use Rattle.std.specs.Prelude.{◌≡◌, IfOk, IfErr};
 ghost use Rattle.mr_user.specs.Computation.{computation};
 ghost use Rattle.mr_sequential.specs.Jobs.{job_of};
 ghost use Rattle.mr_commands.specs.job.Submission.{IsWithinLimits};
-ghost use Rattle.mr_play.specs.Text.{config_of, job_as};
+ghost use Rattle.mr_trace.specs.mr_play.specs.Text.{config_of, job_as};
 ghost use Rattle.mr_threads.specs.Runs.{IsReportOf, Reports};
 ghost use Rattle.mr_threads.specs.Text.{ShownFails};
 ghost use Rattle.mr_threads.specs.inner.{IsOfThreads};
@@ -11,8 +11,8 @@ ghost use Rattle.mr_threads.specs.inner.{IsOfThreads};
 use mr_commands::{JobKind, SimFault, Submission, read_job_text};
 use mr_drive::{DriveFault, PairGate, Plan, Report, drive};
 use mr_sequential::{jobs_have_their_laws, marked_worlds_show_sequential_files};
+use mr_trace::mr_world::Config;
 use mr_user::{Gate, Job, LineIndex, MaxByKey, OpenGate, WordCount};
-use mr_world::Config;
 use std::alloc::AllocGlobal;
 use std::rt::Clock;
 use std::sync::Wait;
@@ -43,7 +43,7 @@ pub(crate) fn driven<H: AllocGlobal + Clock + Threads + Wait + Sync>(
 }
 
 // Runs a plan for a job of this kind.
-#[tactic(auto, unfolding(mr_play::specs::Text::job_as))]
+#[tactic(auto, unfolding(crate::specs::inner::job_as))]
 fn driven_as<H: AllocGlobal + Clock + Threads + Wait + Sync>(
     rt: &H,
     kind: JobKind,

@@ -1,14 +1,14 @@
 //! What `threads` prints.
 ghost use Rattle.std.specs.Prelude.{◌≡◌, IfOk, IfErr, map};
 ghost use Rattle.std.specs.List.{flat_map};
-ghost use Rattle.mr_world.specs.VisibleFiles.{as_pair};
+ghost use Rattle.mr_trace.specs.mr_world.specs.VisibleFiles.{as_pair};
 ghost use Rattle.mr_commands.specs.seq.Text.{PrintsSeq};
-ghost use Rattle.mr_play.specs.WorldText.{visible_text};
+ghost use Rattle.mr_trace.specs.mr_play.specs.WorldText.{visible_text};
 ghost use Rattle.mr_threads.specs.Text.{ShownFails, ThreadsFail};
 
 use crate::driven::{Manner, driven};
 use mr_commands::{SimFault, print_file, read_job_text};
-use mr_world::VisibleFile;
+use mr_trace::mr_world::VisibleFile;
 use std::alloc::{AllocError, AllocGlobal, Global};
 use std::rt::Clock;
 use std::sync::Wait;
@@ -39,11 +39,20 @@ pub fn threads_output<H: AllocGlobal + Clock + Threads + Wait + Sync>(
 fn files_text(alloc: Global, files: &[VisibleFile]) -> Result<Vec<u8>, AllocError>
     ensures { IfOk result (λ text. text.items ≡ flat_map visible_text (map as_pair files.now)) }
 {
-    let mut text = Vec::new(alloc);
+    let mut text = Vec::with_capacity(alloc, room_for(files))?;
     for file in files {
         print_file(&mut text, file.name.as_bytes(), file.bytes.as_slice())?;
     }
     Ok(text)
+}
+
+// For how many bytes room is made at once for the text of files: those of the files. Their heads are few.
+fn room_for(files: &[VisibleFile]) -> usize {
+    let mut room = 0usize;
+    for file in files {
+        room = room.saturating_add(file.bytes.len());
+    }
+    room
 }
 
 /// What `threads` answers where there is no handle that starts threads: what is wrong with the job text, else `Thread`.

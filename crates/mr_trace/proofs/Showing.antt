@@ -1,7 +1,7 @@
 -- What is shown of a player beside what is printed of it.
 use Rattle.std.proofs.Common.{◌≡◌, ℕ, true, false, List, [], ◌++◌, sym, ap, subst, ◌∙◌}
-use Rattle.mr_world.specs.Journal.{Journal}
-use Rattle.mr_world.specs.Limits.{within}
+use Rattle.mr_play.specs.mr_world.specs.Journal.{Journal}
+use Rattle.mr_play.specs.mr_world.specs.Limits.{within}
 use Rattle.mr_play.specs.declared.player.Player.{Player}
 use Rattle.mr_play.specs.declared.shown.Shown.{Shown}
 use Rattle.mr_play.specs.declared.sources.Stretch.{Stretch}

@@ -11,10 +11,10 @@ use Rattle.mr_model.specs.Packets.{Config}
 use Rattle.mr_model.specs.Pasts.{Place}
 use Rattle.mr_model.specs.Sending.{sent}
 use Rattle.mr_model.specs.World.{World}
-use Rattle.mr_world.specs.declared.asked.Asked.{Asked}
-use Rattle.mr_world.specs.Asks.{asked_in}
-use Rattle.mr_world.specs.Journal.{Journal, world_in}
-use Rattle.mr_world.specs.Readings.{due_in, place_in, wish_in}
+use Rattle.mr_play.specs.mr_parts.specs.declared.asked.Asked.{Asked}
+use Rattle.mr_play.specs.mr_world.specs.Asks.{asked_in}
+use Rattle.mr_play.specs.mr_world.specs.Journal.{Journal, world_in}
+use Rattle.mr_play.specs.mr_world.specs.Readings.{due_in, place_in, wish_in}
 use Rattle.mr_play.specs.declared.sources.Source.{Source}
 use Rattle.mr_play.specs.declared.sources.Stretch.{Stretch}
 use Rattle.mr_play.specs.EventNames.{duty_event, wish_event}

@@ -3,3 +3,7 @@ pub mod Words
 pub mod Happened
 pub mod Trace
 pub mod Shown
+-- Crates beneath that this one gives on. The crates above name them through it.
+pub use Rattle.mr_play
+pub use Rattle.mr_play.specs.mr_world
+pub use Rattle.mr_play.specs.mr_parts

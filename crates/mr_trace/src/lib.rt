@@ -28,6 +28,8 @@ mod trace_words;
 
 pub use asked::{put_call, put_call_of, put_heard};
 pub use makers::{Maker, Makers, left_at, maker_of};
+pub use mr_play;
+pub use mr_play::mr_world;
 pub use packet_words::put_packet;
 pub use seats::{Seat, put_seat, put_thread};
 pub use shown::play_shown;

@@ -4,13 +4,13 @@ ghost use Rattle.std.specs.Prelude.{◌≡◌, ◌++◌, OnOk};
 ghost use Rattle.mr_trace.specs.Happened.{host_of, node_of, seat_of};
 ghost use Rattle.mr_trace.specs.Trace.{maker_text, seat_text};
 ghost use Rattle.mr_trace.specs.declared.makers.Maker.TheVariants.{Thread};
-ghost use Rattle.mr_world.specs.Journal.{world_in};
-ghost use Rattle.mr_world.specs.Readings.{place_in};
+ghost use Rattle.mr_play.specs.mr_world.specs.Journal.{world_in};
+ghost use Rattle.mr_play.specs.mr_world.specs.Readings.{place_in};
 
 use crate::trace_words::put_small;
 use mr_event::Event;
 use mr_packet::{Address, ContainerId};
-use mr_world::World;
+use mr_play::mr_world::World;
 use std::alloc::AllocError;
 
 /// A thread, by what it makes the events of.

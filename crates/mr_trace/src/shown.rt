@@ -2,7 +2,7 @@
 ghost use Rattle.std.specs.Prelude.{◌≡◌, [], true, false, IfOk, IfErr};
 ghost use Rattle.mr_commands.specs.declared.fault.SimFault.TheVariants.{NoMemory};
 ghost use Rattle.mr_play.specs.Text.{IsAsExpected, PlayFails};
-ghost use Rattle.mr_world.specs.Limits.{within};
+ghost use Rattle.mr_play.specs.mr_world.specs.Limits.{within};
 ghost use Rattle.mr_trace.specs.Happened.{by_lines};
 ghost use Rattle.mr_trace.specs.Shown.{Shows};
 ghost use Rattle.mr_trace.specs.Trace.{trace_text};

@@ -2,7 +2,7 @@
 ghost use Rattle.std.specs.Prelude.{◌≡◌, ◌++◌, ◌∷◌, [], OnOk, IfOk, IfErr, drop};
 ghost use Rattle.mr_commands.specs.declared.fault.SimFault.TheVariants.{NoMemory};
 ghost use Rattle.mr_model.specs.Sending.{sent};
-ghost use Rattle.mr_world.specs.Journal.{world_in};
+ghost use Rattle.mr_play.specs.mr_world.specs.Journal.{world_in};
 ghost use Rattle.mr_trace.specs.Happened.{happened, happened_behind, maker_of, name_of};
 ghost use Rattle.mr_trace.specs.Trace.{beginning_text, line_text, lines_text, named_text, packets_text, trace_text};
 
@@ -12,9 +12,9 @@ use crate::trace_words::{put_envelope, put_event, put_number};
 use mr_commands::SimFault;
 use mr_event::Event;
 use mr_packet::Envelope;
+use mr_play::mr_world::{Config, World};
 use mr_play::{duty_event, name_word, wish_event};
 use mr_script::EventName;
-use mr_world::{Config, World};
 use std::alloc::{AllocError, Global};
 
 /// A line for each event of a world's journal. It has its place there, the event in the words of a script, what the

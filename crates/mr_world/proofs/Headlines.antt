@@ -16,8 +16,8 @@ use Rattle.mr_model.proofs.Found.{recovery_finds}
 use Rattle.mr_model.proofs.Suspicion.{bars_hold}
 use Rattle.mr_world.specs.Headline.{HeadlineHolds}
 use Rattle.mr_world.specs.Journal.{Journal}
-use Rattle.mr_world.specs.Limits.{within, fits_bytes}
-use Rattle.mr_world.proofs.Bounds.{fits-parts}
+use Rattle.mr_parts.specs.Limits.{within, fits_bytes}
+use Rattle.mr_parts.proofs.Bounds.{fits-parts}
 
 -- the limits take no map's output beyond what it may have
 pub outputs-are-bounded : (cfg : Config) → BoundsOutputs (within cfg)

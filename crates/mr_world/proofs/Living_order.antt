@@ -19,13 +19,13 @@ use Rattle.mr_model.specs.Claims.{In, world_of}
 use Rattle.mr_model.proofs.Beside.{numbers-always}
 use Rattle.mr_model.proofs.Cluster.{open_place, launched_as}
 use Rattle.mr_model.proofs.Ranges.{always-placed}
-use Rattle.mr_cluster.specs.Living.{container_cmp}
-use Rattle.mr_cluster.specs.Order.{in_order}
-use Rattle.mr_cluster.proofs.Keys.{found_is, is_it, it-is, kept-listed}
-use Rattle.mr_world.specs.declared.parts.Parts.{Parts}
-use Rattle.mr_world.specs.Limits.{within}
+use Rattle.mr_parts.specs.mr_cluster.specs.Living.{container_cmp}
+use Rattle.mr_parts.specs.mr_cluster.specs.Order.{in_order}
+use Rattle.mr_parts.specs.mr_cluster.proofs.Keys.{found_is, is_it, it-is, kept-listed}
+use Rattle.mr_parts.specs.declared.parts.Parts.{Parts}
+use Rattle.mr_parts.specs.Limits.{within}
 use Rattle.mr_world.specs.Readings.{living, launched_by}
-use Rattle.mr_world.specs.Standing.{Standing}
+use Rattle.mr_parts.specs.Standing.{Standing}
 
 -- ---- who is in a list
 

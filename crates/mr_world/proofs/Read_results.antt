@@ -20,10 +20,10 @@ use Rattle.mr_model.specs.Results.{visible, visible_in}
 use Rattle.mr_model.specs.World.{World}
 use Rattle.mr_model.proofs.Listing.{children-names, has_name}
 use Rattle.mr_model.proofs.Names.{name_eq-refl}
-use Rattle.mr_world.specs.declared.parts.Parts.{Parts}
+use Rattle.mr_parts.specs.declared.parts.Parts.{Parts}
 use Rattle.mr_world.specs.declared.results.VisibleFile.{VisibleFile}
 use Rattle.mr_world.specs.VisibleFiles.{as_pair, contents, is_file_kind, seen_beneath}
-use Rattle.mr_world.specs.Standing.{Standing}
+use Rattle.mr_parts.specs.Standing.{Standing}
 
 -- ---- who looks on from outside is heard
 

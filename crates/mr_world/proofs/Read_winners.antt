@@ -17,10 +17,10 @@ use Rattle.mr_model.specs.Records.{records_below, winner_in}
 use Rattle.mr_model.specs.Claims.{records, winner}
 use Rattle.mr_model.specs.World.{World}
 use Rattle.mr_model.proofs.Bytes.{tells-below}
-use Rattle.mr_world.specs.declared.parts.Parts.{Parts}
-use Rattle.mr_world.specs.Standing.{Standing}
+use Rattle.mr_parts.specs.declared.parts.Parts.{Parts}
+use Rattle.mr_parts.specs.Standing.{Standing}
 use Rattle.mr_world.specs.inner.Winning.{success_of}
-use Rattle.mr_world.proofs.Bounds.{small}
+use Rattle.mr_parts.proofs.Bounds.{small}
 
 -- ---- the first success
 

@@ -5,14 +5,13 @@ use Rattle.mr_model.specs.Packets.{Config}
 use Rattle.mr_model.specs.World.{World, Event}
 use Rattle.mr_model.specs.Effect.{not_now, effect, happens}
 use Rattle.mr_model.specs.Sending.{sent}
-use Rattle.mr_world.specs.declared.fault.WorldFault.{WorldFault}
-use Rattle.mr_world.specs.declared.fault.WorldFault.TheVariants as fault
+use Rattle.mr_parts.specs.declared.fault.WorldFault.{WorldFault}
+use Rattle.mr_parts.specs.declared.fault.WorldFault.TheVariants as fault
 use Rattle.mr_world.specs.declared.limits.TheConstants.{MAX_EVENTS}
-use Rattle.mr_world.specs.declared.parts.Parts.{Parts}
+use Rattle.mr_parts.specs.declared.parts.Parts.{Parts}
 use Rattle.mr_world.specs.declared.took.Took.{Took}
-use Rattle.mr_world.specs.Histories.{change_of, changed}
-use Rattle.mr_world.specs.Limits.{within, fits_counted}
-use Rattle.mr_world.specs.Standing.{Standing, IsTaken, Refuses}
+use Rattle.mr_parts.specs.Limits.{within, fits_counted}
+use Rattle.mr_parts.specs.Standing.{Standing, IsTaken, Refuses}
 use Rattle.mr_world.specs.Journal.{Journal, world_in, run_of, taken, fits, fits_first}
 
 -- an event is permitted and passes no limit
@@ -97,11 +96,6 @@ ForetellsAt p n e (Err f) = RefusesAt p n e f
 
 abbrev pub foretold_at : Parts → World → ℕ → Event → Result (Unit {0}) WorldFault
 foretold_at p w n e = foretold (not_now p.config w e) (nat_lt n MAX_EVENTS && within p.config w e)
-
--- what an event leaves of the job history's bytes: what it changes of them, or all where it was refused
-abbrev pub LeavesHistory : {A : Type 0} → Parts → Event → Result A WorldFault → Parts → Type 0
-LeavesHistory old e (Ok a) new = (w : World) → Standing old w → new.history ≡ changed old.history (change_of old.config w e)
-LeavesHistory old e (Err f) new = new.history ≡ old.history
 
 -- the packets that an event added are the last of the bag
 pub record Counts (p : Parts) (w : World) (e : Event) (took : Took) : Type 0 where

@@ -11,7 +11,7 @@ use Rattle.mr_model.specs.World.{reply_to, seen_by}
 use Rattle.mr_model.specs.Claims.{In, winner, IsToldWon, IsToldOutcome, IsMarked, IsComplete, IsReduce, IsVisible, IsWhole, LooksTheSame, HoldsWhole, WasBarred, has_not_run}
 use Rattle.mr_model.specs.Results.{outcome, visible}
 use Rattle.mr_model.specs.Sequential.{Job, JobLaws, IsFaithful, SeesSequential}
-use Rattle.mr_world.specs.Limits.{within}
+use Rattle.mr_parts.specs.Limits.{within}
 use Rattle.mr_world.specs.Journal.{Journal, world_in}
 
 -- what the newest master has seen

@@ -1,38 +1,14 @@
--- The job history in bytes, as a journal's events leave it. mr_model says when a master starts, crashes or calls, and
--- mr_history what that makes of the history. Of a segment mr_model itself keeps the records alone. Our own: where
+-- The job history in bytes, as a journal's events leave it. What one event changes is told in mr_parts. Our own: where
 -- code and definitions meet.
-use Rattle.std.specs.Prelude.{ℕ, ◌&&◌, nat_lt, nat_le, List, [], ◌∷◌, Option, Some, None, if◌then◌else◌, replicate}
-use Rattle.std.specs.Option.{option_and_then, option_map}
+use Rattle.std.specs.Prelude.{ℕ, ◌&&◌, nat_lt, nat_le, List, [], ◌∷◌, if◌then◌else◌}
 use Rattle.mr_history.specs.State.{State}
-use Rattle.mr_history.specs.Segment.{fresh}
 use Rattle.mr_history.specs.Calls.{segment}
-use Rattle.mr_history.specs.Laws.{Change, Calls, Seals, Raises, after}
 use Rattle.mr_model.specs.Packets.{Config}
-use Rattle.mr_model.specs.World.{World, Event, Start, Crash, Duty, Weather, Calm, Unavailable, Unanswered, opening_world, duty}
-use Rattle.mr_model.specs.Effect.{happens, version_of}
-use Rattle.mr_model.specs.Stores.{call_of_history}
-use Rattle.mr_world.specs.Limits.{within}
-
--- before the first event
-abbrev pub opening_history : State
-opening_history = record { segments = replicate 1000 (fresh 1); fence = 0 }
-
--- a call, where it is made in this weather
-abbrev pub if_made : {A : Type 0} → Weather → Option A → Option A
-if_made Calm call = call
-if_made Unanswered call = call
-if_made Unavailable call = None
-
--- what an event changes: a start raises, a crash seals, and a duty that is a call of the history makes that call
-abbrev pub change_of : Config → World → Event → Option Change
-change_of cfg w (Start k kept) = Some (Raises k kept (version_of cfg k))
-change_of cfg w (Crash k kept) = Some (Seals k kept)
-change_of cfg w (Duty k f) = if_made f (option_map (Calls k) (option_and_then call_of_history (duty cfg w k)))
-change_of cfg w _ = None
-
-abbrev pub changed : State → Option Change → State
-changed h None = h
-changed h (Some c) = after h c
+use Rattle.mr_model.specs.World.{World, Event, opening_world}
+use Rattle.mr_model.specs.Effect.{happens}
+-- what an event changes; the history before the first one, and after one
+pub use Rattle.mr_parts.specs.Histories.{opening_history, if_made, change_of, changed}
+use Rattle.mr_parts.specs.Limits.{within}
 
 -- the history after events in turn, each of which is taken
 abbrev pub changed_by : Config → World → State → List Event → State

@@ -8,10 +8,10 @@ use Rattle.mr_model.specs.Effect.{happens}
 use Rattle.mr_model.specs.Claims.{world_of}
 use Rattle.mr_model.specs.Sequential.{is_taken}
 use Rattle.mr_world.specs.declared.limits.TheConstants.{MAX_EVENTS}
-use Rattle.mr_world.specs.declared.parts.Parts.{Parts}
+use Rattle.mr_parts.specs.declared.parts.Parts.{Parts}
 use Rattle.mr_world.specs.Histories.{history_of}
-use Rattle.mr_world.specs.Limits.{within, fits_counted}
-use Rattle.mr_world.specs.Standing.{Standing}
+use Rattle.mr_parts.specs.Limits.{within, fits_counted}
+use Rattle.mr_parts.specs.Standing.{Standing}
 
 -- the events are those that were taken, in order
 pub record Journal : Type 0 where

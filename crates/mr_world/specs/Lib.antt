@@ -1,9 +1,8 @@
 -- What a world's contracts say. Read Ranges, Limits, Journal, Applying and Headline for what its calls promise. Read
--- Readings, VisibleFiles, Histories and Asks for what is read. Machines and Standing say how its parts stand for the
--- world of mr_model (of mr_cluster, Living and Nodes).
+-- Readings, VisibleFiles, Histories and Asks for what is read. Standing says how its parts stand for the world of
+-- mr_model. (Ranges, Limits and Standing give on words of mr_parts.)
 pub mod Ranges
 pub mod Limits
-pub mod Machines
 pub mod Standing
 pub mod Readings
 pub mod VisibleFiles
@@ -13,3 +12,5 @@ pub mod Asks
 pub mod Applying
 pub mod Headline
 pub mod inner
+-- Crates beneath that this one gives on. The crates above name them through it.
+pub use Rattle.mr_parts

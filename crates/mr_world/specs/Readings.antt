@@ -17,7 +17,7 @@ use Rattle.mr_model.specs.Sequential as sequential
 use Rattle.mr_model.specs.Wanted.{wanted}
 use Rattle.mr_model.specs.bridge.Works.{phase_of, named}
 -- the next living container after another, in cyclic order
-pub use Rattle.mr_cluster.specs.Order.{is_behind, next_living}
+pub use Rattle.mr_parts.specs.mr_cluster.specs.Order.{is_behind, next_living}
 use Rattle.mr_world.specs.declared.inputs.Input.{Input}
 use Rattle.mr_world.specs.declared.inputs.Input.TheVariants.{Map, Reduce}
 

@@ -1,97 +1,15 @@
-//! Any event, handed on to the file of its kind: whether it can happen now, and that it happens. Whether the journal
-//! has room for it is told here too.
+//! An event happens to the parts, or is looked at. Whether the journal has room for it is told here too.
 ghost use Rattle.std.specs.Prelude.{◌≡◌, ◌<◌, IfErr, IfOk, OnOk, length, vec_capacity, vec_len};
 ghost use Rattle.mr_model.specs.World.{World, Compute};
-ghost use Rattle.mr_world.specs.Applying.{Counts, ForetellsAt, LeavesHistory, RefusesAt, foretold_at};
-ghost use Rattle.mr_world.specs.Standing.{Foresees, Standing, Tries};
+ghost use Rattle.mr_parts.specs.Histories.{LeavesHistory};
+ghost use Rattle.mr_parts.specs.Standing.{Standing, Tries};
+ghost use Rattle.mr_world.specs.Applying.{Counts, ForetellsAt, RefusesAt, foretold_at};
 
-use crate::fault::WorldFault;
 use crate::limits::MAX_EVENTS;
-use crate::parts::Parts;
 use crate::took::Took;
 use mr_event::Event;
 use mr_packet::{Bytes, ContainerId};
-
-impl Parts {
-    /// Whether an event can happen now.
-    pub fn check(&self, event: &Event) -> Result<(), WorldFault>
-        ensures { Foresees self.now event.now result }
-    {
-        match event {
-            Event::Start { generation, kept } => {
-                self.check_start(*generation, *kept)?;
-                Ok(())
-            }
-            Event::Crash { generation, kept } => {
-                self.check_crash(*generation, *kept)?;
-                Ok(())
-            }
-            Event::Duty {
-                generation,
-                weather,
-            } => self.check_duty(*generation, *weather),
-            Event::LaunchOn {
-                generation,
-                task,
-                node,
-            } => {
-                self.check_launch(*generation, *task, *node)?;
-                Ok(())
-            }
-            Event::Deliver { packet } => self.check_deliver(*packet as usize),
-            Event::ContainerStep { container, weather } => self.check_step(container, *weather),
-            Event::Computed { container, bytes } => {
-                self.check_compute(container, bytes)?;
-                Ok(())
-            }
-            Event::Die { container } => self.check_die(container),
-            Event::NodeRestart { node } => self.check_restart(*node),
-            Event::Expire { generation, node } => {
-                self.check_expire(*generation, *node)?;
-                Ok(())
-            }
-        }
-    }
-
-    /// An event happens.
-    pub fn happen(&mut self, event: &Event) -> Result<(), WorldFault>
-        requires { (w : World) × Standing self.old w }
-        ensures tries { Tries self.old event.now result self.new }
-        ensures config { self.new.config ≡ self.old.config }
-        ensures history { LeavesHistory self.old event.now result self.new }
-    {
-        match event {
-            Event::Start { generation, kept } => self.start(*generation, *kept),
-            Event::Crash { generation, kept } => self.crash(*generation, *kept),
-            Event::Duty {
-                generation,
-                weather,
-            } => self.duty(*generation, *weather),
-            Event::LaunchOn {
-                generation,
-                task,
-                node,
-            } => self.launch(*generation, *task, *node),
-            Event::Deliver { packet } => self.deliver(*packet as usize),
-            Event::ContainerStep { container, weather } => self.step(container, *weather),
-            Event::Computed { container, bytes } => self.hand_in(container, bytes),
-            Event::Die { container } => self.die(container),
-            Event::NodeRestart { node } => self.restart(*node),
-            Event::Expire { generation, node } => self.expire(*generation, *node),
-        }
-    }
-
-    // A copy of the bytes is handed in to the container.
-    fn hand_in(&mut self, c: &ContainerId, bytes: &Bytes) -> Result<(), WorldFault>
-        ensures tries { Tries self.old (Compute c.now bytes.now) result self.new }
-        ensures config { self.new.config ≡ self.old.config }
-        ensures history { self.new.history ≡ self.old.history }
-    {
-        self.check_compute(c, bytes)?;
-        let copy = bytes.copy()?;
-        self.compute(c, copy)
-    }
-}
+use mr_parts::{Parts, WorldFault};
 
 /// An event happens: which packets it added to the bag.
 pub fn take(parts: &mut Parts, event: &Event) -> Result<Took, WorldFault>
@@ -133,8 +51,8 @@ pub fn foresee_computed(
 ) -> Result<(), WorldFault>
     ensures { (w : World) → Standing parts.now w → result ≡ foretold_at parts.now w journaled (Compute c.now bytes.now) }
 {
-    match parts.check_compute(c, bytes) {
-        Ok(_place) if journaled < MAX_EVENTS => Ok(()),
+    match parts.check_computed(c, bytes) {
+        Ok(()) if journaled < MAX_EVENTS => Ok(()),
         Err(WorldFault::NotNow(why)) => Err(WorldFault::NotNow(why)),
         Err(WorldFault::NoMemory) => unreachable!(),
         Ok(_) | Err(WorldFault::Full) => Err(WorldFault::Full),

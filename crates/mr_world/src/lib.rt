@@ -121,51 +121,21 @@
 //! A master is told what a store answers, a refusal too; only where a store is full the whole event is refused.
 #![tactic(auto)]
 
-mod act;
-mod alive;
-mod ask;
-mod asked;
-mod call;
-mod compute;
-mod config;
 mod copy;
-mod crash;
-mod deliver;
-mod die;
-mod duty;
-mod expire;
-mod fault;
-mod foretell;
 mod happen;
-mod hear_container;
-mod hear_master;
-mod hear_node;
 mod inputs;
-mod launch;
 mod limits;
 mod living_ones;
-mod masters;
-mod next_call;
-mod opening;
-mod parts;
-mod push;
 mod reading;
-mod restart;
 mod results;
-mod room;
-mod send;
-mod start;
-mod step;
 mod took;
 mod winners;
 mod world;
 
-pub use asked::Asked;
-pub use config::Config;
-pub use fault::WorldFault;
 pub use inputs::Input;
-pub use limits::{MAX_CONTAINERS, MAX_EVENTS};
+pub use limits::MAX_EVENTS;
 pub use mr_event::{Event, Weather, Why};
+pub use mr_parts::{Asked, Config, MAX_CONTAINERS, WorldFault};
 pub use mr_user::Splits;
 pub use results::VisibleFile;
 pub use took::Took;

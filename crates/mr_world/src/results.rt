@@ -8,15 +8,14 @@ ghost use Rattle.mr_model.specs.Ids.{marker};
 ghost use Rattle.mr_model.specs.Content.{entry_at, is_file, children, option_kind};
 ghost use Rattle.mr_model.specs.Results.{first_told, outcome, visible};
 ghost use Rattle.mr_model.specs.World.{World};
-ghost use Rattle.mr_world.specs.declared.fault.WorldFault.TheVariants.{NoMemory};
+ghost use Rattle.mr_parts.specs.declared.fault.WorldFault.TheVariants.{NoMemory};
 ghost use Rattle.mr_world.specs.VisibleFiles.{as_pair, contents, is_file_kind, seen_beneath};
-ghost use Rattle.mr_world.specs.Standing.{Standing};
+ghost use Rattle.mr_parts.specs.Standing.{Standing};
 
-use crate::fault::WorldFault;
-use crate::parts::Parts;
 use mr_ids::AppAttempt;
 use mr_names::{Bytes, Caller, Entries, Kind, NameFault, Namespace};
 use mr_packet::{Envelope, Packet};
+use mr_parts::{Parts, WorldFault};
 use mr_paths::{Name, Path, is_hidden};
 use std::alloc::{AllocError, Global};
 
@@ -29,34 +28,32 @@ pub struct VisibleFile {
     pub bytes: Bytes,
 }
 
-impl Parts {
-    /// The outcome of the job that was told first, if one was told: whether the job succeeded.
-    pub fn outcome(&self) -> Option<bool>
-        ensures { (w : World) → Standing self.now w → result ≡ outcome w }
-    {
-        first_told(self.bag.packets())
-    }
+/// The outcome of the job that was told first, if one was told: whether the job succeeded.
+pub fn outcome(parts: &Parts) -> Option<bool>
+    ensures { (w : World) → Standing parts.now w → result ≡ outcome w }
+{
+    first_told(parts.bag.packets())
+}
 
-    /// Whether the success marker is there. Its only fault is an allocation failure.
-    pub fn marker(&self) -> Result<bool, WorldFault>
-        ensures is { IfOk result (λ marked. (w : World) → Standing self.now w → marked ≡ is_file (entry_at w.content marker)) }
-        ensures memory { IfErr result (λ fault. fault ≡ WorldFault.NoMemory) }
-    {
-        let path = self.layout.marker()?;
-        Ok(is_file(kind_at(&self.names, &path)))
-    }
+/// Whether the success marker is there. Its only fault is an allocation failure.
+pub fn marker(parts: &Parts) -> Result<bool, WorldFault>
+    ensures is { IfOk result (λ marked. (w : World) → Standing parts.now w → marked ≡ is_file (entry_at w.content marker)) }
+    ensures memory { IfErr result (λ fault. fault ≡ WorldFault.NoMemory) }
+{
+    let path = parts.layout.marker()?;
+    Ok(is_file(kind_at(&parts.names, &path)))
+}
 
-    /// The files directly beneath the destination whose names are not hidden, by rising name. Its only fault is an
-    /// allocation failure.
-    pub fn visible(&self) -> Result<Vec<VisibleFile>, WorldFault>
-        ensures is { IfOk result (λ files. (w : World) → Standing self.now w → map as_pair files.items ≡ visible w) }
-        ensures memory { IfErr result (λ fault. fault ≡ WorldFault.NoMemory) }
-    {
-        let dest = &self.layout.dest;
-        let entries = entries_at(dest.allocator(), &self.names, dest)?;
-        let files = visible_files(dest.allocator(), &self.names, dest, &entries)?;
-        Ok(files)
-    }
+/// The files directly beneath the destination whose names are not hidden, by rising name. Its only fault is an
+/// allocation failure.
+pub fn visible(parts: &Parts) -> Result<Vec<VisibleFile>, WorldFault>
+    ensures is { IfOk result (λ files. (w : World) → Standing parts.now w → map as_pair files.items ≡ visible w) }
+    ensures memory { IfErr result (λ fault. fault ≡ WorldFault.NoMemory) }
+{
+    let dest = &parts.layout.dest;
+    let entries = entries_at(dest.allocator(), &parts.names, dest)?;
+    let files = visible_files(dest.allocator(), &parts.names, dest, &entries)?;
+    Ok(files)
 }
 
 // The outcome that is told first by these packets.

@@ -5,49 +5,46 @@ ghost use Rattle.mr_model.specs.Ids.{reduce_of};
 ghost use Rattle.mr_model.specs.Records.{winner_in};
 ghost use Rattle.mr_model.specs.Claims.{records, winner};
 ghost use Rattle.mr_model.specs.World.{World};
-ghost use Rattle.mr_world.specs.declared.fault.WorldFault.TheVariants.{NoMemory};
-ghost use Rattle.mr_world.specs.Standing.{Standing};
+ghost use Rattle.mr_parts.specs.declared.fault.WorldFault.TheVariants.{NoMemory};
+ghost use Rattle.mr_parts.specs.Standing.{Standing};
 ghost use Rattle.mr_world.specs.inner.Winning.{Notes, NotesAt, if_at, is_free, success_of};
 
-use crate::fault::WorldFault;
-use crate::parts::Parts;
 use mr_history::{Record, Records};
 use mr_ids::{AttemptId, JobId, TaskId, TaskKind};
+use mr_parts::{Parts, WorldFault};
 use std::alloc::{AllocError, Global};
 
-impl Parts {
-    /// The recorded winner of a reduce, if it has one: the attempt of its first success that is stable. Its only
-    /// fault is an allocation failure.
-    pub fn winner(&self, task: TaskId) -> Result<Option<AttemptId>, WorldFault>
-        ensures is { IfOk result (λ won. (w : World) → Standing self.now w → won ≡ winner w task) }
-        ensures memory { IfErr result (λ fault. fault ≡ WorldFault.NoMemory) }
-    {
-        let told = self.records()?;
-        Ok(winner_of(told.as_slice(), task))
-    }
+/// The recorded winner of a reduce, if it has one: the attempt of its first success that is stable. Its only
+/// fault is an allocation failure.
+pub fn recorded_winner(parts: &Parts, task: TaskId) -> Result<Option<AttemptId>, WorldFault>
+    ensures is { IfOk result (λ won. (w : World) → Standing parts.now w → won ≡ winner w task) }
+    ensures memory { IfErr result (λ fault. fault ≡ WorldFault.NoMemory) }
+{
+    let told = records(parts)?;
+    Ok(winner_of(told.as_slice(), task))
+}
 
-    /// The recorded winner of each reduce of the job, by number. Its only fault is an allocation failure; it reads
-    /// the history once.
-    pub fn winners(&self) -> Result<Vec<Option<AttemptId>>, WorldFault>
-        ensures is { IfOk result (λ all. (w : World) → Standing self.now w → all.items ≡ map (λ r. winner w (reduce_of self.now.config.job r)) (range_with_len 0 self.now.config.reduces)) }
-        ensures memory { IfErr result (λ fault. fault ≡ WorldFault.NoMemory) }
-    {
-        let told = self.records()?;
-        let alloc = self.layout.dest.allocator();
-        let reduces = self.config.reduce_count();
-        let all = winners_of(alloc, self.config.job_id(), reduces, told.as_slice())?;
-        Ok(all)
-    }
+/// The recorded winner of each reduce of the job, by number. Its only fault is an allocation failure; it reads
+/// the history once.
+pub fn recorded_winners(parts: &Parts) -> Result<Vec<Option<AttemptId>>, WorldFault>
+    ensures is { IfOk result (λ all. (w : World) → Standing parts.now w → all.items ≡ map (λ r. winner w (reduce_of parts.now.config.job r)) (range_with_len 0 parts.now.config.reduces)) }
+    ensures memory { IfErr result (λ fault. fault ≡ WorldFault.NoMemory) }
+{
+    let told = records(parts)?;
+    let alloc = parts.layout.dest.allocator();
+    let reduces = parts.config.reduce_count();
+    let all = winners_of(alloc, parts.config.job_id(), reduces, told.as_slice())?;
+    Ok(all)
+}
 
-    // The records of all stable lines, by rising generation.
-    fn records(&self) -> Result<Records, WorldFault>
-        ensures is { IfOk result (λ told. (w : World) → Standing self.now w → told ≡ records w) }
-        ensures memory { IfErr result (λ fault. fault ≡ WorldFault.NoMemory) }
-    {
-        match self.history.records() {
-            Ok(told) => Ok(told),
-            Err(_) => Err(WorldFault::NoMemory),
-        }
+// The records of all stable lines, by rising generation.
+fn records(parts: &Parts) -> Result<Records, WorldFault>
+    ensures is { IfOk result (λ told. (w : World) → Standing parts.now w → told ≡ records w) }
+    ensures memory { IfErr result (λ fault. fault ≡ WorldFault.NoMemory) }
+{
+    match parts.history.records() {
+        Ok(told) => Ok(told),
+        Err(_) => Err(WorldFault::NoMemory),
     }
 }
 

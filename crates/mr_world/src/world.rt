@@ -9,7 +9,7 @@ ghost use Rattle.mr_model.specs.World.{Compute};
 ghost use Rattle.mr_model.specs.Effect.{addressee};
 ghost use Rattle.mr_model.specs.Claims.{winner};
 ghost use Rattle.mr_model.specs.Results.{outcome, visible};
-ghost use Rattle.mr_world.specs.declared.fault.WorldFault.TheVariants.{NoMemory};
+ghost use Rattle.mr_parts.specs.declared.fault.WorldFault.TheVariants.{NoMemory};
 ghost use Rattle.mr_world.specs.Applying.{Applies, Foretells, Passes, Runs, foretold_in};
 ghost use Rattle.mr_world.specs.Asks.{asked_in};
 ghost use Rattle.mr_world.specs.Headline.{HeadlineHolds};
@@ -18,20 +18,20 @@ ghost use Rattle.mr_world.specs.Journal.{history_in, world_in};
 ghost use Rattle.mr_world.specs.Readings.{as_input, due_in, input_in, living, next_living, phase_in, place_in, unflushed_in, wanted_in, wish_in};
 ghost use Rattle.mr_world.specs.VisibleFiles.{as_pair};
 
-use crate::asked::Asked;
-use crate::config::Config;
 use crate::copy::copy_events;
-use crate::fault::WorldFault;
 use crate::happen::{foresee, foresee_computed, make_room, take};
-use crate::inputs::Input;
-use crate::parts::Parts;
-use crate::results::VisibleFile;
+use crate::inputs::{Input, input_of, place, wish};
+use crate::living_ones::{living, next_living};
+use crate::reading::{due, newest, packets, phase, stable, unflushed, wanted};
+use crate::results::{VisibleFile, marker, outcome, visible};
 use crate::took::Took;
+use crate::winners::{recorded_winner, recorded_winners};
 use mr_container::{Place, Wish};
 use mr_event::{Event, Why};
 use mr_ids::{AttemptId, TaskId};
 use mr_master_model::{DutyName, Phase};
 use mr_packet::{Bytes, ContainerId, Envelope};
+use mr_parts::{Asked, Config, Parts, WorldFault};
 use std::alloc::Global;
 use std::marker::Model;
 
@@ -163,7 +163,7 @@ impl World {
     pub fn bag(&self) -> &[Envelope]
         ensures { result.now ≡ (world_in self.now).bag }
     {
-        self.parts.packets()
+        packets(&self.parts)
     }
 }
 
@@ -175,7 +175,7 @@ impl World {
         ensures is { IfOk result (λ won. won ≡ winner (world_in self.now) task) }
         ensures memory { IfErr result (λ fault. fault ≡ WorldFault.NoMemory) }
     {
-        self.parts.winner(task)
+        recorded_winner(&self.parts, task)
     }
 
     /// The recorded winner of each reduce of the job, by number. Its only fault is an allocation failure; it reads
@@ -184,7 +184,7 @@ impl World {
         ensures is { IfOk result (λ all. all.items ≡ map (λ r. winner (world_in self.now) (reduce_of self.now.config.job r)) (range_with_len 0 self.now.config.reduces)) }
         ensures memory { IfErr result (λ fault. fault ≡ WorldFault.NoMemory) }
     {
-        self.parts.winners()
+        recorded_winners(&self.parts)
     }
 
     /// Whether the success marker is there. Its only fault is an allocation failure.
@@ -192,14 +192,14 @@ impl World {
         ensures is { IfOk result (λ marked. marked ≡ is_file (entry_at (world_in self.now).content marker)) }
         ensures memory { IfErr result (λ fault. fault ≡ WorldFault.NoMemory) }
     {
-        self.parts.marker()
+        marker(&self.parts)
     }
 
     /// The outcome of the job that was told first, if one was told: whether the job succeeded.
     pub fn outcome(&self) -> Option<bool>
         ensures { result ≡ outcome (world_in self.now) }
     {
-        self.parts.outcome()
+        outcome(&self.parts)
     }
 
     /// The files directly beneath the destination whose names are not hidden, by rising name. Its only fault is an
@@ -208,7 +208,7 @@ impl World {
         ensures is { IfOk result (λ files. map as_pair files.items ≡ visible (world_in self.now)) }
         ensures memory { IfErr result (λ fault. fault ≡ WorldFault.NoMemory) }
     {
-        self.parts.visible()
+        visible(&self.parts)
     }
 }
 
@@ -218,14 +218,14 @@ impl World {
     pub fn newest(&self) -> u32
         ensures { result ≡ (world_in self.now).fence }
     {
-        self.parts.newest()
+        newest(&self.parts)
     }
 
     /// The phase of the master of this generation; none where it is not alive.
     pub fn phase(&self, k: u32) -> Option<Phase>
         ensures { result ≡ phase_in self.now.config (world_in self.now) k }
     {
-        self.parts.phase(k)
+        phase(&self.parts, k)
     }
 
     /// What the next store call of the master of this generation is for, if there is one; none where the master is
@@ -234,21 +234,21 @@ impl World {
         ensures is { IfOk result (λ due. due ≡ due_in self.now.config (world_in self.now) k) }
         ensures memory { IfErr result (λ fault. fault ≡ WorldFault.NoMemory) }
     {
-        self.parts.due(k)
+        due(&self.parts, k)
     }
 
     /// The task that the master of this generation launches next, if there is one; none where it is not alive.
     pub fn wanted(&self, k: u32) -> Option<TaskId>
         ensures { result ≡ wanted_in self.now.config (world_in self.now) k }
     {
-        self.parts.wanted(k)
+        wanted(&self.parts, k)
     }
 
     /// How many bytes of its segment the master of this generation has not flushed; none where it is not alive.
     pub fn unflushed(&self, k: u32) -> Option<usize>
         ensures { result ≡ unflushed_in (world_in self.now) k }
     {
-        self.parts.unflushed(k)
+        unflushed(&self.parts, k)
     }
 
     /// The stable bytes of the history segment of this generation, a torn end among them; none where its master was
@@ -258,7 +258,7 @@ impl World {
         ensures stable { k ≤ (world_in self.now).fence → records_of result.now ≡ ((world_in self.now).history k).stable }
         ensures none { (world_in self.now).fence < k → result.now ≡ [] }
     {
-        self.parts.stable(k)
+        stable(&self.parts, k)
     }
 
     /// Why the packet at this place of the bag can't be delivered now: `NoPacket`, or `NoAddressee` where it goes to
@@ -277,7 +277,7 @@ impl World {
         ensures is { IfOk result (λ all. all.items ≡ living self.now.config (world_in self.now)) }
         ensures memory { IfErr result (λ fault. fault ≡ WorldFault.NoMemory) }
     {
-        self.parts.living()
+        living(&self.parts)
     }
 
     /// The next container that is alive after another, in cyclic order by generation, then number. Where none is
@@ -285,7 +285,7 @@ impl World {
     pub fn next_living(&self, after: Option<ContainerId>) -> Option<ContainerId>
         ensures { result ≡ next_living (living self.now.config (world_in self.now)) after }
     {
-        self.parts.next_living(after)
+        next_living(&self.parts, after)
     }
 
     /// What a container was launched as: for which attempt, and on which node in which of its incarnations. None
@@ -293,21 +293,21 @@ impl World {
     pub fn place(&self, c: &ContainerId) -> Option<Place>
         ensures { result ≡ place_in (world_in self.now) c.now }
     {
-        self.parts.place(c)
+        place(&self.parts, c)
     }
 
     /// What a container wishes to do next; none where it is not alive.
     pub fn wish(&self, c: &ContainerId) -> Option<Wish>
         ensures { result ≡ wish_in self.now.config (world_in self.now) c.now }
     {
-        self.parts.wish(c)
+        wish(&self.parts, c)
     }
 
     /// What a container is to compute from; none where it is not alive, or does not wish to compute.
     pub fn input(&self, c: &ContainerId) -> Option<Input<'_>>
         ensures { option_map as_input result ≡ input_in self.now.config (world_in self.now) c.now }
     {
-        self.parts.input(c)
+        input_of(&self.parts, c)
     }
 }
 

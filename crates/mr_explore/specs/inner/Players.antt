@@ -2,7 +2,7 @@
 use Rattle.std.specs.Prelude.{◌≡◌, ℕ, suc, Bool, true, false, List, Option, None, Result, Ok, Err}
 use Rattle.mr_packet.specs.declared.packet.ContainerId.{ContainerId}
 use Rattle.mr_model.specs.World.{Event, Crash}
-use Rattle.mr_world.specs.Limits.{within}
+use Rattle.mr_play.specs.mr_world.specs.Limits.{within}
 use Rattle.mr_play.specs.declared.player.Player.{Player}
 use Rattle.mr_play.specs.Played.{Played, losing}
 use Rattle.mr_play.specs.Text.{job_as}

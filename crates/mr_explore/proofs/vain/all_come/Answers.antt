@@ -1,5 +1,5 @@
 use Rattle.std.proofs.Common.{◌<◌, sym, ◌∙◌, arith}
-use Rattle.mr_world.specs.Journal.{world_in}
+use Rattle.mr_play.specs.mr_world.specs.Journal.{world_in}
 use Rattle.mr_explore.specs.Vain.{comes}
 use Rattle.mr_explore.proofs.Ahead.{one_passes}
 use Rattle.mr_explore.proofs.vain.all_come.Goals as goal

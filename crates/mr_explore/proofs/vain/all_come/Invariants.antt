@@ -1,6 +1,6 @@
 use Rattle.std.proofs.Common.{◌≡◌, ◌-◌}
 use Rattle.std.specs.List.{list_all, range_with_len}
-use Rattle.mr_world.specs.Journal.{world_in}
+use Rattle.mr_play.specs.mr_world.specs.Journal.{world_in}
 use Rattle.mr_explore.specs.Vain.{comes}
 use Rattle.mr_explore.proofs.vain.all_come.Given as goal
 

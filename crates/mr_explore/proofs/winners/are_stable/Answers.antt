@@ -1,7 +1,7 @@
 use Rattle.std.proofs.Common.{◌≡◌, ◌≤◌, ◌<◌, length, sym, ◌∙◌, arith}
 use Rattle.std.proofs.lemmas.Bool.Decides.{Decides-eqb}
 use Rattle.std.proofs.lemmas.Slice.Eq.{slice_eq-Decides}
-use Rattle.mr_world.specs.Journal.{world_in}
+use Rattle.mr_play.specs.mr_world.specs.Journal.{world_in}
 use Rattle.mr_explore.proofs.Winning.{told_first, told_none}
 use Rattle.mr_explore.proofs.winners.are_stable.Goals as goal
 

@@ -1,7 +1,7 @@
 use Rattle.std.proofs.Common.{◌≤◌, map, ap, ◌∙◌, arith}
 use Rattle.std.specs.List.{flat_map}
 use Rattle.mr_history.specs.Reading.{records_of}
-use Rattle.mr_world.specs.Journal.{world_in}
+use Rattle.mr_play.specs.mr_world.specs.Journal.{world_in}
 use Rattle.mr_explore.proofs.Winning.{told_next, told_none}
 use Rattle.mr_explore.proofs.winners.segments_of.Goals as goal
 

@@ -1,5 +1,5 @@
 use Rattle.std.proofs.Common.{◌≡◌, ◌++◌, drop, map}
-use Rattle.mr_world.specs.VisibleFiles.{as_pair}
+use Rattle.mr_trace.specs.mr_world.specs.VisibleFiles.{as_pair}
 use Rattle.serde_json.specs.View.{view}
 use Rattle.mr_json.specs.Endings.{file_object}
 use Rattle.mr_json.proofs.ending.file_values.Given as goal

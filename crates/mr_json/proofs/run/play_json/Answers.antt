@@ -1,6 +1,6 @@
 use Rattle.std.proofs.Common.{ℕ, sym, ap, subst, Vec, Global}
-use Rattle.mr_world.specs.Limits.{within}
-use Rattle.mr_play.proofs.Showing.{as_expected}
+use Rattle.mr_trace.specs.mr_world.specs.Limits.{within}
+use Rattle.mr_trace.specs.mr_play.proofs.Showing.{as_expected}
 use Rattle.mr_json.specs.Plays.{TellsPlay}
 use Rattle.mr_json.proofs.Playing.{tells}
 use Rattle.mr_json.proofs.run.play_json.Goals as goal

@@ -1,6 +1,6 @@
 use Rattle.std.proofs.Common.{◌≡◌, ◌≤◌, ◌++◌, drop, length}
 use Rattle.mr_model.specs.World.{Event}
-use Rattle.mr_world.specs.Journal.{Journal}
+use Rattle.mr_trace.specs.mr_world.specs.Journal.{Journal}
 use Rattle.mr_trace.specs.Happened.{happened_behind, maker_of}
 use Rattle.mr_json.specs.Objects.{objects_text}
 use Rattle.mr_json.proofs.run.put_events.Given as goal

@@ -1,7 +1,7 @@
 use Rattle.std.proofs.Common.{subst, refl}
 use Rattle.mr_user.specs.Computation.{computation}
 use Rattle.mr_shuffle.specs.SequentialText.{AreSplits}
-use Rattle.mr_world.specs.Ranges.{IsInRange}
+use Rattle.mr_board.specs.mr_world.specs.Ranges.{IsInRange}
 use Rattle.mr_report.proofs.Success.{report_is}
 use Rattle.mr_report.proofs.report.reported.Goals as goal
 

@@ -1,5 +1,5 @@
 use Rattle.std.proofs.Common.{ℕ, sym, ap, subst, Vec, Global}
-use Rattle.mr_world.specs.Limits.{within}
+use Rattle.mr_play.specs.mr_world.specs.Limits.{within}
 use Rattle.mr_play.proofs.Showing.{as_expected}
 use Rattle.mr_trace.specs.Shown.{Shows}
 use Rattle.mr_trace.proofs.Showing.{shows}

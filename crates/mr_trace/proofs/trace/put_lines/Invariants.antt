@@ -1,6 +1,6 @@
 use Rattle.std.proofs.Common.{◌≡◌, ◌≤◌, ◌++◌, drop, length}
 use Rattle.mr_model.specs.World.{Event}
-use Rattle.mr_world.specs.Journal.{Journal}
+use Rattle.mr_play.specs.mr_world.specs.Journal.{Journal}
 use Rattle.mr_trace.specs.Happened.{happened_behind, maker_of}
 use Rattle.mr_trace.specs.Trace.{lines_text}
 use Rattle.mr_trace.proofs.trace.put_lines.Given as goal

@@ -5,7 +5,7 @@ use Rattle.mr_event.specs.declared.event.Event.{Event}
 use Rattle.mr_event.specs.declared.why.Why.{Why}
 use Rattle.mr_model.specs.World.{Compute}
 use Rattle.mr_model.specs.Sequential.{CarriesDefinition}
-use Rattle.mr_world.specs.declared.fault.WorldFault.TheVariants.{NotNow}
+use Rattle.mr_world.specs.mr_parts.specs.declared.fault.WorldFault.TheVariants.{NotNow}
 use Rattle.mr_world.specs.Journal.{world_in}
 use Rattle.mr_world.proofs.Headlines.{holds-still}
 use Rattle.mr_board.specs.Boards.{Makes, why_not_due}

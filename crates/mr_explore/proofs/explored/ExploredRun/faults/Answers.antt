@@ -1,5 +1,5 @@
 use Rattle.std.proofs.Common.{ap, ◌∙◌}
-use Rattle.mr_world.specs.Limits.{within}
+use Rattle.mr_play.specs.mr_world.specs.Limits.{within}
 use Rattle.mr_play.specs.Text.{job_as}
 use Rattle.mr_explore.specs.Faults.{faults_at}
 use Rattle.mr_explore.specs.Runs.{Exploring}

@@ -1,6 +1,0 @@
-use Rattle.std.proofs.Common.{sym, ap, Some, ◌∙◌}
-use Rattle.mr_world.proofs.Read_containers.{place-is}
-use Rattle.mr_world.proofs.parts.Parts.place.Goals as goal
-
-pub returns : goal.returns
-returns c = λ w s. ap Some c.place.ensures ∙ place-is c.args.self.now w c.args.c.now c.in_ok-machine.machine.now s (sym c.in_ok-machine.ensures)

@@ -1,5 +1,0 @@
-use Rattle.mr_world.proofs.Read_winners.{records-are}
-use Rattle.mr_world.proofs.parts.Parts.records.Goals as goal
-
-pub returns-in-Ok-clause-is : goal.returns-in-Ok-clause-is
-returns-in-Ok-clause-is c = λ w s. records-are c.args.self.now w c.in-Ok.told s c.in-Ok.ensures.told

@@ -1,0 +1,5 @@
+use Rattle.mr_world.proofs.Read_winners.{records-are}
+use Rattle.mr_world.proofs.winners.records.Goals as goal
+
+pub returns-in-Ok-clause-is : goal.returns-in-Ok-clause-is
+returns-in-Ok-clause-is c = λ w s. records-are c.args.parts.now w c.in-Ok.told s c.in-Ok.ensures.told
