@@ -63,21 +63,176 @@ pub fn put_given_up(out: &mut String, at: Point) -> Result<(), AllocError> {
     shape(out, "given", at, BOX)
 }
 
+// A place of the key: what it shows, and what that means.
+struct Meaning {
+    // Which place of its line it is.
+    place: u64,
+    mark: Mark,
+    words: &'static [u8],
+}
+
+// What the key shows.
+#[derive(Clone, Copy)]
+enum Mark {
+    Sign(Sign),
+    Begin,
+    Over,
+    Dead,
+    GivenUp,
+    // The stroke of a packet, by its class.
+    Stroke(&'static str),
+}
+
+// What lives and packets look like.
+const LIVES: [Meaning; 9] = [
+    Meaning {
+        place: 0,
+        mark: Mark::Sign(Sign::Dot),
+        words: b"event",
+    },
+    Meaning {
+        place: 1,
+        mark: Mark::Begin,
+        words: b"begins",
+    },
+    Meaning {
+        place: 2,
+        mark: Mark::Over,
+        words: b"ends by itself",
+    },
+    Meaning {
+        place: 3,
+        mark: Mark::Dead,
+        words: b"dies, crashes, or is killed",
+    },
+    Meaning {
+        place: 5,
+        mark: Mark::Sign(Sign::Restart),
+        words: b"node restarts",
+    },
+    Meaning {
+        place: 6,
+        mark: Mark::GivenUp,
+        words: b"is given up",
+    },
+    Meaning {
+        place: 7,
+        mark: Mark::Stroke("packet"),
+        words: b"packet",
+    },
+    Meaning {
+        place: 8,
+        mark: Mark::Stroke("repeat"),
+        words: b"once more",
+    },
+    Meaning {
+        place: 9,
+        mark: Mark::Stroke("lost"),
+        words: b"not delivered",
+    },
+];
+
+// What commits and failures look like.
+const COMMITS: [Meaning; 10] = [
+    Meaning {
+        place: 0,
+        mark: Mark::Sign(Sign::Permission),
+        words: b"may commit",
+    },
+    Meaning {
+        place: 1,
+        mark: Mark::Sign(Sign::TaskCommit),
+        words: b"task commit",
+    },
+    Meaning {
+        place: 2,
+        mark: Mark::Sign(Sign::Winner),
+        words: b"winner is stable",
+    },
+    Meaning {
+        place: 3,
+        mark: Mark::Sign(Sign::JobCommit),
+        words: b"job commit starts",
+    },
+    Meaning {
+        place: 4,
+        mark: Mark::Sign(Sign::Marker),
+        words: b"success marker",
+    },
+    Meaning {
+        place: 5,
+        mark: Mark::Sign(Sign::Success),
+        words: b"success is told",
+    },
+    Meaning {
+        place: 6,
+        mark: Mark::Sign(Sign::Failure),
+        words: b"failure is told",
+    },
+    Meaning {
+        place: 7,
+        mark: Mark::Sign(Sign::Refusal),
+        words: b"call is refused, or its answer is lost",
+    },
+    Meaning {
+        place: 9,
+        mark: Mark::Stroke("yes"),
+        words: b"yes",
+    },
+    Meaning {
+        place: 10,
+        mark: Mark::Stroke("no"),
+        words: b"no",
+    },
+];
+
 /// What the signs mean, in two lines from this place on.
 pub fn put_key(out: &mut String, at: Point) -> Result<(), AllocError> {
-    put_lives_key(out, at)?;
+    put_meanings(out, at, &LIVES)?;
     let below = Point {
         x: at.x,
         y: at.y.saturating_add(22),
     };
-    put_commit_key(out, below)
+    put_meanings(out, below, &COMMITS)
+}
+
+// A line of the key.
+fn put_meanings(out: &mut String, at: Point, meanings: &[Meaning]) -> Result<(), AllocError> {
+    for meaning in meanings {
+        put_meaning(out, beside(at, meaning.place), meaning)?;
+    }
+    Ok(())
+}
+
+fn put_meaning(out: &mut String, at: Point, meaning: &Meaning) -> Result<(), AllocError> {
+    put_mark(out, at, meaning.mark)?;
+    put_words(out, behind(at, meaning.mark), meaning.words)
+}
+
+fn put_mark(out: &mut String, at: Point, mark: Mark) -> Result<(), AllocError> {
+    match mark {
+        Mark::Sign(sign) => put_sign(out, sign, at),
+        Mark::Begin => put_begin(out, at),
+        Mark::Over => put_over(out, at),
+        Mark::Dead => put_dead(out, at),
+        Mark::GivenUp => put_given_up(out, at),
+        Mark::Stroke(class) => put_stroke(out, class, at),
+    }
+}
+
+// Where a mark ends.
+fn behind(at: Point, mark: Mark) -> Point {
+    match mark {
+        Mark::Stroke(_) => right(at),
+        _ => at,
+    }
 }
 
 /// What the stroke of a packet means that is delivered behind the cut, in a line from this place on. Only a picture that is cut has it.
 pub fn put_later_key(out: &mut String, at: Point) -> Result<(), AllocError> {
     later_style(out)?;
     put_stroke(out, "later", at)?;
-    meaning(
+    put_words(
         out,
         right(at),
         b"delivered later, behind the events that are drawn",
@@ -88,74 +243,7 @@ pub fn put_later_key(out: &mut String, at: Point) -> Result<(), AllocError> {
 pub fn put_earlier_key(out: &mut String, at: Point) -> Result<(), AllocError> {
     earlier_style(out)?;
     put_stroke(out, "earlier", at)?;
-    meaning(out, right(at), b"sent before the events that are drawn")
-}
-
-fn put_lives_key(out: &mut String, at: Point) -> Result<(), AllocError> {
-    put_sign(out, Sign::Dot, at)?;
-    meaning(out, at, b"event")?;
-    let next = beside(at, 1);
-    put_begin(out, next)?;
-    meaning(out, next, b"begins")?;
-    let next = beside(at, 2);
-    put_over(out, next)?;
-    meaning(out, next, b"ends by itself")?;
-    let next = beside(at, 3);
-    put_dead(out, next)?;
-    meaning(out, next, b"dies, crashes, or is killed")?;
-    let next = beside(at, 5);
-    put_sign(out, Sign::Restart, next)?;
-    meaning(out, next, b"node restarts")?;
-    let next = beside(at, 6);
-    put_given_up(out, next)?;
-    meaning(out, next, b"is given up")?;
-    put_packets_key(out, beside(at, 7))
-}
-
-fn put_commit_key(out: &mut String, at: Point) -> Result<(), AllocError> {
-    put_sign(out, Sign::Permission, at)?;
-    meaning(out, at, b"may commit")?;
-    let next = beside(at, 1);
-    put_sign(out, Sign::TaskCommit, next)?;
-    meaning(out, next, b"task commit")?;
-    let next = beside(at, 2);
-    put_sign(out, Sign::Winner, next)?;
-    meaning(out, next, b"winner is stable")?;
-    let next = beside(at, 3);
-    put_sign(out, Sign::JobCommit, next)?;
-    meaning(out, next, b"job commit starts")?;
-    let next = beside(at, 4);
-    put_sign(out, Sign::Marker, next)?;
-    meaning(out, next, b"success marker")?;
-    let next = beside(at, 5);
-    put_sign(out, Sign::Success, next)?;
-    meaning(out, next, b"success is told")?;
-    put_failures_key(out, beside(at, 6))
-}
-
-fn put_packets_key(out: &mut String, at: Point) -> Result<(), AllocError> {
-    put_stroke(out, "packet", at)?;
-    meaning(out, right(at), b"packet")?;
-    let next = beside(at, 1);
-    put_stroke(out, "repeat", next)?;
-    meaning(out, right(next), b"once more")?;
-    let next = beside(at, 2);
-    put_stroke(out, "lost", next)?;
-    meaning(out, right(next), b"not delivered")
-}
-
-fn put_failures_key(out: &mut String, at: Point) -> Result<(), AllocError> {
-    put_sign(out, Sign::Failure, at)?;
-    meaning(out, at, b"failure is told")?;
-    let next = beside(at, 1);
-    put_sign(out, Sign::Refusal, next)?;
-    meaning(out, next, b"call is refused, or its answer is lost")?;
-    let next = beside(at, 3);
-    put_stroke(out, "yes", next)?;
-    meaning(out, right(next), b"yes")?;
-    let next = beside(at, 4);
-    put_stroke(out, "no", next)?;
-    meaning(out, right(next), b"no")
+    put_words(out, right(at), b"sent before the events that are drawn")
 }
 
 fn put_stroke(out: &mut String, class: &str, at: Point) -> Result<(), AllocError> {
@@ -176,7 +264,7 @@ fn beside(at: Point, places: u64) -> Point {
     }
 }
 
-fn meaning(out: &mut String, at: Point, words: &[u8]) -> Result<(), AllocError> {
+fn put_words(out: &mut String, at: Point, words: &[u8]) -> Result<(), AllocError> {
     let place = Point {
         x: at.x.saturating_add(13),
         y: at.y.saturating_add(4),

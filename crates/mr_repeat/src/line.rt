@@ -1,6 +1,6 @@
 //! The line of a script that makes an event again.
-ghost use Rattle.std.specs.Prelude.{◌≡◌, ◌++◌, OnOk, codes, decimal};
-ghost use Rattle.mr_script.specs.Words.{container_word, fault_word, task_words, with_word};
+ghost use Rattle.std.specs.Prelude.{◌≡◌, ◌++◌, ◌∷◌, OnOk, codes, decimal};
+ghost use Rattle.mr_script.specs.Words.{and_words, container_word, fault_word, task_words, with_word};
 ghost use Rattle.mr_repeat.specs.Repeating.{behind, command_line};
 
 use crate::word::{put_container, put_kind, put_number, put_small, put_space};
@@ -20,6 +20,30 @@ fn put_weather(out: &mut Vec<u8>, weather: Weather) -> Result<(), AllocError>
     }
 }
 
+// A word and a number.
+fn put_one(out: &mut Vec<u8>, word: &[u8], number: u64) -> Result<(), AllocError>
+    ensures { OnOk result (out.new.items ≡ out.old.items ++ word.now ++ decimal number) }
+{
+    out.extend_from_slice(word)?;
+    put_number(out, number)
+}
+
+// A duty of a master.
+fn put_duty(out: &mut Vec<u8>, generation: u32, weather: Weather) -> Result<(), AllocError>
+    ensures { OnOk result (out.new.items ≡ out.old.items ++ with_word (codes "duty") (and_words (decimal generation) (fault_word weather))) }
+{
+    put_one(out, b"duty ", u64::from(generation))?;
+    put_weather(out, weather)
+}
+
+// A step of a container.
+fn put_step(out: &mut Vec<u8>, c: &ContainerId, weather: Weather) -> Result<(), AllocError>
+    ensures { OnOk result (out.new.items ≡ out.old.items ++ with_word (codes "step") (and_words (container_word c.now) (fault_word weather))) }
+{
+    put_of(out, b"step ", c)?;
+    put_weather(out, weather)
+}
+
 // A word, the generation of a master and a number.
 fn put_pair(out: &mut Vec<u8>, word: &[u8], generation: u32, number: u64) -> Result<(), AllocError>
     ensures { OnOk result (out.new.items ≡ out.old.items ++ word.now ++ with_word (decimal generation) (decimal number)) }
@@ -28,6 +52,23 @@ fn put_pair(out: &mut Vec<u8>, word: &[u8], generation: u32, number: u64) -> Res
     put_small(out, generation)?;
     put_space(out)?;
     put_number(out, number)
+}
+
+// A space, and a number behind it.
+fn put_next(out: &mut Vec<u8>, number: u32) -> Result<(), AllocError>
+    ensures { OnOk result (out.new.items ≡ out.old.items ++ 32 ∷ decimal number) }
+{
+    put_space(out)?;
+    put_small(out, number)
+}
+
+// A task and a node.
+fn put_task(out: &mut Vec<u8>, task: &TaskId, node: u32) -> Result<(), AllocError>
+    ensures { OnOk result (out.new.items ≡ out.old.items ++ task_words task.now (decimal node)) }
+{
+    put_kind(out, task.kind)?;
+    put_next(out, task.number)?;
+    put_next(out, node)
 }
 
 // A launch.
@@ -39,14 +80,9 @@ fn put_launch(
 ) -> Result<(), AllocError>
     ensures { OnOk result (out.new.items ≡ out.old.items ++ with_word (codes "launch") (with_word (decimal generation) (task_words task.now (decimal node)))) }
 {
-    out.extend_from_slice(b"launch ")?;
-    put_small(out, generation)?;
+    put_one(out, b"launch ", u64::from(generation))?;
     put_space(out)?;
-    put_kind(out, task.kind)?;
-    put_space(out)?;
-    put_small(out, task.number)?;
-    put_space(out)?;
-    put_small(out, node)
+    put_task(out, task, node)
 }
 
 // A word and a container.
@@ -67,30 +103,17 @@ pub fn put_command(out: &mut Vec<u8>, event: &Event) -> Result<(), AllocError>
         Event::Duty {
             generation,
             weather,
-        } => {
-            out.extend_from_slice(b"duty ")?;
-            put_small(out, *generation)?;
-            put_weather(out, *weather)
-        }
+        } => put_duty(out, *generation, *weather),
         Event::LaunchOn {
             generation,
             task,
             node,
         } => put_launch(out, *generation, task, *node),
-        Event::Deliver { packet } => {
-            out.extend_from_slice(b"deliver ")?;
-            put_number(out, *packet)
-        }
-        Event::ContainerStep { container, weather } => {
-            put_of(out, b"step ", container)?;
-            put_weather(out, *weather)
-        }
+        Event::Deliver { packet } => put_one(out, b"deliver ", *packet),
+        Event::ContainerStep { container, weather } => put_step(out, container, *weather),
         Event::Computed { container, .. } => put_of(out, b"compute ", container),
         Event::Die { container } => put_of(out, b"die ", container),
-        Event::NodeRestart { node } => {
-            out.extend_from_slice(b"restart ")?;
-            put_small(out, *node)
-        }
+        Event::NodeRestart { node } => put_one(out, b"restart ", u64::from(*node)),
         Event::Expire { generation, node } => {
             put_pair(out, b"expire ", *generation, u64::from(*node))
         }

@@ -1,6 +1,6 @@
 //! The names of events that a script's `calm` can stop before: a master's duties, a container's wishes, `launch` and `step`.
 ghost use Rattle.std.specs.Prelude.{◌≡◌, IfSome, IfNone};
-ghost use Rattle.mr_script.specs.Names.{name_text, group_of, OfMaster, OfTask, OfCommit};
+ghost use Rattle.mr_script.specs.Names.{name_text};
 
 /// What a calm can stop before: the duty of a master, the wish of a container, a launch, or any step of a container.
 #[derive(Clone, Copy, Debug, PartialEq, Eq)]
@@ -41,110 +41,91 @@ pub enum EventName {
     Step,
 }
 
+/// All names.
+const NAMES: [EventName; 32] = [
+    EventName::Marks,
+    EventName::Read,
+    EventName::Setup,
+    EventName::Recover,
+    EventName::Bar,
+    EventName::Append,
+    EventName::Flush,
+    EventName::Started,
+    EventName::Merge,
+    EventName::Cleanup,
+    EventName::Marker,
+    EventName::Success,
+    EventName::Fail,
+    EventName::Abort,
+    EventName::Compute,
+    EventName::Where,
+    EventName::Fetch,
+    EventName::Lost,
+    EventName::Mkdirs,
+    EventName::Create,
+    EventName::Write,
+    EventName::Close,
+    EventName::Needs,
+    EventName::Pending,
+    EventName::Poll,
+    EventName::Look,
+    EventName::Clear,
+    EventName::Rename,
+    EventName::Report,
+    EventName::Failed,
+    EventName::Launch,
+    EventName::Step,
+];
+
+/// The word of a name.
+fn word_of(name: EventName) -> &'static [u8]
+    ensures { result.now ≡ name_text name }
+{
+    match name {
+        EventName::Marks => b"marks",
+        EventName::Read => b"read",
+        EventName::Setup => b"setup",
+        EventName::Recover => b"recover",
+        EventName::Bar => b"bar",
+        EventName::Append => b"append",
+        EventName::Flush => b"flush",
+        EventName::Started => b"started",
+        EventName::Merge => b"merge",
+        EventName::Cleanup => b"cleanup",
+        EventName::Marker => b"marker",
+        EventName::Success => b"success",
+        EventName::Fail => b"fail",
+        EventName::Abort => b"abort",
+        EventName::Compute => b"compute",
+        EventName::Where => b"where",
+        EventName::Fetch => b"fetch",
+        EventName::Lost => b"lost",
+        EventName::Mkdirs => b"mkdirs",
+        EventName::Create => b"create",
+        EventName::Write => b"write",
+        EventName::Close => b"close",
+        EventName::Needs => b"needs",
+        EventName::Pending => b"pending",
+        EventName::Poll => b"poll",
+        EventName::Look => b"look",
+        EventName::Clear => b"clear",
+        EventName::Rename => b"rename",
+        EventName::Report => b"report",
+        EventName::Failed => b"failed",
+        EventName::Launch => b"launch",
+        EventName::Step => b"step",
+    }
+}
+
 /// The name that the word is.
 pub fn event_named(word: &[u8]) -> Option<EventName>
     ensures found { IfSome result (λ n. word.now ≡ name_text n) }
     ensures none { IfNone result ((n : EventName) → word.now ≡ name_text n → ⊥) }
 {
-    if let Some(name) = duty_named(word) {
-        return Some(name);
+    for name in &NAMES {
+        if word == word_of(*name) {
+            return Some(*name);
+        }
     }
-    if let Some(name) = wish_named(word) {
-        return Some(name);
-    }
-    commit_named(word)
-}
-
-/// The duty of a master that the word is.
-fn duty_named(word: &[u8]) -> Option<EventName>
-    ensures found { IfSome result (λ n. word.now ≡ name_text n) }
-    ensures none { IfNone result ((n : EventName) → group_of n ≡ OfMaster → word.now ≡ name_text n → ⊥) }
-{
-    if word == b"marks".as_slice() {
-        Some(EventName::Marks)
-    } else if word == b"read".as_slice() {
-        Some(EventName::Read)
-    } else if word == b"setup".as_slice() {
-        Some(EventName::Setup)
-    } else if word == b"recover".as_slice() {
-        Some(EventName::Recover)
-    } else if word == b"bar".as_slice() {
-        Some(EventName::Bar)
-    } else if word == b"append".as_slice() {
-        Some(EventName::Append)
-    } else if word == b"flush".as_slice() {
-        Some(EventName::Flush)
-    } else if word == b"started".as_slice() {
-        Some(EventName::Started)
-    } else if word == b"merge".as_slice() {
-        Some(EventName::Merge)
-    } else if word == b"cleanup".as_slice() {
-        Some(EventName::Cleanup)
-    } else if word == b"marker".as_slice() {
-        Some(EventName::Marker)
-    } else if word == b"success".as_slice() {
-        Some(EventName::Success)
-    } else if word == b"fail".as_slice() {
-        Some(EventName::Fail)
-    } else if word == b"abort".as_slice() {
-        Some(EventName::Abort)
-    } else {
-        None
-    }
-}
-
-/// The wish of a container that computes and writes that the word is.
-fn wish_named(word: &[u8]) -> Option<EventName>
-    ensures found { IfSome result (λ n. word.now ≡ name_text n) }
-    ensures none { IfNone result ((n : EventName) → group_of n ≡ OfTask → word.now ≡ name_text n → ⊥) }
-{
-    if word == b"compute".as_slice() {
-        Some(EventName::Compute)
-    } else if word == b"where".as_slice() {
-        Some(EventName::Where)
-    } else if word == b"fetch".as_slice() {
-        Some(EventName::Fetch)
-    } else if word == b"lost".as_slice() {
-        Some(EventName::Lost)
-    } else if word == b"mkdirs".as_slice() {
-        Some(EventName::Mkdirs)
-    } else if word == b"create".as_slice() {
-        Some(EventName::Create)
-    } else if word == b"write".as_slice() {
-        Some(EventName::Write)
-    } else if word == b"close".as_slice() {
-        Some(EventName::Close)
-    } else {
-        None
-    }
-}
-
-/// The wish of a container that commits and reports that the word is, or a launch, or any step.
-fn commit_named(word: &[u8]) -> Option<EventName>
-    ensures found { IfSome result (λ n. word.now ≡ name_text n) }
-    ensures none { IfNone result ((n : EventName) → group_of n ≡ OfCommit → word.now ≡ name_text n → ⊥) }
-{
-    if word == b"needs".as_slice() {
-        Some(EventName::Needs)
-    } else if word == b"pending".as_slice() {
-        Some(EventName::Pending)
-    } else if word == b"poll".as_slice() {
-        Some(EventName::Poll)
-    } else if word == b"look".as_slice() {
-        Some(EventName::Look)
-    } else if word == b"clear".as_slice() {
-        Some(EventName::Clear)
-    } else if word == b"rename".as_slice() {
-        Some(EventName::Rename)
-    } else if word == b"report".as_slice() {
-        Some(EventName::Report)
-    } else if word == b"failed".as_slice() {
-        Some(EventName::Failed)
-    } else if word == b"launch".as_slice() {
-        Some(EventName::Launch)
-    } else if word == b"step".as_slice() {
-        Some(EventName::Step)
-    } else {
-        None
-    }
+    None
 }

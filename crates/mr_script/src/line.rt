@@ -29,40 +29,55 @@ pub enum Verb {
     Expect,
 }
 
+/// All verbs.
+const VERBS: [Verb; 13] = [
+    Verb::Start,
+    Verb::Crash,
+    Verb::Duty,
+    Verb::Launch,
+    Verb::Deliver,
+    Verb::Step,
+    Verb::Compute,
+    Verb::Die,
+    Verb::Restart,
+    Verb::Expire,
+    Verb::Calm,
+    Verb::Drop,
+    Verb::Expect,
+];
+
+/// The word of a verb.
+fn word_of(verb: Verb) -> &'static [u8]
+    ensures { result.now ≡ text_of verb }
+{
+    match verb {
+        Verb::Start => b"start",
+        Verb::Crash => b"crash",
+        Verb::Duty => b"duty",
+        Verb::Launch => b"launch",
+        Verb::Deliver => b"deliver",
+        Verb::Step => b"step",
+        Verb::Compute => b"compute",
+        Verb::Die => b"die",
+        Verb::Restart => b"restart",
+        Verb::Expire => b"expire",
+        Verb::Calm => b"calm",
+        Verb::Drop => b"drop",
+        Verb::Expect => b"expect",
+    }
+}
+
 /// The verb that the word is.
 fn verb_named(word: &[u8]) -> Option<Verb>
     ensures some { IfSome result (λ v. word.now ≡ text_of v) }
     ensures none { IfNone result ((v : Verb) → word.now ≡ text_of v → ⊥) }
 {
-    if word == b"start".as_slice() {
-        Some(Verb::Start)
-    } else if word == b"crash".as_slice() {
-        Some(Verb::Crash)
-    } else if word == b"duty".as_slice() {
-        Some(Verb::Duty)
-    } else if word == b"launch".as_slice() {
-        Some(Verb::Launch)
-    } else if word == b"deliver".as_slice() {
-        Some(Verb::Deliver)
-    } else if word == b"step".as_slice() {
-        Some(Verb::Step)
-    } else if word == b"compute".as_slice() {
-        Some(Verb::Compute)
-    } else if word == b"die".as_slice() {
-        Some(Verb::Die)
-    } else if word == b"restart".as_slice() {
-        Some(Verb::Restart)
-    } else if word == b"expire".as_slice() {
-        Some(Verb::Expire)
-    } else if word == b"calm".as_slice() {
-        Some(Verb::Calm)
-    } else if word == b"drop".as_slice() {
-        Some(Verb::Drop)
-    } else if word == b"expect".as_slice() {
-        Some(Verb::Expect)
-    } else {
-        None
+    for verb in &VERBS {
+        if word == word_of(*verb) {
+            return Some(*verb);
+        }
     }
+    None
 }
 
 /// The command of a verb that tells a master, and no node.

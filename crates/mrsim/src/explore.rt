@@ -1,13 +1,16 @@
 //! The subcommand `explore`: every run of a job with few faults.
-use crate::words::{read_file, shows};
-use clap::{Arg, ArgAction, ArgMatches, Command, value_parser};
+use crate::table::Word;
+use clap::ArgMatches;
+use clap::builder::ValueParser;
 use mr_sim::{Asked, Form, is_goal};
 use std::alloc::{AllocError, Global};
 
-const EXPLORE: &str =
+/// What `explore` does, in a line.
+pub const EXPLORE: &str =
     "Makes every run of a job with at most N faults, and shows which ends come of them";
 
-const EXPLORE_HELP: &str = "\
+/// What the help of `explore` says behind its words.
+pub const EXPLORE_HELP: &str = "\
 Reads a job text (see `seq`) from the first line of standard input, and from the rest a script (see `play`), which is played
 first; where it starts no master, `start 1 0` comes next. From there on the run goes on as `calm` of the newest master does,
 and one of these is one fault, at each place, before each event and behind the last:
@@ -50,37 +53,42 @@ const PROGRESS_WORD: &str = "progress";
 
 const JSON_WORD: &str = "json";
 
-/// The command line of `explore`.
-pub fn explore_line<'a>(alloc: Global) -> Result<Command<'a>, AllocError> {
-    Command::new(alloc, "explore")
-        .about(EXPLORE)
-        .after_help(EXPLORE_HELP)
-        .arg(
-            Arg::new(alloc, FAULTS_WORD)
-                .long(FAULTS_WORD)
-                .value_name("N")
-                .action(ArgAction::Set)
-                .value_parser(value_parser!(u32).range(0..=4))
-                .help(FAULTS),
-        )?
-        .arg(
-            Arg::new(alloc, FIND_WORD)
-                .long(FIND_WORD)
-                .value_name("GOAL")
-                .action(ArgAction::Set)
-                .help(FIND),
-        )?
-        .arg(shows(alloc, JSON_WORD, JSON_SHOWN))?
-        .arg(
-            Arg::new(alloc, MOST_WORD)
-                .long(MOST_WORD)
-                .value_name("RUNS")
-                .action(ArgAction::Set)
-                .value_parser(value_parser!(u64))
-                .help(MOST),
-        )?
-        .arg(shows(alloc, PROGRESS_WORD, PROGRESS))?
-        .arg(read_file(alloc))
+const WORDS: &[Word] = &[
+    Word {
+        name: FAULTS_WORD,
+        help: FAULTS,
+        value_names: &["N"],
+        bounds: ValueParser::Signed(0, 4),
+        ..Word::TEXT
+    },
+    Word {
+        name: FIND_WORD,
+        help: FIND,
+        value_names: &["GOAL"],
+        ..Word::TEXT
+    },
+    Word {
+        name: JSON_WORD,
+        help: JSON_SHOWN,
+        ..Word::FLAG
+    },
+    Word {
+        name: MOST_WORD,
+        help: MOST,
+        value_names: &["RUNS"],
+        bounds: ValueParser::Unsigned(0, u64::MAX),
+        ..Word::TEXT
+    },
+    Word {
+        name: PROGRESS_WORD,
+        help: PROGRESS,
+        ..Word::FLAG
+    },
+];
+
+/// The words of `explore`.
+pub fn explore_words() -> &'static [Word] {
+    WORDS
 }
 
 /// What `explore` is asked for.

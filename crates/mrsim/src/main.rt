@@ -6,6 +6,7 @@ ghost use Rattle.std.specs.Process.{exit_status};
 ghost use Rattle.mr_sim.specs.Fault.{exit_status_of};
 
 mod explore;
+mod table;
 mod threads;
 mod words;
 

@@ -1,16 +1,19 @@
 //! The words of `threads`.
+use crate::table::Word;
 use crate::words::{
-    DRAWN, HISTORY_SHOWN, JSON_SHOWN, TRACE_SHOWN, first_drawn, most_drawn, part_of, read_file,
-    shown_of, shows,
+    DRAWN, FIRST_DRAWN, FROM_BOUNDS, FROM_WORD, HISTORY_SHOWN, JSON_SHOWN, MOST_DRAWN, ROWS_BOUNDS,
+    ROWS_WORD, TRACE_SHOWN, part_of, shown_of,
 };
-use clap::{Arg, ArgAction, ArgMatches, Command, value_parser};
+use clap::ArgMatches;
+use clap::builder::ValueParser;
 use mr_sim::Seen;
-use std::alloc::{AllocError, Global};
 
-const THREADS: &str =
+/// What `threads` does, in a line.
+pub const THREADS: &str =
     "Runs a job by threads, with the faults that it plans, and prints its part files";
 
-const THREADS_HELP: &str = "\
+/// What the help of `threads` says behind its words.
+pub const THREADS_HELP: &str = "\
 Reads a job text (see `seq`) from standard input. There is a thread for each node, one for each master that the faults can
 start, and one that starts masters and makes the faults. The faults are made in the order of their list, each as soon as there
 are E events and those before it were made or dropped, before any other event. A fault that comes to nothing is dropped, and so
@@ -50,44 +53,71 @@ const DEFAULT_TURNS_TEXT: &str = "100000";
 
 const TURNS_WORD: &str = "turns";
 
-/// The command line of `threads`.
-pub fn threads_line<'a>(alloc: Global) -> Result<Command<'a>, AllocError> {
-    Command::new(alloc, "threads")
-        .about(THREADS)
-        .after_help(THREADS_HELP)
-        .arg(
-            Arg::new(alloc, TURNS_WORD)
-                .long(TURNS_WORD)
-                .value_name("N")
-                .action(ArgAction::Set)
-                .value_parser(value_parser!(u64).range(1..=1_000_000_000))
-                .default_value(DEFAULT_TURNS_TEXT)
-                .help(TURNS),
-        )?
-        .arg(shows(alloc, "hold", HOLD))?
-        .arg(
-            shows(alloc, "diagram", DRAWN)
-                .conflicts_with("history")?
-                .conflicts_with("trace")?
-                .conflicts_with("script")?,
-        )?
-        .arg(first_drawn(alloc)?.conflicts_with("script")?)?
-        .arg(most_drawn(alloc)?.conflicts_with("script")?)?
-        .arg(
-            shows(alloc, "script", SCRIPT_SHOWN)
-                .conflicts_with("history")?
-                .conflicts_with("trace")?,
-        )?
-        .arg(shows(alloc, "history", HISTORY_SHOWN))?
-        .arg(
-            shows(alloc, "json", JSON_SHOWN)
-                .conflicts_with("diagram")?
-                .conflicts_with("history")?
-                .conflicts_with("script")?
-                .conflicts_with("trace")?,
-        )?
-        .arg(shows(alloc, "trace", TRACE_SHOWN))?
-        .arg(read_file(alloc))
+const WORDS: &[Word] = &[
+    Word {
+        name: TURNS_WORD,
+        help: TURNS,
+        value_names: &["N"],
+        bounds: ValueParser::Unsigned(1, 1_000_000_000),
+        defaults: &[DEFAULT_TURNS_TEXT],
+        ..Word::TEXT
+    },
+    Word {
+        name: "hold",
+        help: HOLD,
+        ..Word::FLAG
+    },
+    Word {
+        name: "diagram",
+        help: DRAWN,
+        rules_out: &["history", "trace", "script"],
+        ..Word::FLAG
+    },
+    Word {
+        name: FROM_WORD,
+        help: FIRST_DRAWN,
+        value_names: &["N"],
+        bounds: FROM_BOUNDS,
+        rules_out: &["history", "trace", "script"],
+        needs: &["diagram"],
+        ..Word::TEXT
+    },
+    Word {
+        name: ROWS_WORD,
+        help: MOST_DRAWN,
+        value_names: &["N"],
+        bounds: ROWS_BOUNDS,
+        rules_out: &["history", "trace", "script"],
+        needs: &["diagram"],
+        ..Word::TEXT
+    },
+    Word {
+        name: "script",
+        help: SCRIPT_SHOWN,
+        rules_out: &["history", "trace"],
+        ..Word::FLAG
+    },
+    Word {
+        name: "history",
+        help: HISTORY_SHOWN,
+        ..Word::FLAG
+    },
+    Word {
+        name: "json",
+        help: JSON_SHOWN,
+        rules_out: &["diagram", "history", "script", "trace"],
+        ..Word::FLAG
+    },
+    Word {
+        name: "trace",
+        help: TRACE_SHOWN,
+        ..Word::FLAG
+    },
+];
+
+/// The words of `threads`.
+pub fn threads_words() -> &'static [Word] {
+    WORDS
 }
 
 /// What `threads` is asked for.

@@ -2,10 +2,12 @@
 ghost use Rattle.std.specs.Prelude.{◌≡◌, ◌≢◌};
 ghost use Rattle.clap.specs.Words.{kind_of};
 
-use crate::explore::{explore_line, explore_of};
-use crate::threads::{threads_line, threads_of};
+use crate::explore::{EXPLORE, EXPLORE_HELP, explore_of, explore_words};
+use crate::table::{FILE, Word, args_of};
+use crate::threads::{THREADS, THREADS_HELP, threads_of, threads_words};
+use clap::builder::ValueParser;
 use clap::error::ErrorKind;
-use clap::{Arg, ArgAction, ArgMatches, Command, Error, value_parser};
+use clap::{ArgMatches, Command, Error};
 use mr_sim::{Ending, Part, Shown, SimFault};
 use std::alloc::{AllocError, Global};
 
@@ -14,10 +16,6 @@ const ABOUT: &str =
 
 // What stands behind the program's name where its version is asked for. It is our own.
 const VERSION: &str = "0.1.0, built of proved crates";
-
-const FILE: &str = "FILE";
-
-const FILE_HELP: &str = "The file to read in place of standard input; - is standard input";
 
 const STATUSES: &str = "\
 Each subcommand reads standard input, or FILE, to its end, and then writes standard output.
@@ -170,51 +168,173 @@ const HISTORY_JSON: &str = "Prints lines of JSON in place of the rest";
 /// What `--trace` shows.
 pub const TRACE_SHOWN: &str = "Shows each event, with the packets that it added, before the rest";
 
-const FIRST_DRAWN: &str =
+/// What `--from` is.
+pub const FIRST_DRAWN: &str =
     "With --diagram: the first event that is drawn, by its place in the trace (0 if it is not told)";
 
-const MOST_DRAWN: &str =
+/// What `--rows` is.
+pub const MOST_DRAWN: &str =
     "With --diagram: how many events are drawn, 1 to 10000 (400 if it is not told)";
 
-const FROM_WORD: &str = "from";
+/// From which event on a picture is drawn.
+pub const FROM_WORD: &str = "from";
 
-const ROWS_WORD: &str = "rows";
+/// How many events a picture draws.
+pub const ROWS_WORD: &str = "rows";
 
 const DIAGRAM_WORD: &str = "diagram";
 
-/// A word that asks for more.
-pub fn shows<'a>(alloc: Global, name: &'a str, help: &'a str) -> Arg<'a> {
-    Arg::new(alloc, name)
-        .long(name)
-        .action(ArgAction::SetTrue)
-        .help(help)
+/// Which numbers `--from` takes: any, since a run that has no such event is drawn with a note that says so.
+pub const FROM_BOUNDS: ValueParser<'static> = ValueParser::Unsigned(0, u64::MAX);
+
+/// Which numbers `--rows` takes.
+pub const ROWS_BOUNDS: ValueParser<'static> = ValueParser::Unsigned(1, 10_000);
+
+// `--from` and `--rows` stand beside `--diagram` alone. `clap` does not ask for that where `--diagram` is itself ruled out, so what rules
+// it out is named at them too.
+const PLAY_WORDS: &[Word] = &[
+    Word {
+        name: DIAGRAM_WORD,
+        help: DRAWN,
+        rules_out: &["history", "trace"],
+        ..Word::FLAG
+    },
+    Word {
+        name: FROM_WORD,
+        help: FIRST_DRAWN,
+        value_names: &["N"],
+        bounds: FROM_BOUNDS,
+        rules_out: &["history", "trace"],
+        needs: &[DIAGRAM_WORD],
+        ..Word::TEXT
+    },
+    Word {
+        name: ROWS_WORD,
+        help: MOST_DRAWN,
+        value_names: &["N"],
+        bounds: ROWS_BOUNDS,
+        rules_out: &["history", "trace"],
+        needs: &[DIAGRAM_WORD],
+        ..Word::TEXT
+    },
+    Word {
+        name: "history",
+        help: HISTORY_SHOWN,
+        ..Word::FLAG
+    },
+    Word {
+        name: "json",
+        help: JSON_SHOWN,
+        rules_out: &["diagram", "history", "trace"],
+        ..Word::FLAG
+    },
+    Word {
+        name: "trace",
+        help: TRACE_SHOWN,
+        ..Word::FLAG
+    },
+];
+
+const HISTORY_WORDS: &[Word] = &[Word {
+    name: "json",
+    help: HISTORY_JSON,
+    ..Word::FLAG
+}];
+
+// The words of `play`.
+fn play_words() -> &'static [Word] {
+    PLAY_WORDS
 }
 
-/// From which event on a picture is drawn: any number, since a run that has no such event is drawn with a note that says so. It stands beside
-/// `--diagram` alone. `clap` does not ask for that where `--diagram` is itself ruled out, so what rules it out is named here too.
-pub fn first_drawn<'a>(alloc: Global) -> Result<Arg<'a>, AllocError> {
-    Arg::new(alloc, FROM_WORD)
-        .long(FROM_WORD)
-        .value_name("N")
-        .action(ArgAction::Set)
-        .value_parser(value_parser!(u64))
-        .help(FIRST_DRAWN)
-        .conflicts_with("history")?
-        .conflicts_with("trace")?
-        .requires_arg(DIAGRAM_WORD)
+// The words of `history`.
+fn history_words() -> &'static [Word] {
+    HISTORY_WORDS
 }
 
-/// How many events a picture draws. It stands where `--from` may.
-pub fn most_drawn<'a>(alloc: Global) -> Result<Arg<'a>, AllocError> {
-    Arg::new(alloc, ROWS_WORD)
-        .long(ROWS_WORD)
-        .value_name("N")
-        .action(ArgAction::Set)
-        .value_parser(value_parser!(u64).range(1..=10_000))
-        .help(MOST_DRAWN)
-        .conflicts_with("history")?
-        .conflicts_with("trace")?
-        .requires_arg(DIAGRAM_WORD)
+// A subcommand of the program.
+#[derive(Clone, Copy)]
+enum Subcommand {
+    Committer,
+    Play,
+    Explore,
+    Threads,
+    History,
+    Seq,
+}
+
+impl Subcommand {
+    // All, in the order of help.
+    const ALL: &'static [Subcommand] = &[
+        Subcommand::Committer,
+        Subcommand::Play,
+        Subcommand::Explore,
+        Subcommand::Threads,
+        Subcommand::History,
+        Subcommand::Seq,
+    ];
+
+    fn name<'a>(self) -> &'a str {
+        match self {
+            Subcommand::Committer => "committer",
+            Subcommand::Play => "play",
+            Subcommand::Explore => "explore",
+            Subcommand::Threads => "threads",
+            Subcommand::History => "history",
+            Subcommand::Seq => "seq",
+        }
+    }
+
+    // What it does, in a line.
+    fn about<'a>(self) -> &'a str {
+        match self {
+            Subcommand::Committer => COMMITTER,
+            Subcommand::Play => PLAY,
+            Subcommand::Explore => EXPLORE,
+            Subcommand::Threads => THREADS,
+            Subcommand::History => HISTORY,
+            Subcommand::Seq => SEQ,
+        }
+    }
+
+    // What its help says behind its words.
+    fn help<'a>(self) -> &'a str {
+        match self {
+            Subcommand::Committer => COMMITTER_HELP,
+            Subcommand::Play => PLAY_HELP,
+            Subcommand::Explore => EXPLORE_HELP,
+            Subcommand::Threads => THREADS_HELP,
+            Subcommand::History => HISTORY_HELP,
+            Subcommand::Seq => SEQ_HELP,
+        }
+    }
+
+    fn words(self) -> &'static [Word] {
+        match self {
+            Subcommand::Committer | Subcommand::Seq => &[],
+            Subcommand::Play => play_words(),
+            Subcommand::Explore => explore_words(),
+            Subcommand::Threads => threads_words(),
+            Subcommand::History => history_words(),
+        }
+    }
+
+    // Its command line.
+    fn to_command<'a>(self, alloc: Global) -> Result<Command<'a>, AllocError> {
+        let args = args_of(alloc, self.words())?;
+        Command::new(alloc, self.name())
+            .about(self.about())
+            .after_help(self.help())
+            .args(args)
+    }
+}
+
+// The command lines of all subcommands.
+fn subcommands<'a>(alloc: Global) -> Result<Vec<Command<'a>>, AllocError> {
+    let mut commands = Vec::new(alloc);
+    for subcommand in Subcommand::ALL {
+        commands.push(subcommand.to_command(alloc)?)?;
+    }
+    Ok(commands)
 }
 
 /// The part of a run that is to be drawn.
@@ -225,64 +345,15 @@ pub fn part_of(words: &ArgMatches<'_>) -> Part {
     }
 }
 
-/// The file to be read, which may be left out.
-pub fn read_file<'a>(alloc: Global) -> Arg<'a> {
-    Arg::new(alloc, FILE).action(ArgAction::Set).help(FILE_HELP)
-}
-
-// The command line of `play`.
-fn play_line<'a>(alloc: Global) -> Result<Command<'a>, AllocError> {
-    Command::new(alloc, "play")
-        .about(PLAY)
-        .after_help(PLAY_HELP)
-        .arg(
-            shows(alloc, DIAGRAM_WORD, DRAWN)
-                .conflicts_with("history")?
-                .conflicts_with("trace")?,
-        )?
-        .arg(first_drawn(alloc)?)?
-        .arg(most_drawn(alloc)?)?
-        .arg(shows(alloc, "history", HISTORY_SHOWN))?
-        .arg(
-            shows(alloc, "json", JSON_SHOWN)
-                .conflicts_with("diagram")?
-                .conflicts_with("history")?
-                .conflicts_with("trace")?,
-        )?
-        .arg(shows(alloc, "trace", TRACE_SHOWN))?
-        .arg(read_file(alloc))
-}
-
-// The command line of `history`.
-fn history_line<'a>(alloc: Global) -> Result<Command<'a>, AllocError> {
-    Command::new(alloc, "history")
-        .about(HISTORY)
-        .after_help(HISTORY_HELP)
-        .arg(shows(alloc, "json", HISTORY_JSON))?
-        .arg(read_file(alloc))
-}
-
 /// The program's command line.
 pub fn command_line<'a>(alloc: Global) -> Result<Command<'a>, AllocError> {
-    let committer = Command::new(alloc, "committer")
-        .about(COMMITTER)
-        .after_help(COMMITTER_HELP)
-        .arg(read_file(alloc))?;
-    let seq = Command::new(alloc, "seq")
-        .about(SEQ)
-        .after_help(SEQ_HELP)
-        .arg(read_file(alloc))?;
+    let subcommands = subcommands(alloc)?;
     Command::new(alloc, "mrsim")
         .version(VERSION)
         .about(ABOUT)
         .after_help(STATUSES)
         .subcommand_required(true)
-        .subcommand(committer)?
-        .subcommand(play_line(alloc)?)?
-        .subcommand(explore_line(alloc)?)?
-        .subcommand(threads_line(alloc)?)?
-        .subcommand(history_line(alloc)?)?
-        .subcommand(seq)
+        .subcommands(subcommands)
 }
 
 /// The subcommand that the words name. Words without one are refused before.

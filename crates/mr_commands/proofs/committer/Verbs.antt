@@ -1,5 +1,7 @@
 -- The verbs, and the two parts of a command's line.
-use Rattle.std.proofs.Common.{◌≡◌, ℕ, List, length, cond, eqb, slice_index, IfNone, Some, None, Option, refl, sym, ap, ◌∙◌}
+use Rattle.std.specs.List.{slice_index_or}
+use Rattle.std.proofs.Math.Nat.{eq-or-lt_of_le}
+use Rattle.std.proofs.Common.{inl, inr, ◌≡◌, ◌<◌, ◌≤◌, ◌+◌, ◌∷◌, [], rules, arith, ℕ, List, length, cond, eqb, slice_index, IfNone, Some, None, Option, refl, sym, ap, ◌∙◌}
 use Rattle.mr_commands.specs.declared.committer.command.Verb.{Verb}
 use Rattle.mr_commands.specs.declared.committer.command.Verb.TheVariants as verb
 use Rattle.mr_script.specs.Lines.{before, after}
@@ -82,3 +84,62 @@ bad_from_rest (Some x) line v rest w r none = tt
 -- a line whose first word is no verb
 pub bad_from_word : (line word : List ℕ) → before 32 line ≡ word → ((v : Verb) → word ≡ verb_text v → ⊥) → IsBad line
 bad_from_word line word w none = λ o h. none (verb_of o) (sym w ∙ ap (before 32) h.1 ∙ first-line_of o)
+
+-- the place of a verb among all verbs
+abbrev pub place_of : Verb → ℕ
+place_of verb.As = 0
+place_of verb.Raise = 1
+place_of verb.Check = 2
+place_of verb.Setup = 3
+place_of verb.Write = 4
+place_of verb.Needs = 5
+place_of verb.Commit = 6
+place_of verb.Abort = 7
+place_of verb.Recover = 8
+place_of verb.CommitJob = 9
+place_of verb.AbortJob = 10
+place_of verb.Bar = 11
+place_of verb.By = 12
+
+abbrev pub verbs : List Verb
+verbs = verb.As ∷ verb.Raise ∷ verb.Check ∷ verb.Setup ∷ verb.Write ∷ verb.Needs ∷ verb.Commit ∷ verb.Abort ∷ verb.Recover ∷ verb.CommitJob ∷ verb.AbortJob ∷ verb.Bar ∷ verb.By ∷ []
+
+pub at_place : (v d : Verb) → v ≡ slice_index_or verbs (place_of v) d
+at_place verb.As d = refl
+at_place verb.Raise d = refl
+at_place verb.Check d = refl
+at_place verb.Setup d = refl
+at_place verb.Write d = refl
+at_place verb.Needs d = refl
+at_place verb.Commit d = refl
+at_place verb.Abort d = refl
+at_place verb.Recover d = refl
+at_place verb.CommitJob d = refl
+at_place verb.AbortJob d = refl
+at_place verb.Bar d = refl
+at_place verb.By d = refl
+
+pub placed : (v : Verb) → place_of v < 13
+placed verb.As = search rules
+placed verb.Raise = search rules
+placed verb.Check = search rules
+placed verb.Setup = search rules
+placed verb.Write = search rules
+placed verb.Needs = search rules
+placed verb.Commit = search rules
+placed verb.Abort = search rules
+placed verb.Recover = search rules
+placed verb.CommitJob = search rules
+placed verb.AbortJob = search rules
+placed verb.Bar = search rules
+placed verb.By = search rules
+
+-- a word that is none of the first verbs, nor the next one, is none of these
+pub other_place : (i : ℕ) (word next : List ℕ) (d : Verb) → ((v : Verb) → place_of v < i → word ≡ verb_text v → ⊥) → next ≡ verb_text (slice_index_or verbs i d) → (word ≡ next → ⊥) →
+    (v : Verb) → place_of v < i + 1 → word ≡ verb_text v → ⊥
+other_place i word next d earlier is differs v below e =
+    let most : place_of v ≤ i = omega arith in
+    elim (eq-or-lt_of_le most) [
+      | inl same ↦ differs (e ∙ ap verb_text (at_place v d) ∙ ap (λ k. verb_text (slice_index_or verbs k d)) same ∙ sym is)
+      | inr less ↦ earlier v less e
+    ]

@@ -96,15 +96,6 @@ too_many f n vs h = by (each f (items_view vs)) refl
 pub refused_many : {A : Type 0} (f : Data → Option A) (n : ℕ) (vs : List Value) (o : Option Items) → Some (items_view vs) ≡ o → n < length vs → option_and_then (at_most n) (option_and_then (each f) o) ≡ None
 refused_many f n vs o e h = rw (sym e) (too_many f n vs h)
 
--- ---- splits
-
-pub splits_are_short : (splits : List (Vec ℕ Global)) → All (λ split. length split.items ≤ 2 ^ 24) splits → All (λ split. length split ≤ 2 ^ 24) (map (λ split. split.items) splits)
-splits_are_short splits h = All-map (λ split. length split ≤ 2 ^ 24) (λ (split : Vec ℕ Global). split.items) splits h
-
-pub vectors_are_short : (splits : List (Vec ℕ Global)) → All (λ split. length split ≤ 2 ^ 24) (map (λ split. split.items) splits) → All (λ split. length split.items ≤ 2 ^ 24) splits
-vectors_are_short [] h = All-nil (λ (split : Vec ℕ Global). length split.items ≤ 2 ^ 24)
-vectors_are_short (x ∷ xs) h = All-cons (λ (split : Vec ℕ Global). length split.items ≤ 2 ^ 24) x xs (h 0 x.items (omega arith)) (vectors_are_short xs (λ k d lt. h (suc k) d (omega arith)))
-
 -- ---- bytes
 
 -- bytes that are no JSON text say no job

@@ -10,7 +10,7 @@ use Rattle.mr_commands.specs.seq.PartFiles.{part_files_text}
 use Rattle.mr_commands.specs.seq.Text.{ArePartFiles, output_of}
 
 -- the files that a sequential execution of the job's kind over its splits gives are its part files
-pub part_files_are : (s : Submission) (kind : JobKind) (splits : List (Vec ℕ Global)) (r : Result (Vec (Vec ℕ Global) Global) UserFault) → s.job ≡ kind → map (λ split. split.items) splits ≡ s.splits → IfOk r (λ files. length files.items ≡ s.reduces) → IfOk r (λ files. (n : ℕ) → n < s.reduces → option_map (λ file. file.items) (slice_get files.items n) ≡ output_of kind s.reduces n (map (λ split. split.items) splits)) → IfOk r (λ files. ArePartFiles s (map (λ file. file.items) files.items))
+pub part_files_are : (s : Submission) (kind : JobKind) (splits : List (List ℕ)) (r : Result (Vec (Vec ℕ Global) Global) UserFault) → s.job ≡ kind → splits ≡ s.splits → IfOk r (λ files. length files.items ≡ s.reduces) → IfOk r (λ files. (n : ℕ) → n < s.reduces → option_map (λ file. file.items) (slice_get files.items n) ≡ output_of kind s.reduces n splits) → IfOk r (λ files. ArePartFiles s (map (λ file. file.items) files.items))
 part_files_are s kind splits (Ok files) is e count outputs = record {
   count = length-map files.items (λ (file : Vec ℕ Global). file.items) ∙ count;
   outputs = λ n lt. slice_get-map (λ (file : Vec ℕ Global). file.items) files.items n ∙ outputs n lt ∙ ap (output_of kind s.reduces n) e ∙ ap (λ k. output_of k s.reduces n s.splits) (sym is);

@@ -63,40 +63,55 @@ pub enum Verb {
     By,
 }
 
+/// All verbs.
+const VERBS: [Verb; 13] = [
+    Verb::As,
+    Verb::Raise,
+    Verb::Check,
+    Verb::Setup,
+    Verb::Write,
+    Verb::Needs,
+    Verb::Commit,
+    Verb::Abort,
+    Verb::Recover,
+    Verb::CommitJob,
+    Verb::AbortJob,
+    Verb::Bar,
+    Verb::By,
+];
+
+/// The word of a verb.
+fn word_of(verb: Verb) -> &'static [u8]
+    ensures { result.now ≡ verb_text verb }
+{
+    match verb {
+        Verb::As => b"as",
+        Verb::Raise => b"raise",
+        Verb::Check => b"check",
+        Verb::Setup => b"setup",
+        Verb::Write => b"write",
+        Verb::Needs => b"needs",
+        Verb::Commit => b"commit",
+        Verb::Abort => b"abort",
+        Verb::Recover => b"recover",
+        Verb::CommitJob => b"commitjob",
+        Verb::AbortJob => b"abortjob",
+        Verb::Bar => b"bar",
+        Verb::By => b"by",
+    }
+}
+
 /// The verb that the word is.
 fn verb_named(word: &[u8]) -> Option<Verb>
     ensures some { IfSome result (λ v. word.now ≡ verb_text v) }
     ensures none { IfNone result ((v : Verb) → word.now ≡ verb_text v → ⊥) }
 {
-    if word == b"as".as_slice() {
-        Some(Verb::As)
-    } else if word == b"raise".as_slice() {
-        Some(Verb::Raise)
-    } else if word == b"check".as_slice() {
-        Some(Verb::Check)
-    } else if word == b"setup".as_slice() {
-        Some(Verb::Setup)
-    } else if word == b"write".as_slice() {
-        Some(Verb::Write)
-    } else if word == b"needs".as_slice() {
-        Some(Verb::Needs)
-    } else if word == b"commit".as_slice() {
-        Some(Verb::Commit)
-    } else if word == b"abort".as_slice() {
-        Some(Verb::Abort)
-    } else if word == b"recover".as_slice() {
-        Some(Verb::Recover)
-    } else if word == b"commitjob".as_slice() {
-        Some(Verb::CommitJob)
-    } else if word == b"abortjob".as_slice() {
-        Some(Verb::AbortJob)
-    } else if word == b"bar".as_slice() {
-        Some(Verb::Bar)
-    } else if word == b"by".as_slice() {
-        Some(Verb::By)
-    } else {
-        None
+    for verb in &VERBS {
+        if word == word_of(*verb) {
+            return Some(*verb);
+        }
     }
+    None
 }
 
 /// The task that the word names.

@@ -8,7 +8,7 @@ ghost use Rattle.mr_commands.specs.job.Submission.{IsOfNodes, IsPlanned, IsWithi
 use crate::fault::{JobTextFault, SimFault};
 use crate::job::submission::{JobKind, Submission};
 use mr_event::{PlanAct, PlanFault, PlanFaults};
-use mr_ids::{JobId, MAX_APP_ATTEMPTS};
+use mr_ids::{Bytes, JobId, MAX_APP_ATTEMPTS};
 use mr_user::{MAX_REDUCES, MAX_SPLIT_LEN, MAX_SPLITS, Splits};
 use serde_json::Value;
 use std::alloc::Global;
@@ -121,7 +121,9 @@ fn each_split(alloc: Global, values: &[Value]) -> Result<Splits, SimFault>
         let Some(text) = split_of(value) else {
             return Err(SimFault::Job(JobTextFault::Splits));
         };
-        splits.push(Vec::from_slice(alloc, text.as_bytes())?)?;
+        let mut split = Bytes::from_slice(alloc, text.as_bytes())?;
+        split.share();
+        splits.push(split)?;
     }
     Ok(Splits::from_vec(splits))
 }

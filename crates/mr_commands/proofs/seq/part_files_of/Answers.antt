@@ -1,17 +1,16 @@
 use Rattle.mr_commands.specs.declared.job.submission.JobKind.TheVariants.{WordCount, MaxByKey, LineIndex}
 use Rattle.mr_commands.specs.seq.Text.{output_of}
-use Rattle.mr_commands.proofs.job.Texts.{vectors_are_short}
 use Rattle.mr_commands.proofs.seq.PartFiles.{part_files_are}
 use Rattle.mr_commands.proofs.seq.part_files_of.Goals as goal
 
 pub sequential-requires-clause-short : goal.sequential-requires-clause-short
-sequential-requires-clause-short c = vectors_are_short c.as_slice-splits.result.now (rw c.as_slice-splits.ensures c.requires.short_splits)
+sequential-requires-clause-short c = rw c.as_slice-splits.ensures c.requires.short_splits
 
 pub sequential-requires-in-MaxByKey-clause-short : goal.sequential-requires-in-MaxByKey-clause-short
-sequential-requires-in-MaxByKey-clause-short c = vectors_are_short c.as_slice-splits.result.now (rw c.as_slice-splits.ensures c.requires.short_splits)
+sequential-requires-in-MaxByKey-clause-short c = rw c.as_slice-splits.ensures c.requires.short_splits
 
 pub sequential-requires-in-LineIndex-clause-short : goal.sequential-requires-in-LineIndex-clause-short
-sequential-requires-in-LineIndex-clause-short c = vectors_are_short c.as_slice-splits.result.now (rw c.as_slice-splits.ensures c.requires.short_splits)
+sequential-requires-in-LineIndex-clause-short c = rw c.as_slice-splits.ensures c.requires.short_splits
 
 pub returns-in-WordCount-clause-files : goal.returns-in-WordCount-clause-files
 unfolding output_of

@@ -1,4 +1,4 @@
-use Rattle.std.proofs.Common.{◌≡◌, ◌≤◌, ◌^◌, All, drop, length, map}
+use Rattle.std.proofs.Common.{◌≡◌, ◌≤◌, ◌^◌, All, drop, length}
 use Rattle.serde_json.specs.View.{items_view}
 use Rattle.mr_commands.specs.job.Text.{each, split_of}
 use Rattle.mr_commands.proofs.job.Texts.{with_front}
@@ -6,7 +6,7 @@ use Rattle.mr_commands.proofs.job.text.each_split.Given as goal
 
 abbrev pub invariant-loop-value : goal.invariant-loop-value
 invariant-loop-value l = record {
-  front : with_front (map (λ split. split.items) l.splits.items) (each split_of (items_view (drop l.value-index l.values))) ≡ each split_of (items_view l.values);
+  front : with_front l.splits.items (each split_of (items_view (drop l.value-index l.values))) ≡ each split_of (items_view l.values);
   count : length l.splits.items ≡ l.value-index;
-  short : All (λ split. length split.items ≤ 2 ^ 24) l.splits.items;
+  short : All (λ split. length split ≤ 2 ^ 24) l.splits.items;
 }
