@@ -46,11 +46,16 @@ fn files_text(alloc: Global, files: &[VisibleFile]) -> Result<Vec<u8>, AllocErro
     Ok(text)
 }
 
-// For how many bytes room is made at once for the text of files: those of the files. Their heads are few.
+// More bytes than the line before a file has, whose name is that of a reduce's part.
+const HEAD_LEN: usize = 64;
+
+// For how many bytes room is made at once for the text of files.
 fn room_for(files: &[VisibleFile]) -> usize {
     let mut room = 0usize;
     for file in files {
-        room = room.saturating_add(file.bytes.len());
+        room = room
+            .saturating_add(HEAD_LEN)
+            .saturating_add(file.bytes.len());
     }
     room
 }
