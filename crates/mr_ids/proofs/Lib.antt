@@ -1,3 +1,4 @@
+pub mod Equal
 pub mod Fields
 pub mod Generations
 pub mod Numerals

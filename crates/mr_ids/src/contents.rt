@@ -5,7 +5,7 @@ ghost use Rattle.std.specs.Cmp.Rules.{comparing};
 ghost use Rattle.std.proofs.Common.{rules};
 ghost use Rattle.mr_ids.specs.Contents.{contents_of};
 
-use crate::share::Share;
+use crate::share::{Share, are_equal};
 use std::alloc::{AllocError, AllocFailed, Global};
 use std::marker::Model;
 use std::{fmt, mem};
@@ -176,6 +176,17 @@ impl Bytes {
     {
         self.part(0, self.len())
     }
+
+    /// Copies of all these, in their order, each shared where its bytes are. It may allocate, and refuses nothing else.
+    pub fn copies(alloc: Global, all: &[Bytes]) -> Result<Vec<Bytes>, AllocError>
+        ensures { IfOk result (λ copies. copies.items ≡ all.now) }
+    {
+        let mut copies = Vec::with_capacity(alloc, all.len())?;
+        for bytes in all {
+            copies.push(bytes.copy()?)?;
+        }
+        Ok(copies)
+    }
 }
 
 // The same bytes, shared where there is memory for the count of their holders.
@@ -216,7 +227,7 @@ impl PartialEq for Bytes {
     ghost laws = { Prim.search (comparing, rules) };
 
     fn eq(&self, other: &Bytes) -> bool {
-        self.as_slice() == other.as_slice()
+        are_equal(self.as_slice(), other.as_slice())
     }
 }
 

@@ -25,8 +25,8 @@
 //!   `attempt_200707121733_0003_m_000005_0`, a generation's decimal). Proved: `write` appends exactly it, and where
 //!   memory is refused appends nothing. `{}` prints exactly it. `parse` and `text.parse()` answer v exactly where the
 //!   text is v's text, and else the first fault from the left. That fault is a function of the fields between the bars.
-//!   Memory may be taken by each `write`, and by `from_slice`, `share`, `part`, `extend`, `append`, `copy`
-//!   and `clone` of `Bytes`. No other call of the crate takes any.
+//!   Memory may be taken by each `write`, and by `from_slice`, `share`, `part`, `extend`, `append`, `copy`,
+//!   `copies` and `clone` of `Bytes`. No other call of the crate takes any.
 //! - Proved: `generation` is number / 1000 + 1 and `first_attempt_number` of generation k is 1000 * (k - 1), and the
 //!   two are inverse (`numbers_tell_generations`). `is_map`, `is_reduce`, `new`, `task` and `number` are what they say.
 //!   `==`, the order and the hash are those of the parts (derived).
@@ -39,9 +39,9 @@
 //!   - the ranges of each identifier's numbers (`ranges`).
 //! - **`Bytes`** is the bytes that it was made of, seen as a list: `new`, `from_vec`, `from_slice`, `as_slice`, `len`,
 //!   `is_empty` are what they say. `extend` and `append` add at the end or change nothing, `copy` and `clone` give equal
-//!   bytes, `part` those from one place to another, and `==` is that of the lists. `share` changes nothing that is
-//!   seen. What may be refused is refused for want of memory alone, and never of no bytes (of `clone` that is read in
-//!   the code: it is a call of `copy`).
+//!   bytes, `copies` does so of each in a list, `part` gives those from one place to another, and `==` is that of the
+//!   lists. `share` changes nothing that is seen. What may be refused is refused for want of memory alone, and never of no
+//!   bytes (of `clone` that is read in the code: it is a call of `copy`).
 //! - Read in the code, not proved: after `share` a copy or a part of the bytes copies none of them, in whichever thread it
 //!   is made, and neither does an `append` to no bytes. Nor does one of bytes that lie right behind these in what is
 //!   shared, as the next part of one list of bytes: they are compared with what lies there, and belong to these too. All

@@ -1,5 +1,7 @@
 //! A part of bytes that several holders share.
-ghost use Rattle.std.specs.Prelude.{◌≡◌, ◌++◌, ◌≤◌, IfOk, IsTrue, false, length, slice_range};
+ghost use Rattle.std.specs.Prelude.{◌≡◌, ◌++◌, ◌≤◌, IfOk, IsTrue, false, length, nat_eq, slice_range};
+ghost use Rattle.std.specs.Cmp.Lexicographic.{pointwise};
+ghost use Rattle.std.specs.List.{starts_with};
 
 use std::alloc::AllocError;
 use std::marker::Model;
@@ -60,10 +62,32 @@ impl Share {
         ensures taken { IsTrue result → self.new ≡ self.old ++ more.now }
         ensures left { result ≡ false → self.new ≡ self.old }
     {
-        let follows = self.whole.as_slice()[self.end..].starts_with(more);
+        let follows = begins_with(&self.whole.as_slice()[self.end..], more);
         if follows {
             self.end += more.len();
         }
         follows
     }
+}
+
+// Whether bytes begin with these.
+fn begins_with(bytes: &[u8], front: &[u8]) -> bool
+    ensures { result ≡ starts_with nat_eq bytes.now front.now }
+{
+    front.len() <= bytes.len() && are_equal(front, &bytes[..front.len()])
+}
+
+/// Whether bytes are equal. It looks at all of them, whatever the first are, and at many at a time: that is quicker where they are equal, and where
+/// there are many of them.
+pub fn are_equal(left: &[u8], right: &[u8]) -> bool
+    ensures { result ≡ pointwise nat_eq left.now right.now }
+{
+    if left.len() != right.len() {
+        return false;
+    }
+    let mut equal = true;
+    for i in 0..left.len() {
+        equal &= left[i] == right[i];
+    }
+    equal
 }

@@ -8,7 +8,7 @@ ghost use Rattle.mr_user.specs.Laws.{AreBytes};
 
 use crate::text::known_bytes;
 use mr_ids::Bytes;
-use std::alloc::{AllocError, Global};
+use std::alloc::AllocError;
 use std::marker::Model;
 
 /// The splits of a job, in order: each is the bytes of a text. Contracts see the list of their bytes. A copy of splits whose bytes are shared copies
@@ -78,7 +78,7 @@ impl Splits {
     pub fn copy(&self) -> Result<Splits, AllocError>
         ensures { IfOk result (λ splits. splits ≡ self.now) }
     {
-        let items = copies(*self.items.allocator(), &self.items)?;
+        let items = Bytes::copies(*self.items.allocator(), &self.items)?;
         Ok(Splits { items })
     }
 }
@@ -104,14 +104,4 @@ fn known_splits(splits: &[Bytes])
     for split in splits {
         known_bytes(split.as_slice());
     }
-}
-
-fn copies(alloc: Global, splits: &[Bytes]) -> Result<Vec<Bytes>, AllocError>
-    ensures { IfOk result (λ copies. copies.items ≡ splits.now) }
-{
-    let mut copies = Vec::new(alloc);
-    for split in splits {
-        copies.push(split.copy()?)?;
-    }
-    Ok(copies)
 }

@@ -36,11 +36,9 @@ impl Pieces {
     pub fn from_slice(alloc: Global, pieces: &[Bytes]) -> Result<Pieces, AllocError>
         ensures { IfOk result (λ copied. copied ≡ pieces.now) }
     {
-        let mut items = Vec::with_capacity(alloc, pieces.len())?;
-        for piece in pieces {
-            items.push(piece.copy()?)?;
-        }
-        Ok(Pieces { items })
+        Ok(Pieces {
+            items: Bytes::copies(alloc, pieces)?,
+        })
     }
 
     /// The pieces.

@@ -65,6 +65,16 @@ fn part_grows_over_what_follows(rt: HostRuntime) {
 }
 
 #[test]
+fn bytes_are_copied_in_their_order(rt: HostRuntime) {
+    let all = [
+        bytes_of(&rt, rt.alloc(), b"ab"),
+        bytes_of(&rt, rt.alloc(), b"c"),
+    ];
+    let copies = Bytes::copies(rt.alloc(), &all).expect(&rt, "no memory");
+    assert!(rt; copies.as_slice() == all.as_slice());
+}
+
+#[test]
 fn bag_fault_texts(rt: HostRuntime) {
     for (fault, want) in [(BagFault::Full, "Full"), (BagFault::NoMemory, "NoMemory")] {
         assert!(rt;

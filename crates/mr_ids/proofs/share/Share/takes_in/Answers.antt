@@ -5,5 +5,5 @@ use Rattle.mr_ids.proofs.share.Share.takes_in.Goals as goal
 pub returns-then-follows-clause-taken : goal.returns-then-follows-clause-taken
 returns-then-follows-clause-taken c =
     let s = c.self.inside in
-    λ _. grown s.whole c.args.more.now s.start s.end c.self.invariant.0 (rw (← c.as_slice.ensures) (sym c.starts_with-follows.ensures.value ∙ c.if-follows.true))
+    λ _. grown s.whole c.args.more.now s.start s.end c.self.invariant.0 (rw (← c.as_slice.ensures) (sym c.begins_with-follows.ensures ∙ c.if-follows.true))
     ∙ ap (λ l. l ++ c.args.more.now) c.self.view_is
