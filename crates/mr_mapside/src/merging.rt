@@ -1,5 +1,5 @@
 //! Runs, merged by key.
-ghost use Rattle.std.specs.Prelude.{◌≡◌, ◌≢◌, ◌≤◌, ◌<◌, [], length, map, nat_eq, get_or, vec_len, Some, IfOk, IfErr, IfSome, OnOk, OnErr};
+ghost use Rattle.std.specs.Prelude.{◌≡◌, ◌≢◌, ◌≤◌, ◌<◌, ◌∷◌, [], length, map, nat_eq, get_or, vec_len, Some, IfOk, IfErr, IfSome, OnOk, OnErr};
 ghost use Rattle.std.specs.BinaryHeap.{heap_items};
 ghost use Rattle.std.specs.List.{starts_with};
 ghost use Rattle.std.specs.Option.{option_map};
@@ -15,6 +15,14 @@ use std::alloc::{AllocError, Global};
 use std::cmp::{Ordering, Reverse};
 use std::collections::BinaryHeap;
 use std::marker::Model;
+
+// Up to how many bytes a name is compared byte by byte.
+const SHORT_NAME: usize = 24;
+
+// For how many bytes of a key's name, and for how many of its values, room is made at once.
+const NAME_ROOM: usize = 32;
+
+const VALUES_ROOM: usize = 32;
 
 /// The pair at the front of bytes, and its length. Answers `BadWire` where they begin with none.
 pub fn read_pair<J: Job>(
@@ -94,7 +102,29 @@ fn begins_with(bytes: &[u8], name: &[u8]) -> bool
     if len <= bytes.len() && 0 < len && bytes[len - 1] != name[len - 1] {
         return false;
     }
+    if len <= SHORT_NAME {
+        return begins_with_short(bytes, name);
+    }
     bytes.starts_with(name)
+}
+
+// The same, byte by byte: that is quicker for a few bytes, and slower for many.
+fn begins_with_short(bytes: &[u8], name: &[u8]) -> bool
+    ensures { result ≡ starts_with nat_eq bytes.now name.now }
+{
+    let mut rest = bytes;
+    let mut left = name;
+    while let (Some((byte, more)), Some((wanted, later))) = (
+        rest.split_first(),
+        left.split_first(),
+    ) {
+        if byte != wanted {
+            return false;
+        }
+        rest = more;
+        left = later;
+    }
+    left.is_empty()
 }
 
 // An allocation failure, where a fault is one.
@@ -172,6 +202,25 @@ fn take_tied<'a, J: Job>(
     }
 }
 
+// A key as it is written.
+fn name_of<J: Job>(alloc: Global, key: &J::Key) -> Result<Vec<u8>, AllocError>
+    ensures { IfOk result (λ name. IsName J.Key.codec key.now name.items) }
+{
+    let mut name = Vec::with_capacity(alloc, NAME_ROOM)?;
+    key.fits();
+    key.write(&mut name)?;
+    Ok(name)
+}
+
+// A list of one value, with room for more.
+fn list_of<T: Drop>(alloc: Global, value: T) -> Result<Vec<T>, AllocError>
+    ensures { IfOk result (λ values. values.items ≡ value ∷ []) }
+{
+    let mut values = Vec::with_capacity(alloc, VALUES_ROOM)?;
+    values.push(value)?;
+    Ok(values)
+}
+
 // Takes the group of the least key off the lists, if they have a pair.
 fn take_group<'a, J: Job>(
     alloc: Global,
@@ -194,11 +243,8 @@ fn take_group<'a, J: Job>(
         value,
         len,
     } = front;
-    let mut name = Vec::new(alloc);
-    key.fits();
-    key.write(&mut name)?;
-    let mut values = Vec::new(alloc);
-    values.push(value)?;
+    let name = name_of::<J>(alloc, &key)?;
+    let mut values = list_of(alloc, value)?;
     take_run::<J>(alloc, lists, fronts, &key, &name, list, len, &mut values)?;
     while take_tied::<J>(alloc, lists, fronts, &key, &name, &mut values)? {}
     Ok(Some((key, values)))

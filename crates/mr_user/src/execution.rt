@@ -90,7 +90,7 @@ pub fn shares<J: Job>(
         option_map (λ share. share.items) (slice_get shares.items r)
         ≡ Some (part_of all reduces r pairs.items)) }
 {
-    let mut shares = empty_shares(alloc, reduces)?;
+    let mut shares = empty_shares(alloc, reduces, room_for(pairs.len(), reduces))?;
     for (key, value) in pairs {
         let reduce = job.partition(&key, reduces);
         shares[reduce as usize].push((key, value))?;
@@ -98,14 +98,22 @@ pub fn shares<J: Job>(
     Ok(shares)
 }
 
-// `count` empty lists.
-fn empty_shares<T: Drop>(alloc: Global, count: u32) -> Result<Vec<Vec<T>>, AllocError>
+// For how many of these pairs a share has room at once: a quarter more than its part, were all parts alike.
+fn room_for(pairs: usize, reduces: u32) -> usize
+    requires { 0 < reduces }
+{
+    let part = pairs / reduces as usize;
+    part.saturating_add(part / 4)
+}
+
+// `count` empty lists, each with this room.
+fn empty_shares<T: Drop>(alloc: Global, count: u32, room: usize) -> Result<Vec<Vec<T>>, AllocError>
     ensures count { IfOk result (λ shares. length shares.items ≡ count) }
     ensures empty { IfOk result (λ shares. All (λ share. length share.items ≡ 0) shares.items) }
 {
     let mut shares = Vec::new(alloc);
     for _ in 0..count {
-        shares.push(Vec::new(alloc))?;
+        shares.push(Vec::with_capacity(alloc, room)?)?;
     }
     Ok(shares)
 }

@@ -71,7 +71,6 @@ fn map_output_bytes(rt: HostRuntime) {
     assert!(rt; matches!(&output, Ok(bytes) if bytes.as_slice() == b"\0\0\0\0\0\0\0\0".as_slice()));
 }
 
-// One pair more than a run holds, on one line.
 #[test]
 fn long_line_of_one_word(rt: HostRuntime) {
     let alloc = rt.alloc();
@@ -82,6 +81,22 @@ fn long_line_of_one_word(rt: HostRuntime) {
     let output = output_of(&rt, alloc, &WordCount, &OpenGate, &split, 1);
     let want = b"\0\0\0\x0d\0\0\0\x01a\0\0\0\0\0\0\x10\x01".as_slice();
     assert!(rt; matches!(&output, Ok(bytes) if bytes.as_slice() == want));
+}
+
+// One line more than a run holds pairs, each of the same word: the lines stay in their order.
+#[test]
+fn word_of_two_runs(rt: HostRuntime) {
+    let alloc = rt.alloc();
+    let mut split = Vec::new(alloc);
+    let mut want = Vec::new(alloc);
+    with_memory(&rt, want.extend_from_slice(b"\0\x04\x40\x11"));
+    for line in 0u64..16_385 {
+        with_memory(&rt, split.extend_from_slice(b"a\n"));
+        with_memory(&rt, want.extend_from_slice(b"\0\0\0\x01a\0\0\0\x03"));
+        with_memory(&rt, want.extend_from_slice(&line.to_be_bytes()));
+    }
+    let output = output_of(&rt, alloc, &LineIndex, &OpenGate, &split, 1);
+    assert!(rt; matches!(&output, Ok(bytes) if bytes.as_slice() == want.as_slice()));
 }
 
 #[test]

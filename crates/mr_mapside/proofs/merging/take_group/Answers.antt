@@ -1,4 +1,4 @@
-use Rattle.std.proofs.Common.{◌≡◌, ◌∙◌, ℕ, List, [], ◌∷◌, ◌++◌, Bor, map, length, refl, ap, arith}
+use Rattle.std.proofs.Common.{◌≡◌, ℕ, List, Bor, map, length, refl, arith}
 use Rattle.std.proofs.lemmas.List.{length-map}
 use Rattle.std.specs.BinaryHeap.{heap_items}
 use Rattle.mr_user.specs.Computation.{computation}
@@ -33,17 +33,17 @@ take_run-requires-clause-pairs g c =
     let lists = map (λ (bytes : Bor (List ℕ)). bytes.now) c.args.lists.now.items in
     pairs_then all g.met.J.Key.Wire.laws g.met.J.Value.Wire.laws g.met.J.Key.Ord.total g.met.J.Job.laws.same_key lists (heap_items c.args.fronts.now) (heap_items c.pop.new.self) c.in-Some.front (c.requires, c.in-Some.ensures.permutation, c.in-Some.ensures.heap_order)
 
-pub returns-in_err-write-clause-err : goal.returns-in_err-write-clause-err
-returns-in_err-write-clause-err g c =
+pub returns-in_err-name-clause-err : goal.returns-in_err-name-clause-err
+returns-in_err-name-clause-err g c =
     let all = computation g.J.Key.Ord.cmp g.J.Key.Wire.codec g.J.Value.Wire.codec g.J.Job.functions in
     let lists = map (λ (bytes : Bor (List ℕ)). bytes.now) c.args.lists.now.items in
     on_err_always c.from_residual.result _ (merged_some all g.met.J.Key.Wire.laws g.met.J.Value.Wire.laws g.met.J.Key.Ord.total g.met.J.Job.laws.same_key lists (heap_items c.args.fronts.now) (heap_items c.pop.new.self) c.in-Some.front (c.requires, c.in-Some.ensures.permutation, c.in-Some.ensures.heap_order))
 
-pub returns-in_err-push-clause-err : goal.returns-in_err-push-clause-err
-returns-in_err-push-clause-err g c =
+pub returns-in_err-values-clause-err : goal.returns-in_err-values-clause-err
+returns-in_err-values-clause-err g c =
     let all = computation g.J.Key.Ord.cmp g.J.Key.Wire.codec g.J.Value.Wire.codec g.J.Job.functions in
     let lists = map (λ (bytes : Bor (List ℕ)). bytes.now) c.args.lists.now.items in
-    on_err_always c.from_residual-in_err-push.result _ (merged_some all g.met.J.Key.Wire.laws g.met.J.Value.Wire.laws g.met.J.Key.Ord.total g.met.J.Job.laws.same_key lists (heap_items c.args.fronts.now) (heap_items c.pop.new.self) c.in-Some.front (c.requires, c.in-Some.ensures.permutation, c.in-Some.ensures.heap_order))
+    on_err_always c.from_residual-in_err-values.result _ (merged_some all g.met.J.Key.Wire.laws g.met.J.Value.Wire.laws g.met.J.Key.Ord.total g.met.J.Job.laws.same_key lists (heap_items c.args.fronts.now) (heap_items c.pop.new.self) c.in-Some.front (c.requires, c.in-Some.ensures.permutation, c.in-Some.ensures.heap_order))
 
 pub returns-in_err-take_run-clause-err : goal.returns-in_err-take_run-clause-err
 returns-in_err-take_run-clause-err g c =
@@ -65,7 +65,7 @@ loop-values-init g c =
     record {
       holds = ran.holds;
       least = ran.low;
-      given = first_given all c.in-Some.front.0.key lists c.in-Some.front.0.value ran.vs _ _ _ ran.passes ran.more (c.in_ok-push.ensures.items ∙ ap (λ (vs : List g.row.J-Value.Denot). vs ++ c.in-Some.front.0.value ∷ []) c.new-values.ensures.items);
+      given = first_given all c.in-Some.front.0.key lists c.in-Some.front.0.value ran.vs _ _ _ ran.passes ran.more c.in_ok-values.ensures;
     }
 
 pub loop-values-preserved : goal.loop-values-preserved
