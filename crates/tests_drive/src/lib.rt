@@ -1,4 +1,4 @@
-//! Tests of jobs that are run by threads: the faults of a plan, gates, works at once.
+//! Tests of jobs that are run by threads: gates, and works at once. Runs with faults of a plan are rows of tools/hostile.
 #![tactic(auto)]
 
 #[cfg(test)]
