@@ -79,6 +79,10 @@ is_taken cfg within w e = is_none (not_now cfg w e) && within w e
 abbrev pub IsFaithful : Job → Config → Limits → List Event → Type 0
 IsFaithful job cfg within es = (before after : List Event) (e : Event) → es ≡ before ++ e ∷ after → is_taken cfg within (world_of cfg within before) e ≡ true → CarriesDefinition job cfg (world_of cfg within before) e
 
+-- an event more: where it is taken, and hands in a result, that is the definition's. Then the list stays faithful
+abbrev pub StaysFaithful : Job → Config → Limits → Type 0
+StaysFaithful job cfg within = (es : List Event) (e : Event) → IsFaithful job cfg within es → (is_taken cfg within (world_of cfg within es) e ≡ true → CarriesDefinition job cfg (world_of cfg within es) e) → IsFaithful job cfg within (es ++ e ∷ [])
+
 -- no map's output beyond what it may have is taken
 abbrev pub BoundsOutputs : Limits → Type 0
 BoundsOutputs within = (w : World) (c : ContainerId) (p : Place) (bytes : List ℕ) → w.place c ≡ Some p → is_reduce p.attempt ≡ false → within w (Compute c bytes) ≡ true → length bytes ≤ most_output

@@ -20,6 +20,7 @@
 //! - what these need beside them: `what_is_recorded_has_succeeded`, `only_the_recorded_may_commit`,
 //!   `the_newest_committed_is_its_own`, `commits_are_allowed`, `attempts_hold_their_files`, `an_end_is_an_end`,
 //!   `only_started_commits`, `aborts_are_marked`;
+//! - a list of events stays faithful where an event more hands in what the definition says (`an_event_more_is_faithful`);
 //! - what comes of a run for those outside, as an outcome and a list of files, stays (`results_stay`);
 //! - which task is launched next, where it is asked for: one that may be launched, the first that waits, maps before reduces
 //!   (`the_wanted_task_may_be_launched`);
@@ -71,7 +72,8 @@ ghost use Rattle.mr_model.specs.Wanted.{WantedMayBeLaunched};
 ghost use Rattle.mr_model.specs.Results.{ResultsStay};
 ghost use Rattle.mr_model.specs.Calls.{CallsAgree, MapCallsAgree};
 ghost use Rattle.mr_model.specs.Made.{PastsAreMade};
-ghost use Rattle.mr_model.specs.Sequential.{Job, JobLaws, BoundsOutputs, WholeIsSequential, MarkedFilesAreSequential};
+ghost use Rattle.std.specs.Prelude.{[]};
+ghost use Rattle.mr_model.specs.Sequential.{Job, JobLaws, BoundsOutputs, IsFaithful, StaysFaithful, WholeIsSequential, MarkedFilesAreSequential};
 
 pub use actors::{
     answers_are_heard, begins_once, containers_act, containers_agree, containers_say, maps_act,
@@ -111,6 +113,13 @@ pub fn a_marker_is_final()
 pub fn sequential_files()
     ensures whole { (job : Job) (config : Config) (within : Limits) → JobLaws job config → BoundsOutputs within → WholeIsSequential job config within }
     ensures files { (job : Job) (config : Config) (within : Limits) → JobLaws job config → BoundsOutputs within → MarkedFilesAreSequential job config within }
+{}
+
+/// A list of events is faithful where each result that is taken is the definition's. An event more keeps it so, if it is not taken, or the
+/// result that it hands in is the definition's. The list of no event is faithful. (Own.)
+pub fn an_event_more_is_faithful()
+    ensures more { (job : Job) (config : Config) (within : Limits) → StaysFaithful job config within }
+    ensures none { (job : Job) (config : Config) (within : Limits) → IsFaithful job config within [] }
 {}
 
 /// No two outcomes that are told differ, success is told only where the marker is, and what is seen stays once an outcome, a failed one too, was told.
