@@ -10,7 +10,8 @@ mod part_files;
 use crate::fault::SimFault;
 use crate::job::{JobKind, Submission, read_job_text};
 use crate::seq::part_files::part_files_text;
-use mr_user::{LineIndex, MaxByKey, UserFault, WordCount, sequential};
+use mr_jobs::{LineIndex, MaxByKey, WordCount};
+use mr_user::{UserFault, sequential};
 pub use part_files::print_file;
 use std::alloc::Global;
 

@@ -11,7 +11,7 @@ use Rattle.mr_user.specs.Codecs.{text_codec, number_codec}
 use Rattle.mr_user.specs.Computation.{Computation, computation}
 use Rattle.mr_user.specs.Groups.{groups_of, values_of}
 use Rattle.mr_user.specs.Sequential.{key_lines}
-use Rattle.mr_user.specs.WordCount.{word_count}
+use Rattle.mr_jobs.specs.WordCount.{word_count}
 use Rattle.mr_mapside.specs.Block.{combined_group, framed, spelled}
 use Rattle.mr_shuffle.specs.SequentialText.{AreSplits}
 use Rattle.mr_sequential.specs.Jobs.{LawsOf}

@@ -4,7 +4,7 @@ use Rattle.std.specs.Ordering.{nat_cmp}
 use Rattle.std.specs.Cmp.Lexicographic.{slice_cmp}
 use Rattle.mr_user.specs.Codecs.{text_codec, number_codec}
 use Rattle.mr_user.specs.Computation.{computation}
-use Rattle.mr_user.specs.WordCount.{word_count}
+use Rattle.mr_jobs.specs.WordCount.{word_count}
 use Rattle.mr_model.specs.Packets.{Config}
 use Rattle.mr_model.specs.World.{Event, opening_world}
 use Rattle.mr_model.specs.Sequential.{Job, JobLaws, IsFaithful}

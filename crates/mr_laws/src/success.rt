@@ -1,8 +1,8 @@
 //! That the laws are not said of nothing: a job succeeds.
 ghost use Rattle.mr_laws.specs.Succeeds.{AWorldSucceeds};
 
+use mr_jobs::WordCount;
 use mr_sequential::jobs_have_their_laws;
-use mr_user::WordCount;
 
 /// In some world a job of at least one map succeeds, under the world's own limits. There are events, each of which is taken, whose results are those of the count of words. After
 /// them the marker is there, success was told, a node was told the winner, and the part file has bytes.

@@ -7,9 +7,9 @@ use Rattle.mr_paths.specs.Layout as layout
 use Rattle.mr_user.specs.Codecs.{number_codec, position_codec, text_codec}
 use Rattle.mr_user.specs.Computation.{computation}
 use Rattle.mr_user.specs.Laws.{AreBytes}
-use Rattle.mr_user.specs.LineIndex.{line_index}
-use Rattle.mr_user.specs.MaxByKey.{max_by_key}
-use Rattle.mr_user.specs.WordCount.{word_count}
+use Rattle.mr_jobs.specs.LineIndex.{line_index}
+use Rattle.mr_jobs.specs.MaxByKey.{max_by_key}
+use Rattle.mr_jobs.specs.WordCount.{word_count}
 use Rattle.mr_shuffle.specs.SequentialText.{AreSplits}
 use Rattle.mr_script.specs.declared.command.Command.{Command}
 use Rattle.mr_script.specs.Script.{AreCommands}

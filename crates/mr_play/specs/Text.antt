@@ -4,9 +4,9 @@ use Rattle.std.specs.Cmp.Lexicographic.{slice_cmp}
 use Rattle.std.specs.Ordering.{nat_cmp}
 use Rattle.mr_user.specs.Computation.{computation}
 use Rattle.mr_user.specs.Codecs.{text_codec, number_codec, position_codec}
-use Rattle.mr_user.specs.WordCount.{word_count}
-use Rattle.mr_user.specs.MaxByKey.{max_by_key}
-use Rattle.mr_user.specs.LineIndex.{line_index}
+use Rattle.mr_jobs.specs.WordCount.{word_count}
+use Rattle.mr_jobs.specs.MaxByKey.{max_by_key}
+use Rattle.mr_jobs.specs.LineIndex.{line_index}
 use Rattle.mr_model.specs.Packets.{Config}
 use Rattle.mr_model.specs.World.{World}
 use Rattle.mr_model.specs.Claims.{Limits}

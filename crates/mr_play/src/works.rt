@@ -12,9 +12,10 @@ ghost use Rattle.mr_play.specs.Players.{IsEvent, IsShort, Works};
 
 use mr_commands::{JobKind, SimFault};
 use mr_event::Event;
+use mr_jobs::{LineIndex, MaxByKey, WordCount};
 use mr_mapside::WorkFault;
 use mr_packet::{Bytes, ContainerId};
-use mr_user::{Job, LineIndex, MaxByKey, OpenGate, WordCount};
+use mr_user::{Job, OpenGate};
 use mr_work::{work_of_map, work_of_reduce};
 use mr_world::{Config, Input};
 use std::alloc::Global;

@@ -10,9 +10,10 @@ ghost use Rattle.mr_threads.specs.inner.{IsOfThreads};
 
 use mr_commands::{JobKind, SimFault, Submission, read_job_text};
 use mr_drive::{DriveFault, PairGate, Plan, Report, drive};
+use mr_jobs::{LineIndex, MaxByKey, WordCount};
 use mr_sequential::{jobs_have_their_laws, marked_worlds_show_sequential_files};
 use mr_trace::mr_world::Config;
-use mr_user::{Gate, Job, LineIndex, MaxByKey, OpenGate, WordCount};
+use mr_user::{Gate, Job, OpenGate};
 use std::alloc::AllocGlobal;
 use std::rt::Clock;
 use std::sync::Wait;

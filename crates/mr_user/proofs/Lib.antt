@@ -1,10 +1,8 @@
 pub mod Fronts
 pub mod Grouping
-pub mod Joining
 pub mod LeastGroup
 pub mod Lines
 pub mod Meanings
-pub mod Numbers
 pub mod Putting
 pub mod Rising
 pub mod Sharing

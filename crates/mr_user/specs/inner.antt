@@ -1,7 +1,3 @@
 -- Words for private contracts and for proofs. No public clause cites them.
 pub mod CodecProofs
 pub mod Gathered
-pub mod LineIndexProofs
-pub mod MaxByKeyProofs
-pub mod WordCountProofs
-pub mod WordsProofs

@@ -1,4 +1,4 @@
-//! What a job is, how its keys and values are written as bytes, three jobs, and a job's sequential execution.
+//! What a job is, how its keys and values are written as bytes, and a job's sequential execution.
 //!
 //! # How to begin
 //!
@@ -20,7 +20,7 @@
 //!   values that can be written as bytes (`trait Wire`). What the functions give is a ghost member that depends on
 //!   the type alone; each method is proved to give exactly that, an allocation failure aside. A job owes the *job laws*;
 //!   one that breaks them is not proved and so not built. docs/USING.md is for who writes one.
-//! - **Three jobs** are proved with all their laws: `WordCount`, `MaxByKey`, `LineIndex`.
+//!   Three jobs stand in `mr_jobs`.
 //! - **Forms**: `Text`, `u64` and `Position` are written as the tables of the crate's README say. What was written is
 //!   read again whatever follows, and what is read fits and was written so. `read` answers `BadWire` exactly where the
 //!   bytes begin with no value.
@@ -46,8 +46,7 @@
 //!   - `keys_rise`: the rising keys of a list are its own, each once, each less than the next;
 //!   - `least_group_first`: the group of a least key comes first, with all its values in order, and then the groups of
 //!     the pairs of other keys. So the pairs of many sorted lists can be grouped one key at a time.
-//! - Only tested (crates/tests_jobs/src/user.rt): that the calls do succeed with ample memory; what the functions
-//!   of the three jobs give for small examples (worked job texts are tested through `seq`).
+//! - Only tested (crates/tests_jobs/src/user.rt): that the calls do succeed with ample memory.
 #![tactic(auto)]
 
 mod execution;
@@ -58,14 +57,10 @@ mod group;
 mod job;
 mod laws;
 mod line;
-mod line_index;
-mod max_by_key;
 mod position;
 mod splits;
 mod text;
 mod wire;
-mod word;
-mod word_count;
 
 pub use execution::{MAX_REDUCES, MAX_SPLIT_LEN, MAX_SPLITS, sequential, shares, write_lines};
 pub use fault::{GateFault, UserFault};
@@ -74,10 +69,7 @@ pub use group::{groups, sort_pairs};
 pub use job::Job;
 pub use laws::{keys_rise, least_group_first, lines_are_pieces};
 pub use line::next_line;
-pub use line_index::LineIndex;
-pub use max_by_key::MaxByKey;
 pub use position::Position;
 pub use splits::Splits;
 pub use text::{Text, known_bytes};
 pub use wire::Wire;
-pub use word_count::WordCount;

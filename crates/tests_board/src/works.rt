@@ -3,9 +3,10 @@
 use crate::fixtures::{BLOCK, ShutGate, container, opened};
 use mr_event::{Event, Why};
 use mr_ids::Bytes;
+use mr_jobs::WordCount;
 use mr_mapside::WorkFault;
 use mr_packet::ContainerId;
-use mr_user::{GateFault, WordCount};
+use mr_user::GateFault;
 use mr_world::WorldFault;
 
 // Whether the event hands in the map's block.

@@ -3,12 +3,13 @@
 use mr_attempt::{AttemptEvent, AttemptMachine, AttemptState};
 use mr_grant::Grant;
 use mr_ids::{AppAttempt, AttemptId, IdFault, TaskId};
+use mr_jobs::WordCount;
 use mr_mapside::{WorkFault, blocks, map_work};
 use mr_names::{Caller, NameFault, Namespace};
 use mr_packet::{Bag, BagFault, Envelope};
 use mr_paths::{Layout, Path, PathFault};
 use mr_shuffle::{Bytes, Piece, reduce_work};
-use mr_user::{MAX_SPLIT_LEN, OpenGate, UserFault, WordCount, sequential};
+use mr_user::{MAX_SPLIT_LEN, OpenGate, UserFault, sequential};
 use std::alloc::{AllocError, Global};
 
 /// Which task an attempt's text is of, and which generation of the master launched it.

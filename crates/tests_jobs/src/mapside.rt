@@ -1,14 +1,12 @@
 //! Map works, and the blocks that their outputs are cut into.
 
 use mr_ids::{Bytes, TaskKind};
+use mr_jobs::{LineIndex, MaxByKey, WordCount};
 use mr_mapside::{
     CutOutput, MAX_OUTPUT_LEN, MapOutput, RunGroups, WorkFault, blocks, blocks_are_one, map_work,
     output_is_its_blocks, read_pair,
 };
-use mr_user::{
-    Gate, GateFault, Job, LineIndex, MAX_REDUCES, MAX_SPLIT_LEN, MaxByKey, OpenGate, UserFault,
-    WordCount,
-};
+use mr_user::{Gate, GateFault, Job, MAX_REDUCES, MAX_SPLIT_LEN, OpenGate, UserFault};
 use std::alloc::Global;
 use std::cell::Cell;
 use std::process::Abort;

@@ -1,9 +1,10 @@
 //! Outputs of maps that come in on standard input: nothing where the tests are run, and from tools/hostile those that it damaged.
 
 use mr_ids::Bytes;
+use mr_jobs::WordCount;
 use mr_mapside::{WorkFault, blocks};
 use mr_shuffle::{Piece, reduce_work};
-use mr_user::{OpenGate, WordCount};
+use mr_user::OpenGate;
 use std::alloc::{AllocError, Global};
 use std::io::{self, Read, Write};
 

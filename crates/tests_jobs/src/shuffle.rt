@@ -1,14 +1,13 @@
 //! Reduce works, merges and the shelf of a node.
 
 use mr_ids::{AttemptId, Bytes, TaskKind};
+use mr_jobs::{LineIndex, MaxByKey, WordCount};
 use mr_mapside::{MAX_OUTPUT_LEN, MapOutput, ShuffleFault, WorkFault, blocks, map_work};
 use mr_shuffle::{
     Merge, Piece, ShelfOfNode, attempts_are_apart, piece_is_what_it_says, reduce_bytes,
     reduce_work, shuffle_gives_sequential_text, works_give_sequential_text,
 };
-use mr_user::{
-    Gate, GateFault, Job, LineIndex, MAX_SPLIT_LEN, MaxByKey, OpenGate, Text, Wire, WordCount,
-};
+use mr_user::{Gate, GateFault, Job, MAX_SPLIT_LEN, OpenGate, Text, Wire};
 use std::alloc::Global;
 use std::cell::Cell;
 use std::process::Abort;

@@ -1,9 +1,10 @@
 //! Jobs and their functions.
 
 use mr_ids::{Bytes, TaskKind};
+use mr_jobs::{LineIndex, MaxByKey, WordCount};
 use mr_user::{
-    Gate, Job, LineIndex, MAX_SPLIT_LEN, MaxByKey, OpenGate, Position, Splits, Text, UserFault,
-    Wire, WordCount, groups, next_line, sort_pairs, write_lines,
+    Gate, Job, MAX_SPLIT_LEN, OpenGate, Position, Splits, Text, UserFault, Wire, groups, next_line,
+    sort_pairs, write_lines,
 };
 use std::alloc::Global;
 use std::process::Abort;

@@ -5,9 +5,9 @@ use Rattle.std.specs.Cmp.Lexicographic.{slice_cmp}
 use Rattle.std.specs.Ordering.{nat_cmp}
 use Rattle.mr_user.specs.Computation.{computation}
 use Rattle.mr_user.specs.Codecs.{text_codec, number_codec, position_codec}
-use Rattle.mr_user.specs.WordCount.{word_count}
-use Rattle.mr_user.specs.MaxByKey.{max_by_key}
-use Rattle.mr_user.specs.LineIndex.{line_index}
+use Rattle.mr_jobs.specs.WordCount.{word_count}
+use Rattle.mr_jobs.specs.MaxByKey.{max_by_key}
+use Rattle.mr_jobs.specs.LineIndex.{line_index}
 use Rattle.mr_user.specs.Sequential.{output}
 use Rattle.mr_commands.specs.declared.job.submission.JobKind.{JobKind}
 use Rattle.mr_commands.specs.declared.job.submission.JobKind.TheVariants.{WordCount, MaxByKey, LineIndex}

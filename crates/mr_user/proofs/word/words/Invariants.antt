@@ -1,6 +1,0 @@
-use Rattle.std.proofs.Common.{◌≡◌, not, map, filter, List, ℕ, Bor}
-use Rattle.mr_user.specs.Words.{is_empty}
-use Rattle.mr_user.proofs.word.words.Given as goal
-
-abbrev pub invariant-loop-word : goal.invariant-loop-word
-invariant-loop-word l = map (λ (word : Bor (List ℕ)). word.now) l.words.items ≡ filter (λ word. not (is_empty word)) (map (λ (word : Bor (List ℕ)). word.now) l.yielded)
