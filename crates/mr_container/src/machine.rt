@@ -3,6 +3,7 @@ ghost use Rattle.std.specs.Prelude.{◌≡◌, ◌<◌, ◌+◌, ◌++◌, [], �
 ghost use Rattle.mr_ids.specs.declared.id.TaskKind.TheVariants.{Map};
 ghost use Rattle.mr_packet.specs.declared.packet.Packet.{Packet};
 ghost use Rattle.mr_packet.specs.declared.packet.Envelope.{Envelope};
+ghost use Rattle.mr_packet.specs.Sends.{to_node};
 ghost use Rattle.mr_names.specs.declared.op.Op.{Op};
 ghost use Rattle.mr_container.specs.Past.{Hears, Sends, Computes, Calls, launched_as};
 ghost use Rattle.mr_container.specs.Readings.{opening, first_wish, ask_next, next_seen, after_packet, after_ready, after_piece, with_piece, is_awaited, after_lost, after_answer, after_ack, wish_sent, wish_called, after_bytes, with_result, with_wish};
@@ -166,16 +167,7 @@ impl ContainerMachine {
                 a: from,
                 node,
                 incarnation,
-            } => Some(Envelope {
-                to: Address::Node(node),
-                body: Packet::Fetch {
-                    c: self.id,
-                    a: from,
-                    reduce: a.task().number,
-                    incarnation,
-                    offset: self.pieces.got_len() as u64,
-                },
-            }),
+            } => Some(self.to_node(node, from, incarnation)),
             Wish::Lost { a: gone } => Some(self.to_master(Packet::FetchLost {
                 c: self.id,
                 a: gone,
@@ -198,6 +190,22 @@ impl ContainerMachine {
             | Wish::Rename
             | Wish::Abort
             | Wish::Over => None,
+        }
+    }
+
+    // It fetches its block of an attempt's output from the node of this incarnation, behind what it got.
+    fn to_node(&self, node: u32, from: AttemptId, incarnation: u32) -> Envelope
+        ensures { result ≡ to_node node (Packet.Fetch self.now.id from self.now.place.attempt.task.number incarnation (length self.now.seen.pieces.got)) }
+    {
+        Envelope {
+            to: Address::Node(node),
+            body: Packet::Fetch {
+                c: self.id,
+                a: from,
+                reduce: self.place.attempt.task().number,
+                incarnation,
+                offset: self.pieces.got_len() as u64,
+            },
         }
     }
 
