@@ -6,6 +6,7 @@ ghost use Rattle.mr_model.specs.Stored.{master};
 ghost use Rattle.mr_stores.specs.Masters.{IsSuited, is_look};
 
 use crate::foretelling::master_caller;
+use crate::memory::{history_wants_memory, names_want_memory};
 use mr_history::{History, Record};
 use mr_ids::AppAttempt;
 use mr_master_model::StoreCall;
@@ -22,7 +23,7 @@ pub fn change_names(names: &mut Namespace, app: AppAttempt, op: &Op) -> Result<(
     }
     match names.perform(master_caller(app), op) {
         Ok(_) => Ok(()),
-        Err(_) => Err(AllocError),
+        Err(fault) => Err(names_want_memory(fault)),
     }
 }
 
@@ -42,7 +43,7 @@ pub fn append_record(
     }
     match history.append(app, *line) {
         Ok(()) => Ok(()),
-        Err(_) => Err(AllocError),
+        Err(fault) => Err(history_wants_memory(fault)),
     }
 }
 
