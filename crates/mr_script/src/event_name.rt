@@ -77,8 +77,8 @@ const NAMES: [EventName; 32] = [
     EventName::Step,
 ];
 
-/// The word of a name.
-fn word_of(name: EventName) -> &'static [u8]
+/// The name as scripts write it.
+pub fn event_word(name: EventName) -> &'static [u8]
     ensures { result.now ≡ name_text name }
 {
     match name {
@@ -123,7 +123,7 @@ pub fn event_named(word: &[u8]) -> Option<EventName>
     ensures none { IfNone result ((n : EventName) → word.now ≡ name_text n → ⊥) }
 {
     for name in &NAMES {
-        if word == word_of(*name) {
+        if word == event_word(*name) {
             return Some(*name);
         }
     }

@@ -9,8 +9,8 @@ pub loop-name-init : goal.loop-name-init
 loop-name-init c n below e = absurd (omega arith)
 
 pub loop-name-preserved : goal.loop-name-preserved
-loop-name-preserved c n below e = other_name c.loop-name.name-index c.args.word.now c.word_of.result.now _ c.loop-name.invariant c.word_of.ensures
-    (λ same. false≢true (sym c.if-eq.false ∙ (slice_eq-Decides Decides-eqb c.args.word.now c.word_of.result.now c.eq.result c.eq.ensures).1 same)) n below e
+loop-name-preserved c n below e = other_name c.loop-name.name-index c.args.word.now c.event_word.result.now _ c.loop-name.invariant c.event_word.ensures
+    (λ same. false≢true (sym c.if-eq.false ∙ (slice_eq-Decides Decides-eqb c.args.word.now c.event_word.result.now c.eq.result c.eq.ensures).1 same)) n below e
 
 pub returns-clause-none : goal.returns-clause-none
 returns-clause-none c n e =
