@@ -43,6 +43,7 @@ pub fn seq_output(alloc: Global, input: &[u8]) -> Result<Vec<u8>, SimFault>
     match part_files_of(alloc, &submission) {
         Ok(files) => Ok(part_files_text(alloc, &files)?),
         Err(UserFault::Refused) => Err(SimFault::Refused),
-        Err(_) => Err(SimFault::NoMemory),
+        Err(UserFault::NoMemory) => Err(SimFault::NoMemory),
+        Err(UserFault::BadWire) => unreachable!(),
     }
 }
