@@ -25,6 +25,21 @@ pub enum HistoryFault {
     NoMemory,
 }
 
+impl HistoryFault {
+    /// What is left of it where a call has no refusal: a want of memory.
+    pub fn wants_memory(self) -> AllocError
+        requires { self ≡ HistoryFault.NoMemory }
+    {
+        match self {
+            HistoryFault::NoMemory => AllocError,
+            HistoryFault::Superseded(_) => unreachable!(),
+            HistoryFault::Sealed => unreachable!(),
+            HistoryFault::BadLine(_) => unreachable!(),
+            HistoryFault::Full => unreachable!(),
+        }
+    }
+}
+
 impl From<AllocError> for HistoryFault {
     ghost from_gives = { λ _ e. e ≡ NoMemory };
 

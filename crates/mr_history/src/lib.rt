@@ -41,6 +41,7 @@
 //!   gives its own segment its version, `seal` one alone, `tail` is the length of a tail. Memory may be taken by
 //!   `History::new`, `append`, `read`, `records` and `copy`, by `replay`, and by what adds to `Records`. No other call
 //!   takes any. A flush or a seal moves a mark over bytes that `append` stored.
+//!   `HistoryFault::wants_memory` takes a fault of a call that has no refusal: it is proved to be the one of memory.
 //! - `History::append_refusal` and `flush_refusal` tell without memory why the call would be refused: exactly the word
 //!   by which `append` and `flush` are refused (`refused`). The law is `refusals_are_heard`: a call that has a refusal
 //!   answers it and changes nothing, and one that has none is made, or answers `NoMemory` and changes nothing.

@@ -43,6 +43,27 @@ pub enum NameFault {
     NoMemory,
 }
 
+impl NameFault {
+    /// What is left of it where a call has no refusal: a want of memory.
+    pub fn wants_memory(self) -> AllocError
+        requires { self ≡ NameFault.NoMemory }
+    {
+        match self {
+            NameFault::NoMemory => AllocError,
+            NameFault::Superseded(_) => unreachable!(),
+            NameFault::Barred => unreachable!(),
+            NameFault::Missing => unreachable!(),
+            NameFault::Exists => unreachable!(),
+            NameFault::NotDir => unreachable!(),
+            NameFault::NotFile => unreachable!(),
+            NameFault::Closed => unreachable!(),
+            NameFault::NoParent => unreachable!(),
+            NameFault::IntoItself => unreachable!(),
+            NameFault::Full => unreachable!(),
+        }
+    }
+}
+
 impl From<AllocError> for NameFault {
     ghost from_gives = { λ _ e. e ≡ NoMemory };
 

@@ -45,7 +45,8 @@
 //!   100,000 attempts are barred (`fence`, clause `sound`).
 //!
 //! `Op::copy` gives an equal call. `Namespace::copy` gives a namespace of its own with the same content, fence and
-//! barred attempts. Both refuse for want of memory alone.
+//! barred attempts. Both refuse for want of memory alone. `NameFault::wants_memory` takes a fault of such a call: it is
+//! proved that there is no other.
 //!
 //! Laws that follow from the definition alone stand on functions with empty bodies:
 //! - what each path holds after each call that is answered (`each_path`);
