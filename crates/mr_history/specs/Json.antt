@@ -7,6 +7,10 @@ use Rattle.mr_ids.specs.Text.{attempt_text}
 use Rattle.mr_history.specs.declared.record.Record.{Record}
 use Rattle.mr_history.specs.declared.record.Record.TheVariants.{AttemptStarted, MapSucceeded, ReduceSucceeded, AttemptFailed, JobUnsuccessful}
 
+-- the members that tell of an attempt, and what happened
+abbrev pub members : Attempt → List ℕ → Members
+members a event = member (codes "attempt") (string (attempt_text a)) (member (codes "event") (string event) no_members)
+
 -- an object that tells of an attempt: the attempt, what happened, and more
 abbrev pub told : Attempt → List ℕ → Members → Data
 told a event more = object (member (codes "attempt") (string (attempt_text a)) (member (codes "event") (string event) more))

@@ -6,7 +6,8 @@ ghost use Rattle.serde_json.specs.Find.{get, as_str};
 ghost use Rattle.serde_json.specs.View.{view, members_view};
 ghost use Rattle.mr_ids.specs.Attempt.{Attempt};
 ghost use Rattle.mr_ids.specs.Text.{attempt_text, numeral, IsAttempt};
-ghost use Rattle.mr_history.specs.Json.{told, value_of};
+ghost use Rattle.mr_history.specs.declared.record.Record.TheVariants.{AttemptStarted, MapSucceeded};
+ghost use Rattle.mr_history.specs.Json.{members, told, value_of};
 ghost use Rattle.mr_history.specs.Line.{line_of, whole_line, width, bytes_width, fits, IsRecord, InRange, IsIn32};
 ghost use Rattle.mr_history.specs.Reading.{record_of};
 
@@ -23,7 +24,9 @@ fn value(alloc: Global, record: &Record) -> Result<Value, AllocError>
     ensures { IfOk result (λ v. view v ≡ value_of «record».now) }
 {
     match *record {
-        Record::AttemptStarted { attempt, node } => started(alloc, attempt, node),
+        Record::AttemptStarted { attempt, node } => {
+            told_with(alloc, attempt, "started", "node", node)
+        }
         Record::MapSucceeded {
             attempt,
             node,
@@ -32,12 +35,12 @@ fn value(alloc: Global, record: &Record) -> Result<Value, AllocError>
         Record::ReduceSucceeded {
             attempt,
             bytes: None,
-        } => reduced(alloc, attempt),
+        } => told(alloc, attempt, "reduce"),
         Record::ReduceSucceeded {
             attempt,
             bytes: Some(bytes),
-        } => reduced_to(alloc, attempt, bytes),
-        Record::AttemptFailed { attempt } => failed(alloc, attempt),
+        } => told_with(alloc, attempt, "reduce", "bytes", bytes),
+        Record::AttemptFailed { attempt } => told(alloc, attempt, "failed"),
         Record::JobUnsuccessful => json!(in alloc; {"event": "unsuccessful"}),
     }
 }
@@ -54,7 +57,7 @@ fn members_of(
     attempt: AttemptId,
     event: &str,
 ) -> Result<Map<String, Value>, AllocError>
-    ensures { IfOk result (λ m. object (members_view m.entries) ≡ told attempt event.now no_members) }
+    ensures { IfOk result (λ m. members_view m.entries ≡ members attempt event.now) }
 {
     let text = text_of(alloc, attempt)?;
     let mut members = Map::new(alloc);
@@ -75,23 +78,38 @@ fn put_text(
     put(members, alloc, key, value)
 }
 
-fn put_number(
-    members: &mut Map<String, Value>,
+// Members with a number more.
+fn with_number(
     alloc: Global,
+    mut members: Map<String, Value>,
     key: &str,
     n: u32,
-) -> Result<(), AllocError>
-    ensures { OnOk result (members_view members.new.entries ≡ with_member key.now (number (unsigned n)) (members_view members.old.entries)) }
+) -> Result<Map<String, Value>, AllocError>
+    ensures { IfOk result (λ m. members_view m.entries ≡ with_member key.now (number (unsigned n)) (members_view members.entries)) }
 {
-    put(members, alloc, key, Value::from(n))
+    put(&mut members, alloc, key, Value::from(n))?;
+    Ok(members)
 }
 
-fn started(alloc: Global, attempt: AttemptId, node: u32) -> Result<Value, AllocError>
-    ensures { IfOk result (λ v. view v ≡ told attempt (codes "started") (member (codes "node") (number (unsigned node)) no_members)) }
+// What happened at an attempt.
+fn told(alloc: Global, attempt: AttemptId, event: &str) -> Result<Value, AllocError>
+    ensures { IfOk result (λ v. view v ≡ told attempt event.now no_members) }
 {
-    let mut members = members_of(alloc, attempt, "started")?;
-    put_number(&mut members, alloc, "node", node)?;
-    Ok(Value::Object(members))
+    Ok(Value::Object(members_of(alloc, attempt, event)?))
+}
+
+// The same, with a number.
+fn told_with(
+    alloc: Global,
+    attempt: AttemptId,
+    event: &str,
+    key: &str,
+    n: u32,
+) -> Result<Value, AllocError>
+    ensures { IfOk result (λ v. view v ≡ object (with_member key.now (number (unsigned n)) (members attempt event.now))) }
+{
+    let members = members_of(alloc, attempt, event)?;
+    Ok(Value::Object(with_number(alloc, members, key, n)?))
 }
 
 fn mapped(
@@ -102,30 +120,9 @@ fn mapped(
 ) -> Result<Value, AllocError>
     ensures { IfOk result (λ v. view v ≡ told attempt (codes "map") (member (codes "incarnation") (number (unsigned incarnation)) (member (codes "node") (number (unsigned node)) no_members))) }
 {
-    let mut members = members_of(alloc, attempt, "map")?;
-    put_number(&mut members, alloc, "incarnation", incarnation)?;
-    put_number(&mut members, alloc, "node", node)?;
-    Ok(Value::Object(members))
-}
-
-fn reduced(alloc: Global, attempt: AttemptId) -> Result<Value, AllocError>
-    ensures { IfOk result (λ v. view v ≡ told attempt (codes "reduce") no_members) }
-{
-    Ok(Value::Object(members_of(alloc, attempt, "reduce")?))
-}
-
-fn reduced_to(alloc: Global, attempt: AttemptId, bytes: u32) -> Result<Value, AllocError>
-    ensures { IfOk result (λ v. view v ≡ object (member (codes "attempt") (string (attempt_text attempt)) (member (codes "bytes") (number (unsigned bytes)) (member (codes "event") (string (codes "reduce")) no_members)))) }
-{
-    let mut members = members_of(alloc, attempt, "reduce")?;
-    put_number(&mut members, alloc, "bytes", bytes)?;
-    Ok(Value::Object(members))
-}
-
-fn failed(alloc: Global, attempt: AttemptId) -> Result<Value, AllocError>
-    ensures { IfOk result (λ v. view v ≡ told attempt (codes "failed") no_members) }
-{
-    Ok(Value::Object(members_of(alloc, attempt, "failed")?))
+    let members = members_of(alloc, attempt, "map")?;
+    let members = with_number(alloc, members, "incarnation", incarnation)?;
+    Ok(Value::Object(with_number(alloc, members, "node", node)?))
 }
 
 /// The line of a record, without its line feed.
@@ -243,17 +240,34 @@ fn record_in(value: &Value) -> Option<Record>
         return Some(Record::JobUnsuccessful);
     }
     let attempt = attempt_in(text_in(value, "attempt")?)?;
-    if event == "reduce" {
-        let bytes = number_in(value, "bytes");
-        return Some(Record::ReduceSucceeded { attempt, bytes });
+    match event {
+        "started" => started_in(value, attempt),
+        "reduce" => {
+            let bytes = number_in(value, "bytes");
+            Some(Record::ReduceSucceeded { attempt, bytes })
+        }
+        "failed" => Some(Record::AttemptFailed { attempt }),
+        _ => mapped_in(value, attempt),
     }
-    if event == "failed" {
-        return Some(Record::AttemptFailed { attempt });
-    }
+}
+
+fn started_in(value: &Value, attempt: AttemptId) -> Option<Record>
+    ensures reads { (node : ℕ) → node < 2 ^ 32 → get (codes "node") (view value.now) ≡ Some (number (unsigned node)) →
+        result ≡ Some (AttemptStarted attempt node) }
+    ensures ranges { IfSome result InRange }
+{
     let node = number_in(value, "node")?;
-    if event == "started" {
-        return Some(Record::AttemptStarted { attempt, node });
-    }
+    Some(Record::AttemptStarted { attempt, node })
+}
+
+fn mapped_in(value: &Value, attempt: AttemptId) -> Option<Record>
+    ensures reads { (node incarnation : ℕ) → node < 2 ^ 32 → incarnation < 2 ^ 32 →
+        get (codes "node") (view value.now) ≡ Some (number (unsigned node)) →
+        get (codes "incarnation") (view value.now) ≡ Some (number (unsigned incarnation)) →
+        result ≡ Some (MapSucceeded attempt node incarnation) }
+    ensures ranges { IfSome result InRange }
+{
+    let node = number_in(value, "node")?;
     let incarnation = number_in(value, "incarnation")?;
     Some(Record::MapSucceeded {
         attempt,
@@ -266,21 +280,29 @@ fn record_in(value: &Value) -> Option<Record>
 pub fn record_of(alloc: Global, version: u32, text: &[u8]) -> Result<Option<Record>, AllocError>
     ensures { IfOk result (λ o. o ≡ record_of version text.now) }
 {
-    let value = match Value::from_slice(alloc, text) {
-        Ok(value) => value,
-        Err(error) => {
-            if error.is_memory() {
-                return Err(AllocError);
-            }
-            return Ok(None);
-        }
-    };
-    let Some(record) = record_in(&value) else {
+    let Some(record) = likely_record(alloc, text)? else {
         return Ok(None);
     };
     if record.fits() && record.is_of(version) && line(alloc, &record)?.as_bytes() == text {
         Ok(Some(record))
     } else {
         Ok(None)
+    }
+}
+
+// The record that these bytes write, if they are a record's line. Else none, or some record that has another line.
+fn likely_record(alloc: Global, text: &[u8]) -> Result<Option<Record>, AllocError>
+    ensures reads { IfOk result (λ o. (r : Record) → IsRecord r → text.now ≡ line_of r → o ≡ Some r) }
+    ensures ranges { IfOk result (λ o. IfSome o InRange) }
+{
+    match Value::from_slice(alloc, text) {
+        Ok(value) => Ok(record_in(&value)),
+        Err(error) => {
+            if error.is_memory() {
+                Err(AllocError)
+            } else {
+                Ok(None)
+            }
+        }
     }
 }

@@ -1,31 +1,20 @@
-use Rattle.std.proofs.Common.{◌≡◌, Some, None, sym, ◌∙◌, ap, true}
+use Rattle.std.proofs.Common.{◌≡◌, Option, sym, ◌∙◌, ap, subst, true}
 use Rattle.std.proofs.lemmas.Bool.{false≢true}
 use Rattle.std.proofs.lemmas.Bool.Decides.{Decides-eqb}
 use Rattle.std.proofs.lemmas.Slice.Eq.{slice_eq-Decides}
-use Rattle.std.specs.Prelude.{IsUtf8}
-use Rattle.serde_json.specs.Read.{read}
-use Rattle.serde_json.specs.View.{view}
-use Rattle.mr_history.specs.Line.{line_of, fits, is_of}
-use Rattle.mr_history.specs.Json.{value_of}
+use Rattle.std.specs.Prelude.{IfSome}
+use Rattle.mr_history.specs.declared.record.Record.{Record}
+use Rattle.mr_history.specs.Line.{line_of, fits, is_of, InRange}
 use Rattle.mr_history.specs.Reading.{record_of}
-use Rattle.mr_history.proofs.Lines.{read-line_of, IsUtf8-line_of}
 use Rattle.mr_history.proofs.Told.{no_record, record_of-line_of}
 use Rattle.mr_history.proofs.line.record_of.Goals.{else-fits-via-then-fits+then-is_of+in_ok-line+else-eq, else-fits-via-then-fits+else-is_of, else-fits-via-else-fits}
 use Rattle.mr_history.proofs.line.record_of.Goals as goal
 
-pub returns-in-Err : goal.returns-in-Err
-returns-in-Err c = sym (no_record c.args.version c.args.text.now (λ r h e.
-    let reads : read c.args.text.now ≡ Some (value_of r) = ap read e ∙ read-line_of r h.0.1 in
-    let text : IsUtf8 c.args.text.now = rw e (IsUtf8-line_of r h.0.1) in
-    let refused : read c.args.text.now ≡ None = c.in-Err.ensures.err (λ m. false≢true (c.if-is_memory.ensures.1 m)) text in
-    cc))
-
 pub returns-in_default : goal.returns-in_default
 returns-in_default c = sym (no_record c.args.version c.args.text.now (λ r h e.
-    let reads : read c.args.text.now ≡ Some (value_of r) = ap read e ∙ read-line_of r h.0.1 in
-    let value = c.in-Ok.ensures.ok.1 in
-    let same : view c.in-Ok.value ≡ value_of r = cc in
-    c.in_default.not-Some r (c.record_in.ensures.reads r h.0 same)))
+    let given = c.in_ok-record.ensures.reads r h.0 e in
+    let none = c.in_default.is in
+    cc))
 
 pub returns-then-eq : goal.returns-then-eq
 returns-then-eq c =
@@ -33,14 +22,12 @@ returns-then-eq c =
     let written : c.args.text.now ≡ line_of c.in-Some.record = sym is ∙ c.as_bytes.ensures.value ∙ c.in_ok-line.ensures in
     let fit : fits c.in-Some.record ≡ true = sym c.fits.ensures ∙ c.if-fits.true in
     let told : is_of c.args.version c.in-Some.record ≡ true = sym c.is_of.ensures ∙ c.if-is_of.true in
-    sym (ap (record_of c.args.version) written ∙ record_of-line_of c.args.version c.in-Some.record ((fit, c.in-Some.ensures.ranges), told))
+    sym (ap (record_of c.args.version) written ∙ record_of-line_of c.args.version c.in-Some.record ((fit, subst (λ (o : Option Record). IfSome o InRange) c.in-Some.is c.in_ok-record.ensures.ranges), told))
 
-pub returns : goal.returns
-returns c = sym (no_record c.args.version c.args.text.now (λ r h e.
-    let reads : read c.args.text.now ≡ Some (value_of r) = ap read e ∙ read-line_of r h.0.1 in
-    let value = c.in-Ok.ensures.ok.1 in
-    let same : view c.in-Ok.value ≡ value_of r = cc in
-    let given = c.record_in.ensures.reads r h.0 same in
+pub returns-else-fits : goal.returns-else-fits
+returns-else-fits c = sym (no_record c.args.version c.args.text.now (λ r h e.
+    let given = c.in_ok-record.ensures.reads r h.0 e in
+    let found = c.in-Some.is in
     let is : c.in-Some.record ≡ r = cc in
     elim c.else-fits.branch [
       | else-fits-via-then-fits+then-is_of+in_ok-line+else-eq w ↦
