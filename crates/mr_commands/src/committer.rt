@@ -20,7 +20,7 @@ use crate::fault::SimFault;
 pub use listing::print_names;
 use mr_commit::CommitFault;
 use mr_ids::AppAttempt;
-use mr_names::{Caller, NameFault, Namespace};
+use mr_names::{Caller, Namespace};
 use mr_paths::{Layout, Name, Path};
 use mr_script::ScriptFault;
 use std::alloc::{AllocError, Global};
@@ -45,27 +45,7 @@ fn start(alloc: Global) -> Result<Scene, SimFault>
     };
     match Namespace::new(alloc) {
         Ok(names) => Ok(Scene { names, caller }),
-        Err(fault) => Err(wants_memory(fault)),
-    }
-}
-
-/// What is left of a namespace's faults where nothing but memory can be refused.
-fn wants_memory(fault: NameFault) -> SimFault
-    requires { fault ≡ NameFault.NoMemory }
-    ensures { result ≡ SimFault.NoMemory }
-{
-    match fault {
-        NameFault::NoMemory => SimFault::NoMemory,
-        NameFault::Superseded(_) => unreachable!(),
-        NameFault::Barred => unreachable!(),
-        NameFault::Missing => unreachable!(),
-        NameFault::Exists => unreachable!(),
-        NameFault::NotDir => unreachable!(),
-        NameFault::NotFile => unreachable!(),
-        NameFault::Closed => unreachable!(),
-        NameFault::NoParent => unreachable!(),
-        NameFault::IntoItself => unreachable!(),
-        NameFault::Full => unreachable!(),
+        Err(fault) => Err(SimFault::from(fault.wants_memory())),
     }
 }
 

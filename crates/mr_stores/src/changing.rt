@@ -6,7 +6,6 @@ ghost use Rattle.mr_model.specs.Stored.{master};
 ghost use Rattle.mr_stores.specs.Masters.{IsSuited, is_look};
 
 use crate::foretelling::master_caller;
-use crate::memory::{history_wants_memory, names_want_memory};
 use mr_history::{History, Record};
 use mr_ids::AppAttempt;
 use mr_master_model::StoreCall;
@@ -23,7 +22,7 @@ pub fn change_names(names: &mut Namespace, app: AppAttempt, op: &Op) -> Result<(
     }
     match names.perform(master_caller(app), op) {
         Ok(_) => Ok(()),
-        Err(fault) => Err(names_want_memory(fault)),
+        Err(fault) => Err(fault.wants_memory()),
     }
 }
 
@@ -43,7 +42,7 @@ pub fn append_record(
     }
     match history.append(app, *line) {
         Ok(()) => Ok(()),
-        Err(fault) => Err(history_wants_memory(fault)),
+        Err(fault) => Err(fault.wants_memory()),
     }
 }
 

@@ -4,7 +4,6 @@ ghost use Rattle.mr_names.specs.Calls.{refused};
 ghost use Rattle.mr_model.specs.Stored.{left_in, heard_in};
 ghost use Rattle.mr_stores.specs.Calls.{answer_of, is_full, is_made};
 
-use crate::memory::names_want_memory;
 use crate::weather::is_made;
 use mr_container::Reply;
 use mr_event::Weather;
@@ -66,7 +65,7 @@ fn answer(
         Some(refusal) => Ok(Err(refusal)),
         None => match names.perform(call.caller, &call.op) {
             Ok(answer) => Ok(Ok(answer)),
-            Err(fault) => Err(names_want_memory(fault)),
+            Err(fault) => Err(fault.wants_memory()),
         },
     }
 }

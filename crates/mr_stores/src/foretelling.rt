@@ -7,7 +7,6 @@ ghost use Rattle.mr_model.specs.bridge.Stores.{told_of};
 ghost use Rattle.mr_stores.specs.Masters.{answer_to, finds_full, is_segment_full, written_as};
 
 use crate::container::is_full;
-use crate::memory::{history_wants_memory, names_want_memory};
 use mr_history::{History, HistoryFault};
 use mr_ids::AppAttempt;
 use mr_master_model::{StoreAnswer, StoreCall};
@@ -88,7 +87,7 @@ fn found(names: &Namespace, caller: Caller, op: &Op) -> Result<Answer, AllocErro
     };
     match found {
         Ok(found) => Ok(found),
-        Err(fault) => Err(names_want_memory(fault)),
+        Err(fault) => Err(fault.wants_memory()),
     }
 }
 
@@ -113,6 +112,6 @@ fn read(history: &History, app: AppAttempt) -> Result<StoreAnswer, AllocError>
     }
     match history.read(app) {
         Ok(records) => Ok(StoreAnswer::Told(records)),
-        Err(fault) => Err(history_wants_memory(fault)),
+        Err(fault) => Err(fault.wants_memory()),
     }
 }

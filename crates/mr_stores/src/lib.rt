@@ -14,19 +14,16 @@
 //!   refused, nothing has changed.
 //! - `is_made` tells whether a call is made in a weather, and `tell_ranges` that the numbers of a record that is
 //!   appended are in their ranges.
-//! - `names_want_memory` and `history_wants_memory` take a fault where a call has no refusal: it is the one of memory.
 #![tactic(auto)]
 
 mod changing;
 mod container;
 mod foretelling;
-mod memory;
 mod ranges;
 mod weather;
 
 pub use changing::{append_record, change_names};
 pub use container::{ContainerCall, answer_container, would_be_full};
 pub use foretelling::{finds_full, master_answer, names_answer};
-pub use memory::{history_wants_memory, names_want_memory};
 pub use ranges::tell_ranges;
 pub use weather::is_made;
