@@ -37,7 +37,7 @@ impl ByTask {
     }
 
     /// The first winners of a list.
-    pub fn of_list(alloc: Global, winners: &[TaskWinner]) -> Result<ByTask, AllocError>
+    pub(crate) fn of_list(alloc: Global, winners: &[TaskWinner]) -> Result<ByTask, AllocError>
         ensures { IfOk result (λ by_task. SaysListed by_task winners.now) }
     {
         let mut by_task = ByTask::new(alloc);

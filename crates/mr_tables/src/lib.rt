@@ -39,6 +39,6 @@ pub use launches::{Launches, both};
 pub use marks::Marks;
 pub use nodes::Nodes;
 pub use packets::{kill, push_outcome, push_won, to_container, to_node};
-pub use records::{Writing, is_unsuccessful};
+pub use records::{Writing, either, is_unsuccessful};
 pub use spots::{Spot, Spread, lower};
-pub use successes::{Newest, Places, Success, spread_of};
+pub use successes::{Newest, Places, Success};

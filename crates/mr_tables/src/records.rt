@@ -171,7 +171,8 @@ impl Writing {
     }
 }
 
-fn either(a: bool, b: bool) -> bool
+/// Whether one of them holds.
+pub fn either(a: bool, b: bool) -> bool
     ensures { result ≡ (a || b) }
 {
     a || b

@@ -147,7 +147,7 @@ impl Newest {
 }
 
 /// The maps by the nodes where the records say that outputs of theirs lie.
-pub fn spread_of(alloc: Global, records: &[Record]) -> Result<Spread, AllocError>
+pub(crate) fn spread_of(alloc: Global, records: &[Record]) -> Result<Spread, AllocError>
     ensures { IfOk result (λ spread. TellsSpots spread records.now) }
 {
     let mut spread = Spread::new(alloc);
