@@ -43,7 +43,12 @@ impl Row {
     }
 
     /// One run more came to this end. It fails where there is no memory, and leaves the row as it was.
-    pub fn meet(&mut self, alloc: Global, faults: u32, events: &[Event]) -> Result<(), AllocError>
+    pub(crate) fn meet(
+        &mut self,
+        alloc: Global,
+        faults: u32,
+        events: &[Event],
+    ) -> Result<(), AllocError>
         ensures met { OnOk result (as_end self.new ≡ met faults events.now (as_end self.old)) }
         ensures stays { OnErr result (self.new ≡ self.old) }
     {
@@ -57,7 +62,7 @@ impl Row {
     }
 
     /// Whether its script has more faults than these, or as many and more events.
-    pub fn is_after(&self, faults: u32, events: usize) -> bool
+    pub(crate) fn is_after(&self, faults: u32, events: usize) -> bool
         ensures { result ≡ is_shorter faults events (as_end self.now) }
     {
         faults < self.faults || (faults == self.faults && events < self.events)
