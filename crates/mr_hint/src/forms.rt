@@ -47,7 +47,7 @@ const PLAY: [&str; 13] = [
 
 impl Script {
     /// The forms of each of its commands.
-    pub fn commands(&self) -> &'static [&'static str] {
+    pub(crate) fn commands(&self) -> &'static [&'static str] {
         match self {
             Script::Committer => &COMMITTER,
             Script::Play => &PLAY,
@@ -55,7 +55,7 @@ impl Script {
     }
 
     /// Whether a word of a form takes this word of a line.
-    pub fn takes(&self, form: &str, part: &str, word: &[u8]) -> bool {
+    pub(crate) fn takes(&self, form: &str, part: &str, word: &[u8]) -> bool {
         match part {
             "K" => generation(word).is_some(),
             "KEPT" | "I" => long_number(word).is_some(),
