@@ -1,4 +1,4 @@
--- The entries and each file keep their limits.
+-- The entries and each file keep their limits, and so a namespace stays sound.
 use Rattle.std.proofs.Common.{◌≡◌, ◌≤◌, ◌+◌, ℕ, Bool, true, false, not, cond, List, [], ◌++◌, length, length-append, refl, sym, ap, ◌∙◌, subst, Option, Some, None, is_some, arith}
 use Rattle.std.specs.Option.{option_map}
 use Rattle.std.specs.FinMap as finite
@@ -12,10 +12,10 @@ use Rattle.mr_names.specs.declared.namespace.TheConstants.{MAX_ENTRIES, MAX_FILE
 use Rattle.mr_names.specs.Node.{appended, closed_of}
 use Rattle.mr_names.specs.Content.{Content, IsTree, is_path, within, renamed_at_by}
 use Rattle.mr_names.specs.Held.{node_at, bytes_of}
-use Rattle.mr_names.specs.Calls.{State, FilesFit, entry_count, missing, refusal, refused, effect}
+use Rattle.mr_names.specs.Calls.{State, FilesFit, IsSound, entry_count, missing, refusal, refused, effect}
 use Rattle.mr_names.specs.Laws.{node_after, MayMkdirs, MayCreate}
 use Rattle.mr_names.proofs.CallLaws.{each_path, answered_only, get-written, is_path-same}
-use Rattle.mr_names.proofs.TreeLaws.{past_caller}
+use Rattle.mr_names.proofs.TreeLaws.{past_caller, tree_after}
 use Rattle.mr_names.proofs.Sizes.{len_insert, len_with_dirs, len_changed, len_retained, len_renamed}
 
 -- ---- the entries
@@ -97,3 +97,17 @@ files_after s caller call new none tree fit is = subst FilesFit (sym is) (files_
 -- the root alone
 pub files_root : FilesFit (finite.insert finite.empty [] Dir)
 files_root q = subst Fits (sym (get-written finite.empty [] Dir q ∙ ap (cond (is_path q []) (Some Dir)) (finite.get-empty path_cmp q))) (pick (is_path q []) (Some Dir) None (omega arith) (omega arith))
+
+-- ---- a namespace
+
+-- A call that is not refused changes the content alone, and the namespace stays sound. It is seen from within, where its parts are.
+pub sound_after : (inside now : State) (new : Content) (caller : Caller) (call : Op) → IsSound inside → inside ≡ now → refused now caller call ≡ None → new ≡ effect inside.content call → IsSound (record inside { content = new })
+sound_after inside now new caller call sound is none told =
+    let heard : refused inside caller call ≡ None = subst (λ s. refused s caller call ≡ None) (sym is) none in
+    record {
+      tree = tree_after inside caller call new heard sound.tree told;
+      entries = entries_after inside caller call new heard sound.entries told;
+      files = files_after inside caller call new heard sound.tree sound.files told;
+      fence = sound.fence;
+      barred = sound.barred;
+    }

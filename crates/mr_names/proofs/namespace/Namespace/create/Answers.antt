@@ -1,17 +1,7 @@
-use Rattle.std.proofs.Common.{◌≤◌, ◌∙◌, ap, subst, rules}
+use Rattle.std.proofs.Common.{rules}
 use Rattle.mr_names.specs.declared.op.Op.TheVariants as op
-use Rattle.mr_names.specs.declared.namespace.TheConstants.{MAX_ENTRIES}
-use Rattle.mr_names.specs.Calls.{State, FilesFit, entry_count, effect}
-use Rattle.mr_names.specs.Content.{IsTree}
-use Rattle.mr_names.proofs.TreeLaws.{tree_after}
-use Rattle.mr_names.proofs.Limits.{entries_after, files_after}
+use Rattle.mr_names.proofs.Limits.{sound_after}
 use Rattle.mr_names.proofs.namespace.Namespace.create.Goals as goal
 
 pub invariant_of-self-2 : goal.invariant_of-self-2
-invariant_of-self-2 c =
-    let call = op.Create c.args.path.now c.args.closed in
-    let tree : IsTree c.args.self.now.content = subst (λ (s : State). IsTree s.content) c.self.view_is c.self.invariant.tree in
-    let left = tree_after c.args.self.now c.args.caller call c.insert.new.self c.in_ok-check_create.ensures tree ((search rules) ∙ ap (λ (s : State). effect s.content call) c.self.view_is) in
-    let few = entries_after c.args.self.now c.args.caller call c.insert.new.self c.in_ok-check_create.ensures (subst (λ (s : State). entry_count s.content ≤ MAX_ENTRIES) c.self.view_is c.self.invariant.entries) ((search rules) ∙ ap (λ (s : State). effect s.content call) c.self.view_is) in
-    let fit = files_after c.args.self.now c.args.caller call c.insert.new.self c.in_ok-check_create.ensures tree (subst (λ (s : State). FilesFit s.content) c.self.view_is c.self.invariant.files) ((search rules) ∙ ap (λ (s : State). effect s.content call) c.self.view_is) in
-    record { tree = left; entries = few; files = fit; fence = c.self.invariant.fence; barred = c.self.invariant.barred }
+invariant_of-self-2 c = sound_after _ c.args.self.now c.insert.new.self c.args.caller (op.Create c.args.path.now c.args.closed) c.self.invariant c.self.view_is c.in_ok-check_create.ensures (search rules)
