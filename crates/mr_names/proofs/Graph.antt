@@ -86,6 +86,30 @@ pub on_err : {A E : Type 0} (r : Result A E) (X : Type 0) → X → OnErr r X
 on_err (Ok a) X x = tt
 on_err (Err e) X x = x
 
+pub on_ok_by : {A E : Type 0} (r : Result A E) {X Y : Type 0} → (X → Y) → OnOk r X → OnOk r Y
+on_ok_by (Ok a) f x = f x
+on_ok_by (Err e) f x = tt
+
+pub on_err_by : {A E : Type 0} (r : Result A E) {X Y : Type 0} → (X → Y) → OnErr r X → OnErr r Y
+on_err_by (Ok a) f x = tt
+on_err_by (Err e) f x = f x
+
+-- what stands at a node is written, and its edges are as they were
+pub node_changed : (s t : Slab Place) (key : ℕ) (place new : Place) (f : Node → Node) → get s key ≡ Some place → Updates s t key (Some new) → new.node ≡ f place.node → new.children.entries ≡ place.children.entries → NodeChanged s t key f
+node_changed s t key place new f was up changed children = record {
+  here = ap node_of up.changed ∙ ap Some changed ∙ ap (λ o. option_map f (node_of o)) (sym was);
+  others = λ other apart. ap node_of (up.others other apart);
+  edges = edges;
+}
+  where
+    edges : (from : ℕ) (name : List ℕ) → edges_of t from name ≡ edges_of s from name
+    edges from name = elim (eqb_tells from key) [
+      | inl one ↦
+          ap (λ k. edges_of t k name) one.1 ∙ ap (λ o. child_by o name) up.changed ∙ ap (lookup (is_at (name_cmp name))) children
+          ∙ ap (λ o. child_by o name) (sym was) ∙ ap (λ k. edges_of s k name) (sym one.1)
+      | inr two ↦ ap (λ o. child_by o name) (up.others from two.1)
+    ]
+
 -- a node is put at a vacant key, and an edge to it is set
 pub node_added : (s t u : Slab Place) (key at : ℕ) (place : Place) (name : List ℕ) → get s key ≡ None → Updates s t key (Some place) → place.children.entries ≡ [] → EdgeSet t u at name (Some key) → NodeAdded s u at name place.node key
 node_added s t u key at place name vacant up bare set = record {

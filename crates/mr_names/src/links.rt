@@ -165,10 +165,7 @@ pub fn append_at(nodes: &mut Slab<Place>, key: usize, more: &Bytes) -> Result<()
     ensures some { OnErr result (nat_lt 0 (length more.now) ≡ true) }
 {
     match nodes.get_mut(key) {
-        Some(place) => {
-            place.node.append(more)?;
-            Ok(())
-        }
+        Some(place) => place.node.append(more),
         None => Ok(()),
     }
 }
