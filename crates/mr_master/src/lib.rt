@@ -35,7 +35,7 @@
 //! - `copy` gives a machine that stands for each past that this one stands for.
 //! - Memory may be taken by `new`, `copy`, `duty` and `reserve`, by each `prepare_..`, and by `hear`, `launch`,
 //!   `expire` and `answer`. No other call takes any.
-//! - Only tested: that the calls succeed with ample memory, along a few ways through the phases (`crates/tests_masters`).
+//! - Only tested: that the calls succeed with ample memory, along a few ways through the phases (`crates/tests_world`).
 #![tactic(auto)]
 
 mod master;

@@ -1,4 +1,4 @@
-//! Tests of one attempt, the permission to commit one task, and the recovery plan.
+//! Tests of one attempt, the permission to commit one task, the recovery plan, packets, containers and nodes.
 #![tactic(auto)]
 
 // Ends the test where the condition is not so, and tells it, and at which row. It is a call where `assert!` is a branch, and its proof
@@ -15,9 +15,19 @@ macro_rules! confirm {
 #[cfg(test)]
 mod attempts;
 #[cfg(test)]
+mod bags;
+#[cfg(test)]
+mod commits;
+#[cfg(test)]
 mod confirm;
 #[cfg(test)]
+mod fetches;
+#[cfg(test)]
+mod fixtures;
+#[cfg(test)]
 mod grants;
+#[cfg(test)]
+mod nodes;
 #[cfg(test)]
 mod recovery;
 #[cfg(test)]

@@ -1,4 +1,4 @@
-//! What the tests begin with.
+//! What the tests of masters begin with.
 
 use mr_history::Records;
 use mr_ids::{AppAttempt, AttemptId, JobId, TaskId, TaskKind};

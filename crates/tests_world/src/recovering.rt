@@ -1,6 +1,6 @@
 //! A second master that takes over what maps left on nodes.
 
-use crate::fixtures::{generation_of, hears, launched, opens, task};
+use crate::masters::{generation_of, hears, launched, opens, task};
 use mr_history::{Record, Records};
 use mr_ids::{AppAttempt, AttemptId, TaskKind};
 use mr_packet::{Address, ContainerId, Envelope, Packet};

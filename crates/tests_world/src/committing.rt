@@ -1,6 +1,6 @@
 //! What is refused while a master commits its job, and while its job fails.
 
-use crate::fixtures::{answered, due, is_done, launched, lists_nothing, replies, writes};
+use crate::masters::{answered, due, is_done, launched, lists_nothing, replies, writes};
 use crate::running::{reduce, running};
 use crate::stopping::{stops, won};
 use mr_history::HistoryFault;

@@ -1,6 +1,6 @@
 //! What makes a master Stopped, and what else ends its job.
 
-use crate::fixtures::{answered, due, generation_of, given_up, is_done, master, sends, writes};
+use crate::masters::{answered, due, generation_of, given_up, is_done, master, sends, writes};
 use crate::running::{finishes, first_attempt, launches, running};
 use mr_history::{HistoryFault, Record, Records};
 use mr_ids::AppAttempt;

@@ -1,3 +1,4 @@
+//! Jobs that threads run: gates, and works at once. Runs with faults of a plan are rows of tools/hostile.
 ghost use Rattle.mr_commands.specs.job.Submission.{IsWithinLimits};
 
 use mr_commands::{Submission, read_job_text};

@@ -1,6 +1,6 @@
 //! A master that opens: it looks for the marks of a job commit, launches nothing, and hears of nodes alone.
 
-use crate::fixtures::{attempt, container, hears, job, master, task};
+use crate::masters::{attempt, container, hears, job, master, task};
 use mr_ids::{JobId, TaskId, TaskKind};
 use mr_master::{Duty, LaunchError, MasterMachine};
 use mr_master_model::{DutyName, LaunchFault, Phase, StoreCall};

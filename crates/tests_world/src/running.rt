@@ -1,6 +1,6 @@
 //! A master that comes to Running: it launches its one reduce and names its attempt.
 
-use crate::fixtures::{attempt, container, hears, launched, master_of, opens, task};
+use crate::masters::{attempt, container, hears, launched, master_of, opens, task};
 use mr_history::Records;
 use mr_ids::{AttemptId, TaskId, TaskKind};
 use mr_master::MasterMachine;

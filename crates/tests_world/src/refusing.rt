@@ -1,6 +1,6 @@
 //! Why a master would launch nothing, or would not give a node up: told without a try.
 
-use crate::fixtures::{launched, master, task};
+use crate::masters::{launched, master, task};
 use crate::running::{launches, reduce, running};
 use mr_ids::TaskKind;
 use mr_master_model::LaunchFault;

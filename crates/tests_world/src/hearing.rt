@@ -1,6 +1,6 @@
 //! What a running master hears.
 
-use crate::fixtures::{
+use crate::masters::{
     attempt, container, due, first, hears, launched, master_of, opens, replies, task, writes,
 };
 use crate::running::{launches, reduce, running};

@@ -1,6 +1,6 @@
 //! A node is given up.
 
-use crate::fixtures::{does, due, first, given_up, launched, master_of, opens, task};
+use crate::masters::{does, due, first, given_up, launched, master_of, opens, task};
 use mr_history::Records;
 use mr_ids::TaskKind;
 use mr_master::MasterMachine;
