@@ -84,6 +84,7 @@
 #![tactic(auto)]
 
 mod abort;
+mod answer;
 mod checks;
 mod fault;
 mod job;

@@ -1,11 +1,12 @@
 //! One line of a committer's table: its namespace call, and the lines that take its place once that was answered. Here are the merge of directories and the
 //! search through earlier generations; a `Step` keeps such lines for each operation.
 ghost use Rattle.std.specs.Prelude.{◌≡◌, ◌<◌, [], ◌∷◌, ◌++◌, IfOk, IfErr, OnErr, Ok, Err, map, filter, length};
-ghost use Rattle.mr_commit.specs.Line.{replaced, is_answer_to, found, listed, bytes_read, op_of, merging, merging_child, merging_task, is_task, passes_missing, before, older, sought, taking_over, measuring, measured, fault_at};
+ghost use Rattle.mr_commit.specs.Line.{replaced, answered, op_of, merging, merging_child, merging_task, is_task, passes_missing, before, older, sought, taking_over, measuring, measured, fault_at};
 ghost use Rattle.mr_commit.specs.Line.Line.{Does, Clears, Needs, Merges, MergesEach, MergesTasks, Seeks, Measures};
 ghost use Rattle.mr_commit.specs.Steps.{IsFault};
-ghost use Rattle.mr_commit.specs.inner.TableLine.{IsWhy};
+ghost use Rattle.mr_commit.specs.inner.TableLine.{line_by, IsWhy};
 
+use crate::answer::{bytes_read, found, is_answer_to, listed};
 use crate::fault::CommitFault;
 use mr_ids::{AppAttempt, TaskId};
 use mr_names::{Answer, Entry, Kind, NameFault, Op};
@@ -87,6 +88,39 @@ impl Rule {
             },
             Rule::Measure(bytes) => Rule::Measure(*bytes),
         })
+    }
+
+    // The lines that follow from an answer of the call.
+    fn lines_after(
+        &self,
+        alloc: Global,
+        answer: &Answer,
+    ) -> Result<LinkedList<TableLine>, CommitFault>
+        ensures lines { IfOk result (λ lines. (call : Op) → answered (line_by call self.now) answer.now ≡ Ok lines) }
+        ensures fault { IfErr result (λ f. (call : Op) → IsWhy (answered (line_by call self.now) answer.now) f) }
+    {
+        match self {
+            Rule::Plain | Rule::MissingPasses => Ok(LinkedList::new(alloc)),
+            Rule::Needed => match found(answer) {
+                Some(_kind) => Ok(LinkedList::new(alloc)),
+                None => Err(CommitFault::OutputMissing),
+            },
+            Rule::Merge { taken, from, to } => {
+                Ok(merging(alloc, *taken, from, to, found(answer))?)
+            }
+            Rule::MergeEach { from, to } => {
+                Ok(merging_children(alloc, from, to, listed(answer))?)
+            }
+            Rule::MergeTasks { from, to } => Ok(merging_tasks(alloc, from, to, listed(answer))?),
+            Rule::Seek {
+                layout,
+                task,
+                bytes,
+                k,
+                j,
+            } => sought(alloc, layout, *task, *bytes, *k, *j, found(answer)),
+            Rule::Measure(bytes) => measured(alloc, *bytes, bytes_read(answer)),
+        }
     }
 }
 
@@ -263,70 +297,7 @@ impl TableLine {
         if !is_answer_to(&self.op, answer) {
             return Err(CommitFault::WrongAnswer);
         }
-        match &self.rule {
-            Rule::Plain | Rule::MissingPasses => Ok(LinkedList::new(alloc)),
-            Rule::Needed => match found(answer) {
-                Some(_kind) => Ok(LinkedList::new(alloc)),
-                None => Err(CommitFault::OutputMissing),
-            },
-            Rule::Merge { taken, from, to } => {
-                Ok(merging(alloc, *taken, from, to, found(answer))?)
-            }
-            Rule::MergeEach { from, to } => {
-                Ok(merging_children(alloc, from, to, listed(answer))?)
-            }
-            Rule::MergeTasks { from, to } => Ok(merging_tasks(alloc, from, to, listed(answer))?),
-            Rule::Seek {
-                layout,
-                task,
-                bytes,
-                k,
-                j,
-            } => sought(alloc, layout, *task, *bytes, *k, *j, found(answer)),
-            Rule::Measure(bytes) => measured(alloc, *bytes, bytes_read(answer)),
-        }
-    }
-}
-
-/// Whether an answer is one of a call.
-fn is_answer_to(op: &Op, answer: &Answer) -> bool
-    ensures { result ≡ is_answer_to op.now answer.now }
-{
-    match op {
-        Op::List(_path) => matches!(answer, Answer::Listed(_entries)),
-        Op::Exists(_path) => matches!(answer, Answer::Found(_there)),
-        Op::Read(_path) => matches!(answer, Answer::Contents(_bytes)),
-        _ => matches!(answer, Answer::Done),
-    }
-}
-
-/// What an answer says is there.
-fn found(answer: &Answer) -> Option<Kind>
-    ensures { result ≡ found answer.now }
-{
-    match answer {
-        Answer::Found(there) => *there,
-        _ => None,
-    }
-}
-
-/// What an answer lists.
-fn listed(answer: &Answer) -> &[Entry]
-    ensures { result.now ≡ listed answer.now }
-{
-    match answer {
-        Answer::Listed(entries) => entries.as_slice(),
-        _ => &[],
-    }
-}
-
-/// What an answer reads.
-fn bytes_read(answer: &Answer) -> &[u8]
-    ensures { result.now ≡ bytes_read answer.now }
-{
-    match answer {
-        Answer::Contents(bytes) => bytes.as_slice(),
-        _ => &[],
+        self.rule.lines_after(alloc, answer)
     }
 }
 
@@ -449,11 +420,18 @@ fn merging_children(
 {
     let mut lines = LinkedList::new(alloc);
     for entry in entries {
-        let child = from.child(entry.name.copy()?)?;
-        let place = to.child(entry.name.copy()?)?;
-        lines.push_back(TableLine::merges(entry.kind, child, place)?)?;
+        lines.push_back(merging_child(from, to, entry)?)?;
     }
     Ok(lines)
+}
+
+/// The line that merges a child of `from` onto the same name in `to`.
+fn merging_child(from: &Path, to: &Path, entry: &Entry) -> Result<TableLine, AllocError>
+    ensures { IfOk result (λ line. line ≡ merging_child from.now to.now entry.now) }
+{
+    let child = from.child(entry.name.copy()?)?;
+    let place = to.child(entry.name.copy()?)?;
+    TableLine::merges(entry.kind, child, place)
 }
 
 /// The lines that merge each entry of `from` but `_temporary` as a directory onto `to`.
@@ -487,5 +465,5 @@ fn merging_task(from: &Path, to: &Path, entry: &Entry) -> Result<TableLine, Allo
     ensures { IfOk result (λ line. line ≡ merging_task from.now to.now entry.now) }
 {
     let task = from.child(entry.name.copy()?)?;
-    Ok(TableLine::merges(Kind::Dir, task, to.copy()?)?)
+    TableLine::merges(Kind::Dir, task, to.copy()?)
 }
