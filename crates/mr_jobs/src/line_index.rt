@@ -6,7 +6,7 @@ ghost use Rattle.mr_jobs.specs.LineIndex.{line_index, position_text};
 ghost use Rattle.mr_jobs.specs.inner.LineIndexProofs.{line_index_laws};
 
 use crate::word::{word_partition, word_texts};
-use mr_user::{Job, Position, Text, UserFault};
+use mr_user::{Job, Position, Text, UserFault, one};
 use std::alloc::{AllocError, Global};
 
 /// Where each word stands: a position for each time, in order.
@@ -55,9 +55,7 @@ impl Job for LineIndex {
         _key: &Text,
         values: &[Position],
     ) -> Result<Vec<Vec<u8>>, AllocError> {
-        let mut texts = Vec::new(alloc);
-        texts.push(joined(alloc, values)?)?;
-        Ok(texts)
+        one(alloc, joined(alloc, values)?)
     }
 
     fn key_text(&self, alloc: Global, key: &Text) -> Result<Vec<u8>, AllocError> {

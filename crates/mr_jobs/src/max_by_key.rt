@@ -1,5 +1,5 @@
 //! A job: the greatest number of each key.
-ghost use Rattle.std.specs.Prelude.{◌≡◌, ◌≤◌, ◌^◌, length, map, Some, None, IfOk, IfErr};
+ghost use Rattle.std.specs.Prelude.{◌≡◌, ◌≤◌, ◌^◌, [], ◌∷◌, length, Some, None, IfOk, IfErr};
 ghost use Rattle.std.specs.List.{list_all};
 ghost use Rattle.std.specs.Char.{is_ascii_digit};
 ghost use Rattle.mr_user.specs.Faults.{RefusedIf};
@@ -8,7 +8,7 @@ ghost use Rattle.mr_jobs.specs.MaxByKey.{max_by_key, numbered, number_of, greate
 ghost use Rattle.mr_jobs.specs.inner.MaxByKeyProofs.{max_by_key_laws};
 
 use crate::word::{word_partition, words};
-use mr_user::{Job, Text, UserFault};
+use mr_user::{Job, Text, UserFault, one};
 use std::alloc::{AllocError, Global};
 use std::str;
 
@@ -41,9 +41,7 @@ impl Job for MaxByKey {
     }
 
     fn combine(&self, alloc: Global, _key: &Text, values: &[u64]) -> Result<Vec<u64>, AllocError> {
-        let mut combined = Vec::new(alloc);
-        combined.push(greatest(values))?;
-        Ok(combined)
+        one(alloc, greatest(values))
     }
 
     fn reduce(
@@ -52,10 +50,7 @@ impl Job for MaxByKey {
         _key: &Text,
         values: &[u64],
     ) -> Result<Vec<Vec<u8>>, AllocError> {
-        let text = greatest(values).to_string(alloc)?;
-        let mut texts = Vec::new(alloc);
-        texts.push(text.into_bytes())?;
-        Ok(texts)
+        one(alloc, greatest(values).to_string(alloc)?.into_bytes())
     }
 
     fn key_text(&self, alloc: Global, key: &Text) -> Result<Vec<u8>, AllocError> {
@@ -81,18 +76,23 @@ fn numbered(alloc: Global, line: &[u8]) -> Result<Vec<(Text, u64)>, UserFault>
     ensures refused { IfErr result (λ fault. RefusedIf fault (numbered (words_of line.now) ≡ None)) }
 {
     let words = words(alloc, line)?;
-    let mut pairs = Vec::new(alloc);
     match words.as_slice() {
-        [] => {}
-        [key, number] => {
-            let Some(number) = number_of(number) else {
-                return Err(UserFault::Refused);
-            };
-            pairs.push((Text::from_slice(alloc, key)?, number))?;
-        }
-        _ => return Err(UserFault::Refused),
+        [] => Ok(Vec::new(alloc)),
+        [key, number] => pair(alloc, key, number),
+        _ => Err(UserFault::Refused),
     }
-    Ok(pairs)
+}
+
+// The pair of a key and of the number that a word writes.
+fn pair(alloc: Global, key: &[u8], number: &[u8]) -> Result<Vec<(Text, u64)>, UserFault>
+    requires { length key.now ≤ 2 ^ 24 }
+    ensures pairs { IfOk result (λ pairs. numbered (key.now ∷ number.now ∷ []) ≡ Some pairs.items) }
+    ensures refused { IfErr result (λ fault. RefusedIf fault (numbered (key.now ∷ number.now ∷ []) ≡ None)) }
+{
+    let Some(number) = number_of(number) else {
+        return Err(UserFault::Refused);
+    };
+    Ok(one(alloc, (Text::from_slice(alloc, key)?, number))?)
 }
 
 // The number that a word of 1 to 20 digits writes, if it is below 2^64.

@@ -5,7 +5,7 @@ ghost use Rattle.mr_jobs.specs.WordCount.{word_count, held_sum};
 ghost use Rattle.mr_jobs.specs.inner.WordCountProofs.{word_count_laws};
 
 use crate::word::{word_partition, word_texts};
-use mr_user::{Job, Text, UserFault};
+use mr_user::{Job, Text, UserFault, one};
 use std::alloc::{AllocError, Global};
 
 /// Counts how often each word stands. A sum is held at 2^64 - 1.
@@ -36,9 +36,7 @@ impl Job for WordCount {
     }
 
     fn combine(&self, alloc: Global, _key: &Text, values: &[u64]) -> Result<Vec<u64>, AllocError> {
-        let mut combined = Vec::new(alloc);
-        combined.push(held_sum(values))?;
-        Ok(combined)
+        one(alloc, held_sum(values))
     }
 
     fn reduce(
@@ -47,10 +45,7 @@ impl Job for WordCount {
         _key: &Text,
         values: &[u64],
     ) -> Result<Vec<Vec<u8>>, AllocError> {
-        let text = held_sum(values).to_string(alloc)?;
-        let mut texts = Vec::new(alloc);
-        texts.push(text.into_bytes())?;
-        Ok(texts)
+        one(alloc, held_sum(values).to_string(alloc)?.into_bytes())
     }
 
     fn key_text(&self, alloc: Global, key: &Text) -> Result<Vec<u8>, AllocError> {

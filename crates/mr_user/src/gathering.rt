@@ -8,6 +8,7 @@ ghost use Rattle.mr_user.specs.Sequential.{key_lines, pairs_of_split};
 
 use crate::execution::{MAX_SPLIT_LEN, write_lines};
 use crate::fault::UserFault;
+use crate::group::one;
 use crate::job::Job;
 use crate::line::next_line;
 use std::alloc::{AllocError, Global};
@@ -70,9 +71,7 @@ fn put<K: Ord + Drop, V: Drop>(
         values.push(value)?;
         return Ok(());
     }
-    let mut values = Vec::new(alloc);
-    values.push(value)?;
-    groups.insert(key, values)?;
+    groups.insert(key, one(alloc, value)?)?;
     Ok(())
 }
 

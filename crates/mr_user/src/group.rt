@@ -1,5 +1,5 @@
 //! Pairs put in order by their keys, and all values of one key gathered behind it.
-ghost use Rattle.std.specs.Prelude.{◌≡◌, map, fold, [], IfOk, OnOk};
+ghost use Rattle.std.specs.Prelude.{◌≡◌, map, fold, [], ◌∷◌, IfOk, OnOk};
 ghost use Rattle.std.specs.List.Sorted.{IsPermutation, IsSortedByKey, IsStableByKey};
 ghost use Rattle.std.specs.FinMap.{IsAntisymmetric};
 ghost use Rattle.mr_user.specs.Groups.{groups_of, with_pair};
@@ -40,18 +40,27 @@ fn add<K: Ord + Drop, V: Drop>(
 ) -> Result<(), AllocError>
     ensures { OnOk result (map (λ g. (g.0, g.1.items)) groups.new.items ≡ with_pair K.cmp (map (λ g. (g.0, g.1.items)) groups.old.items) (key, value)) }
 {
-    if let Some((last, mut values)) = groups.pop() {
-        if last.cmp(&key) == Ordering::Equal {
-            values.push(value)?;
-            groups.push((last, values))?;
-            return Ok(());
-        }
+    let Some((last, mut values)) = groups.pop() else {
+        groups.push((key, one(alloc, value)?))?;
+        return Ok(());
+    };
+    if last.cmp(&key) == Ordering::Equal {
+        values.push(value)?;
         groups.push((last, values))?;
+        return Ok(());
     }
+    groups.push((last, values))?;
+    groups.push((key, one(alloc, value)?))?;
+    Ok(())
+}
+
+/// A list of one value. It answers no fault but an allocation failure.
+pub fn one<V: Drop>(alloc: Global, value: V) -> Result<Vec<V>, AllocError>
+    ensures { IfOk result (λ values. values.items ≡ value ∷ []) }
+{
     let mut values = Vec::new(alloc);
     values.push(value)?;
-    groups.push((key, values))?;
-    Ok(())
+    Ok(values)
 }
 
 /// The keys of pairs, rising, each once and with its values in order. Takes n log n comparisons of keys for n pairs.

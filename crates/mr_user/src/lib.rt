@@ -35,8 +35,9 @@
 //!   in the README of this crate).
 //! - `Splits` is the list of splits that it was made of. `from_vec`, `into_vec`, `as_slice`, `len`, `get` are what they
 //!   say. `copy` gives equal splits (it refuses for want of memory alone), and `==` is that of the lists.
-//! - **`groups`**: the keys of pairs, rising, each once and with its values in order.
-//! - Memory may be taken by `sequential`, `shares`, `write_lines`, `sort_pairs`, `groups`, `Text::from_slice` and
+//! - **`groups`**: the keys of pairs, rising, each once and with its values in order. `one` is a list of one value, as
+//!   `combine` and `reduce` mostly answer.
+//! - Memory may be taken by `sequential`, `shares`, `write_lines`, `sort_pairs`, `groups`, `one`, `Text::from_slice` and
 //!   `Splits::copy`, by the methods of a job but `partition`, and by `write` and `read` of a form. No other call takes
 //!   any.
 //! - **Gates**: `trait Gate`, whose `refuses` says where it may refuse work of a kind (anywhere, if it does not say
@@ -65,7 +66,7 @@ mod wire;
 pub use execution::{MAX_REDUCES, MAX_SPLIT_LEN, MAX_SPLITS, sequential, shares, write_lines};
 pub use fault::{GateFault, UserFault};
 pub use gate::{Gate, OpenGate};
-pub use group::{groups, sort_pairs};
+pub use group::{groups, one, sort_pairs};
 pub use job::Job;
 pub use laws::{keys_rise, least_group_first, lines_are_pieces};
 pub use line::next_line;
