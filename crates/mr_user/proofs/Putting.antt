@@ -1,10 +1,10 @@
 -- A pair is put among groups whose keys rise.
-use Rattle.std.proofs.Common.{◌≡◌, ℕ, zero, suc, ◌<◌, Bool, true, false, cond, eqb, ◌||◌, List, [], ◌∷◌, ◌++◌, map, filter, length, get_or, set, replicate, Option, Some, None, refl, sym, ap, subst, ◌∙◌, T, arith, append_assoc, add-one, ◌≤◌, ◌+◌, take, drop}
+use Rattle.std.proofs.Common.{◌≡◌, ℕ, zero, suc, ◌<◌, Bool, true, false, cond, eqb, ◌||◌, List, [], ◌∷◌, ◌++◌, map, filter, length, get_or, set, replicate, Option, Some, None, refl, sym, ap, subst, ◌∙◌, T, arith, append_assoc, add-one, ◌+◌, drop}
 use Rattle.std.specs.Prelude.{slice_get}
 use Rattle.std.proofs.lemmas.Bool.{eqb-true, eqb-false}
 use Rattle.std.proofs.lemmas.Option.{slice_get-get_or, slice_get-map, same_Some}
 use Rattle.std.proofs.lemmas.Cmp.{tied_itself}
-use Rattle.std.proofs.lemmas.List.{append-nil, length-set, get_or-set_same, get_or-set_other, take_all}
+use Rattle.std.proofs.lemmas.List.{append-nil, length-set, get_or-set_same, get_or-set_other}
 use Rattle.std.proofs.lemmas.List.Elements.{filter-append}
 use Rattle.std.proofs.lemmas.List.Folds.{list_any-append}
 use Rattle.std.proofs.lemmas.Map.Keys.{sorted_head, sorted_tail}
@@ -208,10 +208,10 @@ module _ {K V : Type 0} (job : Computation K V) where
 
 module _ {K V W : Type 0} (job : Computation K V) (items : W → List ℕ) where
   -- the file of a reduce
-  pub file_gathered : (files : List W) (parts : List (List (K × List V))) (n reduces r : ℕ) (ps : List (K × V)) → map items files ≡ map (flat_map (key_lines job)) (take n parts) → length parts ≤ n → IsGathered job reduces parts ps → r < reduces →
+  pub file_gathered : (files : List W) (parts : List (List (K × List V))) (reduces r : ℕ) (ps : List (K × V)) → map items files ≡ map (flat_map (key_lines job)) parts → IsGathered job reduces parts ps → r < reduces →
       option_map items (slice_get files r) ≡ Some (text_of job (part_of job reduces r ps))
-  file_gathered files parts n reduces r ps is all was l =
+  file_gathered files parts reduces r ps is was l =
       sym (slice_get-map items files r)
-      ∙ ap (λ (texts : List (List ℕ)). slice_get texts r) (is ∙ ap (map (flat_map (key_lines job))) (take_all n parts all))
+      ∙ ap (λ (texts : List (List ℕ)). slice_get texts r) is
       ∙ slice_get-map (flat_map (key_lines job)) parts r
       ∙ ap (option_map (flat_map (key_lines job))) (was.each r l)

@@ -1,5 +1,6 @@
 //! The sequential execution of a job, against which a cluster's output is measured. And for map and reduce works the share of each reduce and the lines of a key.
-ghost use Rattle.std.specs.Prelude.{◌≡◌, ◌≤◌, ◌<◌, ◌++◌, ◌∷◌, [], ℕ, List, length, Some, None, IfOk, IfErr, OnOk, All, slice_get};
+ghost use Rattle.std.specs.Prelude.{◌≡◌, ◌≤◌, ◌<◌, ◌++◌, ◌∷◌, [], ℕ, List, length, map, Some, None, IfOk, IfErr, OnOk, All, slice_get};
+ghost use Rattle.std.specs.List.{flat_map};
 ghost use Rattle.std.specs.Option.{option_map};
 ghost use Rattle.mr_user.specs.Computation.{computation};
 ghost use Rattle.mr_user.specs.Sequential.{pairs_of_splits, part_of, key_lines, output};
@@ -42,8 +43,18 @@ pub fn sequential<J: Job>(
         IfErr result (λ fault. RefusedIf fault
         (pairs_of_splits all 0 splits.now ≡ None)) }
 {
+    let parts = gathered(alloc, job, splits, reduces)?;
+    let files = texts(alloc, job, &parts)?;
+    Ok(files)
+}
+
+// The text of each reduce's groups.
+fn texts<J: Job>(alloc: Global, job: &J, parts: &[Gathered<J>]) -> Result<Vec<Vec<u8>>, AllocError>
+    ensures { let all = computation J.Key.cmp J.Key.codec J.Value.codec J.functions in
+        IfOk result (λ files. map (λ file. file.items) files.items ≡ map (flat_map (key_lines all)) parts.now) }
+{
     let mut files = Vec::new(alloc);
-    for part in &gathered(alloc, job, splits, reduces)? {
+    for part in parts {
         files.push(part.text(alloc, job)?)?;
     }
     Ok(files)

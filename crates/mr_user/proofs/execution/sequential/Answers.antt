@@ -1,34 +1,25 @@
-use Rattle.std.proofs.Common.{◌≡◌, ◌∙◌, ◌<◌, ◌+◌, ◌++◌, ◌∷◌, [], ap, sym, subst, arith, length, map, take, get_or, List, Vec, Global, ℕ}
-use Rattle.std.proofs.lemmas.List.{map-append, take_more}
+use Rattle.std.proofs.Common.{◌∙◌, ap, sym, length, map, List, Vec, Global, ℕ}
+use Rattle.std.proofs.lemmas.List.{length-map}
 use Rattle.std.specs.List.{flat_map}
 use Rattle.std.specs.Option.{option_map}
 use Rattle.mr_user.specs.Computation.{computation}
-use Rattle.mr_user.specs.inner.Gathered.{IsGathered}
 use Rattle.mr_user.specs.Sequential.{key_lines, part_of, text_of}
 use Rattle.mr_user.proofs.Putting.{file_gathered}
 use Rattle.mr_user.proofs.execution.sequential.Goals as goal
 
--- One file more.
-files_more : {F P W : Type 0} (bytes : F → W) (text : P → W) (files now : List F) (file : F) (parts : List P) (i : ℕ) (part : P) → i < length parts → part ≡ get_or parts i part →
-    map bytes files ≡ map text (take i parts) → now ≡ files ++ file ∷ [] → bytes file ≡ text part → map bytes now ≡ map text (take (i + 1) parts)
-files_more bytes text files now file parts i part within at so_far is one =
-    ap (map bytes) is
-    ∙ map-append bytes files (file ∷ [])
-    ∙ ap (λ w. w ++ bytes file ∷ []) so_far
-    ∙ ap (λ w. map text (take i parts) ++ w ∷ []) one
-    ∙ sym (map-append text (take i parts) (part ∷ []))
-    ∙ ap (map text) (sym (take_more parts i part within ∙ ap (λ p. take i parts ++ p ∷ []) (sym at)))
-
-pub loop-part-preserved : goal.loop-part-preserved
-loop-part-preserved g c =
+pub returns-clause-count : goal.returns-clause-count
+returns-clause-count g c =
     let all = computation g.J.Key.Ord.cmp g.J.Key.Wire.codec g.J.Value.Wire.codec g.J.Job.functions in
-    files_more (λ (file : Vec ℕ Global). file.items) (flat_map (key_lines all)) c.loop-part.files.items c.push.new.self.items c.in_ok-text.field-0 c.deref-part-items.result.now
-    c.loop-part.part-index c.part-item.result c.loop-part-test.true c.part-item.is c.loop-part.invariant c.in_ok-push.ensures.items c.in_ok-text.ensures
+    sym (length-map c.in_ok-files.files.items (λ (file : Vec ℕ Global). file.items))
+    ∙ ap (length {A = List ℕ}) c.in_ok-files.ensures
+    ∙ length-map c.deref.result.now (flat_map (key_lines all))
+    ∙ ap (length {A = List (g.row.J-Key.Denot × List g.row.J-Value.Denot)}) c.deref.ensures.value
+    ∙ c.in_ok-parts.ensures.groups.2.count
 
 pub returns-clause-files : goal.returns-clause-files
 returns-clause-files g c r l =
     let all = computation g.J.Key.Ord.cmp g.J.Key.Wire.codec g.J.Value.Wire.codec g.J.Job.functions in
-    let groups = c.in_ok-gathered.ensures.groups in
-    file_gathered all (λ (file : Vec ℕ Global). file.items) c.loop-part.files.items c.deref-part-items.result.now c.loop-part.part-index c.args.reduces r groups.0 c.loop-part.invariant (omega (arith, c.loop-part-test.false))
-    (subst (λ (parts : List (List (g.row.J-Key.Denot × List g.row.J-Value.Denot))). IsGathered all c.args.reduces parts groups.0) (sym c.deref-part-items.ensures.value) groups.2) l
+    let groups = c.in_ok-parts.ensures.groups in
+    file_gathered all (λ (file : Vec ℕ Global). file.items) c.in_ok-files.files.items c.in_ok-parts.parts.items c.args.reduces r groups.0
+    (c.in_ok-files.ensures ∙ ap (map (flat_map (key_lines all))) c.deref.ensures.value) groups.2 l
     ∙ ap (option_map (λ ps. text_of all (part_of all c.args.reduces r ps))) (sym groups.1)

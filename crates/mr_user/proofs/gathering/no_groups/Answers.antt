@@ -1,7 +1,15 @@
-use Rattle.std.proofs.Common.{◌≡◌, ◌∙◌, [], replicate, ap, arith}
+use Rattle.std.proofs.Common.{◌≡◌, ◌∙◌, ◌++◌, ◌∷◌, [], List, replicate, ap, arith}
+use Rattle.std.proofs.lemmas.List.{replicate_more}
 use Rattle.mr_user.specs.Computation.{computation}
 use Rattle.mr_user.proofs.Putting.{none_gathered}
 use Rattle.mr_user.proofs.gathering.no_groups.Goals as goal
+
+pub loop-preserved : goal.loop-preserved
+loop-preserved g c =
+    c.in_ok-push.ensures.items
+    ∙ ap (λ w. c.loop.parts.items ++ w ∷ []) c.new.ensures
+    ∙ ap (λ (ps : List (List (g.row.J-Key.Denot × List g.row.J-Value.Denot))). ps ++ [] ∷ []) c.loop.invariant
+    ∙ replicate_more c.loop.counter []
 
 pub returns : goal.returns
 returns g c =
