@@ -1,7 +1,7 @@
 //! The output committer: merges, commits and aborts, whole or by steps, and what is refused.
 
 use crate::fixtures::{TASK, attempt, by_generation, generation, new_namespace, path};
-use crate::jobs::{job_set_up, made, makes_room, out, prepared, sets_up, stands, told};
+use crate::jobs::{job_set_up, makes_room, out, sets_up, stands};
 use mr_commit::{
     CommitFault, Step, StepDone, check_output, commit_job, commit_task, needs_task_commit,
 };
@@ -18,12 +18,13 @@ fn goes(
     step: &mut Step,
     want: Result<StepDone, CommitFault>,
 ) {
-    assert!(rt; told(rt, step.next(names, *caller)) == want);
+    let answer = step.next(names, *caller);
+    confirm!(rt; answer == want, &answer);
 }
 
 // The step is over.
 fn is_over(rt: &impl Abort, names: &mut Namespace, caller: &Caller, step: &mut Step) {
-    assert!(rt; step.call().is_none());
+    confirm!(rt; step.call().is_none());
     goes(rt, names, caller, step, Err(CommitFault::Over));
 }
 
@@ -36,24 +37,19 @@ fn is_heard_alike(
     step: &mut Step,
     want: StepDone,
 ) {
-    let Some(call) = step.call() else {
-        panic!(rt; "over");
-    };
+    let call = step.call().expect(rt, "over");
     let answer = names.perform(*caller, call);
-    let following = match halves.follow(&answer) {
-        Ok(following) => following,
-        Err(fault) => panic!(rt; "{fault}"),
-    };
-    assert!(rt; following.done() == want);
+    let following = halves.follow(&answer).expect(rt, "a fault");
+    confirm!(rt; following.done() == want);
     halves.go_on(following);
-    assert!(rt; told(rt, step.took(answer)) == Ok(want));
-    assert!(rt; halves.cleans_up() == step.cleans_up());
+    let told = step.took(answer);
+    confirm!(rt; told == Ok(want), &told);
+    confirm!(rt; halves.cleans_up() == step.cleans_up());
 }
 
 // The text of a fault.
 fn prints(rt: &impl Abort, alloc: Global, fault: CommitFault, text: &str) -> bool {
-    let printed = made(rt, fault.to_string(alloc));
-    printed.as_str() == text
+    fault.to_string(alloc).expect(rt, "no memory").as_str() == text
 }
 
 #[test]
@@ -61,8 +57,8 @@ fn setup_by_halves(rt: HostRuntime) {
     let alloc = rt.alloc();
     let one = &by_generation(&rt, 1);
     let mut names = new_namespace(&rt, alloc);
-    let mut halves = made(&rt, Step::setup_job(&out(&rt, alloc), one.app));
-    let mut copy = made(&rt, halves.copy());
+    let mut halves = Step::setup_job(&out(&rt, alloc), one.app).expect(&rt, "no memory");
+    let mut copy = halves.copy().expect(&rt, "no memory");
     is_heard_alike(
         &rt,
         &mut names,
@@ -76,14 +72,12 @@ fn setup_by_halves(rt: HostRuntime) {
 
 // A task's commit goes on where it hears, in two halves, that its attempt's directory is there.
 fn goes_on_by_halves(rt: &impl Abort, step: &Step) {
-    let mut sure = made(rt, step.copy());
-    let following = match sure.follow(&Ok(Answer::Found(Some(Kind::Dir)))) {
-        Ok(following) => following,
-        Err(fault) => panic!(rt; "{fault}"),
-    };
-    assert!(rt; following.done() == StepDone::More);
+    let mut sure = step.copy().expect(rt, "no memory");
+    let there = Ok(Answer::Found(Some(Kind::Dir)));
+    let following = sure.follow(&there).expect(rt, "a fault");
+    confirm!(rt; following.done() == StepDone::More);
     sure.go_on(following);
-    assert!(rt; sure.call().is_some());
+    confirm!(rt; sure.call().is_some());
 }
 
 #[test]
@@ -92,9 +86,9 @@ fn over_after_output_missing(rt: HostRuntime) {
     let one = &by_generation(&rt, 1);
     let layout = out(&rt, alloc);
     let mut names = job_set_up(&rt, alloc, one, &layout);
-    let mut step = made(
+    let mut step = Step::commit_task(&layout, one.app, attempt(&rt, TASK, 0)).expect(
         &rt,
-        Step::commit_task(&layout, one.app, attempt(&rt, TASK, 0)),
+        "no memory",
     );
     goes_on_by_halves(&rt, &step);
     goes(
@@ -104,32 +98,34 @@ fn over_after_output_missing(rt: HostRuntime) {
         &mut step,
         Err(CommitFault::OutputMissing),
     );
-    let mut copy = made(&rt, step.copy());
+    let mut copy = step.copy().expect(&rt, "no memory");
     is_over(&rt, &mut names, one, &mut copy);
     is_over(&rt, &mut names, one, &mut step);
 }
 
 // The step hears that its call is done, and answers this fault.
 fn takes_no_answer(rt: &impl Abort, step: &mut Step, fault: CommitFault) {
-    assert!(rt; told(rt, step.took(Ok(Answer::Done))) == Err(fault));
+    let answer = step.took(Ok(Answer::Done));
+    confirm!(rt; answer == Err(fault), &answer);
+}
+
+// Before it hears it, it would answer this fault to what another call found.
+fn follows_no_answer(rt: &impl Abort, step: &Step) {
+    let fault = step.follow(&Ok(Answer::Found(None))).err();
+    confirm!(rt; fault == Some(CommitFault::WrongAnswer), &fault);
 }
 
 // An answer of another call is no answer: the step ends there, deletes nothing and creates no marker.
 #[test]
 fn answer_of_another_kind(rt: HostRuntime) {
     let alloc = rt.alloc();
-    let mut step = made(&rt, Step::commit_job(&out(&rt, alloc), generation(&rt, 1)));
-    assert!(rt;
-        matches!(
-            step.follow(&Ok(Answer::Found(None))),
-            Err(CommitFault::WrongAnswer)
-        )
-    );
-    assert!(rt; matches!(step.call(), Some(Op::List(_path))));
+    let mut step = Step::commit_job(&out(&rt, alloc), generation(&rt, 1)).expect(&rt, "no memory");
+    follows_no_answer(&rt, &step);
+    confirm!(rt; matches!(step.call(), Some(Op::List(_path))));
     takes_no_answer(&rt, &mut step, CommitFault::WrongAnswer);
-    assert!(rt; step.call().is_none());
+    confirm!(rt; step.call().is_none());
     takes_no_answer(&rt, &mut step, CommitFault::Over);
-    assert!(rt; prints(&rt, alloc, CommitFault::WrongAnswer, "WrongAnswer"));
+    confirm!(rt; prints(&rt, alloc, CommitFault::WrongAnswer, "WrongAnswer"));
 }
 
 // A namespace in which a committed task left two directories with a file each, and the destination has other things of their names.
@@ -149,7 +145,9 @@ fn two_levels(rt: &impl Abort, alloc: Global, caller: &Caller) -> Namespace {
         "/out/a",
         "/out/b/old",
     ] {
-        prepared(rt, names.create(*caller, &path(rt, alloc, text), true));
+        names
+            .create(*caller, &path(rt, alloc, text), true)
+            .expect(rt, text);
     }
     names
 }
@@ -174,15 +172,15 @@ fn two_level_merge(rt: HostRuntime) {
     let alloc = rt.alloc();
     let one = &by_generation(&rt, 1);
     let mut names = two_levels(&rt, alloc, one);
-    let mut halves = made(&rt, Step::commit_job(&out(&rt, alloc), one.app));
+    let mut halves = Step::commit_job(&out(&rt, alloc), one.app).expect(&rt, "no memory");
     // list, exists /out, list, exists /out/a, delete, rename; each by a copy, of up to five lines
     for _ in 0..6 {
-        halves = made(&rt, halves.copy());
+        halves = halves.copy().expect(&rt, "no memory");
         goes(&rt, &mut names, one, &mut halves, Ok(StepDone::More));
     }
     stands(&rt, alloc, &names, one, "/out/a/f", Some(Kind::File));
     // exists /out/b, list, exists /out/b/g, rename, delete /out/_temporary
-    let mut step = made(&rt, halves.copy());
+    let mut step = halves.copy().expect(&rt, "no memory");
     for _ in 0..5 {
         is_heard_alike(&rt, &mut names, one, &mut halves, &mut step, StepDone::More);
     }
@@ -199,8 +197,10 @@ fn file_beneath_the_job_attempt(rt: HostRuntime) {
     let layout = out(&rt, alloc);
     let mut names = job_set_up(&rt, alloc, one, &layout);
     let file = "/out/_temporary/1/f";
-    prepared(&rt, names.create(*one, &path(&rt, alloc, file), true));
-    let mut step = made(&rt, Step::commit_job(&layout, one.app));
+    names
+        .create(*one, &path(&rt, alloc, file), true)
+        .expect(&rt, file);
+    let mut step = Step::commit_job(&layout, one.app).expect(&rt, "no memory");
     for _ in 0..2 {
         goes(&rt, &mut names, one, &mut step, Ok(StepDone::More));
     }
@@ -216,13 +216,10 @@ fn commits_job(
     names: &mut Namespace,
     caller: &Caller,
     layout: &Layout,
-    want: Result<(), NameFault>,
+    want: Result<(), CommitFault>,
 ) {
-    let want = match want {
-        Ok(()) => Ok(()),
-        Err(fault) => Err(CommitFault::Names(fault)),
-    };
-    assert!(rt; told(rt, commit_job(names, *caller, layout)) == want);
+    let answer = commit_job(names, *caller, layout);
+    confirm!(rt; answer == want, &answer);
 }
 
 // A job that is committed has its marker, and is not committed again.
@@ -235,9 +232,11 @@ fn job_is_committed_once(
 ) {
     commits_job(rt, names, caller, layout, Ok(()));
     stands(rt, alloc, names, caller, "/out/_SUCCESS", Some(Kind::File));
-    commits_job(rt, names, caller, layout, Err(NameFault::Missing));
+    let missing = CommitFault::Names(NameFault::Missing);
+    commits_job(rt, names, caller, layout, Err(missing));
     sets_up(rt, names, caller, layout);
-    commits_job(rt, names, caller, layout, Err(NameFault::Exists));
+    let there = CommitFault::Names(NameFault::Exists);
+    commits_job(rt, names, caller, layout, Err(there));
 }
 
 // The first attempt at the task needs a commit or none, and is committed so.
@@ -250,8 +249,10 @@ fn commits_task(
     want: Result<(), CommitFault>,
 ) {
     let a = attempt(rt, TASK, 0);
-    assert!(rt; told(rt, needs_task_commit(names, *caller, layout, a)) == Ok(needed));
-    assert!(rt; told(rt, commit_task(names, *caller, layout, a)) == want);
+    let needs = needs_task_commit(names, *caller, layout, a);
+    confirm!(rt; needs == Ok(needed), &needs);
+    let answer = commit_task(names, *caller, layout, a);
+    confirm!(rt; answer == want, &answer);
 }
 
 // The first attempt has output, is committed, and what it had is the task's.
@@ -278,22 +279,43 @@ fn task_is_committed(
     stands(rt, alloc, names, caller, attempt_path, None);
 }
 
+// The destination is free for a job, or is not.
+fn checks(
+    rt: &impl Abort,
+    names: &Namespace,
+    caller: &Caller,
+    layout: &Layout,
+    want: Result<(), CommitFault>,
+) {
+    let answer = check_output(names, *caller, layout);
+    confirm!(rt; answer == want, &answer);
+}
+
+// The first generation commits its task once the second has the fence.
+fn commits_late(rt: &impl Abort, alloc: Global, names: &mut Namespace, layout: &Layout) {
+    names.raise(generation(rt, 2));
+    let late = CommitFault::Names(NameFault::Superseded(2));
+    let a = attempt(rt, TASK, 0);
+    let answer = commit_task(names, by_generation(rt, 1), layout, a);
+    confirm!(rt; answer == Err(late), &answer);
+    confirm!(rt; prints(rt, alloc, late, "Superseded 2"));
+}
+
 #[test]
 fn committed_and_checked(rt: HostRuntime) {
     let alloc = rt.alloc();
     let one = &by_generation(&rt, 1);
     let layout = out(&rt, alloc);
     let mut names = new_namespace(&rt, alloc);
-    assert!(rt; check_output(&names, *one, &layout) == Ok(()));
+    checks(&rt, &names, one, &layout, Ok(()));
     sets_up(&rt, &mut names, one, &layout);
-    assert!(rt; check_output(&names, *one, &layout) == Err(CommitFault::DestinationExists));
+    let there = CommitFault::DestinationExists;
+    checks(&rt, &names, one, &layout, Err(there));
     task_is_committed(&rt, alloc, &mut names, one, &layout);
     job_is_committed_once(&rt, alloc, &mut names, one, &layout);
-    names.raise(generation(&rt, 2));
-    let late = CommitFault::Names(NameFault::Superseded(2));
-    assert!(rt; commit_task(&mut names, *one, &layout, attempt(&rt, TASK, 0)) == Err(late));
-    assert!(rt; prints(&rt, alloc, late, "Superseded 2"));
-    assert!(rt; prints(&rt, alloc, CommitFault::OutputMissing, "OutputMissing"));
+    commits_late(&rt, alloc, &mut names, &layout);
+    confirm!(rt; prints(&rt, alloc, CommitFault::OutputMissing, "OutputMissing"));
+    drop(names);
 }
 
 // The last generation that there is sets a job up and commits it.
@@ -325,11 +347,11 @@ fn task_abort_by_steps(rt: HostRuntime) {
     let mut names = job_set_up(&rt, alloc, one, &layout);
     let written = "/out/_temporary/1/_temporary/attempt_200707121733_0003_r_000000_0";
     makes_room(&rt, alloc, &mut names, one, written);
-    let mut halves = made(
+    let mut halves = Step::abort_task(&layout, one.app, attempt(&rt, TASK, 0)).expect(
         &rt,
-        Step::abort_task(&layout, one.app, attempt(&rt, TASK, 0)),
+        "no memory",
     );
-    let mut step = made(&rt, halves.copy());
+    let mut step = halves.copy().expect(&rt, "no memory");
     is_heard_alike(
         &rt,
         &mut names,
@@ -348,8 +370,8 @@ fn job_abort_by_steps(rt: HostRuntime) {
     let one = &by_generation(&rt, 1);
     let layout = out(&rt, alloc);
     let mut names = job_set_up(&rt, alloc, one, &layout);
-    let mut halves = made(&rt, Step::abort_job(&layout));
-    let mut step = made(&rt, halves.copy());
+    let mut halves = Step::abort_job(&layout).expect(&rt, "no memory");
+    let mut step = halves.copy().expect(&rt, "no memory");
     is_heard_alike(
         &rt,
         &mut names,

@@ -2,7 +2,7 @@
 
 use mr_ids::{AppAttempt, AttemptId, JobId, TaskId, TaskKind};
 use mr_names::{Caller, Namespace};
-use mr_paths::{Path, PathFault};
+use mr_paths::Path;
 use std::alloc::Global;
 use std::process::Abort;
 
@@ -21,10 +21,7 @@ pub const TASK: TaskId = TaskId {
 
 /// The generation of this number.
 pub fn generation(rt: &impl Abort, number: u32) -> AppAttempt {
-    match AppAttempt::new(number) {
-        Some(app) => app,
-        None => panic!(rt; "no generation has the number {number}"),
-    }
+    AppAttempt::new(number).expect(rt, "no generation has this number")
 }
 
 /// A caller of this generation that is no container.
@@ -37,25 +34,15 @@ pub fn by_generation(rt: &impl Abort, number: u32) -> Caller {
 
 /// The attempt of this number at the task.
 pub fn attempt(rt: &impl Abort, task: TaskId, number: u32) -> AttemptId {
-    match AttemptId::new(task, number) {
-        Some(attempt) => attempt,
-        None => panic!(rt; "no attempt has the number {number}"),
-    }
+    AttemptId::new(task, number).expect(rt, "no attempt has this number")
 }
 
 /// The path with this text.
 pub fn path(rt: &impl Abort, alloc: Global, text: &str) -> Path {
-    match Path::parse(alloc, text) {
-        Ok(path) => path,
-        Err(PathFault::NoMemory) => panic!(rt; "no memory"),
-        Err(PathFault::BadName) => panic!(rt; "{text} is no path"),
-    }
+    Path::parse(alloc, text).expect(rt, text)
 }
 
 /// An empty namespace.
 pub fn new_namespace(rt: &impl Abort, alloc: Global) -> Namespace {
-    match Namespace::new(alloc) {
-        Ok(names) => names,
-        Err(_) => panic!(rt; "no memory"),
-    }
+    Namespace::new(alloc).expect(rt, "no memory")
 }

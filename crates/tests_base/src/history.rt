@@ -9,8 +9,14 @@ use std::process::Abort;
 const STARTED: &str =
     "{\"attempt\":\"attempt_200707121733_0003_m_000000_0\",\"event\":\"started\",\"node\":0}\n";
 
+const MAPPED: &str =
+    "{\"attempt\":\"attempt_200707121733_0003_m_000012_1001\",\"event\":\"map\",\"incarnation\":1,\"node\":4294967295}\n";
+
 const REDUCED: &str =
     "{\"attempt\":\"attempt_200707121733_0003_r_000000_0\",\"event\":\"reduce\"}\n";
+
+const FAILED: &str =
+    "{\"attempt\":\"attempt_200707121733_0003_r_000000_1\",\"event\":\"failed\"}\n";
 
 const UNSUCCESSFUL: &str = "{\"event\":\"unsuccessful\"}\n";
 
@@ -37,28 +43,20 @@ fn reduced(rt: &impl Abort) -> Record {
     }
 }
 
-// What a call answered, where memory was given.
-fn answered<T>(rt: &impl Abort, given: Result<T, HistoryFault>) -> Result<T, HistoryFault> {
-    match given {
-        Err(HistoryFault::NoMemory) => panic!(rt; "no memory"),
-        Ok(value) => Ok(value),
-        Err(fault) => Err(fault),
-    }
-}
-
-fn done(rt: &impl Abort, given: Result<(), HistoryFault>) -> Option<HistoryFault> {
-    answered(rt, given).err()
+// The call is done, or refused so.
+fn is_told(rt: &impl Abort, answer: Result<(), HistoryFault>, want: Option<HistoryFault>) {
+    confirm!(rt; answer.err() == want, &answer);
 }
 
 // The record is appended, or refused so.
-fn adds(rt: &impl Abort, segment: &mut Segment, record: Record, want: Option<HistoryFault>) {
+fn adds(rt: &impl Abort, segment: &mut Segment, record: &Record, want: Option<HistoryFault>) {
     assert!(rt; record.fits() && record.suits(segment.version()));
-    assert!(rt; done(rt, segment.append(record)) == want);
+    is_told(rt, segment.append(*record), want);
 }
 
 // The segment is flushed, or refuses so.
 fn flushes(rt: &impl Abort, segment: &mut Segment, want: Option<HistoryFault>) {
-    assert!(rt; done(rt, segment.flush()) == want);
+    is_told(rt, segment.flush(), want);
 }
 
 // The master of this generation appends the record, or is refused so.
@@ -66,18 +64,18 @@ fn writes(
     rt: &impl Abort,
     history: &mut History,
     k: AppAttempt,
-    record: Record,
+    record: &Record,
     want: Option<HistoryFault>,
 ) {
     assert!(rt; history.is_raised(k));
     assert!(rt; record.fits() && record.suits(history.version(k)));
-    assert!(rt; done(rt, history.append(k, record)) == want);
+    is_told(rt, history.append(k, *record), want);
 }
 
 // The master of this generation flushes, or is refused so.
 fn flushes_all(rt: &impl Abort, history: &mut History, k: AppAttempt, want: Option<HistoryFault>) {
     assert!(rt; history.is_raised(k));
-    assert!(rt; done(rt, history.flush(k)) == want);
+    is_told(rt, history.flush(k), want);
 }
 
 // The segment of this generation is sealed.
@@ -88,99 +86,112 @@ fn seals(rt: &impl Abort, history: &mut History, k: AppAttempt, kept: usize) {
 
 // A history that the master of this generation raised first, with segments of version 1.
 fn raised(rt: &impl Abort, alloc: Global, k: AppAttempt) -> History {
-    let mut history = answered(rt, History::new(alloc)).expect(rt, "a fault");
+    let mut history = History::new(alloc).expect(rt, "a fault");
     history.raise(k, 0, 1);
     history
 }
 
 fn replayed(rt: &impl Abort, alloc: Global, bytes: &[u8]) -> Replayed {
-    match answered(rt, replay(alloc, bytes)) {
-        Ok(replayed) => replayed,
-        Err(fault) => panic!(rt; "{fault}"),
-    }
+    replay(alloc, bytes).expect(rt, "a fault")
 }
 
 // So many records are read of the bytes, and so many bytes behind them are no record.
 fn reads(rt: &impl Abort, alloc: Global, bytes: &[u8], version: u32, count: usize, torn: usize) {
     let read = replayed(rt, alloc, bytes);
-    assert!(rt;
-        read.version == version && read.records.len() == count && read.torn == torn,
-        "of {}",
-        bytes.len()
-    );
+    let told = (read.version, read.records.len(), read.torn);
+    confirm!(rt; told == (version, count, torn), &told);
 }
 
 // These are the records that the master of this generation reads.
 fn are_before(rt: &impl Abort, history: &History, k: AppAttempt, records: &[Record]) {
-    assert!(rt; records_before(rt, history, k).as_slice() == records);
+    let before = records_before(rt, history, k);
+    confirm!(rt; before.as_slice() == records);
 }
 
 // The stable part of the segment of this generation has these bytes.
 fn is_stable(rt: &impl Abort, history: &History, k: AppAttempt, bytes: &[u8]) {
     assert!(rt; history.is_raised(k));
-    assert!(rt; history.stable(k) == bytes);
+    confirm!(rt; history.stable(k) == bytes);
 }
 
 fn records_before(rt: &impl Abort, history: &History, k: AppAttempt) -> Records {
     assert!(rt; history.is_raised(k));
-    match answered(rt, history.read(k)) {
-        Ok(records) => records,
-        Err(fault) => panic!(rt; "{fault}"),
-    }
+    history.read(k).expect(rt, "a fault")
 }
 
-// Why an append and a flush would be refused, which are at one here.
-fn foreseen(rt: &impl Abort, history: &History, k: AppAttempt) -> Option<HistoryFault> {
+// An append and a flush would be refused so, or not.
+fn is_foreseen(rt: &impl Abort, history: &History, k: AppAttempt, want: Option<HistoryFault>) {
     assert!(rt; history.is_raised(k));
-    let refusal = history.append_refusal(k, &Record::JobUnsuccessful);
-    assert!(rt; history.flush_refusal(k) == refusal);
-    refusal
+    confirm!(rt; history.append_refusal(k, &Record::JobUnsuccessful) == want, &want);
+    confirm!(rt; history.flush_refusal(k) == want, &want);
 }
 
-fn tail(rt: &impl Abort, history: &History, k: AppAttempt) -> usize {
+// The tail of the segment of this generation has so many bytes.
+fn has_tail(rt: &impl Abort, history: &History, k: AppAttempt, want: usize) {
     assert!(rt; history.is_raised(k));
-    history.tail(k)
+    confirm!(rt; history.tail(k) == want);
+}
+
+// One record of each kind.
+fn one_of_each(rt: &impl Abort) -> [Record; 5] {
+    [
+        started(rt),
+        Record::MapSucceeded {
+            attempt: attempt(rt, TaskKind::Map, 12, 1001),
+            node: 4294967295,
+            incarnation: 1,
+        },
+        reduced(rt),
+        Record::AttemptFailed {
+            attempt: attempt(rt, TaskKind::Reduce, 0, 1),
+        },
+        Record::JobUnsuccessful,
+    ]
+}
+
+// The stable part of the segment has these bytes.
+fn is_written(rt: &impl Abort, segment: &Segment, bytes: &[u8]) {
+    confirm!(rt; segment.stable() == bytes);
+    confirm!(rt; segment.tail() == 0);
 }
 
 #[test]
 fn record_lines(rt: HostRuntime) {
-    let alloc = rt.alloc();
-    let mut segment = Segment::new(alloc, 1);
-    let mut records = Records::new(alloc);
-    for record in [
-        started(&rt),
-        Record::MapSucceeded {
-            attempt: attempt(&rt, TaskKind::Map, 12, 1001),
-            node: 4294967295,
-            incarnation: 1,
-        },
-        reduced(&rt),
-        Record::AttemptFailed {
-            attempt: attempt(&rt, TaskKind::Reduce, 0, 1),
-        },
-        Record::JobUnsuccessful,
-    ] {
-        adds(&rt, &mut segment, record, None);
-        records.push(record).expect(&rt, "no memory");
+    let mut segment = Segment::new(rt.alloc(), 1);
+    for record in one_of_each(&rt) {
+        adds(&rt, &mut segment, &record, None);
     }
-    assert!(rt; segment.stable().len() == 0);
+    confirm!(rt; segment.stable().len() == 0);
     let len = segment.tail();
     flushes(&rt, &mut segment, None);
-    let mapped =
-        "{\"attempt\":\"attempt_200707121733_0003_m_000012_1001\",\"event\":\"map\",\"incarnation\":1,\"node\":4294967295}\n";
-    let failed = "{\"attempt\":\"attempt_200707121733_0003_r_000000_1\",\"event\":\"failed\"}\n";
-    let wanted = format!(in alloc; "{STARTED}{mapped}{REDUCED}{failed}{UNSUCCESSFUL}").expect(
+    let wanted = format!(in rt.alloc(); "{STARTED}{MAPPED}{REDUCED}{FAILED}{UNSUCCESSFUL}").expect(
         &rt,
         "no memory",
     );
-    assert!(rt; segment.stable() == wanted.as_bytes());
-    assert!(rt; segment.tail() == 0 && len == wanted.len());
-    let read = replayed(&rt, alloc, segment.stable());
-    assert!(rt; read.torn == 0 && read.records.len() == 5);
-    assert!(rt; read.records.as_slice() == records.as_slice());
-    let mut copy = Records::from_vec(Vec::new(alloc));
+    confirm!(rt; len == wanted.len());
+    is_written(&rt, &segment, wanted.as_bytes());
+    drop(segment);
+    let read = replayed(&rt, rt.alloc(), wanted.as_bytes());
+    confirm!(rt; read.torn == 0);
+    confirm!(rt; read.records.as_slice() == one_of_each(&rt).as_slice());
+}
+
+#[test]
+fn records_are_copied(rt: HostRuntime) {
+    let mut records = Records::new(rt.alloc());
+    records.push(started(&rt)).expect(&rt, "no memory");
+    records.push(reduced(&rt)).expect(&rt, "no memory");
+    let mut copy = Records::from_vec(Vec::new(rt.alloc()));
     copy.extend(records.as_slice()).expect(&rt, "no memory");
-    assert!(rt; copy.as_slice() == records.as_slice());
+    confirm!(rt; copy.as_slice() == records.as_slice());
+    confirm!(rt; copy.len() == 2);
+}
+
+// A sealed segment takes no record and no flush, and says so before.
+fn takes_no_more(rt: &impl Abort, segment: &mut Segment) {
+    adds(rt, segment, &started(rt), Some(HistoryFault::Sealed));
+    flushes(rt, segment, Some(HistoryFault::Sealed));
+    confirm!(rt; segment.flush_refusal() == Some(HistoryFault::Sealed));
 }
 
 #[test]
@@ -188,17 +199,25 @@ fn segment_seal(rt: HostRuntime) {
     let alloc = rt.alloc();
     for (kept, count, torn) in [(67, 1, 67), (68, 2, 0), (0, 1, 0), (1000, 2, 0)] {
         let mut segment = Segment::new(alloc, 1);
-        adds(&rt, &mut segment, started(&rt), None);
+        adds(&rt, &mut segment, &started(&rt), None);
         flushes(&rt, &mut segment, None);
-        adds(&rt, &mut segment, reduced(&rt), None);
-        assert!(rt; segment.tail() == 68);
+        adds(&rt, &mut segment, &reduced(&rt), None);
+        confirm!(rt; segment.tail() == 68);
         segment.seal(kept);
         reads(&rt, alloc, segment.stable(), 1, count, torn);
-        adds(&rt, &mut segment, started(&rt), Some(HistoryFault::Sealed));
-        flushes(&rt, &mut segment, Some(HistoryFault::Sealed));
-        assert!(rt; segment.flush_refusal() == Some(HistoryFault::Sealed));
+        takes_no_more(&rt, &mut segment);
         segment.seal(0);
         reads(&rt, alloc, segment.stable(), 1, count, torn);
+        drop(segment);
+    }
+}
+
+// Before this generation so many records were written, each that the job was unsuccessful.
+fn were_unsuccessful(rt: &impl Abort, history: &History, k: AppAttempt, count: usize) {
+    let records = records_before(rt, history, k);
+    confirm!(rt; records.len() == count, &count);
+    for record in records.into_vec() {
+        confirm!(rt; record == Record::JobUnsuccessful, &record);
     }
 }
 
@@ -206,25 +225,18 @@ fn segment_seal(rt: HostRuntime) {
 fn history_raise(rt: HostRuntime) {
     let alloc = rt.alloc();
     let (one, two) = (generation(&rt, 1), generation(&rt, 2));
+    let last = Record::JobUnsuccessful;
     for (kept, count) in [(24, 0), (25, 1)] {
         let mut history = raised(&rt, alloc, one);
-        writes(&rt, &mut history, one, Record::JobUnsuccessful, None);
-        assert!(rt; tail(&rt, &history, one) == 25);
+        writes(&rt, &mut history, one, &last, None);
+        has_tail(&rt, &history, one, 25);
         history.raise(two, kept, 1);
         history.raise(one, 0, 1);
-        assert!(rt; history.fence() == 2);
-        let records = records_before(&rt, &history, two);
-        assert!(rt; records.len() == count, "kept {kept}");
-        for record in records.into_vec() {
-            assert!(rt; record == Record::JobUnsuccessful);
-        }
-        writes(
-            &rt,
-            &mut history,
-            one,
-            Record::JobUnsuccessful,
-            Some(HistoryFault::Superseded(2)),
-        );
+        confirm!(rt; history.fence() == 2);
+        were_unsuccessful(&rt, &history, two, count);
+        let late = Some(HistoryFault::Superseded(2));
+        writes(&rt, &mut history, one, &last, late);
+        drop(history);
     }
 }
 
@@ -233,24 +245,20 @@ fn history_segments(rt: HostRuntime) {
     let alloc = rt.alloc();
     let (one, two, four) = (generation(&rt, 1), generation(&rt, 2), generation(&rt, 4));
     let mut history = raised(&rt, alloc, two);
-    writes(&rt, &mut history, two, started(&rt), None);
-    assert!(rt; history.is_raised(two) && !history.is_raised(four));
+    writes(&rt, &mut history, two, &started(&rt), None);
+    confirm!(rt; history.is_raised(two));
+    confirm!(rt; !history.is_raised(four));
     flushes_all(&rt, &mut history, two, None);
-    assert!(rt; records_before(&rt, &history, two).len() == 0);
-    writes(&rt, &mut history, two, reduced(&rt), None);
+    are_before(&rt, &history, two, &[]);
+    writes(&rt, &mut history, two, &reduced(&rt), None);
     seals(&rt, &mut history, two, 1000);
-    writes(
-        &rt,
-        &mut history,
-        two,
-        reduced(&rt),
-        Some(HistoryFault::Sealed),
-    );
+    let sealed = Some(HistoryFault::Sealed);
+    writes(&rt, &mut history, two, &reduced(&rt), sealed);
     history.raise(four, 0, 2);
-    writes(&rt, &mut history, four, started(&rt), None);
-    let read = records_before(&rt, &history, four);
-    assert!(rt; read.as_slice() == [started(&rt), reduced(&rt)].as_slice());
+    writes(&rt, &mut history, four, &started(&rt), None);
+    are_before(&rt, &history, four, &[started(&rt), reduced(&rt)]);
     flushes_all(&rt, &mut history, one, Some(HistoryFault::Superseded(4)));
+    drop(history);
 }
 
 // The last generation that there is writes, flushes and reads.
@@ -259,12 +267,13 @@ fn last_generation(rt: HostRuntime) {
     let alloc = rt.alloc();
     let (one, last) = (generation(&rt, 1), generation(&rt, 1000));
     let mut history = raised(&rt, alloc, one);
-    writes(&rt, &mut history, one, started(&rt), None);
+    writes(&rt, &mut history, one, &started(&rt), None);
     history.raise(last, 1000, 1);
-    writes(&rt, &mut history, last, reduced(&rt), None);
+    writes(&rt, &mut history, last, &reduced(&rt), None);
     flushes_all(&rt, &mut history, last, None);
     is_stable(&rt, &history, last, REDUCED.as_bytes());
     are_before(&rt, &history, last, &[started(&rt)]);
+    drop(history);
 }
 
 // The text of each fault.
@@ -279,7 +288,7 @@ fn fault_texts(rt: HostRuntime) {
         (HistoryFault::NoMemory, "NoMemory"),
     ] {
         let text = format!(in alloc; "{fault}").expect(&rt, "no memory");
-        assert!(rt; text.as_str() == told, "{text}");
+        confirm!(rt; text.as_str() == told, &told);
     }
 }
 
@@ -289,17 +298,18 @@ fn history_refusals(rt: HostRuntime) {
     let alloc = rt.alloc();
     let (one, two) = (generation(&rt, 1), generation(&rt, 2));
     let mut history = raised(&rt, alloc, one);
-    assert!(rt; foreseen(&rt, &history, one).is_none());
-    writes(&rt, &mut history, one, started(&rt), None);
+    is_foreseen(&rt, &history, one, None);
+    writes(&rt, &mut history, one, &started(&rt), None);
     history.raise(two, 200, 1);
-    assert!(rt; foreseen(&rt, &history, one) == Some(HistoryFault::Superseded(2)));
-    writes(&rt, &mut history, two, reduced(&rt), None);
-    assert!(rt; foreseen(&rt, &history, two).is_none());
+    is_foreseen(&rt, &history, one, Some(HistoryFault::Superseded(2)));
+    writes(&rt, &mut history, two, &reduced(&rt), None);
+    is_foreseen(&rt, &history, two, None);
     seals(&rt, &mut history, two, 200);
-    assert!(rt; foreseen(&rt, &history, two) == Some(HistoryFault::Sealed));
+    is_foreseen(&rt, &history, two, Some(HistoryFault::Sealed));
     is_stable(&rt, &history, two, REDUCED.as_bytes());
-    let all = answered(&rt, history.records()).expect(&rt, "a fault");
-    assert!(rt; all.as_slice() == [started(&rt), reduced(&rt)].as_slice());
+    let all = history.records().expect(&rt, "a fault");
+    confirm!(rt; all.as_slice() == [started(&rt), reduced(&rt)].as_slice());
+    drop(history);
 }
 
 #[test]
@@ -317,6 +327,12 @@ fn every_prefix(rt: HostRuntime) {
         };
         reads(&rt, alloc, &bytes[..end], 1, count, torn);
     }
+}
+
+// The second line of these bytes is bad: the line with this end.
+fn is_bad_line_2(rt: &impl Abort, alloc: Global, bytes: &[u8], line: &str) {
+    let fault = replay(alloc, bytes).err();
+    confirm!(rt; fault == Some(HistoryFault::BadLine(2)), &(line, fault));
 }
 
 #[test]
@@ -343,8 +359,7 @@ fn bad_lines(rt: HostRuntime) {
             &rt,
             "no memory",
         );
-        let fault = answered(&rt, replay(alloc, text.as_bytes())).err();
-        assert!(rt; fault == Some(HistoryFault::BadLine(2)), "{line}");
+        is_bad_line_2(&rt, alloc, text.as_bytes(), line);
     }
 }
 
@@ -355,12 +370,11 @@ fn longest_line(rt: HostRuntime) {
     let job = "{\"attempt\":\"attempt_18446744073709551615_4294967295_m_4294967295_999999\"";
     let more = ",\"event\":\"map\",\"incarnation\":4294967295,\"node\":4294967295";
     let line = format!(in alloc; "{job}{more}}}\n").expect(&rt, "no memory");
-    assert!(rt; line.len() == 131);
-    assert!(rt; replayed(&rt, alloc, line.as_bytes()).records.len() == 1);
+    confirm!(rt; line.len() == 131);
+    reads(&rt, alloc, line.as_bytes(), 1, 1, 0);
     for ending in ["0}", " }", "}{\"event\":\"unsuccessful\"}"] {
         let line = format!(in alloc; "{line}{job}{more}{ending}\n").expect(&rt, "no memory");
-        let fault = answered(&rt, replay(alloc, line.as_bytes())).err();
-        assert!(rt; fault == Some(HistoryFault::BadLine(2)));
+        is_bad_line_2(&rt, alloc, line.as_bytes(), ending);
     }
 }
 
@@ -371,22 +385,18 @@ fn full_segment(rt: HostRuntime) {
     let mut segment = Segment::new(alloc, 1);
     let record = reduced(&rt);
     for _ in 0..246723 {
-        adds(&rt, &mut segment, record, None);
+        adds(&rt, &mut segment, &record, None);
     }
-    assert!(rt; segment.append_refusal(&record) == Some(HistoryFault::Full));
-    adds(&rt, &mut segment, record, Some(HistoryFault::Full));
-    adds(&rt, &mut segment, Record::JobUnsuccessful, None);
-    adds(&rt, &mut segment, Record::JobUnsuccessful, None);
-    adds(
-        &rt,
-        &mut segment,
-        Record::JobUnsuccessful,
-        Some(HistoryFault::Full),
-    );
+    confirm!(rt; segment.append_refusal(&record) == Some(HistoryFault::Full));
+    adds(&rt, &mut segment, &record, Some(HistoryFault::Full));
+    let short = Record::JobUnsuccessful;
+    adds(&rt, &mut segment, &short, None);
+    adds(&rt, &mut segment, &short, None);
+    adds(&rt, &mut segment, &short, Some(HistoryFault::Full));
     flushes(&rt, &mut segment, None);
-    assert!(rt; segment.stable().len() == 16777214);
-    let read = replayed(&rt, alloc, segment.stable());
-    assert!(rt; read.records.len() == 246725 && read.torn == 0);
+    confirm!(rt; segment.stable().len() == 16777214);
+    reads(&rt, alloc, segment.stable(), 1, 246725, 0);
+    drop(segment);
 }
 
 // Of the 14 bytes of the version line and the 78 of one record each number is kept.
@@ -399,7 +409,7 @@ fn every_seal_of_version_2(rt: HostRuntime) {
             attempt: attempt(&rt, TaskKind::Reduce, 0, 0),
             bytes: Some(8),
         };
-        adds(&rt, &mut segment, record, None);
+        adds(&rt, &mut segment, &record, None);
         segment.seal(kept);
         let (version, count, torn) = if kept < 14 {
             (1, 0, kept)
@@ -409,13 +419,7 @@ fn every_seal_of_version_2(rt: HostRuntime) {
             (2, 1, 0)
         };
         reads(&rt, alloc, segment.stable(), version, count, torn);
-    }
-}
-
-fn copied(rt: &impl Abort, history: &History) -> History {
-    match history.copy() {
-        Ok(copy) => copy,
-        Err(_) => panic!(rt; "no memory"),
+        drop(segment);
     }
 }
 
@@ -425,15 +429,17 @@ fn history_copy(rt: HostRuntime) {
     let alloc = rt.alloc();
     let (one, two) = (generation(&rt, 1), generation(&rt, 2));
     let mut history = raised(&rt, alloc, one);
-    writes(&rt, &mut history, one, started(&rt), None);
+    writes(&rt, &mut history, one, &started(&rt), None);
     history.raise(two, 200, 2);
-    writes(&rt, &mut history, two, Record::JobUnsuccessful, None);
-    let mut copy = copied(&rt, &history);
-    assert!(rt; copy.fence() == 2);
+    writes(&rt, &mut history, two, &Record::JobUnsuccessful, None);
+    let mut copy = history.copy().expect(&rt, "no memory");
+    confirm!(rt; copy.fence() == 2);
     is_stable(&rt, &copy, one, STARTED.as_bytes());
-    assert!(rt; tail(&rt, &copy, two) == 39);
+    has_tail(&rt, &copy, two, 39);
     flushes_all(&rt, &mut copy, two, None);
     let flushed = "{\"version\":2}\n{\"event\":\"unsuccessful\"}\n";
     is_stable(&rt, &copy, two, flushed.as_bytes());
-    assert!(rt; tail(&rt, &history, two) == 39);
+    drop(copy);
+    has_tail(&rt, &history, two, 39);
+    drop(history);
 }

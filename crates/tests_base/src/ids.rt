@@ -15,19 +15,33 @@ fn task(job: JobId, kind: TaskKind, number: u32) -> TaskId {
     TaskId { job, kind, number }
 }
 
-// Whether `{}` writes this text of a value.
-fn shows<T: Display>(rt: &impl Abort, alloc: Global, value: &T, text: &str) -> bool {
-    value.to_string(alloc).expect(rt, "no memory").as_str() == text
+// `{}` writes this text of a value.
+fn shows<T: Display>(rt: &impl Abort, alloc: Global, value: &T, text: &str) {
+    let shown = value.to_string(alloc).expect(rt, "no memory");
+    confirm!(rt; shown.as_str() == text, &text);
 }
 
 #[test]
 fn attempt_text(rt: HostRuntime) {
     let read = AttemptId::parse("attempt_200707121733_0003_r_000005_1000");
     let wanted = attempt(&rt, task(JOB, TaskKind::Reduce, 5), 1000);
-    assert!(rt; read == Ok(wanted));
-    assert!(rt; wanted.generation().number() == 2);
-    let short = AttemptId::parse("attempt_200707121733_0003_r_00005_1000");
-    assert!(rt; short == Err(IdFault::Width));
+    confirm!(rt; read == Ok(wanted));
+    confirm!(rt; wanted.generation().number() == 2);
+    is_no_attempt(
+        &rt,
+        "attempt_200707121733_0003_r_00005_1000",
+        IdFault::Width,
+    );
+}
+
+// The text is no attempt's, for this reason.
+fn is_no_attempt(rt: &impl Abort, text: &str, fault: IdFault) {
+    confirm!(rt; AttemptId::parse(text) == Err(fault), &text);
+}
+
+// Nor is it a task's.
+fn is_no_task(rt: &impl Abort, text: &str, fault: IdFault) {
+    confirm!(rt; TaskId::parse(text) == Err(fault), &text);
 }
 
 #[test]
@@ -47,21 +61,27 @@ fn identifier_faults(rt: HostRuntime) {
         ("job_00_0001", IdFault::Width),
         ("job_01_001_1", IdFault::Width),
     ] {
-        assert!(rt; JobId::parse(text) == Err(fault), "{text}");
+        confirm!(rt; JobId::parse(text) == Err(fault), &text);
     }
     let more = JobId {
         start: 200707121733,
         number: 10000,
     };
-    assert!(rt; JobId::parse("job_200707121733_10000") == Ok(more));
-    let kind = TaskId::parse("task_200707121733_0003_x_000005");
-    assert!(rt; kind == Err(IdFault::Kind));
-    let first = TaskId::parse("task_200707121733_003_x_000005");
-    assert!(rt; first == Err(IdFault::Width));
-    let missing = AttemptId::parse("attempt_200707121733_0003_m_000005");
-    assert!(rt; missing == Err(IdFault::Number));
-    let beyond = AttemptId::parse("attempt_200707121733_0003_m_000005_1000000");
-    assert!(rt; beyond == Err(IdFault::Number));
+    confirm!(rt; JobId::parse("job_200707121733_10000") == Ok(more));
+    is_no_task(&rt, "task_200707121733_0003_x_000005", IdFault::Kind);
+    is_no_task(&rt, "task_200707121733_003_x_000005", IdFault::Width);
+    is_no_attempt(&rt, "attempt_200707121733_0003_m_000005", IdFault::Number);
+    is_no_attempt(
+        &rt,
+        "attempt_200707121733_0003_m_000005_1000000",
+        IdFault::Number,
+    );
+}
+
+// Adds a blank and an attempt's text.
+fn put_attempt(rt: &impl Abort, out: &mut Vec<u8>, attempt: AttemptId) {
+    out.push(b' ').expect(rt, "no memory");
+    attempt.write(out).expect(rt, "no memory");
 }
 
 #[test]
@@ -69,27 +89,19 @@ fn identifiers_are_written(rt: HostRuntime) {
     let alloc = rt.alloc();
     let map = task(JOB, TaskKind::Map, 5);
     let last = task(LAST_JOB, TaskKind::Reduce, 4294967295);
-    let mut out = Vec::new(alloc);
-    out.extend_from_slice(b"<").expect(&rt, "no memory");
+    let mut out = Vec::from_slice(alloc, b"<").expect(&rt, "no memory");
     JOB.write(&mut out).expect(&rt, "no memory");
     out.push(b' ').expect(&rt, "no memory");
     map.write(&mut out).expect(&rt, "no memory");
+    put_attempt(&rt, &mut out, attempt(&rt, map, 0));
+    put_attempt(&rt, &mut out, attempt(&rt, last, 999999));
     out.push(b' ').expect(&rt, "no memory");
-    attempt(&rt, map, 0)
-        .write(&mut out)
-        .expect(&rt, "no memory");
-    out.push(b' ').expect(&rt, "no memory");
-    attempt(&rt, last, 999999)
-        .write(&mut out)
-        .expect(&rt, "no memory");
-    out.push(b' ').expect(&rt, "no memory");
-    generation(&rt, 1000)
-        .write(&mut out)
-        .expect(&rt, "no memory");
+    let k = generation(&rt, 1000);
+    k.write(&mut out).expect(&rt, "no memory");
     let wanted = "<job_200707121733_0003 task_200707121733_0003_m_000005 \
         attempt_200707121733_0003_m_000005_0 \
         attempt_18446744073709551615_4294967295_r_4294967295_999999 1000";
-    assert!(rt; out.as_slice() == wanted.as_bytes());
+    confirm!(rt; out.as_slice() == wanted.as_bytes());
 }
 
 #[test]
@@ -100,31 +112,32 @@ fn identifiers_are_shown_and_read(rt: HostRuntime) {
         number: 0,
     };
     for (job, text) in [(zero, "job_0_0000"), (JOB, "job_200707121733_0003")] {
-        assert!(rt; shows(&rt, alloc, &job, text), "{text}");
-        assert!(rt; text.parse::<JobId>() == Ok(job), "{text}");
+        shows(&rt, alloc, &job, text);
+        confirm!(rt; text.parse::<JobId>() == Ok(job), &text);
     }
     let reduce = task(zero, TaskKind::Reduce, 1234567);
-    assert!(rt; shows(&rt, alloc, &reduce, "task_0_0000_r_1234567"));
-    assert!(rt; "task_0_0000_r_1234567".parse::<TaskId>() == Ok(reduce));
+    shows(&rt, alloc, &reduce, "task_0_0000_r_1234567");
+    confirm!(rt; "task_0_0000_r_1234567".parse::<TaskId>() == Ok(reduce));
     let tried = attempt(&rt, reduce, 7);
-    assert!(rt; shows(&rt, alloc, &tried, "attempt_0_0000_r_1234567_7"));
-    assert!(rt; "attempt_0_0000_r_1234567_7".parse::<AttemptId>() == Ok(tried));
-    assert!(rt; "task_0_0000_r_1234567".parse::<AttemptId>() == Err(IdFault::Prefix));
-    assert!(rt; shows(&rt, alloc, &generation(&rt, 1), "1"));
-    assert!(rt; shows(&rt, alloc, &TaskKind::Map, "m"));
-    assert!(rt; shows(&rt, alloc, &IdFault::Trailing, "a field is left over"));
+    shows(&rt, alloc, &tried, "attempt_0_0000_r_1234567_7");
+    confirm!(rt; "attempt_0_0000_r_1234567_7".parse::<AttemptId>() == Ok(tried));
+    confirm!(rt; "task_0_0000_r_1234567".parse::<AttemptId>() == Err(IdFault::Prefix));
+    shows(&rt, alloc, &generation(&rt, 1), "1");
+    shows(&rt, alloc, &TaskKind::Map, "m");
+    shows(&rt, alloc, &IdFault::Trailing, "a field is left over");
 }
 
 #[test]
 fn generations_of_attempts(rt: HostRuntime) {
-    assert!(rt; AppAttempt::new(0).is_none());
-    assert!(rt; AppAttempt::new(1001).is_none());
+    confirm!(rt; AppAttempt::new(0).is_none());
+    confirm!(rt; AppAttempt::new(1001).is_none());
     let map = task(JOB, TaskKind::Map, 0);
-    assert!(rt; AttemptId::new(map, 1_000_000).is_none());
+    confirm!(rt; AttemptId::new(map, 1_000_000).is_none());
     for (number, wanted) in [(0, 1), (999, 1), (1000, 2), (999_999, 1000)] {
         let tried = attempt(&rt, map, number);
-        assert!(rt; tried.generation() == generation(&rt, wanted));
-        assert!(rt; tried.task() == map && tried.number() == number);
+        confirm!(rt; tried.generation() == generation(&rt, wanted));
+        confirm!(rt; tried.task() == map);
+        confirm!(rt; tried.number() == number);
     }
 }
 
@@ -134,27 +147,30 @@ fn numbers_of_generations(rt: HostRuntime) {
     let map = task(JOB, TaskKind::Map, 0);
     for (number, first, last) in [(1, 0, 999), (2, 1000, 1999), (1000, 999_000, 999_999)] {
         let k = generation(&rt, number);
-        assert!(rt; k.first_attempt_number() == first);
-        assert!(rt; attempt(&rt, map, first).generation() == k);
-        assert!(rt; attempt(&rt, map, last).generation() == k);
+        confirm!(rt; k.first_attempt_number() == first);
+        confirm!(rt; attempt(&rt, map, first).generation() == k);
+        confirm!(rt; attempt(&rt, map, last).generation() == k);
     }
-    assert!(rt; MAX_APP_ATTEMPTS == 1000);
-    assert!(rt; generation(&rt, MAX_APP_ATTEMPTS).number() == 1000);
-    assert!(rt; AppAttempt::new(MAX_APP_ATTEMPTS + 1).is_none());
+    confirm!(rt; MAX_APP_ATTEMPTS == 1000);
+    confirm!(rt; generation(&rt, MAX_APP_ATTEMPTS).number() == 1000);
+    confirm!(rt; AppAttempt::new(MAX_APP_ATTEMPTS + 1).is_none());
 }
 
 #[test]
 fn kinds_of_tasks(rt: HostRuntime) {
-    assert!(rt; TaskKind::Map.is_map() && !TaskKind::Map.is_reduce());
-    assert!(rt; TaskKind::Reduce.is_reduce() && !TaskKind::Reduce.is_map());
+    confirm!(rt; TaskKind::Map.is_map());
+    confirm!(rt; !TaskKind::Map.is_reduce());
+    confirm!(rt; TaskKind::Reduce.is_reduce());
+    confirm!(rt; !TaskKind::Reduce.is_map());
 }
 
 #[test]
 fn identifiers_in_order(rt: HostRuntime) {
     let map = task(JOB, TaskKind::Map, 9);
     let reduce = task(JOB, TaskKind::Reduce, 0);
-    assert!(rt; JOB < LAST_JOB && map < reduce);
-    assert!(rt; attempt(&rt, map, 2) < attempt(&rt, map, 10));
-    assert!(rt; attempt(&rt, map, 10) < attempt(&rt, reduce, 0));
-    assert!(rt; generation(&rt, 2) < generation(&rt, 10));
+    confirm!(rt; JOB < LAST_JOB);
+    confirm!(rt; map < reduce);
+    confirm!(rt; attempt(&rt, map, 2) < attempt(&rt, map, 10));
+    confirm!(rt; attempt(&rt, map, 10) < attempt(&rt, reduce, 0));
+    confirm!(rt; generation(&rt, 2) < generation(&rt, 10));
 }

@@ -1,33 +1,38 @@
 //! Names, paths and their texts, and the paths of a job's committer.
 
-use crate::fixtures::path;
-use mr_ids::{AppAttempt, AttemptId, JobId, TaskId, TaskKind};
+use crate::fixtures::{JOB, attempt, generation, path};
+use mr_ids::{TaskId, TaskKind};
 use mr_paths::{
     Layout, Name, Path, PathFault, is_hidden, is_name, is_within, parent, part_name, staging,
 };
 use std::alloc::{AllocError, Global};
 use std::process::Abort;
 
+// A reduce of the job.
+const REDUCE_5: TaskId = TaskId {
+    job: JOB,
+    kind: TaskKind::Reduce,
+    number: 5,
+};
+
 fn name(rt: &impl Abort, alloc: Global, bytes: &[u8]) -> Name {
-    match Name::parse(alloc, bytes) {
-        Ok(name) => name,
-        Err(PathFault::NoMemory) => panic!(rt; "no memory"),
-        Err(PathFault::BadName) => panic!(rt; "no name"),
-    }
+    Name::parse(alloc, bytes).expect(rt, "no name")
 }
 
-// Whether it is refused as no name.
-fn is_bad<T: Drop>(rt: &impl Abort, answer: Result<T, PathFault>) -> bool {
-    match answer {
-        Ok(_) => false,
-        Err(PathFault::NoMemory) => panic!(rt; "no memory"),
-        Err(PathFault::BadName) => true,
-    }
+// It is refused as no name.
+fn is_bad(rt: &impl Abort, fault: Option<PathFault>, text: &[u8]) {
+    confirm!(rt; fault == Some(PathFault::BadName), &(text, fault));
 }
 
-// Whether this is the path's text.
-fn shows(rt: &impl Abort, alloc: Global, path: &Path, text: &str) -> bool {
-    path.to_string(alloc).expect(rt, "no memory").as_str() == text
+// Neither is the text a path's.
+fn is_no_path(rt: &impl Abort, alloc: Global, text: &str) {
+    is_bad(rt, Path::parse(alloc, text).err(), text.as_bytes());
+}
+
+// This is the path's text.
+fn shows(rt: &impl Abort, alloc: Global, path: &Path, text: &str) {
+    let shown = path.to_string(alloc).expect(rt, "no memory");
+    confirm!(rt; shown.as_str() == text, &text);
 }
 
 #[test]
@@ -42,87 +47,75 @@ fn path_texts(rt: HostRuntime) {
         ("/é/./..", 3),
     ] {
         let path = path(&rt, alloc, text);
-        assert!(rt; path.len() == names, "{text}");
-        assert!(rt; shows(&rt, alloc, &path, text), "{text}");
+        confirm!(rt; path.len() == names, &text);
+        shows(&rt, alloc, &path, text);
     }
-    assert!(rt; is_name(&long));
-    assert!(rt; name(&rt, alloc, &long).as_bytes() == long.as_slice());
+    confirm!(rt; is_name(&long));
+    confirm!(rt; name(&rt, alloc, &long).as_bytes() == long.as_slice());
     let shown = name(&rt, alloc, b"a\xff").to_string(alloc);
-    assert!(rt; shown.expect(&rt, "no memory").as_str() == "a\u{fffd}");
+    confirm!(rt; shown.expect(&rt, "no memory").as_str() == "a\u{fffd}");
 }
 
 #[test]
 fn path_refusals(rt: HostRuntime) {
     let alloc = rt.alloc();
     for text in ["", "a", "a/b", "//", "/a/", "/a//b", "//a"] {
-        assert!(rt; is_bad(&rt, Path::parse(alloc, text)), "{text}");
+        is_no_path(&rt, alloc, text);
     }
     let long = [b'n'; 256];
-    let mut text = String::new(alloc);
-    text.push('/').expect(&rt, "no memory");
+    let mut text = String::from_str(alloc, "/").expect(&rt, "no memory");
     for _i in 0..256 {
         text.push('n').expect(&rt, "no memory");
     }
-    assert!(rt; is_bad(&rt, Path::parse(alloc, &text)));
+    is_no_path(&rt, alloc, &text);
     for bytes in [b"".as_slice(), b"a/b".as_slice(), long.as_slice()] {
-        assert!(rt; !is_name(bytes));
-        assert!(rt; is_bad(&rt, Name::parse(alloc, bytes)));
+        confirm!(rt; !is_name(bytes), &bytes);
+        is_bad(&rt, Name::parse(alloc, bytes).err(), bytes);
     }
 }
 
 // The path that was made has this text.
 fn is_path(rt: &impl Abort, alloc: Global, made: Result<Path, AllocError>, text: &str) {
     let path = made.expect(rt, "no memory");
-    assert!(rt; shows(rt, alloc, &path, text), "{text}");
+    shows(rt, alloc, &path, text);
+}
+
+// The layout of the output at `/out`, as its copy has it.
+fn layout(rt: &impl Abort, alloc: Global) -> Layout {
+    let layout = Layout {
+        dest: path(rt, alloc, "/out"),
+    };
+    layout.copy().expect(rt, "no memory")
+}
+
+// Where the generation of this number works, and an attempt at its first reduce.
+fn works_at(rt: &impl Abort, alloc: Global, number: u32, texts: [&str; 3]) {
+    let layout = layout(rt, alloc);
+    let k = generation(rt, number);
+    let first = attempt(rt, REDUCE_5, k.first_attempt_number());
+    is_path(rt, alloc, layout.job_attempt(k), texts[0]);
+    is_path(rt, alloc, layout.task_attempt(k, first), texts[1]);
+    is_path(rt, alloc, layout.committed(k, REDUCE_5), texts[2]);
 }
 
 #[test]
 fn committer_layout(rt: HostRuntime) {
     let alloc = rt.alloc();
-    let job = JobId {
-        start: 200707121733,
-        number: 3,
-    };
-    let task = TaskId {
-        job,
-        kind: TaskKind::Reduce,
-        number: 5,
-    };
-    let attempt = AttemptId::new(task, 0).expect(&rt, "an attempt");
-    let last = AttemptId::new(task, 999_000).expect(&rt, "an attempt");
-    let k = AppAttempt::new(1).expect(&rt, "a generation");
-    let k1000 = AppAttempt::new(1000).expect(&rt, "a generation");
-    let layout = Layout {
-        dest: path(&rt, alloc, "/out"),
-    };
-    let layout = layout.copy().expect(&rt, "no memory");
+    let layout = layout(&rt, alloc);
     is_path(&rt, alloc, layout.temporary(), "/out/_temporary");
-    is_path(&rt, alloc, layout.job_attempt(k), "/out/_temporary/1");
-    is_path(
-        &rt,
-        alloc,
-        layout.job_attempt(k1000),
-        "/out/_temporary/1000",
-    );
-    is_path(
-        &rt,
-        alloc,
-        layout.task_attempt(k, attempt),
-        "/out/_temporary/1/_temporary/attempt_200707121733_0003_r_000005_0",
-    );
-    is_path(
-        &rt,
-        alloc,
-        layout.task_attempt(k1000, last),
-        "/out/_temporary/1000/_temporary/attempt_200707121733_0003_r_000005_999000",
-    );
-    is_path(
-        &rt,
-        alloc,
-        layout.committed(k, task),
-        "/out/_temporary/1/task_200707121733_0003_r_000005",
-    );
     is_path(&rt, alloc, layout.marker(), "/out/_SUCCESS");
+    let first = [
+        "/out/_temporary/1",
+        "/out/_temporary/1/_temporary/attempt_200707121733_0003_r_000005_0",
+        "/out/_temporary/1/task_200707121733_0003_r_000005",
+    ];
+    works_at(&rt, alloc, 1, first);
+    let last = [
+        "/out/_temporary/1000",
+        "/out/_temporary/1000/_temporary/attempt_200707121733_0003_r_000005_999000",
+        "/out/_temporary/1000/task_200707121733_0003_r_000005",
+    ];
+    works_at(&rt, alloc, 1000, last);
     let started = staging(alloc, name(&rt, alloc, b"COMMIT_STARTED"));
     is_path(&rt, alloc, started, "/staging/COMMIT_STARTED");
     are_part_names(&rt, alloc);
@@ -137,8 +130,8 @@ fn are_part_names(rt: &impl Abort, alloc: Global) {
         (123_456, "part-r-123456"),
     ] {
         let part = part_name(alloc, reduce).expect(rt, "no memory");
-        assert!(rt; part.as_bytes() == text.as_bytes(), "{text}");
-        assert!(rt; !is_hidden(&part), "{text}");
+        confirm!(rt; part.as_bytes() == text.as_bytes(), &text);
+        confirm!(rt; !is_hidden(&part), &text);
     }
 }
 
@@ -153,7 +146,7 @@ fn hidden_names(rt: HostRuntime) {
         (b"part-r-00000".as_slice(), false),
         (b"a_b.c".as_slice(), false),
     ] {
-        assert!(rt; is_hidden(&name(&rt, alloc, bytes)) == hidden);
+        confirm!(rt; is_hidden(&name(&rt, alloc, bytes)) == hidden, &bytes);
     }
 }
 
@@ -162,13 +155,21 @@ fn paths_are_made(rt: HostRuntime) {
     let alloc = rt.alloc();
     let a = Name::new(alloc, b"a").expect(&rt, "no memory");
     let b = a.copy().expect(&rt, "no memory");
-    assert!(rt; a == b && a.clone().expect(&rt, "no memory") == b);
+    confirm!(rt; a == b);
+    confirm!(rt; a.clone().expect(&rt, "no memory") == b);
     let top = Path::root(alloc).child(a).expect(&rt, "no memory");
     let mut leaf = top.copy().expect(&rt, "no memory");
     leaf.push(b).expect(&rt, "no memory");
-    assert!(rt; shows(&rt, alloc, &leaf, "/a/a"));
-    assert!(rt; top < leaf && leaf.clone().expect(&rt, "no memory") == leaf);
-    assert!(rt; is_within(leaf.names(), top.names()) && parent(leaf.names()) == top.names());
+    shows(&rt, alloc, &leaf, "/a/a");
+    is_child(&rt, &leaf, &top);
+}
+
+// The path is one of two names, beneath the other, which has one.
+fn is_child(rt: &impl Abort, leaf: &Path, top: &Path) {
+    confirm!(rt; *top < *leaf);
+    confirm!(rt; leaf.clone().expect(rt, "no memory") == *leaf);
+    confirm!(rt; is_within(leaf.names(), top.names()));
+    confirm!(rt; parent(leaf.names()) == top.names());
     assert!(rt; leaf.len() == 2);
-    assert!(rt; leaf.front(1).expect(&rt, "no memory") == top);
+    confirm!(rt; leaf.front(1).expect(rt, "no memory") == *top);
 }

@@ -1,7 +1,7 @@
 //! The committer's recovery of what an earlier master's task committed, whole or by steps, and aborts at once.
 
 use crate::fixtures::{TASK, attempt, by_generation, new_namespace, path};
-use crate::jobs::{job_set_up, made, makes_room, out, prepared, stands, told};
+use crate::jobs::{job_set_up, makes_room, out, stands};
 use mr_commit::{CommitFault, RecoverTask, StepDone, abort_job, abort_task, recover_task};
 use mr_names::{Caller, Kind, Namespace, Op};
 use mr_paths::Layout;
@@ -16,17 +16,13 @@ fn recovery_begins_alike(
     halves: &mut RecoverTask,
     step: &mut RecoverTask,
 ) {
-    let Some(call) = step.call() else {
-        panic!(rt; "over");
-    };
+    let call = step.call().expect(rt, "over");
     let answer = names.perform(*caller, call);
-    let following = match halves.follow(&answer) {
-        Ok(following) => following,
-        Err(fault) => panic!(rt; "{fault}"),
-    };
+    let following = halves.follow(&answer).expect(rt, "a fault");
     halves.go_on(following);
-    assert!(rt; halves.call().is_some());
-    assert!(rt; told(rt, step.took(answer)) == Ok(StepDone::More));
+    confirm!(rt; halves.call().is_some());
+    let told = step.took(answer);
+    confirm!(rt; told == Ok(StepDone::More), &told);
 }
 
 // The recovery's next call is made, with this answer.
@@ -37,7 +33,8 @@ fn recovers(
     step: &mut RecoverTask,
     want: Result<StepDone, CommitFault>,
 ) {
-    assert!(rt; told(rt, step.next(names, *caller)) == want);
+    let answer = step.next(names, *caller);
+    confirm!(rt; answer == want, &answer);
 }
 
 #[test]
@@ -48,8 +45,8 @@ fn recovery_by_steps(rt: HostRuntime) {
     let mut names = job_set_up(&rt, alloc, two, &layout);
     let committed = "/out/_temporary/1/task_200707121733_0003_r_000000";
     makes_room(&rt, alloc, &mut names, two, committed);
-    let mut halves = made(&rt, RecoverTask::new(&layout, two.app, TASK, None));
-    let mut step = made(&rt, halves.copy());
+    let mut halves = RecoverTask::new(&layout, two.app, TASK, None).expect(&rt, "no memory");
+    let mut step = halves.copy().expect(&rt, "no memory");
     recovery_begins_alike(&rt, &mut names, two, &mut halves, &mut step);
     recovers(&rt, &mut names, two, &mut step, Ok(StepDone::More));
     recovers(&rt, &mut names, two, &mut step, Ok(StepDone::Finished));
@@ -63,8 +60,11 @@ fn first_master_recovers_nothing(rt: HostRuntime) {
     let alloc = rt.alloc();
     let one = &by_generation(&rt, 1);
     let mut names = new_namespace(&rt, alloc);
-    let mut nothing = made(&rt, RecoverTask::new(&out(&rt, alloc), one.app, TASK, None));
-    assert!(rt; nothing.call().is_none());
+    let mut nothing = RecoverTask::new(&out(&rt, alloc), one.app, TASK, None).expect(
+        &rt,
+        "no memory",
+    );
+    confirm!(rt; nothing.call().is_none());
     recovers(
         &rt,
         &mut names,
@@ -87,8 +87,8 @@ fn committed_before(
     makes_room(rt, alloc, &mut names, caller, committed);
     let part = "/out/_temporary/1/task_200707121733_0003_r_000000/part-r-00000";
     let part = path(rt, alloc, part);
-    prepared(rt, names.create(*caller, &part, false));
-    prepared(rt, names.append(*caller, &part, bytes));
+    names.create(*caller, &part, false).expect(rt, "refused");
+    names.append(*caller, &part, bytes).expect(rt, "refused");
     names
 }
 
@@ -110,14 +110,14 @@ fn recovery_stopped_halfway(rt: HostRuntime) {
     let two = &by_generation(&rt, 2);
     let layout = out(&rt, alloc);
     let mut names = committed_before(&rt, alloc, two, &layout, b"a\t1\nb\t1\n");
-    let mut step = made(&rt, RecoverTask::new(&layout, two.app, TASK, Some(8)));
+    let mut step = RecoverTask::new(&layout, two.app, TASK, Some(8)).expect(&rt, "no memory");
     for (call, done) in [
         ("exists", StepDone::More),
         ("read", StepDone::More),
         ("delete", StepDone::More),
         ("rename", StepDone::Finished),
     ] {
-        assert!(rt; due(&step) == call);
+        confirm!(rt; due(&step) == call, &call);
         recovers(&rt, &mut names, two, &mut step, Ok(done));
     }
     let recovered = "/out/_temporary/2/task_200707121733_0003_r_000000/part-r-00000";
@@ -134,7 +134,7 @@ fn takes_over(
     want: Result<(), CommitFault>,
 ) {
     let answer = recover_task(names, *caller, layout, TASK, Some(length));
-    assert!(rt; told(rt, answer) == want);
+    confirm!(rt; answer == want, &answer);
 }
 
 // The first attempt is aborted, and then the job, at once.
@@ -147,9 +147,9 @@ fn is_aborted(
 ) {
     let written = "/out/_temporary/2/_temporary/attempt_200707121733_0003_r_000000_0";
     makes_room(rt, alloc, names, caller, written);
-    assert!(rt; told(rt, abort_task(names, *caller, layout, attempt(rt, TASK, 0))) == Ok(()));
+    abort_task(names, *caller, layout, attempt(rt, TASK, 0)).expect(rt, "refused");
     stands(rt, alloc, names, caller, written, None);
-    assert!(rt; told(rt, abort_job(names, *caller, layout)) == Ok(()));
+    abort_job(names, *caller, layout).expect(rt, "refused");
     stands(rt, alloc, names, caller, "/out/_temporary", None);
     stands(rt, alloc, names, caller, "/out", Some(Kind::Dir));
 }
