@@ -63,14 +63,6 @@ fn entered(alloc: Global, parts: &[Piece], is_open: bool) -> (u32, bool) {
     (gate.entered.get(), spent)
 }
 
-// What an answer holds that only an allocation failure can fail.
-fn with_memory<T, E: Drop>(rt: &impl Abort, answer: Result<T, E>) -> T {
-    match answer {
-        Ok(value) => value,
-        Err(_) => panic!(rt; "no memory"),
-    }
-}
-
 fn same(bytes: &[u8], want: &[u8]) -> bool {
     bytes == want
 }
@@ -80,81 +72,76 @@ fn pieces(rt: &impl Abort, alloc: Global, first: u32, reduce: u32, all: &[&[u8]]
     let mut parts = Vec::new(alloc);
     let mut map = first;
     for bytes in all {
-        let bytes = Bytes::from_vec(with_memory(rt, Vec::from_slice(alloc, bytes)));
-        with_memory(rt, parts.push(Piece { map, reduce, bytes }));
+        let bytes = Bytes::from_vec(Vec::from_slice(alloc, bytes).expect(rt, "no memory"));
+        parts
+            .push(Piece { map, reduce, bytes })
+            .expect(rt, "no memory");
         map = map.wrapping_add(1);
     }
     parts
 }
 
 // The answer of a reduce work of reduce 3.
-fn reduced<J: Job>(
-    rt: &impl Abort,
-    alloc: Global,
-    job: &J,
-    parts: &[Piece],
-) -> Result<Vec<u8>, WorkFault> {
-    match reduce_work(alloc, job, &OpenGate, 3, parts) {
-        Err(WorkFault::NoMemory) => panic!(rt; "no memory"),
-        answer => answer,
-    }
+fn reduced<J: Job>(alloc: Global, job: &J, parts: &[Piece]) -> Result<Vec<u8>, WorkFault> {
+    reduce_work(alloc, job, &OpenGate, 3, parts)
 }
 
-// The answer of a reduce work of reduce 0, for wordcount, to such pieces of map `first` on.
-fn reduced_0(
+// A reduce work of this reduce, for wordcount, refuses such pieces of map `first` on, for this reason.
+fn refuses(
     rt: &impl Abort,
     alloc: Global,
-    first: u32,
+    reduce: u32,
+    (first, of): (u32, u32),
     all: &[&[u8]],
-) -> Result<Vec<u8>, WorkFault> {
-    let parts = pieces(rt, alloc, first, 0, all);
-    match reduce_work(alloc, &WordCount, &OpenGate, 0, &parts) {
-        Err(WorkFault::NoMemory) => panic!(rt; "no memory"),
-        answer => answer,
-    }
+    want: ShuffleFault,
+) {
+    let parts = pieces(rt, alloc, first, of, all);
+    let fault = reduce_work(alloc, &WordCount, &OpenGate, reduce, &parts).err();
+    confirm!(rt; fault == Some(WorkFault::Shuffle(want)), &fault);
+}
+
+// Of nothing it makes nothing.
+fn makes_nothing<J: Job>(rt: &impl Abort, alloc: Global, job: &J, reduce: u32) {
+    let text = reduce_work(alloc, job, &OpenGate, reduce, &[]).expect(rt, "a fault");
+    confirm!(rt; text.is_empty());
 }
 
 #[test]
 fn reduce_faults(rt: HostRuntime) {
-    for (first, all, want) in [
-        (0, SHORT, ShuffleFault::Truncated),
-        (0, FALLING, ShuffleFault::Disorder),
-        (1, BLOCK, ShuffleFault::WrongPiece),
-    ] {
-        let answer = reduced_0(&rt, rt.alloc(), first, &[all]);
-        assert!(rt; matches!(answer, Err(WorkFault::Shuffle(fault)) if fault == want));
-    }
-    assert!(rt; matches!(reduced_0(&rt, rt.alloc(), 0, &[]), Ok(text) if text.is_empty()));
+    let alloc = rt.alloc();
+    refuses(&rt, alloc, 0, (0, 0), &[SHORT], ShuffleFault::Truncated);
+    refuses(&rt, alloc, 0, (0, 0), &[FALLING], ShuffleFault::Disorder);
+    refuses(&rt, alloc, 0, (1, 0), &[BLOCK], ShuffleFault::WrongPiece);
+    makes_nothing(&rt, alloc, &WordCount, 0);
 }
 
 #[test]
 fn first_fault_is_told(rt: HostRuntime) {
     let alloc = rt.alloc();
-    for (all, want) in [
-        ([SHORT].as_slice(), ShuffleFault::Truncated),
-        ([FALLING].as_slice(), ShuffleFault::Disorder),
-        ([BLOCK, SHORT, FALLING].as_slice(), ShuffleFault::Truncated),
-        ([BLOCK, FALLING, SHORT].as_slice(), ShuffleFault::Disorder),
-    ] {
-        let parts = pieces(&rt, alloc, 0, 3, all);
-        let answer = reduced(&rt, alloc, &WordCount, &parts);
-        assert!(rt; matches!(answer, Err(WorkFault::Shuffle(fault)) if fault == want));
-    }
-    for (first, reduce) in [(1, 3), (0, 2)] {
-        let parts = pieces(&rt, alloc, first, reduce, &[SHORT]);
-        let answer = reduced(&rt, alloc, &WordCount, &parts);
-        assert!(rt; matches!(answer, Err(WorkFault::Shuffle(ShuffleFault::WrongPiece))));
-    }
-    let parts = pieces(&rt, alloc, 0, 3, &[]);
-    let answer = reduced(&rt, alloc, &MaxByKey, &parts);
-    assert!(rt; matches!(&answer, Ok(text) if text.is_empty()));
-    let answer = reduce_work(alloc, &WordCount, &MapsOnly, 3, &parts);
-    assert!(rt; matches!(answer, Err(WorkFault::Gate(GateFault::Spent))));
+    refuses(&rt, alloc, 3, (0, 3), &[SHORT], ShuffleFault::Truncated);
+    refuses(&rt, alloc, 3, (0, 3), &[FALLING], ShuffleFault::Disorder);
+    let all = [BLOCK, SHORT, FALLING];
+    refuses(&rt, alloc, 3, (0, 3), &all, ShuffleFault::Truncated);
+    let all = [BLOCK, FALLING, SHORT];
+    refuses(&rt, alloc, 3, (0, 3), &all, ShuffleFault::Disorder);
+    refuses(&rt, alloc, 3, (1, 3), &[SHORT], ShuffleFault::WrongPiece);
+    refuses(&rt, alloc, 3, (0, 2), &[SHORT], ShuffleFault::WrongPiece);
+    makes_nothing(&rt, alloc, &MaxByKey, 3);
+    let fault = reduce_work(alloc, &WordCount, &MapsOnly, 3, &[]).err();
+    confirm!(rt; fault == Some(WorkFault::Gate(GateFault::Spent)), &fault);
 }
 
-// Whether a reduce work of these pieces enters once, and answers with its gate's refusal where the gate refuses.
-fn enters_once(alloc: Global, parts: &[Piece]) -> bool {
-    entered(alloc, parts, true) == (1, false) && entered(alloc, parts, false) == (1, true)
+// A reduce work of these pieces enters once, and answers with its gate's refusal where the gate refuses.
+fn enters_once(rt: &impl Abort, alloc: Global, all: &[&[u8]]) {
+    let parts = pieces(rt, alloc, 0, 3, all);
+    confirm!(rt; entered(alloc, &parts, true) == (1, false));
+    confirm!(rt; entered(alloc, &parts, false) == (1, true));
+}
+
+// Where the gate refuses, it does not look at such a piece of this map.
+fn is_not_looked_at(rt: &impl Abort, alloc: Global, first: u32, piece: &[u8]) {
+    let parts = pieces(rt, alloc, first, 3, &[piece]);
+    confirm!(rt; entered(alloc, &parts, false) == (1, true));
 }
 
 // A reduce work enters once, with pieces and without, and before it looks at a piece: where the gate refuses, a bad piece
@@ -162,11 +149,11 @@ fn enters_once(alloc: Global, parts: &[Piece]) -> bool {
 #[test]
 fn reduce_enters_once(rt: HostRuntime) {
     let alloc = rt.alloc();
-    assert!(rt; enters_once(alloc, &pieces(&rt, alloc, 0, 3, &[])));
-    assert!(rt; enters_once(alloc, &pieces(&rt, alloc, 0, 3, &[BLOCK])));
-    assert!(rt; enters_once(alloc, &pieces(&rt, alloc, 0, 3, &[BLOCK, MORE])));
-    assert!(rt; entered(alloc, &pieces(&rt, alloc, 0, 3, &[SHORT]), false) == (1, true));
-    assert!(rt; entered(alloc, &pieces(&rt, alloc, 1, 3, &[BLOCK]), false) == (1, true));
+    enters_once(&rt, alloc, &[]);
+    enters_once(&rt, alloc, &[BLOCK]);
+    enters_once(&rt, alloc, &[BLOCK, MORE]);
+    is_not_looked_at(&rt, alloc, 0, SHORT);
+    is_not_looked_at(&rt, alloc, 1, BLOCK);
 }
 
 // Bytes of pieces alone are reduced to the same text, behind a gate that is entered once.
@@ -175,62 +162,85 @@ fn bytes_alone_are_reduced(rt: HostRuntime) {
     let alloc = rt.alloc();
     let mut all = Vec::new(alloc);
     for bytes in [BLOCK, MORE] {
-        let bytes = with_memory(&rt, Vec::from_slice(alloc, bytes));
-        with_memory(&rt, all.push(Bytes::from_vec(bytes)));
+        let bytes = Vec::from_slice(alloc, bytes).expect(&rt, "no memory");
+        all.push(Bytes::from_vec(bytes)).expect(&rt, "no memory");
     }
     let gate = Counting {
         entered: Cell::new(0),
         is_open: true,
     };
-    let answer = reduce_bytes(alloc, &WordCount, &gate, &all);
-    assert!(rt; matches!(&answer, Ok(text) if same(text, b"a\t7\nb\t1\n")));
-    assert!(rt; gate.entered.get() == 1);
-    let answer = reduce_bytes(alloc, &WordCount, &MapsOnly, &all);
-    assert!(rt; matches!(answer, Err(WorkFault::Gate(GateFault::Spent))));
+    let text = reduce_bytes(alloc, &WordCount, &gate, &all).expect(&rt, "a fault");
+    confirm!(rt; same(&text, b"a\t7\nb\t1\n"));
+    confirm!(rt; gate.entered.get() == 1);
+    let fault = reduce_bytes(alloc, &WordCount, &MapsOnly, &all).err();
+    confirm!(rt; fault == Some(WorkFault::Gate(GateFault::Spent)), &fault);
 }
 
 // A piece of one pair, whose key has so many bytes and whose value is 1.
 fn long_piece(rt: &impl Abort, alloc: Global, len: u32) -> Vec<Piece> {
     let mut bytes = Vec::new(alloc);
-    with_memory(rt, bytes.extend_from_slice(&len.to_be_bytes()));
+    bytes
+        .extend_from_slice(&len.to_be_bytes())
+        .expect(rt, "no memory");
     for _ in 0..len {
-        with_memory(rt, bytes.push(b'a'));
+        bytes.push(b'a').expect(rt, "no memory");
     }
-    with_memory(rt, bytes.extend_from_slice(b"\0\0\0\0\0\0\0\x01"));
+    bytes
+        .extend_from_slice(b"\0\0\0\0\0\0\0\x01")
+        .expect(rt, "no memory");
     pieces(rt, alloc, 0, 3, &[&bytes])
 }
 
 #[test]
 fn reduce_is_full(rt: HostRuntime) {
     let alloc = rt.alloc();
-    let answer = reduced(&rt, alloc, &WordCount, &long_piece(&rt, alloc, 16777213));
-    assert!(rt; matches!(&answer, Ok(text) if text.len() == MAX_OUTPUT_LEN));
-    let answer = reduced(&rt, alloc, &WordCount, &long_piece(&rt, alloc, 16777214));
-    assert!(rt; matches!(answer, Err(WorkFault::Full)));
+    let most = long_piece(&rt, alloc, 16777213);
+    let text = reduced(alloc, &WordCount, &most).expect(&rt, "a fault");
+    confirm!(rt; text.len() == MAX_OUTPUT_LEN);
+    let more = long_piece(&rt, alloc, 16777214);
+    let fault = reduced(alloc, &WordCount, &more).err();
+    confirm!(rt; fault == Some(WorkFault::Full), &fault);
+}
+
+// What a reduce makes of so many bytes of the block, where it ends behind a pair.
+fn text_of(len: usize) -> Option<&'static [u8]> {
+    match len {
+        0 => Some(b""),
+        13 => Some(b"a\t2\n"),
+        26 => Some(b"a\t2\nb\t1\n"),
+        _ => None,
+    }
 }
 
 #[test]
 fn every_prefix_of_a_block(rt: HostRuntime) {
     let alloc = rt.alloc();
     for len in 0..=26 {
-        let parts = pieces(&rt, alloc, 0, 3, &[&BLOCK[..len]]);
-        let answer = reduced(&rt, alloc, &WordCount, &parts);
-        let right = match answer {
-            Ok(text) => match len {
-                0 => text.is_empty(),
-                13 => same(&text, b"a\t2\n"),
-                26 => same(&text, b"a\t2\nb\t1\n"),
-                _ => false,
-            },
-            Err(fault) => {
-                len != 0
-                    && len != 13
-                    && len != 26
-                    && fault == WorkFault::Shuffle(ShuffleFault::Truncated)
-            }
-        };
-        assert!(rt; right);
+        let front = &BLOCK[..len];
+        match text_of(len) {
+            Some(want) => gives(&rt, alloc, front, want),
+            None => refuses(&rt, alloc, 3, (0, 3), &[front], ShuffleFault::Truncated),
+        }
     }
+}
+
+// What reduce 3 makes of a piece of wordcount is this text.
+fn gives(rt: &impl Abort, alloc: Global, piece: &[u8], want: &[u8]) {
+    let parts = pieces(rt, alloc, 0, 3, &[piece]);
+    let text = reduced(alloc, &WordCount, &parts).expect(rt, "a fault");
+    confirm!(rt; same(&text, want), &piece);
+}
+
+// A piece that may be bad has a text, or is truncated or in disorder.
+fn is_text_or_bad(rt: &impl Abort, alloc: Global, piece: &[u8]) {
+    let parts = pieces(rt, alloc, 0, 3, &[piece]);
+    let fault = reduced(alloc, &WordCount, &parts).err();
+    let is_so = match fault {
+        None => true,
+        Some(WorkFault::Shuffle(fault)) => fault != ShuffleFault::WrongPiece,
+        Some(_) => false,
+    };
+    confirm!(rt; is_so, &fault);
 }
 
 #[test]
@@ -238,76 +248,83 @@ fn every_change_of_a_block(rt: HostRuntime) {
     let alloc = rt.alloc();
     for place in 0..26 {
         for byte in 0..=255 {
-            let mut bytes = with_memory(&rt, Vec::from_slice(alloc, BLOCK));
+            let mut bytes = Vec::from_slice(alloc, BLOCK).expect(&rt, "no memory");
             assert!(rt; place < bytes.len());
             bytes[place] = byte;
-            let parts = pieces(&rt, alloc, 0, 3, &[&bytes]);
-            let right = match reduced(&rt, alloc, &WordCount, &parts) {
-                Ok(_) => true,
-                Err(WorkFault::Shuffle(fault)) => fault != ShuffleFault::WrongPiece,
-                Err(_) => false,
-            };
-            assert!(rt; right);
+            is_text_or_bad(&rt, alloc, &bytes);
         }
     }
 }
 
-// The items of a merge: of each group its key, its values after it, and a bar; of a fault its text.
-fn merged(rt: &impl Abort, alloc: Global, parts: &[Piece]) -> Vec<u8> {
-    let mut merge = with_memory(rt, Merge::<WordCount>::new(alloc, parts));
+// Adds of a group its key, its values after it, and a bar.
+fn put_group(rt: &impl Abort, seen: &mut Vec<u8>, key: &Text, values: &[u64]) {
+    seen.extend_from_slice(key.as_slice())
+        .expect(rt, "no memory");
+    for value in values {
+        let digit = b'0'.wrapping_add((*value % 10) as u8);
+        seen.push(digit).expect(rt, "no memory");
+    }
+    seen.push(b'|').expect(rt, "no memory");
+}
+
+// Adds the text of a fault, and a bar.
+fn put_fault(rt: &impl Abort, alloc: Global, seen: &mut Vec<u8>, fault: ShuffleFault) {
+    confirm!(rt; fault != ShuffleFault::NoMemory, &fault);
+    let text = format!(in alloc; "{fault}|").expect(rt, "no memory");
+    seen.extend_from_slice(text.as_bytes())
+        .expect(rt, "no memory");
+}
+
+// The first four items of a merge of these pieces are so: of each group its key, its values after it, and a bar; of a fault its text; a
+// point where there is none.
+fn is_merged(rt: &impl Abort, alloc: Global, all: &[&[u8]], want: &[u8]) {
+    let parts = pieces(rt, alloc, 0, 0, all);
+    let mut merge = Merge::<WordCount>::new(alloc, &parts).expect(rt, "no memory");
     let mut seen = Vec::new(alloc);
     for _ in 0..4 {
         match merge.next() {
-            Some(Ok((key, values))) => {
-                let key: Text = key;
-                with_memory(rt, seen.extend_from_slice(key.as_slice()));
-                for value in &values {
-                    let digit = b'0'.wrapping_add((*value % 10) as u8);
-                    with_memory(rt, seen.push(digit));
-                }
-                with_memory(rt, seen.push(b'|'));
-            }
-            Some(Err(ShuffleFault::NoMemory)) => panic!(rt; "no memory"),
-            Some(Err(fault)) => {
-                let text = with_memory(rt, format!(in alloc; "{fault}|"));
-                with_memory(rt, seen.extend_from_slice(text.as_bytes()));
-            }
-            None => with_memory(rt, seen.push(b'.')),
+            Some(Ok((key, values))) => put_group(rt, &mut seen, &key, &values),
+            Some(Err(fault)) => put_fault(rt, alloc, &mut seen, fault),
+            None => seen.push(b'.').expect(rt, "no memory"),
         }
     }
-    seen
+    confirm!(rt; same(&seen, want), &want);
 }
 
 #[test]
 fn merge_gives_groups(rt: HostRuntime) {
     let alloc = rt.alloc();
-    let seen = merged(&rt, alloc, &pieces(&rt, alloc, 0, 0, &[BLOCK, MORE]));
-    assert!(rt; same(&seen, b"a25|b1|.."));
-    let seen = merged(&rt, alloc, &pieces(&rt, alloc, 0, 0, &[MORE, BLOCK]));
-    assert!(rt; same(&seen, b"a52|b1|.."));
-    let seen = merged(&rt, alloc, &pieces(&rt, alloc, 0, 0, &[]));
-    assert!(rt; same(&seen, b"...."));
-    let seen = merged(&rt, alloc, &pieces(&rt, alloc, 0, 0, &[SHORT]));
-    assert!(rt; same(&seen, b"Truncated|..."));
-    for bad in [[FALLING].as_slice(), [BLOCK, FALLING].as_slice()] {
-        let seen = merged(&rt, alloc, &pieces(&rt, alloc, 0, 0, bad));
-        assert!(rt; same(&seen, b"Disorder|..."));
-    }
+    is_merged(&rt, alloc, &[BLOCK, MORE], b"a25|b1|..");
+    is_merged(&rt, alloc, &[MORE, BLOCK], b"a52|b1|..");
+    is_merged(&rt, alloc, &[], b"....");
+    is_merged(&rt, alloc, &[SHORT], b"Truncated|...");
+    is_merged(&rt, alloc, &[FALLING], b"Disorder|...");
+    is_merged(&rt, alloc, &[BLOCK, FALLING], b"Disorder|...");
 }
 
 // An output of such bytes.
 fn output(rt: &impl Abort, alloc: Global, bytes: &[u8]) -> MapOutput {
-    let bytes = with_memory(rt, Vec::from_slice(alloc, bytes));
+    let bytes = Vec::from_slice(alloc, bytes).expect(rt, "no memory");
     assert!(rt; bytes.len() <= MAX_OUTPUT_LEN);
     MapOutput::from_vec(bytes)
 }
 
 // An attempt at map 0.
 fn attempt(rt: &impl Abort, text: &str) -> AttemptId {
-    match AttemptId::parse(text) {
-        Ok(attempt) => attempt,
-        Err(_) => panic!(rt; "no attempt"),
-    }
+    AttemptId::parse(text).expect(rt, text)
+}
+
+// The attempt's output of these bytes is put on the shelf.
+fn puts(rt: &impl Abort, alloc: Global, shelf: &mut ShelfOfNode, a: AttemptId, bytes: &[u8]) {
+    shelf
+        .put(a, output(rt, alloc, bytes))
+        .expect(rt, "no memory");
+}
+
+// The shelf has this block of the attempt's output for a reduce, or none.
+fn has(rt: &impl Abort, shelf: &ShelfOfNode, a: AttemptId, reduce: u32, want: Option<&[u8]>) {
+    let block = shelf.get(a, reduce);
+    confirm!(rt; block == want, &block);
 }
 
 #[test]
@@ -316,23 +333,20 @@ fn shelf_keeps_until_all_is_dropped(rt: HostRuntime) {
     let first = attempt(&rt, "attempt_200707121733_0003_m_000000_0");
     let second = attempt(&rt, "attempt_200707121733_0003_m_000000_1");
     let mut shelf = ShelfOfNode::new(alloc, 2);
-    assert!(rt; shelf.get(first, 0).is_none());
-    with_memory(
-        &rt,
-        shelf.put(first, output(&rt, alloc, b"\0\0\0\x01x\0\0\0\x01y")),
-    );
-    with_memory(
-        &rt,
-        shelf.put(first, output(&rt, alloc, b"\0\0\0\x02ab\0\0\0\x01c")),
-    );
-    with_memory(&rt, shelf.put(second, output(&rt, alloc, b"\0\0\0\x02ab")));
-    assert!(rt; matches!(shelf.get(first, 0), Some(block) if same(block, b"ab")));
-    assert!(rt; matches!(shelf.get(first, 1), Some(block) if same(block, b"c")));
-    assert!(rt; shelf.get(first, 2).is_none() && shelf.get(second, 0).is_none());
-    let copied = with_memory(&rt, shelf.copy());
+    has(&rt, &shelf, first, 0, None);
+    puts(&rt, alloc, &mut shelf, first, b"\0\0\0\x01x\0\0\0\x01y");
+    puts(&rt, alloc, &mut shelf, first, b"\0\0\0\x02ab\0\0\0\x01c");
+    puts(&rt, alloc, &mut shelf, second, b"\0\0\0\x02ab");
+    has(&rt, &shelf, first, 0, Some(b"ab"));
+    has(&rt, &shelf, first, 1, Some(b"c"));
+    has(&rt, &shelf, first, 2, None);
+    has(&rt, &shelf, second, 0, None);
+    let copied = shelf.copy().expect(&rt, "no memory");
     shelf.drop_all();
-    assert!(rt; matches!(copied.get(first, 1), Some(block) if same(block, b"c")));
-    assert!(rt; shelf.get(first, 0).is_none());
+    has(&rt, &shelf, first, 0, None);
+    drop(shelf);
+    has(&rt, &copied, first, 1, Some(b"c"));
+    drop(copied);
     attempts_are_apart();
 }
 
@@ -341,53 +355,50 @@ fn shared_block_outlives_its_shelf(rt: HostRuntime) {
     let alloc = rt.alloc();
     let a = attempt(&rt, "attempt_200707121733_0003_m_000000_0");
     let mut shelf = ShelfOfNode::new(alloc, 2);
-    with_memory(
-        &rt,
-        shelf.put(a, output(&rt, alloc, b"\0\0\0\x02ab\0\0\0\x01c")),
-    );
-    let block = with_memory(&rt, shelf.share(a, 0));
+    puts(&rt, alloc, &mut shelf, a, b"\0\0\0\x02ab\0\0\0\x01c");
+    let block = shelf.share(a, 0).expect(&rt, "no memory");
     shelf.drop_all();
-    assert!(rt; matches!(&block, Some(bytes) if same(bytes.as_slice(), b"ab")));
-    assert!(rt; with_memory(&rt, shelf.share(a, 0)).is_none());
+    let none = shelf.share(a, 0).expect(&rt, "no memory");
+    confirm!(rt; none.is_none());
+    drop(shelf);
+    let block = block.expect(&rt, "no block");
+    confirm!(rt; same(block.as_slice(), b"ab"));
 }
 
-// The text of reduce 3 of 4 over the splits, through map works, blocks and a reduce work.
-fn shuffled<J: Job>(rt: &impl Abort, alloc: Global, job: &J, splits: &[&[u8]]) -> Vec<u8> {
+// The piece of reduce 3 of 4 in the output of a map over a split.
+fn piece_of<J: Job>(rt: &impl Abort, alloc: Global, job: &J, map: u32, split: &[u8]) -> Piece {
+    assert!(rt; split.len() <= MAX_SPLIT_LEN);
+    let output = map_work(alloc, job, &OpenGate, map, split, 4).expect(rt, "a fault");
+    let found = blocks(output.bytes(), 4).expect(rt, "no blocks");
+    let block = found.get(3).expect(rt, "no block");
+    let bytes = Bytes::from_slice(alloc, block).expect(rt, "no memory");
+    Piece {
+        map,
+        reduce: 3,
+        bytes,
+    }
+}
+
+// The text of reduce 3 of 4 over the splits, through map works, blocks and a reduce work, is this.
+fn is_shuffled<J: Job>(rt: &impl Abort, alloc: Global, job: &J, splits: &[&[u8]], want: &[u8]) {
     let mut parts = Vec::new(alloc);
     let mut map = 0u32;
     for split in splits {
-        assert!(rt; split.len() <= MAX_SPLIT_LEN);
-        let output = with_memory(rt, map_work(alloc, job, &OpenGate, map, split, 4));
-        match blocks(output.bytes(), 4).and_then(|blocks| blocks.get(3)) {
-            Some(block) => {
-                let bytes = Bytes::from_vec(with_memory(rt, Vec::from_slice(alloc, block)));
-                assert!(rt; same(bytes.as_slice(), block));
-                with_memory(
-                    rt,
-                    parts.push(Piece {
-                        map,
-                        reduce: 3,
-                        bytes,
-                    }),
-                );
-            }
-            None => panic!(rt; "no block"),
-        }
+        let piece = piece_of(rt, alloc, job, map, split);
+        parts.push(piece).expect(rt, "no memory");
         map = map.wrapping_add(1);
     }
-    with_memory(rt, reduced(rt, alloc, job, &parts))
+    let text = reduced(alloc, job, &parts).expect(rt, "a fault");
+    confirm!(rt; same(&text, want), &want);
 }
 
 #[test]
 fn pieces_make_the_text(rt: HostRuntime) {
     let alloc = rt.alloc();
     let words = [b"c b g c".as_slice(), b"a\ng c".as_slice(), b"".as_slice()];
-    let text = shuffled(&rt, alloc, &WordCount, &words);
-    assert!(rt; same(&text, b"c\t3\ng\t2\n"));
-    let text = shuffled(&rt, alloc, &LineIndex, &words);
-    assert!(rt; same(&text, b"c\t0:0,0:0,1:1\ng\t0:0,1:1\n"));
-    let bytes = Bytes::from_vec(text);
-    assert!(rt; same(bytes.as_slice(), b"c\t0:0,0:0,1:1\ng\t0:0,1:1\n"));
+    is_shuffled(&rt, alloc, &WordCount, &words, b"c\t3\ng\t2\n");
+    let lines = b"c\t0:0,0:0,1:1\ng\t0:0,1:1\n";
+    is_shuffled(&rt, alloc, &LineIndex, &words, lines);
     shuffle_gives_sequential_text::<WordCount>();
     works_give_sequential_text::<LineIndex>();
     piece_is_what_it_says::<MaxByKey>();

@@ -13,16 +13,9 @@ fn same(bytes: &[u8], want: &[u8]) -> bool {
     bytes == want
 }
 
-// The call answers this fault. Another fault is handed on.
-fn faults<T: Drop>(
-    rt: &impl Abort,
-    answer: Result<T, UserFault>,
-    want: UserFault,
-) -> Result<(), UserFault> {
-    match answer {
-        Ok(_) => panic!(rt; "no fault in place of {want}"),
-        Err(fault) => { if fault == want { Ok(()) } else { Err(fault) } }
-    }
+// The call answers this fault.
+fn faults(rt: &impl Abort, fault: Option<UserFault>, want: UserFault) {
+    confirm!(rt; fault == Some(want), &fault);
 }
 
 // The pairs of line 2 of split 1.
@@ -58,7 +51,7 @@ fn read_again<W: Wire>(rt: &impl Abort, alloc: Global, bytes: &[u8]) -> Result<V
     let (value, len) = W::read(alloc, bytes)?;
     let mut again = Vec::new(alloc);
     value.write(&mut again)?;
-    assert!(rt; again.len() == len, "what was read has another length");
+    confirm!(rt; again.len() == len, &len);
     Ok(again)
 }
 
@@ -86,40 +79,41 @@ fn reduced_line<J: Job>(
     Ok((job.partition(&keys[0], 3), text))
 }
 
+// The pairs of a line are written so.
+fn writes<J: Job>(rt: &impl Abort, alloc: Global, job: &J, line: &[u8], want: &[u8]) {
+    let bytes = written_pairs(rt, alloc, job, line).expect(rt, "a fault");
+    confirm!(rt; same(&bytes, want), &line);
+}
+
+// The first key of a line goes to this reduce of three, with this text.
+fn reduces<J: Job>(rt: &impl Abort, alloc: Global, job: &J, line: &[u8], to: u32, want: &[u8]) {
+    let (reduce, text) = reduced_line(rt, alloc, job, line).expect(rt, "a fault");
+    confirm!(rt; reduce == to, &line);
+    confirm!(rt; same(&text, want), &line);
+}
+
 #[test]
 fn functions_of_wordcount(rt: HostRuntime) {
     let alloc = rt.alloc();
-    let bytes = written_pairs(&rt, alloc, &WordCount, b"\ta  bc").expect(&rt, "a fault");
-    assert!(rt;
-        same(
-            &bytes,
-            b"\0\0\0\x01a\0\0\0\0\0\0\0\x01\0\0\0\x02bc\0\0\0\0\0\0\0\x01"
-        )
-    );
-    let (reduce, text) = reduced_line(&rt, alloc, &WordCount, b"a a a").expect(&rt, "a fault");
-    assert!(rt; reduce == 1 && same(&text, b"a 3"));
-    let text = Text::from_slice(alloc, b"a").expect(&rt, "no memory");
-    let held = WordCount
-        .reduce(alloc, &text, &[18446744073709551615, 5])
-        .expect(&rt, "a fault");
-    assert!(rt; held.len() == 1 && same(&held[0], b"18446744073709551615"));
+    let pairs = b"\0\0\0\x01a\0\0\0\0\0\0\0\x01\0\0\0\x02bc\0\0\0\0\0\0\0\x01";
+    writes(&rt, alloc, &WordCount, b"\ta  bc", pairs);
+    reduces(&rt, alloc, &WordCount, b"a a a", 1, b"a 3");
+    let key = Text::from_slice(alloc, b"a").expect(&rt, "no memory");
+    let most = [18446744073709551615, 5];
+    let held = WordCount.reduce(alloc, &key, &most).expect(&rt, "a fault");
+    assert!(rt; held.len() == 1);
+    confirm!(rt; same(&held[0], b"18446744073709551615"));
 }
 
 #[test]
 fn functions_of_maxbykey(rt: HostRuntime) {
     let alloc = rt.alloc();
-    let bytes = written_pairs(&rt, alloc, &MaxByKey, b" x\t00000000000000000007 ").expect(
-        &rt, "a fault",
-    );
-    assert!(rt; same(&bytes, b"\0\0\0\x01x\0\0\0\0\0\0\0\x07"));
-    let bytes = written_pairs(&rt, alloc, &MaxByKey, b"x 18446744073709551615").expect(
-        &rt, "a fault",
-    );
-    assert!(rt; same(&bytes, b"\0\0\0\x01x\xff\xff\xff\xff\xff\xff\xff\xff"));
-    let bytes = written_pairs(&rt, alloc, &MaxByKey, b" \t ").expect(&rt, "a fault");
-    assert!(rt; bytes.is_empty());
-    let (reduce, text) = reduced_line(&rt, alloc, &MaxByKey, b"x 10").expect(&rt, "a fault");
-    assert!(rt; reduce == 0 && same(&text, b"x 10"));
+    let pairs = b"\0\0\0\x01x\0\0\0\0\0\0\0\x07";
+    writes(&rt, alloc, &MaxByKey, b" x\t00000000000000000007 ", pairs);
+    let pairs = b"\0\0\0\x01x\xff\xff\xff\xff\xff\xff\xff\xff";
+    writes(&rt, alloc, &MaxByKey, b"x 18446744073709551615", pairs);
+    writes(&rt, alloc, &MaxByKey, b" \t ", b"");
+    reduces(&rt, alloc, &MaxByKey, b"x 10", 0, b"x 10");
     for line in [
         b"x".as_slice(),
         b"x 1 2".as_slice(),
@@ -130,56 +124,64 @@ fn functions_of_maxbykey(rt: HostRuntime) {
         b"x 000000000000000000007".as_slice(),
     ] {
         let pairs = pairs_of(&rt, alloc, &MaxByKey, line);
-        faults(&rt, pairs, UserFault::Refused).expect(&rt, "a fault");
+        faults(&rt, pairs.err(), UserFault::Refused);
     }
 }
 
 #[test]
 fn functions_of_lineindex(rt: HostRuntime) {
     let alloc = rt.alloc();
-    let bytes = written_pairs(&rt, alloc, &LineIndex, b"b").expect(&rt, "a fault");
-    assert!(rt; same(&bytes, b"\0\0\0\x01b\0\0\0\x01\0\0\0\0\0\0\0\x02"));
-    let (reduce, text) = reduced_line(&rt, alloc, &LineIndex, b"b b").expect(&rt, "a fault");
-    assert!(rt; reduce == 2 && same(&text, b"b 1:2,1:2"));
+    let pairs = b"\0\0\0\x01b\0\0\0\x01\0\0\0\0\0\0\0\x02";
+    writes(&rt, alloc, &LineIndex, b"b", pairs);
+    reduces(&rt, alloc, &LineIndex, b"b b", 2, b"b 1:2,1:2");
+}
+
+// A value is read at the front of these bytes: it is the first so many of them.
+fn is_read<W: Wire>(rt: &impl Abort, alloc: Global, bytes: &[u8], len: usize) {
+    let again = read_again::<W>(rt, alloc, bytes).expect(rt, "a fault");
+    confirm!(rt; again.len() == len, &bytes);
+    confirm!(rt; bytes.starts_with(&again), &bytes);
+}
+
+// No value is read at the front of these bytes.
+fn is_bad<W: Wire>(rt: &impl Abort, alloc: Global, bytes: &[u8]) {
+    let fault = read_again::<W>(rt, alloc, bytes).err();
+    faults(rt, fault, UserFault::BadWire);
 }
 
 #[test]
 fn values_are_read(rt: HostRuntime) {
     let alloc = rt.alloc();
-    for (bytes, len) in [(b"\0\0\0\x01ab".as_slice(), 5), (b"\0\0\0\0".as_slice(), 4)] {
-        let text = read_again::<Text>(&rt, alloc, bytes).expect(&rt, "a fault");
-        assert!(rt; text.len() == len && bytes.starts_with(&text));
-    }
-    for bytes in [
-        b"".as_slice(),
-        b"\0\0\0".as_slice(),
-        b"\0\0\0\x02a".as_slice(),
-    ] {
-        let text = read_again::<Text>(&rt, alloc, bytes);
-        faults(&rt, text, UserFault::BadWire).expect(&rt, "a fault");
-    }
+    is_read::<Text>(&rt, alloc, b"\0\0\0\x01ab", 5);
+    is_read::<Text>(&rt, alloc, b"\0\0\0\0", 4);
+    is_bad::<Text>(&rt, alloc, b"");
+    is_bad::<Text>(&rt, alloc, b"\0\0\0");
+    is_bad::<Text>(&rt, alloc, b"\0\0\0\x02a");
     let twelve = b"\0\0\0\x01\0\0\0\0\0\0\0\x02";
-    let number = read_again::<u64>(&rt, alloc, twelve).expect(&rt, "a fault");
-    assert!(rt; same(&number, b"\0\0\0\x01\0\0\0\0"));
-    let number = read_again::<u64>(&rt, alloc, b"\0\0\0\0\0\0\0");
-    faults(&rt, number, UserFault::BadWire).expect(&rt, "a fault");
-    let position = read_again::<Position>(&rt, alloc, twelve).expect(&rt, "a fault");
-    assert!(rt; same(&position, twelve));
-    let position = read_again::<Position>(&rt, alloc, b"\0\0\0\x01\0\0\0\0\0\0\0");
-    faults(&rt, position, UserFault::BadWire).expect(&rt, "a fault");
+    is_read::<u64>(&rt, alloc, twelve, 8);
+    is_bad::<u64>(&rt, alloc, b"\0\0\0\0\0\0\0");
+    is_read::<Position>(&rt, alloc, twelve, 12);
+    is_bad::<Position>(&rt, alloc, b"\0\0\0\x01\0\0\0\0\0\0\0");
+}
+
+// Three pairs, of two keys.
+fn pairs(rt: &impl Abort, alloc: Global) -> Vec<(u64, u64)> {
+    Vec::from_slice(alloc, &[(2, 5), (1, 7), (2, 3)]).expect(rt, "no memory")
 }
 
 #[test]
 fn pairs_are_grouped(rt: HostRuntime) {
     let alloc = rt.alloc();
-    let pairs: Vec<(u64, u64)> = Vec::from_slice(alloc, &[(2, 5), (1, 7), (2, 3)]).expect(
-        &rt,
-        "no memory",
-    );
-    let groups = groups(alloc, pairs).expect(&rt, "a fault");
+    let groups = groups(alloc, pairs(&rt, alloc)).expect(&rt, "a fault");
     assert!(rt; groups.len() == 2);
-    assert!(rt; groups[0].0 == 1 && groups[0].1.as_slice() == [7].as_slice());
-    assert!(rt; groups[1].0 == 2 && groups[1].1.as_slice() == [5, 3].as_slice());
+    is_group(&rt, &groups[0], 1, &[7]);
+    is_group(&rt, &groups[1], 2, &[5, 3]);
+}
+
+// The group has this key and these values.
+fn is_group(rt: &impl Abort, (key, values): &(u64, Vec<u64>), of: u64, want: &[u64]) {
+    confirm!(rt; *key == of, &of);
+    confirm!(rt; values.as_slice() == want, &of);
 }
 
 #[test]
@@ -190,14 +192,9 @@ fn an_open_gate_answers_at_once(rt: HostRuntime) {
 
 #[test]
 fn pairs_are_sorted(rt: HostRuntime) {
-    let alloc = rt.alloc();
-    let mut pairs: Vec<(u64, u64)> = Vec::from_slice(alloc, &[(2, 5), (1, 7), (2, 3)]).expect(
-        &rt,
-        "no memory",
-    );
+    let mut pairs = pairs(&rt, rt.alloc());
     sort_pairs(&mut pairs).expect(&rt, "a fault");
-    assert!(rt; pairs.len() == 3);
-    assert!(rt; pairs[0] == (1, 7) && pairs[1] == (2, 5) && pairs[2] == (2, 3));
+    confirm!(rt; pairs.as_slice() == [(1, 7), (2, 5), (2, 3)].as_slice());
 }
 
 #[test]
@@ -206,17 +203,12 @@ fn lines_are_read_and_written(rt: HostRuntime) {
     let bytes = b"ab\nc".as_slice();
     assert!(rt; !bytes.is_empty());
     let (line, rest) = next_line(bytes);
-    assert!(rt; same(line, b"ab") && same(rest, b"c"));
+    confirm!(rt; same(line, b"ab"));
+    confirm!(rt; same(rest, b"c"));
+    let key = Text::from_slice(alloc, line).expect(&rt, "no memory");
     let mut text = Vec::new(alloc);
-    write_lines(
-        alloc,
-        &WordCount,
-        &Text::from_slice(alloc, line).expect(&rt, "no memory"),
-        &[2, 3],
-        &mut text,
-    )
-    .expect(&rt, "no memory");
-    assert!(rt; same(&text, b"ab\t5\n"));
+    write_lines(alloc, &WordCount, &key, &[2, 3], &mut text).expect(&rt, "no memory");
+    confirm!(rt; same(&text, b"ab\t5\n"));
 }
 
 // Splits that are copied are equal, and so are no others.
@@ -230,10 +222,10 @@ fn splits_are_copied(rt: HostRuntime) {
     }
     let splits = Splits::from_vec(items);
     let copy = splits.copy().expect(&rt, "no memory");
-    assert!(rt; copy == splits && copy.len() == 2);
-    assert!(rt;
-        matches!(copy.get(0), Some(split) if same(split.as_slice(), b"a b\n"))
-            && copy.get(2).is_none()
-    );
-    assert!(rt; Splits::from_vec(Vec::new(alloc)) != splits);
+    confirm!(rt; copy == splits);
+    confirm!(rt; copy.len() == 2);
+    let first = copy.get(0).expect(&rt, "no split");
+    confirm!(rt; same(first.as_slice(), b"a b\n"));
+    confirm!(rt; copy.get(2).is_none());
+    confirm!(rt; Splits::from_vec(Vec::new(alloc)) != splits);
 }
