@@ -10,7 +10,6 @@ use mr_world::Config;
 use std::alloc::Global;
 use std::process::Abort;
 use std::sync::atomic::{AtomicU64, Ordering};
-use std::test::*;
 use std::thread;
 
 const TURNS: u64 = 100_000;
@@ -101,9 +100,9 @@ fn four_map_works_at_once(rt: HostRuntime) {
         r#""job":"wordcount","splits":["a","b","a",""],"nodes":4"#,
     );
     let report = drive(&rt, rt.alloc(), &WordCount, &gate, &four, TURNS).expect(&rt, "a fault");
-    assert!(rt; is_counted(&report));
-    assert_eq!(rt; gate.maps.load(Ordering::SeqCst), 4);
-    assert_eq!(rt; gate.reduces.load(Ordering::SeqCst), 1);
+    confirm!(rt; is_counted(&report));
+    confirm!(rt; gate.maps.load(Ordering::SeqCst) == 4);
+    confirm!(rt; gate.reduces.load(Ordering::SeqCst) == 1);
     let gate = Meeting::of(TaskKind::Map);
     let three = plan(
         &rt,
@@ -111,7 +110,7 @@ fn four_map_works_at_once(rt: HostRuntime) {
         r#""job":"wordcount","splits":["a","b","a",""],"nodes":3"#,
     );
     let fault = drive(&rt, rt.alloc(), &WordCount, &gate, &three, TURNS).err();
-    assert!(rt; fault == Some(DriveFault::TurnsSpent), "{fault:?}");
+    confirm!(rt; fault == Some(DriveFault::TurnsSpent), &fault);
 }
 
 // While a reduce still fetches, no node computes: a node that computes answers no fetch.
@@ -124,9 +123,10 @@ fn four_reduce_works_at_once(rt: HostRuntime) {
         r#""job":"wordcount","splits":["a","b","a",""],"nodes":4,"reduces":4"#,
     );
     let report = drive(&rt, rt.alloc(), &WordCount, &gate, &four, TURNS).expect(&rt, "a fault");
-    assert!(rt; report.succeeded && report.files.len() == 4);
-    assert_eq!(rt; gate.maps.load(Ordering::SeqCst), 4);
-    assert_eq!(rt; gate.reduces.load(Ordering::SeqCst), 4);
+    confirm!(rt; report.succeeded);
+    confirm!(rt; report.files.len() == 4);
+    confirm!(rt; gate.maps.load(Ordering::SeqCst) == 4);
+    confirm!(rt; gate.reduces.load(Ordering::SeqCst) == 4);
 }
 
 // Lets no work pass.
@@ -143,5 +143,5 @@ impl Gate for ShutGate {
 fn a_gate_that_refuses_ends_the_run(rt: HostRuntime) {
     let plan = plan(&rt, rt.alloc(), r#""job":"wordcount","splits":["a b a"]"#);
     let fault = drive(&rt, rt.alloc(), &WordCount, &ShutGate, &plan, TURNS).err();
-    assert!(rt; fault == Some(DriveFault::TurnsSpent), "{fault:?}");
+    confirm!(rt; fault == Some(DriveFault::TurnsSpent), &fault);
 }

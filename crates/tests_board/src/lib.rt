@@ -2,8 +2,21 @@
 //! that threads run, and the ends of the runs that are explored.
 #![tactic(auto)]
 
+// Ends the test where the condition is not so, and tells it, and at which value. It is a call where `assert!` is a branch. What stands
+// below learns nothing of it: where that needs the fact, `assert!` stands.
+macro_rules! confirm {
+    ($rt:expr; $condition:expr) => {
+        crate::confirm::is_so(&$rt, $condition, stringify!($condition))
+    };
+    ($rt:expr; $condition:expr, $at:expr) => {
+        crate::confirm::is_so_at(&$rt, $condition, stringify!($condition), $at)
+    };
+}
+
 #[cfg(test)]
 mod closes;
+#[cfg(test)]
+mod confirm;
 #[cfg(test)]
 mod drives;
 #[cfg(test)]

@@ -107,18 +107,17 @@ fn each_read_fails<H: AllocGlobal + Eprint + Clock + Threads + Wait + Sync + Abo
         let mut output = FaultyWriter::new(3, 1000);
         match run(rt, &Command::Committer, &mut input, &mut output) {
             Ok(()) => {
-                assert!(rt; output.took(HELLO_TEXT));
+                confirm!(rt; output.took(HELLO_TEXT));
                 whole = whole.saturating_add(1);
             }
-            Err(SimFault::NoMemory) => panic!(rt; "no memory"),
             Err(fault) => {
-                assert_eq!(rt; fault, SimFault::Read);
-                assert_eq!(rt; output.len, 0);
+                confirm!(rt; fault == SimFault::Read, &fault);
+                confirm!(rt; output.len == 0);
             }
         }
     }
     // 109 bytes take 37 reads of 3 bytes, and one that finds the end.
-    assert_eq!(rt; whole, 22);
+    confirm!(rt; whole == 22, &whole);
 }
 
 // So is a write that fails.
@@ -129,15 +128,14 @@ fn each_write_fails<H: AllocGlobal + Eprint + Clock + Threads + Wait + Sync + Ab
         let mut output = FaultyWriter::new(3, good);
         match run(rt, &Command::Committer, &mut input, &mut output) {
             Ok(()) => whole = whole.saturating_add(1),
-            Err(SimFault::NoMemory) => panic!(rt; "no memory"),
-            Err(fault) => assert_eq!(rt; fault, SimFault::Write),
+            Err(fault) => confirm!(rt; fault == SimFault::Write, &fault),
         }
         // What was taken is the text's beginning: nothing is lost between, nothing doubled.
         let taken = output.len.min(HELLO_TEXT.len());
-        assert!(rt; output.took(&HELLO_TEXT[..taken]));
+        confirm!(rt; output.took(&HELLO_TEXT[..taken]));
     }
     // 39 bytes take 13 writes of 3 bytes.
-    assert_eq!(rt; whole, 7);
+    confirm!(rt; whole == 7, &whole);
 }
 
 #[test]
@@ -152,31 +150,27 @@ fn failed_flush_is_answered(rt: HostRuntime) {
     let mut input = HELLO;
     let mut output = FaultyWriter::new(512, 1000);
     output.flushes = false;
-    match run(&rt, &Command::Committer, &mut input, &mut output) {
-        Ok(()) => panic!(rt; "not answered"),
-        Err(fault) => assert!(rt;
-            fault == SimFault::Write && output.took(HELLO_TEXT),
-            "{fault}"
-        ),
-    }
+    let fault = run(&rt, &Command::Committer, &mut input, &mut output).err();
+    confirm!(rt; fault == Some(SimFault::Write), &fault);
+    confirm!(rt; output.took(HELLO_TEXT));
 }
 
-// The same without a handle, and with the remarks of the run.
+// The same without a handle. Then with the remarks of the run.
 #[test]
 fn runs_over_streams(rt: HostRuntime) {
     let mut input = HELLO;
     let mut output = FaultyWriter::new(512, 1000);
-    match run_streams(rt.alloc(), Command::Committer, &mut input, &mut output) {
-        Ok(()) => assert!(rt; output.took(HELLO_TEXT)),
-        Err(fault) => panic!(rt; "{fault}"),
-    }
+    run_streams(rt.alloc(), Command::Committer, &mut input, &mut output).expect(&rt, "a fault");
+    confirm!(rt; output.took(HELLO_TEXT));
+}
+
+#[test]
+fn runs_with_remarks(rt: HostRuntime) {
     let mut input = HELLO;
     let mut output = FaultyWriter::new(512, 1000);
-    match run_with_remarks(&rt, &Command::Committer, &mut input, &mut output) {
-        Ok(remarks) => {
-            assert!(rt; remarks.ending() == Ending::Done);
-            assert!(rt; output.took(HELLO_TEXT));
-        }
-        Err(fault) => panic!(rt; "{fault}"),
-    }
+    let remarks = run_with_remarks(&rt, &Command::Committer, &mut input, &mut output).expect(
+        &rt, "a fault",
+    );
+    confirm!(rt; remarks.ending() == Ending::Done);
+    confirm!(rt; output.took(HELLO_TEXT));
 }

@@ -11,16 +11,14 @@ const ONE: &[u8] =
 
 // This is the answer to the command.
 fn answers<H: AllocGlobal + Abort>(rt: &H, command: Command<'_>, input: &[u8], text: &[u8]) {
-    match answer(rt.alloc(), command, input) {
-        Ok(printed) => assert!(rt; printed.as_slice() == text),
-        Err(fault) => panic!(rt; "{fault}"),
-    }
+    let printed = answer(rt.alloc(), command, input).expect(rt, "a fault");
+    confirm!(rt; printed.as_slice() == text);
 }
 
 // The command is refused so.
 fn refuses<H: AllocGlobal + Abort>(rt: &H, command: Command<'_>, input: &[u8], fault: SimFault) {
     let told = answer(rt.alloc(), command, input).err();
-    assert!(rt; told == Some(fault), "{told:?}");
+    confirm!(rt; told == Some(fault), &told);
 }
 
 #[test]

@@ -22,10 +22,7 @@ pub fn task_id(kind: TaskKind) -> TaskId {
 pub fn attempt_at(rt: &impl Abort, task: TaskId, number: u32) -> AttemptId
     ensures { result.task ≡ task }
 {
-    match AttemptId::new(task, number) {
-        Some(attempt) => attempt,
-        None => panic!(rt; "no attempt has the number {number}"),
-    }
+    AttemptId::new(task, number).expect(rt, "no attempt has this number")
 }
 
 /// The attempt of this number at the task 0 of this kind.

@@ -5,10 +5,11 @@ use std::process::Abort;
 
 /// Ends the test where the condition with this text is not so.
 pub fn is_so(rt: &impl Abort, condition: bool, text: &str) {
-    assert!(rt; condition, "not so: {text}");
+    condition.then_some(()).expect(rt, text)
 }
 
-/// Ends the test where the condition with this text is not so of this row.
-pub fn is_so_at<R: Debug>(rt: &impl Abort, condition: bool, text: &str, row: &R) {
-    assert!(rt; condition, "at {row:?}, not so: {text}");
+/// Ends the test where the condition with this text is not so of this value.
+pub fn is_so_at<R: Debug>(rt: &impl Abort, condition: bool, text: &str, at: &R) {
+    let told = if condition { Ok(()) } else { Err(at) };
+    told.expect(rt, text)
 }

@@ -17,18 +17,13 @@ pub fn attempt(rt: &impl Abort, kind: TaskKind, number: u32) -> AttemptId {
         kind,
         number: 0,
     };
-    match AttemptId::new(task, number) {
-        Some(attempt) => attempt,
-        None => panic!(rt; "no attempt has the number {number}"),
-    }
+    AttemptId::new(task, number).expect(rt, "no attempt has this number")
 }
 
 /// The container of this number of the first master.
 pub fn container(rt: &impl Abort, number: u32) -> ContainerId {
-    match AppAttempt::new(1) {
-        Some(app) => ContainerId { app, number },
-        None => panic!(rt; "no generation 1"),
-    }
+    let app = AppAttempt::new(1).expect(rt, "no generation 1");
+    ContainerId { app, number }
 }
 
 /// The container 0 for the first attempt at the task 0 of this kind, on node 0, in a job of one map.
@@ -43,15 +38,10 @@ pub fn machine(rt: &impl Abort, alloc: Global, kind: TaskKind) -> ContainerMachi
 
 /// These bytes.
 pub fn bytes_of(rt: &impl Abort, alloc: Global, items: &[u8]) -> Bytes {
-    match Vec::from_slice(alloc, items) {
-        Ok(items) => Bytes::from_vec(items),
-        Err(_) => panic!(rt; "no memory"),
-    }
+    Bytes::from_slice(alloc, items).expect(rt, "no memory")
 }
 
 /// The container hears a packet.
 pub fn hears(rt: &impl Abort, machine: &mut ContainerMachine, packet: Packet) {
-    if machine.hear(&packet).is_err() {
-        panic!(rt; "no memory");
-    }
+    machine.hear(&packet).expect(rt, "no memory")
 }

@@ -1,8 +1,8 @@
 //! Tests of one attempt, the permission to commit one task, the recovery plan, packets, containers and nodes.
 #![tactic(auto)]
 
-// Ends the test where the condition is not so, and tells it, and at which row. It is a call where `assert!` is a branch, and its proof
-// costs half as much. What stands below learns nothing of it: where that needs the fact, `assert!` stands.
+// Ends the test where the condition is not so, and tells it, and at which value. It is a call where `assert!` is a branch. What stands
+// below learns nothing of it: where that needs the fact, `assert!` stands.
 macro_rules! confirm {
     ($rt:expr; $condition:expr) => {
         crate::confirm::is_so(&$rt, $condition, stringify!($condition))

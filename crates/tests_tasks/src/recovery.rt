@@ -67,11 +67,10 @@ fn the_first_winners_by_rising_task(rt: HostRuntime) {
 
 // What a plan with these marks reports, where it does not go on.
 fn reports(rt: &impl Abort, plan: Result<Recovery, RecoverFault>) -> bool {
-    match plan {
-        Ok(Recovery::Succeeded) => true,
-        Ok(Recovery::Failed) => false,
-        Ok(Recovery::Resume(_)) => panic!(rt; "it goes on"),
-        Err(fault) => panic!(rt; "{fault}"),
+    match plan.expect(rt, "a fault") {
+        Recovery::Succeeded => true,
+        Recovery::Failed => false,
+        Recovery::Resume(_) => panic!(rt; "it goes on"),
     }
 }
 

@@ -7,10 +7,7 @@ use std::alloc::Global;
 use std::process::Abort;
 
 fn generation(rt: &impl Abort, number: u32) -> AppAttempt {
-    match AppAttempt::new(number) {
-        Some(app) => app,
-        None => panic!(rt; "no generation has the number {number}"),
-    }
+    AppAttempt::new(number).expect(rt, "no generation has this number")
 }
 
 fn machine(rt: &impl Abort, alloc: Global, kind: TaskKind) -> TaskMachine {

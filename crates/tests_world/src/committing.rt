@@ -27,8 +27,8 @@ fn refusal_stops_the_start(rt: HostRuntime) {
 // A copy of the master is answered so: the job fails, and the mark of that is next.
 fn fails_by(rt: &impl Abort, master: &MasterMachine, name: DutyName, answer: StoreAnswer) {
     let mut copy = master.copy().expect(rt, "no memory");
-    assert!(rt; due(rt, &copy) == Some(name), "{name:?}");
-    assert!(rt; answered(rt, &mut copy, answer).len() == 0, "{name:?}");
+    confirm!(rt; due(rt, &copy) == Some(name), &name);
+    confirm!(rt; answered(rt, &mut copy, answer).len() == 0, &name);
     assert!(rt;
         copy.phase() == Phase::Committing && due(rt, &copy) == Some(DutyName::Fail),
         "{name:?}"

@@ -50,10 +50,8 @@ pub fn task(kind: TaskKind, number: u32) -> TaskId {
 
 /// The container of this number of the first master.
 pub fn container(rt: &impl Abort, number: u32) -> ContainerId {
-    match AppAttempt::new(1) {
-        Some(app) => ContainerId { app, number },
-        None => panic!(rt; "no generation 1"),
-    }
+    let app = AppAttempt::new(1).expect(rt, "no generation 1");
+    ContainerId { app, number }
 }
 
 /// These bytes.
@@ -140,8 +138,8 @@ pub fn refuses(rt: &impl Abort, world: &mut World, event: Event, want: Why) {
     let length = world.journal().len();
     match applied(rt, world, event) {
         Err(WorldFault::NotNow(why)) => {
-            assert!(rt; why == want, "{why}");
-            assert!(rt; answer == Err(WorldFault::NotNow(why)));
+            confirm!(rt; why == want, &why);
+            confirm!(rt; answer == Err(WorldFault::NotNow(why)));
             assert!(rt; world.bag().len() == before);
             assert!(rt; world.journal().len() == length);
         }

@@ -13,10 +13,7 @@ use std::process::Abort;
 
 // The second attempt at the reduce.
 fn second_attempt(rt: &impl Abort) -> AttemptId {
-    match AttemptId::new(reduce(), 1) {
-        Some(attempt) => attempt,
-        None => panic!(rt; "no attempt has the number 1"),
-    }
+    AttemptId::new(reduce(), 1).expect(rt, "no attempt has the number 1")
 }
 
 // The container of this number.
@@ -50,7 +47,7 @@ fn unknown_ones_are_not_heard(rt: HostRuntime) {
     writes(&rt, &mut master, 0);
     for kind in 0..7 {
         let packet = unknown(&rt, kind);
-        assert!(rt; hears(&rt, &mut master, &packet).len() == 0, "{kind}");
+        confirm!(rt; hears(&rt, &mut master, &packet).len() == 0, &kind);
     }
     assert!(rt; due(&rt, &master).is_none());
 }
@@ -86,7 +83,7 @@ fn restart_loses_the_output(rt: HostRuntime) {
     for (incarnation, wanted) in [(1, None), (2, Some(map()))] {
         let up = Packet::NodeUp { n: 0, incarnation };
         replies(&rt, &mut master, &up, 0);
-        assert!(rt; master.wanted() == wanted, "{incarnation}");
+        confirm!(rt; master.wanted() == wanted, &incarnation);
     }
 }
 

@@ -6,7 +6,7 @@ use mr_master::MasterMachine;
 use mr_master_model::{DutyName, Setting, StoreAnswer};
 use mr_names::{Answer, Entries};
 use mr_packet::{ContainerId, Envelope, Packet};
-use mr_paths::{Layout, Path, PathFault};
+use mr_paths::{Layout, Path};
 use std::alloc::Global;
 use std::process::Abort;
 
@@ -29,18 +29,12 @@ pub fn task(kind: TaskKind, number: u32) -> TaskId {
 
 /// The first attempt of the first master at a task.
 pub fn attempt(rt: &impl Abort, task: TaskId) -> AttemptId {
-    match AttemptId::new(task, 0) {
-        Some(attempt) => attempt,
-        None => panic!(rt; "no attempt has the number 0"),
-    }
+    AttemptId::new(task, 0).expect(rt, "no attempt has the number 0")
 }
 
 /// The generation of the first master.
 pub fn first(rt: &impl Abort) -> AppAttempt {
-    match AppAttempt::new(1) {
-        Some(app) => app,
-        None => panic!(rt; "no generation 1"),
-    }
+    AppAttempt::new(1).expect(rt, "no generation 1")
 }
 
 /// The container 0 of the first master.
@@ -69,11 +63,7 @@ pub fn generation_of(
     maps: u32,
     nodes: u32,
 ) -> MasterMachine {
-    let dest = match Path::parse(alloc, "/out") {
-        Ok(dest) => dest,
-        Err(PathFault::NoMemory) => panic!(rt; "no memory"),
-        Err(PathFault::BadName) => panic!(rt; "/out is no path"),
-    };
+    let dest = Path::parse(alloc, "/out").expect(rt, "/out");
     let setting = Setting {
         app,
         job: job(),

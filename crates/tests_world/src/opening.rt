@@ -88,7 +88,7 @@ fn nothing_is_answered(rt: HostRuntime) {
     let mut master = master(&rt, rt.alloc());
     for kind in 0..8 {
         let packet = packet(&rt, kind);
-        assert!(rt; hears(&rt, &mut master, &packet).len() == 0, "{kind}");
+        confirm!(rt; hears(&rt, &mut master, &packet).len() == 0, &kind);
     }
     assert!(rt; is_new(&rt, rt.alloc(), &master));
 }

@@ -23,8 +23,8 @@ fn superseded() -> StoreAnswer {
 
 // The answer of what is due stops the master: nothing is sent, nothing is due any more.
 pub fn stops(rt: &impl Abort, master: &mut MasterMachine, name: DutyName, answer: StoreAnswer) {
-    assert!(rt; due(rt, master) == Some(name), "{name:?}");
-    assert!(rt; answered(rt, master, answer).len() == 0, "{name:?}");
+    confirm!(rt; due(rt, master) == Some(name), &name);
+    confirm!(rt; answered(rt, master, answer).len() == 0, &name);
     assert!(rt;
         master.phase() == Phase::Stopped && due(rt, master).is_none(),
         "{name:?}"
