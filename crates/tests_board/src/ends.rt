@@ -31,26 +31,25 @@ fn input_of<H: AllocGlobal + Abort>(rt: &H, script: &str) -> Vec<u8> {
 // The end that is found has one fault, and its script leads to it.
 fn is_one_fault<H: AllocGlobal + Abort>(rt: &H, goal: &str) {
     let all = explored(rt, "", 1);
-    match best_of(all.table(), goal.as_bytes()) {
-        Some(row) => leads(rt, row),
-        None => panic!(rt; "none"),
-    }
+    let row = best_of(all.table(), goal.as_bytes()).expect(rt, "none");
+    leads(rt, row);
+    drop(all);
 }
 
 fn leads<H: AllocGlobal + Abort>(rt: &H, row: &Row) {
-    assert_eq!(rt; row.faults, 1);
+    confirm!(rt; row.faults == 1);
     let mut input = input_of(rt, "");
     input.extend_from_slice(&row.script).expect(rt, "no memory");
     let printed = play(rt.alloc(), &input).expect(rt, "a fault");
-    assert!(rt; printed.text == row.end);
+    confirm!(rt; printed.text == row.end);
 }
 
 #[test]
 fn without_a_fault_there_is_one_run(rt: HostRuntime) {
     let all = explored(&rt, "", 0);
-    assert_eq!(&rt; all.table().runs(), 1);
-    assert_eq!(&rt; all.table().rows().len(), 1);
-    assert!(&rt; all.is_whole());
+    confirm!(rt; all.table().runs() == 1);
+    confirm!(rt; all.table().rows().len() == 1);
+    confirm!(rt; all.is_whole());
 }
 
 #[test]
@@ -77,45 +76,17 @@ fn barred_before_rename_is_one_fault(rt: HostRuntime) {
 #[test]
 fn a_marker_without_a_winner_is_not_there(rt: HostRuntime) {
     let all = explored(&rt, "", 1);
-    assert!(&rt; best_of(all.table(), b"r 0 none, marker yes").is_none());
-    assert!(&rt; best_of(all.table(), b"r 0 none, marker no").is_some());
+    confirm!(rt; best_of(all.table(), b"r 0 none, marker yes").is_none());
+    confirm!(rt; best_of(all.table(), b"r 0 none, marker no").is_some());
 }
 
-#[test]
-fn what_is_not_found_is_none(rt: HostRuntime) {
-    let all = explored(&rt, "", 0);
-    let text = explored_text(
-        rt.alloc(),
-        ONE.as_bytes(),
-        &all,
-        Some("marker no"),
-        Form::Text,
-    )
-    .expect(&rt, "a fault");
-    assert!(&rt; text.as_slice() == b"# 1 run with at most 0 faults\nnone\n".as_slice());
-}
-
-#[test]
-fn what_is_not_found_is_no_line_of_json(rt: HostRuntime) {
-    let all = explored(&rt, "", 0);
-    let text = explored_text(
-        rt.alloc(),
-        ONE.as_bytes(),
-        &all,
-        Some("marker no"),
-        Form::Json,
-    )
-    .expect(&rt, "a fault");
-    let said = b"{\"all\":true,\"ends\":1,\"faults\":0,\"runs\":1}\n";
-    assert!(&rt; text.as_slice() == said.as_slice());
-}
-
+// What is not found is told so, and how many runs were made. (Of all runs, as text and as JSON: rows of tools/hostile.)
 #[test]
 fn runs_are_made_up_to_a_number(rt: HostRuntime) {
     let mut some = Exploration::new(rt.alloc(), ONE.as_bytes(), 1).expect(&rt, "a fault");
     some.make(rt.alloc(), 3, &Unwatched).expect(&rt, "a fault");
-    assert_eq!(&rt; some.table().runs(), 3);
-    assert!(&rt; !some.is_whole());
+    confirm!(rt; some.table().runs() == 3);
+    confirm!(rt; !some.is_whole());
     let text = explored_text(
         rt.alloc(),
         ONE.as_bytes(),
@@ -124,16 +95,16 @@ fn runs_are_made_up_to_a_number(rt: HostRuntime) {
         Form::Text,
     )
     .expect(&rt, "a fault");
-    assert!(&rt; text.as_slice() == b"# 3 runs with at most 1 fault, not all\nnone\n".as_slice());
+    confirm!(rt; text.as_slice() == b"# 3 runs with at most 1 fault, not all\nnone\n".as_slice());
 }
 
 // Where just so many runs are made as there are, these are all.
 #[test]
 fn the_last_run_makes_them_all(rt: HostRuntime) {
     let mut one = Exploration::new(rt.alloc(), ONE.as_bytes(), 0).expect(&rt, "a fault");
-    assert!(&rt; !one.is_whole());
+    confirm!(rt; !one.is_whole());
     one.make(rt.alloc(), 1, &Unwatched).expect(&rt, "a fault");
-    assert!(&rt; one.is_whole());
+    confirm!(rt; one.is_whole());
 }
 
 // Of the smallest job, behind its whole run: no fault; packets 0, 1, 3, 5 and 6 once more; the master crashes or is superseded; the node restarts.
@@ -144,6 +115,6 @@ fn nine_runs_are_counted_by_hand(rt: HostRuntime) {
     let mut all = Exploration::new(rt.alloc(), input, 1).expect(&rt, "a fault");
     all.make(rt.alloc(), u64::MAX, &Unwatched)
         .expect(&rt, "a fault");
-    assert_eq!(&rt; all.table().runs(), 9);
-    assert_eq!(&rt; all.table().rows().len(), 1);
+    confirm!(rt; all.table().runs() == 9);
+    confirm!(rt; all.table().rows().len() == 1);
 }
