@@ -1,5 +1,5 @@
 -- Lists of attempts, and what is kept of each.
-use Rattle.std.proofs.Common.{◌≡◌, Bool, true, false, ◌||◌, cond, List, [], ◌∷◌, ◌++◌, filter, Some, None, refl, sym, ap, ◌∙◌, true≢false}
+use Rattle.std.proofs.Common.{◌≡◌, Bool, true, false, ◌||◌, cond, List, [], ◌∷◌, ◌++◌, Some, None, refl, sym, ap, ◌∙◌, true≢false}
 use Rattle.std.specs.List.{list_any}
 use Rattle.mr_ids.specs.Attempt.{Attempt}
 use Rattle.mr_grant.specs.Attempts.{same_attempt, has, first_of, is_first}
@@ -80,10 +80,6 @@ distinct-append (x ∷ xs) a d h = by (same_attempt a x) refl h (distinct-append
 pub any-same : {X : Type 0} (p q : X → Bool) (xs : List X) → ((x : X) → p x ≡ q x) → list_any p xs ≡ list_any q xs
 any-same p q [] h = refl
 any-same p q (x ∷ xs) h = let here = h x in let rest = any-same p q xs h in λ i. here i || rest i
-
-pub filter-same : {X : Type 0} (p q : X → Bool) (xs : List X) → ((x : X) → p x ≡ q x) → filter p xs ≡ filter q xs
-filter-same p q [] h = refl
-filter-same p q (x ∷ xs) h = let here = h x in let rest = filter-same p q xs h in λ i. cond (here i) (x ∷ rest i) (rest i)
 
 pub first-is : (xs ys : List Attempt) (a : Attempt) → first_of xs ≡ first_of ys → is_first xs a ≡ is_first ys a
 first-is [] [] a e = refl

@@ -1,11 +1,10 @@
 -- What is kept of attempts, as the map of the code keeps it.
-use Rattle.std.proofs.Common.{◌≡◌, ℕ, zero, suc, Bool, true, false, cond, nat_lt, slice_get, List, [], ◌∷◌, length, Some, None, is_some, refl, sym, ap, ◌∙◌, true≢false, arith}
+use Rattle.std.proofs.Common.{◌≡◌, ℕ, Bool, true, false, cond, nat_lt, slice_get, List, [], ◌∷◌, length, Some, None, is_some, refl, sym, ap, ◌∙◌, true≢false, arith}
 use Rattle.std.proofs.lemmas.Bool.Decides.{nat_tests}
 use Rattle.std.proofs.lemmas.List.Folds.{find_at}
 use Rattle.std.proofs.lemmas.Option.{slice_get_past}
 use Rattle.std.specs.List.{position, position_or_len, find}
 use Rattle.std.specs.Map.{keys_of}
-use Rattle.std.specs.Option.{option_map}
 use Rattle.indexmap.specs.Layout.{set_value_at}
 use Rattle.indexmap.specs.IndexMap.{insert_entry}
 use Rattle.indexmap.proofs.MapLemmas.{Found, Found-position, insert_entry-first, some_index}
@@ -38,14 +37,6 @@ absent-set a (e ∷ es) w h = by (same_attempt a e.0) h (absent-set a es w)
     by true h go = absurd (true≢false h)
     by false h go = ap (λ l. e ∷ l) (go h)
 
-pub length-with_entry : (a : Attempt) (es : List (Attempt × Entry)) (w : Entry) → length (with_entry es a w) ≡ length es
-length-with_entry a [] w = refl
-length-with_entry a (e ∷ es) w = by (same_attempt a e.0) (length-with_entry a es w)
-  where
-    by : (b : Bool) → length (with_entry es a w) ≡ length es → length (cond b ((e.0, w) ∷ es) (e ∷ with_entry es a w)) ≡ suc (length es)
-    by true h = refl
-    by false h = ap suc h
-
 -- ---- the first that passes, by its place
 
 pub found : {X : Type 0} (p : X → Bool) (xs : List X) (i : ℕ) → position p xs ≡ Some i → find p xs ≡ slice_get xs i
@@ -61,8 +52,3 @@ missed p xs e = find_at p xs ∙ by (nat_lt (position_or_len p xs) (length xs)) 
     by : (b : Bool) → nat_lt (position_or_len p xs) (length xs) ≡ b → cond b (Some (position_or_len p xs)) None ≡ None → slice_get xs (position_or_len p xs) ≡ None
     by true h e = absurd (cc)
     by false h e = slice_get_past xs (position_or_len p xs) (grind (arith, nat_tests))
-
-pub name-at : {X Y : Type 0} (es : List (X × Y)) (i : ℕ) → slice_get (keys_of es) i ≡ option_map (λ p. p.0) (slice_get es i)
-name-at [] i = refl
-name-at (e ∷ es) zero = refl
-name-at (e ∷ es) (suc i) = name-at es i
