@@ -28,7 +28,7 @@
 //! - `launch_refusal` and `expire_refusal` tell which refusal applies first, if one does.
 //! - An error of `prepare_launch` and `launch` is the first refusal that applies, else `Full` where 2^32 containers
 //!   were launched, else `NoMemory`. An error of `prepare_expiry` and `expire` is the first refusal, or
-//!   `Task(NoMemory)` where none applies.
+//!   `Task(NoMemory)` where none applies. `wants_memory` takes that one.
 //! - `hear`, `launch`, `expire` and `answer` give exactly the packets that are sent, and then the machine stands for
 //!   what it stood for and this step. After an error it stands for what it stood for. After an error of `expire` it
 //!   is the machine that it was.
@@ -39,8 +39,10 @@
 #![tactic(auto)]
 
 mod master;
+mod memory;
 
 pub use master::MasterMachine;
+pub use memory::wants_memory;
 pub use mr_hearing::LaunchError;
 pub use mr_hearing::mr_change::Prepared;
 pub use mr_hearing::mr_tables::Duty;
