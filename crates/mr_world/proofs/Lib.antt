@@ -9,3 +9,4 @@ pub mod Journals
 pub mod Headlines
 pub mod Happening
 pub mod Looking
+pub mod Repeating

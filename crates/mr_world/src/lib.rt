@@ -103,6 +103,8 @@
 //!   `stable`, `living`, `next_living`, `place`, `wish` and `input`;
 //! - the bytes of `stable` are those that the calls of the journal's events leave in the history, a torn end among
 //!   them (`specs/Histories`);
+//! - the events of a journal can happen once more, each in turn, in a world of their own that has the same config
+//!   (`repeats`, by `CanFollow`);
 //! - `asks` tells the store call that an event would make now, by whom, and what its caller would hear
 //!   (`specs/Asks`);
 //! - memory may be taken by `World::new`, `World::copy`, `Config::copy`, `apply`, `foresee` and `run`, and by `winner`, `winners`,

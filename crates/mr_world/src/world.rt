@@ -16,6 +16,7 @@ ghost use Rattle.mr_world.specs.Headline.{HeadlineHolds};
 ghost use Rattle.mr_world.specs.Histories.{stable_bytes};
 ghost use Rattle.mr_world.specs.Journal.{history_in, world_in};
 ghost use Rattle.mr_world.specs.Readings.{as_input, due_in, input_in, living, next_living, phase_in, place_in, unflushed_in, wanted_in, wish_in};
+ghost use Rattle.mr_world.specs.Repeating.{CanFollow};
 ghost use Rattle.mr_world.specs.VisibleFiles.{as_pair};
 
 use crate::copy::copy_events;
@@ -150,6 +151,14 @@ impl World {
         ensures { result.now ≡ self.now.events }
     {
         self.journal.as_slice()
+    }
+
+    /// The events of the journal can happen once more, each in turn, in a world of their own that has the same config.
+    /// This call does nothing: it tells the caller so.
+    pub fn repeats(&self)
+        ensures { CanFollow self.now.config [] self.now.events }
+    {
+        let _events = &self.journal;
     }
 
     /// The config that the world was made with.
