@@ -6,8 +6,8 @@ ghost use Rattle.mr_play.specs.Text.{job_as};
 ghost use Rattle.mr_play.specs.Played.{losing};
 ghost use Rattle.mr_play.specs.Players.{state_in, Goes};
 
+use crate::memory::read;
 use crate::player::Player;
-use crate::world_text::read;
 use mr_commands::SimFault;
 use mr_event::Event;
 use std::alloc::Global;

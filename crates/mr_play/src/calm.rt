@@ -13,6 +13,7 @@ ghost use Rattle.mr_play.specs.Played.{cursor_at, is_dropped, is_through, most_c
 ghost use Rattle.mr_play.specs.Players.{calm_of, cluster_in, next_in, CalmsOnce, Goes, HappensAs, MakesNext, names_of};
 
 use crate::event_names::{duty_event, wish_event};
+use crate::memory::read;
 use crate::player::Player;
 use mr_commands::SimFault;
 use mr_event::{Event, Weather};
@@ -156,10 +157,7 @@ impl Player {
         ensures is { IfOk result (λ due. due ≡ due_in self.now.world.config (cluster_in self.now) k) }
         ensures memory { IfErr result (λ fault. fault ≡ SimFault.NoMemory) }
     {
-        match self.world.duty(k) {
-            Ok(duty) => Ok(duty),
-            Err(_) => Err(SimFault::NoMemory),
-        }
+        Ok(read(self.world.duty(k))?)
     }
 
     // The next living container after the one that stepped last.

@@ -1,12 +1,12 @@
 //! What is said of a calm that ended otherwise than its line asks. It goes to standard error, and no clause speaks of it.
-ghost use Rattle.std.specs.Prelude.{◌≡◌};
+ghost use Rattle.std.specs.Prelude.{◌≡◌, IfErr};
 
 use crate::calm::MOST_CALM;
-use crate::event_names::name_word;
 use crate::player::Player;
 use itoa::Buffer;
+use mr_commands::SimFault;
 use mr_master_model::Phase;
-use mr_script::EventName;
+use mr_script::{EventName, event_word};
 use std::alloc::AllocError;
 
 /// How a calm ended.
@@ -59,23 +59,22 @@ impl Player {
         k: u32,
         stop: Option<EventName>,
         before: usize,
-    ) -> Result<(), AllocError>
-        ensures { self.new ≡ record self.old { notes = self.new.notes } }
+    ) -> Result<(), SimFault>
+        ensures rests { self.new ≡ record self.old { notes = self.new.notes } }
+        ensures memory { IfErr result (λ fault. fault ≡ SimFault.NoMemory) }
     {
         let end = self.calm_end(k, stop, before)?;
         if end.is_as_asked(stop) {
             return Ok(());
         }
-        put_note(&mut self.notes, line, k, stop, end)
+        put_note(&mut self.notes, line, k, stop, end)?;
+        Ok(())
     }
 
     // How the calm ended. It looks for a name only where its last event was followed by such a look.
-    fn calm_end(
-        &self,
-        k: u32,
-        stop: Option<EventName>,
-        before: usize,
-    ) -> Result<CalmEnd, AllocError> {
+    fn calm_end(&self, k: u32, stop: Option<EventName>, before: usize) -> Result<CalmEnd, SimFault>
+        ensures { IfErr result (λ fault. fault ≡ SimFault.NoMemory) }
+    {
         match self.world.phase(k) {
             None if k > self.world.newest() => return Ok(CalmEnd::NeverStarted),
             None => return Ok(CalmEnd::NotAlive),
@@ -87,10 +86,9 @@ impl Player {
         if made >= MOST_CALM as usize {
             return Ok(CalmEnd::Most);
         }
-        match self.coming(k) {
-            Ok(Some(coming)) if coming.stops_at(stop) => Ok(CalmEnd::BeforeName),
-            Ok(_) => Ok(CalmEnd::Idle),
-            Err(_) => Err(AllocError),
+        match self.coming(k)? {
+            Some(coming) if coming.stops_at(stop) => Ok(CalmEnd::BeforeName),
+            _ => Ok(CalmEnd::Idle),
         }
     }
 }
@@ -109,7 +107,7 @@ fn put_note(
     out.extend_from_slice(b": calm ended")?;
     if let Some(name) = stop {
         out.extend_from_slice(b" without ")?;
-        out.extend_from_slice(name_word(name))?;
+        out.extend_from_slice(event_word(name))?;
     }
     out.extend_from_slice(b": ")?;
     end.put(out, k)?;

@@ -2,7 +2,6 @@
 ghost use Rattle.std.specs.Prelude.{◌≡◌, [], ◌∷◌, true};
 ghost use Rattle.std.specs.Option.{option_to_list};
 ghost use Rattle.mr_script.specs.declared.event_name.EventName.TheVariants as name;
-ghost use Rattle.mr_script.specs.Names.{name_text};
 ghost use Rattle.mr_play.specs.EventNames.{duty_event, wish_event, stops_at};
 
 use mr_container::Wish;
@@ -54,45 +53,5 @@ pub fn wish_event(wish: &Wish) -> Option<EventName>
         Wish::Abort => Some(EventName::Abort),
         Wish::Failed => Some(EventName::Failed),
         Wish::Over => None,
-    }
-}
-
-/// The name as scripts write it.
-pub fn name_word(name: EventName) -> &'static [u8]
-    ensures { result.now ≡ name_text name }
-{
-    match name {
-        EventName::Marks => b"marks",
-        EventName::Read => b"read",
-        EventName::Setup => b"setup",
-        EventName::Recover => b"recover",
-        EventName::Bar => b"bar",
-        EventName::Append => b"append",
-        EventName::Flush => b"flush",
-        EventName::Started => b"started",
-        EventName::Merge => b"merge",
-        EventName::Cleanup => b"cleanup",
-        EventName::Marker => b"marker",
-        EventName::Success => b"success",
-        EventName::Fail => b"fail",
-        EventName::Abort => b"abort",
-        EventName::Compute => b"compute",
-        EventName::Where => b"where",
-        EventName::Fetch => b"fetch",
-        EventName::Lost => b"lost",
-        EventName::Mkdirs => b"mkdirs",
-        EventName::Create => b"create",
-        EventName::Write => b"write",
-        EventName::Close => b"close",
-        EventName::Needs => b"needs",
-        EventName::Pending => b"pending",
-        EventName::Poll => b"poll",
-        EventName::Look => b"look",
-        EventName::Clear => b"clear",
-        EventName::Rename => b"rename",
-        EventName::Report => b"report",
-        EventName::Failed => b"failed",
-        EventName::Launch => b"launch",
-        EventName::Step => b"step",
     }
 }

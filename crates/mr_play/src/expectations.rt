@@ -8,8 +8,8 @@ ghost use Rattle.mr_world.specs.Journal.{world_in};
 ghost use Rattle.mr_commands.specs.declared.fault.SimFault.TheVariants.{NoMemory};
 ghost use Rattle.mr_play.specs.Expectations.{unmet_line, value_in};
 
+use crate::memory::read;
 use crate::values::{put_marker, put_outcome, put_winner};
-use crate::world_text::read;
 use itoa::Buffer;
 use mr_commands::SimFault;
 use mr_ids::{TaskId, TaskKind};

@@ -36,6 +36,7 @@ mod expectations;
 mod faithful;
 mod histories;
 mod laws;
+mod memory;
 mod player;
 mod printed;
 mod refused;
@@ -47,12 +48,13 @@ mod works;
 mod world_text;
 
 pub use calm::MOST_CALM;
-pub use event_names::{duty_event, name_word, wish_event};
+pub use event_names::{duty_event, wish_event};
 pub use faithful::{marked_files_are_those_of_seq, scripts_are_faithful};
 pub use histories::print_histories;
 pub use laws::{
     calms_are_permitted, names_are_of_duties_and_wishes, one_play_text, played_rows, scripts_go_on,
 };
+pub use memory::read;
 pub use mr_world;
 pub use player::Player;
 pub use printed::Printed;

@@ -9,6 +9,7 @@ ghost use Rattle.mr_commands.specs.job.Submission.{IsWithinLimits};
 ghost use Rattle.mr_world.specs.Limits.{within};
 
 use crate::expectations::{is_expected, print_unmet, value_of};
+use crate::memory::read;
 use crate::refused::print_refused;
 use crate::sources::{Source, Stretch};
 use crate::works::computed;
@@ -255,8 +256,5 @@ fn open_world(alloc: Global, submission: Submission) -> Result<World, SimFault>
         limit: submission.limit,
         v2_from: submission.v2_from,
     };
-    match World::new(alloc, config) {
-        Ok(world) => Ok(world),
-        Err(_) => Err(SimFault::NoMemory),
-    }
+    Ok(read(World::new(alloc, config))?)
 }

@@ -1,18 +1,18 @@
 //! What came of a world, as `play` prints it.
-ghost use Rattle.std.specs.Prelude.{◌≡◌, ◌++◌, Ok, map, IfOk, IfErr, OnOk};
+ghost use Rattle.std.specs.Prelude.{◌≡◌, ◌++◌, map, IfErr, OnOk};
 ghost use Rattle.std.specs.List.{flat_map};
-ghost use Rattle.mr_world.specs.mr_parts.specs.declared.fault.WorldFault.TheVariants as world;
 ghost use Rattle.mr_world.specs.Journal.{world_in};
 ghost use Rattle.mr_world.specs.VisibleFiles.{as_pair};
 ghost use Rattle.mr_commands.specs.declared.fault.SimFault.TheVariants.{NoMemory};
 ghost use Rattle.mr_play.specs.WorldText.{line_of_marker, line_of_outcome, line_of_winner, visible_text, won_in, world_text};
 ghost use Rattle.mr_play.specs.inner.PlaySteps.{winners_text};
 
+use crate::memory::read;
 use crate::values::{put_marker, put_outcome, put_winner};
 use itoa::Buffer;
 use mr_commands::{SimFault, print_file};
 use mr_ids::AttemptId;
-use mr_world::{VisibleFile, World, WorldFault};
+use mr_world::{VisibleFile, World};
 use std::alloc::AllocError;
 
 /// A reduce's winner, or that there is none.
@@ -67,18 +67,6 @@ fn print_files(out: &mut Vec<u8>, files: &[VisibleFile]) -> Result<(), AllocErro
         print_file(out, file.name.as_bytes(), file.bytes.as_slice())?;
     }
     Ok(())
-}
-
-/// What was read of a world, which fails by nothing but an allocation failure.
-pub fn read<T: Drop>(reading: Result<T, WorldFault>) -> Result<T, SimFault>
-    requires { IfErr reading (λ fault. fault ≡ world.NoMemory) }
-    ensures value { IfOk result (λ value. reading ≡ Ok value) }
-    ensures memory { IfErr result (λ fault. fault ≡ NoMemory) }
-{
-    match reading {
-        Ok(value) => Ok(value),
-        Err(_) => Err(SimFault::NoMemory),
-    }
 }
 
 /// The winners by reduce, the marker, the outcome, and the visible files by rising name. It fails by nothing but an allocation failure.
