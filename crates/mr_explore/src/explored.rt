@@ -103,8 +103,21 @@ fn go_further(alloc: Global, player: &mut Player) -> Result<bool, WalkFault>
 {
     match going::go_further(alloc, player) {
         Ok(went) => Ok(went),
-        Err(SimFault::Full) => Err(WalkFault::Full),
-        Err(_) => Err(WalkFault::NoMemory),
+        Err(fault) => match fault {
+            SimFault::Full => Err(WalkFault::Full),
+            SimFault::NoMemory => Err(WalkFault::NoMemory),
+            SimFault::Read
+            | SimFault::Write
+            | SimFault::TooLong
+            | SimFault::BadCommand(_)
+            | SimFault::BadRecord(_)
+            | SimFault::Job(_)
+            | SimFault::Refused
+            | SimFault::JobFailed
+            | SimFault::TurnsSpent
+            | SimFault::JournalMismatch
+            | SimFault::Thread => unreachable!(),
+        },
     }
 }
 

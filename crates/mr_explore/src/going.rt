@@ -31,8 +31,21 @@ fn calm_further(alloc: Global, player: &mut Player) -> Result<bool, SimFault>
             let after = player.world.journal().len();
             Ok(before < after)
         }
-        Err(SimFault::Full) => Err(SimFault::Full),
-        Err(_) => Err(SimFault::NoMemory),
+        Err(fault) => match fault {
+            SimFault::Full => Err(SimFault::Full),
+            SimFault::NoMemory => Err(SimFault::NoMemory),
+            SimFault::Read
+            | SimFault::Write
+            | SimFault::TooLong
+            | SimFault::BadCommand(_)
+            | SimFault::BadRecord(_)
+            | SimFault::Job(_)
+            | SimFault::Refused
+            | SimFault::JobFailed
+            | SimFault::TurnsSpent
+            | SimFault::JournalMismatch
+            | SimFault::Thread => unreachable!(),
+        },
     }
 }
 

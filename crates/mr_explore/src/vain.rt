@@ -11,8 +11,8 @@ use mr_commands::SimFault;
 use mr_container::Wish;
 use mr_event::Event;
 use mr_packet::{ContainerId, Envelope, Packet};
-use mr_play::Player;
 use mr_play::mr_world::{MAX_CONTAINERS, World};
+use mr_play::{Player, read};
 use std::alloc::Global;
 
 // Two questions and two answers.
@@ -40,10 +40,7 @@ pub fn living(world: &World) -> Result<Vec<ContainerId>, SimFault>
     ensures is { IfOk result (λ all. all.items ≡ living world.now.config (world_in world.now)) }
     ensures memory { IfErr result (λ fault. fault ≡ SimFault.NoMemory) }
 {
-    match world.living() {
-        Ok(living) => Ok(living),
-        Err(_) => Err(SimFault::NoMemory),
-    }
+    Ok(read(world.living())?)
 }
 
 // A world has no more than MAX_CONTAINERS.
@@ -139,8 +136,21 @@ fn ahead_asks(alloc: Global, ahead: &mut Player, living: &[ContainerId]) -> Resu
     let newest = ahead.world.newest();
     match ahead.calm_for(alloc, newest, None, most_ahead(living) as u64) {
         Ok(()) => Ok(ask_behind(&ahead.world, living, before, sent)),
-        Err(SimFault::Full) => Ok(false),
-        Err(_) => Err(SimFault::NoMemory),
+        Err(fault) => match fault {
+            SimFault::Full => Ok(false),
+            SimFault::NoMemory => Err(SimFault::NoMemory),
+            SimFault::Read
+            | SimFault::Write
+            | SimFault::TooLong
+            | SimFault::BadCommand(_)
+            | SimFault::BadRecord(_)
+            | SimFault::Job(_)
+            | SimFault::Refused
+            | SimFault::JobFailed
+            | SimFault::TurnsSpent
+            | SimFault::JournalMismatch
+            | SimFault::Thread => unreachable!(),
+        },
     }
 }
 

@@ -9,7 +9,7 @@ ghost use Rattle.mr_play.specs.WorldText.{won_in, world_text};
 use mr_commands::SimFault;
 use mr_ids::{AttemptId, JobId};
 use mr_play::mr_world::World;
-use mr_play::print_world_won;
+use mr_play::{print_world_won, read};
 use std::alloc::{AllocError, Global};
 use std::marker::Model;
 
@@ -79,10 +79,7 @@ fn winners_of(world: &World) -> Result<Vec<Option<AttemptId>>, SimFault>
     ensures is { IfOk result (λ all. all.items ≡ won_in world.now.config (world_in world.now)) }
     ensures memory { IfErr result (λ fault. fault ≡ SimFault.NoMemory) }
 {
-    match world.winners() {
-        Ok(winners) => Ok(winners),
-        Err(_) => Err(SimFault::NoMemory),
-    }
+    Ok(read(world.winners())?)
 }
 
 // The stable bytes of each generation up to the newest, from 0, of which there are none.
