@@ -1,3 +1,4 @@
 mod Appended
 mod Tracing
+pub mod Repeating
 mod Showing

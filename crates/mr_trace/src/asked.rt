@@ -6,6 +6,7 @@ ghost use Rattle.mr_trace.specs.Trace.{asked_text, call_text, heard_text, weathe
 use crate::call_words::{put_op, put_reply, put_store_answer, put_store_call};
 use mr_event::{Event, Weather};
 use mr_play::mr_world::{Asked, World};
+use mr_play::read;
 use std::alloc::AllocError;
 
 /// The store call that an event would make now, and its answer. Nothing where it makes none.
@@ -24,10 +25,9 @@ pub fn put_asked(
 ) -> Result<(), AllocError>
     ensures { OnOk result (out.new.items ≡ out.old.items ++ asked_text word.now (weather_of event.now) (asked_in world.now event.now)) }
 {
-    match world.asks(event) {
-        Ok(Some(asked)) => put_told(out, word, event, &asked),
-        Ok(None) => Ok(()),
-        Err(_) => Err(AllocError),
+    match read(world.asks(event))? {
+        Some(asked) => put_told(out, word, event, &asked),
+        None => Ok(()),
     }
 }
 

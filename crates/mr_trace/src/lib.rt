@@ -14,7 +14,7 @@
 //!
 //! Whoever shows a run in another way finds here what tells one event, each call with its clause. `maker_of` and
 //! `left_at` tell who made it, and `name_of` its duty or wish. `opened` and `happen` give a world in which the events
-//! happen once more. `specs/Words` has the words.
+//! happen once more: each can happen there in turn, as `World::repeats` tells. `specs/Words` has the words.
 #![tactic(auto)]
 
 mod asked;

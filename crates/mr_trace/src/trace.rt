@@ -2,7 +2,9 @@
 ghost use Rattle.std.specs.Prelude.{◌≡◌, ◌++◌, ◌∷◌, [], OnOk, IfOk, IfErr, drop};
 ghost use Rattle.mr_commands.specs.declared.fault.SimFault.TheVariants.{NoMemory};
 ghost use Rattle.mr_model.specs.Sending.{sent};
+ghost use Rattle.mr_play.specs.mr_world.specs.Applying.{CanHappen};
 ghost use Rattle.mr_play.specs.mr_world.specs.Journal.{world_in};
+ghost use Rattle.mr_play.specs.mr_world.specs.Repeating.{CanFollow};
 ghost use Rattle.mr_trace.specs.Happened.{happened, happened_behind, maker_of, name_of};
 ghost use Rattle.mr_trace.specs.Trace.{beginning_text, line_text, lines_text, named_text, packets_text, trace_text};
 
@@ -12,9 +14,9 @@ use crate::trace_words::{put_envelope, put_event, put_number};
 use mr_commands::SimFault;
 use mr_event::Event;
 use mr_packet::Envelope;
-use mr_play::mr_world::{Config, World};
-use mr_play::{duty_event, name_word, wish_event};
-use mr_script::EventName;
+use mr_play::mr_world::{Config, World, WorldFault};
+use mr_play::{duty_event, read, wish_event};
+use mr_script::{EventName, event_word};
 use std::alloc::{AllocError, Global};
 
 /// A line for each event of a world's journal. It has its place there, the event in the words of a script, what the
@@ -26,19 +28,16 @@ pub fn trace_of(alloc: Global, world: &World, makers: &Makers<'_>) -> Result<Vec
 {
     let mut out = Vec::new(alloc);
     let mut again = opened(alloc, world.config())?;
+    world.repeats();
     put_lines(&mut out, &mut again, world.journal(), makers)?;
     Ok(out)
 }
 
 /// A world at its beginning, of an equal config.
-pub fn opened(alloc: Global, config: &Config) -> Result<World, SimFault>
-    ensures opens { IfOk result (λ world. world ≡ record { config = config.now; events = [] }) }
-    ensures memory { IfErr result (λ e. e ≡ SimFault.NoMemory) }
+pub fn opened(alloc: Global, config: &Config) -> Result<World, AllocError>
+    ensures { IfOk result (λ world. world ≡ record { config = config.now; events = [] }) }
 {
-    match World::new(alloc, config.copy()?) {
-        Ok(world) => Ok(world),
-        Err(_) => Err(SimFault::NoMemory),
-    }
+    read(World::new(alloc, config.copy()?))
 }
 
 // A line for each of these events, which happen in this world.
@@ -49,6 +48,7 @@ fn put_lines(
     events: &[Event],
     makers: &Makers<'_>,
 ) -> Result<(), AllocError>
+    requires { CanFollow world.old.config world.old.events events.now }
     ensures { OnOk result (out.new.items ≡ out.old.items ++ lines_text (happened_behind (maker_of makers.now) world.old.config world.old.events events.now)) }
 {
     let mut left = *makers;
@@ -67,6 +67,7 @@ fn put_line(
     event: &Event,
     makers: &Makers<'_>,
 ) -> Result<(), AllocError>
+    requires { CanHappen world.old event.now }
     ensures text { OnOk result (out.new.items ≡ out.old.items ++ line_text (happened (maker_of makers.now) world.old event.now)) }
     ensures world { OnOk result (world.new ≡ record { config = world.old.config; events = world.old.events ++ event.now ∷ [] }) }
 {
@@ -96,12 +97,16 @@ fn put_beginning(
 
 /// An event of a journal happens once more in a world of its own, and its packets are the last of the bag.
 pub fn happen(world: &mut World, event: &Event) -> Result<(), AllocError>
+    requires { CanHappen world.old event.now }
     ensures journal { OnOk result (world.new ≡ record { config = world.old.config; events = world.old.events ++ event.now ∷ [] }) }
     ensures packets { OnOk result ((world_in world.new).bag ≡ (world_in world.old).bag ++ sent world.old.config (world_in world.old) event.now) }
 {
-    match world.apply(event.copy()?) {
+    let copy = event.copy()?;
+    match world.apply(copy) {
         Ok(_) => Ok(()),
-        Err(_) => Err(AllocError),
+        Err(WorldFault::NoMemory) => Err(AllocError),
+        Err(WorldFault::NotNow(_)) => unreachable!(),
+        Err(WorldFault::Full) => unreachable!(),
     }
 }
 
@@ -122,7 +127,7 @@ fn put_name(out: &mut Vec<u8>, name: Option<EventName>) -> Result<(), AllocError
     match name {
         Some(name) => {
             out.extend_from_slice(b" ")?;
-            out.extend_from_slice(name_word(name))
+            out.extend_from_slice(event_word(name))
         }
         None => Ok(()),
     }
@@ -133,10 +138,9 @@ pub fn name_of(world: &World, event: &Event) -> Result<Option<EventName>, AllocE
     ensures { IfOk result (λ name. name ≡ name_of world.now event.now) }
 {
     match event {
-        Event::Duty { generation: k, .. } => match world.duty(*k) {
-            Ok(Some(duty)) => Ok(Some(duty_event(duty))),
-            Ok(None) => Ok(None),
-            Err(_) => Err(AllocError),
+        Event::Duty { generation: k, .. } => match read(world.duty(*k))? {
+            Some(duty) => Ok(Some(duty_event(duty))),
+            None => Ok(None),
         },
         Event::ContainerStep { container: c, .. } => match world.wish(c) {
             Some(wish) => Ok(wish_event(&wish)),
