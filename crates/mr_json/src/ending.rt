@@ -15,6 +15,7 @@ ghost use Rattle.mr_json.specs.Endings.{contents, ending_line, ending_object, fi
 use base64::engine::general_purpose::STANDARD;
 use mr_ids::AttemptId;
 use mr_object::{Object, into_value, put_count, put_flag, put_line, put_list, put_text, put_word};
+use mr_trace::mr_play::read;
 use mr_trace::mr_world::{VisibleFile, World};
 use serde_json::Value;
 use std::alloc::{AllocError, Global};
@@ -50,30 +51,23 @@ fn ending_value(alloc: Global, world: &World, told: &[u8]) -> Result<Value, Allo
 fn winners(alloc: Global, world: &World) -> Result<Vec<Value>, AllocError>
     ensures { IfOk result (λ all. map view all.items ≡ map winner_data (map (λ r. winner (world_in world.now) (reduce_of world.now.config.job r)) (range_with_len 0 world.now.config.reduces))) }
 {
-    match world.winners() {
-        Ok(winners) => winner_values(alloc, &winners),
-        Err(_) => Err(AllocError),
-    }
+    let winners = read(world.winners())?;
+    winner_values(alloc, &winners)
 }
 
 // Whether the marker is there.
 fn marker(world: &World) -> Result<bool, AllocError>
     ensures { IfOk result (λ there. there ≡ is_file (entry_at (world_in world.now).content marker)) }
 {
-    match world.marker() {
-        Ok(there) => Ok(there),
-        Err(_) => Err(AllocError),
-    }
+    read(world.marker())
 }
 
 // The files that a reader sees, by rising name.
 fn files(alloc: Global, world: &World) -> Result<Vec<Value>, AllocError>
     ensures { IfOk result (λ all. map view all.items ≡ map file_object (visible (world_in world.now))) }
 {
-    match world.visible() {
-        Ok(files) => file_values(alloc, &files),
-        Err(_) => Err(AllocError),
-    }
+    let files = read(world.visible())?;
+    file_values(alloc, &files)
 }
 
 // Null stands for none.

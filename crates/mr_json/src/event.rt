@@ -14,8 +14,8 @@ use mr_ids::TaskId;
 use mr_object::{Object, into_value, put_count, put_flag, put_list, put_text, put_word};
 use mr_packet::{ContainerId, Envelope};
 use mr_repeat::put_container;
-use mr_script::EventName;
-use mr_trace::mr_play::name_word;
+use mr_script::{EventName, event_word};
+use mr_trace::mr_play::read;
 use mr_trace::mr_world::{Asked, World};
 use mr_trace::{
     Maker, Makers, maker_of, name_of, put_address, put_call_of, put_heard, put_packet, put_thread,
@@ -175,7 +175,7 @@ fn put_name(object: &mut Object, alloc: Global, name: Option<EventName>) -> Resu
     ensures { OnOk result (members_view object.new.entries ≡ with_all (name_members name) (members_view object.old.entries)) }
 {
     match name {
-        Some(name) => put_text(object, alloc, "name", name_word(name)),
+        Some(name) => put_text(object, alloc, "name", event_word(name)),
         None => Ok(()),
     }
 }
@@ -207,10 +207,9 @@ fn put_asked(
 ) -> Result<(), AllocError>
     ensures { OnOk result (members_view object.new.entries ≡ with_all (asked_members (weather_of event.now) (asked_in world.now event.now)) (members_view object.old.entries)) }
 {
-    match world.asks(event) {
-        Ok(Some(asked)) => put_told(object, alloc, event, &asked),
-        Ok(None) => Ok(()),
-        Err(_) => Err(AllocError),
+    match read(world.asks(event))? {
+        Some(asked) => put_told(object, alloc, event, &asked),
+        None => Ok(()),
     }
 }
 

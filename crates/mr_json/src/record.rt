@@ -27,7 +27,9 @@ pub fn history_json(alloc: Global, input: &[u8]) -> Result<Vec<u8>, SimFault>
     match text_of(alloc, input) {
         Ok(text) => Ok(text),
         Err(HistoryFault::BadLine(line)) => Err(SimFault::BadRecord(line)),
-        Err(_) => Err(SimFault::NoMemory),
+        Err(HistoryFault::NoMemory) => Err(SimFault::NoMemory),
+        Err(HistoryFault::Superseded(_) | HistoryFault::Sealed | HistoryFault::Full) =>
+            unreachable!(),
     }
 }
 

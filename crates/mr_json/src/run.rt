@@ -3,7 +3,9 @@ ghost use Rattle.std.specs.Prelude.{◌≡◌, ◌++◌, ◌∷◌, [], IfOk, If
 ghost use Rattle.mr_commands.specs.declared.fault.SimFault.TheVariants as fault;
 ghost use Rattle.mr_trace.specs.mr_play.specs.Text.{IsAsExpected, PlayFails};
 ghost use Rattle.mr_trace.specs.Happened.{by_lines, happened, happened_behind, maker_of};
+ghost use Rattle.mr_trace.specs.mr_world.specs.Applying.{CanHappen};
 ghost use Rattle.mr_trace.specs.mr_world.specs.Limits.{within};
+ghost use Rattle.mr_trace.specs.mr_world.specs.Repeating.{CanFollow};
 ghost use Rattle.mr_json.specs.Endings.{json_text};
 ghost use Rattle.serde_json.specs.View.{view};
 ghost use Rattle.mr_json.specs.Objects.{happened_line, happened_object, objects_text};
@@ -33,6 +35,7 @@ pub fn json_of(
 {
     let mut out = Vec::new(alloc);
     let mut again = opened(alloc, world.config())?;
+    world.repeats();
     put_events(&mut out, alloc, &mut again, world.journal(), makers)?;
     put_ending(&mut out, alloc, world, told)?;
     Ok(out)
@@ -47,6 +50,7 @@ fn put_events(
     events: &[Event],
     makers: &Makers<'_>,
 ) -> Result<(), AllocError>
+    requires { CanFollow world.old.config world.old.events events.now }
     ensures { OnOk result (out.new.items ≡ out.old.items ++ objects_text (happened_behind (maker_of makers.now) world.old.config world.old.events events.now)) }
 {
     let mut left = *makers;
@@ -65,6 +69,7 @@ fn put_next(
     event: &Event,
     makers: &Makers<'_>,
 ) -> Result<(), AllocError>
+    requires { CanHappen world.old event.now }
     ensures text { OnOk result (out.new.items ≡ out.old.items ++ happened_line (happened (maker_of makers.now) world.old event.now)) }
     ensures world { OnOk result (world.new ≡ record { config = world.old.config; events = world.old.events ++ event.now ∷ [] }) }
 {
@@ -80,6 +85,7 @@ fn happened_value(
     event: &Event,
     makers: &Makers<'_>,
 ) -> Result<Value, AllocError>
+    requires { CanHappen world.old event.now }
     ensures value { IfOk result (λ v. view v ≡ happened_object (happened (maker_of makers.now) world.old event.now)) }
     ensures world { IfOk result (λ _. world.new ≡ record { config = world.old.config; events = world.old.events ++ event.now ∷ [] }) }
 {
