@@ -3,6 +3,7 @@ use crate::lanes::is_alive;
 use mr_event::Event;
 use mr_ids::AppAttempt;
 use mr_packet::{Address, Packet};
+use mr_trace::mr_play::read;
 use mr_trace::mr_world::World;
 use std::alloc::{AllocError, Global};
 
@@ -17,9 +18,7 @@ pub fn living(alloc: Global, world: &World) -> Result<Vec<Address>, AllocError> 
             }
         }
     }
-    let Ok(containers) = world.living() else {
-        return Err(AllocError);
-    };
+    let containers = read(world.living())?;
     for container in &containers {
         cast.push(Address::Container(*container))?;
     }

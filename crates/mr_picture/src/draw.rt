@@ -13,8 +13,8 @@ use mr_drawing::{
 };
 use mr_event::Event;
 use mr_packet::{Address, Envelope, Packet};
-use mr_trace::mr_world::World;
-use mr_trace::{Makers, happen, opened, put_address, put_number, put_packet, put_seat};
+use mr_trace::mr_world::{World, WorldFault};
+use mr_trace::{Makers, opened, put_address, put_number, put_packet, put_seat};
 use std::alloc::{AllocError, Global};
 use std::ops::Range;
 
@@ -43,7 +43,7 @@ fn shown(
     let places = part.places(journal.len());
     let mut drawing = blank(alloc, world, part, &places, ending)?;
     let ways = deliveries(alloc, journal, world.bag().len(), &places)?;
-    let mut again = begun(alloc, world)?;
+    let mut again = opened(alloc, world.config())?;
     for (place, event) in journal.iter().enumerate().take(places.start) {
         send_before(&mut drawing, &mut again, &ways, place, event)?;
     }
@@ -54,30 +54,32 @@ fn shown(
     Ok(drawing)
 }
 
+// The event happens once more. One that is not taken now is passed over: a journal has none.
+fn repeat(world: &mut World, event: &Event) -> Result<(), AllocError> {
+    match world.apply(event.copy()?) {
+        Ok(_took) => Ok(()),
+        Err(WorldFault::NotNow(_why)) => Ok(()),
+        Err(WorldFault::Full) => Ok(()),
+        Err(WorldFault::NoMemory) => Err(AllocError),
+    }
+}
+
 // The events at these places of a journal.
 fn events_at<'a>(journal: &'a [Event], places: &Range<usize>) -> &'a [Event] {
     journal.get(places.start..places.end).unwrap_or(&[])
 }
 
-// A world at its beginning, of the config of this one.
-fn begun(alloc: Global, world: &World) -> Result<World, AllocError> {
-    match opened(alloc, world.config()) {
-        Ok(world) => Ok(world),
-        Err(_) => Err(AllocError),
-    }
-}
-
 // The lanes of those who take part in the events at these places of a world's journal.
 fn lanes_at(alloc: Global, world: &World, places: &Range<usize>) -> Result<Vec<Lane>, AllocError> {
-    let mut again = begun(alloc, world)?;
+    let mut again = opened(alloc, world.config())?;
     for event in world.journal().iter().take(places.start) {
-        happen(&mut again, event)?;
+        repeat(&mut again, event)?;
     }
     let mut cast = living(alloc, &again)?;
     for event in events_at(world.journal(), places) {
         let first = again.bag().len();
         join_actor(&mut cast, &again, event)?;
-        happen(&mut again, event)?;
+        repeat(&mut again, event)?;
         join_addressees(&mut cast, &again, first)?;
     }
     lanes_of(alloc, &again, &cast)
@@ -119,7 +121,7 @@ fn send_before(
     event: &Event,
 ) -> Result<(), AllocError> {
     let from = actor_of(&drawing.lanes, world, event);
-    happen(world, event)?;
+    repeat(world, event)?;
     send(drawing, from, Sending::Before(place), world, ways)
 }
 
@@ -142,7 +144,7 @@ fn add(
     let first = world.bag().len();
     row.leftwards = arrive(drawing, event, place)?;
     put_sending(&mut row.detail, drawing, event)?;
-    happen(world, event)?;
+    repeat(world, event)?;
     live(&mut drawing.lanes, world, place, end);
     send(drawing, row.lane, Sending::At(place), world, ways)?;
     put_lost(&mut row.detail, world, ways, first)?;

@@ -5,8 +5,8 @@ use mr_event::Event;
 use mr_ids::AttemptId;
 use mr_master_model::Phase;
 use mr_packet::Packet;
-use mr_script::EventName;
-use mr_trace::mr_play::name_word;
+use mr_script::{EventName, event_word};
+use mr_trace::mr_play::read;
 use mr_trace::mr_world::World;
 use mr_trace::{name_of, put_address, put_call, put_container, put_event, put_packet, put_small};
 use std::alloc::{AllocError, Global};
@@ -27,12 +27,8 @@ pub struct Facts {
 
 /// The facts of a world, for an event.
 pub fn facts_of(world: &World, event: &Event) -> Result<Facts, AllocError> {
-    let Ok(marker) = world.marker() else {
-        return Err(AllocError);
-    };
-    let Ok(winners) = world.winners() else {
-        return Err(AllocError);
-    };
+    let marker = read(world.marker())?;
+    let winners = read(world.winners())?;
     Ok(Facts {
         name: name_of(world, event)?,
         stopped: is_stopped(world, event),
@@ -66,7 +62,7 @@ pub fn event_of(alloc: Global, world: &World, event: &Event) -> Result<Vec<u8>, 
     put_event(&mut out, event)?;
     if let Some(name) = name_of(world, event)? {
         out.extend_from_slice(b" ")?;
-        out.extend_from_slice(name_word(name))?;
+        out.extend_from_slice(event_word(name))?;
     }
     Ok(out)
 }
@@ -82,15 +78,15 @@ pub fn name_label(alloc: Global, world: &World, event: &Event) -> Result<Vec<u8>
         }
         Event::Duty { .. } | Event::ContainerStep { .. } => {
             if let Some(name) = name_of(world, event)? {
-                out.extend_from_slice(name_word(name))?;
+                out.extend_from_slice(event_word(name))?;
             }
         }
-        _ => out.extend_from_slice(event_word(event))?,
+        _ => out.extend_from_slice(kind_word(event))?,
     }
     Ok(out)
 }
 
-fn event_word(event: &Event) -> &'static [u8] {
+fn kind_word(event: &Event) -> &'static [u8] {
     match event {
         Event::Start { .. } => b"start",
         Event::Crash { .. } => b"crash",
