@@ -13,7 +13,7 @@ const MOST_BYTES: usize = 1 << 24;
 const MOST_READS: u32 = 1 << 25;
 
 /// All that the reader has, if that is no more than the limit.
-pub fn read_input<R: Read>(alloc: Global, reader: &mut R) -> Result<Vec<u8>, SimFault>
+pub(crate) fn read_input<R: Read>(alloc: Global, reader: &mut R) -> Result<Vec<u8>, SimFault>
     ensures limit { IfOk result (λ v. vec_len v ≤ 2 ^ 24) }
     ensures all { IfOk result (λ v. IfSome (R.remaining reader.old) (λ xs. v.items ≡ xs)) }
     ensures long { IsErrOf result SimFault.TooLong → IfSome (R.remaining reader.old) (λ xs. 2 ^ 24 < length xs) }

@@ -82,7 +82,6 @@ mod remarks;
 mod subcommand;
 
 pub use ending::{Ending, exit_status};
-pub use input::read_input;
 pub use laws::printed_or_refused;
 pub use mr_commands::{JobTextFault, SimFault};
 pub use mr_drawing::Part;
@@ -92,4 +91,4 @@ pub use mr_threads::Seen;
 pub use mr_threads::mr_play::Shown;
 pub use refusal::{Help, Refusal};
 pub use remarks::{Remarks, run_with_help, run_with_remarks};
-pub use subcommand::{Command, answer, run, run_streams, write_text};
+pub use subcommand::{Command, answer, run, run_streams};

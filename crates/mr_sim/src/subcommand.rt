@@ -97,7 +97,7 @@ pub(crate) fn answer_with<H: AllocGlobal + Eprint + Clock + Threads + Wait + Syn
 }
 
 /// Writes a whole text, and flushes it.
-pub fn write_text<W: Write>(writer: &mut W, text: &[u8]) -> Result<(), SimFault>
+pub(crate) fn write_text<W: Write>(writer: &mut W, text: &[u8]) -> Result<(), SimFault>
     ensures ok { OnOk result (Appends (W.contents writer.old) (W.contents writer.new) text.now) }
     ensures kind { IfErr result (λ e. e ≡ SimFault.Write) }
 {
