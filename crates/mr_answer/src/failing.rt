@@ -1,6 +1,6 @@
 //! What is ready for the answers of the calls that are due while Failing.
 //! These are an append, a flush, and the abort of the job.
-ghost use Rattle.std.specs.Prelude.{◌≡◌, ◌||◌, IfOk};
+ghost use Rattle.std.specs.Prelude.{◌≡◌, IfOk};
 ghost use Rattle.mr_master_model.specs.Past.{Fails};
 ghost use Rattle.mr_answer.specs.Answering.{IsDue};
 ghost use Rattle.mr_change.specs.Prepared.{PlansDue};
@@ -8,6 +8,7 @@ ghost use Rattle.mr_change.specs.Prepared.{PlansDue};
 use crate::flush::flush_packets;
 use crate::mark::becoming;
 use mr_change::mr_phase::{Work, aborted, is_fine};
+use mr_change::mr_tables::either;
 use mr_change::{Change, Machine, Prepared};
 use mr_master_model::StoreAnswer;
 use std::alloc::AllocError;
@@ -37,10 +38,4 @@ pub fn ready_failing(
     let work = Work::fails_so(either(is_stable, unsuccessful));
     let packets = flush_packets(master)?;
     Ok(Prepared::new(packets, Change::Flushes(work)))
-}
-
-fn either(a: bool, b: bool) -> bool
-    ensures { result ≡ (a || b) }
-{
-    a || b
 }

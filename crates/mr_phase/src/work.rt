@@ -120,7 +120,7 @@ impl Work {
     }
 
     /// A reduce is taken over, and then the others.
-    pub fn takes_over(
+    pub(crate) fn takes_over(
         setting: &Setting,
         winner: TaskWinner,
         others: VecDeque<TaskWinner>,
@@ -266,7 +266,7 @@ impl Work {
     }
 
     /// It sets the job up.
-    pub fn sets_up(setting: &Setting) -> Result<Work, AllocError>
+    pub(crate) fn sets_up(setting: &Setting) -> Result<Work, AllocError>
         ensures { IfOk result (λ work. work ≡ SetsUp (setup_job setting.now.layout.dest setting.now.app)) }
     {
         let step = Step::setup_job(&setting.layout, setting.app)?;

@@ -19,6 +19,7 @@ use crate::ending::Ending;
 use crate::progress::Progress;
 use mr_ids::{AttemptId, TaskId, TaskKind};
 use mr_master_model::Setting;
+use mr_tables::both;
 use mr_task::{DoneReply, TaskMachine};
 use std::alloc::{AllocError, Global};
 use std::marker::Model;
@@ -357,14 +358,8 @@ fn would_spend(task: &TaskMachine, attempt: AttemptId, limit: u32) -> bool
 {
     let failures = u64::from(task.failures()) + 1;
     let is_won = task.is_won();
-    all_of(
+    both(
         is_live(task, attempt),
-        all_of(!is_won, u64::from(limit) <= failures),
+        both(!is_won, u64::from(limit) <= failures),
     )
-}
-
-fn all_of(a: bool, b: bool) -> bool
-    ensures { result ≡ (a && b) }
-{
-    a && b
 }

@@ -1,2 +1,3 @@
+pub mod Comparing
 mod Faults
 pub mod Inputs

@@ -4,9 +4,9 @@ ghost use Rattle.std.specs.Cmp.Lexicographic.{pointwise};
 ghost use Rattle.std.specs.Cmp.Rules.{comparing};
 ghost use Rattle.std.proofs.Common.{rules};
 ghost use Rattle.mr_sequential.specs.mr_model.specs.Sequential.{Split, Pieces as Fetched};
-ghost use Rattle.mr_work.specs.Works.{as_input, kind_of};
+ghost use Rattle.mr_work.specs.Works.{as_input};
 
-use mr_ids::{Bytes, TaskKind};
+use mr_ids::Bytes;
 use std::alloc::{AllocError, Global};
 use std::marker::Model;
 
@@ -25,13 +25,6 @@ impl Model for Pieces {
 }
 
 impl Pieces {
-    /// These pieces.
-    pub fn from_vec(items: Vec<Bytes>) -> Pieces
-        ensures { result ≡ items.items }
-    {
-        Pieces { items }
-    }
-
     /// A copy of these pieces.
     pub fn from_slice(alloc: Global, pieces: &[Bytes]) -> Result<Pieces, AllocError>
         ensures { IfOk result (λ copied. copied ≡ pieces.now) }
@@ -101,16 +94,6 @@ impl Input {
         }
     }
 
-    /// Whether a map is given it, or a reduce.
-    pub fn kind(&self) -> TaskKind
-        ensures { result ≡ kind_of self.now }
-    {
-        match self {
-            Input::Map { .. } => TaskKind::Map,
-            Input::Reduce { .. } => TaskKind::Reduce,
-        }
-    }
-
     /// Whether it is what a map is given for these bytes of this split.
     pub fn is_of_map(&self, number: u32, split_bytes: &[u8]) -> bool
         ensures { IsTrue result ↔ (as_input self.now ≡ Split number split_bytes.now) }
@@ -122,30 +105,15 @@ impl Input {
     }
 
     /// Whether it is what this reduce is given for these pieces.
+    #[tactic(auto, using(crate::proofs::Comparing::pieces_decide))]
     pub fn is_of_reduce(&self, number: u32, fetched: &[Bytes]) -> bool
         ensures { IsTrue result ↔ (as_input self.now ≡ Fetched number fetched.now) }
     {
         match self {
             Input::Map { .. } => false,
             Input::Reduce { reduce, pieces } => {
-                *reduce == number && are_equal(pieces.as_slice(), fetched)
+                *reduce == number && pieces.as_slice() == fetched
             }
         }
     }
-}
-
-// Whether two lists of pieces are equal.
-fn are_equal(some: &[Bytes], others: &[Bytes]) -> bool
-    ensures { IsTrue result ↔ (some.now ≡ others.now) }
-{
-    let mut rest = some;
-    let mut left = others;
-    while let Some((piece, more)) = rest.split_first() {
-        match left.split_first() {
-            Some((other, later)) if piece.as_slice() == other.as_slice() => left = later,
-            _ => return false,
-        }
-        rest = more;
-    }
-    left.is_empty()
 }
