@@ -69,9 +69,6 @@ refused_own s caller call = by (unheard s caller) (λ why is. unheard-is s calle
     by None is = row (passes_limit s.barred call)
     by (Some why) is = ⊎_elim (λ e. ap is_memory e) (λ e. ap is_memory e) (is why refl)
 
-pub true_or_false : {A : Type 0} → true ≡ false → A
-true_or_false e = cc
-
 abbrev pub is_want : Result Answer NameFault → Bool
 is_want (Ok a) = false
 is_want (Err f) = is_memory f

@@ -1,7 +1,6 @@
 -- What a path holds after each change of a content.
 use Rattle.std.proofs.Common.{◌≡◌, ◌≢◌, ℕ, Bool, true, false, cond, not, ◌&&◌, List, [], ◌∷◌, ◌++◌, map, length, refl, sym, ap, ◌∙◌, Option, Some, None, Ordering, Less, Equal, Greater, is_some, true≢false, append_assoc, append-nil, suc, zero, ◌≤◌, ◌<◌, take, drop, filter, is_none, ◌+◌, ◌||◌, add-one, arith, inl, inr, ◌⊎◌}
 use Rattle.std.specs.Prelude.{T}
-use Rattle.std.proofs.lemmas.List.{length-map}
 use Rattle.std.specs.Option.{option_or}
 use Rattle.std.specs.Ordering.{is_eq, is_lt, eq_by_cmp}
 use Rattle.std.specs.List.{AllByRecursion, list_any}
@@ -106,9 +105,6 @@ back from to path = back_by from path (strip to path)
 abbrev is_back : Option (List (List ℕ)) → List (List ℕ) → Bool
 is_back None y = false
 is_back (Some z) y = same z y
-
-Some-inj : {A : Type 0} (x y : A) → Some x ≡ Some y → x ≡ y
-Some-inj x y e = cc
 
 -- y goes to x exactly if it was there
 back-rebased : (from to x y : List (List ℕ)) → strip to y ≡ None → same x (rebased from to y) ≡ is_back (back from to x) y
@@ -279,19 +275,6 @@ drop-prefixes (suc n) (m ∷ path) h =
     drop-map zero ps = refl
     drop-map (suc k) [] = refl
     drop-map (suc k) (p ∷ ps) = drop-map k ps
-
-pub drop-prefixes-end : (path : List (List ℕ)) → drop (suc (length path)) (prefixes path) ≡ []
-drop-prefixes-end path = drop-all (suc (length path)) (prefixes path) (length-prefixes path)
-  where
-    drop-all : (k : ℕ) (ps : List (List (List ℕ))) → length ps ≡ k → drop k ps ≡ []
-    drop-all zero [] e = refl
-    drop-all zero (p ∷ ps) e = absurd (omega arith)
-    drop-all (suc k) [] e = refl
-    drop-all (suc k) (p ∷ ps) e = drop-all k ps (omega arith)
-
-    length-prefixes : (path : List (List ℕ)) → length (prefixes path) ≡ suc (length path)
-    length-prefixes [] = refl
-    length-prefixes (m ∷ path) = ap suc (length-map (prefixes path) (λ p. m ∷ p) ∙ length-prefixes path)
 
 -- past the path itself nothing is left
 pub none_left : (n : ℕ) (path : List (List ℕ)) → length path < n → drop n (prefixes path) ≡ []

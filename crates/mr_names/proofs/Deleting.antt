@@ -1,5 +1,5 @@
 -- A delete from below, entry after entry.
-use Rattle.std.proofs.Common.{◌≡◌, ℕ, true, false, List, [], ◌∷◌, ◌++◌, append_assoc, append-nil, inl, inr, refl, sym, ap, ◌∙◌, subst, Option, Some, None, is_some, true≢false, ◌<◌, ◌≤◌, arith}
+use Rattle.std.proofs.Common.{◌≡◌, ℕ, true, List, [], ◌∷◌, ◌++◌, append_assoc, append-nil, inl, inr, refl, sym, ap, ◌∙◌, subst, Option, Some, None, is_some, true≢false, ◌<◌, ◌≤◌, arith}
 use Rattle.std.specs.Prelude.{IfSome}
 use Rattle.std.proofs.lemmas.Bool.Decides.{eqb_tells}
 use Rattle.std.specs.Option.{option_map}
@@ -23,10 +23,6 @@ opt_none (Some x) e = absurd (cc)
 pub opt_some : (o : Option (List ℕ × ℕ)) (key : ℕ) → option_map (λ (e : List ℕ × ℕ). e.1) o ≡ Some key → (name : List ℕ) × (o ≡ Some (name, key))
 opt_some None key e = absurd (cc)
 opt_some (Some x) key e = let same : x.1 ≡ key = cc in (x.0, λ i. Some (x.0, same i))
-
-pub opt_nothing : (o : Option (List ℕ × ℕ)) (r : Option ℕ) → r ≡ option_map (λ (e : List ℕ × ℕ). e.1) o → is_some r ≡ false → o ≡ None
-opt_nothing None r e none = refl
-opt_nothing (Some x) r e none = absurd (true≢false (sym (ap is_some e) ∙ none))
 
 pub within_more : (top p : Names) (n : List ℕ) → within top p ≡ true → within top (p ++ n ∷ []) ≡ true
 within_more top p n e = by (strip top p) refl
@@ -142,9 +138,6 @@ pub record CutSoFar (now : Slab Place) (root : ℕ) (c : Content) (t : Names) (t
 
 pub record Cutting (old now : Slab Place) (top start at : ℕ) : Type 0 where
   pub cut : (root : ℕ) (c : Content) (t p : Names) → IsTold (edges_of old) (nodes_of old) root c → steps (edges_of old) (Some root) t ≡ Some top → steps (edges_of old) (Some root) p ≡ Some start → within t p ≡ true → CutSoFar now root c t top at
-
-pub cutting_first : (s : Slab Place) (top at : ℕ) → Cutting s s top at at
-cutting_first s top at = record { cut = λ root c t p told top_leads leads inside. record { d = c; p = p; told = told; top_leads = top_leads; leads = leads; inside = inside; rest = refl; fewer = omega arith } }
 
 pub cutting_down : (old now : Slab Place) (top start at next : ℕ) → Cutting old now top start at → option_map (λ (e : List ℕ × ℕ). e.1) (first_edge now at) ≡ Some next → Cutting old now top start next
 cutting_down old now top start at next cutting edge = record { cut = on }

@@ -231,10 +231,6 @@ pub no_edge : (s : Slab Place) (root at : ℕ) (c : Content) (above path : List 
 no_edge s root at c above path name told is found leads none =
     true≢false (sym found ∙ ap is_some (told.holds path ∙ ap (standing (nodes_of s)) (ap (steps (edges_of s) (Some root)) is ∙ steps-append (edges_of s) (Some root) above (name ∷ []) ∙ ap (λ o. along (edges_of s) o name) leads ∙ none)))
 
--- nothing is there to change
-pub none_changed : (s : Slab Place) (root : ℕ) (c : Content) (path : List (List ℕ)) (f : Node → Node) → IsTold (edges_of s) (nodes_of s) root c → steps (edges_of s) (Some root) path ≡ None → c ≡ changed_at c path f
-none_changed s root c path f told none = let nothing : finite.get c path ≡ None = told.holds path ∙ ap (standing (nodes_of s)) none in rw nothing refl
-
 -- what is there is changed
 pub some_changed : (s t : Slab Place) (root key : ℕ) (c : Content) (path : List (List ℕ)) (f : Node → Node) → IsTold (edges_of s) (nodes_of s) root c → steps (edges_of s) (Some root) path ≡ Some key → NodeChanged s t key f
     → IsTold (edges_of t) (nodes_of t) root (changed_at c path f)
