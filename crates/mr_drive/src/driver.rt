@@ -12,7 +12,7 @@ use crate::plan::Plan;
 use crate::turn::Next;
 use mr_board::mr_world::World;
 use mr_board::{Board, Seat};
-use mr_report::{Report, reported};
+use mr_report::{Report, reported, wants_memory};
 use mr_user::{Gate, Job};
 use std::alloc::Global;
 use std::sync::{Mutex, Wait};
@@ -43,8 +43,9 @@ where
 {
     let nodes = plan.config.nodes;
     let seats = nodes.saturating_add(plan.masters()).saturating_add(1);
-    let Ok(world) = World::new(alloc, plan.config.copy()?) else {
-        return Err(DriveFault::NoMemory);
+    let world = match World::new(alloc, plan.config.copy()?) {
+        Ok(world) => world,
+        Err(fault) => return Err(wants_memory(fault)),
     };
     let (board, all) = Board::new(alloc, job, world, seats)?;
     let coming = Coming::new(plan.faults.copy()?);

@@ -7,6 +7,7 @@ use crate::turn::Turn;
 use mr_board::mr_world::World;
 use mr_board::{Board, Seat};
 use mr_event::{Event, Weather};
+use mr_report::wants_memory;
 use mr_user::Job;
 
 /// At most one event of the master of generation `k`: a packet for it, else its store call, else its launch.
@@ -36,8 +37,9 @@ pub(crate) fn master_turn<J: Job>(
 
 // The store call of a master, else its launch of the task that it wants, on the node whose number is the task's, modulo the number of nodes.
 fn next_of_master(world: &World, k: u32) -> Result<Option<Event>, DriveFault> {
-    let Ok(due) = world.duty(k) else {
-        return Err(DriveFault::NoMemory);
+    let due = match world.duty(k) {
+        Ok(due) => due,
+        Err(fault) => return Err(wants_memory(fault)),
     };
     if due.is_some() {
         return Ok(Some(Event::Duty {

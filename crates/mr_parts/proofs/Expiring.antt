@@ -1,5 +1,6 @@
 -- A master gives a node up: when it can, and what the parts stand for then.
 use Rattle.std.proofs.Common.{◌≡◌, ℕ, ◌+◌, refl, sym, ◌∙◌, ap, subst, Bool, true, false, List, ◌++◌, Option, Some, None, is_some, length, arith}
+use Rattle.std.specs.Prelude.{unwrap_or}
 use Rattle.mr_packet.specs.Bag.{Held}
 use Rattle.mr_packet.specs.declared.packet.Envelope.{Envelope}
 use Rattle.mr_master_model.specs.declared.phase.LaunchFault.{LaunchFault}
@@ -66,6 +67,12 @@ refused p k n m o f y a e is w s = refuses-now _ _ (alive p.config w k n (lives 
 
 pub allowed : (p : Parts) (k n : ℕ) (m : master.Master) (o : Option LaunchFault) → Asked p k n m o → o ≡ None → (w : World) → Standing p w → not_now p.config w (Expire k n) ≡ None
 allowed p k n m o a e w s = alive p.config w k n (lives p k m w s a.0) ∙ no-reason _ _ (sym (asked p k n m o a w s) ∙ e)
+
+-- a machine that refuses no expiry has memory alone to answer
+pub only-memory : (m : master.Master) (n : ℕ) (o : Option LaunchFault) (f wanting : LaunchFault) → master.StandsForSome m → master.Answers m (λ w past. read.expire_refusal w (next.seen w past) n) o → o ≡ None
+    → master.Answers m (λ w past. unwrap_or (read.expire_refusal w (next.seen w past) n) wanting) f → f ≡ wanting
+only-memory m n o f wanting st asked none says =
+    says m.setting st.0 st.1 ∙ ap (λ (r : Option LaunchFault). unwrap_or r wanting) (sym (asked m.setting st.0 st.1) ∙ none)
 
 limit-is : (cfg : Config) (w : World) (k n : ℕ) → within cfg w (Expire k n) ≡ fits_bag cfg w (Expire k n)
 unfolding within call_of

@@ -1,5 +1,5 @@
 -- A master launches: when it can, and what the parts stand for then.
-use Rattle.std.proofs.Common.{◌≡◌, ◌≤◌, ◌<◌, ℕ, ◌+◌, refl, sym, ◌∙◌, ap, subst, Bool, true, false, ◌&&◌, [], ◌∷◌, ◌++◌, Option, Some, None, is_some, nat_lt, List, length, arith}
+use Rattle.std.proofs.Common.{◌≡◌, ◌≤◌, ◌<◌, ℕ, ◌+◌, refl, sym, ◌∙◌, ap, subst, Bool, true, false, ◌&&◌, [], ◌∷◌, ◌++◌, Option, Some, None, is_some, nat_lt, List, length, if◌then◌else◌, arith}
 use Rattle.std.proofs.lemmas.Bool.{lt-ltb, le-ltb}
 use Rattle.mr_ids.specs.declared.id.TaskId.{TaskId}
 use Rattle.mr_packet.specs.Bag.{Held}
@@ -10,6 +10,7 @@ use Rattle.mr_master_model.specs.Past as machine
 use Rattle.mr_master_model.specs.Readings as read
 use Rattle.mr_master_model.specs.Next as next
 use Rattle.mr_master.specs.Prepared.{Prepared, IsOne}
+use Rattle.mr_master.specs.Refused.{LaunchError, MOST_CONTAINERS, error_of, launch_error}
 use Rattle.mr_master.specs.State as master
 use Rattle.mr_model.specs.Packets.{Config}
 use Rattle.mr_model.specs.Duties.{Launches}
@@ -36,6 +37,7 @@ use Rattle.mr_parts.proofs.Attending.{says-at}
 use Rattle.mr_parts.proofs.Refusals.{NeedsRoom, refuses-now, refuses-full}
 use Rattle.mr_parts.proofs.Mastering.{goes-on, not-kept, is-generation}
 use Rattle.mr_parts.proofs.Stepping.{agrees, masters-step, one-launch, launches-add}
+use Rattle.mr_parts.proofs.Counting.{launched-among}
 
 -- ---- reasons
 
@@ -94,6 +96,16 @@ limit-is cfg w k t n = refl
 sends-one : (cfg : Config) (w : World) (k : ℕ) (t : TaskId) (n : ℕ) → length (sent cfg w (LaunchOn k t n)) ≡ 1
 unfolding sent master_act
 sends-one cfg w k t n = refl
+
+-- its launches have numbers, so nothing is left to refuse one but memory
+pub only-memory : (p : Parts) (k : ℕ) (t : TaskId) (n : ℕ) (m : master.Master) (o : Option LaunchFault) (e : LaunchError) → Asked p k t n m o → o ≡ None → p.launched < MAX_CONTAINERS
+    → master.Answers m (λ w past. launch_error w (next.seen w past) t n) e → (w : World) → Standing p w → error_of None 0 ≡ e
+only-memory p k t n m o e a none few says w s =
+    let past = steps (w.master_past k) in let cfg = setting p.config k in let st = s.masters.machines k m a.0 in
+    let of = is-generation p w k s (ap is_some a.0) in
+    let among = launched-among cfg w.master_past k 1000 of.0 of.1 in
+    let numbered : length (next.seen cfg past).launched < MOST_CONTAINERS = omega (arith, among, few, s.launched) in
+    sym (says cfg past st ∙ ap (λ (r : Option LaunchFault). error_of r (length (next.seen cfg past).launched)) (sym (a.1 cfg past st) ∙ none) ∙ ap (λ (b : Bool). if b then error_of None 0 else error_of None MOST_CONTAINERS) (lt-ltb _ _ numbered))
 
 pub full : (p : Parts) (k : ℕ) (t : TaskId) (n : ℕ) (m : master.Master) (o : Option LaunchFault) → Asked p k t n m o → o ≡ None → MAX_CONTAINERS ≤ p.launched → (w : World) → Standing p w
     → RefusesEvent p.config w (LaunchOn k t n) fault.Full

@@ -12,6 +12,7 @@ pub mod Calling
 pub mod Bounds
 pub mod Mastering
 pub mod Stepping
+pub mod Counting
 pub mod Attending
 pub mod Starting
 pub mod Crashing

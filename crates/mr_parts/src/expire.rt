@@ -10,7 +10,7 @@ use crate::fault::WorldFault;
 use crate::launch::why;
 use crate::parts::Parts;
 use mr_event::Why;
-use mr_master::Prepared;
+use mr_master::{Prepared, wants_memory};
 use mr_packet::MAX_PACKETS;
 
 impl Parts {
@@ -27,9 +27,10 @@ impl Parts {
         if let Some(fault) = machine.expire_refusal(node) {
             return Err(WorldFault::NotNow(why(fault)));
         }
+        machine.stands();
         let prepared = match machine.prepare_expiry(node) {
             Ok(prepared) => prepared,
-            Err(_) => return Err(WorldFault::NoMemory),
+            Err(fault) => return Err(WorldFault::from(wants_memory(fault))),
         };
         if MAX_PACKETS - self.bag.len() < prepared.packets().len() {
             return Err(WorldFault::Full);

@@ -13,7 +13,7 @@ use crate::limits::MAX_CONTAINERS;
 use crate::parts::Parts;
 use mr_event::Why;
 use mr_ids::TaskId;
-use mr_master::Prepared;
+use mr_master::{LaunchError, Prepared};
 use mr_master_model::LaunchFault;
 use mr_packet::MAX_PACKETS;
 
@@ -44,7 +44,9 @@ impl Parts {
         self.check_room(1)?;
         match machine.prepare_launch(task, node) {
             Ok(prepared) => Ok(prepared),
-            Err(_) => Err(WorldFault::NoMemory),
+            Err(LaunchError::Refused(fault)) => Err(WorldFault::NotNow(why(fault))),
+            Err(LaunchError::Full) => Err(WorldFault::Full),
+            Err(LaunchError::NoMemory) => Err(WorldFault::NoMemory),
         }
     }
 

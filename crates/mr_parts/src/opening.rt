@@ -75,7 +75,7 @@ fn open_names(alloc: Global) -> Result<Namespace, AllocError>
     let mut opened = new_names(alloc)?;
     match opened.mkdirs(caller, &staging) {
         Ok(()) => Ok(opened),
-        Err(_) => Err(AllocError),
+        Err(fault) => Err(fault.wants_memory()),
     }
 }
 
@@ -84,7 +84,7 @@ fn new_names(alloc: Global) -> Result<Namespace, AllocError>
 {
     match Namespace::new(alloc) {
         Ok(opened) => Ok(opened),
-        Err(_) => Err(AllocError),
+        Err(fault) => Err(fault.wants_memory()),
     }
 }
 
@@ -93,6 +93,6 @@ fn open_history(alloc: Global) -> Result<History, AllocError>
 {
     match History::new(alloc) {
         Ok(history) => Ok(history),
-        Err(_) => Err(AllocError),
+        Err(fault) => Err(fault.wants_memory()),
     }
 }

@@ -1,7 +1,7 @@
 //! Room in the bag, made before anything changes, so that packets are sent later without memory.
 ghost use Rattle.std.specs.Prelude.{◌≡◌, ◌≤◌, OnOk, length};
 
-use mr_packet::{Bag, MAX_PACKETS};
+use mr_packet::{Bag, BagFault, MAX_PACKETS};
 use std::alloc::AllocError;
 
 /// Makes room for `more` packets, and changes nothing else.
@@ -9,10 +9,11 @@ pub fn reserve(bag: &mut Bag, more: usize) -> Result<(), AllocError>
     ensures kept { bag.new.packets ≡ bag.old.packets }
     ensures room { OnOk result (more ≤ bag.new.spare) }
 {
-    if bag.reserve(more).is_err() {
-        return Err(AllocError);
+    match bag.reserve(more) {
+        Ok(()) => Ok(()),
+        Err(BagFault::NoMemory) => Err(AllocError),
+        Err(BagFault::Full) => unreachable!(),
     }
-    Ok(())
 }
 
 /// How many packets a bag has at most. This call does nothing: it tells the caller so.

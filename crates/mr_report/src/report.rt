@@ -6,7 +6,7 @@ ghost use Rattle.mr_board.specs.mr_world.specs.Journal.{world_in};
 ghost use Rattle.mr_board.specs.Boards.{IsFaithfulFor};
 ghost use Rattle.mr_report.specs.Reports.{IsReported, IsThrough, IsUnreported};
 
-use crate::fault::DriveFault;
+use crate::fault::{DriveFault, wants_memory};
 use mr_board::mr_world::{Config, VisibleFile, World};
 use mr_master_model::Phase;
 use mr_sequential::{jobs_have_their_laws, marked_worlds_show_sequential_files};
@@ -41,8 +41,9 @@ pub fn reported<J: Job>(config: &Config, world: World) -> Result<Report, DriveFa
     if !is_through(&world) {
         return Err(DriveFault::TurnsSpent);
     }
-    let Ok(files) = world.visible() else {
-        return Err(DriveFault::NoMemory);
+    let files = match world.visible() {
+        Ok(files) => files,
+        Err(fault) => return Err(wants_memory(fault)),
     };
     let succeeded = has_succeeded(&world);
     Ok(Report {

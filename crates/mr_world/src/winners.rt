@@ -44,7 +44,7 @@ fn records(parts: &Parts) -> Result<Records, WorldFault>
 {
     match parts.history.records() {
         Ok(told) => Ok(told),
-        Err(_) => Err(WorldFault::NoMemory),
+        Err(fault) => Err(WorldFault::from(fault.wants_memory())),
     }
 }
 

@@ -1,5 +1,8 @@
-use Rattle.std.proofs.Common.{refl, sym, ap, is_some, length, arith}
-use Rattle.mr_parts.proofs.Expiring.{dead, refused, allowed, needs}
+use Rattle.std.proofs.Common.{refl, sym, ap, subst, is_some, length, arith}
+use Rattle.mr_model.specs.World.{Expire}
+use Rattle.mr_parts.specs.declared.fault.WorldFault.{WorldFault}
+use Rattle.mr_parts.specs.Standing.{RefusesEvent}
+use Rattle.mr_parts.proofs.Expiring.{dead, refused, allowed, needs, only-memory}
 use Rattle.mr_parts.proofs.Refusals.{refuses-memory, taken-by, full-by}
 use Rattle.mr_parts.proofs.parts.Parts.check_expire.Goals as goal
 
@@ -11,8 +14,11 @@ returns-in-Some-expire_refusal-clause-foresees c = refused c.args.self.now c.arg
     (sym c.in-Some.ensures, c.expire_refusal.ensures) c.in-Some-expire_refusal.is c.why.ensures
 
 pub returns-in-Err-clause-foresees : goal.returns-in-Err-clause-foresees
-returns-in-Err-clause-foresees c = λ w s. refuses-memory _
-    (allowed c.args.self.now c.args.k c.args.node c.in-Some.machine.now c.expire_refusal.result (sym c.in-Some.ensures, c.expire_refusal.ensures) c.in_default-expire_refusal.is w s) refl
+returns-in-Err-clause-foresees c = λ w s. subst (λ (f : WorldFault). RefusesEvent c.args.self.now.config w (Expire c.args.k c.args.node) f) (sym c.from.ensures) (refuses-memory _
+    (allowed c.args.self.now c.args.k c.args.node c.in-Some.machine.now c.expire_refusal.result (sym c.in-Some.ensures, c.expire_refusal.ensures) c.in_default-expire_refusal.is w s) refl)
+
+pub wants_memory-requires : goal.wants_memory-requires
+wants_memory-requires c = only-memory c.in-Some.machine.now c.args.node c.expire_refusal.result c.in-Err.fault _ c.stands.ensures c.expire_refusal.ensures c.in_default-expire_refusal.is c.in-Err.ensures.refused
 
 pub returns-then-len-packets-clause-foresees : goal.returns-then-len-packets-clause-foresees
 returns-then-len-packets-clause-foresees c = let e = ap length c.packets.ensures in

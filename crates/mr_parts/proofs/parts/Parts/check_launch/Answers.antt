@@ -1,6 +1,6 @@
 use Rattle.std.proofs.Common.{◌≡◌, sym, ap, subst, is_some, IsErrAnd}
 use Rattle.mr_model.specs.World.{LaunchOn}
-use Rattle.mr_parts.proofs.Launching.{dead, refused, full, needs, one-fits}
+use Rattle.mr_parts.proofs.Launching.{dead, refused, full, needs, one-fits, only-memory}
 use Rattle.mr_parts.proofs.Refusals.{full-foreseen, taken-by, lacks-memory}
 use Rattle.mr_parts.proofs.parts.Parts.check_launch.Goals as goal
 
@@ -26,8 +26,20 @@ pub returns-in-Ok-clause-foresees : goal.returns-in-Ok-clause-foresees
 returns-in-Ok-clause-foresees c = λ w s. taken-by s (needs c.args.self.now c.args.k c.args.task c.args.node c.in-Some.machine.now c.launch_refusal.result (sym c.in-Some.ensures, c.launch_refusal.ensures) c.in_default-launch_refusal.is c.if-self-ge-MAX_CONTAINERS.false w s)
     c.in_ok-check_room.ensures.room
 
-pub returns-in-Err-clause-foresees : goal.returns-in-Err-clause-foresees
-returns-in-Err-clause-foresees c = λ w s. lacks-memory (taken-by s (needs c.args.self.now c.args.k c.args.task c.args.node c.in-Some.machine.now c.launch_refusal.result (sym c.in-Some.ensures, c.launch_refusal.ensures) c.in_default-launch_refusal.is c.if-self-ge-MAX_CONTAINERS.false w s)
+pub returns-in-Err-Refused-clause-foresees : goal.returns-in-Err-Refused-clause-foresees
+returns-in-Err-Refused-clause-foresees c = λ w s.
+    let is = only-memory c.args.self.now c.args.k c.args.task c.args.node c.in-Some.machine.now c.launch_refusal.result _ (sym c.in-Some.ensures, c.launch_refusal.ensures) c.in_default-launch_refusal.is c.if-self-ge-MAX_CONTAINERS.false
+    c.in-Err-Refused.ensures.refused w s in
+    absurd (cc (is, c.in-Err-Refused.field-0-is))
+
+pub returns-in-Err-Full-clause-foresees : goal.returns-in-Err-Full-clause-foresees
+returns-in-Err-Full-clause-foresees c = λ w s.
+    let is = only-memory c.args.self.now c.args.k c.args.task c.args.node c.in-Some.machine.now c.launch_refusal.result _ (sym c.in-Some.ensures, c.launch_refusal.ensures) c.in_default-launch_refusal.is c.if-self-ge-MAX_CONTAINERS.false
+    c.in-Err-Full.ensures.refused w s in
+    absurd (cc (is, c.in-Err-Full.field-0-is))
+
+pub returns-in-Err-NoMemory-clause-foresees : goal.returns-in-Err-NoMemory-clause-foresees
+returns-in-Err-NoMemory-clause-foresees c = λ w s. lacks-memory (taken-by s (needs c.args.self.now c.args.k c.args.task c.args.node c.in-Some.machine.now c.launch_refusal.result (sym c.in-Some.ensures, c.launch_refusal.ensures) c.in_default-launch_refusal.is c.if-self-ge-MAX_CONTAINERS.false w s)
     c.in_ok-check_room.ensures.room)
 
 pub returns-in-Ok-clause-planned : goal.returns-in-Ok-clause-planned
