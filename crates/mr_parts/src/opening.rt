@@ -75,7 +75,7 @@ fn open_names(alloc: Global) -> Result<Namespace, AllocError>
     let mut opened = new_names(alloc)?;
     match opened.mkdirs(caller, &staging) {
         Ok(()) => Ok(opened),
-        Err(fault) => Err(fault.wants_memory()),
+        Err(_) => Err(AllocError),
     }
 }
 
