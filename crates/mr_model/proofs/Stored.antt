@@ -306,9 +306,13 @@ root-entries = entries-put finite.empty [] Dir ∙ ap (Rattle.std.specs.FinMap.E
 staged-missing : names.missing root staged ≡ staged ∷ []
 staged-missing = λ i. filter (λ p. is_none (entry-in root (([], Dir) ∷ []) root-entries p i)) (prefixes staged)
 
-staged-made : names.call_of names.opening (master 1) (MkDirs staged) ≡ (Ok Rattle.mr_names.specs.declared.op.Answer.TheVariants.Done, record names.opening { content = with_dirs root (staged ∷ []) })
+-- an opening namespace refuses no staging folder
+pub staging-allowed : names.refused names.opening (master 1) (MkDirs staged) ≡ None
 unfolding names.unheard Rattle.mr_model.specs.Content.refusal
-staged-made = let q : names.refusal root (MkDirs staged) ≡ None = refusal-in root (([], Dir) ∷ []) root-entries (MkDirs staged) in rw (q, staged-missing) refl
+staging-allowed = refusal-in root (([], Dir) ∷ []) root-entries (MkDirs staged)
+
+staged-made : names.call_of names.opening (master 1) (MkDirs staged) ≡ (Ok Rattle.mr_names.specs.declared.op.Answer.TheVariants.Done, record names.opening { content = with_dirs root (staged ∷ []) })
+staged-made = rw (staging-allowed, staged-missing) refl
 
 opens : StoresStand (names.call_of names.opening (master 1) (MkDirs staged)).1 (record { segments = Rattle.std.specs.Prelude.replicate 1000 (Rattle.mr_history.specs.Segment.fresh 1); fence = 0 }) opening_world
 opens = rw staged-made (record {

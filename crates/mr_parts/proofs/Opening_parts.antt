@@ -1,5 +1,8 @@
 -- The parts of a new world stand for the opening world.
-use Rattle.std.proofs.Common.{◌≡◌, ℕ, zero, suc, refl, sym, ◌∙◌, ap, subst, Bool, true, false, nat_lt, replicate, [], Some, None, if◌then◌else◌, is_some}
+use Rattle.std.proofs.Common.{◌≡◌, ℕ, zero, suc, refl, sym, ◌∙◌, ap, subst, Bool, true, false, nat_lt, replicate, List, [], Some, None, if◌then◌else◌, is_some, unwrap_or}
+use Rattle.mr_names.specs.declared.fault.NameFault.{NameFault}
+use Rattle.mr_names.specs.declared.fault.NameFault.TheVariants as fault
+use Rattle.mr_names.specs.declared.op.Caller.{Caller}
 use Rattle.mr_names.specs.Calls as names
 use Rattle.mr_history.specs.State.{State}
 use Rattle.mr_history.specs.Segment.{fresh}
@@ -9,7 +12,7 @@ use Rattle.mr_node.proofs.Standing.{begun}
 use Rattle.mr_model.specs.Ids.{ContainerId, staged}
 use Rattle.mr_model.specs.Content.{MkDirs}
 use Rattle.mr_model.specs.Stored.{StoresStand, master}
-use Rattle.mr_model.proofs.Stored.{stores_go_on}
+use Rattle.mr_model.proofs.Stored.{stores_go_on, staging-allowed}
 use Rattle.mr_model.specs.Packets.{Config}
 use Rattle.mr_model.specs.World.{opening_world}
 use Rattle.mr_model.specs.Effect.{run}
@@ -53,3 +56,9 @@ nodes-begin cfg nodes is = record {
 
 pub stores-open : (s : names.State) (h : State) → s ≡ (names.call_of names.opening (master 1) (MkDirs staged)).1 → h ≡ record { segments = replicate 1000 (fresh 1); fence = 0 } → StoresStand s h opening_world
 stores-open s h p q = subst (λ x. StoresStand x h opening_world) (sym p) (subst (λ x. StoresStand (names.call_of names.opening (master 1) (MkDirs staged)).1 x opening_world) (sym q) stores_go_on.opens)
+
+-- the staging folder's making fails by nothing but memory
+pub staging-fault : (s : names.State) (caller : Caller) (path : List (List ℕ)) (f : NameFault) → s ≡ names.opening → caller ≡ master 1 → path ≡ staged →
+    f ≡ unwrap_or (names.refused s caller (MkDirs path)) fault.NoMemory → f ≡ fault.NoMemory
+staging-fault s caller path f at by is e = e ∙ ap (λ why. unwrap_or why fault.NoMemory)
+    (ap (λ x. names.refused x caller (MkDirs path)) at ∙ (ap (λ x. names.refused names.opening x (MkDirs path)) by ∙ (ap (λ x. names.refused names.opening (master 1) (MkDirs x)) is ∙ staging-allowed)))

@@ -68,14 +68,20 @@ fn open_names(alloc: Global) -> Result<Namespace, AllocError>
     ensures { IfOk result (λ opened. opened ≡ (names.call_of names.opening (master 1) (op.Mkdirs staged)).1) }
 {
     let staging = staging_folder(alloc)?;
-    let caller = Caller {
+    let mut opened = new_names(alloc)?;
+    match opened.mkdirs(first_master(), &staging) {
+        Ok(()) => Ok(opened),
+        Err(fault) => Err(fault.wants_memory()),
+    }
+}
+
+// The master of the first generation.
+fn first_master() -> Caller
+    ensures { result ≡ master 1 }
+{
+    Caller {
         app: AppAttempt::new(1).unwrap(),
         attempt: None,
-    };
-    let mut opened = new_names(alloc)?;
-    match opened.mkdirs(caller, &staging) {
-        Ok(()) => Ok(opened),
-        Err(_) => Err(AllocError),
     }
 }
 
