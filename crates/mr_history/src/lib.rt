@@ -25,7 +25,7 @@
 //!   the versions that can tell it, and whatever is read as a record is that record's line: `lines_read_back`. So these
 //!   are no record: keys in another order, a space, an escape, a doubled key, a number written otherwise, an identifier
 //!   in another spelling, and the version line. Nor is a reduce's line with a length in version 1, or without one in
-//!   version 2.
+//!   version 2. `whole_line` gives a record's line with its line feed, and refuses for want of memory alone.
 //! - `replay` gives the version that the bytes show, the records of all whole lines and how many bytes stand after the
 //!   last line feed. Or it gives `BadLine` with the number of the first whole line that is neither a record of that
 //!   version nor the version line at the head. That is its one contract, `Replays`. Nothing else is answered but
@@ -97,7 +97,7 @@ pub use laws::{
     fronts_replay, histories_stay, lines_read_back, lines_replay, others_stay, refusals_are_heard,
     segments_record, segments_stay_sound, stable_stays, winners_have_lengths, winners_stay,
 };
-pub use line::MAX_LINE_LEN;
+pub use line::{MAX_LINE_LEN, whole_line};
 pub use reading::{Replayed, replay};
 pub use record::{MAX_PART_LEN, Record, Records};
 pub use segment::{MAX_SEGMENT_LEN, Segment};

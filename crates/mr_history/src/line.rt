@@ -132,7 +132,7 @@ pub fn line(alloc: Global, record: &Record) -> Result<String, AllocError>
     value(alloc, record)?.to_string(alloc)
 }
 
-/// The line of a record, ended by its line feed.
+/// The line of a record, ended by its line feed. It fails by nothing but an allocation failure.
 pub fn whole_line(alloc: Global, record: &Record) -> Result<String, AllocError>
     ensures { IfOk result (λ s. string_bytes s ≡ whole_line «record».now) }
 {
