@@ -12,7 +12,7 @@ use crate::plan::Plan;
 use crate::turn::Next;
 use mr_board::mr_world::World;
 use mr_board::{Board, Seat};
-use mr_report::{Report, reported, wants_memory};
+use mr_report::{Report, reported};
 use mr_user::{Gate, Job};
 use std::alloc::Global;
 use std::sync::{Mutex, Wait};
@@ -45,7 +45,7 @@ where
     let seats = nodes.saturating_add(plan.masters()).saturating_add(1);
     let world = match World::new(alloc, plan.config.copy()?) {
         Ok(world) => world,
-        Err(fault) => return Err(wants_memory(fault)),
+        Err(fault) => return Err(DriveFault::from(fault.wants_memory())),
     };
     let (board, all) = Board::new(alloc, job, world, seats)?;
     let coming = Coming::new(plan.faults.copy()?);

@@ -7,7 +7,6 @@ use crate::turn::Turn;
 use mr_board::mr_world::World;
 use mr_board::{Board, Seat};
 use mr_event::{Event, Weather};
-use mr_report::wants_memory;
 use mr_user::Job;
 
 /// At most one event of the master of generation `k`: a packet for it, else its store call, else its launch.
@@ -39,7 +38,7 @@ pub(crate) fn master_turn<J: Job>(
 fn next_of_master(world: &World, k: u32) -> Result<Option<Event>, DriveFault> {
     let due = match world.duty(k) {
         Ok(due) => due,
-        Err(fault) => return Err(wants_memory(fault)),
+        Err(fault) => return Err(DriveFault::from(fault.wants_memory())),
     };
     if due.is_some() {
         return Ok(Some(Event::Duty {

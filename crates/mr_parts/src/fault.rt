@@ -20,6 +20,19 @@ pub enum WorldFault {
     NoMemory,
 }
 
+impl WorldFault {
+    /// What is left of it where a world has no refusal: a want of memory.
+    pub fn wants_memory(self) -> AllocError
+        requires { self ≡ WorldFault.NoMemory }
+    {
+        match self {
+            WorldFault::NoMemory => AllocError,
+            WorldFault::NotNow(_) => unreachable!(),
+            WorldFault::Full => unreachable!(),
+        }
+    }
+}
+
 impl From<AllocError> for WorldFault {
     ghost from_gives = { λ _ e. e ≡ NoMemory };
 

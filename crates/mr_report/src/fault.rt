@@ -2,7 +2,6 @@
 ghost use Rattle.std.specs.Prelude.{◌≡◌};
 ghost use Rattle.mr_report.specs.declared.fault.DriveFault.TheVariants.{NoMemory};
 
-use mr_board::mr_world::WorldFault;
 use std::alloc::AllocError;
 use thiserror::Error;
 
@@ -31,17 +30,5 @@ impl From<AllocError> for DriveFault {
 
     fn from(_e: AllocError) -> DriveFault {
         DriveFault::NoMemory
-    }
-}
-
-/// What is left of a world's faults where it has no refusal.
-pub fn wants_memory(fault: WorldFault) -> DriveFault
-    requires { fault ≡ WorldFault.NoMemory }
-    ensures { result ≡ DriveFault.NoMemory }
-{
-    match fault {
-        WorldFault::NoMemory => DriveFault::NoMemory,
-        WorldFault::NotNow(_) => unreachable!(),
-        WorldFault::Full => unreachable!(),
     }
 }

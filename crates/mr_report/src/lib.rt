@@ -8,7 +8,6 @@
 //!   the files are the job's sequential execution's, and nothing else (`IsReported`).
 //! - Where there is none, it is said why, in order: `JournalMismatch` of another config, `TurnsSpent` of a run that did
 //!   not come to its end, `NoMemory` (`IsUnreported`).
-//! - `wants_memory` takes a fault of a world that can refuse nothing but memory: it is `NoMemory`.
 //!
 //! Memory may be taken by `reported`, for the files.
 #![tactic(auto)]
@@ -16,5 +15,5 @@
 mod fault;
 mod report;
 
-pub use fault::{DriveFault, wants_memory};
+pub use fault::DriveFault;
 pub use report::{Report, reported};

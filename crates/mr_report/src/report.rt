@@ -6,7 +6,7 @@ ghost use Rattle.mr_board.specs.mr_world.specs.Journal.{world_in};
 ghost use Rattle.mr_board.specs.Boards.{IsFaithfulFor};
 ghost use Rattle.mr_report.specs.Reports.{IsReported, IsThrough, IsUnreported};
 
-use crate::fault::{DriveFault, wants_memory};
+use crate::fault::DriveFault;
 use mr_board::mr_world::{Config, VisibleFile, World};
 use mr_master_model::Phase;
 use mr_sequential::{jobs_have_their_laws, marked_worlds_show_sequential_files};
@@ -43,7 +43,7 @@ pub fn reported<J: Job>(config: &Config, world: World) -> Result<Report, DriveFa
     }
     let files = match world.visible() {
         Ok(files) => files,
-        Err(fault) => return Err(wants_memory(fault)),
+        Err(fault) => return Err(DriveFault::from(fault.wants_memory())),
     };
     let succeeded = has_succeeded(&world);
     Ok(Report {

@@ -108,7 +108,8 @@
 //! - `asks` tells the store call that an event would make now, by whom, and what its caller would hear
 //!   (`specs/Asks`);
 //! - memory may be taken by `World::new`, `World::copy`, `Config::copy`, `apply`, `foresee` and `run`, and by `winner`, `winners`,
-//!   `marker`, `visible`, `duty`, `living` and `asks`. No other call takes any.
+//!   `marker`, `visible`, `duty`, `living` and `asks`. No other call takes any. Where a call can be refused nothing but
+//!   memory, `WorldFault::wants_memory` takes its fault: it is proved to be that.
 //!
 //! A world's invariant is that its parts (`Parts`) *stand for* the world of its journal (`specs/Standing`): one
 //! clause a part, each machine for its past there. Each event's call keeps it (`Tries`), and everything that can fail
