@@ -1,6 +1,8 @@
+pub mod Exits
 pub mod Fronts
 pub mod Grouping
 pub mod LeastGroup
+pub mod Lending
 pub mod Lines
 pub mod Meanings
 pub mod Putting

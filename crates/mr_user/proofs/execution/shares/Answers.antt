@@ -7,6 +7,15 @@ use Rattle.mr_user.specs.Sequential.{part_of}
 use Rattle.mr_user.proofs.Sharing.{empty_share, share_more_at}
 use Rattle.mr_user.proofs.execution.shares.Goals as goal
 
+pub room_for-requires : goal.room_for-requires
+room_for-requires g c = c.requires
+
+pub partition-reduce-requires : goal.partition-reduce-requires
+partition-reduce-requires g c = c.requires
+
+pub returns-clause-count : goal.returns-clause-count
+returns-clause-count g c = c.loop-key.invariant.count
+
 pub loop-key-init : goal.loop-key-init
 loop-key-init g c = record {
   count = c.in_ok-shares.ensures.count;

@@ -1,5 +1,5 @@
-use Rattle.std.proofs.Common.{◌≡◌, ◌∙◌, ◌<◌, ◌+◌, ◌++◌, ◌∷◌, [], ℕ, List, Vec, Global, length, map, take, get_or, ap, sym}
-use Rattle.std.proofs.lemmas.List.{flat_map_more, map-append, take_more}
+use Rattle.std.proofs.Common.{◌≡◌, ◌∙◌, ◌<◌, ◌+◌, ◌++◌, ◌∷◌, [], ℕ, List, Vec, Global, length, map, take, get_or, ap, sym, append-nil}
+use Rattle.std.proofs.lemmas.List.{flat_map_more, map-append, take_all, take_more}
 use Rattle.std.specs.List.{flat_map}
 use Rattle.mr_user.proofs.execution.write_lines.Goals as goal
 
@@ -13,6 +13,9 @@ texts_more line_of bytes begun was now texts i text within at so_far is =
     ∙ ap (λ w. begun ++ flat_map line_of w) (sym (map-append bytes (take i texts) (text ∷ [])))
     ∙ ap (λ w. begun ++ flat_map line_of (map bytes w)) (sym (take_more texts i text within ∙ ap (λ t. take i texts ++ t ∷ []) (sym at)))
 
+pub loop-value-init : goal.loop-value-init
+loop-value-init g c = sym (append-nil c.args.out.now.items)
+
 pub loop-value-preserved : goal.loop-value-preserved
 loop-value-preserved g c =
     let name = c.in_ok-name.name.items in
@@ -22,3 +25,12 @@ loop-value-preserved g c =
     ∙ ap (λ w. c.loop-value.out.items ++ (name ++ 9 ∷ w ++ 10 ∷ [])) c.deref-in-loop-value.ensures.value in
     texts_more (λ t. name ++ 9 ∷ t ++ 10 ∷ []) (λ (t : Vec ℕ Global). t.items) c.args.out.now.items c.loop-value.out.items c.put_line.new.out.items c.deref-value-items.result.now c.loop-value.value-index c.value-item.result
     c.loop-value-test.true c.value-item.is c.loop-value.invariant line
+
+pub returns : goal.returns
+returns g c =
+    let lines : List ℕ → List (List ℕ) → List ℕ = λ name texts. c.args.out.now.items ++ flat_map (λ text. name ++ 9 ∷ text ++ 10 ∷ []) texts in
+    let items : Vec ℕ Global → List ℕ = λ text. text.items in
+    c.loop-value.invariant
+    ∙ ap (lines c.in_ok-name.name.items)
+    (ap (map items) (take_all c.loop-value.value-index c.deref-value-items.result.now c.loop-value-test.false ∙ c.deref-value-items.ensures.value) ∙ c.in_ok-reduce.ensures)
+    ∙ ap (λ name. lines name (g.J.Job.functions.reduced c.args.key.now c.args.values.now)) c.in_ok-name.ensures

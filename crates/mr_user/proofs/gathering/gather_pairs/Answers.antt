@@ -4,8 +4,22 @@ use Rattle.std.proofs.lemmas.Iterator.Consumers.{YieldsList-end}
 use Rattle.std.proofs.lemmas.List.{length-set, map-id}
 use Rattle.mr_user.specs.Computation.{computation}
 use Rattle.mr_user.specs.inner.Gathered.{IsGathered}
-use Rattle.mr_user.proofs.Putting.{gathered_more, gathered_then}
+use Rattle.mr_user.proofs.Putting.{gathered_more, gathered_none, gathered_then}
 use Rattle.mr_user.proofs.gathering.gather_pairs.Goals as goal
+
+pub loop-key-init : goal.loop-key-init
+loop-key-init g c =
+    let all = computation g.J.Key.Ord.cmp g.J.Key.Wire.codec g.J.Value.Wire.codec g.J.Job.functions in
+    record {
+      many = c.requires.many;
+      gathered = λ done h. gathered_none all g.met.J.Key.Ord.total g.met.J.Job.laws.same_key c.args.reduces c.args.parts.now.items done h;
+    }
+
+pub partition-reduce-requires : goal.partition-reduce-requires
+partition-reduce-requires g c = c.requires.some
+
+pub returns-clause-many : goal.returns-clause-many
+returns-clause-many g c = c.loop-key.invariant.many
 
 pub loop-key-preserved : goal.loop-key-preserved
 loop-key-preserved g c =
