@@ -1,4 +1,5 @@
 pub mod Cuts
+pub mod Giving
 pub mod Keeping
 pub mod Outputs
 pub mod Placing

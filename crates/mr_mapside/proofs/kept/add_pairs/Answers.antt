@@ -1,4 +1,4 @@
-use Rattle.std.proofs.Common.{◌∙◌, ◌++◌, ◌∷◌, [], List, sym, ap, subst}
+use Rattle.std.proofs.Common.{◌∙◌, ◌++◌, ◌∷◌, [], List, sym, ap, subst, append-nil}
 use Rattle.std.proofs.lemmas.Iterator.Adapters.{YieldsList-from_vec}
 use Rattle.std.proofs.lemmas.Iterator.Consumers.{YieldsList-end}
 use Rattle.std.proofs.lemmas.List.{map-id}
@@ -6,6 +6,32 @@ use Rattle.mr_user.specs.Computation.{computation}
 use Rattle.mr_mapside.specs.inner.Kept.{Kept}
 use Rattle.mr_mapside.proofs.Keeping.{pair_more}
 use Rattle.mr_mapside.proofs.kept.add_pairs.Goals as goal
+
+pub loop-pair-init : goal.loop-pair-init
+loop-pair-init g c =
+    let all = computation g.J.Key.Ord.cmp g.J.Key.Wire.codec g.J.Value.Wire.codec g.J.Job.functions in
+    record {
+      many = c.requires.many;
+      kept = λ done h. subst (Kept all c.args.reduces c.args.kept.now.items c.args.run.now.items) (sym (append-nil done)) h;
+    }
+
+pub keep_run-requires-clause-some : goal.keep_run-requires-clause-some
+keep_run-requires-clause-some g c = c.requires.some
+
+pub keep_run-requires-clause-many : goal.keep_run-requires-clause-many
+keep_run-requires-clause-many g c = c.loop-pair.invariant.many
+
+pub returns-in_err-push-clause-many : goal.returns-in_err-push-clause-many
+returns-in_err-push-clause-many g c = c.loop-pair.invariant.many
+
+pub returns-in_err-room-clause-many : goal.returns-in_err-room-clause-many
+returns-in_err-room-clause-many g c = c.loop-pair.invariant.many
+
+pub returns-in_err-keep_run-clause-many : goal.returns-in_err-keep_run-clause-many
+returns-in_err-keep_run-clause-many g c = c.in_err-keep_run.ensures.many
+
+pub returns-clause-many : goal.returns-clause-many
+returns-clause-many g c = c.loop-pair.invariant.many
 
 pub loop-pair-preserved : goal.loop-pair-preserved
 loop-pair-preserved g c =

@@ -19,6 +19,21 @@ loop-r-init g c =
       kept = λ done h. upto_none all g.met.J.Key.Wire.laws g.met.J.Value.Wire.laws g.met.J.Key.Ord.total g.met.J.Job.laws.same_key c.args.reduces c.args.kept.now.items c.args.run.items done h;
     }
 
+pub shares-requires : goal.shares-requires
+shares-requires g c = c.requires.some
+
+pub returns-in_err-sort_pairs-clause-many : goal.returns-in_err-sort_pairs-clause-many
+returns-in_err-sort_pairs-clause-many g c = c.loop-r.invariant.many
+
+pub returns-in_err-bytes-clause-many : goal.returns-in_err-bytes-clause-many
+returns-in_err-bytes-clause-many g c = c.loop-r.invariant.many
+
+pub returns-in_err-add-clause-many : goal.returns-in_err-add-clause-many
+returns-in_err-add-clause-many g c = length-set c.loop-r.kept.items c.loop-r.r c.add.new.self ∙ c.loop-r.invariant.many
+
+pub returns-clause-many : goal.returns-clause-many
+returns-clause-many g c = c.loop-r.invariant.many
+
 pub loop-r-preserved : goal.loop-r-preserved
 loop-r-preserved g c =
     let all = computation g.J.Key.Ord.cmp g.J.Key.Wire.codec g.J.Value.Wire.codec g.J.Job.functions in
