@@ -1,8 +1,12 @@
--- One text more, behind a separator where texts stand before it.
+-- One item more of a list, and one text more, behind a separator where texts stand before it.
 use Rattle.std.proofs.Common.{◌≡◌, ℕ, zero, suc, eqb, true, false, ◌+◌, ◌<◌, List, [], ◌∷◌, ◌++◌, map, take, length, get_or, refl, ap, ◌∙◌, sym, arith, append_assoc}
 use Rattle.std.specs.List.{join_with_byte}
 use Rattle.std.proofs.lemmas.List.{length-append, map_push, take_more}
 use Rattle.std.proofs.lemmas.Bool.{eqb-true}
+
+-- one item more is mapped
+pub mapped_more : {A B : Type 0} (f : A → B) (was now : List B) (xs : List A) (x : A) → was ≡ map f xs → now ≡ was ++ f x ∷ [] → now ≡ map f (xs ++ x ∷ [])
+mapped_more f was now xs x so_far is = is ∙ ap (λ ys. ys ++ f x ∷ []) so_far ∙ sym (map_push f xs x)
 
 positive : (n : ℕ) → eqb n 0 ≡ false → 0 < n
 positive zero h = cc
