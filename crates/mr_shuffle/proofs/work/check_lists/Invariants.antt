@@ -1,4 +1,4 @@
-use Rattle.std.proofs.Common.{◌≡◌, ℕ, List, Bor, drop}
+use Rattle.std.proofs.Common.{◌≡◌, drop}
 use Rattle.std.specs.Result.{result_err}
 use Rattle.mr_user.specs.Computation.{computation}
 use Rattle.mr_shuffle.specs.Part.{pairs_of_pieces}

@@ -1,8 +1,7 @@
-use Rattle.std.proofs.Common.{◌≡◌, ℕ, List, Bor, ◌∙◌, map, None, Ok, ap, sym, subst}
+use Rattle.std.proofs.Common.{◌≡◌, ℕ, List, Bor, ◌∙◌, None, Ok, ap, sym, subst}
 use Rattle.std.specs.Result.{result_err}
 use Rattle.mr_user.specs.Computation.{computation}
 use Rattle.mr_user.specs.Groups.{groups_of}
-use Rattle.mr_mapside.specs.Runs.{AreRuns, merged}
 use Rattle.mr_shuffle.specs.Part.{result_map, pairs_of_pieces}
 use Rattle.mr_shuffle.proofs.AllPieces.{lent}
 use Rattle.mr_shuffle.proofs.Opening.{opened}

@@ -3,9 +3,7 @@ use Rattle.std.specs.Prelude.{⊤}
 use Rattle.std.proofs.lemmas.Result.{IfOk-weaker}
 use Rattle.mr_user.specs.Computation.{computation}
 use Rattle.mr_user.specs.Groups.{groups_of}
-use Rattle.mr_user.specs.Sequential.{key_lines}
-use Rattle.std.specs.List.{flat_map}
-use Rattle.mr_shuffle.specs.Part.{result_map, pairs_of_all, part}
+use Rattle.mr_shuffle.specs.Part.{result_map, pairs_of_all}
 use Rattle.mr_shuffle.proofs.AllPieces.{err_weaker, full_fault}
 use Rattle.mr_shuffle.proofs.Opening.{part_from_groups}
 use Rattle.mr_shuffle.proofs.work.reduce_bytes.Goals as goal
