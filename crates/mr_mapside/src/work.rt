@@ -112,11 +112,18 @@ fn spell_group<J: Job>(
     ensures { let all = computation J.Key.cmp J.Key.codec J.Value.codec J.functions in
         OnOk result (out.new.items ≡ out.old.items ++ spelled all (combined_group all (key.now, values.now))) }
 {
-    name.clear();
-    key.write(name)?;
+    write_name(key, name)?;
     for value in &job.combine(alloc, key, values)? {
         out.extend_from_slice(name)?;
         value.write(out)?;
     }
     Ok(())
+}
+
+// Writes a key over what stood there.
+fn write_name<K: Wire>(key: &K, name: &mut Vec<u8>) -> Result<(), AllocError>
+    ensures { OnOk result (name.new.items ≡ K.codec.written key.now) }
+{
+    name.clear();
+    key.write(name)
 }

@@ -1,5 +1,5 @@
 use Rattle.std.proofs.Common.{ap, map, Bor, List, Vec, Global, ℕ}
-use Rattle.mr_user.proofs.Lending.{lent_more, lent_all}
+use Rattle.mr_user.proofs.Lending.{lent_more}
 use Rattle.mr_mapside.proofs.kept.lent_runs.Goals as goal
 
 pub loop-run-init : goal.loop-run-init
@@ -9,6 +9,3 @@ pub loop-run-preserved : goal.loop-run-preserved
 loop-run-preserved c =
     lent_more (λ (bytes : Bor (List ℕ)). bytes.now) (λ (run : Vec ℕ Global). run.items) c.loop-run.lists.items c.push.new.self.items c.as_slice.result c.args.runs.now
     c.loop-run.run-index c.run-item.result c.loop-run-test.true c.run-item.is c.loop-run.invariant c.in_ok-push.ensures.items c.as_slice.ensures.value
-
-pub returns : goal.returns
-returns c = lent_all (λ (bytes : Bor (List ℕ)). bytes.now) (λ (run : Vec ℕ Global). run.items) c.loop-run.lists.items c.args.runs.now c.loop-run.run-index c.loop-run-test.false c.loop-run.invariant

@@ -68,6 +68,15 @@ loop-values-init g c =
       given = first_given all c.in-Some.front.0.key lists c.in-Some.front.0.value ran.vs _ _ _ ran.passes ran.more c.in_ok-values.ensures;
     }
 
+pub take_tied-requires-clause-holds : goal.take_tied-requires-clause-holds
+take_tied-requires-clause-holds g c = c.loop-values.invariant.holds
+
+pub take_tied-requires-clause-least : goal.take_tied-requires-clause-least
+take_tied-requires-clause-least g c = c.loop-values.invariant.least
+
+pub returns-clause-holds : goal.returns-clause-holds
+returns-clause-holds g c = c.in_ok-take_tied.ensures.holds
+
 pub loop-values-preserved : goal.loop-values-preserved
 loop-values-preserved g c =
     let all = computation g.J.Key.Ord.cmp g.J.Key.Wire.codec g.J.Value.Wire.codec g.J.Job.functions in

@@ -6,6 +6,21 @@ use Rattle.mr_user.specs.Computation.{computation}
 use Rattle.mr_mapside.proofs.RunSteps.{at_less, not_at_less, place_there, pair_fits, pairs_then, run_then, tied_key, none_left, no_length, without_top}
 use Rattle.mr_mapside.proofs.merging.take_tied.Goals as goal
 
+pub returns-then-eq-clause-holds : goal.returns-then-eq-clause-holds
+returns-then-eq-clause-holds g c = c.requires.holds
+
+pub returns-then-eq-clause-least : goal.returns-then-eq-clause-least
+returns-then-eq-clause-least g c = c.requires.least
+
+pub returns-in-None-clause-holds : goal.returns-in-None-clause-holds
+returns-in-None-clause-holds g c = c.requires.holds
+
+pub returns-in-None-clause-least : goal.returns-in-None-clause-least
+returns-in-None-clause-least g c = c.requires.least
+
+pub take_run-requires-clause-name : goal.take_run-requires-clause-name
+take_run-requires-clause-name g c = c.requires.name
+
 pub returns-then-eq-clause-takes : goal.returns-then-eq-clause-takes
 returns-then-eq-clause-takes g c =
     let all = computation g.J.Key.Ord.cmp g.J.Key.Wire.codec g.J.Value.Wire.codec g.J.Job.functions in

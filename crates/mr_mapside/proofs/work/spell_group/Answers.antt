@@ -1,5 +1,5 @@
 use Rattle.std.proofs.Common.{◌≡◌, ◌∙◌, ◌<◌, ◌+◌, ◌++◌, ◌∷◌, [], ℕ, List, length, map, take, get_or, sym, ap, append-nil, append_assoc}
-use Rattle.std.proofs.lemmas.List.{flat_map_more, map-append, take_all, take_more}
+use Rattle.std.proofs.lemmas.List.{flat_map_more, map-append, take_more}
 use Rattle.mr_user.specs.Computation.{Computation, computation}
 use Rattle.mr_mapside.specs.Block.{spelled_pair, spelled}
 use Rattle.mr_mapside.proofs.work.spell_group.Goals as goal
@@ -17,25 +17,14 @@ value_more {K} {V} job k vs i v begun was named now name within at so_far more i
     ∙ ap (λ ps. begun ++ spelled job ps) (sym (map-append of (take i vs) (v ∷ [])))
     ∙ ap (λ ws. begun ++ spelled job (map of ws)) (sym (take_more vs i v within ∙ ap (λ w. take i vs ++ w ∷ []) (sym at)))
 
-pub combine-requires : goal.combine-requires
-combine-requires g c = c.requires
-
 pub loop-value-init : goal.loop-value-init
 loop-value-init g c = sym (append-nil c.args.out.now.items)
 
 pub loop-value-preserved : goal.loop-value-preserved
 loop-value-preserved g c =
     let all = computation g.J.Key.Ord.cmp g.J.Key.Wire.codec g.J.Value.Wire.codec g.J.Job.functions in
-    let name = c.write.new.out.items in
-    value_more all c.args.key.now c.deref-value-items.result.now c.loop-value.value-index c.value-item.result c.args.out.now.items c.loop-value.out.items c.extend_from_slice.new.self.items c.write-in-loop-value.new.out.items name
+    value_more all c.args.key.now c.deref-value-items.result.now c.loop-value.value-index c.value-item.result c.args.out.now.items c.loop-value.out.items c.extend_from_slice.new.self.items c.write.new.out.items c.write_name.new.name.items
     c.loop-value-test.true c.value-item.is c.loop-value.invariant
     (c.in_ok-extend_from_slice.ensures.items ∙ ap (λ bytes. c.loop-value.out.items ++ bytes) c.deref.ensures.value)
-    (c.in_ok-write.ensures.ok ∙ ap (λ bytes. bytes ++ all.key.written c.args.key.now) c.clear.ensures.items)
-    c.in_ok-write-2.ensures.ok
-
-pub returns : goal.returns
-returns g c =
-    let all = computation g.J.Key.Ord.cmp g.J.Key.Wire.codec g.J.Value.Wire.codec g.J.Job.functions in
-    c.loop-value.invariant
-    ∙ ap (λ (vs : List g.row.J-Value.Denot). c.args.out.now.items ++ spelled all (map (λ (v : g.row.J-Value.Denot). (c.args.key.now, v)) vs))
-    (take_all c.loop-value.value-index c.deref-value-items.result.now c.loop-value-test.false ∙ c.deref-value-items.ensures.value ∙ c.in_ok-combine.ensures)
+    c.in_ok-write_name.ensures
+    c.in_ok-write.ensures.ok
