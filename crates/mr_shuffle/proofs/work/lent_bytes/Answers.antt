@@ -1,5 +1,5 @@
 use Rattle.std.proofs.Common.{ap, map, Bor, List, ℕ}
-use Rattle.mr_user.proofs.Lending.{lent_more, lent_all}
+use Rattle.mr_user.proofs.Lending.{lent_more}
 use Rattle.mr_shuffle.specs.declared.piece.Piece.{Piece}
 use Rattle.mr_shuffle.proofs.work.lent_bytes.Goals as goal
 
@@ -10,6 +10,3 @@ pub loop-part-preserved : goal.loop-part-preserved
 loop-part-preserved c =
     lent_more (λ (bytes : Bor (List ℕ)). bytes.now) (λ (part : Piece). part.bytes) c.loop-part.lists.items c.push.new.self.items c.as_slice.result c.args.parts.now
     c.loop-part.part-index c.part-item.result c.loop-part-test.true c.part-item.is c.loop-part.invariant c.in_ok-push.ensures.items c.as_slice.ensures
-
-pub returns : goal.returns
-returns c = lent_all (λ (bytes : Bor (List ℕ)). bytes.now) (λ (part : Piece). part.bytes) c.loop-part.lists.items c.args.parts.now c.loop-part.part-index c.loop-part-test.false c.loop-part.invariant
