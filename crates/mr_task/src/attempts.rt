@@ -30,9 +30,15 @@ impl Entry {
 }
 
 /// What is kept of each attempt.
-#[derive(Drop)]
 pub struct Attempts {
     entries: IndexMap<AttemptId, Entry>,
+}
+
+// By hand: they are dropped by this call.
+impl Drop for Attempts {
+    fn drop(self) {
+        let Attempts { entries: _ } = self;
+    }
 }
 
 impl Model for Attempts {
