@@ -12,9 +12,15 @@ use std::alloc::{AllocError, Global};
 use std::marker::Model;
 
 /// The first winner of each task that a list has one of.
-#[derive(Drop)]
 pub struct ByTask {
     map: IndexMap<TaskId, TaskWinner>,
+}
+
+// By hand: one is dropped by this call.
+impl Drop for ByTask {
+    fn drop(self) {
+        let ByTask { map: _ } = self;
+    }
 }
 
 impl Model for ByTask {

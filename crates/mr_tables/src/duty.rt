@@ -5,10 +5,16 @@ use mr_master_model::{DutyName, StoreCall};
 use std::marker::Model;
 
 /// A store call that a master has to make, and what it is for.
-#[derive(Drop)]
 pub struct Duty {
     name: DutyName,
     call: StoreCall,
+}
+
+// By hand: one is dropped by this call.
+impl Drop for Duty {
+    fn drop(self) {
+        let Duty { name: _, call: _ } = self;
+    }
 }
 
 impl Model for Duty {
@@ -45,6 +51,7 @@ impl Duty {
     pub fn into_call(self) -> StoreCall
         ensures { result ≡ self.call }
     {
-        self.call
+        let Duty { name: _, call } = self;
+        call
     }
 }

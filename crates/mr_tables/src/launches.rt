@@ -187,9 +187,15 @@ pub fn both(a: bool, b: bool) -> bool
     a && b
 }
 
-#[derive(Drop)]
 struct Entries {
     map: IndexMap<AttemptId, Launch>,
+}
+
+// By hand: one is dropped by this call.
+impl Drop for Entries {
+    fn drop(self) {
+        let Entries { map: _ } = self;
+    }
 }
 
 impl Model for Entries {

@@ -7,12 +7,18 @@ use std::alloc::{AllocError, Global};
 use std::marker::Model;
 
 /// Places, some of which are marked.
-#[derive(Drop)]
 pub struct Marks {
     // a node is marked where one of its two children is: the root is node 1, and the last nodes are the places
     tree: Vec<bool>,
     // how many times 2 is taken for the number of places
     height: usize,
+}
+
+// By hand: one is dropped by this call.
+impl Drop for Marks {
+    fn drop(self) {
+        let Marks { tree: _, height: _ } = self;
+    }
 }
 
 impl Model for Marks {

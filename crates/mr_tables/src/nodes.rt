@@ -7,9 +7,15 @@ use std::alloc::{AllocError, Global};
 use std::marker::Model;
 
 /// The known incarnations. That of a node of which none was noted is 1.
-#[derive(Drop)]
 pub struct Nodes {
     known: IndexMap<u32, u32>,
+}
+
+// By hand: one is dropped by this call.
+impl Drop for Nodes {
+    fn drop(self) {
+        let Nodes { known: _ } = self;
+    }
 }
 
 impl Model for Nodes {

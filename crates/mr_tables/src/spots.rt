@@ -19,10 +19,19 @@ pub struct Spot {
 }
 
 /// The spots of maps, and those of reduces.
-#[derive(Drop)]
 pub struct Spread {
     maps: BTreeSet<Spot>,
     reduces: BTreeSet<Spot>,
+}
+
+// By hand: one is dropped by this call.
+impl Drop for Spread {
+    fn drop(self) {
+        let Spread {
+            maps: _,
+            reduces: _,
+        } = self;
+    }
 }
 
 impl Model for Spread {

@@ -18,9 +18,15 @@ use std::marker::Model;
 pub type Success = (AttemptId, u32, u32);
 
 /// Where the outputs of attempts lie: the node and its incarnation.
-#[derive(Drop)]
 pub struct Places {
     map: IndexMap<AttemptId, (u32, u32)>,
+}
+
+// By hand: one is dropped by this call.
+impl Drop for Places {
+    fn drop(self) {
+        let Places { map: _ } = self;
+    }
 }
 
 impl Model for Places {
@@ -82,9 +88,15 @@ impl Places {
 }
 
 /// The newest success of each map that has one.
-#[derive(Drop)]
 pub struct Newest {
     map: IndexMap<TaskId, Success>,
+}
+
+// By hand: one is dropped by this call.
+impl Drop for Newest {
+    fn drop(self) {
+        let Newest { map: _ } = self;
+    }
 }
 
 impl Model for Newest {
