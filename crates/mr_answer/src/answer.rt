@@ -1,9 +1,10 @@
 //! What is prepared for the answer of the store call that is due, in each phase.
 //! Each kind of call has its file.
-ghost use Rattle.std.specs.Prelude.{IfOk};
+ghost use Rattle.std.specs.Prelude.{◌≡◌, false, IfOk};
 ghost use Rattle.std.specs.Option.{is_some};
 ghost use Rattle.mr_master_model.specs.Duty.{duty};
 ghost use Rattle.mr_master_model.specs.Past.{Answered};
+ghost use Rattle.mr_change.specs.mr_phase.specs.WorkKinds.{is_read};
 ghost use Rattle.mr_change.specs.State.{Reads};
 ghost use Rattle.mr_answer.specs.Answering.{IsDue};
 ghost use Rattle.mr_change.specs.Passing.{NoneLive};
@@ -35,8 +36,7 @@ pub fn ready_for(
     if !is_due {
         return Ok(Prepared::silent(master.alloc, Change::Nothing));
     }
-    let ready = ready_due(master, answer, passed)?;
-    Ok(ready)
+    ready_due(master, answer, passed)
 }
 
 // Whether a call is due.
@@ -48,29 +48,45 @@ fn is_due(master: &Machine, passed: usize) -> Result<bool, AllocError>
     Ok(due.is_some())
 }
 
+// A call is due. The answer of the reading hands on its records.
 fn ready_due(master: &Machine, answer: StoreAnswer, passed: usize) -> Result<Prepared, AllocError>
     requires due { IsDue master.now }
     requires none_live { NoneLive master.now passed }
     requires placed { IsPlaced master.now }
     ensures { IfOk result (λ ready. PlansDue master.now answer ready) }
 {
-    if master.work.is_look() {
-        return ready_look(master, &answer);
-    }
-    if master.work.is_tell() {
-        return ready_tell(master, &answer);
-    }
     if master.work.is_read() {
         return ready_read(master, answer);
+    }
+    ready_unread(master, &answer, passed)
+}
+
+// A call is due that is not the reading.
+fn ready_unread(
+    master: &Machine,
+    answer: &StoreAnswer,
+    passed: usize,
+) -> Result<Prepared, AllocError>
+    requires unread { is_read master.now.work ≡ false }
+    requires due { IsDue master.now }
+    requires none_live { NoneLive master.now passed }
+    requires placed { IsPlaced master.now }
+    ensures { IfOk result (λ ready. PlansDue master.now answer.now ready) }
+{
+    if master.work.is_look() {
+        return ready_look(master, answer);
+    }
+    if master.work.is_tell() {
+        return ready_tell(master, answer);
     }
     if master.work.is_step() {
         return ready_step(master, answer);
     }
     if let Some(is_stable) = master.work.fails() {
-        return ready_failing(master, is_stable, &answer);
+        return ready_failing(master, is_stable, answer);
     }
     if master.work.is_running() {
-        return ready_running(master, &answer, passed);
+        return ready_running(master, answer, passed);
     }
     Ok(Prepared::silent(master.alloc, Change::Nothing))
 }

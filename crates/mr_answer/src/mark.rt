@@ -18,8 +18,7 @@ pub fn ready_look(master: &Machine, answer: &StoreAnswer) -> Result<Prepared, Al
     requires { is_look master.now.work ≡ true }
     ensures { IfOk result (λ ready. PlansDue master.now answer.now ready) }
 {
-    let ready = becoming(master, master.work.look(answer))?;
-    Ok(ready)
+    becoming(master, master.work.look(answer))
 }
 
 // The creation of a mark, or the abort after COMMIT_FAIL, is answered.
@@ -27,8 +26,7 @@ pub fn ready_tell(master: &Machine, answer: &StoreAnswer) -> Result<Prepared, Al
     requires { is_tell master.now.work ≡ true }
     ensures { IfOk result (λ ready. PlansDue master.now answer.now ready) }
 {
-    let ready = becoming(master, master.work.told(answer))?;
-    Ok(ready)
+    becoming(master, master.work.told(answer))
 }
 
 // The work alone changes. Where the job ended with it, every node is told.

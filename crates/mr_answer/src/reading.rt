@@ -18,8 +18,8 @@ pub fn ready_read(master: &Machine, answer: StoreAnswer) -> Result<Prepared, All
     let Some(records) = records_in(answer) else {
         return Ok(Prepared::silent(master.alloc, Change::Becomes(Work::stopped())));
     };
-    let next = read_work(&master.setting, records.as_slice())?;
     let read = Earlier::of(master.alloc, records)?;
+    let next = read_work(&master.setting, read.as_slice())?;
     let earlier = Boxed::new(master.alloc, read)?;
     Ok(Prepared::silent(master.alloc, Change::HasRead(earlier, next)))
 }

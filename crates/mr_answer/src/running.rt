@@ -28,12 +28,10 @@ pub fn ready_running(
     ensures { IfOk result (λ ready. PlansDue master.now answer.now ready) }
 {
     if !is_fine(answer) {
-        let ready = becoming(master, Work::stopped())?;
-        return Ok(ready);
+        return becoming(master, Work::stopped());
     }
     if let Some(attempt) = master.first_bar(passed) {
-        let ready = ready_bar(master, attempt)?;
-        return Ok(ready);
+        return ready_bar(master, attempt);
     }
     if let Some(appends) = master.writing.next() {
         if appends {
@@ -43,8 +41,7 @@ pub fn ready_running(
         return Ok(Prepared::new(packets, Change::Flushes(Work::running())));
     }
     let work = Work::commits(&master.setting)?;
-    let ready = becoming(master, work)?;
-    Ok(ready)
+    becoming(master, work)
 }
 
 // The attempt is barred: it will end, and its container is asked to stop.

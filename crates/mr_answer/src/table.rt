@@ -20,22 +20,16 @@ use mr_recover::TaskWinner;
 use std::alloc::AllocError;
 
 // A call of a committer's table is answered. Where calls are left, what changes are the lines that follow alone.
-pub fn ready_step(master: &Machine, answer: StoreAnswer) -> Result<Prepared, AllocError>
+pub fn ready_step(master: &Machine, answer: &StoreAnswer) -> Result<Prepared, AllocError>
     requires step { is_step master.now.work ≡ true }
     requires placed { IsPlaced master.now }
-    ensures { IfOk result (λ ready. PlansDue master.now answer ready) }
+    ensures { IfOk result (λ ready. PlansDue master.now answer.now ready) }
 {
-    let coming = master.work.follow(&answer)?;
+    let coming = master.work.follow(answer)?;
     match coming {
         Coming::More(following) => Ok(Prepared::silent(master.alloc, Change::GoesOn(following))),
-        Coming::Finished => {
-            let finished = ready_finished(master)?;
-            Ok(finished)
-        }
-        Coming::Refused => {
-            let refused = becoming(master, master.work.refused(&answer))?;
-            Ok(refused)
-        }
+        Coming::Finished => ready_finished(master),
+        Coming::Refused => becoming(master, master.work.refused(answer)),
     }
 }
 
@@ -48,15 +42,12 @@ fn ready_finished(master: &Machine) -> Result<Prepared, AllocError>
 {
     let next = next_work(master)?;
     if next.is_running() {
-        let ready = ready_start(master, next)?;
-        return Ok(ready);
+        return ready_start(master, next);
     }
     let Some(winner) = master.work.winner() else {
-        let ready = becoming(master, next)?;
-        return Ok(ready);
+        return becoming(master, next);
     };
-    let ready = ready_winner(master, &winner, next)?;
-    Ok(ready)
+    ready_winner(master, &winner, next)
 }
 
 // The master will run: the reduce that was taken over last is entered, and the maps are.

@@ -1,5 +1,6 @@
 use Rattle.std.proofs.Common.{sym, ◌∙◌}
-use Rattle.mr_change.proofs.Made.{due-plan, idle-plan}
+use Rattle.mr_change.proofs.Made.{idle-plan}
+use Rattle.mr_answer.proofs.Handed.{due-handed}
 use Rattle.mr_answer.proofs.answer.ready_for.Goals as goal
 
 pub returns-then-not-is_due : goal.returns-then-not-is_due
@@ -9,4 +10,4 @@ pub ready_due-requires-clause-due : goal.ready_due-requires-clause-due
 ready_due-requires-clause-due c = λ w s k. sym (c.in_ok-is_due.ensures w s k) ∙ c.if-not-is_due.false
 
 pub returns : goal.returns
-returns c = due-plan c.args.answer (λ w s k. sym (c.in_ok-is_due.ensures w s k) ∙ c.if-not-is_due.false) c.in_ok-ready.ensures
+returns c = due-handed c.ready_due.result c.args.answer (λ w s k. sym (c.in_ok-is_due.ensures w s k) ∙ c.if-not-is_due.false) c.ready_due.ensures

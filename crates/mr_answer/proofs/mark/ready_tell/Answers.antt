@@ -7,18 +7,18 @@ use Rattle.mr_master_model.specs.Sends.{outcome_of}
 use Rattle.mr_change.specs.mr_phase.specs.WorkKinds.{is_tell}
 use Rattle.mr_change.specs.State.{Master, Keeps}
 use Rattle.mr_change.proofs.Keeping.{held}
-use Rattle.mr_change.proofs.Made.{plans-as}
+use Rattle.mr_answer.proofs.Handed.{handed-as}
 use Rattle.mr_change.specs.mr_phase.proofs.Replies.{quiet-seen, quiet-sends, tell-changes}
 use Rattle.mr_answer.proofs.mark.ready_tell.Goals as goal
 
-work-is : (c : goal.In_ok-ready) (w : Setting) (s : Seen) → Keeps c.args.master.now w s → c.told.result ≡ work_after w s c.args.answer.now s.work
+work-is : (c : goal.After-becoming) (w : Setting) (s : Seen) → Keeps c.args.master.now w s → c.told.result ≡ work_after w s c.args.answer.now s.work
 work-is c w s keeps =
     c.told.ensures.moved w s (ap (λ (m : Master). is_tell m.work) c.master.view_is ∙ c.requires) ∙ ap (λ (x : Work). work_after w s c.args.answer.now x) (held c.master.view_is keeps).work
 
 pub returns : goal.returns
 returns c =
-    plans-as
+    handed-as c.becoming.result
     (λ w s keeps. quiet-sends w s c.args.answer.now c.told.result (outcome_of w c.told.result) (tell-changes w s c.args.answer.now s.work (ap (λ (x : Work). is_tell x) (sym keeps.work) ∙ c.requires)).1 (work-is c w s keeps) refl)
     (λ w s keeps. quiet-seen w s c.args.answer.now c.told.result (tell-changes w s c.args.answer.now s.work (ap (λ (x : Work). is_tell x) (sym keeps.work) ∙ c.requires)).0 (work-is c w s keeps)
     (c.told.ensures.quiet (ap (λ (m : Master). is_tell m.work) c.master.view_is ∙ c.requires)))
-    c.in_ok-ready.ensures
+    c.becoming.ensures

@@ -19,7 +19,7 @@ returns c =
     let rs = c.in-Some.records in
     let e = sym keeps.work ∙ read-is _ c.requires in
     let a = told-is c.args.answer rs (sym c.in-Some.is ∙ c.records_in.ensures) in
-    let next : c.in_ok-next.next ≡ read_by w (answer.Told rs) = c.in_ok-next.ensures ∙ (λ i. if list_any is_unsuccessful (c.as_slice.ensures i) then Fails true else SetsUp (setup_job (k.setting i).layout.dest (k.setting i).app)) in
+    let next : c.in_ok-next.next ≡ read_by w (answer.Told rs) = c.in_ok-next.ensures ∙ (λ i. if list_any is_unsuccessful ((c.as_slice.ensures ∙ c.in_ok-read.ensures) i) then Fails true else SetsUp (setup_job (k.setting i).layout.dest (k.setting i).app)) in
     (λ i. record s { earlier = (c.in_ok-earlier.ensures ∙ c.in_ok-read.ensures) i; work = next i }) ∙ ap (λ (x : StoreAnswer). record (with_earlier s x) { work = read_by w x }) a ∙ read-seen w s c.args.answer e)
 
 pub returns-in_default : goal.returns-in_default

@@ -14,21 +14,22 @@ use Rattle.mr_change.specs.declared.change.Change.TheVariants as change
 use Rattle.mr_change.specs.mr_tables.specs.Records.{written_by}
 use Rattle.mr_change.specs.State.{Keeps}
 use Rattle.mr_change.proofs.Keeping.{held}
-use Rattle.mr_change.proofs.Made.{plans-as, plan-as}
+use Rattle.mr_change.proofs.Made.{plan-as}
+use Rattle.mr_answer.proofs.Handed.{handed-as}
 use Rattle.mr_change.specs.mr_phase.proofs.Replies.{runs-stop, runs-seen, runs-sends, runs-on, due-runs, name-bar, name-start, name-record, recorded-work, moved-work, found-passes}
 use Rattle.mr_change.proofs.Dying.{live-of-job, death-is}
 use Rattle.mr_answer.proofs.running.ready_running.Goals as goal
 
 pub returns-then-not-is_fine : goal.returns-then-not-is_fine
 returns-then-not-is_fine c =
-    plans-as
+    handed-as c.becoming.result
     (λ w s keeps. ap (λ (x : Work). outcome_of w x) c.stopped.ensures ∙ (runs-stop w s c.args.answer.now (sym keeps.work ∙ c.requires.runs) (sym c.is_fine.ensures ∙ c.if-not-is_fine.true)).1)
     (λ w s keeps. (λ i. record s { work = c.stopped.ensures i }) ∙ (runs-stop w s c.args.answer.now (sym keeps.work ∙ c.requires.runs) (sym c.is_fine.ensures ∙ c.if-not-is_fine.true)).0)
-    c.in_ok-ready.ensures
+    c.becoming.ensures
 
 pub returns-in-Some : goal.returns-in-Some
 returns-in-Some c =
-    plans-as
+    handed-as c.ready_bar.result
     (λ w s keeps.
     let e = sym keeps.work ∙ c.requires.runs in
     let found = c.in-Some.ensures w s keeps in
@@ -39,7 +40,7 @@ returns-in-Some c =
     let t : Seen = tell s a.task (Dies a) in
     death-is w s a (live-of-job _ w s a keeps (found-passes (is_live w s) s.bars a found))
     ∙ runs-on w s c.args.answer.now (Some name.Bar) t e fine (due-runs w s (Some name.Bar) e (name-bar w s a found)) (ap (λ (o : Option Attempt). after_bar s o) found) e refl)
-    c.in_ok-ready-2.ensures
+    c.ready_bar.ensures
   where
     a : Attempt
     a = c.in-Some.attempt
@@ -81,12 +82,12 @@ returns-in-Some-next c =
 
 pub returns : goal.returns
 returns c =
-    plans-as
+    handed-as c.becoming-2.result
     (λ w s keeps. ap (λ (x : Work). outcome_of w x) (starts w s keeps) ∙ runs-sends w s c.args.answer.now (Some name.Started) [] (sym keeps.work ∙ c.requires.runs) fine (due w s keeps) refl refl)
     (λ w s keeps.
     let e = sym keeps.work ∙ c.requires.runs in
     (λ i. record s { work = starts w s keeps i }) ∙ runs-seen w s c.args.answer.now (Some name.Started) s e fine (due w s keeps) refl e)
-    c.in_ok-ready-3.ensures
+    c.becoming-2.ensures
   where
     fine : is_fine c.args.answer.now ≡ true
     fine = sym c.is_fine.ensures ∙ c.if-not-is_fine.false

@@ -6,16 +6,16 @@ use Rattle.mr_change.specs.mr_phase.specs.Taking.{winner_of, after_table}
 use Rattle.mr_change.specs.mr_phase.specs.WorkKinds.{is_step, finished_by, others_of, with_others}
 use Rattle.mr_change.specs.State.{Keeps}
 use Rattle.mr_change.proofs.Keeping.{held}
-use Rattle.mr_change.proofs.Made.{plans-as}
+use Rattle.mr_answer.proofs.Handed.{handed-as}
 use Rattle.mr_change.specs.mr_phase.proofs.Steps.{nobody-told, nobody-enters, nobody-left, runs-whole, Joined, joined}
 use Rattle.mr_answer.proofs.table.ready_finished.Goals as goal
 
 pub returns-then-is_running : goal.returns-then-is_running
 returns-then-is_running c =
-    plans-as
+    handed-as c.ready_start.result
     (λ w s keeps. refl)
     (λ w s keeps. λ i. record s { calls = (after_table w s (winner_of s.work) (is_running (next w s keeps i))).calls; work = next w s keeps i })
-    c.in_ok-ready.ensures
+    c.ready_start.ensures
   where
     next : (w : Setting) (s : Seen) → Keeps c.args.master.now w s → c.in_ok-next.next ≡ finished_by w s s.work
     next w s keeps =
@@ -24,13 +24,13 @@ returns-then-is_running c =
 
 pub returns : goal.returns
 returns c =
-    plans-as
+    handed-as c.ready_winner.result
     (λ w s keeps. refl)
     (λ w s keeps. λ i. record s {
       calls = (after_table w s (winner_of s.work) ((all w s keeps).rests i)).calls;
       work = (ap (λ (x : Work). with_others x (drop 1 (others_of s.work))) (c.in_ok-next.ensures w s keeps) ∙ (all w s keeps).whole) i;
     })
-    c.in_ok-ready-3.ensures
+    c.ready_winner.ensures
   where
     all : (w : Setting) (s : Seen) → Keeps c.args.master.now w s → Joined w s s.work
     all w s keeps =
@@ -40,10 +40,10 @@ returns c =
 
 pub returns-in_default : goal.returns-in_default
 returns-in_default c =
-    plans-as
+    handed-as c.becoming.result
     (λ w s keeps. nobody-told w s c.in_ok-next.next (steps w s keeps) (none w s keeps) (next w s keeps))
     (λ w s keeps. nobody-enters w s c.in_ok-next.next (none w s keeps) (sym c.is_running.ensures ∙ c.if-is_running.false) (next w s keeps))
-    c.in_ok-ready-2.ensures
+    c.becoming.ensures
   where
     steps : (w : Setting) (s : Seen) → Keeps c.args.master.now w s → is_step s.work ≡ true
     steps w s keeps = ap (λ (x : Work). is_step x) (sym keeps.work) ∙ c.requires.step
