@@ -1,8 +1,8 @@
 -- A list that a loop gathers, item by item.
-use Rattle.std.proofs.Common.{ℕ, ◌+◌, ◌<◌, ◌≤◌, length, take, add-one, append-nil, append_assoc, ◌≡◌, refl, sym, ap, ◌∙◌, Bool, true, false, List, [], ◌∷◌, ◌++◌, filter, cond}
+use Rattle.std.proofs.Common.{ℕ, ◌+◌, ◌<◌, ◌≤◌, length, take, get_or, add-one, append-nil, append_assoc, ◌≡◌, refl, sym, ap, ◌∙◌, Bool, true, false, List, [], ◌∷◌, ◌++◌, filter, cond}
 use Rattle.std.specs.List.{flat_map}
 use Rattle.std.proofs.lemmas.Grind.{flat_map-append}
-use Rattle.std.proofs.lemmas.List.{take_all}
+use Rattle.std.proofs.lemmas.List.{take_all, take_more}
 use Rattle.mr_ids.specs.Attempt.{Attempt}
 use Rattle.mr_ids.specs.declared.id.TaskId.{TaskId}
 use Rattle.mr_ids.specs.declared.id.TaskKind.{TaskKind}
@@ -31,6 +31,24 @@ singles p (x ∷ xs) = by (p x) (singles p xs)
     by : (b : Bool) → flat_map (λ x. cond (p x) (x ∷ []) []) xs ≡ filter p xs → cond b (x ∷ []) [] ++ flat_map (λ x. cond (p x) (x ∷ []) []) xs ≡ cond b (x ∷ filter p xs) (filter p xs)
     by true rest = ap (λ ys. x ∷ ys) rest
     by false rest = rest
+
+-- ---- of the items of a list
+
+-- none yet
+pub no-item : {X Y : Type 0} (f : X → List Y) (xs : List X) (old : List Y) → old ≡ old ++ flat_map f (take 0 xs)
+no-item f xs old = sym (append-nil old)
+
+-- one more
+pub next-item : {X Y : Type 0} (f : X → List Y) (xs : List X) (i : ℕ) (x : X) (old mid new : List Y) → i < length xs → x ≡ get_or xs i x
+    → mid ≡ old ++ flat_map f (take i xs) → new ≡ mid ++ f x → new ≡ old ++ flat_map f (take (i + 1) xs)
+next-item {X} {Y} f xs i x old mid new within is before now =
+    now
+    ∙ ap (λ (l : List Y). l ++ f x) before
+    ∙ append_assoc old (flat_map f (take i xs)) (f x)
+    ∙ ap (λ (l : List Y). old ++ l)
+    (ap (λ (l : List Y). flat_map f (take i xs) ++ l) (sym (append-nil (f x)))
+    ∙ sym (flat_map-append f (take i xs) (x ∷ []))
+    ∙ ap (λ (l : List X). flat_map f l) (ap (λ (y : X). take i xs ++ y ∷ []) is ∙ sym (take_more xs i x within)))
 
 -- ---- of one task
 
