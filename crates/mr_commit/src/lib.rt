@@ -93,6 +93,7 @@ mod line;
 mod recover;
 mod setup;
 mod step;
+mod takeover;
 mod task;
 
 pub use abort::{abort_job, abort_task};

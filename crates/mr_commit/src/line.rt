@@ -1,16 +1,17 @@
 //! One line of a committer's table: its namespace call, and the lines that take its place once that was answered. Here are the merge of directories and the
 //! search through earlier generations; a `Step` keeps such lines for each operation.
 ghost use Rattle.std.specs.Prelude.{◌≡◌, ◌<◌, [], ◌∷◌, ◌++◌, IfOk, IfErr, OnErr, Ok, Err, map, filter, length};
-ghost use Rattle.mr_commit.specs.Line.{replaced, answered, op_of, merging, merging_child, merging_task, is_task, passes_missing, before, older, sought, taking_over, measuring, measured, fault_at};
+ghost use Rattle.mr_commit.specs.Line.{replaced, answered, op_of, merging, merging_child, merging_task, is_task, passes_missing, before, older, sought, measured, fault_at, moves};
 ghost use Rattle.mr_commit.specs.Line.Line.{Does, Clears, Needs, Merges, MergesEach, MergesTasks, Seeks, Measures};
 ghost use Rattle.mr_commit.specs.Steps.{IsFault};
 ghost use Rattle.mr_commit.specs.inner.TableLine.{line_by, IsWhy};
 
 use crate::answer::{bytes_read, found, is_answer_to, listed};
 use crate::fault::CommitFault;
+use crate::takeover::taking_over;
 use mr_ids::{AppAttempt, TaskId};
 use mr_names::{Answer, Entry, Kind, NameFault, Op};
-use mr_paths::{Layout, Path, part_name};
+use mr_paths::{Layout, Path};
 use std::alloc::{AllocError, Global};
 use std::collections::LinkedList;
 use std::marker::Model;
@@ -161,6 +162,13 @@ impl TableLine {
         }
     }
 
+    /// What is at `from` is moved to `to`.
+    pub fn moves(from: Path, to: Path) -> TableLine
+        ensures { result ≡ moves from to }
+    {
+        TableLine::does(Op::Rename { from, to })
+    }
+
     /// What is at the path is deleted, and a missing path is accepted.
     pub fn clears(path: Path) -> TableLine
         ensures { result ≡ Clears path }
@@ -221,12 +229,12 @@ impl TableLine {
     ) -> Result<TableLine, AllocError>
         ensures { IfOk result (λ line. line ≡ Seeks layout.now.dest task bytes k j) }
     {
-        let op = Op::Exists(layout.committed(j, task)?);
-        let layout = layout.copy()?;
+        let own = layout.copy()?;
+        let op = Op::Exists(own.committed(j, task)?);
         Ok(TableLine {
             op,
             rule: Rule::Seek {
-                layout,
+                layout: own,
                 task,
                 bytes,
                 k,
@@ -360,29 +368,6 @@ pub fn seeking(
     Ok(LinkedList::from_array(layout.dest.allocator(), [line])?)
 }
 
-/// The lines by which what generation `j` committed of a task takes the place of what generation `k` committed.
-fn taking_over(
-    alloc: Global,
-    layout: &Layout,
-    task: TaskId,
-    bytes: Option<u32>,
-    k: AppAttempt,
-    j: AppAttempt,
-) -> Result<LinkedList<TableLine>, AllocError>
-    ensures { IfOk result (λ lines. lines ≡ taking_over layout.now.dest task bytes k j) }
-{
-    let from = layout.committed(j, task)?;
-    let to = layout.committed(k, task)?;
-    let mut lines = LinkedList::new(alloc);
-    if let Some(bytes) = bytes {
-        let part = from.child(part_name(alloc, task.number)?)?;
-        lines.push_back(TableLine::measures(part, bytes))?;
-    }
-    lines.push_back(TableLine::clears(to.copy()?))?;
-    lines.push_back(TableLine::does(Op::Rename { from, to }))?;
-    Ok(lines)
-}
-
 /// The lines of a merge, where what is at `to` is known.
 fn merging(
     alloc: Global,
@@ -393,19 +378,26 @@ fn merging(
 ) -> Result<LinkedList<TableLine>, AllocError>
     ensures { IfOk result (λ lines. lines ≡ merging taken from.now to.now there) }
 {
-    let mut lines = LinkedList::new(alloc);
     match (taken, there) {
-        (_, None) => {}
+        (_, None) => Ok(LinkedList::from_array(alloc, [moving(from, to)?])?),
         (Kind::Dir, Some(Kind::Dir)) => {
-            lines.push_back(TableLine::merges_each(from.copy()?, to.copy()?)?)?;
-            return Ok(lines);
+            let each = TableLine::merges_each(from.copy()?, to.copy()?)?;
+            Ok(LinkedList::from_array(alloc, [each])?)
         }
-        (_, Some(_)) => lines.push_back(TableLine::does(Op::Delete(to.copy()?)))?,
+        (_, Some(_)) => {
+            let deleted = TableLine::does(Op::Delete(to.copy()?));
+            Ok(LinkedList::from_array(alloc, [deleted, moving(from, to)?])?)
+        }
     }
+}
+
+/// The line that moves what is at `from` to `to`.
+fn moving(from: &Path, to: &Path) -> Result<TableLine, AllocError>
+    ensures { IfOk result (λ line. line ≡ moves from.now to.now) }
+{
     let from = from.copy()?;
     let to = to.copy()?;
-    lines.push_back(TableLine::does(Op::Rename { from, to }))?;
-    Ok(lines)
+    Ok(TableLine::moves(from, to))
 }
 
 /// The lines that merge each child of `from` onto the same name in `to`.
