@@ -57,38 +57,41 @@ impl Rule {
     fn copy(&self) -> Result<Rule, AllocError>
         ensures { IfOk result (λ rule. rule ≡ self.now) }
     {
-        Ok(match self {
-            Rule::Plain => Rule::Plain,
-            Rule::MissingPasses => Rule::MissingPasses,
-            Rule::Needed => Rule::Needed,
-            Rule::Merge { taken, from, to } => Rule::Merge {
-                taken: *taken,
-                from: from.copy()?,
-                to: to.copy()?,
-            },
-            Rule::MergeEach { from, to } => Rule::MergeEach {
-                from: from.copy()?,
-                to: to.copy()?,
-            },
-            Rule::MergeTasks { from, to } => Rule::MergeTasks {
-                from: from.copy()?,
-                to: to.copy()?,
-            },
+        match self {
+            Rule::Plain => Ok(Rule::Plain),
+            Rule::MissingPasses => Ok(Rule::MissingPasses),
+            Rule::Needed => Ok(Rule::Needed),
+            Rule::Merge { taken, from, to } => {
+                let (from, to) = both(from, to)?;
+                Ok(Rule::Merge {
+                    taken: *taken,
+                    from,
+                    to,
+                })
+            }
+            Rule::MergeEach { from, to } => {
+                let (from, to) = both(from, to)?;
+                Ok(Rule::MergeEach { from, to })
+            }
+            Rule::MergeTasks { from, to } => {
+                let (from, to) = both(from, to)?;
+                Ok(Rule::MergeTasks { from, to })
+            }
             Rule::Seek {
                 layout,
                 task,
                 bytes,
                 k,
                 j,
-            } => Rule::Seek {
+            } => Ok(Rule::Seek {
                 layout: layout.copy()?,
                 task: *task,
                 bytes: *bytes,
                 k: *k,
                 j: *j,
-            },
-            Rule::Measure(bytes) => Rule::Measure(*bytes),
-        })
+            }),
+            Rule::Measure(bytes) => Ok(Rule::Measure(*bytes)),
+        }
     }
 
     // The lines that follow from an answer of the call.
@@ -395,9 +398,17 @@ fn merging(
 fn moving(from: &Path, to: &Path) -> Result<TableLine, AllocError>
     ensures { IfOk result (λ line. line ≡ moves from.now to.now) }
 {
+    let (from, to) = both(from, to)?;
+    Ok(TableLine::moves(from, to))
+}
+
+// Equal paths.
+fn both(from: &Path, to: &Path) -> Result<(Path, Path), AllocError>
+    ensures { IfOk result (λ p. (p.0 ≡ from.now) × (p.1 ≡ to.now)) }
+{
     let from = from.copy()?;
     let to = to.copy()?;
-    Ok(TableLine::moves(from, to))
+    Ok((from, to))
 }
 
 /// The lines that merge each child of `from` onto the same name in `to`.
