@@ -1,8 +1,8 @@
 -- That run, event by event: the reduce, up to its report.
 use Rattle.std.proofs.Common.{refl, true, false, List, [], ◌∷◌, ◌++◌, Some}
 use Rattle.mr_paths.specs.Layout as layout
-use Rattle.mr_names.specs.declared.node.Node.{Node}
-use Rattle.mr_names.specs.declared.node.Kind.TheVariants as kinds
+use Rattle.mr_tree.specs.declared.node.Node.{Node}
+use Rattle.mr_tree.specs.declared.node.Kind.TheVariants as kinds
 use Rattle.mr_container.specs.Readings as container
 use Rattle.mr_model.specs.Ids.{task_eq, staged, part, job_attempt, task_attempt, committed, temporary_name, generation_name, attempt_name, task_name, part_name}
 use Rattle.mr_model.specs.Content.{Dir, File, MkDirs, Create, Append, Close, Delete, Rename, Exist, Missing}

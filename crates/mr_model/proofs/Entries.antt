@@ -6,16 +6,16 @@ use Rattle.std.specs.Option.{option_map}
 use Rattle.std.specs.FinMap as finite
 use Rattle.std.specs.FinMap.Entries.{find, put, where_key, is_sorted-where_key, find-where_key}
 use Rattle.mr_paths.specs.Path.{path_cmp, path_total, path_exact, strip, parent, prefixes, rebased}
-use Rattle.mr_names.specs.declared.node.Node.{Node}
+use Rattle.mr_tree.specs.declared.node.Node.{Node}
 use Rattle.mr_names.specs.declared.fault.NameFault as name
 use Rattle.mr_names.specs.declared.fault.NameFault.TheVariants as fault
 use Rattle.mr_names.specs.declared.op.Op as call
 use Rattle.mr_names.specs.declared.op.Op.TheVariants as op
 use Rattle.mr_names.specs.declared.namespace.TheConstants.{MAX_ENTRIES, MAX_FILE_LEN}
-use Rattle.mr_names.specs.Node.{appended, closed_of}
-use Rattle.mr_names.specs.Content.{with_all, with_dirs, changed_by}
-use Rattle.mr_names.specs.Content as content
-use Rattle.mr_names.specs.Listing.{line_of}
+use Rattle.mr_tree.specs.Node.{appended, closed_of}
+use Rattle.mr_tree.specs.Content.{with_all, with_dirs, changed_by}
+use Rattle.mr_tree.specs.Content as content
+use Rattle.mr_tree.specs.Listing.{line_of}
 use Rattle.mr_names.specs.Calls.{first_of, effect, missing}
 use Rattle.mr_names.specs.Calls as calls
 use Rattle.mr_model.specs.Ids.{Path}

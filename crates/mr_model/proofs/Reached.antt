@@ -10,8 +10,8 @@ use Rattle.mr_model.specs.Packets.{Launch, Envelope, Store, Names, Append_record
 use Rattle.mr_model.specs.Pasts.{Step, Got, Sent, Computed, Called, wish, computed, wished_op, wished_packet, Node_got, part_at}
 use Rattle.mr_container.specs.Readings as container
 use Rattle.mr_model.specs.Hearing.{heard, named_in, Launched, Running, Committing, List_job, Marking}
-use Rattle.mr_names.specs.declared.node.Node.{Node}
-use Rattle.mr_names.specs.declared.node.Kind.TheVariants as kinds
+use Rattle.mr_tree.specs.declared.node.Node.{Node}
+use Rattle.mr_tree.specs.declared.node.Kind.TheVariants as kinds
 use Rattle.mr_model.specs.Duties.{duty_of, seen, next_seen, opening, told, phase_told, winners_of, newest_maps}
 use Rattle.mr_model.specs.World.{World, Event, Start, Duty, LaunchOn, Deliver, ContainerStep, Compute, Calm, opening_world, barred_left, is_over, ends, obeyed, call_of, master_act, container_act, as_heard}
 use Rattle.mr_model.specs.Effect.{happens, run, wants_compute, not_now, node_past_after}

@@ -6,8 +6,8 @@ use Rattle.std.specs.FinMap as finite
 use Rattle.std.specs.FinMap.Entries.{where_key}
 use Rattle.mr_paths.specs.Path.{path_cmp, path_total, path_exact, child_of, only_name, strip}
 use Rattle.mr_paths.proofs.Paths.{append-strip}
-use Rattle.mr_names.specs.declared.node.Node.{Node}
-use Rattle.mr_names.specs.Listing.{line_of, entry_of}
+use Rattle.mr_tree.specs.declared.node.Node.{Node}
+use Rattle.mr_tree.specs.Listing.{line_of, entry_of}
 use Rattle.mr_model.specs.Ids.{Name, Path, dest, is_hidden}
 use Rattle.mr_model.specs.Content.{Content, Listed, children, entry_at}
 use Rattle.mr_model.specs.Packets.{Config, Packet, Envelope, Outcome}

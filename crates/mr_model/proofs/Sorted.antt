@@ -7,7 +7,7 @@ use Rattle.std.specs.Ordering.{nat_cmp}
 use Rattle.std.specs.List.{AllByRecursion}
 use Rattle.std.specs.List.Sorted.{IsStrictlySortedBy}
 use Rattle.std.proofs.Common.{map, Ordering, Less, Equal}
-use Rattle.mr_names.proofs.ListingLaws.{lists_in_order}
+use Rattle.mr_tree.proofs.ListingLaws.{lists_in_order}
 use Rattle.mr_model.specs.Ids.{Name, Path, name_eq, job_attempt, committed, task_name, dest, TaskId}
 use Rattle.mr_model.proofs.Names.{task_name-inj, task-temporary}
 use Rattle.mr_model.specs.Content.{Content, children, Listed, Kind}

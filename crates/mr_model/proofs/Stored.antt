@@ -5,7 +5,7 @@ use Rattle.std.specs.FinMap as finite
 use Rattle.mr_paths.specs.Path.{prefixes}
 use Rattle.mr_names.specs.declared.fault.NameFault.TheVariants as fault
 use Rattle.mr_names.specs.Barred.{Barred}
-use Rattle.mr_names.specs.Content.{with_dirs}
+use Rattle.mr_tree.specs.Content.{with_dirs}
 use Rattle.mr_names.specs.Calls as names
 use Rattle.mr_history.specs.State.{State}
 use Rattle.mr_history.specs.Line as lines

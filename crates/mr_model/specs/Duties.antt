@@ -7,7 +7,7 @@ use Rattle.mr_model.specs.Content.{Op, MkDirs, Create, Delete, Rename, ListDir, 
 use Rattle.mr_model.specs.Records.{Record, AttemptStarted, MapSucceeded, ReduceSucceeded, AttemptFailed, JobUnsuccessful, winner_in, length_in}
 use Rattle.mr_model.specs.Packets.{Config, Packet, Store, Names, Append_record, Flush, Read_history, Reply, Fine, Found, Entries, Bytes, Records, Refused}
 use Rattle.mr_model.specs.Hearing.{Aborting, Cleaning, Clear_own, Commit_step, Committing, Delete_then, Failing, Failing_mark, Finished, Launched, List_into, List_job, Look_at, Look_below, Marking, Measure, Merge_step, Merging, Move_from, Move_to, Opening, Phase, Placed, Recover_step, Recovering, Running, Seen, Setting_up, Stopped, Succeeding, Todo_winner, accepts_task, after_bar, containers_of, expired, has_winner, heard, is_live, is_running, only_known}
-use Rattle.mr_names.specs.declared.node.Kind.TheVariants as kinds
+use Rattle.mr_tree.specs.declared.node.Kind.TheVariants as kinds
 
 pub data Master_step : Type 0 where
   Came : (p : Packet) → Master_step

@@ -1,16 +1,11 @@
 -- Laws of the namespace's calls, for whoever reasons on them without their definitions.
-use Rattle.std.specs.Prelude.{◌≡◌, ◌≢◌, ◌≤◌, ◌<◌, ◌+◌, ℕ, Bool, true, false, ◌||◌, ◌&&◌, ◌⊎◌, List, [], ◌∷◌, ◌++◌, length, map, Option, Some, None, Ok, Err, is_some, if◌then◌else◌, nat_eq}
-use Rattle.std.specs.Cmp.Lexicographic.{pointwise, slice_cmp}
-use Rattle.std.specs.Ordering.{nat_cmp}
+use Rattle.std.specs.Prelude.{◌≡◌, ◌≢◌, ◌≤◌, ◌<◌, ◌+◌, ℕ, Bool, true, false, ◌||◌, ◌&&◌, ◌⊎◌, List, [], ◌∷◌, ◌++◌, length, Option, Some, None, Ok, Err, is_some, if◌then◌else◌}
 use Rattle.std.specs.List.{list_any}
-use Rattle.std.specs.List.Sorted.{IsStrictlySortedBy}
 use Rattle.std.specs.Option.{option_map}
 use Rattle.mr_ids.specs.Attempt.{Attempt}
 use Rattle.mr_paths.specs.Path.{parent, prefixes}
-use Rattle.mr_names.specs.declared.node.Node.{Node}
-use Rattle.mr_names.specs.declared.node.Node.TheVariants.{Dir, File}
-use Rattle.mr_names.specs.declared.node.Kind.{Kind}
-use Rattle.mr_names.specs.declared.node.Entry.{Entry}
+use Rattle.mr_tree.specs.declared.node.Node.{Node}
+use Rattle.mr_tree.specs.declared.node.Node.TheVariants.{Dir, File}
 use Rattle.mr_names.specs.declared.fault.NameFault.{NameFault}
 use Rattle.mr_names.specs.declared.fault.NameFault.TheVariants as fault
 use Rattle.mr_names.specs.declared.op.Answer.{Answer}
@@ -18,10 +13,11 @@ use Rattle.mr_names.specs.declared.op.Caller.{Caller}
 use Rattle.mr_names.specs.declared.op.Op.{Op}
 use Rattle.mr_names.specs.declared.op.Op.TheVariants as op
 use Rattle.mr_names.specs.declared.namespace.TheConstants.{MAX_ENTRIES, MAX_FILE_LEN}
-use Rattle.mr_names.specs.Node.{appended, closed_of, kind_of}
-use Rattle.mr_names.specs.Content.{Content, IsTree, is_path, without, renamed, renamed_at, within}
-use Rattle.mr_names.specs.Held.{node_at, is_absent, is_file, bytes_of}
-use Rattle.mr_names.specs.Listing.{children}
+use Rattle.mr_tree.specs.Node.{appended, closed_of}
+use Rattle.mr_tree.specs.Content.{Content, IsTree, is_path, without, renamed, renamed_at, within}
+use Rattle.mr_tree.specs.Held.{node_at, is_absent, is_file, bytes_of}
+pub use Rattle.mr_tree.specs.Held.{MayRename}
+pub use Rattle.mr_tree.specs.Listing.{kind_listed, ListsChildren, ListsInOrder}
 use Rattle.mr_names.specs.Barred.{bars, is_barred}
 use Rattle.mr_names.specs.Calls.{State, IsSound, opening, raised, missing, entry_count, refusal, own_refusal, unheard, refused, effect, barred_after, answer, call_of}
 
@@ -174,12 +170,6 @@ pub record MayDelete (c : Content) (path : List (List ℕ)) : Type 0 where
   pub not_root : path ≢ []
   pub found : is_some (node_at c path) ≡ true
 
-pub record MayRename (c : Content) (from to : List (List ℕ)) : Type 0 where
-  pub found : is_some (node_at c from) ≡ true
-  pub outside : within from to ≡ false
-  pub free : node_at c to ≡ None
-  pub parent_dir : node_at c (parent to) ≡ Some Dir
-
 abbrev pub MayMake : Content → Op → Type 0
 MayMake c (op.Mkdirs path) = MayMkdirs c path
 MayMake c (op.Create path closed) = MayCreate c path
@@ -296,18 +286,3 @@ pub data Becomes (s : State) : State → Type 0 where
 abbrev pub BarredForGood : Type 0
 BarredForGood = (s t u : State) (by caller : Caller) (a : Attempt) (said : Answer) (call : Op) → call_of s by (op.Bar a) ≡ (Ok said, t) → Becomes t u → caller.attempt ≡ Some a
     → (call_of u caller call ≡ (Err (fault.Superseded u.fence), u)) ⊎ (call_of u caller call ≡ (Err fault.Barred, u))
-
--- ---- listings
-
--- the kind with which a listing has a name
-abbrev pub kind_listed : List Entry → List ℕ → Option Kind
-kind_listed [] name = None
-kind_listed (e ∷ es) name = if pointwise nat_eq name e.name then Some e.kind else kind_listed es name
-
--- a listing has exactly the names of what stands directly beneath the path
-abbrev pub ListsChildren : Type 0
-ListsChildren = (c : Content) (path : List (List ℕ)) (name : List ℕ) → kind_listed (children c path) name ≡ option_map kind_of (node_at c (path ++ name ∷ []))
-
--- each name once, by its bytes
-abbrev pub ListsInOrder : Type 0
-ListsInOrder = (c : Content) (path : List (List ℕ)) → IsStrictlySortedBy (slice_cmp nat_cmp) (map (λ (e : Entry). e.name) (children c path))

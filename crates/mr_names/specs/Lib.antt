@@ -1,12 +1,7 @@
--- The namespace: what it holds, and what each call answers and leaves. Read Node, Content, Held, Listing and Barred first, then Calls, then Laws, Rows and Walk.
-pub mod Calls
-pub mod Content
-pub mod Held
-pub mod Laws
-pub mod Listing
-pub mod Node
-pub mod Rows
-pub mod Walk
+-- The namespace: what each call answers and leaves. What a content is stands in mr_tree (Node, Content, Held, Listing). Then read Barred and
+-- Calls, then Laws and Rows.
 pub mod Attempts
 pub mod Barred
-pub mod inner
+pub mod Calls
+pub mod Laws
+pub mod Rows

@@ -67,20 +67,15 @@
 //! (`crates/tests_base/src/names.rt`). Neither: speed, and how many requests for memory a call makes (the rename of a
 //! directory of 65,535 files makes fewer than 1,000: `tools/hostile`). No call recurses.
 //!
-//! The content is kept as a tree of nodes in a slab (`src/tree.rt`, `src/links.rt`). Each entry's node is reached from
-//! the root by exactly one path, and each node that is kept is reached so. A rename moves one edge.
+//! The content is kept by `mr_tree`, beneath, as a tree of nodes in a slab. Its types that callers see (`Node`, `Kind`,
+//! `Entry`, `Entries`, `Found`, `Walk`) are given on here.
 #![tactic(auto)]
 
 mod barred;
 mod fault;
 mod laws;
-mod links;
 mod namespace;
-mod node;
 mod op;
-mod place;
-mod tree;
-mod walk;
 
 pub use fault::NameFault;
 pub use laws::{
@@ -88,7 +83,6 @@ pub use laws::{
     settles, stays_tree,
 };
 pub use mr_ids::Bytes;
+pub use mr_tree::{Entries, Entry, Found, Kind, Node, Walk};
 pub use namespace::{MAX_BARRED, MAX_ENTRIES, MAX_FILE_LEN, Namespace};
-pub use node::{Entries, Entry, Kind, Node};
 pub use op::{Answer, Caller, Op};
-pub use walk::{Found, Walk};

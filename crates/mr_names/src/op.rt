@@ -1,9 +1,9 @@
 //! A call of the namespace as a value, who makes it, and its answer: for committers and machines, whose next call is told before it is made.
 ghost use Rattle.std.specs.Prelude.{◌≡◌, IfOk};
 
-use crate::node::{Entries, Kind};
 use mr_ids::{AppAttempt, AttemptId, Bytes};
 use mr_paths::Path;
+use mr_tree::{Entries, Kind};
 use std::alloc::AllocError;
 
 /// Who makes a call: a master, or a container.

@@ -4,7 +4,7 @@ use Rattle.std.specs.Prelude.{ℕ, Bool, List, [], ◌∷◌, ◌++◌, length, 
 use Rattle.std.specs.List.{join_with_byte}
 use Rattle.mr_ids.specs.Text.{attempt_text}
 use Rattle.mr_names.specs.declared.fault.NameFault.{NameFault}
-use Rattle.mr_names.specs.declared.node.Kind.TheVariants.{Dir, File}
+use Rattle.mr_tree.specs.declared.node.Kind.TheVariants.{Dir, File}
 use Rattle.mr_names.specs.declared.op.Answer.{Answer}
 use Rattle.mr_names.specs.declared.op.Answer.TheVariants as answer
 use Rattle.mr_names.specs.declared.op.Op.{Op}

@@ -11,8 +11,8 @@ use Rattle.mr_names.specs.declared.op.Caller.{Caller}
 use Rattle.mr_names.specs.declared.op.Op.{Op}
 use Rattle.mr_names.specs.declared.op.Op.TheVariants as op
 use Rattle.mr_names.specs.Calls.{State, IsSound, unheard, refused, own_refusal, call_of, settled, first_of}
-use Rattle.mr_names.specs.Content.{IsTree}
-use Rattle.mr_names.specs.Listing as listing
+use Rattle.mr_tree.specs.Content.{IsTree}
+use Rattle.mr_tree.specs.Listing as listing
 use Rattle.mr_paths.specs.Layout as layout
 use Rattle.mr_model.specs.Ids.{Path, dest, marker}
 use Rattle.mr_model.specs.Content.{Content, Entry, Dir, File, Listed, children, entry_at, is_dir, is_file, option_kind, bytes_of}

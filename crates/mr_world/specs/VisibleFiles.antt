@@ -1,7 +1,7 @@
 -- What a reader sees of a directory. That hidden names are no output is Hadoop's committer document's.
 use Rattle.std.specs.Prelude.{ℕ, Bool, true, false, List, [], ◌∷◌, ◌++◌, Option, Some, None, if◌then◌else◌}
-use Rattle.mr_names.specs.declared.node.Kind.{Kind}
-use Rattle.mr_names.specs.declared.node.Kind.TheVariants as kind
+use Rattle.mr_tree.specs.declared.node.Kind.{Kind}
+use Rattle.mr_tree.specs.declared.node.Kind.TheVariants as kind
 use Rattle.mr_model.specs.Ids.{Name, Path, is_hidden}
 use Rattle.mr_model.specs.Content.{Content, Entry, Dir, File, entry_at}
 use Rattle.mr_model.specs.Results.{file_as}

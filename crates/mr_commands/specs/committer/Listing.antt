@@ -1,9 +1,9 @@
 -- The listing of a content. Our own format.
 use Rattle.std.specs.Prelude.{ℕ, List, [], ◌∷◌, ◌++◌, codes, decimal, Option, Some, None}
 use Rattle.std.specs.List.{flat_map, join_with_byte}
-use Rattle.mr_names.specs.declared.walk.Found.{Found}
-use Rattle.mr_names.specs.Content.{Content}
-use Rattle.mr_names.specs.Walk.{walk}
+use Rattle.mr_tree.specs.declared.walk.Found.{Found}
+use Rattle.mr_tree.specs.Content.{Content}
+use Rattle.mr_tree.specs.Walk.{walk}
 
 -- what stands behind a path: for a directory a slash, for a file a space and its length
 abbrev pub size_text : Option ℕ → List ℕ

@@ -4,8 +4,8 @@ use Rattle.std.specs.List.{list_any}
 use Rattle.std.proofs.lemmas.Bool.Decides.{nat_tests}
 use Rattle.mr_names.specs.declared.fault.NameFault.{NameFault}
 use Rattle.mr_names.specs.declared.fault.NameFault.TheVariants as names
-use Rattle.mr_names.specs.declared.node.Kind.{Kind}
-use Rattle.mr_names.specs.declared.node.Kind.TheVariants as kind
+use Rattle.mr_tree.specs.declared.node.Kind.{Kind}
+use Rattle.mr_tree.specs.declared.node.Kind.TheVariants as kind
 use Rattle.mr_names.specs.declared.op.Answer.TheVariants as found
 use Rattle.mr_paths.specs.Layout as layout
 use Rattle.mr_commit.specs.Line.{Line, is_answer_to, older, deletes, moves, is_missing, passes_missing, fault_at, merging_child, merging_task, is_task}

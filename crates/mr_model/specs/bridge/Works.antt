@@ -1,8 +1,8 @@
 -- What a master of the cluster is at, as what its machine is at: where the calls are those of a committer's table, the lines that are left of it.
 -- Our own: it ties two sets of definitions.
 use Rattle.std.specs.Prelude.{◌≡◌, ℕ, zero, suc, Bool, true, false, List, [], ◌∷◌, ◌++◌, map, Option, Some, None, is_some}
-use Rattle.mr_names.specs.declared.node.Kind.{Kind}
-use Rattle.mr_names.specs.declared.node.Kind.TheVariants as kind
+use Rattle.mr_tree.specs.declared.node.Kind.{Kind}
+use Rattle.mr_tree.specs.declared.node.Kind.TheVariants as kind
 use Rattle.mr_names.specs.declared.op.Op.TheVariants as op
 use Rattle.mr_paths.specs.Layout as layout
 use Rattle.mr_commit.specs.Line.{Line, deletes, moves}

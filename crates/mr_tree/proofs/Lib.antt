@@ -1,0 +1,12 @@
+pub mod Beneath
+pub mod ContentLaws
+pub mod Copying
+pub mod Counting
+pub mod Deleting
+pub mod Graph
+pub mod LastNames
+pub mod ListingLaws
+pub mod Making
+pub mod NodeLines
+pub mod Visiting
+pub mod Walks
