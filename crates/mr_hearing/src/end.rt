@@ -20,8 +20,7 @@ pub fn prepare_failed(master: &Machine, attempt: AttemptId) -> Result<Prepared, 
     let Some((place, _launch)) = master.known(attempt) else {
         return Ok(Prepared::silent(master.alloc, Change::Nothing));
     };
-    let ready = prepare_end(master, place, attempt, &Ending::Failure)?;
-    Ok(ready)
+    prepare_end(master, place, attempt, &Ending::Failure)
 }
 
 // Its container ended.
@@ -33,8 +32,7 @@ pub fn prepare_ended(master: &Machine, container: &ContainerId) -> Result<Prepar
         return Ok(Prepared::silent(master.alloc, Change::Nothing));
     };
     let was_killed = master.launches.is_killed(container.number as usize);
-    let ready = prepare_end(master, place, launched.0, &Ending::Exit(was_killed))?;
-    Ok(ready)
+    prepare_end(master, place, launched.0, &Ending::Exit(was_killed))
 }
 
 // The attempt ends so. Where that fails the job, a Kill is sent to every other live attempt.

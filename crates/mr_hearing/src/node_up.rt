@@ -27,8 +27,7 @@ pub fn prepare_node_up(
     if !master.work.is_running() {
         return Ok(prepare_known(master, node, incarnation, nodes));
     }
-    let ready = prepare_restart(master, node, incarnation, nodes)?;
-    Ok(ready)
+    prepare_restart(master, node, incarnation, nodes)
 }
 
 // The same while it is not: nothing ends with it.

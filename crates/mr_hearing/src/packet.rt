@@ -33,8 +33,7 @@ fn prepare_if_running(master: &Machine, packet: &Packet) -> Result<Prepared, All
     if !master.work.is_running() {
         return Ok(Prepared::silent(master.alloc, Change::Nothing));
     }
-    let ready = prepare_running(master, packet)?;
-    Ok(ready)
+    prepare_running(master, packet)
 }
 
 // A packet that is heard while Running.

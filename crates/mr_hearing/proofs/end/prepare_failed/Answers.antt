@@ -1,7 +1,12 @@
 use Rattle.std.proofs.Common.{sym, ◌∙◌, ap}
 use Rattle.mr_master_model.specs.Past.{Work}
 use Rattle.mr_master_model.specs.Readings.{is_running, launch_of}
+use Rattle.mr_master_model.specs.Hearing.{after_failed}
+use Rattle.mr_change.specs.Prepared.{Plans}
+use Rattle.mr_change.specs.mr_tasks.specs.declared.ending.Ending.TheVariants.{Failure}
+use Rattle.mr_change.proofs.Containers.{if-ok}
 use Rattle.mr_change.proofs.Keeping.{none-mapped}
+use Rattle.mr_hearing.specs.inner.Ends.{ended, end_sends, kills_if_over}
 use Rattle.mr_hearing.proofs.Planned.{nothing-failed, plan-failed, at-known}
 use Rattle.mr_hearing.proofs.end.prepare_failed.Goals as goal
 
@@ -14,4 +19,9 @@ pub prepare_end-requires-clause-at : goal.prepare_end-requires-clause-at
 prepare_end-requires-clause-at c = at-known c.args.attempt c.in-Some.place c.in-Some._launch c.in-Some.ensures.within c.in-Some.ensures.known
 
 pub returns : goal.returns
-returns c = plan-failed c.args.attempt c.in-Some.place c.in-Some._launch c.in-Some.ensures.known c.in_ok-ready.ensures
+returns c =
+    let m = c.args.master.now in
+    let a = c.args.attempt in
+    if-ok c.prepare_end.result (λ r. Plans m r (λ w s. end_sends w s a Failure) (λ w s. ended w s a Failure))
+    (λ r. Plans m r (λ w s. kills_if_over w (after_failed w s a (launch_of w s a))) (λ w s. after_failed w s a (launch_of w s a)))
+    (λ r x. plan-failed a c.in-Some.place c.in-Some._launch c.in-Some.ensures.known x) c.prepare_end.ensures

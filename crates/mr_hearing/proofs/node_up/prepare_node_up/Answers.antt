@@ -1,7 +1,10 @@
-use Rattle.std.proofs.Common.{◌<◌, true, false, refl, sym, ◌∙◌, ap, arith}
+use Rattle.std.proofs.Common.{◌<◌, true, false, refl, sym, ◌∙◌, ap, arith, [], if◌then◌else◌}
 use Rattle.mr_master_model.specs.Past.{Work}
 use Rattle.mr_master_model.specs.Readings.{is_over, is_running}
 use Rattle.mr_change.specs.declared.change.Change.TheVariants as change
+use Rattle.mr_master_model.specs.Hearing.{with_known, after_restart, after_node_up}
+use Rattle.mr_change.specs.Prepared.{Plans}
+use Rattle.mr_change.proofs.Containers.{if-ok}
 use Rattle.mr_change.proofs.Keeping.{held}
 use Rattle.mr_change.proofs.Made.{plans-as}
 use Rattle.mr_hearing.proofs.Planned.{plan-over, plan-known, comes-up}
@@ -30,7 +33,13 @@ returns-then-not-is_running c = plans-as (λ w s keeps. refl)
     c.prepare_known.ensures
 
 pub returns : goal.returns
-returns c = plans-as (λ w s keeps. refl)
+returns c =
+    let m = c.args.master.now in
+    let n = c.args.node in
+    let i = c.args.incarnation in
+    if-ok c.prepare_restart.result (λ r. Plans m r (λ w s. []) (λ w s. with_known (after_restart w s n i) n i))
+    (λ r. Plans m r (λ w s. []) (λ w s. if is_over s.work then s else after_node_up w s n i))
+    (λ r x. plans-as (λ w s keeps. refl)
     (λ w s keeps. let k = held c.master.view_is keeps in
     let is = c.incarnation.ensures ∙ k.nodes c.args.node in
     let high = c.if-incarnation.false in
@@ -38,4 +47,5 @@ returns c = plans-as (λ w s keeps. refl)
     comes-up w s c.args.node c.args.incarnation true
     (ap (λ (x : Work). is_over x) (sym k.work) ∙ sym c.is_over.ensures ∙ c.if-is_over.false) low
     (ap (λ (x : Work). is_running x) (sym k.work) ∙ sym c.is_running.ensures ∙ c.if-not-is_running.false))
-    c.in_ok-ready.ensures
+    x)
+    c.prepare_restart.ensures
