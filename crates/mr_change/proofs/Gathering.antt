@@ -34,10 +34,6 @@ singles p (x ∷ xs) = by (p x) (singles p xs)
 
 -- ---- of the items of a list
 
--- none yet
-pub no-item : {X Y : Type 0} (f : X → List Y) (xs : List X) (old : List Y) → old ≡ old ++ flat_map f (take 0 xs)
-no-item f xs old = sym (append-nil old)
-
 -- one more
 pub next-item : {X Y : Type 0} (f : X → List Y) (xs : List X) (i : ℕ) (x : X) (old mid new : List Y) → i < length xs → x ≡ get_or xs i x
     → mid ≡ old ++ flat_map f (take i xs) → new ≡ mid ++ f x → new ≡ old ++ flat_map f (take (i + 1) xs)
