@@ -26,11 +26,12 @@ fn is_unread(
 
 #[test]
 fn namespace_read_and_foresee(rt: HostRuntime) {
+    let rt = &rt;
     let alloc = rt.alloc();
-    let one = &by_generation(&rt, 1);
-    let mut names = new_namespace(&rt, alloc);
+    let one = &by_generation(rt, 1);
+    let mut names = new_namespace(rt, alloc);
     hold(
-        &rt,
+        rt,
         alloc,
         &mut names,
         one,
@@ -40,22 +41,23 @@ fn namespace_read_and_foresee(rt: HostRuntime) {
             Row::Read("/f", b"x"),
         ],
     );
-    is_unread(&rt, alloc, &names, one, "/", NameFault::NotFile);
-    let read_g = Op::Read(path(&rt, alloc, "/g"));
+    is_unread(rt, alloc, &names, one, "/", NameFault::NotFile);
+    let read_g = Op::Read(path(rt, alloc, "/g"));
     confirm!(rt; names.foresee(*one, &read_g) == Some(NameFault::Missing));
-    lists_one(&rt, &mut names, one, path(&rt, alloc, "/"), b"f");
+    lists_one(rt, &mut names, one, path(rt, alloc, "/"), b"f");
 }
 
 // Each call once by name, with its answer.
 #[test]
 fn namespace_calls(rt: HostRuntime) {
-    let two = &by_generation(&rt, 2);
-    let mut names = new_namespace(&rt, rt.alloc());
+    let rt = &rt;
+    let two = &by_generation(rt, 2);
+    let mut names = new_namespace(rt, rt.alloc());
     names.raise(two.app);
-    names.raise(generation(&rt, 1));
+    names.raise(generation(rt, 1));
     confirm!(rt; names.fence() == 2);
     hold(
-        &rt,
+        rt,
         rt.alloc(),
         &mut names,
         two,
@@ -143,13 +145,14 @@ fn reads(rt: &impl Abort, names: &mut Namespace, caller: &Caller, place: Path, w
 // Each call once as a value, with its answer.
 #[test]
 fn namespace_calls_as_values(rt: HostRuntime) {
+    let rt = &rt;
     let alloc = rt.alloc();
-    let one = &by_generation(&rt, 1);
-    let mut names = new_namespace(&rt, alloc);
-    changes_are_done(&rt, alloc, &mut names, one);
-    finds_directory(&rt, &mut names, one, path(&rt, alloc, "/c"));
-    reads(&rt, &mut names, one, path(&rt, alloc, "/c/f"), b"xy");
-    lists_one(&rt, &mut names, one, path(&rt, alloc, "/c"), b"f");
+    let one = &by_generation(rt, 1);
+    let mut names = new_namespace(rt, alloc);
+    changes_are_done(rt, alloc, &mut names, one);
+    finds_directory(rt, &mut names, one, path(rt, alloc, "/c"));
+    reads(rt, &mut names, one, path(rt, alloc, "/c/f"), b"xy");
+    lists_one(rt, &mut names, one, path(rt, alloc, "/c"), b"f");
     drop(names);
 }
 
@@ -162,15 +165,16 @@ fn is_found(rt: &impl Abort, alloc: Global, found: &Found, text: &str, length: O
 // The walk over all that is there: a directory before its entries, each file with its length.
 #[test]
 fn namespace_is_walked(rt: HostRuntime) {
+    let rt = &rt;
     let alloc = rt.alloc();
-    let mut names = new_namespace(&rt, alloc);
-    changes_are_done(&rt, alloc, &mut names, &by_generation(&rt, 1));
-    let walk = names.walk().expect(&rt, "no memory");
+    let mut names = new_namespace(rt, alloc);
+    changes_are_done(rt, alloc, &mut names, &by_generation(rt, 1));
+    let walk = names.walk().expect(rt, "no memory");
     let found = walk.as_slice();
     assert!(rt; found.len() == 3);
-    is_found(&rt, alloc, &found[0], "/", None);
-    is_found(&rt, alloc, &found[1], "/c", None);
-    is_found(&rt, alloc, &found[2], "/c/f", Some(2));
+    is_found(rt, alloc, &found[0], "/", None);
+    is_found(rt, alloc, &found[1], "/c", None);
+    is_found(rt, alloc, &found[2], "/c/f", Some(2));
 }
 
 // A copy of the call is equal to it.
@@ -181,17 +185,18 @@ fn is_copied(rt: &impl Abort, op: &Op) {
 
 #[test]
 fn calls_are_copied(rt: HostRuntime) {
+    let rt = &rt;
     let alloc = rt.alloc();
     let append = Op::Append {
-        path: path(&rt, alloc, "/a/f"),
-        bytes: bytes(&rt, alloc, b"xy"),
+        path: path(rt, alloc, "/a/f"),
+        bytes: bytes(rt, alloc, b"xy"),
     };
     let rename = Op::Rename {
-        from: path(&rt, alloc, "/a"),
-        to: path(&rt, alloc, "/c"),
+        from: path(rt, alloc, "/a"),
+        to: path(rt, alloc, "/c"),
     };
-    is_copied(&rt, &append);
-    is_copied(&rt, &rename);
+    is_copied(rt, &append);
+    is_copied(rt, &rename);
 }
 
 // Both hold the same entries, walked path by path.
@@ -213,22 +218,23 @@ fn copied(rt: &impl Abort, names: &Namespace, by_container: &Caller) -> Namespac
 // The copy has the same bytes. What it deletes stays in the first one.
 #[test]
 fn namespace_copy(rt: HostRuntime) {
+    let rt = &rt;
     let alloc = rt.alloc();
-    let one = &by_generation(&rt, 1);
-    let mut names = new_namespace(&rt, alloc);
-    changes_are_done(&rt, alloc, &mut names, one);
-    let barred = attempt(&rt, TASK, 0);
-    is_done(&rt, &mut names, one, Op::Bar(barred));
-    names.raise(generation(&rt, 2));
-    let two = &by_generation(&rt, 2);
+    let one = &by_generation(rt, 1);
+    let mut names = new_namespace(rt, alloc);
+    changes_are_done(rt, alloc, &mut names, one);
+    let barred = attempt(rt, TASK, 0);
+    is_done(rt, &mut names, one, Op::Bar(barred));
+    names.raise(generation(rt, 2));
+    let two = &by_generation(rt, 2);
     let by_container = &Caller {
         app: two.app,
         attempt: Some(barred),
     };
-    let mut copy = copied(&rt, &names, by_container);
-    let rows = [Row::Read("/c/f", b"xy"), Row::Delete("/c", Ok(()))];
-    hold(&rt, alloc, &mut copy, two, &rows);
+    let mut copy = copied(rt, &names, by_container);
+    let rows = &[Row::Read("/c/f", b"xy"), Row::Delete("/c", Ok(()))];
+    hold(rt, alloc, &mut copy, two, rows);
     drop(copy);
-    hold(&rt, alloc, &mut names, two, &[Row::Read("/c/f", b"xy")]);
+    hold(rt, alloc, &mut names, two, &[Row::Read("/c/f", b"xy")]);
     drop(names);
 }

@@ -1,7 +1,7 @@
 //! The output committer: merges, commits and aborts, whole or by steps, and what is refused.
 
 use crate::fixtures::{TASK, attempt, by_generation, generation, new_namespace, path};
-use crate::jobs::{job_set_up, makes_room, out, sets_up, stands};
+use crate::jobs::{job_set_up, makes_room, out, sets_up, stand, stands};
 use mr_commit::{
     CommitFault, Step, StepDone, check_output, commit_job, commit_task, needs_task_commit,
 };
@@ -54,20 +54,21 @@ fn prints(rt: &impl Abort, alloc: Global, fault: CommitFault, text: &str) -> boo
 
 #[test]
 fn setup_by_halves(rt: HostRuntime) {
+    let rt = &rt;
     let alloc = rt.alloc();
-    let one = &by_generation(&rt, 1);
-    let mut names = new_namespace(&rt, alloc);
-    let mut halves = Step::setup_job(&out(&rt, alloc), one.app).expect(&rt, "no memory");
-    let mut copy = halves.copy().expect(&rt, "no memory");
+    let one = &by_generation(rt, 1);
+    let mut names = new_namespace(rt, alloc);
+    let mut halves = Step::setup_job(&out(rt, alloc), one.app).expect(rt, "no memory");
+    let mut copy = halves.copy().expect(rt, "no memory");
     is_heard_alike(
-        &rt,
+        rt,
         &mut names,
         one,
         &mut halves,
         &mut copy,
         StepDone::Finished,
     );
-    is_over(&rt, &mut names, one, &mut halves);
+    is_over(rt, &mut names, one, &mut halves);
 }
 
 // A task's commit goes on where it hears, in two halves, that its attempt's directory is there.
@@ -82,25 +83,26 @@ fn goes_on_by_halves(rt: &impl Abort, step: &Step) {
 
 #[test]
 fn over_after_output_missing(rt: HostRuntime) {
+    let rt = &rt;
     let alloc = rt.alloc();
-    let one = &by_generation(&rt, 1);
-    let layout = out(&rt, alloc);
-    let mut names = job_set_up(&rt, alloc, one, &layout);
-    let mut step = Step::commit_task(&layout, one.app, attempt(&rt, TASK, 0)).expect(
-        &rt,
+    let one = &by_generation(rt, 1);
+    let layout = out(rt, alloc);
+    let mut names = job_set_up(rt, alloc, one, &layout);
+    let mut step = Step::commit_task(&layout, one.app, attempt(rt, TASK, 0)).expect(
+        rt,
         "no memory",
     );
-    goes_on_by_halves(&rt, &step);
+    goes_on_by_halves(rt, &step);
     goes(
-        &rt,
+        rt,
         &mut names,
         one,
         &mut step,
         Err(CommitFault::OutputMissing),
     );
-    let mut copy = step.copy().expect(&rt, "no memory");
-    is_over(&rt, &mut names, one, &mut copy);
-    is_over(&rt, &mut names, one, &mut step);
+    let mut copy = step.copy().expect(rt, "no memory");
+    is_over(rt, &mut names, one, &mut copy);
+    is_over(rt, &mut names, one, &mut step);
 }
 
 // The step hears that its call is done, and answers this fault.
@@ -118,20 +120,21 @@ fn follows_no_answer(rt: &impl Abort, step: &Step) {
 // An answer of another call is no answer: the step ends there, deletes nothing and creates no marker.
 #[test]
 fn answer_of_another_kind(rt: HostRuntime) {
+    let rt = &rt;
     let alloc = rt.alloc();
-    let mut step = Step::commit_job(&out(&rt, alloc), generation(&rt, 1)).expect(&rt, "no memory");
-    follows_no_answer(&rt, &step);
+    let mut step = Step::commit_job(&out(rt, alloc), generation(rt, 1)).expect(rt, "no memory");
+    follows_no_answer(rt, &step);
     confirm!(rt; matches!(step.call(), Some(Op::List(_path))));
-    takes_no_answer(&rt, &mut step, CommitFault::WrongAnswer);
+    takes_no_answer(rt, &mut step, CommitFault::WrongAnswer);
     confirm!(rt; step.call().is_none());
-    takes_no_answer(&rt, &mut step, CommitFault::Over);
-    confirm!(rt; prints(&rt, alloc, CommitFault::WrongAnswer, "WrongAnswer"));
+    takes_no_answer(rt, &mut step, CommitFault::Over);
+    confirm!(rt; prints(rt, alloc, CommitFault::WrongAnswer, "WrongAnswer"));
 }
 
 // A namespace in which a committed task left two directories with a file each, and the destination has other things of their names.
 fn two_levels(rt: &impl Abort, alloc: Global, caller: &Caller) -> Namespace {
     let mut names = new_namespace(rt, alloc);
-    for text in [
+    for text in &[
         "/out/_temporary/1/task_200707121733_0003_r_000000/a",
         "/out/_temporary/1/task_200707121733_0003_r_000000/b",
         "/out/_temporary/1/_temporary",
@@ -139,7 +142,7 @@ fn two_levels(rt: &impl Abort, alloc: Global, caller: &Caller) -> Namespace {
     ] {
         makes_room(rt, alloc, &mut names, caller, text);
     }
-    for text in [
+    for text in &[
         "/out/_temporary/1/task_200707121733_0003_r_000000/a/f",
         "/out/_temporary/1/task_200707121733_0003_r_000000/b/g",
         "/out/a",
@@ -160,8 +163,8 @@ fn marker_is_last(
     caller: &Caller,
     step: &mut Step,
 ) {
-    stands(rt, alloc, names, caller, "/out/_temporary", None);
-    stands(rt, alloc, names, caller, "/out/_SUCCESS", None);
+    let before = &[("/out/_temporary", None), ("/out/_SUCCESS", None)];
+    stand(rt, alloc, names, caller, before);
     goes(rt, names, caller, step, Ok(StepDone::Finished));
     is_over(rt, names, caller, step);
     stands(rt, alloc, names, caller, "/out/_SUCCESS", Some(Kind::File));
@@ -169,45 +172,50 @@ fn marker_is_last(
 
 #[test]
 fn two_level_merge(rt: HostRuntime) {
+    let rt = &rt;
     let alloc = rt.alloc();
-    let one = &by_generation(&rt, 1);
-    let mut names = two_levels(&rt, alloc, one);
-    let mut halves = Step::commit_job(&out(&rt, alloc), one.app).expect(&rt, "no memory");
+    let one = &by_generation(rt, 1);
+    let mut names = two_levels(rt, alloc, one);
+    let mut halves = Step::commit_job(&out(rt, alloc), one.app).expect(rt, "no memory");
     // list, exists /out, list, exists /out/a, delete, rename; each by a copy, of up to five lines
     for _ in 0..6 {
-        halves = halves.copy().expect(&rt, "no memory");
-        goes(&rt, &mut names, one, &mut halves, Ok(StepDone::More));
+        halves = halves.copy().expect(rt, "no memory");
+        goes(rt, &mut names, one, &mut halves, Ok(StepDone::More));
     }
-    stands(&rt, alloc, &names, one, "/out/a/f", Some(Kind::File));
+    stands(rt, alloc, &names, one, "/out/a/f", Some(Kind::File));
     // exists /out/b, list, exists /out/b/g, rename, delete /out/_temporary
-    let mut step = halves.copy().expect(&rt, "no memory");
+    let mut step = halves.copy().expect(rt, "no memory");
     for _ in 0..5 {
-        is_heard_alike(&rt, &mut names, one, &mut halves, &mut step, StepDone::More);
+        is_heard_alike(rt, &mut names, one, &mut halves, &mut step, StepDone::More);
     }
-    marker_is_last(&rt, alloc, &mut names, one, &mut step);
-    stands(&rt, alloc, &names, one, "/out/a", Some(Kind::Dir));
-    stands(&rt, alloc, &names, one, "/out/b/g", Some(Kind::File));
-    stands(&rt, alloc, &names, one, "/out/b/old", Some(Kind::File));
+    marker_is_last(rt, alloc, &mut names, one, &mut step);
+    let merged = &[
+        ("/out/a", Some(Kind::Dir)),
+        ("/out/b/g", Some(Kind::File)),
+        ("/out/b/old", Some(Kind::File)),
+    ];
+    stand(rt, alloc, &names, one, merged);
 }
 
 #[test]
 fn file_beneath_the_job_attempt(rt: HostRuntime) {
+    let rt = &rt;
     let alloc = rt.alloc();
-    let one = &by_generation(&rt, 1);
-    let layout = out(&rt, alloc);
-    let mut names = job_set_up(&rt, alloc, one, &layout);
+    let one = &by_generation(rt, 1);
+    let layout = out(rt, alloc);
+    let mut names = job_set_up(rt, alloc, one, &layout);
     let file = "/out/_temporary/1/f";
     names
-        .create(*one, &path(&rt, alloc, file), true)
-        .expect(&rt, file);
-    let mut step = Step::commit_job(&layout, one.app).expect(&rt, "no memory");
+        .create(*one, &path(rt, alloc, file), true)
+        .expect(rt, file);
+    let mut step = Step::commit_job(&layout, one.app).expect(rt, "no memory");
     for _ in 0..2 {
-        goes(&rt, &mut names, one, &mut step, Ok(StepDone::More));
+        goes(rt, &mut names, one, &mut step, Ok(StepDone::More));
     }
     let refused = CommitFault::Names(NameFault::NotDir);
-    goes(&rt, &mut names, one, &mut step, Err(refused));
-    is_over(&rt, &mut names, one, &mut step);
-    stands(&rt, alloc, &names, one, file, Some(Kind::File));
+    goes(rt, &mut names, one, &mut step, Err(refused));
+    is_over(rt, &mut names, one, &mut step);
+    stands(rt, alloc, &names, one, file, Some(Kind::File));
 }
 
 // The job is committed, or refused so.
@@ -303,83 +311,87 @@ fn commits_late(rt: &impl Abort, alloc: Global, names: &mut Namespace, layout: &
 
 #[test]
 fn committed_and_checked(rt: HostRuntime) {
+    let rt = &rt;
     let alloc = rt.alloc();
-    let one = &by_generation(&rt, 1);
-    let layout = out(&rt, alloc);
-    let mut names = new_namespace(&rt, alloc);
-    checks(&rt, &names, one, &layout, Ok(()));
-    sets_up(&rt, &mut names, one, &layout);
+    let one = &by_generation(rt, 1);
+    let layout = out(rt, alloc);
+    let mut names = new_namespace(rt, alloc);
+    checks(rt, &names, one, &layout, Ok(()));
+    sets_up(rt, &mut names, one, &layout);
     let there = CommitFault::DestinationExists;
-    checks(&rt, &names, one, &layout, Err(there));
-    task_is_committed(&rt, alloc, &mut names, one, &layout);
-    job_is_committed_once(&rt, alloc, &mut names, one, &layout);
-    commits_late(&rt, alloc, &mut names, &layout);
-    confirm!(rt; prints(&rt, alloc, CommitFault::OutputMissing, "OutputMissing"));
+    checks(rt, &names, one, &layout, Err(there));
+    task_is_committed(rt, alloc, &mut names, one, &layout);
+    job_is_committed_once(rt, alloc, &mut names, one, &layout);
+    commits_late(rt, alloc, &mut names, &layout);
+    confirm!(rt; prints(rt, alloc, CommitFault::OutputMissing, "OutputMissing"));
     drop(names);
 }
 
 // The last generation that there is sets a job up and commits it.
 #[test]
 fn last_generation_commits(rt: HostRuntime) {
+    let rt = &rt;
     let alloc = rt.alloc();
-    let last = &by_generation(&rt, 1000);
-    let layout = out(&rt, alloc);
-    let mut names = new_namespace(&rt, alloc);
+    let last = &by_generation(rt, 1000);
+    let layout = out(rt, alloc);
+    let mut names = new_namespace(rt, alloc);
     names.raise(last.app);
-    sets_up(&rt, &mut names, last, &layout);
+    sets_up(rt, &mut names, last, &layout);
     stands(
-        &rt,
+        rt,
         alloc,
         &names,
         last,
         "/out/_temporary/1000",
         Some(Kind::Dir),
     );
-    commits_job(&rt, &mut names, last, &layout, Ok(()));
-    stands(&rt, alloc, &names, last, "/out/_SUCCESS", Some(Kind::File));
+    commits_job(rt, &mut names, last, &layout, Ok(()));
+    stands(rt, alloc, &names, last, "/out/_SUCCESS", Some(Kind::File));
 }
 
 #[test]
 fn task_abort_by_steps(rt: HostRuntime) {
+    let rt = &rt;
     let alloc = rt.alloc();
-    let one = &by_generation(&rt, 1);
-    let layout = out(&rt, alloc);
-    let mut names = job_set_up(&rt, alloc, one, &layout);
+    let one = &by_generation(rt, 1);
+    let layout = out(rt, alloc);
+    let mut names = job_set_up(rt, alloc, one, &layout);
     let written = "/out/_temporary/1/_temporary/attempt_200707121733_0003_r_000000_0";
-    makes_room(&rt, alloc, &mut names, one, written);
-    let mut halves = Step::abort_task(&layout, one.app, attempt(&rt, TASK, 0)).expect(
-        &rt,
+    makes_room(rt, alloc, &mut names, one, written);
+    let mut halves = Step::abort_task(&layout, one.app, attempt(rt, TASK, 0)).expect(
+        rt,
         "no memory",
     );
-    let mut step = halves.copy().expect(&rt, "no memory");
+    let mut step = halves.copy().expect(rt, "no memory");
     is_heard_alike(
-        &rt,
+        rt,
         &mut names,
         one,
         &mut halves,
         &mut step,
         StepDone::Finished,
     );
-    stands(&rt, alloc, &names, one, written, None);
-    is_over(&rt, &mut names, one, &mut halves);
+    stands(rt, alloc, &names, one, written, None);
+    is_over(rt, &mut names, one, &mut halves);
 }
 
 #[test]
 fn job_abort_by_steps(rt: HostRuntime) {
+    let rt = &rt;
     let alloc = rt.alloc();
-    let one = &by_generation(&rt, 1);
-    let layout = out(&rt, alloc);
-    let mut names = job_set_up(&rt, alloc, one, &layout);
-    let mut halves = Step::abort_job(&layout).expect(&rt, "no memory");
-    let mut step = halves.copy().expect(&rt, "no memory");
+    let one = &by_generation(rt, 1);
+    let layout = out(rt, alloc);
+    let mut names = job_set_up(rt, alloc, one, &layout);
+    let mut halves = Step::abort_job(&layout).expect(rt, "no memory");
+    let mut step = halves.copy().expect(rt, "no memory");
     is_heard_alike(
-        &rt,
+        rt,
         &mut names,
         one,
         &mut halves,
         &mut step,
         StepDone::Finished,
     );
-    stands(&rt, alloc, &names, one, "/out/_temporary", None);
-    is_over(&rt, &mut names, one, &mut halves);
+    stands(rt, alloc, &names, one, "/out/_temporary", None);
+    is_over(rt, &mut names, one, &mut halves);
 }

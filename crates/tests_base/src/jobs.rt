@@ -27,6 +27,19 @@ pub fn stands(
     confirm!(rt; answer == Ok(want), &(text, answer));
 }
 
+/// These stand at the paths with these texts.
+pub fn stand(
+    rt: &impl Abort,
+    alloc: Global,
+    names: &Namespace,
+    caller: &Caller,
+    wanted: &[(&str, Option<Kind>)],
+) {
+    for (text, want) in wanted {
+        stands(rt, alloc, names, caller, text, *want);
+    }
+}
+
 /// A directory is made at the path with this text.
 pub fn makes_room(
     rt: &impl Abort,

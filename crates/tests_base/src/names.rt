@@ -12,10 +12,11 @@ use std::process::Abort;
 
 #[test]
 fn namespace_refusals(rt: HostRuntime) {
-    let one = &by_generation(&rt, 1);
-    let mut names = new_namespace(&rt, rt.alloc());
+    let rt = &rt;
+    let one = &by_generation(rt, 1);
+    let mut names = new_namespace(rt, rt.alloc());
     hold(
-        &rt,
+        rt,
         rt.alloc(),
         &mut names,
         one,
@@ -31,9 +32,9 @@ fn namespace_refusals(rt: HostRuntime) {
             Row::Delete("/", Err(NameFault::NoParent)),
         ],
     );
-    names.raise(generation(&rt, 2));
+    names.raise(generation(rt, 2));
     let late = Row::Exists("/a", Err(NameFault::Superseded(2)));
-    holds(&rt, rt.alloc(), &mut names, one, late);
+    holds(rt, rt.alloc(), &mut names, one, late);
     drop(names);
 }
 
@@ -55,20 +56,21 @@ fn has(
 // A million bytes at once, and calls that have nothing to add or to make.
 #[test]
 fn long_appends_and_empty_ones(rt: HostRuntime) {
+    let rt = &rt;
     let alloc = rt.alloc();
-    let one = &by_generation(&rt, 1);
-    let mut names = new_namespace(&rt, alloc);
-    let million = vec![in alloc; b'x'; 1_000_000].expect(&rt, "no memory");
-    let empty = [
+    let one = &by_generation(rt, 1);
+    let mut names = new_namespace(rt, alloc);
+    let million = vec![in alloc; b'x'; 1_000_000].expect(rt, "no memory");
+    let empty = &[
         Row::Mkdirs("/", Ok(())),
         Row::Create("/f", false, Ok(())),
         Row::Append("/f", b"", Ok(())),
         Row::Read("/f", b""),
     ];
-    hold(&rt, alloc, &mut names, one, &empty);
+    hold(rt, alloc, &mut names, one, empty);
     let long = Row::Append("/f", &million, Ok(()));
-    holds(&rt, alloc, &mut names, one, long);
-    has(&rt, alloc, &names, one, "/f", 1_000_000);
+    holds(rt, alloc, &mut names, one, long);
+    has(rt, alloc, &names, one, "/f", 1_000_000);
     drop(names);
 }
 
@@ -90,27 +92,28 @@ fn fill(rt: &impl Abort, alloc: Global, names: &mut Namespace, one: &Caller) {
 
 #[test]
 fn large_directory_rename(rt: HostRuntime) {
+    let rt = &rt;
     let alloc = rt.alloc();
-    let one = &by_generation(&rt, 1);
-    let mut names = new_namespace(&rt, alloc);
-    let a = path(&rt, alloc, "/a");
-    let b = path(&rt, alloc, "/b");
-    holds(&rt, alloc, &mut names, one, Row::Mkdirs("/a", Ok(())));
-    fill(&rt, alloc, &mut names, one);
-    mark(&rt, alloc);
+    let one = &by_generation(rt, 1);
+    let mut names = new_namespace(rt, alloc);
+    let a = path(rt, alloc, "/a");
+    let b = path(rt, alloc, "/b");
+    holds(rt, alloc, &mut names, one, Row::Mkdirs("/a", Ok(())));
+    fill(rt, alloc, &mut names, one);
+    mark(rt, alloc);
     let full = Row::Create("/c", true, Err(NameFault::Full));
-    holds(&rt, alloc, &mut names, one, full);
-    mark(&rt, alloc);
+    holds(rt, alloc, &mut names, one, full);
+    mark(rt, alloc);
     let renamed = names.rename(*one, &a, &b);
-    mark(&rt, alloc);
+    mark(rt, alloc);
     confirm!(rt; renamed == Ok(()), &renamed);
-    let rows = [
+    let rows = &[
         Row::Exists("/a/0", Ok(None)),
         Row::Exists("/b/65534", Ok(Some(Kind::File))),
         Row::Delete("/b", Ok(())),
         Row::Create("/c", true, Ok(())),
     ];
-    hold(&rt, alloc, &mut names, one, &rows);
+    hold(rt, alloc, &mut names, one, rows);
     drop(names);
 }
 
@@ -126,23 +129,23 @@ fn deep(rt: &impl Abort, alloc: Global, first: &str, count: usize) -> String {
 // As many directories as there may be, one beneath the other: the deepest is found, they are moved, and they are deleted.
 #[test]
 fn deepest_directory(rt: HostRuntime) {
+    let rt = &rt;
     let alloc = rt.alloc();
-    let one = &by_generation(&rt, 1);
-    let mut names = new_namespace(&rt, alloc);
-    let all = deep(&rt, alloc, "/a", MAX_ENTRIES);
-    let moved = deep(&rt, alloc, "/b", MAX_ENTRIES);
-    holds(&rt, alloc, &mut names, one, Row::Mkdirs(&all, Ok(())));
-    let full = Row::Create("/c", true, Err(NameFault::Full));
-    holds(&rt, alloc, &mut names, one, full);
-    let there = Row::Exists(&all, Ok(Some(Kind::Dir)));
-    holds(&rt, alloc, &mut names, one, there);
-    let beneath = Row::Rename("/a", &all, Err(NameFault::IntoItself));
-    holds(&rt, alloc, &mut names, one, beneath);
-    holds(&rt, alloc, &mut names, one, Row::Rename("/a", "/b", Ok(())));
-    let there = Row::Exists(&moved, Ok(Some(Kind::Dir)));
-    holds(&rt, alloc, &mut names, one, there);
-    let rows = [Row::Delete("/b", Ok(())), Row::Create("/c", true, Ok(()))];
-    hold(&rt, alloc, &mut names, one, &rows);
+    let one = &by_generation(rt, 1);
+    let mut names = new_namespace(rt, alloc);
+    let all = deep(rt, alloc, "/a", MAX_ENTRIES);
+    let moved = deep(rt, alloc, "/b", MAX_ENTRIES);
+    let rows = [
+        Row::Mkdirs(&all, Ok(())),
+        Row::Create("/c", true, Err(NameFault::Full)),
+        Row::Exists(&all, Ok(Some(Kind::Dir))),
+        Row::Rename("/a", &all, Err(NameFault::IntoItself)),
+        Row::Rename("/a", "/b", Ok(())),
+        Row::Exists(&moved, Ok(Some(Kind::Dir))),
+    ];
+    hold(rt, alloc, &mut names, one, &rows);
+    let rows = &[Row::Delete("/b", Ok(())), Row::Create("/c", true, Ok(()))];
+    hold(rt, alloc, &mut names, one, rows);
     drop(names);
 }
 
@@ -171,19 +174,20 @@ fn is_listed_whole(rt: &impl Abort, names: &Namespace, caller: &Caller, place: &
 // A full namespace: its directory is listed whole, and there is room again once a file is gone.
 #[test]
 fn large_directory_is_listed(rt: HostRuntime) {
+    let rt = &rt;
     let alloc = rt.alloc();
-    let one = &by_generation(&rt, 1);
-    let mut names = new_namespace(&rt, alloc);
-    holds(&rt, alloc, &mut names, one, Row::Mkdirs("/a", Ok(())));
-    fill(&rt, alloc, &mut names, one);
+    let one = &by_generation(rt, 1);
+    let mut names = new_namespace(rt, alloc);
+    holds(rt, alloc, &mut names, one, Row::Mkdirs("/a", Ok(())));
+    fill(rt, alloc, &mut names, one);
     let full = Row::Create("/a/more", true, Err(NameFault::Full));
-    holds(&rt, alloc, &mut names, one, full);
-    is_listed_whole(&rt, &names, one, &path(&rt, alloc, "/a"));
-    let rows = [
+    holds(rt, alloc, &mut names, one, full);
+    is_listed_whole(rt, &names, one, &path(rt, alloc, "/a"));
+    let rows = &[
         Row::Delete("/a/0", Ok(())),
         Row::Create("/a/more", true, Ok(())),
     ];
-    hold(&rt, alloc, &mut names, one, &rows);
+    hold(rt, alloc, &mut names, one, rows);
     drop(names);
 }
 
@@ -219,48 +223,51 @@ fn bars(
 // barred by name, one by a call as a value.
 #[test]
 fn barred_attempts(rt: HostRuntime) {
+    let rt = &rt;
     let alloc = rt.alloc();
-    let master = &by_generation(&rt, 1);
-    let mut names = new_namespace(&rt, alloc);
-    is_done(&rt, &mut names, master, Op::Bar(attempt(&rt, TASK, 1)));
+    let master = &by_generation(rt, 1);
+    let mut names = new_namespace(rt, alloc);
+    is_done(rt, &mut names, master, Op::Bar(attempt(rt, TASK, 1)));
     for _ in 0..2 {
-        bars(&rt, &mut names, master, 0, Ok(()));
+        bars(rt, &mut names, master, 0, Ok(()));
     }
-    finds_the_root(&rt, alloc, &names, 0, Err(NameFault::Barred));
-    finds_the_root(&rt, alloc, &names, 1, Err(NameFault::Barred));
-    finds_the_root(&rt, alloc, &names, 2, Ok(Some(Kind::Dir)));
+    finds_the_root(rt, alloc, &names, 0, Err(NameFault::Barred));
+    finds_the_root(rt, alloc, &names, 1, Err(NameFault::Barred));
+    finds_the_root(rt, alloc, &names, 2, Ok(Some(Kind::Dir)));
 }
 
 // A file takes 2^24 bytes, and no byte more.
 #[test]
 fn file_is_full(rt: HostRuntime) {
+    let rt = &rt;
     let alloc = rt.alloc();
-    let one = &by_generation(&rt, 1);
-    let mut names = new_namespace(&rt, alloc);
-    let mebibyte = vec![in alloc; b'x'; 1_048_576].expect(&rt, "no memory");
+    let one = &by_generation(rt, 1);
+    let mut names = new_namespace(rt, alloc);
+    let mebibyte = vec![in alloc; b'x'; 1_048_576].expect(rt, "no memory");
     let create = Row::Create("/f", false, Ok(()));
-    holds(&rt, alloc, &mut names, one, create);
+    holds(rt, alloc, &mut names, one, create);
     let rows = [Row::Append("/f", &mebibyte, Ok(())); 16];
-    hold(&rt, alloc, &mut names, one, &rows);
-    let rows = [
+    hold(rt, alloc, &mut names, one, &rows);
+    let rows = &[
         Row::Append("/f", b"x", Err(NameFault::Full)),
         Row::Append("/f", b"", Ok(())),
     ];
-    hold(&rt, alloc, &mut names, one, &rows);
-    has(&rt, alloc, &names, one, "/f", MAX_FILE_LEN);
+    hold(rt, alloc, &mut names, one, rows);
+    has(rt, alloc, &names, one, "/f", MAX_FILE_LEN);
     drop(names);
 }
 
 // As many attempts are barred as there is room for. One more is refused; one that is barred is not.
 #[test]
 fn bars_run_out(rt: HostRuntime) {
+    let rt = &rt;
     let alloc = rt.alloc();
-    let one = &by_generation(&rt, 1);
-    let mut names = new_namespace(&rt, alloc);
+    let one = &by_generation(rt, 1);
+    let mut names = new_namespace(rt, alloc);
     for number in 0..MAX_BARRED as u32 {
-        bars(&rt, &mut names, one, number, Ok(()));
+        bars(rt, &mut names, one, number, Ok(()));
     }
-    bars(&rt, &mut names, one, 100_000, Err(NameFault::Full));
-    bars(&rt, &mut names, one, 99_999, Ok(()));
+    bars(rt, &mut names, one, 100_000, Err(NameFault::Full));
+    bars(rt, &mut names, one, 99_999, Ok(()));
     drop(names);
 }

@@ -24,6 +24,12 @@ fn is_bad(rt: &impl Abort, fault: Option<PathFault>, text: &[u8]) {
     confirm!(rt; fault == Some(PathFault::BadName), &(text, fault));
 }
 
+// The bytes are no name's.
+fn is_no_name(rt: &impl Abort, alloc: Global, bytes: &[u8]) {
+    confirm!(rt; !is_name(bytes), &bytes);
+    is_bad(rt, Name::parse(alloc, bytes).err(), bytes);
+}
+
 // Neither is the text a path's.
 fn is_no_path(rt: &impl Abort, alloc: Global, text: &str) {
     is_bad(rt, Path::parse(alloc, text).err(), text.as_bytes());
@@ -35,43 +41,49 @@ fn shows(rt: &impl Abort, alloc: Global, path: &Path, text: &str) {
     confirm!(rt; shown.as_str() == text, &text);
 }
 
+// The text is that of a path of so many names.
+fn is_text(rt: &impl Abort, alloc: Global, text: &str, names: usize) {
+    let path = path(rt, alloc, text);
+    confirm!(rt; path.len() == names, &text);
+    shows(rt, alloc, &path, text);
+}
+
 #[test]
 fn path_texts(rt: HostRuntime) {
+    let rt = &rt;
     let alloc = rt.alloc();
     let long = [b'n'; 255];
-    for (text, names) in [
+    for (text, names) in &[
         ("/", 0),
         ("/a", 1),
         ("/a/b", 2),
         ("/out/part-r-00000", 2),
         ("/é/./..", 3),
     ] {
-        let path = path(&rt, alloc, text);
-        confirm!(rt; path.len() == names, &text);
-        shows(&rt, alloc, &path, text);
+        is_text(rt, alloc, text, *names);
     }
     confirm!(rt; is_name(&long));
-    confirm!(rt; name(&rt, alloc, &long).as_bytes() == long.as_slice());
-    let shown = name(&rt, alloc, b"a\xff").to_string(alloc);
-    confirm!(rt; shown.expect(&rt, "no memory").as_str() == "a\u{fffd}");
+    confirm!(rt; name(rt, alloc, &long).as_bytes() == long.as_slice());
+    let shown = name(rt, alloc, b"a\xff").to_string(alloc);
+    confirm!(rt; shown.expect(rt, "no memory").as_str() == "a\u{fffd}");
 }
 
 #[test]
 fn path_refusals(rt: HostRuntime) {
+    let rt = &rt;
     let alloc = rt.alloc();
-    for text in ["", "a", "a/b", "//", "/a/", "/a//b", "//a"] {
-        is_no_path(&rt, alloc, text);
+    for text in &["", "a", "a/b", "//", "/a/", "/a//b", "//a"] {
+        is_no_path(rt, alloc, text);
     }
     let long = [b'n'; 256];
-    let mut text = String::from_str(alloc, "/").expect(&rt, "no memory");
+    let mut text = String::from_str(alloc, "/").expect(rt, "no memory");
     for _i in 0..256 {
-        text.push('n').expect(&rt, "no memory");
+        text.push('n').expect(rt, "no memory");
     }
-    is_no_path(&rt, alloc, &text);
-    for bytes in [b"".as_slice(), b"a/b".as_slice(), long.as_slice()] {
-        confirm!(rt; !is_name(bytes), &bytes);
-        is_bad(&rt, Name::parse(alloc, bytes).err(), bytes);
-    }
+    is_no_path(rt, alloc, &text);
+    is_no_name(rt, alloc, b"");
+    is_no_name(rt, alloc, b"a/b");
+    is_no_name(rt, alloc, &long);
 }
 
 // The path that was made has this text.
@@ -100,36 +112,37 @@ fn works_at(rt: &impl Abort, alloc: Global, number: u32, texts: [&str; 3]) {
 
 #[test]
 fn committer_layout(rt: HostRuntime) {
+    let rt = &rt;
     let alloc = rt.alloc();
-    let layout = layout(&rt, alloc);
-    is_path(&rt, alloc, layout.temporary(), "/out/_temporary");
-    is_path(&rt, alloc, layout.marker(), "/out/_SUCCESS");
+    let layout = layout(rt, alloc);
+    is_path(rt, alloc, layout.temporary(), "/out/_temporary");
+    is_path(rt, alloc, layout.marker(), "/out/_SUCCESS");
     let first = [
         "/out/_temporary/1",
         "/out/_temporary/1/_temporary/attempt_200707121733_0003_r_000005_0",
         "/out/_temporary/1/task_200707121733_0003_r_000005",
     ];
-    works_at(&rt, alloc, 1, first);
+    works_at(rt, alloc, 1, first);
     let last = [
         "/out/_temporary/1000",
         "/out/_temporary/1000/_temporary/attempt_200707121733_0003_r_000005_999000",
         "/out/_temporary/1000/task_200707121733_0003_r_000005",
     ];
-    works_at(&rt, alloc, 1000, last);
-    let started = staging(alloc, name(&rt, alloc, b"COMMIT_STARTED"));
-    is_path(&rt, alloc, started, "/staging/COMMIT_STARTED");
-    are_part_names(&rt, alloc);
+    works_at(rt, alloc, 1000, last);
+    let started = staging(alloc, name(rt, alloc, b"COMMIT_STARTED"));
+    is_path(rt, alloc, started, "/staging/COMMIT_STARTED");
+    are_part_names(rt, alloc);
 }
 
 // The names of parts have five digits, or more where the number has.
 fn are_part_names(rt: &impl Abort, alloc: Global) {
-    for (reduce, text) in [
+    for (reduce, text) in &[
         (0, "part-r-00000"),
         (5, "part-r-00005"),
         (99_999, "part-r-99999"),
         (123_456, "part-r-123456"),
     ] {
-        let part = part_name(alloc, reduce).expect(rt, "no memory");
+        let part = part_name(alloc, *reduce).expect(rt, "no memory");
         confirm!(rt; part.as_bytes() == text.as_bytes(), &text);
         confirm!(rt; !is_hidden(&part), &text);
     }
@@ -137,31 +150,34 @@ fn are_part_names(rt: &impl Abort, alloc: Global) {
 
 #[test]
 fn hidden_names(rt: HostRuntime) {
+    let rt = &rt;
     let alloc = rt.alloc();
-    for (bytes, hidden) in [
-        (b"_SUCCESS".as_slice(), true),
-        (b"_temporary".as_slice(), true),
-        (b".crc".as_slice(), true),
-        (b"_".as_slice(), true),
-        (b"part-r-00000".as_slice(), false),
-        (b"a_b.c".as_slice(), false),
+    for (text, hidden) in &[
+        ("_SUCCESS", true),
+        ("_temporary", true),
+        (".crc", true),
+        ("_", true),
+        ("part-r-00000", false),
+        ("a_b.c", false),
     ] {
-        confirm!(rt; is_hidden(&name(&rt, alloc, bytes)) == hidden, &bytes);
+        let name = name(rt, alloc, text.as_bytes());
+        confirm!(rt; is_hidden(&name) == *hidden, text);
     }
 }
 
 #[test]
 fn paths_are_made(rt: HostRuntime) {
+    let rt = &rt;
     let alloc = rt.alloc();
-    let a = Name::new(alloc, b"a").expect(&rt, "no memory");
-    let b = a.copy().expect(&rt, "no memory");
+    let a = Name::new(alloc, b"a").expect(rt, "no memory");
+    let b = a.copy().expect(rt, "no memory");
     confirm!(rt; a == b);
-    confirm!(rt; a.clone().expect(&rt, "no memory") == b);
-    let top = Path::root(alloc).child(a).expect(&rt, "no memory");
-    let mut leaf = top.copy().expect(&rt, "no memory");
-    leaf.push(b).expect(&rt, "no memory");
-    shows(&rt, alloc, &leaf, "/a/a");
-    is_child(&rt, &leaf, &top);
+    confirm!(rt; a.clone().expect(rt, "no memory") == b);
+    let top = Path::root(alloc).child(a).expect(rt, "no memory");
+    let mut leaf = top.copy().expect(rt, "no memory");
+    leaf.push(b).expect(rt, "no memory");
+    shows(rt, alloc, &leaf, "/a/a");
+    is_child(rt, &leaf, &top);
 }
 
 // The path is one of two names, beneath the other, which has one.

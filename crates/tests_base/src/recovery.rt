@@ -1,7 +1,7 @@
 //! The committer's recovery of what an earlier master's task committed, whole or by steps, and aborts at once.
 
 use crate::fixtures::{TASK, attempt, by_generation, new_namespace, path};
-use crate::jobs::{job_set_up, makes_room, out, stands};
+use crate::jobs::{job_set_up, makes_room, out, stand, stands};
 use mr_commit::{CommitFault, RecoverTask, StepDone, abort_job, abort_task, recover_task};
 use mr_names::{Caller, Kind, Namespace, Op};
 use mr_paths::Layout;
@@ -39,34 +39,36 @@ fn recovers(
 
 #[test]
 fn recovery_by_steps(rt: HostRuntime) {
+    let rt = &rt;
     let alloc = rt.alloc();
-    let two = &by_generation(&rt, 2);
-    let layout = out(&rt, alloc);
-    let mut names = job_set_up(&rt, alloc, two, &layout);
+    let two = &by_generation(rt, 2);
+    let layout = out(rt, alloc);
+    let mut names = job_set_up(rt, alloc, two, &layout);
     let committed = "/out/_temporary/1/task_200707121733_0003_r_000000";
-    makes_room(&rt, alloc, &mut names, two, committed);
-    let mut halves = RecoverTask::new(&layout, two.app, TASK, None).expect(&rt, "no memory");
-    let mut step = halves.copy().expect(&rt, "no memory");
-    recovery_begins_alike(&rt, &mut names, two, &mut halves, &mut step);
-    recovers(&rt, &mut names, two, &mut step, Ok(StepDone::More));
-    recovers(&rt, &mut names, two, &mut step, Ok(StepDone::Finished));
-    stands(&rt, alloc, &names, two, committed, None);
+    makes_room(rt, alloc, &mut names, two, committed);
+    let mut halves = RecoverTask::new(&layout, two.app, TASK, None).expect(rt, "no memory");
+    let mut step = halves.copy().expect(rt, "no memory");
+    recovery_begins_alike(rt, &mut names, two, &mut halves, &mut step);
+    recovers(rt, &mut names, two, &mut step, Ok(StepDone::More));
+    recovers(rt, &mut names, two, &mut step, Ok(StepDone::Finished));
+    stands(rt, alloc, &names, two, committed, None);
     let recovered = "/out/_temporary/2/task_200707121733_0003_r_000000";
-    stands(&rt, alloc, &names, two, recovered, Some(Kind::Dir));
+    stands(rt, alloc, &names, two, recovered, Some(Kind::Dir));
 }
 
 #[test]
 fn first_master_recovers_nothing(rt: HostRuntime) {
+    let rt = &rt;
     let alloc = rt.alloc();
-    let one = &by_generation(&rt, 1);
-    let mut names = new_namespace(&rt, alloc);
-    let mut nothing = RecoverTask::new(&out(&rt, alloc), one.app, TASK, None).expect(
-        &rt,
+    let one = &by_generation(rt, 1);
+    let mut names = new_namespace(rt, alloc);
+    let mut nothing = RecoverTask::new(&out(rt, alloc), one.app, TASK, None).expect(
+        rt,
         "no memory",
     );
     confirm!(rt; nothing.call().is_none());
     recovers(
-        &rt,
+        rt,
         &mut names,
         one,
         &mut nothing,
@@ -106,22 +108,23 @@ fn due(step: &RecoverTask) -> &'static str {
 // The second master takes over a reduce with a length, whoever is stopped on the way: it looks, reads, makes room, and moves.
 #[test]
 fn recovery_stopped_halfway(rt: HostRuntime) {
+    let rt = &rt;
     let alloc = rt.alloc();
-    let two = &by_generation(&rt, 2);
-    let layout = out(&rt, alloc);
-    let mut names = committed_before(&rt, alloc, two, &layout, b"a\t1\nb\t1\n");
-    let mut step = RecoverTask::new(&layout, two.app, TASK, Some(8)).expect(&rt, "no memory");
-    for (call, done) in [
+    let two = &by_generation(rt, 2);
+    let layout = out(rt, alloc);
+    let mut names = committed_before(rt, alloc, two, &layout, b"a\t1\nb\t1\n");
+    let mut step = RecoverTask::new(&layout, two.app, TASK, Some(8)).expect(rt, "no memory");
+    for (call, done) in &[
         ("exists", StepDone::More),
         ("read", StepDone::More),
         ("delete", StepDone::More),
         ("rename", StepDone::Finished),
     ] {
-        confirm!(rt; due(&step) == call, &call);
-        recovers(&rt, &mut names, two, &mut step, Ok(done));
+        confirm!(rt; due(&step) == *call, call);
+        recovers(rt, &mut names, two, &mut step, Ok(*done));
     }
     let recovered = "/out/_temporary/2/task_200707121733_0003_r_000000/part-r-00000";
-    stands(&rt, alloc, &names, two, recovered, Some(Kind::File));
+    stands(rt, alloc, &names, two, recovered, Some(Kind::File));
 }
 
 // The reduce is taken over at once, with a file of this length.
@@ -150,27 +153,28 @@ fn is_aborted(
     abort_task(names, *caller, layout, attempt(rt, TASK, 0)).expect(rt, "refused");
     stands(rt, alloc, names, caller, written, None);
     abort_job(names, *caller, layout).expect(rt, "refused");
-    stands(rt, alloc, names, caller, "/out/_temporary", None);
-    stands(rt, alloc, names, caller, "/out", Some(Kind::Dir));
+    let left = &[("/out/_temporary", None), ("/out", Some(Kind::Dir))];
+    stand(rt, alloc, names, caller, left);
 }
 
 // A recovery at once, of a file that has its recorded length, and of one that has not; and aborts at once.
 #[test]
 fn recovered_then_aborted(rt: HostRuntime) {
+    let rt = &rt;
     let alloc = rt.alloc();
-    let two = &by_generation(&rt, 2);
-    let layout = out(&rt, alloc);
-    let mut names = committed_before(&rt, alloc, two, &layout, b"a\t1\n");
+    let two = &by_generation(rt, 2);
+    let layout = out(rt, alloc);
+    let mut names = committed_before(rt, alloc, two, &layout, b"a\t1\n");
     takes_over(
-        &rt,
+        rt,
         &mut names,
         two,
         &layout,
         5,
         Err(CommitFault::WrongLength),
     );
-    takes_over(&rt, &mut names, two, &layout, 4, Ok(()));
+    takes_over(rt, &mut names, two, &layout, 4, Ok(()));
     let recovered = "/out/_temporary/2/task_200707121733_0003_r_000000";
-    stands(&rt, alloc, &names, two, recovered, Some(Kind::Dir));
-    is_aborted(&rt, alloc, &mut names, two, &layout);
+    stands(rt, alloc, &names, two, recovered, Some(Kind::Dir));
+    is_aborted(rt, alloc, &mut names, two, &layout);
 }

@@ -31,30 +31,40 @@ pub fn holds(rt: &impl Abort, alloc: Global, names: &mut Namespace, caller: &Cal
     match row {
         Row::Mkdirs(text, want) => {
             let answer = names.mkdirs(*caller, &path(rt, alloc, text));
-            confirm!(rt; answer == want, &(text, answer))
+            is_told(rt, text, answer, want)
         }
         Row::Create(text, closed, want) => {
             let answer = names.create(*caller, &path(rt, alloc, text), closed);
-            confirm!(rt; answer == want, &(text, answer))
+            is_told(rt, text, answer, want)
         }
         Row::Append(text, bytes, want) => {
             let answer = names.append(*caller, &path(rt, alloc, text), bytes);
-            confirm!(rt; answer == want, &(text, answer))
+            is_told(rt, text, answer, want)
         }
         Row::Rename(from, to, want) => {
             let answer = names.rename(*caller, &path(rt, alloc, from), &path(rt, alloc, to));
-            confirm!(rt; answer == want, &(from, answer))
+            is_told(rt, from, answer, want)
         }
         Row::Close(text, want) => {
             let answer = names.close(*caller, &path(rt, alloc, text));
-            confirm!(rt; answer == want, &(text, answer))
+            is_told(rt, text, answer, want)
         }
         Row::Delete(text, want) => {
             let answer = names.delete(*caller, &path(rt, alloc, text));
-            confirm!(rt; answer == want, &(text, answer))
+            is_told(rt, text, answer, want)
         }
         read => is_read_so(rt, alloc, names, caller, read),
     }
+}
+
+// The call at the place with this text has this answer.
+fn is_told(
+    rt: &impl Abort,
+    text: &str,
+    answer: Result<(), NameFault>,
+    want: Result<(), NameFault>,
+) {
+    confirm!(rt; answer == want, &(text, answer));
 }
 
 // What is read of the namespace is as the row says.
