@@ -65,49 +65,53 @@ fn gives_none<J: Job, G: Gate>(
 
 #[test]
 fn map_output_bytes(rt: HostRuntime) {
+    let rt = &rt;
     let alloc = rt.alloc();
     let want = b"\0\0\0\x1a\0\0\0\x01a\0\0\0\0\0\0\0\x02\0\0\0\x01b\0\0\0\0\0\0\0\x01";
-    gives(&rt, alloc, &WordCount, b"a b a", 1, want);
+    gives(rt, alloc, &WordCount, b"a b a", 1, want);
     let want =
         b"\0\0\0\x22\0\0\0\x01b\0\0\0\x03\0\0\0\0\0\0\0\0\0\0\0\x01b\0\0\0\x03\0\0\0\0\0\0\0\x01\0\0\0\0";
-    gives(&rt, alloc, &LineIndex, b"b\nb", 2, want);
-    gives(&rt, alloc, &WordCount, b"", 2, b"\0\0\0\0\0\0\0\0");
+    gives(rt, alloc, &LineIndex, b"b\nb", 2, want);
+    gives(rt, alloc, &WordCount, b"", 2, b"\0\0\0\0\0\0\0\0");
 }
 
 #[test]
 fn long_line_of_one_word(rt: HostRuntime) {
+    let rt = &rt;
     let alloc = rt.alloc();
     let mut split = Vec::new(alloc);
     for _ in 0..4097 {
-        split.extend_from_slice(b"a ").expect(&rt, "no memory");
+        split.extend_from_slice(b"a ").expect(rt, "no memory");
     }
     let want = b"\0\0\0\x0d\0\0\0\x01a\0\0\0\0\0\0\x10\x01";
-    gives(&rt, alloc, &WordCount, &split, 1, want);
+    gives(rt, alloc, &WordCount, &split, 1, want);
 }
 
 // One line more than a run holds pairs, each of the same word: the lines stay in their order.
 #[test]
 fn word_of_two_runs(rt: HostRuntime) {
+    let rt = &rt;
     let alloc = rt.alloc();
     let mut split = Vec::new(alloc);
     let mut want = Vec::new(alloc);
     want.extend_from_slice(b"\0\x04\x40\x11")
-        .expect(&rt, "no memory");
+        .expect(rt, "no memory");
     for line in 0u64..16_385 {
-        split.extend_from_slice(b"a\n").expect(&rt, "no memory");
+        split.extend_from_slice(b"a\n").expect(rt, "no memory");
         want.extend_from_slice(b"\0\0\0\x01a\0\0\0\x03")
-            .expect(&rt, "no memory");
+            .expect(rt, "no memory");
         want.extend_from_slice(&line.to_be_bytes())
-            .expect(&rt, "no memory");
+            .expect(rt, "no memory");
     }
-    gives(&rt, alloc, &LineIndex, &split, 1, &want);
+    gives(rt, alloc, &LineIndex, &split, 1, &want);
 }
 
 #[test]
 fn runs_are_read(rt: HostRuntime) {
+    let rt = &rt;
     let alloc = rt.alloc();
     let read = read_pair::<WordCount>(alloc, b"\0\0\0\x01a\0\0\0\0\0\0\0\x02b");
-    let (pair, len) = read.expect(&rt, "a fault");
+    let (pair, len) = read.expect(rt, "a fault");
     confirm!(rt; len == 13);
     confirm!(rt; pair.0.as_slice() == b"a".as_slice());
     confirm!(rt; pair.1 == 2);
@@ -115,11 +119,12 @@ fn runs_are_read(rt: HostRuntime) {
 
 #[test]
 fn bad_runs_and_none(rt: HostRuntime) {
+    let rt = &rt;
     let alloc = rt.alloc();
     let fault = read_pair::<WordCount>(alloc, b"\0\0\0\x01a\0").err();
     confirm!(rt; fault == Some(UserFault::BadWire), &fault);
-    let mut groups = RunGroups::<WordCount>::new(alloc, Vec::new(alloc)).expect(&rt, "no memory");
-    let next = groups.next_group(alloc).expect(&rt, "no memory");
+    let mut groups = RunGroups::<WordCount>::new(alloc, Vec::new(alloc)).expect(rt, "no memory");
+    let next = groups.next_group(alloc).expect(rt, "no memory");
     confirm!(rt; next.is_none());
 }
 
@@ -133,29 +138,31 @@ fn gate_for(kind: TaskKind) -> GateFor {
 
 #[test]
 fn map_work_is_refused(rt: HostRuntime) {
+    let rt = &rt;
     let alloc = rt.alloc();
     let maps = gate_for(TaskKind::Map);
     let reduces = gate_for(TaskKind::Reduce);
-    let output = output_of(&rt, alloc, &MaxByKey, &maps, b"x 3", 1).expect(&rt, "a fault");
+    let output = output_of(rt, alloc, &MaxByKey, &maps, b"x 3", 1).expect(rt, "a fault");
     confirm!(rt; output.bytes().len() == 17);
     confirm!(rt; maps.entered.get() == 1);
     let refused = WorkFault::User(UserFault::Refused);
-    gives_none(&rt, alloc, &MaxByKey, &maps, b"x 3\nx", refused);
+    gives_none(rt, alloc, &MaxByKey, &maps, b"x 3\nx", refused);
     let spent = WorkFault::Gate(GateFault::Spent);
-    gives_none(&rt, alloc, &MaxByKey, &reduces, b"x", spent);
+    gives_none(rt, alloc, &MaxByKey, &reduces, b"x", spent);
     confirm!(rt; maps.entered.get() == 2);
     confirm!(rt; reduces.entered.get() == 1);
 }
 
 #[test]
 fn map_output_is_full(rt: HostRuntime) {
+    let rt = &rt;
     let alloc = rt.alloc();
     let mut split = Vec::new(alloc);
     for _ in 0..1000000 {
-        split.extend_from_slice(b"a ").expect(&rt, "no memory");
+        split.extend_from_slice(b"a ").expect(rt, "no memory");
     }
-    gives_none(&rt, alloc, &LineIndex, &OpenGate, &split, WorkFault::Full);
-    let output = output_of(&rt, alloc, &WordCount, &OpenGate, &split, 1).expect(&rt, "a fault");
+    gives_none(rt, alloc, &LineIndex, &OpenGate, &split, WorkFault::Full);
+    let output = output_of(rt, alloc, &WordCount, &OpenGate, &split, 1).expect(rt, "a fault");
     confirm!(rt; output.bytes().len() == 17);
 }
 
@@ -181,19 +188,20 @@ fn is_uncut(rt: &impl Abort, bytes: &[u8], reduces: u32) {
 
 #[test]
 fn outputs_are_cut(rt: HostRuntime) {
-    let three = output(&rt, rt.alloc(), b"\0\0\0\x02ab\0\0\0\0\0\0\0\x01c");
-    let three = three.copy().expect(&rt, "no memory");
-    let found = blocks(three.bytes(), 3).expect(&rt, "no blocks");
+    let rt = &rt;
+    let three = output(rt, rt.alloc(), b"\0\0\0\x02ab\0\0\0\0\0\0\0\x01c");
+    let three = three.copy().expect(rt, "no memory");
+    let found = blocks(three.bytes(), 3).expect(rt, "no blocks");
     confirm!(rt; found.count() == 3);
-    is_block(&rt, found.get(0), b"ab");
-    is_block(&rt, found.get(1), b"");
-    is_block(&rt, found.get(2), b"c");
+    is_block(rt, found.get(0), b"ab");
+    is_block(rt, found.get(1), b"");
+    is_block(rt, found.get(2), b"c");
     confirm!(rt; found.get(3).is_none());
-    is_uncut(&rt, three.bytes(), 2);
-    is_uncut(&rt, three.bytes(), 4);
-    is_uncut(&rt, b"\0\0\0", 1);
-    is_uncut(&rt, b"\0\0\0\x02a", 1);
-    is_uncut(&rt, b"", 1);
+    is_uncut(rt, three.bytes(), 2);
+    is_uncut(rt, three.bytes(), 4);
+    is_uncut(rt, b"\0\0\0", 1);
+    is_uncut(rt, b"\0\0\0\x02a", 1);
+    is_uncut(rt, b"", 1);
     blocks_are_one();
     output_is_its_blocks::<WordCount>();
     drop(three);
@@ -206,27 +214,40 @@ fn cut(rt: &impl Abort, alloc: Global) -> CutOutput {
 
 #[test]
 fn cut_output_lends_its_blocks(rt: HostRuntime) {
-    let cut = cut(&rt, rt.alloc());
-    let copied = cut.clone().expect(&rt, "no memory");
-    is_block(&rt, copied.block(2, 1), b"c");
+    let rt = &rt;
+    let cut = cut(rt, rt.alloc());
+    let copied = cut.clone().expect(rt, "no memory");
+    is_block(rt, copied.block(2, 1), b"c");
     drop(copied);
     confirm!(rt; cut.block(3, 1).is_none());
     confirm!(rt; cut.block(2, 2).is_none());
     drop(cut);
 }
 
-#[test]
-fn shared_output_outlives_its_first_holder(rt: HostRuntime) {
-    let bytes = Bytes::from_slice(rt.alloc(), TWO).expect(&rt, "no memory");
+// An output that is shared, of two reduces.
+fn shared(rt: &impl Abort, alloc: Global) -> MapOutput {
+    let bytes = Bytes::from_slice(alloc, TWO).expect(rt, "no memory");
     assert!(rt; bytes.len() == 11 && bytes.len() <= MAX_OUTPUT_LEN);
     let mut output = MapOutput::from_bytes(bytes);
     output.share();
-    assert!(rt; output.bytes().len() == 11);
-    let copied = output.copy().expect(&rt, "no memory");
-    let part = output.part(4, 6).expect(&rt, "no memory");
-    let none = output.part(11, 11).expect(&rt, "no memory");
+    output
+}
+
+// The bytes of the output from this place on up to that one.
+fn part(rt: &impl Abort, output: &MapOutput, from: usize, to: usize) -> Bytes {
+    assert!(rt; output.bytes().len() == 11 && from <= to && to <= 11);
+    output.part(from, to).expect(rt, "no memory")
+}
+
+#[test]
+fn shared_output_outlives_its_first_holder(rt: HostRuntime) {
+    let rt = &rt;
+    let output = shared(rt, rt.alloc());
+    let copied = output.copy().expect(rt, "no memory");
+    let first = part(rt, &output, 4, 6);
+    let none = part(rt, &output, 11, 11);
     drop(output);
-    confirm!(rt; part.as_slice() == b"ab".as_slice());
+    confirm!(rt; first.as_slice() == b"ab".as_slice());
     confirm!(rt; none.is_empty());
     confirm!(rt; copied.bytes() == TWO);
     drop(copied);
@@ -234,15 +255,16 @@ fn shared_output_outlives_its_first_holder(rt: HostRuntime) {
 
 #[test]
 fn shared_block_outlives_its_cut_output(rt: HostRuntime) {
-    let cut = cut(&rt, rt.alloc());
-    let first = cut.share_block(2, 0).expect(&rt, "no memory");
-    let last = cut.share_block(2, 1).expect(&rt, "no memory");
-    shares_none(&rt, &cut, 3, 1);
-    shares_none(&rt, &cut, 2, 2);
+    let rt = &rt;
+    let cut = cut(rt, rt.alloc());
+    let first = cut.share_block(2, 0).expect(rt, "no memory");
+    let last = cut.share_block(2, 1).expect(rt, "no memory");
+    shares_none(rt, &cut, 3, 1);
+    shares_none(rt, &cut, 2, 2);
     drop(cut);
-    let first = first.expect(&rt, "no block");
+    let first = first.expect(rt, "no block");
     confirm!(rt; first.as_slice() == b"ab".as_slice());
-    let last = last.expect(&rt, "no block");
+    let last = last.expect(rt, "no block");
     confirm!(rt; last.as_slice() == b"c".as_slice());
 }
 

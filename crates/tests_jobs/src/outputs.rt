@@ -5,54 +5,67 @@ use mr_jobs::WordCount;
 use mr_mapside::{WorkFault, blocks};
 use mr_shuffle::{Piece, reduce_work};
 use mr_user::OpenGate;
-use std::alloc::{AllocError, Global};
+use std::alloc::Global;
 use std::io::{self, Read, Write};
+use std::process::Abort;
+
+// Adds a line.
+fn put(rt: &impl Abort, told: &mut Vec<u8>, line: &[u8]) {
+    told.extend_from_slice(line).expect(rt, "no memory");
+}
+
+// Adds a text, or its fault.
+fn put_answer(
+    rt: &impl Abort,
+    alloc: Global,
+    told: &mut Vec<u8>,
+    answer: Result<Vec<u8>, WorkFault>,
+) {
+    match answer {
+        Ok(text) => {
+            let line = format!(in alloc; "{} bytes\n", text.len()).expect(rt, "no memory");
+            put(rt, told, line.as_bytes());
+            put(rt, told, &text)
+        }
+        Err(WorkFault::NoMemory) => panic!(rt; "no memory"),
+        Err(fault) => {
+            let line = format!(in alloc; "{fault}\n").expect(rt, "no memory");
+            put(rt, told, line.as_bytes())
+        }
+    }
+}
 
 // Adds what a reduce of wordcount makes of its block: the text behind its length, or the fault.
-fn tell(alloc: Global, told: &mut Vec<u8>, reduce: u32, block: &[u8]) -> Result<(), AllocError> {
-    let bytes = Bytes::from_vec(Vec::from_slice(alloc, block)?);
+fn tell(rt: &impl Abort, alloc: Global, told: &mut Vec<u8>, reduce: u32, block: &[u8]) {
+    let bytes = Bytes::from_vec(Vec::from_slice(alloc, block).expect(rt, "no memory"));
     let piece = Piece {
         map: 0,
         reduce,
         bytes,
     };
-    let mut parts = Vec::with_capacity(alloc, 1)?;
-    parts.push(piece)?;
-    match reduce_work(alloc, &WordCount, &OpenGate, reduce, &parts) {
-        Ok(text) => {
-            let line = format!(in alloc; "{} bytes\n", text.len())?;
-            told.extend_from_slice(line.as_bytes())?;
-            told.extend_from_slice(&text)
-        }
-        Err(WorkFault::NoMemory) => Err(AllocError),
-        Err(fault) => {
-            let line = format!(in alloc; "{fault}\n")?;
-            told.extend_from_slice(line.as_bytes())
-        }
-    }
+    let mut parts = Vec::with_capacity(alloc, 1).expect(rt, "no memory");
+    parts.push(piece).expect(rt, "no memory");
+    let answer = reduce_work(alloc, &WordCount, &OpenGate, reduce, &parts);
+    put_answer(rt, alloc, told, answer);
 }
 
-// What the reduces make of a map's output: one line that there are no such blocks, or what each makes of its own.
-fn told(alloc: Global, reduces: u32, output: &[u8]) -> Result<Vec<u8>, AllocError> {
-    let mut told = Vec::from_slice(alloc, b"begin\n")?;
-    match blocks(output, reduces) {
-        None => told.extend_from_slice(b"no blocks\n")?,
-        Some(found) => {
-            for reduce in 0..reduces {
-                match found.get(reduce) {
-                    Some(block) => tell(alloc, &mut told, reduce, block)?,
-                    None => told.extend_from_slice(b"none\n")?,
-                }
-            }
+// Adds one line that there are no such blocks, or what each reduce makes of its own.
+fn tell_all(rt: &impl Abort, alloc: Global, told: &mut Vec<u8>, reduces: u32, output: &[u8]) {
+    let Some(found) = blocks(output, reduces) else {
+        return put(rt, told, b"no blocks\n");
+    };
+    for reduce in 0..reduces {
+        match found.get(reduce) {
+            Some(block) => tell(rt, alloc, told, reduce, block),
+            None => put(rt, told, b"none\n"),
         }
     }
-    told.extend_from_slice(b"end\n")?;
-    Ok(told)
 }
 
 // The first byte that comes in is the number of reduces, and the rest the output. Prints what the reduces make of it.
 #[test]
 fn output_of_standard_input(rt: HostRuntime) {
+    let rt = &rt;
     let mut input = Vec::new(rt.alloc());
     if let Err(fault) = rt.reader().read_to_end(&mut input) {
         panic!(rt; "{fault}");
@@ -60,7 +73,9 @@ fn output_of_standard_input(rt: HostRuntime) {
     let Some((reduces, output)) = input.split_first() else {
         return;
     };
-    let told = told(rt.alloc(), u32::from(*reduces), output).expect(&rt, "no memory");
-    let written = io::writer(&rt).write_all(&told);
-    assert!(rt; written.is_ok());
+    let mut told = Vec::from_slice(rt.alloc(), b"begin\n").expect(rt, "no memory");
+    tell_all(rt, rt.alloc(), &mut told, u32::from(*reduces), output);
+    put(rt, &mut told, b"end\n");
+    let written = io::writer(rt).write_all(&told);
+    confirm!(rt; written.is_ok());
 }

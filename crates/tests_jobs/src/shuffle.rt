@@ -100,6 +100,16 @@ fn refuses(
     confirm!(rt; fault == Some(WorkFault::Shuffle(want)), &fault);
 }
 
+// A reduce, the first map and the reduce of the pieces, their bytes, and why they are refused.
+type Refused<'a> = (u32, (u32, u32), &'a [&'a [u8]], ShuffleFault);
+
+// The pieces of each row are refused.
+fn refuse(rt: &impl Abort, alloc: Global, rows: &[Refused]) {
+    for (reduce, of, all, want) in rows {
+        refuses(rt, alloc, *reduce, *of, all, *want);
+    }
+}
+
 // Of nothing it makes nothing.
 fn makes_nothing<J: Job>(rt: &impl Abort, alloc: Global, job: &J, reduce: u32) {
     let text = reduce_work(alloc, job, &OpenGate, reduce, &[]).expect(rt, "a fault");
@@ -108,25 +118,31 @@ fn makes_nothing<J: Job>(rt: &impl Abort, alloc: Global, job: &J, reduce: u32) {
 
 #[test]
 fn reduce_faults(rt: HostRuntime) {
+    let rt = &rt;
     let alloc = rt.alloc();
-    refuses(&rt, alloc, 0, (0, 0), &[SHORT], ShuffleFault::Truncated);
-    refuses(&rt, alloc, 0, (0, 0), &[FALLING], ShuffleFault::Disorder);
-    refuses(&rt, alloc, 0, (1, 0), &[BLOCK], ShuffleFault::WrongPiece);
-    makes_nothing(&rt, alloc, &WordCount, 0);
+    let rows: &[Refused] = &[
+        (0, (0, 0), &[SHORT], ShuffleFault::Truncated),
+        (0, (0, 0), &[FALLING], ShuffleFault::Disorder),
+        (0, (1, 0), &[BLOCK], ShuffleFault::WrongPiece),
+    ];
+    refuse(rt, alloc, rows);
+    makes_nothing(rt, alloc, &WordCount, 0);
 }
 
 #[test]
 fn first_fault_is_told(rt: HostRuntime) {
+    let rt = &rt;
     let alloc = rt.alloc();
-    refuses(&rt, alloc, 3, (0, 3), &[SHORT], ShuffleFault::Truncated);
-    refuses(&rt, alloc, 3, (0, 3), &[FALLING], ShuffleFault::Disorder);
-    let all = [BLOCK, SHORT, FALLING];
-    refuses(&rt, alloc, 3, (0, 3), &all, ShuffleFault::Truncated);
-    let all = [BLOCK, FALLING, SHORT];
-    refuses(&rt, alloc, 3, (0, 3), &all, ShuffleFault::Disorder);
-    refuses(&rt, alloc, 3, (1, 3), &[SHORT], ShuffleFault::WrongPiece);
-    refuses(&rt, alloc, 3, (0, 2), &[SHORT], ShuffleFault::WrongPiece);
-    makes_nothing(&rt, alloc, &MaxByKey, 3);
+    let rows: &[Refused] = &[
+        (3, (0, 3), &[SHORT], ShuffleFault::Truncated),
+        (3, (0, 3), &[FALLING], ShuffleFault::Disorder),
+        (3, (0, 3), &[BLOCK, SHORT, FALLING], ShuffleFault::Truncated),
+        (3, (0, 3), &[BLOCK, FALLING, SHORT], ShuffleFault::Disorder),
+        (3, (1, 3), &[SHORT], ShuffleFault::WrongPiece),
+        (3, (0, 2), &[SHORT], ShuffleFault::WrongPiece),
+    ];
+    refuse(rt, alloc, rows);
+    makes_nothing(rt, alloc, &MaxByKey, 3);
     let fault = reduce_work(alloc, &WordCount, &MapsOnly, 3, &[]).err();
     confirm!(rt; fault == Some(WorkFault::Gate(GateFault::Spent)), &fault);
 }
@@ -148,28 +164,36 @@ fn is_not_looked_at(rt: &impl Abort, alloc: Global, first: u32, piece: &[u8]) {
 // and one of another map are not seen.
 #[test]
 fn reduce_enters_once(rt: HostRuntime) {
+    let rt = &rt;
     let alloc = rt.alloc();
-    enters_once(&rt, alloc, &[]);
-    enters_once(&rt, alloc, &[BLOCK]);
-    enters_once(&rt, alloc, &[BLOCK, MORE]);
-    is_not_looked_at(&rt, alloc, 0, SHORT);
-    is_not_looked_at(&rt, alloc, 1, BLOCK);
+    enters_once(rt, alloc, &[]);
+    enters_once(rt, alloc, &[BLOCK]);
+    enters_once(rt, alloc, &[BLOCK, MORE]);
+    is_not_looked_at(rt, alloc, 0, SHORT);
+    is_not_looked_at(rt, alloc, 1, BLOCK);
+}
+
+// These bytes, each by itself.
+fn bytes_of(rt: &impl Abort, alloc: Global, all: &[&[u8]]) -> Vec<Bytes> {
+    let mut made = Vec::new(alloc);
+    for bytes in all {
+        let bytes = Bytes::from_slice(alloc, bytes).expect(rt, "no memory");
+        made.push(bytes).expect(rt, "no memory");
+    }
+    made
 }
 
 // Bytes of pieces alone are reduced to the same text, behind a gate that is entered once.
 #[test]
 fn bytes_alone_are_reduced(rt: HostRuntime) {
+    let rt = &rt;
     let alloc = rt.alloc();
-    let mut all = Vec::new(alloc);
-    for bytes in [BLOCK, MORE] {
-        let bytes = Vec::from_slice(alloc, bytes).expect(&rt, "no memory");
-        all.push(Bytes::from_vec(bytes)).expect(&rt, "no memory");
-    }
+    let all = bytes_of(rt, alloc, &[BLOCK, MORE]);
     let gate = Counting {
         entered: Cell::new(0),
         is_open: true,
     };
-    let text = reduce_bytes(alloc, &WordCount, &gate, &all).expect(&rt, "a fault");
+    let text = reduce_bytes(alloc, &WordCount, &gate, &all).expect(rt, "a fault");
     confirm!(rt; same(&text, b"a\t7\nb\t1\n"));
     confirm!(rt; gate.entered.get() == 1);
     let fault = reduce_bytes(alloc, &WordCount, &MapsOnly, &all).err();
@@ -193,11 +217,12 @@ fn long_piece(rt: &impl Abort, alloc: Global, len: u32) -> Vec<Piece> {
 
 #[test]
 fn reduce_is_full(rt: HostRuntime) {
+    let rt = &rt;
     let alloc = rt.alloc();
-    let most = long_piece(&rt, alloc, 16777213);
-    let text = reduced(alloc, &WordCount, &most).expect(&rt, "a fault");
+    let most = long_piece(rt, alloc, 16777213);
+    let text = reduced(alloc, &WordCount, &most).expect(rt, "a fault");
     confirm!(rt; text.len() == MAX_OUTPUT_LEN);
-    let more = long_piece(&rt, alloc, 16777214);
+    let more = long_piece(rt, alloc, 16777214);
     let fault = reduced(alloc, &WordCount, &more).err();
     confirm!(rt; fault == Some(WorkFault::Full), &fault);
 }
@@ -214,12 +239,13 @@ fn text_of(len: usize) -> Option<&'static [u8]> {
 
 #[test]
 fn every_prefix_of_a_block(rt: HostRuntime) {
+    let rt = &rt;
     let alloc = rt.alloc();
     for len in 0..=26 {
         let front = &BLOCK[..len];
         match text_of(len) {
-            Some(want) => gives(&rt, alloc, front, want),
-            None => refuses(&rt, alloc, 3, (0, 3), &[front], ShuffleFault::Truncated),
+            Some(want) => gives(rt, alloc, front, want),
+            None => refuses(rt, alloc, 3, (0, 3), &[front], ShuffleFault::Truncated),
         }
     }
 }
@@ -245,13 +271,14 @@ fn is_text_or_bad(rt: &impl Abort, alloc: Global, piece: &[u8]) {
 
 #[test]
 fn every_change_of_a_block(rt: HostRuntime) {
+    let rt = &rt;
     let alloc = rt.alloc();
     for place in 0..26 {
         for byte in 0..=255 {
-            let mut bytes = Vec::from_slice(alloc, BLOCK).expect(&rt, "no memory");
+            let mut bytes = Vec::from_slice(alloc, BLOCK).expect(rt, "no memory");
             assert!(rt; place < bytes.len());
             bytes[place] = byte;
-            is_text_or_bad(&rt, alloc, &bytes);
+            is_text_or_bad(rt, alloc, &bytes);
         }
     }
 }
@@ -275,6 +302,20 @@ fn put_fault(rt: &impl Abort, alloc: Global, seen: &mut Vec<u8>, fault: ShuffleF
         .expect(rt, "no memory");
 }
 
+// Adds an item of a merge: a group, a fault, or a point where there is none.
+fn put_item(
+    rt: &impl Abort,
+    alloc: Global,
+    seen: &mut Vec<u8>,
+    item: Option<Result<(Text, Vec<u64>), ShuffleFault>>,
+) {
+    match item {
+        Some(Ok((key, values))) => put_group(rt, seen, &key, &values),
+        Some(Err(fault)) => put_fault(rt, alloc, seen, fault),
+        None => seen.push(b'.').expect(rt, "no memory"),
+    }
+}
+
 // The first four items of a merge of these pieces are so: of each group its key, its values after it, and a bar; of a fault its text; a
 // point where there is none.
 fn is_merged(rt: &impl Abort, alloc: Global, all: &[&[u8]], want: &[u8]) {
@@ -282,24 +323,27 @@ fn is_merged(rt: &impl Abort, alloc: Global, all: &[&[u8]], want: &[u8]) {
     let mut merge = Merge::<WordCount>::new(alloc, &parts).expect(rt, "no memory");
     let mut seen = Vec::new(alloc);
     for _ in 0..4 {
-        match merge.next() {
-            Some(Ok((key, values))) => put_group(rt, &mut seen, &key, &values),
-            Some(Err(fault)) => put_fault(rt, alloc, &mut seen, fault),
-            None => seen.push(b'.').expect(rt, "no memory"),
-        }
+        put_item(rt, alloc, &mut seen, merge.next());
     }
+    drop(merge);
     confirm!(rt; same(&seen, want), &want);
 }
 
 #[test]
 fn merge_gives_groups(rt: HostRuntime) {
+    let rt = &rt;
     let alloc = rt.alloc();
-    is_merged(&rt, alloc, &[BLOCK, MORE], b"a25|b1|..");
-    is_merged(&rt, alloc, &[MORE, BLOCK], b"a52|b1|..");
-    is_merged(&rt, alloc, &[], b"....");
-    is_merged(&rt, alloc, &[SHORT], b"Truncated|...");
-    is_merged(&rt, alloc, &[FALLING], b"Disorder|...");
-    is_merged(&rt, alloc, &[BLOCK, FALLING], b"Disorder|...");
+    let rows: &[(&[&[u8]], &[u8])] = &[
+        (&[BLOCK, MORE], b"a25|b1|.."),
+        (&[MORE, BLOCK], b"a52|b1|.."),
+        (&[], b"...."),
+        (&[SHORT], b"Truncated|..."),
+        (&[FALLING], b"Disorder|..."),
+        (&[BLOCK, FALLING], b"Disorder|..."),
+    ];
+    for (all, want) in rows {
+        is_merged(rt, alloc, all, want);
+    }
 }
 
 // An output of such bytes.
@@ -329,39 +373,41 @@ fn has(rt: &impl Abort, shelf: &ShelfOfNode, a: AttemptId, reduce: u32, want: Op
 
 #[test]
 fn shelf_keeps_until_all_is_dropped(rt: HostRuntime) {
+    let rt = &rt;
     let alloc = rt.alloc();
-    let first = attempt(&rt, "attempt_200707121733_0003_m_000000_0");
-    let second = attempt(&rt, "attempt_200707121733_0003_m_000000_1");
+    let first = attempt(rt, "attempt_200707121733_0003_m_000000_0");
+    let second = attempt(rt, "attempt_200707121733_0003_m_000000_1");
     let mut shelf = ShelfOfNode::new(alloc, 2);
-    has(&rt, &shelf, first, 0, None);
-    puts(&rt, alloc, &mut shelf, first, b"\0\0\0\x01x\0\0\0\x01y");
-    puts(&rt, alloc, &mut shelf, first, b"\0\0\0\x02ab\0\0\0\x01c");
-    puts(&rt, alloc, &mut shelf, second, b"\0\0\0\x02ab");
-    has(&rt, &shelf, first, 0, Some(b"ab"));
-    has(&rt, &shelf, first, 1, Some(b"c"));
-    has(&rt, &shelf, first, 2, None);
-    has(&rt, &shelf, second, 0, None);
-    let copied = shelf.copy().expect(&rt, "no memory");
+    has(rt, &shelf, first, 0, None);
+    puts(rt, alloc, &mut shelf, first, b"\0\0\0\x01x\0\0\0\x01y");
+    puts(rt, alloc, &mut shelf, first, b"\0\0\0\x02ab\0\0\0\x01c");
+    puts(rt, alloc, &mut shelf, second, b"\0\0\0\x02ab");
+    has(rt, &shelf, first, 0, Some(b"ab"));
+    has(rt, &shelf, first, 1, Some(b"c"));
+    has(rt, &shelf, first, 2, None);
+    has(rt, &shelf, second, 0, None);
+    let copied = shelf.copy().expect(rt, "no memory");
     shelf.drop_all();
-    has(&rt, &shelf, first, 0, None);
+    has(rt, &shelf, first, 0, None);
     drop(shelf);
-    has(&rt, &copied, first, 1, Some(b"c"));
+    has(rt, &copied, first, 1, Some(b"c"));
     drop(copied);
     attempts_are_apart();
 }
 
 #[test]
 fn shared_block_outlives_its_shelf(rt: HostRuntime) {
+    let rt = &rt;
     let alloc = rt.alloc();
-    let a = attempt(&rt, "attempt_200707121733_0003_m_000000_0");
+    let a = attempt(rt, "attempt_200707121733_0003_m_000000_0");
     let mut shelf = ShelfOfNode::new(alloc, 2);
-    puts(&rt, alloc, &mut shelf, a, b"\0\0\0\x02ab\0\0\0\x01c");
-    let block = shelf.share(a, 0).expect(&rt, "no memory");
+    puts(rt, alloc, &mut shelf, a, b"\0\0\0\x02ab\0\0\0\x01c");
+    let block = shelf.share(a, 0).expect(rt, "no memory");
     shelf.drop_all();
-    let none = shelf.share(a, 0).expect(&rt, "no memory");
+    let none = shelf.share(a, 0).expect(rt, "no memory");
     confirm!(rt; none.is_none());
     drop(shelf);
-    let block = block.expect(&rt, "no block");
+    let block = block.expect(rt, "no block");
     confirm!(rt; same(block.as_slice(), b"ab"));
 }
 
@@ -394,11 +440,12 @@ fn is_shuffled<J: Job>(rt: &impl Abort, alloc: Global, job: &J, splits: &[&[u8]]
 
 #[test]
 fn pieces_make_the_text(rt: HostRuntime) {
+    let rt = &rt;
     let alloc = rt.alloc();
     let words = [b"c b g c".as_slice(), b"a\ng c".as_slice(), b"".as_slice()];
-    is_shuffled(&rt, alloc, &WordCount, &words, b"c\t3\ng\t2\n");
+    is_shuffled(rt, alloc, &WordCount, &words, b"c\t3\ng\t2\n");
     let lines = b"c\t0:0,0:0,1:1\ng\t0:0,1:1\n";
-    is_shuffled(&rt, alloc, &LineIndex, &words, lines);
+    is_shuffled(rt, alloc, &LineIndex, &words, lines);
     shuffle_gives_sequential_text::<WordCount>();
     works_give_sequential_text::<LineIndex>();
     piece_is_what_it_says::<MaxByKey>();
