@@ -2,7 +2,7 @@
 
 use crate::fixtures::generation;
 use crate::masters::{Call, Told, attempt, hold, is_told, reduced, started};
-use mr_history::{History, HistoryFault, Record, Records, Replayed, Segment, replay};
+use mr_history::{History, HistoryFault, Record, Records, Replayed, Segment, replay, whole_line};
 use mr_ids::TaskKind;
 use std::alloc::Global;
 use std::process::Abort;
@@ -112,6 +112,8 @@ fn record_lines(rt: HostRuntime) {
     let read = replayed(rt, rt.alloc(), wanted.as_bytes());
     confirm!(rt; read.torn == 0);
     confirm!(rt; read.records.as_slice() == one_of_each(rt).as_slice());
+    let line = whole_line(rt.alloc(), &started(rt)).expect(rt, "no memory");
+    confirm!(rt; line.as_str() == STARTED);
 }
 
 #[test]
