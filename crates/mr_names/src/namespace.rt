@@ -1,4 +1,4 @@
-//! The namespace as its callers see it: each call, and its refusals in their order, with the fence and the barred attempts. What stands where is kept in `tree`.
+//! The namespace as its callers see it: each call, and its refusals in their order, with the fence and the barred attempts. What stands where is kept in a `Tree` of mr_tree.
 ghost use Rattle.std.specs.Prelude.{IsOkUnless, ◌≡◌, ◌+◌, ℕ, [], ◌∷◌, ◌++◌, IfOk, OnOk, OnErr, length, nat_lt, ◌<◌, ◌^◌, if◌then◌else◌, Some, None, true, false};
 ghost use Rattle.mr_tree.specs.Walk.{walk};
 ghost use Rattle.mr_names.specs.Calls.{State, IsSound, opening, raised, Makes, MakesAlways, Refuses, unheard, refused, entry_count, may_want_memory};
