@@ -4,6 +4,7 @@ ghost use Rattle.mr_commands.specs.declared.fault.SimFault.TheVariants.{NoMemory
 
 use crate::cast::{join_actor, join_addressees, living};
 use crate::lanes::{end_at, lanes_of, live, live_on};
+use crate::replay::Replay;
 use crate::rest::{deliveries, left_out};
 use crate::rows::{Facts, event_of, facts_of, name_label, put_consequences, put_detail, sign_of};
 use mr_commands::SimFault;
@@ -13,8 +14,8 @@ use mr_drawing::{
 };
 use mr_event::Event;
 use mr_packet::{Address, Envelope, Packet};
-use mr_trace::mr_world::{World, WorldFault};
-use mr_trace::{Makers, opened, put_address, put_number, put_packet, put_seat};
+use mr_trace::mr_world::World;
+use mr_trace::{Makers, put_address, put_number, put_packet, put_seat};
 use std::alloc::{AllocError, Global};
 use std::ops::Range;
 
@@ -43,46 +44,38 @@ fn shown(
     let places = part.places(journal.len());
     let mut drawing = blank(alloc, world, part, &places, ending)?;
     let ways = deliveries(alloc, journal, world.bag().len(), &places)?;
-    let mut again = opened(alloc, world.config())?;
-    for (place, event) in journal.iter().enumerate().take(places.start) {
-        send_before(&mut drawing, &mut again, &ways, place, event)?;
+    let mut replay = Replay::new(alloc, world)?;
+    for place in 0..places.start {
+        send_before(&mut drawing, &mut replay, &ways, place)?;
     }
-    live_on(&mut drawing.lanes, &again);
-    for event in events_at(journal, &places) {
-        add(alloc, &mut drawing, &mut again, &ways, event, makers)?;
+    live_on(&mut drawing.lanes, replay.world());
+    for _ in places {
+        add(alloc, &mut drawing, &mut replay, &ways, makers)?;
     }
     Ok(drawing)
 }
 
-// The event happens once more. One that is not taken now is passed over: a journal has none.
-fn repeat(world: &mut World, event: &Event) -> Result<(), AllocError> {
-    match world.apply(event.copy()?) {
-        Ok(_took) => Ok(()),
-        Err(WorldFault::NotNow(_why)) => Ok(()),
-        Err(WorldFault::Full) => Ok(()),
-        Err(WorldFault::NoMemory) => Err(AllocError),
-    }
-}
-
-// The events at these places of a journal.
-fn events_at<'a>(journal: &'a [Event], places: &Range<usize>) -> &'a [Event] {
-    journal.get(places.start..places.end).unwrap_or(&[])
-}
-
 // The lanes of those who take part in the events at these places of a world's journal.
 fn lanes_at(alloc: Global, world: &World, places: &Range<usize>) -> Result<Vec<Lane>, AllocError> {
-    let mut again = opened(alloc, world.config())?;
-    for event in world.journal().iter().take(places.start) {
-        repeat(&mut again, event)?;
+    let mut replay = Replay::new(alloc, world)?;
+    for _ in 0..places.start {
+        replay.happen()?;
     }
-    let mut cast = living(alloc, &again)?;
-    for event in events_at(world.journal(), places) {
-        let first = again.bag().len();
-        join_actor(&mut cast, &again, event)?;
-        repeat(&mut again, event)?;
-        join_addressees(&mut cast, &again, first)?;
+    let mut cast = living(alloc, replay.world())?;
+    for _ in places.start..places.end {
+        join_next(&mut cast, &mut replay)?;
     }
-    lanes_of(alloc, &again, &cast)
+    lanes_of(alloc, replay.world(), &cast)
+}
+
+// The next event happens, and whoever takes part in it joins the cast.
+fn join_next(cast: &mut Vec<Address>, replay: &mut Replay<'_>) -> Result<(), AllocError> {
+    let first = replay.world().bag().len();
+    if let Some(event) = replay.next_event() {
+        join_actor(cast, replay.world(), event)?;
+    }
+    replay.happen()?;
+    join_addressees(cast, replay.world(), first)
 }
 
 // A drawing with the lanes of those who take part, and nothing in them.
@@ -112,28 +105,33 @@ fn blank(
     })
 }
 
-// The event happens before the rows, at this place of the journal: only its packets are drawn, where they arrive.
+// The next event happens before the rows, at this place of the journal: only its packets are drawn, where they arrive.
 fn send_before(
     drawing: &mut Drawing,
-    world: &mut World,
+    replay: &mut Replay<'_>,
     ways: &[Delivery],
     place: usize,
-    event: &Event,
 ) -> Result<(), AllocError> {
-    let from = actor_of(&drawing.lanes, world, event);
-    repeat(world, event)?;
-    send(drawing, from, Sending::Before(place), world, ways)
+    let Some(event) = replay.next_event() else {
+        return Ok(());
+    };
+    let from = actor_of(&drawing.lanes, replay.world(), event);
+    replay.happen()?;
+    send(drawing, from, Sending::Before(place), replay.world(), ways)
 }
 
-// The event happens, and is drawn. Each packet is delivered where its place tells.
+// The next event happens, and is drawn. Each packet is delivered where its place tells.
 fn add(
     alloc: Global,
     drawing: &mut Drawing,
-    world: &mut World,
+    replay: &mut Replay<'_>,
     ways: &[Delivery],
-    event: &Event,
     makers: &Makers<'_>,
 ) -> Result<(), AllocError> {
+    let Some(event) = replay.next_event() else {
+        return Ok(());
+    };
+    let world = replay.world();
     let place = drawing.rows.len();
     let end = end_at(world, event);
     let before = facts_of(world, event)?;
@@ -144,7 +142,8 @@ fn add(
     let first = world.bag().len();
     row.leftwards = arrive(drawing, event, place)?;
     put_sending(&mut row.detail, drawing, event)?;
-    repeat(world, event)?;
+    replay.happen()?;
+    let world = replay.world();
     live(&mut drawing.lanes, world, place, end);
     send(drawing, row.lane, Sending::At(place), world, ways)?;
     put_lost(&mut row.detail, world, ways, first)?;

@@ -9,15 +9,17 @@
 //! - `drawn`, of any world, fails by nothing but an allocation failure;
 //! - which events of the run a picture shows is told by `Part::places` of mr_drawing.
 //!
-//! The events of a journal happen once more, in a world of their own, and leave lanes, rows and arrows (`draw`). The
-//! crate mr_drawing writes these as SVG, and mr_trace has the words of an event. Each crate beneath is proved without
-//! this one, so that nothing else is proved anew where a line of a picture changes.
+//! The events of a journal happen once more, in a world of their own, and leave lanes, rows and arrows (`draw`). That
+//! each can happen there in its turn is proved (`Replay`). The crate mr_drawing writes these as SVG, and mr_trace has
+//! the words of an event. Each crate beneath is proved without this one, so that nothing else is proved anew where a
+//! line of a picture changes.
 #![tactic(auto)]
 
 mod cast;
 mod draw;
 mod lanes;
 mod picture;
+mod replay;
 mod rest;
 mod rows;
 

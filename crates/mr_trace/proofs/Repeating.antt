@@ -29,7 +29,7 @@ not_full j e copy f is same can r = cc (is, refused j e copy f same can r)
 
 -- ---- events that can happen in turn
 
-first_of : (cfg : Config) (before all es : List Event) (e : Event) → all ≡ e ∷ es → CanFollow cfg before all → CanHappen (record { config = cfg; events = before }) e × CanFollow cfg (before ++ e ∷ []) es
+pub first_of : (cfg : Config) (before all es : List Event) (e : Event) → all ≡ e ∷ es → CanFollow cfg before all → CanHappen (record { config = cfg; events = before }) e × CanFollow cfg (before ++ e ∷ []) es
 first_of cfg before all es e is can = subst (CanFollow cfg before) is can
 
 front : (all : List Event) (i : ℕ) (e : Event) → i < length all → e ≡ get_or all i e → drop i all ≡ e ∷ drop (suc i) all

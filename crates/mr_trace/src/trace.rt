@@ -1,5 +1,5 @@
 //! The trace of a run: its events in words, each with its line of the script, its store call and its packets.
-ghost use Rattle.std.specs.Prelude.{◌≡◌, ◌++◌, ◌∷◌, [], OnOk, IfOk, IfErr, drop};
+ghost use Rattle.std.specs.Prelude.{◌≡◌, ◌++◌, ◌∷◌, [], OnOk, IfOk, IfErr, OnErr, drop};
 ghost use Rattle.mr_commands.specs.declared.fault.SimFault.TheVariants.{NoMemory};
 ghost use Rattle.mr_model.specs.Sending.{sent};
 ghost use Rattle.mr_play.specs.mr_world.specs.Applying.{CanHappen};
@@ -95,11 +95,13 @@ fn put_beginning(
     put_asked(out, b" | ", world, event)
 }
 
-/// An event of a journal happens once more in a world of its own, and its packets are the last of the bag.
+/// An event of a journal happens once more in a world of its own, and its packets are the last of the bag. Where there
+/// is no memory for it nothing has changed.
 pub fn happen(world: &mut World, event: &Event) -> Result<(), AllocError>
     requires { CanHappen world.old event.now }
     ensures journal { OnOk result (world.new ≡ record { config = world.old.config; events = world.old.events ++ event.now ∷ [] }) }
     ensures packets { OnOk result ((world_in world.new).bag ≡ (world_in world.old).bag ++ sent world.old.config (world_in world.old) event.now) }
+    ensures unchanged { OnErr result (world.new ≡ world.old) }
 {
     let copy = event.copy()?;
     match world.apply(copy) {

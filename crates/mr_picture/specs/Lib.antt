@@ -1,0 +1,2 @@
+-- A run that happens once more, event by event: Replaying.
+pub mod Replaying
