@@ -1,88 +1,137 @@
 //! The bag of packets, and bytes.
 
-use crate::fixtures::{bytes_of, container};
+use crate::fixtures::{bytes_of, container, shows};
 use mr_packet::{Address, Bag, BagFault, Bytes, Envelope, Packet};
+use std::alloc::Global;
+use std::process::Abort;
+
+// A packet to the node of this number goes into the bag.
+fn push(rt: &impl Abort, bag: &mut Bag, number: u32) {
+    let kill = Envelope {
+        to: Address::Node(number),
+        body: Packet::Kill {
+            c: container(rt, 0),
+        },
+    };
+    bag.push(kill).expect(rt, "no memory");
+}
 
 #[test]
 fn bag_grows(rt: HostRuntime) {
-    let c = container(&rt, 0);
+    let rt = &rt;
     let mut bag = Bag::new(rt.alloc());
-    bag.reserve(2).expect(&rt, "no memory");
-    for number in [0, 1, 2] {
-        let kill = Envelope {
-            to: Address::Node(number),
-            body: Packet::Kill { c },
-        };
-        bag.push(kill).expect(&rt, "no memory");
-    }
-    assert!(rt; bag.len() == 3 && bag.packets().len() == 3);
-    assert!(rt; bag.get(3).is_none());
-    let last = bag.get(2);
-    assert!(rt; last.is_some_and(|envelope| envelope.to == Address::Node(2)));
+    bag.reserve(2).expect(rt, "no memory");
+    push(rt, &mut bag, 0);
+    push(rt, &mut bag, 1);
+    push(rt, &mut bag, 2);
+    confirm!(rt; bag.len() == 3);
+    confirm!(rt; bag.packets().len() == 3);
+    confirm!(rt; bag.get(3).is_none());
+    let last = bag.get(2).expect(rt, "no packet");
+    confirm!(rt; last.to == Address::Node(2));
+    drop(bag);
+}
+
+// These are the bytes.
+fn are(rt: &impl Abort, bytes: &Bytes, want: &[u8]) {
+    confirm!(rt; bytes.as_slice() == want, &want);
+}
+
+// More bytes are added.
+fn extend(rt: &impl Abort, bytes: &mut Bytes, more: &[u8]) {
+    bytes.extend(more).expect(rt, "no memory")
+}
+
+fn append(rt: &impl Abort, bytes: &mut Bytes, more: &Bytes) {
+    bytes.append(more).expect(rt, "no memory")
 }
 
 #[test]
 fn bytes_are_added(rt: HostRuntime) {
-    let mut bytes = bytes_of(&rt, rt.alloc(), b"ab");
-    bytes.extend(b"c").expect(&rt, "no memory");
-    let copy = bytes.copy().expect(&rt, "no memory");
-    assert!(rt; copy.len() == 3 && copy.as_slice() == b"abc".as_slice());
-    assert!(rt; bytes == copy && !bytes.is_empty() && Bytes::new(rt.alloc()).is_empty());
-    bytes.extend(b"d").expect(&rt, "no memory");
-    assert!(rt; bytes != copy);
-    assert!(rt; bytes.as_slice() == b"abcd".as_slice());
+    let rt = &rt;
+    let mut bytes = bytes_of(rt, rt.alloc(), b"ab");
+    extend(rt, &mut bytes, b"c");
+    let copy = bytes.copy().expect(rt, "no memory");
+    confirm!(rt; copy.len() == 3);
+    are(rt, &copy, b"abc");
+    confirm!(rt; bytes == copy);
+    confirm!(rt; !bytes.is_empty());
+    confirm!(rt; Bytes::new(rt.alloc()).is_empty());
+    extend(rt, &mut bytes, b"d");
+    confirm!(rt; bytes != copy);
+    are(rt, &bytes, b"abcd");
+    drop(copy);
+    drop(bytes);
+}
+
+// Four bytes that are shared.
+fn shared(rt: &impl Abort, alloc: Global) -> Bytes {
+    let mut bytes = bytes_of(rt, alloc, b"abcd");
+    bytes.share();
+    bytes
+}
+
+// The part of four bytes from this place on up to that one.
+fn part(rt: &impl Abort, bytes: &Bytes, from: usize, to: usize) -> Bytes {
+    assert!(rt; bytes.len() == 4 && from <= to && to <= 4);
+    bytes.part(from, to).expect(rt, "no memory")
 }
 
 #[test]
 fn shared_bytes_outlive_their_first_holder(rt: HostRuntime) {
-    let mut bytes = bytes_of(&rt, rt.alloc(), b"abcd");
-    bytes.share();
-    assert!(rt; bytes.len() == 4);
-    let part = bytes.part(1, 3).expect(&rt, "no memory");
+    let rt = &rt;
+    let bytes = shared(rt, rt.alloc());
+    let middle = part(rt, &bytes, 1, 3);
     drop(bytes);
-    let mut other = part.copy().expect(&rt, "no memory");
-    other.extend(b"e").expect(&rt, "no memory");
-    assert!(rt; part.as_slice() == b"bc".as_slice() && other.as_slice() == b"bce".as_slice());
-    let mut joined = Bytes::new(part.allocator());
-    joined.append(&part).expect(&rt, "no memory");
-    joined.append(&other).expect(&rt, "no memory");
-    let want = Bytes::from_slice(rt.alloc(), b"bcbce").expect(&rt, "no memory");
-    assert!(rt; joined == want);
+    let mut other = middle.copy().expect(rt, "no memory");
+    extend(rt, &mut other, b"e");
+    are(rt, &middle, b"bc");
+    are(rt, &other, b"bce");
+    let mut joined = Bytes::new(middle.allocator());
+    append(rt, &mut joined, &middle);
+    append(rt, &mut joined, &other);
+    drop(middle);
+    drop(other);
+    let want = bytes_of(rt, rt.alloc(), b"bcbce");
+    confirm!(rt; joined == want);
+    drop(want);
+    drop(joined);
 }
 
 // Parts that follow one another, and one that does not, as it was added before.
 #[test]
 fn part_grows_over_what_follows(rt: HostRuntime) {
-    let mut bytes = bytes_of(&rt, rt.alloc(), b"abcd");
-    bytes.share();
-    assert!(rt; bytes.len() == 4);
-    let mut grown = bytes.part(0, 1).expect(&rt, "no memory");
-    let part = bytes.part(1, 3).expect(&rt, "no memory");
-    grown.append(&part).expect(&rt, "no memory");
-    assert!(rt; grown.as_slice() == b"abc".as_slice());
-    grown.append(&part).expect(&rt, "no memory");
-    assert!(rt; grown.as_slice() == b"abcbc".as_slice() && bytes.as_slice() == b"abcd".as_slice());
+    let rt = &rt;
+    let bytes = shared(rt, rt.alloc());
+    let mut grown = part(rt, &bytes, 0, 1);
+    let middle = part(rt, &bytes, 1, 3);
+    append(rt, &mut grown, &middle);
+    are(rt, &grown, b"abc");
+    append(rt, &mut grown, &middle);
+    are(rt, &grown, b"abcbc");
+    are(rt, &bytes, b"abcd");
+    drop(middle);
+    drop(grown);
+    drop(bytes);
 }
 
 #[test]
 fn bytes_are_copied_in_their_order(rt: HostRuntime) {
-    let all = [
-        bytes_of(&rt, rt.alloc(), b"ab"),
-        bytes_of(&rt, rt.alloc(), b"c"),
-    ];
-    let copies = Bytes::copies(rt.alloc(), &all).expect(&rt, "no memory");
-    assert!(rt; copies.as_slice() == all.as_slice());
+    let rt = &rt;
+    let mut all = Vec::new(rt.alloc());
+    for bytes in &[b"ab".as_slice(), b"c".as_slice()] {
+        all.push(bytes_of(rt, rt.alloc(), bytes))
+            .expect(rt, "no memory");
+    }
+    let copies = Bytes::copies(rt.alloc(), &all).expect(rt, "no memory");
+    confirm!(rt; copies.as_slice() == all.as_slice());
+    drop(copies);
+    drop(all);
 }
 
 #[test]
 fn bag_fault_texts(rt: HostRuntime) {
-    for (fault, want) in [(BagFault::Full, "Full"), (BagFault::NoMemory, "NoMemory")] {
-        assert!(rt;
-            fault
-                .to_string(rt.alloc())
-                .expect(&rt, "no memory")
-                .as_str()
-                == want
-        );
-    }
+    let rt = &rt;
+    shows(rt, rt.alloc(), &BagFault::Full, "Full");
+    shows(rt, rt.alloc(), &BagFault::NoMemory, "NoMemory");
 }

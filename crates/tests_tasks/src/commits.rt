@@ -1,8 +1,9 @@
 //! How a container comes to its end: by a commit, by an abort, or as a map.
 
-use crate::fixtures::{attempt, bytes_of, hears, machine};
+use crate::containers::{fetching, gets, hears, machine, wishes};
+use crate::fixtures::{attempt, bytes_of};
 use mr_container::{ContainerMachine, Reply, Wish};
-use mr_ids::{AttemptId, TaskKind};
+use mr_ids::TaskKind;
 use mr_names::{NameFault, Namespace};
 use mr_packet::{Bag, Envelope, Packet};
 use mr_paths::{Layout, Path, part_name};
@@ -11,22 +12,8 @@ use std::process::Abort;
 
 // A reduce whose bytes `out` were handed in.
 fn computed(rt: &impl Abort, alloc: Global) -> ContainerMachine {
-    let mut reduce = machine(rt, alloc, TaskKind::Reduce);
-    let ready = Packet::MapReady {
-        map: 0,
-        a: attempt(rt, TaskKind::Map, 0),
-        n: 0,
-        incarnation: 1,
-    };
-    hears(rt, &mut reduce, ready);
-    let piece = Packet::Piece {
-        a: attempt(rt, TaskKind::Map, 0),
-        reduce: 0,
-        offset: 0,
-        total: 0,
-        bytes: bytes_of(rt, alloc, b""),
-    };
-    hears(rt, &mut reduce, piece);
+    let mut reduce = fetching(rt, alloc);
+    gets(rt, alloc, &mut reduce, &(0, 0, 0, 0, b""));
     reduce.computed(bytes_of(rt, alloc, b"out"));
     reduce
 }
@@ -37,22 +24,85 @@ fn layout(rt: &impl Abort, alloc: Global) -> Layout {
     }
 }
 
-// The container makes the call that it wishes to make.
-fn calls(rt: &impl Abort, names: &mut Namespace, layout: &Layout, machine: &mut ContainerMachine) {
-    let Some(op) = machine.call(layout).expect(rt, "no memory") else {
-        panic!(rt; "no call");
-    };
-    match names.perform(machine.caller(), &op) {
-        Err(NameFault::NoMemory) => panic!(rt; "no memory"),
-        answer => machine.on(Reply::Answered(answer)),
+// What comes to a reduce that has its bytes.
+#[derive(Clone, Copy)]
+enum Event {
+    // It makes the call that it wishes to make.
+    Calls,
+    // It sends what it wishes to send.
+    Sends,
+    // Its attempt is told whether it may commit.
+    Yes,
+    No,
+    // Another attempt is told that it may.
+    YesToAnother,
+}
+
+// The container wishes each of these in turn, and then this comes.
+fn goes(
+    rt: &impl Abort,
+    names: &mut Namespace,
+    layout: &Layout,
+    machine: &mut ContainerMachine,
+    rows: &[(Wish, Event)],
+) {
+    for (wish, event) in rows {
+        wishes(rt, machine, *wish);
+        match *event {
+            Event::Calls => calls(rt, names, layout, machine),
+            Event::Sends => machine.sent(),
+            Event::Yes => is_answered(rt, machine, 0, true),
+            Event::No => is_answered(rt, machine, 0, false),
+            Event::YesToAnother => is_answered(rt, machine, 1, true),
+        }
     }
 }
 
-fn is_answered(rt: &impl Abort, machine: &mut ContainerMachine, a: AttemptId, yes: bool) {
+// The container makes the call that it wishes to make.
+fn calls(rt: &impl Abort, names: &mut Namespace, layout: &Layout, machine: &mut ContainerMachine) {
+    let call = machine.call(layout).expect(rt, "no memory");
+    let op = call.expect(rt, "no call");
+    let answer = names.perform(machine.caller(), &op);
+    drop(op);
+    machine.on(Reply::Answered(answer));
+}
+
+// The attempt of this number at the reduce is told whether it may commit.
+fn is_answered(rt: &impl Abort, machine: &mut ContainerMachine, number: u32, yes: bool) {
+    let a = attempt(rt, TaskKind::Reduce, number);
     hears(rt, machine, Packet::Answer { a, yes });
 }
 
-// What it tells of its length where it reports that it is done.
+// A reduce that wrote its part file.
+fn written(
+    rt: &impl Abort,
+    alloc: Global,
+    names: &mut Namespace,
+    layout: &Layout,
+) -> ContainerMachine {
+    let mut reduce = computed(rt, alloc);
+    goes(
+        rt,
+        names,
+        layout,
+        &mut reduce,
+        &[
+            (Wish::Mkdirs, Event::Calls),
+            (Wish::Create, Event::Calls),
+            (Wish::Write, Event::Calls),
+            (Wish::Close, Event::Calls),
+            (Wish::Needs, Event::Calls),
+        ],
+    );
+    reduce
+}
+
+// Where it reports that it is done, this is what it tells of its length.
+fn tells_length(rt: &impl Abort, machine: &ContainerMachine, want: Option<u32>) {
+    let told = told_bytes(machine);
+    confirm!(rt; told == Some(want), &told);
+}
+
 fn told_bytes(machine: &ContainerMachine) -> Option<Option<u32>> {
     match machine.packet() {
         Some(
@@ -65,112 +115,148 @@ fn told_bytes(machine: &ContainerMachine) -> Option<Option<u32>> {
     }
 }
 
+// The reduce's part file has these bytes.
+fn is_committed(
+    rt: &impl Abort,
+    alloc: Global,
+    names: &Namespace,
+    layout: &Layout,
+    reduce: &ContainerMachine,
+    want: &[u8],
+) {
+    let task = reduce.place().attempt.task();
+    let mut part = layout
+        .committed(reduce.id().app, task)
+        .expect(rt, "no memory");
+    let name = part_name(alloc, 0).expect(rt, "no memory");
+    part.push(name).expect(rt, "no memory");
+    let bytes = names.read(reduce.caller(), &part).expect(rt, "no file");
+    drop(part);
+    confirm!(rt; bytes.as_slice() == want);
+    drop(bytes);
+}
+
 // Its part file is written, and is committed once it was told yes.
 #[test]
 fn reduce_commits(rt: HostRuntime) {
+    let rt = &rt;
     let alloc = rt.alloc();
-    let layout = layout(&rt, alloc);
-    let mut names = Namespace::new(alloc).expect(&rt, "no memory");
-    let mut reduce = computed(&rt, alloc);
-    for wish in [
-        Wish::Mkdirs,
-        Wish::Create,
-        Wish::Write,
-        Wish::Close,
-        Wish::Needs,
-    ] {
-        assert!(rt; reduce.wish() == wish);
-        calls(&rt, &mut names, &layout, &mut reduce);
-    }
-    let a = reduce.place().attempt;
-    is_answered(&rt, &mut reduce, a, false);
-    assert!(rt; reduce.wish() == Wish::Poll);
-    is_answered(&rt, &mut reduce, a, true);
-    let mut copy = reduce.copy().expect(&rt, "no memory");
-    for wish in [Wish::Look, Wish::Clear, Wish::Rename] {
-        assert!(rt; copy.wish() == wish);
-        calls(&rt, &mut names, &layout, &mut copy);
-    }
-    assert!(rt; told_bytes(&copy) == Some(Some(3)));
-    let mut part = layout
-        .committed(copy.id().app, a.task())
-        .expect(&rt, "no memory");
-    part.push(part_name(alloc, 0).expect(&rt, "no memory"))
-        .expect(&rt, "no memory");
-    let bytes = names.read(copy.caller(), &part).expect(&rt, "no file");
-    assert!(rt; bytes.as_slice() == b"out".as_slice());
+    let layout = layout(rt, alloc);
+    let mut names = Namespace::new(alloc).expect(rt, "no memory");
+    let mut reduce = written(rt, alloc, &mut names, &layout);
+    goes(
+        rt,
+        &mut names,
+        &layout,
+        &mut reduce,
+        &[(Wish::Pending, Event::No), (Wish::Poll, Event::Yes)],
+    );
+    let mut copy = reduce.copy().expect(rt, "no memory");
+    drop(reduce);
+    goes(
+        rt,
+        &mut names,
+        &layout,
+        &mut copy,
+        &[
+            (Wish::Look, Event::Calls),
+            (Wish::Clear, Event::Calls),
+            (Wish::Rename, Event::Calls),
+        ],
+    );
+    tells_length(rt, &copy, Some(3));
+    is_committed(rt, alloc, &names, &layout, &copy, b"out");
+    drop(copy);
+    drop(names);
+    drop(layout);
 }
 
 // What was sent is wished again until the answer is heard: a no leads from one way of asking to the other.
 #[test]
 fn asks_until_yes(rt: HostRuntime) {
+    let rt = &rt;
     let alloc = rt.alloc();
-    let layout = layout(&rt, alloc);
-    let mut names = Namespace::new(alloc).expect(&rt, "no memory");
-    let mut reduce = computed(&rt, alloc);
-    for _ in 0..5 {
-        calls(&rt, &mut names, &layout, &mut reduce);
-    }
-    let a = reduce.place().attempt;
-    reduce.sent();
-    assert!(rt; reduce.wish() == Wish::Pending);
-    is_answered(&rt, &mut reduce, attempt(&rt, TaskKind::Reduce, 1), true);
-    assert!(rt; reduce.wish() == Wish::Pending);
-    is_answered(&rt, &mut reduce, a, false);
-    reduce.sent();
-    assert!(rt; reduce.wish() == Wish::Poll);
-    is_answered(&rt, &mut reduce, a, false);
-    assert!(rt; reduce.wish() == Wish::Pending);
+    let layout = layout(rt, alloc);
+    let mut names = Namespace::new(alloc).expect(rt, "no memory");
+    let mut reduce = written(rt, alloc, &mut names, &layout);
+    goes(
+        rt,
+        &mut names,
+        &layout,
+        &mut reduce,
+        &[
+            (Wish::Pending, Event::Sends),
+            (Wish::Pending, Event::YesToAnother),
+            (Wish::Pending, Event::No),
+            (Wish::Poll, Event::Sends),
+            (Wish::Poll, Event::No),
+        ],
+    );
+    wishes(rt, &reduce, Wish::Pending);
+    drop(reduce);
+    drop(names);
+    drop(layout);
+}
+
+// Whether two packets tell that an attempt failed, and that its container ended.
+fn tell_of_a_failure(packets: &[Envelope]) -> bool {
+    matches!(
+        packets,
+        [
+            Envelope {
+                to: _,
+                body: Packet::Failed { .. }
+            },
+            Envelope {
+                to: _,
+                body: Packet::Ended { .. }
+            }
+        ]
+    )
 }
 
 // A fault leads to the abort, whatever that answers; then it tells that it failed, and ended.
 #[test]
 fn fault_aborts(rt: HostRuntime) {
+    let rt = &rt;
     let alloc = rt.alloc();
-    let mut reduce = computed(&rt, alloc);
+    let mut reduce = computed(rt, alloc);
     reduce.on(Reply::Fault);
-    assert!(rt; reduce.wish() == Wish::Abort);
+    wishes(rt, &reduce, Wish::Abort);
     reduce.on(Reply::Answered(Err(NameFault::Missing)));
-    assert!(rt; reduce.wish() == Wish::Failed);
+    wishes(rt, &reduce, Wish::Failed);
     let mut bag = Bag::new(alloc);
-    bag.reserve(2).expect(&rt, "no memory");
+    bag.reserve(2).expect(rt, "no memory");
     reduce.send(&mut bag);
-    assert!(rt; reduce.wish() == Wish::Over);
-    assert!(rt;
-        matches!(
-            bag.packets(),
-            [
-                Envelope {
-                    to: _,
-                    body: Packet::Failed { .. }
-                },
-                Envelope {
-                    to: _,
-                    body: Packet::Ended { .. }
-                }
-            ]
-        )
-    );
+    wishes(rt, &reduce, Wish::Over);
+    drop(reduce);
+    confirm!(rt; tell_of_a_failure(bag.packets()));
+    drop(bag);
+}
+
+// It hears that its master knows the attempt of this number to be done, and then wishes this.
+fn is_acknowledged(rt: &impl Abort, map: &mut ContainerMachine, number: u32, want: Wish) {
+    let a = attempt(rt, TaskKind::Map, number);
+    hears(rt, map, Packet::DoneAck { a });
+    wishes(rt, map, want);
 }
 
 // A map reports without a length. The first DoneAck of its attempt ends it, a second does nothing.
 #[test]
 fn done_ack_twice(rt: HostRuntime) {
+    let rt = &rt;
     let alloc = rt.alloc();
-    let mut map = machine(&rt, alloc, TaskKind::Map);
-    assert!(rt; map.wish() == Wish::Compute);
-    map.computed(bytes_of(&rt, alloc, b"\0\0\0\0"));
-    assert!(rt; told_bytes(&map) == Some(None));
-    let a = map.place().attempt;
-    let other = attempt(&rt, TaskKind::Map, 1);
-    hears(&rt, &mut map, Packet::DoneAck { a: other });
-    assert!(rt; map.wish() == Wish::Report);
-    for _ in 0..2 {
-        hears(&rt, &mut map, Packet::DoneAck { a });
-        assert!(rt; map.wish() == Wish::Over);
-    }
+    let mut map = machine(rt, alloc, TaskKind::Map);
+    wishes(rt, &map, Wish::Compute);
+    map.computed(bytes_of(rt, alloc, b"\0\0\0\0"));
+    tells_length(rt, &map, None);
+    is_acknowledged(rt, &mut map, 1, Wish::Report);
+    is_acknowledged(rt, &mut map, 0, Wish::Over);
+    is_acknowledged(rt, &mut map, 0, Wish::Over);
     let mut bag = Bag::new(alloc);
-    bag.reserve(1).expect(&rt, "no memory");
+    bag.reserve(1).expect(rt, "no memory");
     map.tell_end(&mut bag);
-    assert!(rt; bag.len() == 1);
+    drop(map);
+    confirm!(rt; bag.len() == 1);
+    drop(bag);
 }

@@ -1,61 +1,106 @@
 //! The permission to commit.
-use crate::attempts::attempt;
+
+use crate::fixtures::{are_attempts, attempt};
 use mr_grant::Grant;
 use mr_ids::{AttemptId, TaskKind};
 use std::process::Abort;
 
-// These attempts ask, in this order.
-fn ask(rt: &impl Abort, grant: &mut Grant, attempts: &[AttemptId]) {
-    for a in attempts {
-        grant.pending(*a).expect(rt, "no memory");
+// A call of a grant for an attempt, or what is read of it.
+#[derive(Clone, Copy)]
+enum Call {
+    Pending,
+    Release,
+    CanCommit,
+    Fix,
+    IsFirst,
+    IsNobodys,
+    IsFixed,
+}
+
+// A call, the number of its attempt, and whether it is answered yes, as a call is that answers nothing.
+type Row = (Call, u32, bool);
+
+// The calls of the rows are made in turn, and each row is so.
+fn hold(rt: &impl Abort, grant: &mut Grant, rows: &[Row]) {
+    for (place, row) in rows.iter().enumerate() {
+        let (call, number, want) = *row;
+        let a = attempt(rt, TaskKind::Reduce, number);
+        confirm!(rt; answer(grant, call, a) == want, &place);
     }
 }
 
-// Once the first of two is released, the second has the permission, and keeps it when the grant is fixed.
-fn second_is_fixed(rt: &impl Abort, grant: &mut Grant, a0: AttemptId, a1: AttemptId) {
-    grant.release(a0);
-    confirm!(rt; grant.first() == Some(a1));
-    confirm!(rt; grant.can_commit(a1));
-    confirm!(rt; grant.fix(a1));
-    confirm!(rt; grant.is_fixed());
-    grant.release(a1);
-    ask(rt, grant, &[a0]);
-    confirm!(rt; grant.can_commit(a1));
-    confirm!(rt; grant.fix(a1));
-    confirm!(rt; !grant.fix(a0));
+fn answer(grant: &mut Grant, call: Call, a: AttemptId) -> bool {
+    match call {
+        Call::Pending => grant.pending(a).is_ok(),
+        Call::Release => {
+            grant.release(a);
+            true
+        }
+        Call::CanCommit => grant.can_commit(a),
+        Call::Fix => grant.fix(a),
+        Call::IsFirst => grant.first() == Some(a),
+        Call::IsNobodys => grant.first() == None,
+        Call::IsFixed => grant.is_fixed(),
+    }
 }
 
-// Nobody asked: nobody has the permission, and a release changes nothing.
-fn nobody_is_first(rt: &impl Abort, grant: &mut Grant, a0: AttemptId) {
-    confirm!(rt; !grant.can_commit(a0));
-    confirm!(rt; !grant.fix(a0));
-    confirm!(rt; grant.first() == None);
-    grant.release(a0);
-}
-
-// The first of two that asked has the permission.
-fn first_of_two(rt: &impl Abort, grant: &mut Grant, a0: AttemptId, a1: AttemptId) {
-    ask(rt, grant, &[a0, a1, a0]);
-    confirm!(rt; grant.attempts() == [a0, a1].as_slice());
-    confirm!(rt; grant.can_commit(a0));
-    confirm!(rt; !grant.can_commit(a1));
-    confirm!(rt; !grant.fix(a1));
-    confirm!(rt; !grant.is_fixed());
+// Nobody asked: nobody has the permission, and a release changes nothing. Then two ask, and the first has it.
+fn first_of_two(rt: &impl Abort, grant: &mut Grant) {
+    hold(
+        rt,
+        grant,
+        &[
+            (Call::CanCommit, 0, false),
+            (Call::Fix, 0, false),
+            (Call::IsNobodys, 0, true),
+            (Call::Release, 0, true),
+            (Call::Pending, 0, true),
+            (Call::Pending, 1, true),
+            (Call::Pending, 0, true),
+        ],
+    );
+    are_attempts(rt, grant.attempts(), TaskKind::Reduce, &[0, 1]);
+    hold(
+        rt,
+        grant,
+        &[
+            (Call::CanCommit, 0, true),
+            (Call::CanCommit, 1, false),
+            (Call::Fix, 1, false),
+            (Call::IsFixed, 0, false),
+        ],
+    );
 }
 
 // The second waits, has the permission when the first is released, and keeps it once the grant is fixed; the copy goes on.
 #[test]
 fn grant_is_fixed(rt: HostRuntime) {
-    let a0 = attempt(&rt, TaskKind::Reduce, 0);
-    let a1 = attempt(&rt, TaskKind::Reduce, 1);
+    let rt = &rt;
     let mut grant = Grant::new(rt.alloc());
-    nobody_is_first(&rt, &mut grant, a0);
-    first_of_two(&rt, &mut grant, a0, a1);
-    let mut copy = grant.copy().expect(&rt, "no memory");
-    second_is_fixed(&rt, &mut copy, a0, a1);
+    first_of_two(rt, &mut grant);
+    let mut copy = grant.copy().expect(rt, "no memory");
+    hold(
+        rt,
+        &mut copy,
+        &[
+            (Call::Release, 0, true),
+            (Call::IsFirst, 1, true),
+            (Call::CanCommit, 1, true),
+            (Call::Fix, 1, true),
+            (Call::IsFixed, 1, true),
+            (Call::Release, 1, true),
+            (Call::Pending, 0, true),
+            (Call::CanCommit, 1, true),
+            (Call::Fix, 1, true),
+            (Call::Fix, 0, false),
+        ],
+    );
     drop(copy);
-    confirm!(rt; grant.first() == Some(a0));
-    confirm!(rt; !grant.is_fixed());
+    hold(
+        rt,
+        &mut grant,
+        &[(Call::IsFirst, 0, true), (Call::IsFixed, 0, false)],
+    );
     drop(grant);
 }
 
@@ -67,57 +112,53 @@ fn copied(rt: &impl Abort, grant: &Grant) -> Grant {
     copy
 }
 
-// The copy of it once this attempt asked.
-fn copied_once_asked(rt: &impl Abort, mut grant: Grant, a: AttemptId) -> Grant {
-    ask(rt, &mut grant, &[a]);
+// The copy of it once this row is so.
+fn copied_after(rt: &impl Abort, mut grant: Grant, row: Row) -> Grant {
+    hold(rt, &mut grant, &[row]);
     let copy = copied(rt, &grant);
     drop(grant);
     copy
 }
 
-// The first has the permission, and the second waits.
-fn second_waits(rt: &impl Abort, grant: &Grant, a0: AttemptId, a1: AttemptId) {
-    confirm!(rt; grant.can_commit(a0));
-    confirm!(rt; !grant.can_commit(a1));
-}
-
 // A grant is copied before anyone asked, with one that asked, with two, and fixed.
 #[test]
 fn grant_is_copied(rt: HostRuntime) {
-    let a0 = attempt(&rt, TaskKind::Reduce, 0);
-    let a1 = attempt(&rt, TaskKind::Reduce, 1);
+    let rt = &rt;
     let new = Grant::new(rt.alloc());
-    let nobody = copied(&rt, &new);
+    let nobody = copied(rt, &new);
     drop(new);
-    let one = copied_once_asked(&rt, nobody, a0);
-    let mut two = copied_once_asked(&rt, one, a1);
-    confirm!(rt; two.fix(a0));
-    let copy = copied(&rt, &two);
-    drop(two);
-    second_waits(&rt, &copy, a0, a1);
-    drop(copy);
+    let one = copied_after(rt, nobody, (Call::Pending, 0, true));
+    let two = copied_after(rt, one, (Call::Pending, 1, true));
+    let mut fixed = copied_after(rt, two, (Call::Fix, 0, true));
+    hold(
+        rt,
+        &mut fixed,
+        &[(Call::CanCommit, 0, true), (Call::CanCommit, 1, false)],
+    );
+    drop(fixed);
 }
 
-// So many attempts ask, from the first on.
-fn all_ask(rt: &impl Abort, grant: &mut Grant, count: u32) {
-    for number in 0..count {
-        grant
-            .pending(attempt(rt, TaskKind::Reduce, number))
-            .expect(rt, "no memory");
-    }
+// Of a thousand that asked, the first has the permission, and the last waits.
+fn last_waits(rt: &impl Abort, grant: &mut Grant) {
+    hold(
+        rt,
+        grant,
+        &[(Call::CanCommit, 0, true), (Call::CanCommit, 999, false)],
+    );
 }
 
 // A thousand attempts ask: the first has the permission, the last waits, and a copy has them all.
 #[test]
 fn thousand_ask(rt: HostRuntime) {
-    let first = attempt(&rt, TaskKind::Reduce, 0);
-    let last = attempt(&rt, TaskKind::Reduce, 999);
+    let rt = &rt;
     let mut grant = Grant::new(rt.alloc());
-    all_ask(&rt, &mut grant, 1000);
+    for number in 0..1000 {
+        hold(rt, &mut grant, &[(Call::Pending, number, true)]);
+    }
     confirm!(rt; grant.attempts().len() == 1000);
-    let copy = copied(&rt, &grant);
-    second_waits(&rt, &grant, first, last);
-    second_waits(&rt, &copy, first, last);
+    let mut copy = copied(rt, &grant);
+    last_waits(rt, &mut grant);
+    last_waits(rt, &mut copy);
     drop(copy);
     drop(grant);
 }

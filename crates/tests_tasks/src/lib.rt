@@ -5,10 +5,10 @@
 // below learns nothing of it: where that needs the fact, `assert!` stands.
 macro_rules! confirm {
     ($rt:expr; $condition:expr) => {
-        crate::confirm::is_so(&$rt, $condition, stringify!($condition))
+        crate::confirm::is_so($rt, $condition, stringify!($condition))
     };
     ($rt:expr; $condition:expr, $at:expr) => {
-        crate::confirm::is_so_at(&$rt, $condition, stringify!($condition), $at)
+        crate::confirm::is_so_at($rt, $condition, stringify!($condition), $at)
     };
 }
 
@@ -17,9 +17,13 @@ mod attempts;
 #[cfg(test)]
 mod bags;
 #[cfg(test)]
+mod calls;
+#[cfg(test)]
 mod commits;
 #[cfg(test)]
 mod confirm;
+#[cfg(test)]
+mod containers;
 #[cfg(test)]
 mod fetches;
 #[cfg(test)]

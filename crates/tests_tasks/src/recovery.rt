@@ -1,73 +1,75 @@
 //! The recovery plan.
-use crate::attempts::{attempt_at, task_id};
+
+use crate::fixtures::{attempt, attempt_at, shows, task_id};
 use mr_history::Record;
-use mr_ids::{AttemptId, TaskId, TaskKind};
+use mr_ids::{AttemptId, TaskKind};
 use mr_recover::{RecoverFault, Recovery, Staging, TaskWinner};
+use std::alloc::Global;
 use std::process::Abort;
 
-fn reduce(number: u32) -> TaskId {
-    TaskId {
-        number,
-        ..task_id(TaskKind::Reduce)
-    }
-}
-
-fn marks(success: bool, fail: bool, started: bool) -> Staging {
-    Staging {
-        success,
-        fail,
-        started,
-    }
+// An attempt at the reduce of this number.
+fn at_reduce(rt: &impl Abort, reduce: u32, number: u32) -> AttemptId {
+    attempt_at(rt, task_id(TaskKind::Reduce, reduce), number)
 }
 
 // Two generations: reduce 1 succeeded in the first without a length, reduce 0 in the second with one, and reduce 1 again.
 fn records(rt: &impl Abort) -> [Record; 4] {
-    let first = attempt_at(rt, reduce(1), 0);
-    let map = attempt_at(rt, task_id(TaskKind::Map), 0);
     [
         Record::MapSucceeded {
-            attempt: map,
+            attempt: attempt(rt, TaskKind::Map, 0),
             node: 0,
             incarnation: 1,
         },
         Record::ReduceSucceeded {
-            attempt: first,
+            attempt: at_reduce(rt, 1, 0),
             bytes: None,
         },
         Record::ReduceSucceeded {
-            attempt: attempt_at(rt, reduce(0), 1000),
+            attempt: at_reduce(rt, 0, 1000),
             bytes: Some(8),
         },
         Record::ReduceSucceeded {
-            attempt: attempt_at(rt, reduce(1), 1000),
+            attempt: at_reduce(rt, 1, 1000),
             bytes: Some(4),
         },
     ]
 }
 
-fn winner(task: TaskId, attempt: AttemptId, bytes: Option<u32>) -> TaskWinner {
+// The plan with these marks: success, failure, and start of a job commit.
+fn plan(rt: &impl Abort, alloc: Global, success: bool, fail: bool, started: bool) -> Recovery {
+    let marks = Staging {
+        success,
+        fail,
+        started,
+    };
+    Recovery::plan(alloc, &records(rt), marks).expect(rt, "no memory")
+}
+
+// This attempt at the reduce won, with this length.
+fn winner(rt: &impl Abort, reduce: u32, number: u32, bytes: Option<u32>) -> TaskWinner {
     TaskWinner {
-        task,
-        attempt,
+        task: task_id(TaskKind::Reduce, reduce),
+        attempt: at_reduce(rt, reduce, number),
         bytes,
     }
 }
 
 #[test]
 fn the_first_winners_by_rising_task(rt: HostRuntime) {
-    let plan = Recovery::plan(rt.alloc(), &records(&rt), marks(false, false, false));
-    let Recovery::Resume(winners) = plan.expect(&rt, "a fault") else {
+    let rt = &rt;
+    let Recovery::Resume(winners) = plan(rt, rt.alloc(), false, false, false) else {
         panic!(rt; "no plan");
     };
     let list = winners.as_slice();
     assert!(rt; winners.len() == 2);
-    confirm!(rt; list[0] == winner(reduce(0), attempt_at(&rt, reduce(0), 1000), Some(8)));
-    confirm!(rt; list[1] == winner(reduce(1), attempt_at(&rt, reduce(1), 0), None));
+    confirm!(rt; list[0] == winner(rt, 0, 1000, Some(8)));
+    confirm!(rt; list[1] == winner(rt, 1, 0, None));
+    drop(winners);
 }
 
-// What a plan with these marks reports, where it does not go on.
-fn reports(rt: &impl Abort, plan: Result<Recovery, RecoverFault>) -> bool {
-    match plan.expect(rt, "a fault") {
+// Whether a plan reports success or failure, where it does not go on.
+fn reports(rt: &impl Abort, plan: Recovery) -> bool {
+    match plan {
         Recovery::Succeeded => true,
         Recovery::Failed => false,
         Recovery::Resume(_) => panic!(rt; "it goes on"),
@@ -76,17 +78,14 @@ fn reports(rt: &impl Abort, plan: Result<Recovery, RecoverFault>) -> bool {
 
 #[test]
 fn the_first_mark_decides(rt: HostRuntime) {
-    let told = records(&rt);
-    let all = Recovery::plan(rt.alloc(), &told, marks(true, true, true));
-    confirm!(rt; reports(&rt, all));
-    let failed = Recovery::plan(rt.alloc(), &told, marks(false, true, true));
-    confirm!(rt; !reports(&rt, failed));
-    let started = Recovery::plan(rt.alloc(), &told, marks(false, false, true));
-    confirm!(rt; !reports(&rt, started));
+    let rt = &rt;
+    let alloc = rt.alloc();
+    confirm!(rt; reports(rt, plan(rt, alloc, true, true, true)));
+    confirm!(rt; !reports(rt, plan(rt, alloc, false, true, true)));
+    confirm!(rt; !reports(rt, plan(rt, alloc, false, false, true)));
 }
 
 #[test]
 fn recover_fault_text(rt: HostRuntime) {
-    let text = RecoverFault::NoMemory.to_string(rt.alloc());
-    confirm!(rt; text.expect(&rt, "no memory").as_str() == "NoMemory");
+    shows(&rt, rt.alloc(), &RecoverFault::NoMemory, "NoMemory");
 }
