@@ -1,5 +1,6 @@
-//! What `confirm!` calls.
+//! What `confirm!` calls, and its like for bytes and for what is printed.
 
+use std::alloc::Global;
 use std::fmt::Debug;
 use std::process::Abort;
 
@@ -12,4 +13,15 @@ pub fn is_so(rt: &impl Abort, condition: bool, text: &str) {
 pub fn is_so_at<R: Debug>(rt: &impl Abort, condition: bool, text: &str, at: &R) {
     let told = if condition { Ok(()) } else { Err(at) };
     told.expect(rt, text)
+}
+
+/// Ends the test where the bytes are not those that are wanted.
+pub fn bytes_are(rt: &impl Abort, bytes: &[u8], want: &[u8]) {
+    confirm!(rt; bytes == want, &(bytes, want));
+}
+
+/// Ends the test where the value does not print so.
+pub fn prints<T: Debug>(rt: &impl Abort, alloc: Global, value: &T, want: &str) {
+    let text = format!(in alloc; "{value:?}").expect(rt, "no memory");
+    bytes_are(rt, text.as_bytes(), want.as_bytes());
 }

@@ -15,6 +15,8 @@ macro_rules! confirm {
 #[cfg(test)]
 mod confirm;
 #[cfg(test)]
+mod fixtures;
+#[cfg(test)]
 mod mapside;
 #[cfg(test)]
 mod outputs;

@@ -1,52 +1,25 @@
 //! Outputs of maps that come in on standard input: nothing where the tests are run, and from tools/hostile those that it damaged.
 
-use mr_ids::Bytes;
-use mr_jobs::WordCount;
+use crate::fixtures::{put, put_shown, reduced};
 use mr_mapside::{WorkFault, blocks};
-use mr_shuffle::{Piece, reduce_work};
-use mr_user::OpenGate;
 use std::alloc::Global;
 use std::io::{self, Read, Write};
 use std::process::Abort;
 
-// Adds a line.
-fn put(rt: &impl Abort, told: &mut Vec<u8>, line: &[u8]) {
-    told.extend_from_slice(line).expect(rt, "no memory");
-}
-
-// Adds a text, or its fault.
-fn put_answer(
-    rt: &impl Abort,
-    alloc: Global,
-    told: &mut Vec<u8>,
-    answer: Result<Vec<u8>, WorkFault>,
-) {
-    match answer {
+// Adds what a reduce of wordcount makes of its block: the text behind its length, or the fault.
+fn tell(rt: &impl Abort, alloc: Global, told: &mut Vec<u8>, reduce: u32, block: &[u8]) {
+    match reduced(rt, alloc, reduce, (0, reduce), &[block]) {
         Ok(text) => {
-            let line = format!(in alloc; "{} bytes\n", text.len()).expect(rt, "no memory");
-            put(rt, told, line.as_bytes());
+            put_shown(rt, alloc, told, &text.len());
+            put(rt, told, b" bytes\n");
             put(rt, told, &text)
         }
         Err(WorkFault::NoMemory) => panic!(rt; "no memory"),
         Err(fault) => {
-            let line = format!(in alloc; "{fault}\n").expect(rt, "no memory");
-            put(rt, told, line.as_bytes())
+            put_shown(rt, alloc, told, &fault);
+            put(rt, told, b"\n")
         }
     }
-}
-
-// Adds what a reduce of wordcount makes of its block: the text behind its length, or the fault.
-fn tell(rt: &impl Abort, alloc: Global, told: &mut Vec<u8>, reduce: u32, block: &[u8]) {
-    let bytes = Bytes::from_vec(Vec::from_slice(alloc, block).expect(rt, "no memory"));
-    let piece = Piece {
-        map: 0,
-        reduce,
-        bytes,
-    };
-    let mut parts = Vec::with_capacity(alloc, 1).expect(rt, "no memory");
-    parts.push(piece).expect(rt, "no memory");
-    let answer = reduce_work(alloc, &WordCount, &OpenGate, reduce, &parts);
-    put_answer(rt, alloc, told, answer);
 }
 
 // Adds one line that there are no such blocks, or what each reduce makes of its own.
@@ -62,20 +35,25 @@ fn tell_all(rt: &impl Abort, alloc: Global, told: &mut Vec<u8>, reduces: u32, ou
     }
 }
 
+// What the reduces make of what came in: nothing, if that is nothing.
+fn told_of(rt: &impl Abort, alloc: Global, input: &[u8]) -> Vec<u8> {
+    let mut told = Vec::new(alloc);
+    if let Some((reduces, output)) = input.split_first() {
+        put(rt, &mut told, b"begin\n");
+        tell_all(rt, alloc, &mut told, u32::from(*reduces), output);
+        put(rt, &mut told, b"end\n");
+    }
+    told
+}
+
 // The first byte that comes in is the number of reduces, and the rest the output. Prints what the reduces make of it.
 #[test]
 fn output_of_standard_input(rt: HostRuntime) {
     let rt = &rt;
     let mut input = Vec::new(rt.alloc());
-    if let Err(fault) = rt.reader().read_to_end(&mut input) {
-        panic!(rt; "{fault}");
-    }
-    let Some((reduces, output)) = input.split_first() else {
-        return;
-    };
-    let mut told = Vec::from_slice(rt.alloc(), b"begin\n").expect(rt, "no memory");
-    tell_all(rt, rt.alloc(), &mut told, u32::from(*reduces), output);
-    put(rt, &mut told, b"end\n");
+    let read = rt.reader().read_to_end(&mut input);
+    read.expect(rt, "a fault");
+    let told = told_of(rt, rt.alloc(), &input);
     let written = io::writer(rt).write_all(&told);
-    confirm!(rt; written.is_ok());
+    written.expect(rt, "a fault");
 }

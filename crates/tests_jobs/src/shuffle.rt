@@ -1,15 +1,16 @@
 //! Reduce works, merges and the shelf of a node.
 
+use crate::confirm::bytes_are;
+use crate::fixtures::{bytes_of, gate_for, mapped, output, pieces, put, put_shown, reduced};
 use mr_ids::{AttemptId, Bytes, TaskKind};
 use mr_jobs::{LineIndex, MaxByKey, WordCount};
-use mr_mapside::{MAX_OUTPUT_LEN, MapOutput, ShuffleFault, WorkFault, blocks, map_work};
+use mr_mapside::{MAX_OUTPUT_LEN, MapOutput, ShuffleFault, WorkFault, blocks};
 use mr_shuffle::{
     Merge, Piece, ShelfOfNode, attempts_are_apart, piece_is_what_it_says, reduce_bytes,
     reduce_work, shuffle_gives_sequential_text, works_give_sequential_text,
 };
-use mr_user::{Gate, GateFault, Job, MAX_SPLIT_LEN, OpenGate, Text, Wire};
+use mr_user::{GateFault, Job, OpenGate, Text};
 use std::alloc::Global;
-use std::cell::Cell;
 use std::process::Abort;
 
 // The block of wordcount for the line `a b a`: a twice, b once.
@@ -21,82 +22,16 @@ const SHORT: &[u8] = b"\0\0\0\x01a\0\0\0\0";
 // b once, and then a once.
 const FALLING: &[u8] = b"\0\0\0\x01b\0\0\0\0\0\0\0\x01\0\0\0\x01a\0\0\0\0\0\0\0\x01";
 
-// The gate that lets no reduce pass.
-#[derive(Drop)]
-struct MapsOnly;
-
-impl Gate for MapsOnly {
-    fn enter(&self, kind: TaskKind) -> Result<(), GateFault> {
-        match kind {
-            TaskKind::Map => Ok(()),
-            TaskKind::Reduce => Err(GateFault::Spent),
-        }
-    }
-}
-
-// The gate that counts who enters, and lets all pass or none.
-#[derive(Drop)]
-struct Counting {
-    entered: Cell<u32>,
-    is_open: bool,
-}
-
-impl Gate for Counting {
-    fn enter(&self, _kind: TaskKind) -> Result<(), GateFault> {
-        self.entered.set(self.entered.get().saturating_add(1));
-        if self.is_open {
-            Ok(())
-        } else {
-            Err(GateFault::Spent)
-        }
-    }
-}
-
-// How often a reduce work of reduce 3 enters, and whether its gate's refusal is what it answers.
-fn entered(alloc: Global, parts: &[Piece], is_open: bool) -> (u32, bool) {
-    let gate = Counting {
-        entered: Cell::new(0),
-        is_open,
-    };
-    let answer = reduce_work(alloc, &WordCount, &gate, 3, parts);
-    let spent = matches!(answer, Err(WorkFault::Gate(GateFault::Spent)));
-    (gate.entered.get(), spent)
-}
-
-fn same(bytes: &[u8], want: &[u8]) -> bool {
-    bytes == want
-}
-
-// The pieces of the maps from number `first` on for reduce `reduce`.
-fn pieces(rt: &impl Abort, alloc: Global, first: u32, reduce: u32, all: &[&[u8]]) -> Vec<Piece> {
-    let mut parts = Vec::new(alloc);
-    let mut map = first;
-    for bytes in all {
-        let bytes = Bytes::from_vec(Vec::from_slice(alloc, bytes).expect(rt, "no memory"));
-        parts
-            .push(Piece { map, reduce, bytes })
-            .expect(rt, "no memory");
-        map = map.wrapping_add(1);
-    }
-    parts
-}
-
-// The answer of a reduce work of reduce 3.
-fn reduced<J: Job>(alloc: Global, job: &J, parts: &[Piece]) -> Result<Vec<u8>, WorkFault> {
-    reduce_work(alloc, job, &OpenGate, 3, parts)
-}
-
 // A reduce work of this reduce, for wordcount, refuses such pieces of map `first` on, for this reason.
 fn refuses(
     rt: &impl Abort,
     alloc: Global,
     reduce: u32,
-    (first, of): (u32, u32),
+    of: (u32, u32),
     all: &[&[u8]],
     want: ShuffleFault,
 ) {
-    let parts = pieces(rt, alloc, first, of, all);
-    let fault = reduce_work(alloc, &WordCount, &OpenGate, reduce, &parts).err();
+    let fault = reduced(rt, alloc, reduce, of, all).err();
     confirm!(rt; fault == Some(WorkFault::Shuffle(want)), &fault);
 }
 
@@ -143,21 +78,34 @@ fn first_fault_is_told(rt: HostRuntime) {
     ];
     refuse(rt, alloc, rows);
     makes_nothing(rt, alloc, &MaxByKey, 3);
-    let fault = reduce_work(alloc, &WordCount, &MapsOnly, 3, &[]).err();
-    confirm!(rt; fault == Some(WorkFault::Gate(GateFault::Spent)), &fault);
+    enters_once(rt, alloc, &(0, &[], TaskKind::Map));
 }
 
-// A reduce work of these pieces enters once, and answers with its gate's refusal where the gate refuses.
-fn enters_once(rt: &impl Abort, alloc: Global, all: &[&[u8]]) {
-    let parts = pieces(rt, alloc, 0, 3, all);
-    confirm!(rt; entered(alloc, &parts, true) == (1, false));
-    confirm!(rt; entered(alloc, &parts, false) == (1, true));
-}
+// The first map of pieces, their bytes, and the works that the gate lets pass.
+type Entering = (u32, &'static [&'static [u8]], TaskKind);
 
-// Where the gate refuses, it does not look at such a piece of this map.
-fn is_not_looked_at(rt: &impl Abort, alloc: Global, first: u32, piece: &[u8]) {
-    let parts = pieces(rt, alloc, first, 3, &[piece]);
-    confirm!(rt; entered(alloc, &parts, false) == (1, true));
+const ENTERING: &[Entering] = &[
+    (0, &[], TaskKind::Reduce),
+    (0, &[], TaskKind::Map),
+    (0, &[BLOCK], TaskKind::Reduce),
+    (0, &[BLOCK], TaskKind::Map),
+    (0, &[BLOCK, MORE], TaskKind::Reduce),
+    (0, &[BLOCK, MORE], TaskKind::Map),
+    (0, &[SHORT], TaskKind::Map),
+    (1, &[BLOCK], TaskKind::Map),
+];
+
+// A reduce work of such pieces enters once, and answers with its gate's refusal where the gate refuses, and only there.
+fn enters_once(rt: &impl Abort, alloc: Global, (first, all, kind): &Entering) {
+    let parts = pieces(rt, alloc, *first, 3, all);
+    let gate = gate_for(*kind);
+    let fault = reduce_work(alloc, &WordCount, &gate, 3, &parts).err();
+    confirm!(rt; gate.entered.get() == 1);
+    let want = match kind {
+        TaskKind::Map => Some(WorkFault::Gate(GateFault::Spent)),
+        TaskKind::Reduce => None,
+    };
+    confirm!(rt; fault == want, &fault);
 }
 
 // A reduce work enters once, with pieces and without, and before it looks at a piece: where the gate refuses, a bad piece
@@ -166,21 +114,9 @@ fn is_not_looked_at(rt: &impl Abort, alloc: Global, first: u32, piece: &[u8]) {
 fn reduce_enters_once(rt: HostRuntime) {
     let rt = &rt;
     let alloc = rt.alloc();
-    enters_once(rt, alloc, &[]);
-    enters_once(rt, alloc, &[BLOCK]);
-    enters_once(rt, alloc, &[BLOCK, MORE]);
-    is_not_looked_at(rt, alloc, 0, SHORT);
-    is_not_looked_at(rt, alloc, 1, BLOCK);
-}
-
-// These bytes, each by itself.
-fn bytes_of(rt: &impl Abort, alloc: Global, all: &[&[u8]]) -> Vec<Bytes> {
-    let mut made = Vec::new(alloc);
-    for bytes in all {
-        let bytes = Bytes::from_slice(alloc, bytes).expect(rt, "no memory");
-        made.push(bytes).expect(rt, "no memory");
+    for row in ENTERING {
+        enters_once(rt, alloc, row);
     }
-    made
 }
 
 // Bytes of pieces alone are reduced to the same text, behind a gate that is entered once.
@@ -189,81 +125,61 @@ fn bytes_alone_are_reduced(rt: HostRuntime) {
     let rt = &rt;
     let alloc = rt.alloc();
     let all = bytes_of(rt, alloc, &[BLOCK, MORE]);
-    let gate = Counting {
-        entered: Cell::new(0),
-        is_open: true,
-    };
+    let gate = gate_for(TaskKind::Reduce);
     let text = reduce_bytes(alloc, &WordCount, &gate, &all).expect(rt, "a fault");
-    confirm!(rt; same(&text, b"a\t7\nb\t1\n"));
+    bytes_are(rt, &text, b"a\t7\nb\t1\n");
     confirm!(rt; gate.entered.get() == 1);
-    let fault = reduce_bytes(alloc, &WordCount, &MapsOnly, &all).err();
+    let gate = gate_for(TaskKind::Map);
+    let fault = reduce_bytes(alloc, &WordCount, &gate, &all).err();
     confirm!(rt; fault == Some(WorkFault::Gate(GateFault::Spent)), &fault);
 }
 
-// A piece of one pair, whose key has so many bytes and whose value is 1.
-fn long_piece(rt: &impl Abort, alloc: Global, len: u32) -> Vec<Piece> {
-    let mut bytes = Vec::new(alloc);
-    bytes
-        .extend_from_slice(&len.to_be_bytes())
-        .expect(rt, "no memory");
-    for _ in 0..len {
-        bytes.push(b'a').expect(rt, "no memory");
-    }
-    bytes
-        .extend_from_slice(b"\0\0\0\0\0\0\0\x01")
-        .expect(rt, "no memory");
-    pieces(rt, alloc, 0, 3, &[&bytes])
+// The answer to a piece of one pair, whose key has so many bytes and whose value is 1.
+fn reduced_of_long(rt: &impl Abort, alloc: Global, len: u32) -> Result<Vec<u8>, WorkFault> {
+    let mut bytes = Vec::from_slice(alloc, &len.to_be_bytes()).expect(rt, "no memory");
+    let key = b"a".repeat(alloc, len as usize).expect(rt, "no memory");
+    put(rt, &mut bytes, &key);
+    put(rt, &mut bytes, b"\0\0\0\0\0\0\0\x01");
+    reduced(rt, alloc, 3, (0, 3), &[&bytes])
 }
 
 #[test]
 fn reduce_is_full(rt: HostRuntime) {
     let rt = &rt;
     let alloc = rt.alloc();
-    let most = long_piece(rt, alloc, 16777213);
-    let text = reduced(alloc, &WordCount, &most).expect(rt, "a fault");
+    let text = reduced_of_long(rt, alloc, 16777213).expect(rt, "a fault");
     confirm!(rt; text.len() == MAX_OUTPUT_LEN);
-    let more = long_piece(rt, alloc, 16777214);
-    let fault = reduced(alloc, &WordCount, &more).err();
+    let fault = reduced_of_long(rt, alloc, 16777214).err();
     confirm!(rt; fault == Some(WorkFault::Full), &fault);
 }
 
-// What a reduce makes of so many bytes of the block, where it ends behind a pair.
-fn text_of(len: usize) -> Option<&'static [u8]> {
-    match len {
-        0 => Some(b""),
-        13 => Some(b"a\t2\n"),
-        26 => Some(b"a\t2\nb\t1\n"),
-        _ => None,
-    }
-}
-
+// Where the block ends behind a pair, it has a text. Else it is truncated.
 #[test]
 fn every_prefix_of_a_block(rt: HostRuntime) {
     let rt = &rt;
     let alloc = rt.alloc();
     for len in 0..=26 {
         let front = &BLOCK[..len];
-        match text_of(len) {
-            Some(want) => gives(rt, alloc, front, want),
-            None => refuses(rt, alloc, 3, (0, 3), &[front], ShuffleFault::Truncated),
+        match len {
+            0 => gives(rt, alloc, front, b""),
+            13 => gives(rt, alloc, front, b"a\t2\n"),
+            26 => gives(rt, alloc, front, b"a\t2\nb\t1\n"),
+            _ => refuses(rt, alloc, 3, (0, 3), &[front], ShuffleFault::Truncated),
         }
     }
 }
 
 // What reduce 3 makes of a piece of wordcount is this text.
 fn gives(rt: &impl Abort, alloc: Global, piece: &[u8], want: &[u8]) {
-    let parts = pieces(rt, alloc, 0, 3, &[piece]);
-    let text = reduced(alloc, &WordCount, &parts).expect(rt, "a fault");
-    confirm!(rt; same(&text, want), &piece);
+    let text = reduced(rt, alloc, 3, (0, 3), &[piece]).expect(rt, "a fault");
+    bytes_are(rt, &text, want);
 }
 
 // A piece that may be bad has a text, or is truncated or in disorder.
 fn is_text_or_bad(rt: &impl Abort, alloc: Global, piece: &[u8]) {
-    let parts = pieces(rt, alloc, 0, 3, &[piece]);
-    let fault = reduced(alloc, &WordCount, &parts).err();
+    let fault = reduced(rt, alloc, 3, (0, 3), &[piece]).err();
     let is_so = match fault {
-        None => true,
-        Some(WorkFault::Shuffle(fault)) => fault != ShuffleFault::WrongPiece,
+        None | Some(WorkFault::Shuffle(ShuffleFault::Truncated | ShuffleFault::Disorder)) => true,
         Some(_) => false,
     };
     confirm!(rt; is_so, &fault);
@@ -285,24 +201,15 @@ fn every_change_of_a_block(rt: HostRuntime) {
 
 // Adds of a group its key, its values after it, and a bar.
 fn put_group(rt: &impl Abort, seen: &mut Vec<u8>, key: &Text, values: &[u64]) {
-    seen.extend_from_slice(key.as_slice())
-        .expect(rt, "no memory");
+    put(rt, seen, key.as_slice());
     for value in values {
         let digit = b'0'.wrapping_add((*value % 10) as u8);
         seen.push(digit).expect(rt, "no memory");
     }
-    seen.push(b'|').expect(rt, "no memory");
+    put(rt, seen, b"|");
 }
 
-// Adds the text of a fault, and a bar.
-fn put_fault(rt: &impl Abort, alloc: Global, seen: &mut Vec<u8>, fault: ShuffleFault) {
-    confirm!(rt; fault != ShuffleFault::NoMemory, &fault);
-    let text = format!(in alloc; "{fault}|").expect(rt, "no memory");
-    seen.extend_from_slice(text.as_bytes())
-        .expect(rt, "no memory");
-}
-
-// Adds an item of a merge: a group, a fault, or a point where there is none.
+// Adds an item of a merge: a group, the text of a fault and a bar, or a point where there is none.
 fn put_item(
     rt: &impl Abort,
     alloc: Global,
@@ -311,8 +218,11 @@ fn put_item(
 ) {
     match item {
         Some(Ok((key, values))) => put_group(rt, seen, &key, &values),
-        Some(Err(fault)) => put_fault(rt, alloc, seen, fault),
-        None => seen.push(b'.').expect(rt, "no memory"),
+        Some(Err(fault)) => {
+            put_shown(rt, alloc, seen, &fault);
+            put(rt, seen, b"|")
+        }
+        None => put(rt, seen, b"."),
     }
 }
 
@@ -326,7 +236,7 @@ fn is_merged(rt: &impl Abort, alloc: Global, all: &[&[u8]], want: &[u8]) {
         put_item(rt, alloc, &mut seen, merge.next());
     }
     drop(merge);
-    confirm!(rt; same(&seen, want), &want);
+    bytes_are(rt, &seen, want);
 }
 
 #[test]
@@ -346,13 +256,6 @@ fn merge_gives_groups(rt: HostRuntime) {
     }
 }
 
-// An output of such bytes.
-fn output(rt: &impl Abort, alloc: Global, bytes: &[u8]) -> MapOutput {
-    let bytes = Vec::from_slice(alloc, bytes).expect(rt, "no memory");
-    assert!(rt; bytes.len() <= MAX_OUTPUT_LEN);
-    MapOutput::from_vec(bytes)
-}
-
 // An attempt at map 0.
 fn attempt(rt: &impl Abort, text: &str) -> AttemptId {
     AttemptId::parse(text).expect(rt, text)
@@ -365,10 +268,15 @@ fn puts(rt: &impl Abort, alloc: Global, shelf: &mut ShelfOfNode, a: AttemptId, b
         .expect(rt, "no memory");
 }
 
-// The shelf has this block of the attempt's output for a reduce, or none.
-fn has(rt: &impl Abort, shelf: &ShelfOfNode, a: AttemptId, reduce: u32, want: Option<&[u8]>) {
-    let block = shelf.get(a, reduce);
-    confirm!(rt; block == want, &block);
+// The shelf has this block of the attempt's output for a reduce.
+fn has(rt: &impl Abort, shelf: &ShelfOfNode, a: AttemptId, reduce: u32, want: &[u8]) {
+    let block = shelf.get(a, reduce).expect(rt, "no block");
+    bytes_are(rt, block, want);
+}
+
+// The shelf has no block of the attempt's output for a reduce.
+fn has_none(rt: &impl Abort, shelf: &ShelfOfNode, a: AttemptId, reduce: u32) {
+    confirm!(rt; shelf.get(a, reduce).is_none(), &(a, reduce));
 }
 
 #[test]
@@ -378,19 +286,19 @@ fn shelf_keeps_until_all_is_dropped(rt: HostRuntime) {
     let first = attempt(rt, "attempt_200707121733_0003_m_000000_0");
     let second = attempt(rt, "attempt_200707121733_0003_m_000000_1");
     let mut shelf = ShelfOfNode::new(alloc, 2);
-    has(rt, &shelf, first, 0, None);
+    has_none(rt, &shelf, first, 0);
     puts(rt, alloc, &mut shelf, first, b"\0\0\0\x01x\0\0\0\x01y");
     puts(rt, alloc, &mut shelf, first, b"\0\0\0\x02ab\0\0\0\x01c");
     puts(rt, alloc, &mut shelf, second, b"\0\0\0\x02ab");
-    has(rt, &shelf, first, 0, Some(b"ab"));
-    has(rt, &shelf, first, 1, Some(b"c"));
-    has(rt, &shelf, first, 2, None);
-    has(rt, &shelf, second, 0, None);
+    has(rt, &shelf, first, 0, b"ab");
+    has(rt, &shelf, first, 1, b"c");
+    has_none(rt, &shelf, first, 2);
+    has_none(rt, &shelf, second, 0);
     let copied = shelf.copy().expect(rt, "no memory");
     shelf.drop_all();
-    has(rt, &shelf, first, 0, None);
+    has_none(rt, &shelf, first, 0);
     drop(shelf);
-    has(rt, &copied, first, 1, Some(b"c"));
+    has(rt, &copied, first, 1, b"c");
     drop(copied);
     attempts_are_apart();
 }
@@ -403,18 +311,16 @@ fn shared_block_outlives_its_shelf(rt: HostRuntime) {
     let mut shelf = ShelfOfNode::new(alloc, 2);
     puts(rt, alloc, &mut shelf, a, b"\0\0\0\x02ab\0\0\0\x01c");
     let block = shelf.share(a, 0).expect(rt, "no memory");
+    let block = block.expect(rt, "no block");
     shelf.drop_all();
     let none = shelf.share(a, 0).expect(rt, "no memory");
     confirm!(rt; none.is_none());
     drop(shelf);
-    let block = block.expect(rt, "no block");
-    confirm!(rt; same(block.as_slice(), b"ab"));
+    bytes_are(rt, block.as_slice(), b"ab");
 }
 
-// The piece of reduce 3 of 4 in the output of a map over a split.
-fn piece_of<J: Job>(rt: &impl Abort, alloc: Global, job: &J, map: u32, split: &[u8]) -> Piece {
-    assert!(rt; split.len() <= MAX_SPLIT_LEN);
-    let output = map_work(alloc, job, &OpenGate, map, split, 4).expect(rt, "a fault");
+// The piece of reduce 3 of 4 in the output of a map.
+fn piece_of(rt: &impl Abort, alloc: Global, map: u32, output: MapOutput) -> Piece {
     let found = blocks(output.bytes(), 4).expect(rt, "no blocks");
     let block = found.get(3).expect(rt, "no block");
     let bytes = Bytes::from_slice(alloc, block).expect(rt, "no memory");
@@ -425,27 +331,30 @@ fn piece_of<J: Job>(rt: &impl Abort, alloc: Global, job: &J, map: u32, split: &[
     }
 }
 
-// The text of reduce 3 of 4 over the splits, through map works, blocks and a reduce work, is this.
-fn is_shuffled<J: Job>(rt: &impl Abort, alloc: Global, job: &J, splits: &[&[u8]], want: &[u8]) {
+const WORDS: &[&[u8]] = &[b"c b g c", b"a\ng c", b""];
+
+// The text of reduce 3 of 4 over the words, through map works, blocks and a reduce work, is this.
+fn is_shuffled<J: Job>(rt: &impl Abort, alloc: Global, job: &J, want: &[u8]) {
     let mut parts = Vec::new(alloc);
     let mut map = 0u32;
-    for split in splits {
-        let piece = piece_of(rt, alloc, job, map, split);
-        parts.push(piece).expect(rt, "no memory");
+    for split in WORDS {
+        let output = mapped(rt, alloc, job, &OpenGate, map, split, 4).expect(rt, "a fault");
+        parts
+            .push(piece_of(rt, alloc, map, output))
+            .expect(rt, "no memory");
         map = map.wrapping_add(1);
     }
-    let text = reduced(alloc, job, &parts).expect(rt, "a fault");
-    confirm!(rt; same(&text, want), &want);
+    let text = reduce_work(alloc, job, &OpenGate, 3, &parts).expect(rt, "a fault");
+    bytes_are(rt, &text, want);
 }
 
 #[test]
 fn pieces_make_the_text(rt: HostRuntime) {
     let rt = &rt;
     let alloc = rt.alloc();
-    let words = [b"c b g c".as_slice(), b"a\ng c".as_slice(), b"".as_slice()];
-    is_shuffled(rt, alloc, &WordCount, &words, b"c\t3\ng\t2\n");
+    is_shuffled(rt, alloc, &WordCount, b"c\t3\ng\t2\n");
     let lines = b"c\t0:0,0:0,1:1\ng\t0:0,1:1\n";
-    is_shuffled(rt, alloc, &LineIndex, &words, lines);
+    is_shuffled(rt, alloc, &LineIndex, lines);
     shuffle_gives_sequential_text::<WordCount>();
     works_give_sequential_text::<LineIndex>();
     piece_is_what_it_says::<MaxByKey>();

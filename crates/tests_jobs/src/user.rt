@@ -1,6 +1,8 @@
 //! Jobs and their functions.
 
-use mr_ids::{Bytes, TaskKind};
+use crate::confirm::{bytes_are, prints};
+use crate::fixtures::bytes_of;
+use mr_ids::TaskKind;
 use mr_jobs::{LineIndex, MaxByKey, WordCount};
 use mr_user::{
     Gate, Job, MAX_SPLIT_LEN, OpenGate, Position, Splits, Text, UserFault, Wire, groups, next_line,
@@ -8,10 +10,6 @@ use mr_user::{
 };
 use std::alloc::Global;
 use std::process::Abort;
-
-fn same(bytes: &[u8], want: &[u8]) -> bool {
-    bytes == want
-}
 
 // The call answers this fault.
 fn faults(rt: &impl Abort, fault: Option<UserFault>, want: UserFault) {
@@ -35,15 +33,6 @@ fn put<W: Wire>(rt: &impl Abort, bytes: &mut Vec<u8>, value: &W) {
     value.write(bytes).expect(rt, "a fault");
 }
 
-// What is read at the front of bytes, written again.
-fn read_again<W: Wire>(rt: &impl Abort, alloc: Global, bytes: &[u8]) -> Result<Vec<u8>, UserFault> {
-    let (value, len) = W::read(alloc, bytes)?;
-    let mut again = Vec::new(alloc);
-    value.write(&mut again)?;
-    confirm!(rt; again.len() == len, &len);
-    Ok(again)
-}
-
 // The keys of these pairs, and their values.
 fn apart<K: Drop, V: Drop>(rt: &impl Abort, alloc: Global, pairs: Vec<(K, V)>) -> (Vec<K>, Vec<V>) {
     let mut keys = Vec::new(alloc);
@@ -55,21 +44,6 @@ fn apart<K: Drop, V: Drop>(rt: &impl Abort, alloc: Global, pairs: Vec<(K, V)>) -
     (keys, values)
 }
 
-// Adds what the values of a key are reduced to, each behind a blank.
-fn put_reduced<J: Job>(
-    rt: &impl Abort,
-    alloc: Global,
-    job: &J,
-    key: &J::Key,
-    values: &[J::Value],
-    text: &mut Vec<u8>,
-) {
-    for value in &job.reduce(alloc, key, values).expect(rt, "a fault") {
-        text.push(b' ').expect(rt, "no memory");
-        text.extend_from_slice(value).expect(rt, "no memory");
-    }
-}
-
 // The pairs of a line are written so.
 fn writes<J: Job>(rt: &impl Abort, alloc: Global, job: &J, line: &[u8], want: &[u8]) {
     let mut bytes = Vec::new(alloc);
@@ -77,20 +51,32 @@ fn writes<J: Job>(rt: &impl Abort, alloc: Global, job: &J, line: &[u8], want: &[
         put(rt, &mut bytes, key);
         put(rt, &mut bytes, value);
     }
-    confirm!(rt; same(&bytes, want), &line);
+    bytes_are(rt, &bytes, want);
 }
 
-// The first key of a line goes to this reduce of three, and with the line's values, combined first, it has this text.
+// The first key of a line goes to this reduce of three, and with the line's values, combined first, it has this line of text.
 fn reduces<J: Job>(rt: &impl Abort, alloc: Global, job: &J, line: &[u8], to: u32, want: &[u8]) {
     let pairs = pairs_of(rt, alloc, job, line).expect(rt, "a fault");
     let (keys, values) = apart(rt, alloc, pairs);
-    assert!(rt; !keys.is_empty() && !values.is_empty());
-    let key = &keys[0];
+    let key = keys.first().expect(rt, "no pair");
     confirm!(rt; job.partition(key, 3) == to, &line);
+    assert!(rt; !values.is_empty());
     let combined = job.combine(alloc, key, &values).expect(rt, "a fault");
-    let mut text = job.key_text(alloc, key).expect(rt, "a fault");
-    put_reduced(rt, alloc, job, key, &combined, &mut text);
-    confirm!(rt; same(&text, want), &line);
+    are_lines(rt, alloc, job, key, &combined, want);
+}
+
+// The job writes these lines of a key, reduced with the values.
+fn are_lines<J: Job>(
+    rt: &impl Abort,
+    alloc: Global,
+    job: &J,
+    key: &J::Key,
+    values: &[J::Value],
+    want: &[u8],
+) {
+    let mut text = Vec::new(alloc);
+    write_lines(alloc, job, key, values, &mut text).expect(rt, "no memory");
+    bytes_are(rt, &text, want);
 }
 
 #[test]
@@ -99,12 +85,18 @@ fn functions_of_wordcount(rt: HostRuntime) {
     let alloc = rt.alloc();
     let pairs = b"\0\0\0\x01a\0\0\0\0\0\0\0\x01\0\0\0\x02bc\0\0\0\0\0\0\0\x01";
     writes(rt, alloc, &WordCount, b"\ta  bc", pairs);
-    reduces(rt, alloc, &WordCount, b"a a a", 1, b"a 3");
+    reduces(rt, alloc, &WordCount, b"a a a", 1, b"a\t3\n");
     let key = Text::from_slice(alloc, b"a").expect(rt, "no memory");
-    let most = [18446744073709551615, 5];
-    let held = WordCount.reduce(alloc, &key, &most).expect(rt, "a fault");
-    assert!(rt; held.len() == 1);
-    confirm!(rt; same(&held[0], b"18446744073709551615"));
+    let most = b"a\t18446744073709551615\n";
+    are_lines(
+        rt,
+        alloc,
+        &WordCount,
+        &key,
+        &[18446744073709551615, 5],
+        most,
+    );
+    drop(key);
 }
 
 // Lines that maxbykey refuses.
@@ -127,7 +119,7 @@ fn functions_of_maxbykey(rt: HostRuntime) {
     let pairs = b"\0\0\0\x01x\xff\xff\xff\xff\xff\xff\xff\xff";
     writes(rt, alloc, &MaxByKey, b"x 18446744073709551615", pairs);
     writes(rt, alloc, &MaxByKey, b" \t ", b"");
-    reduces(rt, alloc, &MaxByKey, b"x 10", 0, b"x 10");
+    reduces(rt, alloc, &MaxByKey, b"x 10", 0, b"x\t10\n");
     for line in REFUSED {
         let pairs = pairs_of(rt, alloc, &MaxByKey, line);
         faults(rt, pairs.err(), UserFault::Refused);
@@ -140,35 +132,38 @@ fn functions_of_lineindex(rt: HostRuntime) {
     let alloc = rt.alloc();
     let pairs = b"\0\0\0\x01b\0\0\0\x01\0\0\0\0\0\0\0\x02";
     writes(rt, alloc, &LineIndex, b"b", pairs);
-    reduces(rt, alloc, &LineIndex, b"b b", 2, b"b 1:2,1:2");
+    reduces(rt, alloc, &LineIndex, b"b b", 2, b"b\t1:2,1:2\n");
 }
 
-// A value is read at the front of these bytes: it is the first so many of them.
-fn is_read<W: Wire>(rt: &impl Abort, alloc: Global, bytes: &[u8], len: usize) {
-    let again = read_again::<W>(rt, alloc, bytes).expect(rt, "a fault");
-    confirm!(rt; again.len() == len, &bytes);
-    confirm!(rt; bytes.starts_with(&again), &bytes);
+// A value is read at the front of these bytes: it is written as these, which it took.
+fn is_read<W: Wire>(rt: &impl Abort, alloc: Global, bytes: &[u8], want: &[u8]) {
+    let (value, len) = W::read(alloc, bytes).expect(rt, "a fault");
+    confirm!(rt; len == want.len(), &bytes);
+    let mut again = Vec::new(alloc);
+    put(rt, &mut again, &value);
+    bytes_are(rt, &again, want);
 }
 
 // No value is read at the front of these bytes.
 fn is_bad<W: Wire>(rt: &impl Abort, alloc: Global, bytes: &[u8]) {
-    let fault = read_again::<W>(rt, alloc, bytes).err();
-    faults(rt, fault, UserFault::BadWire);
+    faults(rt, W::read(alloc, bytes).err(), UserFault::BadWire);
 }
+
+// A position, and longer than a number.
+const TWELVE: &[u8] = b"\0\0\0\x01\0\0\0\0\0\0\0\x02";
 
 #[test]
 fn values_are_read(rt: HostRuntime) {
     let rt = &rt;
     let alloc = rt.alloc();
-    is_read::<Text>(rt, alloc, b"\0\0\0\x01ab", 5);
-    is_read::<Text>(rt, alloc, b"\0\0\0\0", 4);
+    is_read::<Text>(rt, alloc, b"\0\0\0\x01ab", b"\0\0\0\x01a");
+    is_read::<Text>(rt, alloc, b"\0\0\0\0", b"\0\0\0\0");
     is_bad::<Text>(rt, alloc, b"");
     is_bad::<Text>(rt, alloc, b"\0\0\0");
     is_bad::<Text>(rt, alloc, b"\0\0\0\x02a");
-    let twelve = b"\0\0\0\x01\0\0\0\0\0\0\0\x02";
-    is_read::<u64>(rt, alloc, twelve, 8);
+    is_read::<u64>(rt, alloc, TWELVE, b"\0\0\0\x01\0\0\0\0");
     is_bad::<u64>(rt, alloc, b"\0\0\0\0\0\0\0");
-    is_read::<Position>(rt, alloc, twelve, 12);
+    is_read::<Position>(rt, alloc, TWELVE, TWELVE);
     is_bad::<Position>(rt, alloc, b"\0\0\0\x01\0\0\0\0\0\0\0");
 }
 
@@ -182,15 +177,7 @@ fn pairs_are_grouped(rt: HostRuntime) {
     let rt = &rt;
     let alloc = rt.alloc();
     let groups = groups(alloc, pairs(rt, alloc)).expect(rt, "a fault");
-    assert!(rt; groups.len() == 2);
-    is_group(rt, &groups[0], 1, &[7]);
-    is_group(rt, &groups[1], 2, &[5, 3]);
-}
-
-// The group has this key and these values.
-fn is_group(rt: &impl Abort, (key, values): &(u64, Vec<u64>), of: u64, want: &[u64]) {
-    confirm!(rt; *key == of, &of);
-    confirm!(rt; values.as_slice() == want, &of);
+    prints(rt, alloc, &groups, "[(1, [7]), (2, [5, 3])]");
 }
 
 #[test]
@@ -203,16 +190,10 @@ fn an_open_gate_answers_at_once(rt: HostRuntime) {
 #[test]
 fn pairs_are_sorted(rt: HostRuntime) {
     let rt = &rt;
-    let mut pairs = pairs(rt, rt.alloc());
+    let alloc = rt.alloc();
+    let mut pairs = pairs(rt, alloc);
     sort_pairs(&mut pairs).expect(rt, "a fault");
-    confirm!(rt; pairs.as_slice() == [(1, 7), (2, 5), (2, 3)].as_slice());
-}
-
-// Wordcount writes these lines of a word and its counts.
-fn are_lines(rt: &impl Abort, alloc: Global, key: &Text, counts: &[u64], want: &[u8]) {
-    let mut text = Vec::new(alloc);
-    write_lines(alloc, &WordCount, key, counts, &mut text).expect(rt, "no memory");
-    confirm!(rt; same(&text, want), &want);
+    prints(rt, alloc, &pairs, "[(1, 7), (2, 5), (2, 3)]");
 }
 
 #[test]
@@ -222,20 +203,11 @@ fn lines_are_read_and_written(rt: HostRuntime) {
     let bytes = b"ab\nc".as_slice();
     assert!(rt; !bytes.is_empty());
     let (line, rest) = next_line(bytes);
-    confirm!(rt; same(line, b"ab"));
-    confirm!(rt; same(rest, b"c"));
+    bytes_are(rt, line, b"ab");
+    bytes_are(rt, rest, b"c");
     let key = Text::from_slice(alloc, line).expect(rt, "no memory");
-    are_lines(rt, alloc, &key, &[2, 3], b"ab\t5\n");
-}
-
-// The splits with these texts.
-fn splits_of(rt: &impl Abort, alloc: Global, texts: &[&[u8]]) -> Splits {
-    let mut items = Vec::new(alloc);
-    for text in texts {
-        let split = Bytes::from_slice(alloc, text).expect(rt, "no memory");
-        items.push(split).expect(rt, "no memory");
-    }
-    Splits::from_vec(items)
+    are_lines(rt, alloc, &WordCount, &key, &[2, 3], b"ab\t5\n");
+    drop(key);
 }
 
 // Splits that are copied are equal, and so are no others.
@@ -243,12 +215,16 @@ fn splits_of(rt: &impl Abort, alloc: Global, texts: &[&[u8]]) -> Splits {
 fn splits_are_copied(rt: HostRuntime) {
     let rt = &rt;
     let alloc = rt.alloc();
-    let splits = splits_of(rt, alloc, &[b"a b\n", b""]);
+    let splits = Splits::from_vec(bytes_of(rt, alloc, &[b"a b\n", b""]));
+    let none = Splits::from_vec(Vec::new(alloc));
     let copy = splits.copy().expect(rt, "no memory");
     confirm!(rt; copy == splits);
+    confirm!(rt; none != splits);
+    drop(none);
+    drop(splits);
     confirm!(rt; copy.len() == 2);
-    let first = copy.get(0).expect(rt, "no split");
-    confirm!(rt; same(first.as_slice(), b"a b\n"));
     confirm!(rt; copy.get(2).is_none());
-    confirm!(rt; Splits::from_vec(Vec::new(alloc)) != splits);
+    let first = copy.get(0).expect(rt, "no split");
+    bytes_are(rt, first.as_slice(), b"a b\n");
+    drop(copy);
 }
