@@ -133,9 +133,21 @@ fn is_block(rt: &impl Abort, block: Option<&[u8]>, want: &[u8]) {
     bytes_are(rt, block.expect(rt, "no block"), want);
 }
 
-// The output of these bytes has no blocks of so many reduces.
-fn is_uncut(rt: &impl Abort, bytes: &[u8], reduces: u32) {
-    confirm!(rt; blocks(bytes, reduces).is_none(), &(bytes, reduces));
+// Bytes, and of how many reduces they have no blocks.
+const UNCUT: &[(&[u8], u32)] = &[
+    (THREE, 2),
+    (THREE, 4),
+    (b"\0\0\0", 1),
+    (b"\0\0\0\x02a", 1),
+    (b"", 1),
+];
+
+// No row's bytes have blocks of so many reduces.
+fn are_uncut(rt: &impl Abort, rows: &[(&[u8], u32)]) {
+    for row in rows {
+        let (bytes, reduces) = row;
+        confirm!(rt; blocks(bytes, *reduces).is_none(), row);
+    }
 }
 
 #[test]
@@ -151,11 +163,7 @@ fn outputs_are_cut(rt: HostRuntime) {
     is_block(rt, found.get(2), b"c");
     confirm!(rt; found.get(3).is_none());
     drop(copied);
-    is_uncut(rt, THREE, 2);
-    is_uncut(rt, THREE, 4);
-    is_uncut(rt, b"\0\0\0", 1);
-    is_uncut(rt, b"\0\0\0\x02a", 1);
-    is_uncut(rt, b"", 1);
+    are_uncut(rt, UNCUT);
     blocks_are_one();
     output_is_its_blocks::<WordCount>();
 }

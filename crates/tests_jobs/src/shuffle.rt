@@ -14,7 +14,7 @@ use std::alloc::Global;
 use std::process::Abort;
 
 // The block of wordcount for the line `a b a`: a twice, b once.
-const BLOCK: &[u8] = b"\0\0\0\x01a\0\0\0\0\0\0\0\x02\0\0\0\x01b\0\0\0\0\0\0\0\x01";
+const BLOCK: &[u8; 26] = b"\0\0\0\x01a\0\0\0\0\0\0\0\x02\0\0\0\x01b\0\0\0\0\0\0\0\x01";
 // The first pair of it again, with the count 5.
 const MORE: &[u8] = b"\0\0\0\x01a\0\0\0\0\0\0\0\x05";
 // A key with half a value.
@@ -45,12 +45,6 @@ fn refuse(rt: &impl Abort, alloc: Global, rows: &[Refused]) {
     }
 }
 
-// Of nothing it makes nothing.
-fn makes_nothing<J: Job>(rt: &impl Abort, alloc: Global, job: &J, reduce: u32) {
-    let text = reduce_work(alloc, job, &OpenGate, reduce, &[]).expect(rt, "a fault");
-    confirm!(rt; text.is_empty());
-}
-
 #[test]
 fn reduce_faults(rt: HostRuntime) {
     let rt = &rt;
@@ -61,7 +55,9 @@ fn reduce_faults(rt: HostRuntime) {
         (0, (1, 0), &[BLOCK], ShuffleFault::WrongPiece),
     ];
     refuse(rt, alloc, rows);
-    makes_nothing(rt, alloc, &WordCount, 0);
+    // Of nothing it makes nothing.
+    let text = reduced(rt, alloc, 0, (0, 0), &[]).expect(rt, "a fault");
+    confirm!(rt; text.is_empty());
 }
 
 #[test]
@@ -77,7 +73,9 @@ fn first_fault_is_told(rt: HostRuntime) {
         (3, (0, 2), &[SHORT], ShuffleFault::WrongPiece),
     ];
     refuse(rt, alloc, rows);
-    makes_nothing(rt, alloc, &MaxByKey, 3);
+    // Of nothing it makes nothing.
+    let text = reduce_work(alloc, &MaxByKey, &OpenGate, 3, &[]).expect(rt, "a fault");
+    confirm!(rt; text.is_empty());
     enters_once(rt, alloc, &(0, &[], TaskKind::Map));
 }
 
@@ -191,8 +189,7 @@ fn every_change_of_a_block(rt: HostRuntime) {
     let alloc = rt.alloc();
     for place in 0..26 {
         for byte in 0..=255 {
-            let mut bytes = Vec::from_slice(alloc, BLOCK).expect(rt, "no memory");
-            assert!(rt; place < bytes.len());
+            let mut bytes = *BLOCK;
             bytes[place] = byte;
             is_text_or_bad(rt, alloc, &bytes);
         }
@@ -200,11 +197,10 @@ fn every_change_of_a_block(rt: HostRuntime) {
 }
 
 // Adds of a group its key, its values after it, and a bar.
-fn put_group(rt: &impl Abort, seen: &mut Vec<u8>, key: &Text, values: &[u64]) {
+fn put_group(rt: &impl Abort, alloc: Global, seen: &mut Vec<u8>, key: &Text, values: &[u64]) {
     put(rt, seen, key.as_slice());
     for value in values {
-        let digit = b'0'.wrapping_add((*value % 10) as u8);
-        seen.push(digit).expect(rt, "no memory");
+        put_shown(rt, alloc, seen, value);
     }
     put(rt, seen, b"|");
 }
@@ -217,7 +213,7 @@ fn put_item(
     item: Option<Result<(Text, Vec<u64>), ShuffleFault>>,
 ) {
     match item {
-        Some(Ok((key, values))) => put_group(rt, seen, &key, &values),
+        Some(Ok((key, values))) => put_group(rt, alloc, seen, &key, &values),
         Some(Err(fault)) => {
             put_shown(rt, alloc, seen, &fault);
             put(rt, seen, b"|")

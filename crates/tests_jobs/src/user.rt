@@ -87,15 +87,9 @@ fn functions_of_wordcount(rt: HostRuntime) {
     writes(rt, alloc, &WordCount, b"\ta  bc", pairs);
     reduces(rt, alloc, &WordCount, b"a a a", 1, b"a\t3\n");
     let key = Text::from_slice(alloc, b"a").expect(rt, "no memory");
-    let most = b"a\t18446744073709551615\n";
-    are_lines(
-        rt,
-        alloc,
-        &WordCount,
-        &key,
-        &[18446744073709551615, 5],
-        most,
-    );
+    let counts = [18446744073709551615, 5];
+    let want = b"a\t18446744073709551615\n";
+    are_lines(rt, alloc, &WordCount, &key, &counts, want);
     drop(key);
 }
 
@@ -135,7 +129,7 @@ fn functions_of_lineindex(rt: HostRuntime) {
     reduces(rt, alloc, &LineIndex, b"b b", 2, b"b\t1:2,1:2\n");
 }
 
-// A value is read at the front of these bytes: it is written as these, which it took.
+// A value is read at the front of these bytes. It takes as many as are wanted, and is written as those.
 fn is_read<W: Wire>(rt: &impl Abort, alloc: Global, bytes: &[u8], want: &[u8]) {
     let (value, len) = W::read(alloc, bytes).expect(rt, "a fault");
     confirm!(rt; len == want.len(), &bytes);
@@ -200,9 +194,7 @@ fn pairs_are_sorted(rt: HostRuntime) {
 fn lines_are_read_and_written(rt: HostRuntime) {
     let rt = &rt;
     let alloc = rt.alloc();
-    let bytes = b"ab\nc".as_slice();
-    assert!(rt; !bytes.is_empty());
-    let (line, rest) = next_line(bytes);
+    let (line, rest) = next_line(b"ab\nc");
     bytes_are(rt, line, b"ab");
     bytes_are(rt, rest, b"c");
     let key = Text::from_slice(alloc, line).expect(rt, "no memory");
@@ -210,12 +202,14 @@ fn lines_are_read_and_written(rt: HostRuntime) {
     drop(key);
 }
 
+const TEXTS: &[&[u8]] = &[b"a b\n", b""];
+
 // Splits that are copied are equal, and so are no others.
 #[test]
 fn splits_are_copied(rt: HostRuntime) {
     let rt = &rt;
     let alloc = rt.alloc();
-    let splits = Splits::from_vec(bytes_of(rt, alloc, &[b"a b\n", b""]));
+    let splits = Splits::from_vec(bytes_of(rt, alloc, TEXTS));
     let none = Splits::from_vec(Vec::new(alloc));
     let copy = splits.copy().expect(rt, "no memory");
     confirm!(rt; copy == splits);
