@@ -1,7 +1,8 @@
 //! The output committer: merges, commits and aborts, whole or by steps, and what is refused.
 
-use crate::fixtures::{TASK, attempt, by_generation, generation, new_namespace, path};
-use crate::jobs::{job_set_up, makes_room, out, sets_up, stand, stands};
+use crate::fixtures::{TASK, attempt, by_generation, generation, new_namespace};
+use crate::jobs::{job_set_up, out, sets_up};
+use crate::rows::{Call, Is, Row, hold};
 use mr_commit::{
     CommitFault, Step, StepDone, check_output, commit_job, commit_task, needs_task_commit,
 };
@@ -9,6 +10,12 @@ use mr_names::{Answer, Caller, Kind, NameFault, Namespace, Op};
 use mr_paths::Layout;
 use std::alloc::Global;
 use std::process::Abort;
+
+// Where the first attempt at the task writes.
+const WRITTEN: &str = "/out/_temporary/1/_temporary/attempt_200707121733_0003_r_000000_0";
+
+// A row that finds the marker.
+const MARKER: Row = (Call::Exists, "/out/_SUCCESS", "", Is::File);
 
 // The step's next call is made, with this answer.
 fn goes(
@@ -47,28 +54,39 @@ fn is_heard_alike(
     confirm!(rt; halves.cleans_up() == step.cleans_up());
 }
 
-// The text of a fault.
-fn prints(rt: &impl Abort, alloc: Global, fault: CommitFault, text: &str) -> bool {
-    fault.to_string(alloc).expect(rt, "no memory").as_str() == text
+// The step of one call is made, and by its copy in two halves. Then it is over.
+fn ends_by_halves(rt: &impl Abort, names: &mut Namespace, caller: &Caller, mut halves: Step) {
+    let mut step = halves.copy().expect(rt, "no memory");
+    is_heard_alike(
+        rt,
+        names,
+        caller,
+        &mut halves,
+        &mut step,
+        StepDone::Finished,
+    );
+    drop(step);
+    is_over(rt, names, caller, &mut halves);
+    drop(halves);
+}
+
+// This is the text of the fault.
+fn prints(rt: &impl Abort, alloc: Global, fault: CommitFault, text: &str) {
+    let shown = fault.to_string(alloc).expect(rt, "no memory");
+    confirm!(rt; shown.as_str() == text, &text);
+    drop(shown);
 }
 
 #[test]
 fn setup_by_halves(rt: HostRuntime) {
     let rt = &rt;
-    let alloc = rt.alloc();
     let one = &by_generation(rt, 1);
-    let mut names = new_namespace(rt, alloc);
-    let mut halves = Step::setup_job(&out(rt, alloc), one.app).expect(rt, "no memory");
-    let mut copy = halves.copy().expect(rt, "no memory");
-    is_heard_alike(
-        rt,
-        &mut names,
-        one,
-        &mut halves,
-        &mut copy,
-        StepDone::Finished,
-    );
-    is_over(rt, &mut names, one, &mut halves);
+    let mut names = new_namespace(rt, rt.alloc());
+    let layout = out(rt, rt.alloc());
+    let step = Step::setup_job(&layout, one.app).expect(rt, "no memory");
+    drop(layout);
+    ends_by_halves(rt, &mut names, one, step);
+    drop(names);
 }
 
 // A task's commit goes on where it hears, in two halves, that its attempt's directory is there.
@@ -76,33 +94,33 @@ fn goes_on_by_halves(rt: &impl Abort, step: &Step) {
     let mut sure = step.copy().expect(rt, "no memory");
     let there = Ok(Answer::Found(Some(Kind::Dir)));
     let following = sure.follow(&there).expect(rt, "a fault");
+    drop(there);
     confirm!(rt; following.done() == StepDone::More);
     sure.go_on(following);
     confirm!(rt; sure.call().is_some());
+    drop(sure);
 }
 
 #[test]
 fn over_after_output_missing(rt: HostRuntime) {
     let rt = &rt;
-    let alloc = rt.alloc();
     let one = &by_generation(rt, 1);
-    let layout = out(rt, alloc);
-    let mut names = job_set_up(rt, alloc, one, &layout);
+    let layout = out(rt, rt.alloc());
+    let mut names = job_set_up(rt, rt.alloc(), one, &layout);
     let mut step = Step::commit_task(&layout, one.app, attempt(rt, TASK, 0)).expect(
         rt,
         "no memory",
     );
+    drop(layout);
     goes_on_by_halves(rt, &step);
-    goes(
-        rt,
-        &mut names,
-        one,
-        &mut step,
-        Err(CommitFault::OutputMissing),
-    );
+    let missing = Err(CommitFault::OutputMissing);
+    goes(rt, &mut names, one, &mut step, missing);
     let mut copy = step.copy().expect(rt, "no memory");
     is_over(rt, &mut names, one, &mut copy);
+    drop(copy);
     is_over(rt, &mut names, one, &mut step);
+    drop(step);
+    drop(names);
 }
 
 // The step hears that its call is done, and answers this fault.
@@ -113,7 +131,9 @@ fn takes_no_answer(rt: &impl Abort, step: &mut Step, fault: CommitFault) {
 
 // Before it hears it, it would answer this fault to what another call found.
 fn follows_no_answer(rt: &impl Abort, step: &Step) {
-    let fault = step.follow(&Ok(Answer::Found(None))).err();
+    let free = Ok(Answer::Found(None));
+    let fault = step.follow(&free).err();
+    drop(free);
     confirm!(rt; fault == Some(CommitFault::WrongAnswer), &fault);
 }
 
@@ -121,37 +141,52 @@ fn follows_no_answer(rt: &impl Abort, step: &Step) {
 #[test]
 fn answer_of_another_kind(rt: HostRuntime) {
     let rt = &rt;
-    let alloc = rt.alloc();
-    let mut step = Step::commit_job(&out(rt, alloc), generation(rt, 1)).expect(rt, "no memory");
+    let layout = out(rt, rt.alloc());
+    let mut step = Step::commit_job(&layout, generation(rt, 1)).expect(rt, "no memory");
+    drop(layout);
     follows_no_answer(rt, &step);
     confirm!(rt; matches!(step.call(), Some(Op::List(_path))));
     takes_no_answer(rt, &mut step, CommitFault::WrongAnswer);
     confirm!(rt; step.call().is_none());
     takes_no_answer(rt, &mut step, CommitFault::Over);
-    confirm!(rt; prints(rt, alloc, CommitFault::WrongAnswer, "WrongAnswer"));
+    drop(step);
+    prints(rt, rt.alloc(), CommitFault::WrongAnswer, "WrongAnswer");
 }
 
 // A namespace in which a committed task left two directories with a file each, and the destination has other things of their names.
 fn two_levels(rt: &impl Abort, alloc: Global, caller: &Caller) -> Namespace {
     let mut names = new_namespace(rt, alloc);
-    for text in &[
-        "/out/_temporary/1/task_200707121733_0003_r_000000/a",
-        "/out/_temporary/1/task_200707121733_0003_r_000000/b",
-        "/out/_temporary/1/_temporary",
-        "/out/b",
-    ] {
-        makes_room(rt, alloc, &mut names, caller, text);
-    }
-    for text in &[
-        "/out/_temporary/1/task_200707121733_0003_r_000000/a/f",
-        "/out/_temporary/1/task_200707121733_0003_r_000000/b/g",
-        "/out/a",
-        "/out/b/old",
-    ] {
-        names
-            .create(*caller, &path(rt, alloc, text), true)
-            .expect(rt, text);
-    }
+    let rows = &[
+        (
+            Call::Mkdirs,
+            "/out/_temporary/1/task_200707121733_0003_r_000000/a",
+            "",
+            Is::Done,
+        ),
+        (
+            Call::Mkdirs,
+            "/out/_temporary/1/task_200707121733_0003_r_000000/b",
+            "",
+            Is::Done,
+        ),
+        (Call::Mkdirs, "/out/_temporary/1/_temporary", "", Is::Done),
+        (Call::Mkdirs, "/out/b", "", Is::Done),
+        (
+            Call::CreateClosed,
+            "/out/_temporary/1/task_200707121733_0003_r_000000/a/f",
+            "",
+            Is::Done,
+        ),
+        (
+            Call::CreateClosed,
+            "/out/_temporary/1/task_200707121733_0003_r_000000/b/g",
+            "",
+            Is::Done,
+        ),
+        (Call::CreateClosed, "/out/a", "", Is::Done),
+        (Call::CreateClosed, "/out/b/old", "", Is::Done),
+    ];
+    hold(rt, alloc, &mut names, caller, rows);
     names
 }
 
@@ -163,11 +198,14 @@ fn marker_is_last(
     caller: &Caller,
     step: &mut Step,
 ) {
-    let before = &[("/out/_temporary", None), ("/out/_SUCCESS", None)];
-    stand(rt, alloc, names, caller, before);
+    let before = &[
+        (Call::Exists, "/out/_temporary", "", Is::Free),
+        (Call::Exists, "/out/_SUCCESS", "", Is::Free),
+    ];
+    hold(rt, alloc, names, caller, before);
     goes(rt, names, caller, step, Ok(StepDone::Finished));
     is_over(rt, names, caller, step);
-    stands(rt, alloc, names, caller, "/out/_SUCCESS", Some(Kind::File));
+    hold(rt, alloc, names, caller, &[MARKER]);
 }
 
 #[test]
@@ -176,25 +214,41 @@ fn two_level_merge(rt: HostRuntime) {
     let alloc = rt.alloc();
     let one = &by_generation(rt, 1);
     let mut names = two_levels(rt, alloc, one);
-    let mut halves = Step::commit_job(&out(rt, alloc), one.app).expect(rt, "no memory");
+    let layout = out(rt, alloc);
+    let mut halves = Step::commit_job(&layout, one.app).expect(rt, "no memory");
+    drop(layout);
     // list, exists /out, list, exists /out/a, delete, rename; each by a copy, of up to five lines
     for _ in 0..6 {
         halves = halves.copy().expect(rt, "no memory");
         goes(rt, &mut names, one, &mut halves, Ok(StepDone::More));
     }
-    stands(rt, alloc, &names, one, "/out/a/f", Some(Kind::File));
-    // exists /out/b, list, exists /out/b/g, rename, delete /out/_temporary
+    let renamed = &[(Call::Exists, "/out/a/f", "", Is::File)];
+    hold(rt, alloc, &mut names, one, renamed);
+    merges_the_rest(rt, alloc, &mut names, one, halves);
+    let merged = &[
+        (Call::Exists, "/out/a", "", Is::Dir),
+        (Call::Exists, "/out/b/g", "", Is::File),
+        (Call::Exists, "/out/b/old", "", Is::File),
+    ];
+    hold(rt, alloc, &mut names, one, merged);
+    drop(names);
+}
+
+// exists /out/b, list, exists /out/b/g, rename, delete /out/_temporary; and then the marker
+fn merges_the_rest(
+    rt: &impl Abort,
+    alloc: Global,
+    names: &mut Namespace,
+    caller: &Caller,
+    mut halves: Step,
+) {
     let mut step = halves.copy().expect(rt, "no memory");
     for _ in 0..5 {
-        is_heard_alike(rt, &mut names, one, &mut halves, &mut step, StepDone::More);
+        is_heard_alike(rt, names, caller, &mut halves, &mut step, StepDone::More);
     }
-    marker_is_last(rt, alloc, &mut names, one, &mut step);
-    let merged = &[
-        ("/out/a", Some(Kind::Dir)),
-        ("/out/b/g", Some(Kind::File)),
-        ("/out/b/old", Some(Kind::File)),
-    ];
-    stand(rt, alloc, &names, one, merged);
+    marker_is_last(rt, alloc, names, caller, &mut step);
+    drop(step);
+    drop(halves);
 }
 
 #[test]
@@ -204,18 +258,19 @@ fn file_beneath_the_job_attempt(rt: HostRuntime) {
     let one = &by_generation(rt, 1);
     let layout = out(rt, alloc);
     let mut names = job_set_up(rt, alloc, one, &layout);
-    let file = "/out/_temporary/1/f";
-    names
-        .create(*one, &path(rt, alloc, file), true)
-        .expect(rt, file);
+    let file = &[(Call::CreateClosed, "/out/_temporary/1/f", "", Is::Done)];
+    hold(rt, alloc, &mut names, one, file);
     let mut step = Step::commit_job(&layout, one.app).expect(rt, "no memory");
-    for _ in 0..2 {
-        goes(rt, &mut names, one, &mut step, Ok(StepDone::More));
-    }
+    drop(layout);
+    goes(rt, &mut names, one, &mut step, Ok(StepDone::More));
+    goes(rt, &mut names, one, &mut step, Ok(StepDone::More));
     let refused = CommitFault::Names(NameFault::NotDir);
     goes(rt, &mut names, one, &mut step, Err(refused));
     is_over(rt, &mut names, one, &mut step);
-    stands(rt, alloc, &names, one, file, Some(Kind::File));
+    drop(step);
+    let file = &[(Call::Exists, "/out/_temporary/1/f", "", Is::File)];
+    hold(rt, alloc, &mut names, one, file);
+    drop(names);
 }
 
 // The job is committed, or refused so.
@@ -239,7 +294,7 @@ fn job_is_committed_once(
     layout: &Layout,
 ) {
     commits_job(rt, names, caller, layout, Ok(()));
-    stands(rt, alloc, names, caller, "/out/_SUCCESS", Some(Kind::File));
+    hold(rt, alloc, names, caller, &[MARKER]);
     let missing = CommitFault::Names(NameFault::Missing);
     commits_job(rt, names, caller, layout, Err(missing));
     sets_up(rt, names, caller, layout);
@@ -271,20 +326,26 @@ fn task_is_committed(
     caller: &Caller,
     layout: &Layout,
 ) {
-    commits_task(
+    let missing = Err(CommitFault::OutputMissing);
+    commits_task(rt, names, caller, layout, false, missing);
+    hold(
         rt,
+        alloc,
         names,
         caller,
-        layout,
-        false,
-        Err(CommitFault::OutputMissing),
+        &[(Call::Mkdirs, WRITTEN, "", Is::Done)],
     );
-    let attempt_path = "/out/_temporary/1/_temporary/attempt_200707121733_0003_r_000000_0";
-    makes_room(rt, alloc, names, caller, attempt_path);
     commits_task(rt, names, caller, layout, true, Ok(()));
-    let committed = "/out/_temporary/1/task_200707121733_0003_r_000000";
-    stands(rt, alloc, names, caller, committed, Some(Kind::Dir));
-    stands(rt, alloc, names, caller, attempt_path, None);
+    let moved = &[
+        (
+            Call::Exists,
+            "/out/_temporary/1/task_200707121733_0003_r_000000",
+            "",
+            Is::Dir,
+        ),
+        (Call::Exists, WRITTEN, "", Is::Free),
+    ];
+    hold(rt, alloc, names, caller, moved);
 }
 
 // The destination is free for a job, or is not.
@@ -306,7 +367,7 @@ fn commits_late(rt: &impl Abort, alloc: Global, names: &mut Namespace, layout: &
     let a = attempt(rt, TASK, 0);
     let answer = commit_task(names, by_generation(rt, 1), layout, a);
     confirm!(rt; answer == Err(late), &answer);
-    confirm!(rt; prints(rt, alloc, late, "Superseded 2"));
+    prints(rt, alloc, late, "Superseded 2");
 }
 
 #[test]
@@ -323,7 +384,8 @@ fn committed_and_checked(rt: HostRuntime) {
     task_is_committed(rt, alloc, &mut names, one, &layout);
     job_is_committed_once(rt, alloc, &mut names, one, &layout);
     commits_late(rt, alloc, &mut names, &layout);
-    confirm!(rt; prints(rt, alloc, CommitFault::OutputMissing, "OutputMissing"));
+    prints(rt, alloc, CommitFault::OutputMissing, "OutputMissing");
+    drop(layout);
     drop(names);
 }
 
@@ -337,16 +399,12 @@ fn last_generation_commits(rt: HostRuntime) {
     let mut names = new_namespace(rt, alloc);
     names.raise(last.app);
     sets_up(rt, &mut names, last, &layout);
-    stands(
-        rt,
-        alloc,
-        &names,
-        last,
-        "/out/_temporary/1000",
-        Some(Kind::Dir),
-    );
+    let set_up = &[(Call::Exists, "/out/_temporary/1000", "", Is::Dir)];
+    hold(rt, alloc, &mut names, last, set_up);
     commits_job(rt, &mut names, last, &layout, Ok(()));
-    stands(rt, alloc, &names, last, "/out/_SUCCESS", Some(Kind::File));
+    drop(layout);
+    hold(rt, alloc, &mut names, last, &[MARKER]);
+    drop(names);
 }
 
 #[test]
@@ -356,23 +414,14 @@ fn task_abort_by_steps(rt: HostRuntime) {
     let one = &by_generation(rt, 1);
     let layout = out(rt, alloc);
     let mut names = job_set_up(rt, alloc, one, &layout);
-    let written = "/out/_temporary/1/_temporary/attempt_200707121733_0003_r_000000_0";
-    makes_room(rt, alloc, &mut names, one, written);
-    let mut halves = Step::abort_task(&layout, one.app, attempt(rt, TASK, 0)).expect(
-        rt,
-        "no memory",
-    );
-    let mut step = halves.copy().expect(rt, "no memory");
-    is_heard_alike(
-        rt,
-        &mut names,
-        one,
-        &mut halves,
-        &mut step,
-        StepDone::Finished,
-    );
-    stands(rt, alloc, &names, one, written, None);
-    is_over(rt, &mut names, one, &mut halves);
+    let written = &[(Call::Mkdirs, WRITTEN, "", Is::Done)];
+    hold(rt, alloc, &mut names, one, written);
+    let step = Step::abort_task(&layout, one.app, attempt(rt, TASK, 0)).expect(rt, "no memory");
+    drop(layout);
+    ends_by_halves(rt, &mut names, one, step);
+    let aborted = &[(Call::Exists, WRITTEN, "", Is::Free)];
+    hold(rt, alloc, &mut names, one, aborted);
+    drop(names);
 }
 
 #[test]
@@ -382,16 +431,10 @@ fn job_abort_by_steps(rt: HostRuntime) {
     let one = &by_generation(rt, 1);
     let layout = out(rt, alloc);
     let mut names = job_set_up(rt, alloc, one, &layout);
-    let mut halves = Step::abort_job(&layout).expect(rt, "no memory");
-    let mut step = halves.copy().expect(rt, "no memory");
-    is_heard_alike(
-        rt,
-        &mut names,
-        one,
-        &mut halves,
-        &mut step,
-        StepDone::Finished,
-    );
-    stands(rt, alloc, &names, one, "/out/_temporary", None);
-    is_over(rt, &mut names, one, &mut halves);
+    let step = Step::abort_job(&layout).expect(rt, "no memory");
+    drop(layout);
+    ends_by_halves(rt, &mut names, one, step);
+    let aborted = &[(Call::Exists, "/out/_temporary", "", Is::Free)];
+    hold(rt, alloc, &mut names, one, aborted);
+    drop(names);
 }

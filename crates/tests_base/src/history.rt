@@ -1,7 +1,7 @@
 //! The job history: lines, segments, seals and replay.
 
 use crate::fixtures::generation;
-use crate::masters::{Call, Told, attempt, hold, is_told, reduced, started};
+use crate::masters::{Call, Is, attempt, hold, is_stable, is_told, reduced, started};
 use mr_history::{History, HistoryFault, Record, Records, Replayed, Segment, replay, whole_line};
 use mr_ids::TaskKind;
 use std::alloc::Global;
@@ -47,19 +47,17 @@ fn replayed(rt: &impl Abort, alloc: Global, bytes: &[u8]) -> Replayed {
 fn reads(rt: &impl Abort, alloc: Global, bytes: &[u8], version: u32, count: usize, torn: usize) {
     let read = replayed(rt, alloc, bytes);
     let told = (read.version, read.records.len(), read.torn);
+    drop(read);
     confirm!(rt; told == (version, count, torn), &told);
 }
 
 // These are the records that the master of this generation reads.
 fn are_before(rt: &impl Abort, history: &History, number: u32, records: &[Record]) {
-    let before = records_before(rt, history, number);
-    confirm!(rt; before.as_slice() == records);
-}
-
-fn records_before(rt: &impl Abort, history: &History, number: u32) -> Records {
     let k = generation(rt, number);
     assert!(rt; history.is_raised(k));
-    history.read(k).expect(rt, "a fault")
+    let before = history.read(k).expect(rt, "a fault");
+    confirm!(rt; before.as_slice() == records);
+    drop(before);
 }
 
 // These texts, one behind the other.
@@ -112,8 +110,11 @@ fn record_lines(rt: HostRuntime) {
     let read = replayed(rt, rt.alloc(), wanted.as_bytes());
     confirm!(rt; read.torn == 0);
     confirm!(rt; read.records.as_slice() == one_of_each(rt).as_slice());
+    drop(read);
+    drop(wanted);
     let line = whole_line(rt.alloc(), &started(rt)).expect(rt, "no memory");
     confirm!(rt; line.as_str() == STARTED);
+    drop(line);
 }
 
 #[test]
@@ -126,6 +127,8 @@ fn records_are_copied(rt: HostRuntime) {
     copy.extend(records.as_slice()).expect(rt, "no memory");
     confirm!(rt; copy.as_slice() == records.as_slice());
     confirm!(rt; copy.len() == 2);
+    drop(copy);
+    drop(records);
 }
 
 // A sealed segment takes no record and no flush, and says so before.
@@ -154,36 +157,26 @@ fn segment_seal(rt: HostRuntime) {
     }
 }
 
-// Before this generation so many records were written, each that the job was unsuccessful.
-fn were_unsuccessful(rt: &impl Abort, history: &History, number: u32, count: usize) {
-    let records = records_before(rt, history, number);
-    confirm!(rt; records.len() == count, &count);
-    for record in records.into_vec() {
-        confirm!(rt; record == Record::JobUnsuccessful, &record);
-    }
-}
-
 #[test]
 fn history_raise(rt: HostRuntime) {
     let rt = &rt;
-    let two = generation(rt, 2);
-    for (kept, count) in &[(24, 0), (25, 1)] {
+    let none: &[Record] = &[];
+    let one: &[Record] = &[Record::JobUnsuccessful];
+    for (kept, records) in &[(24, none), (25, one)] {
         let mut history = raised(rt, rt.alloc(), 1);
-        let written = &[
-            (1, Call::Append(Told::Unsuccessful, None)),
-            (1, Call::Tail(25)),
+        let rows = &[
+            (1, Call::Unsuccessful, 0, Is::Done),
+            (1, Call::HasTail, 25, Is::Done),
         ];
-        hold(rt, &mut history, written);
-        history.raise(two, *kept, 1);
-        hold(
-            rt,
-            &mut history,
-            &[(1, Call::Raise(0, 1)), (2, Call::HasFence)],
-        );
-        were_unsuccessful(rt, &history, 2, *count);
-        let late = Some(HistoryFault::Superseded(2));
-        let late = &[(1, Call::Append(Told::Unsuccessful, late))];
-        hold(rt, &mut history, late);
+        hold(rt, &mut history, rows);
+        history.raise(generation(rt, 2), *kept, 1);
+        let rows = &[
+            (1, Call::Raise, 0, Is::Done),
+            (2, Call::HasFence, 0, Is::Done),
+            (1, Call::Unsuccessful, 0, Is::Before2),
+        ];
+        hold(rt, &mut history, rows);
+        are_before(rt, &history, 2, records);
         drop(history);
     }
 }
@@ -192,29 +185,23 @@ fn history_raise(rt: HostRuntime) {
 fn history_segments(rt: HostRuntime) {
     let rt = &rt;
     let mut history = raised(rt, rt.alloc(), 2);
-    hold(
-        rt,
-        &mut history,
-        &[
-            (2, Call::Append(Told::Started, None)),
-            (2, Call::IsRaised(true)),
-            (4, Call::IsRaised(false)),
-            (2, Call::Flush(None)),
-        ],
-    );
+    let rows = &[
+        (2, Call::Started, 0, Is::Done),
+        (2, Call::IsRaised, 0, Is::Done),
+        (4, Call::IsUnraised, 0, Is::Done),
+        (2, Call::Flush, 0, Is::Done),
+    ];
+    hold(rt, &mut history, rows);
     are_before(rt, &history, 2, &[]);
-    hold(
-        rt,
-        &mut history,
-        &[
-            (2, Call::Append(Told::Reduced, None)),
-            (2, Call::Seal(1000)),
-            (2, Call::Append(Told::Reduced, Some(HistoryFault::Sealed))),
-            (4, Call::Raise(0, 2)),
-            (4, Call::Append(Told::Started, None)),
-            (1, Call::Flush(Some(HistoryFault::Superseded(4)))),
-        ],
-    );
+    let rows = &[
+        (2, Call::Reduced, 0, Is::Done),
+        (2, Call::Seal, 1000, Is::Done),
+        (2, Call::Reduced, 0, Is::Sealed),
+        (4, Call::RaiseWithVersion2, 0, Is::Done),
+        (4, Call::Started, 0, Is::Done),
+        (1, Call::Flush, 0, Is::Before4),
+    ];
+    hold(rt, &mut history, rows);
     are_before(rt, &history, 4, &[started(rt), reduced(rt)]);
     drop(history);
 }
@@ -224,17 +211,14 @@ fn history_segments(rt: HostRuntime) {
 fn last_generation(rt: HostRuntime) {
     let rt = &rt;
     let mut history = raised(rt, rt.alloc(), 1);
-    hold(
-        rt,
-        &mut history,
-        &[
-            (1, Call::Append(Told::Started, None)),
-            (1000, Call::Raise(1000, 1)),
-            (1000, Call::Append(Told::Reduced, None)),
-            (1000, Call::Flush(None)),
-            (1000, Call::Stable(REDUCED)),
-        ],
-    );
+    let rows = &[
+        (1, Call::Started, 0, Is::Done),
+        (1000, Call::Raise, 1000, Is::Done),
+        (1000, Call::Reduced, 0, Is::Done),
+        (1000, Call::Flush, 0, Is::Done),
+    ];
+    hold(rt, &mut history, rows);
+    is_stable(rt, &history, 1000, REDUCED);
     are_before(rt, &history, 1000, &[started(rt)]);
     drop(history);
 }
@@ -253,6 +237,7 @@ fn fault_texts(rt: HostRuntime) {
     ] {
         let text = format!(in alloc; "{fault}").expect(rt, "no memory");
         confirm!(rt; text.as_str() == *told, told);
+        drop(text);
     }
 }
 
@@ -261,24 +246,22 @@ fn fault_texts(rt: HostRuntime) {
 fn history_refusals(rt: HostRuntime) {
     let rt = &rt;
     let mut history = raised(rt, rt.alloc(), 1);
-    hold(
-        rt,
-        &mut history,
-        &[
-            (1, Call::Foreseen(None)),
-            (1, Call::Append(Told::Started, None)),
-            (2, Call::Raise(200, 1)),
-            (1, Call::Foreseen(Some(HistoryFault::Superseded(2)))),
-            (2, Call::Append(Told::Reduced, None)),
-            (2, Call::Foreseen(None)),
-            (2, Call::Seal(200)),
-            (2, Call::Foreseen(Some(HistoryFault::Sealed))),
-            (2, Call::Stable(REDUCED)),
-        ],
-    );
+    let rows = &[
+        (1, Call::Foresee, 0, Is::Done),
+        (1, Call::Started, 0, Is::Done),
+        (2, Call::Raise, 200, Is::Done),
+        (1, Call::Foresee, 0, Is::Before2),
+        (2, Call::Reduced, 0, Is::Done),
+        (2, Call::Foresee, 0, Is::Done),
+        (2, Call::Seal, 200, Is::Done),
+        (2, Call::Foresee, 0, Is::Sealed),
+    ];
+    hold(rt, &mut history, rows);
+    is_stable(rt, &history, 2, REDUCED);
     let all = history.records().expect(rt, "a fault");
-    confirm!(rt; all.as_slice() == [started(rt), reduced(rt)].as_slice());
     drop(history);
+    confirm!(rt; all.as_slice() == [started(rt), reduced(rt)].as_slice());
+    drop(all);
 }
 
 #[test]
@@ -297,12 +280,14 @@ fn every_prefix(rt: HostRuntime) {
         };
         reads(rt, alloc, &bytes[..end], 1, count, torn);
     }
+    drop(text);
 }
 
 // The second line of these parts is bad: the line with this end.
 fn is_bad_line_2(rt: &impl Abort, alloc: Global, parts: &[&str], line: &str) {
     let text = joined(rt, alloc, parts);
     let fault = replay(alloc, text.as_bytes()).err();
+    drop(text);
     confirm!(rt; fault == Some(HistoryFault::BadLine(2)), &(line, fault));
 }
 
@@ -343,6 +328,7 @@ fn longest_line(rt: HostRuntime) {
     let line = joined(rt, alloc, &[LONGEST, "}\n"]);
     confirm!(rt; line.len() == 131);
     reads(rt, alloc, line.as_bytes(), 1, 1, 0);
+    drop(line);
     for ending in &["0}", " }", "}{\"event\":\"unsuccessful\"}"] {
         is_bad_line_2(rt, alloc, &[LONGEST, "}\n", LONGEST, *ending, "\n"], ending);
     }
@@ -400,31 +386,27 @@ fn every_seal_of_version_2(rt: HostRuntime) {
 fn history_copy(rt: HostRuntime) {
     let rt = &rt;
     let mut history = raised(rt, rt.alloc(), 1);
-    hold(
-        rt,
-        &mut history,
-        &[
-            (1, Call::Append(Told::Started, None)),
-            (2, Call::Raise(200, 2)),
-            (2, Call::Append(Told::Unsuccessful, None)),
-        ],
-    );
+    let rows = &[
+        (1, Call::Started, 0, Is::Done),
+        (2, Call::RaiseWithVersion2, 200, Is::Done),
+        (2, Call::Unsuccessful, 0, Is::Done),
+    ];
+    hold(rt, &mut history, rows);
     let mut copy = history.copy().expect(rt, "no memory");
-    hold(
+    is_stable(rt, &copy, 1, STARTED);
+    let rows = &[
+        (2, Call::HasFence, 0, Is::Done),
+        (2, Call::HasTail, 39, Is::Done),
+        (2, Call::Flush, 0, Is::Done),
+    ];
+    hold(rt, &mut copy, rows);
+    is_stable(
         rt,
-        &mut copy,
-        &[
-            (2, Call::HasFence),
-            (1, Call::Stable(STARTED)),
-            (2, Call::Tail(39)),
-            (2, Call::Flush(None)),
-            (
-                2,
-                Call::Stable("{\"version\":2}\n{\"event\":\"unsuccessful\"}\n"),
-            ),
-        ],
+        &copy,
+        2,
+        "{\"version\":2}\n{\"event\":\"unsuccessful\"}\n",
     );
     drop(copy);
-    hold(rt, &mut history, &[(2, Call::Tail(39))]);
+    hold(rt, &mut history, &[(2, Call::HasTail, 39, Is::Done)]);
     drop(history);
 }

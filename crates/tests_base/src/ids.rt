@@ -24,6 +24,7 @@ fn task(job: JobId, kind: TaskKind, number: u32) -> TaskId {
 fn shows<T: Display>(rt: &impl Abort, alloc: Global, value: &T, text: &str) {
     let shown = value.to_string(alloc).expect(rt, "no memory");
     confirm!(rt; shown.as_str() == text, &text);
+    drop(shown);
 }
 
 #[test]
@@ -111,6 +112,7 @@ fn identifiers_are_written(rt: HostRuntime) {
         attempt_200707121733_0003_m_000005_0 \
         attempt_18446744073709551615_4294967295_r_4294967295_999999 1000";
     confirm!(rt; out.as_slice() == wanted.as_bytes());
+    drop(out);
 }
 
 #[test]

@@ -1,8 +1,8 @@
-//! What the committer's tests begin with: a job's place, its setup, and what stands where.
+//! What the committer's tests begin with: a job's place and its setup.
 
 use crate::fixtures::{new_namespace, path};
 use mr_commit::setup_job;
-use mr_names::{Caller, Kind, Namespace};
+use mr_names::{Caller, Namespace};
 use mr_paths::Layout;
 use std::alloc::Global;
 use std::process::Abort;
@@ -12,45 +12,6 @@ pub fn out(rt: &impl Abort, alloc: Global) -> Layout {
     Layout {
         dest: path(rt, alloc, "/out"),
     }
-}
-
-/// This stands at the path with this text.
-pub fn stands(
-    rt: &impl Abort,
-    alloc: Global,
-    names: &Namespace,
-    caller: &Caller,
-    text: &str,
-    want: Option<Kind>,
-) {
-    let answer = names.exists(*caller, &path(rt, alloc, text));
-    confirm!(rt; answer == Ok(want), &(text, answer));
-}
-
-/// These stand at the paths with these texts.
-pub fn stand(
-    rt: &impl Abort,
-    alloc: Global,
-    names: &Namespace,
-    caller: &Caller,
-    wanted: &[(&str, Option<Kind>)],
-) {
-    for (text, want) in wanted {
-        stands(rt, alloc, names, caller, text, *want);
-    }
-}
-
-/// A directory is made at the path with this text.
-pub fn makes_room(
-    rt: &impl Abort,
-    alloc: Global,
-    names: &mut Namespace,
-    caller: &Caller,
-    text: &str,
-) {
-    names
-        .mkdirs(*caller, &path(rt, alloc, text))
-        .expect(rt, text);
 }
 
 /// The job is set up.

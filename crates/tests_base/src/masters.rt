@@ -31,82 +31,123 @@ pub fn reduced(rt: &impl Abort) -> Record {
     }
 }
 
-/// A record by its name.
+/// A call of the master of a generation, or what is asked of the history.
 #[derive(Clone, Copy)]
-pub enum Told {
+pub enum Call {
+    /// The generation is raised to, its segment has version 1, and so many bytes of each older tail are kept.
+    Raise,
+    /// The same, and its segment has version 2.
+    RaiseWithVersion2,
+    /// The record that an attempt was started is appended.
     Started,
+    /// The record that a reduce succeeded is appended.
     Reduced,
+    /// The record that the job was unsuccessful is appended.
     Unsuccessful,
-}
-
-fn record(rt: &impl Abort, told: Told) -> Record {
-    match told {
-        Told::Started => started(rt),
-        Told::Reduced => reduced(rt),
-        Told::Unsuccessful => Record::JobUnsuccessful,
-    }
-}
-
-/// A call of the master of a generation with its refusal or none, or what is read of the generation's segment.
-#[derive(Clone, Copy)]
-pub enum Call<'a> {
-    /// The generation is raised to: so many bytes of each older tail are kept, and its segment has this version.
-    Raise(usize, u32),
-    Append(Told, Option<HistoryFault>),
-    Flush(Option<HistoryFault>),
-    Seal(usize),
-    /// An append and a flush would be refused so, or not.
-    Foreseen(Option<HistoryFault>),
-    Stable(&'a str),
-    Tail(usize),
-    IsRaised(bool),
+    Flush,
+    /// So many bytes of the tail are kept.
+    Seal,
+    /// An append and a flush are foreseen.
+    Foresee,
+    /// The tail has so many bytes.
+    HasTail,
+    IsRaised,
+    IsUnraised,
     HasFence,
 }
 
-/// The calls of the rows are made in turn, each by the master of the generation of this number, and each answer is its row's.
-pub fn hold(rt: &impl Abort, history: &mut History, rows: &[(u32, Call)]) {
-    for (number, call) in rows {
-        holds(rt, history, generation(rt, *number), *call);
+/// How a call is answered.
+#[derive(Clone, Copy)]
+pub enum Is {
+    Done,
+    Sealed,
+    /// Generation 2 has the fence.
+    Before2,
+    /// Generation 4 has the fence.
+    Before4,
+}
+
+/// The generation of this number calls, with a count of bytes, and is answered.
+pub type Row = (u32, Call, usize, Is);
+
+/// The calls of the rows are made in turn, and each answer is its row's.
+pub fn hold(rt: &impl Abort, history: &mut History, rows: &[Row]) {
+    for (number, call, count, is) in rows {
+        let k = generation(rt, *number);
+        let fault = calls(rt, history, k, *call, *count);
+        confirm!(rt; fault == refusal(*is), &(k, fault));
     }
 }
 
-fn holds(rt: &impl Abort, history: &mut History, k: AppAttempt, call: Call) {
+fn refusal(is: Is) -> Option<HistoryFault> {
+    match is {
+        Is::Done => None,
+        Is::Sealed => Some(HistoryFault::Sealed),
+        Is::Before2 => Some(HistoryFault::Superseded(2)),
+        Is::Before4 => Some(HistoryFault::Superseded(4)),
+    }
+}
+
+// The refusal of a call, if there is one.
+fn calls(
+    rt: &impl Abort,
+    history: &mut History,
+    k: AppAttempt,
+    call: Call,
+    count: usize,
+) -> Option<HistoryFault> {
     match call {
-        Call::Raise(kept, 1) => history.raise(k, kept, 1),
-        Call::Raise(kept, _two) => history.raise(k, kept, 2),
-        Call::IsRaised(want) => confirm!(rt; history.is_raised(k) == want, &want),
+        Call::Raise => history.raise(k, count, 1),
+        Call::RaiseWithVersion2 => history.raise(k, count, 2),
+        Call::Started => return appends(rt, history, k, started(rt)),
+        Call::Reduced => return appends(rt, history, k, reduced(rt)),
+        Call::Unsuccessful => return appends(rt, history, k, Record::JobUnsuccessful),
+        Call::IsRaised => confirm!(rt; history.is_raised(k), &k),
+        Call::IsUnraised => confirm!(rt; !history.is_raised(k), &k),
         Call::HasFence => confirm!(rt; history.fence() == k.number(), &k),
-        call => is_answered_so(rt, history, k, call),
+        call => return calls_raised(rt, history, k, call, count),
     }
+    None
 }
 
-// A generation that was raised to calls.
-fn is_answered_so(rt: &impl Abort, history: &mut History, k: AppAttempt, call: Call) {
+fn appends(
+    rt: &impl Abort,
+    history: &mut History,
+    k: AppAttempt,
+    record: Record,
+) -> Option<HistoryFault> {
     assert!(rt; history.is_raised(k));
-    match call {
-        Call::Append(told, want) => {
-            let record = record(rt, told);
-            assert!(rt; record.fits() && record.suits(history.version(k)));
-            is_told(rt, history.append(k, record), want)
-        }
-        Call::Flush(want) => is_told(rt, history.flush(k), want),
-        Call::Seal(kept) => history.seal(k, kept),
-        read => is_read_so(rt, history, k, read),
-    }
+    assert!(rt; record.fits() && record.suits(history.version(k)));
+    history.append(k, record).err()
 }
 
-// What is read of the segment of a generation that was raised to is as the row says.
-fn is_read_so(rt: &impl Abort, history: &History, k: AppAttempt, call: Call) {
+// The other calls of a generation that was raised to.
+fn calls_raised(
+    rt: &impl Abort,
+    history: &mut History,
+    k: AppAttempt,
+    call: Call,
+    count: usize,
+) -> Option<HistoryFault> {
     assert!(rt; history.is_raised(k));
     match call {
-        Call::Foreseen(want) => {
-            confirm!(rt; history.append_refusal(k, &Record::JobUnsuccessful) == want, &want);
-            confirm!(rt; history.flush_refusal(k) == want, &want)
+        Call::Flush => return history.flush(k).err(),
+        Call::Seal => history.seal(k, count),
+        Call::Foresee => {
+            let refusal = history.append_refusal(k, &Record::JobUnsuccessful);
+            confirm!(rt; history.flush_refusal(k) == refusal, &refusal);
+            return refusal;
         }
-        Call::Stable(want) => confirm!(rt; history.stable(k) == want.as_bytes(), &want),
-        Call::Tail(want) => confirm!(rt; history.tail(k) == want, &want),
-        _ => {}
+        _ => confirm!(rt; history.tail(k) == count, &count),
     }
+    None
+}
+
+/// The stable part of the segment of this generation is this text.
+pub fn is_stable(rt: &impl Abort, history: &History, number: u32, text: &str) {
+    let k = generation(rt, number);
+    assert!(rt; history.is_raised(k));
+    confirm!(rt; history.stable(k) == text.as_bytes(), &text);
 }
 
 /// The call is done, or refused so.

@@ -1,12 +1,10 @@
 //! The namespace: what is refused, bars, limits, and the listing and the rename of a large directory.
 
-use crate::calls::is_done;
 use crate::fixtures::{TASK, attempt, by_generation, generation, new_namespace, path};
-use crate::rows::{Row, hold, holds};
+use crate::rows::{Call, Is, Row, hold, perform};
 use mr_names::{
-    Caller, Entries, Kind, MAX_BARRED, MAX_ENTRIES, MAX_FILE_LEN, NameFault, Namespace, Op,
+    Caller, Entries, Kind, MAX_BARRED, MAX_ENTRIES, MAX_FILE_LEN, NameFault, Namespace,
 };
-use mr_paths::Path;
 use std::alloc::Global;
 use std::process::Abort;
 
@@ -15,42 +13,39 @@ fn namespace_refusals(rt: HostRuntime) {
     let rt = &rt;
     let one = &by_generation(rt, 1);
     let mut names = new_namespace(rt, rt.alloc());
-    hold(
-        rt,
-        rt.alloc(),
-        &mut names,
-        one,
-        &[
-            Row::Create("/a/b", false, Err(NameFault::NoParent)),
-            Row::Mkdirs("/a/b", Ok(())),
-            Row::Rename("/a", "/a/b/c", Err(NameFault::IntoItself)),
-            Row::Rename("/x", "/y", Err(NameFault::Missing)),
-            Row::Create("/f", true, Ok(())),
-            Row::Append("/f", b"1", Err(NameFault::Closed)),
-            Row::Mkdirs("/f/g", Err(NameFault::NotDir)),
-            Row::Rename("/a", "/f", Err(NameFault::Exists)),
-            Row::Delete("/", Err(NameFault::NoParent)),
-        ],
-    );
+    let rows = &[
+        (Call::Create, "/a/b", "", Is::NoParent),
+        (Call::Mkdirs, "/a/b", "", Is::Done),
+        (Call::Rename, "/a", "/a/b/c", Is::IntoItself),
+        (Call::Rename, "/x", "/y", Is::Missing),
+        (Call::CreateClosed, "/f", "", Is::Done),
+        (Call::Append, "/f", "1", Is::Closed),
+        (Call::Mkdirs, "/f/g", "", Is::NotDir),
+        (Call::Rename, "/a", "/f", Is::Exists),
+        (Call::Delete, "/", "", Is::NoParent),
+    ];
+    hold(rt, rt.alloc(), &mut names, one, rows);
     names.raise(generation(rt, 2));
-    let late = Row::Exists("/a", Err(NameFault::Superseded(2)));
-    holds(rt, rt.alloc(), &mut names, one, late);
+    let late = &[(Call::Exists, "/a", "", Is::Late)];
+    hold(rt, rt.alloc(), &mut names, one, late);
     drop(names);
 }
 
-// The file at the path has so many bytes.
-fn has(
-    rt: &impl Abort,
-    alloc: Global,
-    names: &Namespace,
-    caller: &Caller,
-    text: &str,
-    want: usize,
-) {
-    let bytes = names
-        .read(*caller, &path(rt, alloc, text))
-        .expect(rt, "not read");
-    confirm!(rt; bytes.len() == want, &text);
+// The file at `/f` takes more bytes.
+fn takes(rt: &impl Abort, alloc: Global, names: &mut Namespace, caller: &Caller, bytes: &[u8]) {
+    let place = path(rt, alloc, "/f");
+    let answer = names.append(*caller, &place, bytes);
+    drop(place);
+    confirm!(rt; answer == Ok(()), &answer);
+}
+
+// The file at `/f` has so many bytes.
+fn has(rt: &impl Abort, alloc: Global, names: &Namespace, caller: &Caller, want: usize) {
+    let place = path(rt, alloc, "/f");
+    let bytes = names.read(*caller, &place).expect(rt, "not read");
+    drop(place);
+    confirm!(rt; bytes.len() == want, &want);
+    drop(bytes);
 }
 
 // A million bytes at once, and calls that have nothing to add or to make.
@@ -62,15 +57,15 @@ fn long_appends_and_empty_ones(rt: HostRuntime) {
     let mut names = new_namespace(rt, alloc);
     let million = vec![in alloc; b'x'; 1_000_000].expect(rt, "no memory");
     let empty = &[
-        Row::Mkdirs("/", Ok(())),
-        Row::Create("/f", false, Ok(())),
-        Row::Append("/f", b"", Ok(())),
-        Row::Read("/f", b""),
+        (Call::Mkdirs, "/", "", Is::Done),
+        (Call::Create, "/f", "", Is::Done),
+        (Call::Append, "/f", "", Is::Done),
+        (Call::Read, "/f", "", Is::Told),
     ];
     hold(rt, alloc, &mut names, one, empty);
-    let long = Row::Append("/f", &million, Ok(()));
-    holds(rt, alloc, &mut names, one, long);
-    has(rt, alloc, &names, one, "/f", 1_000_000);
+    takes(rt, alloc, &mut names, one, &million);
+    has(rt, alloc, &names, one, 1_000_000);
+    drop(million);
     drop(names);
 }
 
@@ -80,14 +75,30 @@ const MARK: usize = 1_000_003;
 fn mark(rt: &impl Abort, alloc: Global) {
     let mut room = Vec::with_capacity(alloc, MARK).expect(rt, "no memory");
     room.push(0u8).expect(rt, "no memory");
+    drop(room);
 }
 
-// As many files as a namespace has room for beside their directory.
-fn fill(rt: &impl Abort, alloc: Global, names: &mut Namespace, one: &Caller) {
+// A row that finds the namespace full, and one that makes the same file once there is room.
+const FULL: Row = (Call::CreateClosed, "/c", "", Is::Full);
+
+const ROOM: Row = (Call::CreateClosed, "/c", "", Is::Done);
+
+// A namespace with a directory of as many files as it has room for.
+fn full(rt: &impl Abort, alloc: Global, one: &Caller) -> Namespace {
+    let mut names = new_namespace(rt, alloc);
+    hold(
+        rt,
+        alloc,
+        &mut names,
+        one,
+        &[(Call::Mkdirs, "/a", "", Is::Done)],
+    );
     for file in 0..MAX_ENTRIES - 1 {
         let text = format!(in alloc; "/a/{file}").expect(rt, "no memory");
-        holds(rt, alloc, names, one, Row::Create(&text, true, Ok(())));
+        let row = (Call::CreateClosed, text.as_str(), "", Is::Done);
+        hold(rt, alloc, &mut names, one, &[row]);
     }
+    names
 }
 
 #[test]
@@ -95,23 +106,22 @@ fn large_directory_rename(rt: HostRuntime) {
     let rt = &rt;
     let alloc = rt.alloc();
     let one = &by_generation(rt, 1);
-    let mut names = new_namespace(rt, alloc);
+    let mut names = full(rt, alloc, one);
     let a = path(rt, alloc, "/a");
     let b = path(rt, alloc, "/b");
-    holds(rt, alloc, &mut names, one, Row::Mkdirs("/a", Ok(())));
-    fill(rt, alloc, &mut names, one);
     mark(rt, alloc);
-    let full = Row::Create("/c", true, Err(NameFault::Full));
-    holds(rt, alloc, &mut names, one, full);
+    hold(rt, alloc, &mut names, one, &[FULL]);
     mark(rt, alloc);
     let renamed = names.rename(*one, &a, &b);
     mark(rt, alloc);
+    drop(a);
+    drop(b);
     confirm!(rt; renamed == Ok(()), &renamed);
     let rows = &[
-        Row::Exists("/a/0", Ok(None)),
-        Row::Exists("/b/65534", Ok(Some(Kind::File))),
-        Row::Delete("/b", Ok(())),
-        Row::Create("/c", true, Ok(())),
+        (Call::Exists, "/a/0", "", Is::Free),
+        (Call::Exists, "/b/65534", "", Is::File),
+        (Call::Delete, "/b", "", Is::Done),
+        ROOM,
     ];
     hold(rt, alloc, &mut names, one, rows);
     drop(names);
@@ -135,40 +145,41 @@ fn deepest_directory(rt: HostRuntime) {
     let mut names = new_namespace(rt, alloc);
     let all = deep(rt, alloc, "/a", MAX_ENTRIES);
     let moved = deep(rt, alloc, "/b", MAX_ENTRIES);
-    let rows = [
-        Row::Mkdirs(&all, Ok(())),
-        Row::Create("/c", true, Err(NameFault::Full)),
-        Row::Exists(&all, Ok(Some(Kind::Dir))),
-        Row::Rename("/a", &all, Err(NameFault::IntoItself)),
-        Row::Rename("/a", "/b", Ok(())),
-        Row::Exists(&moved, Ok(Some(Kind::Dir))),
+    let rows = &[
+        (Call::Mkdirs, all.as_str(), "", Is::Done),
+        FULL,
+        (Call::Exists, all.as_str(), "", Is::Dir),
+        (Call::Rename, "/a", all.as_str(), Is::IntoItself),
+        (Call::Rename, "/a", "/b", Is::Done),
+        (Call::Exists, moved.as_str(), "", Is::Dir),
     ];
-    hold(rt, alloc, &mut names, one, &rows);
-    let rows = &[Row::Delete("/b", Ok(())), Row::Create("/c", true, Ok(()))];
     hold(rt, alloc, &mut names, one, rows);
+    drop(all);
+    drop(moved);
+    hold(
+        rt,
+        alloc,
+        &mut names,
+        one,
+        &[(Call::Delete, "/b", "", Is::Done), ROOM],
+    );
     drop(names);
 }
 
-// Whether a listing has each file that `fill` makes, by the bytes of their names: each name once, from 0 to 9999.
+// Whether a listing has each file that `full` makes, by the bytes of their names: each name once, from 0 to 9999.
 fn lists_all(entries: &Entries) -> bool {
     let files = entries.as_slice();
     let (Some(first), Some(last)) = (files.first(), files.last()) else {
         return false;
     };
-    files.len() == MAX_ENTRIES - 1
+    let mut are_so = first.kind == Kind::File;
+    for (one, next) in files.iter().zip(files.iter().skip(1)) {
+        are_so = are_so && one.name < next.name && next.kind == Kind::File;
+    }
+    are_so
+        && files.len() == MAX_ENTRIES - 1
         && first.name.as_bytes() == b"0".as_slice()
         && last.name.as_bytes() == b"9999".as_slice()
-        && files
-            .iter()
-            .zip(files.iter().skip(1))
-            .all(|(one, next)| one.name < next.name)
-        && files.iter().all(|file| file.kind == Kind::File)
-}
-
-// The directory at the path is listed whole.
-fn is_listed_whole(rt: &impl Abort, names: &Namespace, caller: &Caller, place: &Path) {
-    let entries = names.list(*caller, place).expect(rt, "not listed");
-    confirm!(rt; lists_all(&entries));
 }
 
 // A full namespace: its directory is listed whole, and there is room again once a file is gone.
@@ -177,46 +188,29 @@ fn large_directory_is_listed(rt: HostRuntime) {
     let rt = &rt;
     let alloc = rt.alloc();
     let one = &by_generation(rt, 1);
-    let mut names = new_namespace(rt, alloc);
-    holds(rt, alloc, &mut names, one, Row::Mkdirs("/a", Ok(())));
-    fill(rt, alloc, &mut names, one);
-    let full = Row::Create("/a/more", true, Err(NameFault::Full));
-    holds(rt, alloc, &mut names, one, full);
-    is_listed_whole(rt, &names, one, &path(rt, alloc, "/a"));
+    let mut names = full(rt, alloc, one);
+    let more = &[(Call::CreateClosed, "/a/more", "", Is::Full)];
+    hold(rt, alloc, &mut names, one, more);
+    let a = path(rt, alloc, "/a");
+    let entries = names.list(*one, &a).expect(rt, "not listed");
+    drop(a);
+    confirm!(rt; lists_all(&entries));
+    drop(entries);
     let rows = &[
-        Row::Delete("/a/0", Ok(())),
-        Row::Create("/a/more", true, Ok(())),
+        (Call::Delete, "/a/0", "", Is::Done),
+        (Call::CreateClosed, "/a/more", "", Is::Done),
     ];
     hold(rt, alloc, &mut names, one, rows);
     drop(names);
 }
 
 // A container of the attempt of this number asks for the root, and is answered so.
-fn finds_the_root(
-    rt: &impl Abort,
-    alloc: Global,
-    names: &Namespace,
-    number: u32,
-    want: Result<Option<Kind>, NameFault>,
-) {
-    let caller = Caller {
+fn finds_the_root(rt: &impl Abort, alloc: Global, names: &mut Namespace, number: u32, is: Is) {
+    let caller = &Caller {
         app: generation(rt, 1),
         attempt: Some(attempt(rt, TASK, number)),
     };
-    let answer = names.exists(caller, &path(rt, alloc, "/"));
-    confirm!(rt; answer == want, &number);
-}
-
-// The attempt of this number is barred, or not.
-fn bars(
-    rt: &impl Abort,
-    names: &mut Namespace,
-    caller: &Caller,
-    number: u32,
-    want: Result<(), NameFault>,
-) {
-    let answer = names.bar(*caller, attempt(rt, TASK, number));
-    confirm!(rt; answer == want, &answer);
+    hold(rt, alloc, names, caller, &[(Call::Exists, "/", "", is)]);
 }
 
 // Once an attempt is barred, its container's calls are refused, a second bar of it changes nothing, and nobody else is refused. One is
@@ -227,13 +221,24 @@ fn barred_attempts(rt: HostRuntime) {
     let alloc = rt.alloc();
     let master = &by_generation(rt, 1);
     let mut names = new_namespace(rt, alloc);
-    is_done(rt, &mut names, master, Op::Bar(attempt(rt, TASK, 1)));
-    for _ in 0..2 {
-        bars(rt, &mut names, master, 0, Ok(()));
-    }
-    finds_the_root(rt, alloc, &names, 0, Err(NameFault::Barred));
-    finds_the_root(rt, alloc, &names, 1, Err(NameFault::Barred));
-    finds_the_root(rt, alloc, &names, 2, Ok(Some(Kind::Dir)));
+    let second = &[(
+        Call::Bar,
+        "attempt_200707121733_0003_r_000000_1",
+        "",
+        Is::Done,
+    )];
+    perform(rt, alloc, &mut names, master, second);
+    let first = &[(
+        Call::Bar,
+        "attempt_200707121733_0003_r_000000_0",
+        "",
+        Is::Done,
+    ); 2];
+    hold(rt, alloc, &mut names, master, first);
+    finds_the_root(rt, alloc, &mut names, 0, Is::Barred);
+    finds_the_root(rt, alloc, &mut names, 1, Is::Barred);
+    finds_the_root(rt, alloc, &mut names, 2, Is::Dir);
+    drop(names);
 }
 
 // A file takes 2^24 bytes, and no byte more.
@@ -244,17 +249,31 @@ fn file_is_full(rt: HostRuntime) {
     let one = &by_generation(rt, 1);
     let mut names = new_namespace(rt, alloc);
     let mebibyte = vec![in alloc; b'x'; 1_048_576].expect(rt, "no memory");
-    let create = Row::Create("/f", false, Ok(()));
-    holds(rt, alloc, &mut names, one, create);
-    let rows = [Row::Append("/f", &mebibyte, Ok(())); 16];
-    hold(rt, alloc, &mut names, one, &rows);
+    let create = &[(Call::Create, "/f", "", Is::Done)];
+    hold(rt, alloc, &mut names, one, create);
+    for _ in 0..16 {
+        takes(rt, alloc, &mut names, one, &mebibyte);
+    }
+    drop(mebibyte);
     let rows = &[
-        Row::Append("/f", b"x", Err(NameFault::Full)),
-        Row::Append("/f", b"", Ok(())),
+        (Call::Append, "/f", "x", Is::Full),
+        (Call::Append, "/f", "", Is::Done),
     ];
     hold(rt, alloc, &mut names, one, rows);
-    has(rt, alloc, &names, one, "/f", MAX_FILE_LEN);
+    has(rt, alloc, &names, one, MAX_FILE_LEN);
     drop(names);
+}
+
+// The attempt of this number is barred, or refused so.
+fn bars(
+    rt: &impl Abort,
+    names: &mut Namespace,
+    caller: &Caller,
+    number: u32,
+    want: Result<(), NameFault>,
+) {
+    let answer = names.bar(*caller, attempt(rt, TASK, number));
+    confirm!(rt; answer == want, &answer);
 }
 
 // As many attempts are barred as there is room for. One more is refused; one that is barred is not.

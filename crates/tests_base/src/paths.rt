@@ -39,6 +39,7 @@ fn is_no_path(rt: &impl Abort, alloc: Global, text: &str) {
 fn shows(rt: &impl Abort, alloc: Global, path: &Path, text: &str) {
     let shown = path.to_string(alloc).expect(rt, "no memory");
     confirm!(rt; shown.as_str() == text, &text);
+    drop(shown);
 }
 
 // The text is that of a path of so many names.
@@ -46,6 +47,7 @@ fn is_text(rt: &impl Abort, alloc: Global, text: &str, names: usize) {
     let path = path(rt, alloc, text);
     confirm!(rt; path.len() == names, &text);
     shows(rt, alloc, &path, text);
+    drop(path);
 }
 
 #[test]
@@ -63,9 +65,14 @@ fn path_texts(rt: HostRuntime) {
         is_text(rt, alloc, text, *names);
     }
     confirm!(rt; is_name(&long));
-    confirm!(rt; name(rt, alloc, &long).as_bytes() == long.as_slice());
-    let shown = name(rt, alloc, b"a\xff").to_string(alloc);
-    confirm!(rt; shown.expect(rt, "no memory").as_str() == "a\u{fffd}");
+    let longest = name(rt, alloc, &long);
+    confirm!(rt; longest.as_bytes() == long.as_slice());
+    drop(longest);
+    let odd = name(rt, alloc, b"a\xff");
+    let shown = odd.to_string(alloc).expect(rt, "no memory");
+    drop(odd);
+    confirm!(rt; shown.as_str() == "a\u{fffd}");
+    drop(shown);
 }
 
 #[test]
@@ -81,6 +88,7 @@ fn path_refusals(rt: HostRuntime) {
         text.push('n').expect(rt, "no memory");
     }
     is_no_path(rt, alloc, &text);
+    drop(text);
     is_no_name(rt, alloc, b"");
     is_no_name(rt, alloc, b"a/b");
     is_no_name(rt, alloc, &long);
@@ -90,6 +98,7 @@ fn path_refusals(rt: HostRuntime) {
 fn is_path(rt: &impl Abort, alloc: Global, made: Result<Path, AllocError>, text: &str) {
     let path = made.expect(rt, "no memory");
     shows(rt, alloc, &path, text);
+    drop(path);
 }
 
 // The layout of the output at `/out`, as its copy has it.
@@ -97,7 +106,9 @@ fn layout(rt: &impl Abort, alloc: Global) -> Layout {
     let layout = Layout {
         dest: path(rt, alloc, "/out"),
     };
-    layout.copy().expect(rt, "no memory")
+    let copy = layout.copy().expect(rt, "no memory");
+    drop(layout);
+    copy
 }
 
 // Where the generation of this number works, and an attempt at its first reduce.
@@ -108,6 +119,7 @@ fn works_at(rt: &impl Abort, alloc: Global, number: u32, texts: [&str; 3]) {
     is_path(rt, alloc, layout.job_attempt(k), texts[0]);
     is_path(rt, alloc, layout.task_attempt(k, first), texts[1]);
     is_path(rt, alloc, layout.committed(k, REDUCE_5), texts[2]);
+    drop(layout);
 }
 
 #[test]
@@ -117,6 +129,7 @@ fn committer_layout(rt: HostRuntime) {
     let layout = layout(rt, alloc);
     is_path(rt, alloc, layout.temporary(), "/out/_temporary");
     is_path(rt, alloc, layout.marker(), "/out/_SUCCESS");
+    drop(layout);
     let first = [
         "/out/_temporary/1",
         "/out/_temporary/1/_temporary/attempt_200707121733_0003_r_000005_0",
@@ -145,6 +158,7 @@ fn are_part_names(rt: &impl Abort, alloc: Global) {
         let part = part_name(alloc, *reduce).expect(rt, "no memory");
         confirm!(rt; part.as_bytes() == text.as_bytes(), &text);
         confirm!(rt; !is_hidden(&part), &text);
+        drop(part);
     }
 }
 
@@ -162,6 +176,7 @@ fn hidden_names(rt: HostRuntime) {
     ] {
         let name = name(rt, alloc, text.as_bytes());
         confirm!(rt; is_hidden(&name) == *hidden, text);
+        drop(name);
     }
 }
 
@@ -172,20 +187,30 @@ fn paths_are_made(rt: HostRuntime) {
     let a = Name::new(alloc, b"a").expect(rt, "no memory");
     let b = a.copy().expect(rt, "no memory");
     confirm!(rt; a == b);
-    confirm!(rt; a.clone().expect(rt, "no memory") == b);
-    let top = Path::root(alloc).child(a).expect(rt, "no memory");
+    let clone = a.clone().expect(rt, "no memory");
+    confirm!(rt; clone == b);
+    drop(clone);
+    let root = Path::root(alloc);
+    let top = root.child(a).expect(rt, "no memory");
+    drop(root);
     let mut leaf = top.copy().expect(rt, "no memory");
     leaf.push(b).expect(rt, "no memory");
     shows(rt, alloc, &leaf, "/a/a");
     is_child(rt, &leaf, &top);
+    drop(leaf);
+    drop(top);
 }
 
 // The path is one of two names, beneath the other, which has one.
 fn is_child(rt: &impl Abort, leaf: &Path, top: &Path) {
     confirm!(rt; *top < *leaf);
-    confirm!(rt; leaf.clone().expect(rt, "no memory") == *leaf);
+    let clone = leaf.clone().expect(rt, "no memory");
+    confirm!(rt; clone == *leaf);
+    drop(clone);
     confirm!(rt; is_within(leaf.names(), top.names()));
     confirm!(rt; parent(leaf.names()) == top.names());
     assert!(rt; leaf.len() == 2);
-    confirm!(rt; leaf.front(1).expect(rt, "no memory") == *top);
+    let front = leaf.front(1).expect(rt, "no memory");
+    confirm!(rt; front == *top);
+    drop(front);
 }

@@ -1,12 +1,18 @@
 //! The committer's recovery of what an earlier master's task committed, whole or by steps, and aborts at once.
 
-use crate::fixtures::{TASK, attempt, by_generation, new_namespace, path};
-use crate::jobs::{job_set_up, makes_room, out, stand, stands};
+use crate::fixtures::{TASK, attempt, by_generation, new_namespace};
+use crate::jobs::{job_set_up, out};
+use crate::rows::{Call, Is, hold};
 use mr_commit::{CommitFault, RecoverTask, StepDone, abort_job, abort_task, recover_task};
-use mr_names::{Caller, Kind, Namespace, Op};
+use mr_names::{Caller, Namespace, Op};
 use mr_paths::Layout;
 use std::alloc::Global;
 use std::process::Abort;
+
+// Where the first master's reduce 0 was committed, and where the second one moves it.
+const COMMITTED: &str = "/out/_temporary/1/task_200707121733_0003_r_000000";
+
+const RECOVERED: &str = "/out/_temporary/2/task_200707121733_0003_r_000000";
 
 // The first call of a recovery is made, and its answer is heard by one in two halves and by the other at once.
 fn recovery_begins_alike(
@@ -37,6 +43,21 @@ fn recovers(
     confirm!(rt; answer == want, &answer);
 }
 
+// The recovery of what was committed, one call after the other.
+fn recovers_by_steps(
+    rt: &impl Abort,
+    names: &mut Namespace,
+    caller: &Caller,
+    mut halves: RecoverTask,
+) {
+    let mut step = halves.copy().expect(rt, "no memory");
+    recovery_begins_alike(rt, names, caller, &mut halves, &mut step);
+    drop(halves);
+    recovers(rt, names, caller, &mut step, Ok(StepDone::More));
+    recovers(rt, names, caller, &mut step, Ok(StepDone::Finished));
+    drop(step);
+}
+
 #[test]
 fn recovery_by_steps(rt: HostRuntime) {
     let rt = &rt;
@@ -44,53 +65,55 @@ fn recovery_by_steps(rt: HostRuntime) {
     let two = &by_generation(rt, 2);
     let layout = out(rt, alloc);
     let mut names = job_set_up(rt, alloc, two, &layout);
-    let committed = "/out/_temporary/1/task_200707121733_0003_r_000000";
-    makes_room(rt, alloc, &mut names, two, committed);
-    let mut halves = RecoverTask::new(&layout, two.app, TASK, None).expect(rt, "no memory");
-    let mut step = halves.copy().expect(rt, "no memory");
-    recovery_begins_alike(rt, &mut names, two, &mut halves, &mut step);
-    recovers(rt, &mut names, two, &mut step, Ok(StepDone::More));
-    recovers(rt, &mut names, two, &mut step, Ok(StepDone::Finished));
-    stands(rt, alloc, &names, two, committed, None);
-    let recovered = "/out/_temporary/2/task_200707121733_0003_r_000000";
-    stands(rt, alloc, &names, two, recovered, Some(Kind::Dir));
+    hold(
+        rt,
+        alloc,
+        &mut names,
+        two,
+        &[(Call::Mkdirs, COMMITTED, "", Is::Done)],
+    );
+    let step = RecoverTask::new(&layout, two.app, TASK, None).expect(rt, "no memory");
+    drop(layout);
+    recovers_by_steps(rt, &mut names, two, step);
+    let moved = &[
+        (Call::Exists, COMMITTED, "", Is::Free),
+        (Call::Exists, RECOVERED, "", Is::Dir),
+    ];
+    hold(rt, alloc, &mut names, two, moved);
+    drop(names);
 }
 
 #[test]
 fn first_master_recovers_nothing(rt: HostRuntime) {
     let rt = &rt;
-    let alloc = rt.alloc();
     let one = &by_generation(rt, 1);
-    let mut names = new_namespace(rt, alloc);
-    let mut nothing = RecoverTask::new(&out(rt, alloc), one.app, TASK, None).expect(
-        rt,
-        "no memory",
-    );
+    let mut names = new_namespace(rt, rt.alloc());
+    let layout = out(rt, rt.alloc());
+    let mut nothing = RecoverTask::new(&layout, one.app, TASK, None).expect(rt, "no memory");
+    drop(layout);
     confirm!(rt; nothing.call().is_none());
-    recovers(
-        rt,
-        &mut names,
-        one,
-        &mut nothing,
-        Err(CommitFault::OutputMissing),
-    );
+    let missing = Err(CommitFault::OutputMissing);
+    recovers(rt, &mut names, one, &mut nothing, missing);
+    drop(nothing);
+    drop(names);
 }
 
-// A namespace in which the first master's reduce 0 was committed, with a part file of so many bytes.
+// A namespace in which the first master's reduce 0 was committed, with a part file of this text.
 fn committed_before(
     rt: &impl Abort,
     alloc: Global,
     caller: &Caller,
     layout: &Layout,
-    bytes: &[u8],
+    text: &str,
 ) -> Namespace {
     let mut names = job_set_up(rt, alloc, caller, layout);
-    let committed = "/out/_temporary/1/task_200707121733_0003_r_000000";
-    makes_room(rt, alloc, &mut names, caller, committed);
     let part = "/out/_temporary/1/task_200707121733_0003_r_000000/part-r-00000";
-    let part = path(rt, alloc, part);
-    names.create(*caller, &part, false).expect(rt, "refused");
-    names.append(*caller, &part, bytes).expect(rt, "refused");
+    let rows = &[
+        (Call::Mkdirs, COMMITTED, "", Is::Done),
+        (Call::Create, part, "", Is::Done),
+        (Call::Append, part, text, Is::Done),
+    ];
+    hold(rt, alloc, &mut names, caller, rows);
     names
 }
 
@@ -105,26 +128,40 @@ fn due(step: &RecoverTask) -> &'static str {
     }
 }
 
-// The second master takes over a reduce with a length, whoever is stopped on the way: it looks, reads, makes room, and moves.
-#[test]
-fn recovery_stopped_halfway(rt: HostRuntime) {
-    let rt = &rt;
-    let alloc = rt.alloc();
-    let two = &by_generation(rt, 2);
-    let layout = out(rt, alloc);
-    let mut names = committed_before(rt, alloc, two, &layout, b"a\t1\nb\t1\n");
-    let mut step = RecoverTask::new(&layout, two.app, TASK, Some(8)).expect(rt, "no memory");
+// The recovery of a reduce with a length looks, reads, makes room, and moves.
+fn recovers_by_calls(
+    rt: &impl Abort,
+    names: &mut Namespace,
+    caller: &Caller,
+    step: &mut RecoverTask,
+) {
     for (call, done) in &[
         ("exists", StepDone::More),
         ("read", StepDone::More),
         ("delete", StepDone::More),
         ("rename", StepDone::Finished),
     ] {
-        confirm!(rt; due(&step) == *call, call);
-        recovers(rt, &mut names, two, &mut step, Ok(*done));
+        confirm!(rt; due(step) == *call, call);
+        recovers(rt, names, caller, step, Ok(*done));
     }
+}
+
+// The second master takes over a reduce with a length, whoever is stopped on the way.
+#[test]
+fn recovery_stopped_halfway(rt: HostRuntime) {
+    let rt = &rt;
+    let alloc = rt.alloc();
+    let two = &by_generation(rt, 2);
+    let layout = out(rt, alloc);
+    let mut names = committed_before(rt, alloc, two, &layout, "a\t1\nb\t1\n");
+    let mut step = RecoverTask::new(&layout, two.app, TASK, Some(8)).expect(rt, "no memory");
+    drop(layout);
+    recovers_by_calls(rt, &mut names, two, &mut step);
+    drop(step);
     let recovered = "/out/_temporary/2/task_200707121733_0003_r_000000/part-r-00000";
-    stands(rt, alloc, &names, two, recovered, Some(Kind::File));
+    let moved = &[(Call::Exists, recovered, "", Is::File)];
+    hold(rt, alloc, &mut names, two, moved);
+    drop(names);
 }
 
 // The reduce is taken over at once, with a file of this length.
@@ -149,12 +186,27 @@ fn is_aborted(
     layout: &Layout,
 ) {
     let written = "/out/_temporary/2/_temporary/attempt_200707121733_0003_r_000000_0";
-    makes_room(rt, alloc, names, caller, written);
+    hold(
+        rt,
+        alloc,
+        names,
+        caller,
+        &[(Call::Mkdirs, written, "", Is::Done)],
+    );
     abort_task(names, *caller, layout, attempt(rt, TASK, 0)).expect(rt, "refused");
-    stands(rt, alloc, names, caller, written, None);
+    hold(
+        rt,
+        alloc,
+        names,
+        caller,
+        &[(Call::Exists, written, "", Is::Free)],
+    );
     abort_job(names, *caller, layout).expect(rt, "refused");
-    let left = &[("/out/_temporary", None), ("/out", Some(Kind::Dir))];
-    stand(rt, alloc, names, caller, left);
+    let left = &[
+        (Call::Exists, "/out/_temporary", "", Is::Free),
+        (Call::Exists, "/out", "", Is::Dir),
+    ];
+    hold(rt, alloc, names, caller, left);
 }
 
 // A recovery at once, of a file that has its recorded length, and of one that has not; and aborts at once.
@@ -164,17 +216,18 @@ fn recovered_then_aborted(rt: HostRuntime) {
     let alloc = rt.alloc();
     let two = &by_generation(rt, 2);
     let layout = out(rt, alloc);
-    let mut names = committed_before(rt, alloc, two, &layout, b"a\t1\n");
-    takes_over(
+    let mut names = committed_before(rt, alloc, two, &layout, "a\t1\n");
+    let wrong = Err(CommitFault::WrongLength);
+    takes_over(rt, &mut names, two, &layout, 5, wrong);
+    takes_over(rt, &mut names, two, &layout, 4, Ok(()));
+    hold(
         rt,
+        alloc,
         &mut names,
         two,
-        &layout,
-        5,
-        Err(CommitFault::WrongLength),
+        &[(Call::Exists, RECOVERED, "", Is::Dir)],
     );
-    takes_over(rt, &mut names, two, &layout, 4, Ok(()));
-    let recovered = "/out/_temporary/2/task_200707121733_0003_r_000000";
-    stands(rt, alloc, &names, two, recovered, Some(Kind::Dir));
     is_aborted(rt, alloc, &mut names, two, &layout);
+    drop(layout);
+    drop(names);
 }
