@@ -1,97 +1,67 @@
 //! What is refused while a master commits its job, and while its job fails.
 
-use crate::masters::{answered, due, is_done, launched, lists_nothing, replies, writes};
-use crate::running::{reduce, running};
-use crate::stopping::{stops, won};
-use mr_history::HistoryFault;
-use mr_ids::AttemptId;
-use mr_master::MasterMachine;
-use mr_master_model::{DutyName, Phase, StoreAnswer};
-use mr_names::{Answer, NameFault};
-use mr_packet::Packet;
-use std::alloc::Global;
-use std::process::Abort;
-
-// Something is at the path already.
-fn exists() -> StoreAnswer {
-    StoreAnswer::Names(Err(NameFault::Exists))
-}
+use crate::answers::{Said, Then, answers};
+use crate::masters::{REDUCE, launched, running};
+use crate::stopping::won;
+use crate::told::{Told, hears};
+use mr_master_model::{DutyName, Phase};
 
 // The creation of COMMIT_STARTED is refused: that stops the master.
 #[test]
 fn refusal_stops_the_start(rt: HostRuntime) {
-    let mut master = won(&rt, rt.alloc());
-    stops(&rt, &mut master, DutyName::Started, exists());
-}
-
-// A copy of the master is answered so: the job fails, and the mark of that is next.
-fn fails_by(rt: &impl Abort, master: &MasterMachine, name: DutyName, answer: StoreAnswer) {
-    let mut copy = master.copy().expect(rt, "no memory");
-    confirm!(rt; due(rt, &copy) == Some(name), &name);
-    confirm!(rt; answered(rt, &mut copy, answer).len() == 0, &name);
-    assert!(rt;
-        copy.phase() == Phase::Committing && due(rt, &copy) == Some(DutyName::Fail),
-        "{name:?}"
-    );
-}
-
-// The job commit has started, and there is nothing to merge.
-fn merged(rt: &impl Abort, alloc: Global) -> MasterMachine {
-    let mut master = won(rt, alloc);
-    is_done(rt, &mut master);
-    lists_nothing(rt, alloc, &mut master);
-    master
+    let rt = &rt;
+    let mut master = won(rt, rt.alloc());
+    let rows = &[(DutyName::Started, Said::Exists, Then::Stops)];
+    answers(rt, rt.alloc(), &mut master, rows);
 }
 
 // An answer of another call than the listing that is due fails the job.
 #[test]
 fn mixed_up_answer_fails_the_job(rt: HostRuntime) {
-    let mut master = won(&rt, rt.alloc());
-    is_done(&rt, &mut master);
-    let mixed_up = StoreAnswer::Names(Ok(Answer::Done));
-    fails_by(&rt, &master, DutyName::Merge, mixed_up);
+    let rt = &rt;
+    let mut master = won(rt, rt.alloc());
+    let rows = &[
+        (DutyName::Started, Said::Done, Then::Silent),
+        (DutyName::Merge, Said::Done, Then::WouldFail),
+    ];
+    answers(rt, rt.alloc(), &mut master, rows);
 }
 
-// A refusal or a fault at the cleanup or the marker fails the job; at the mark of its success a refusal stops the master.
+// There is nothing to merge. A refusal or a fault at the cleanup or the marker fails the job; at the mark of its success a refusal stops the
+// master.
 #[test]
 fn refused_marker_fails_the_job(rt: HostRuntime) {
-    let mut master = merged(&rt, rt.alloc());
-    fails_by(&rt, &master, DutyName::Cleanup, StoreAnswer::Fault);
-    is_done(&rt, &mut master);
-    fails_by(&rt, &master, DutyName::Marker, exists());
-    is_done(&rt, &mut master);
-    stops(&rt, &mut master, DutyName::Success, exists());
+    let rt = &rt;
+    let mut master = won(rt, rt.alloc());
+    let rows = &[
+        (DutyName::Started, Said::Done, Then::Silent),
+        (DutyName::Merge, Said::Nothing, Then::Silent),
+        (DutyName::Cleanup, Said::Fault, Then::WouldFail),
+        (DutyName::Cleanup, Said::Done, Then::Silent),
+        (DutyName::Marker, Said::Exists, Then::WouldFail),
+        (DutyName::Marker, Said::Done, Then::Silent),
+        (DutyName::Success, Said::Exists, Then::Stops),
+    ];
+    answers(rt, rt.alloc(), &mut master, rows);
 }
 
-// The attempt of this number is launched and fails.
-fn fails(rt: &impl Abort, master: &mut MasterMachine, number: u32) {
-    launched(rt, master, reduce(), 0);
-    let Some(a) = AttemptId::new(reduce(), number) else {
-        panic!(rt; "no attempt of this number");
-    };
-    replies(rt, master, &Packet::Failed { a }, 0);
-}
-
-// The job fails: nine records are due.
-fn failing(rt: &impl Abort, alloc: Global) -> MasterMachine {
-    let mut master = running(rt, alloc);
-    for number in 0..4 {
-        fails(rt, &mut master, number);
-    }
-    assert!(rt; master.phase() == Phase::Failing);
-    master
-}
-
-// Also where the job fails, a refused append stops the master, and a refused flush.
+// Four attempts fail, and so does the job: nine records are due. Also then a refused append stops the master, and a refused flush.
 #[test]
 fn refused_record_stops_a_failing_master(rt: HostRuntime) {
-    let mut master = failing(&rt, rt.alloc());
-    let full = StoreAnswer::Wrote(Err(HistoryFault::Full));
-    let mut copy = master.copy().expect(&rt, "no memory");
-    stops(&rt, &mut copy, DutyName::Append, full);
-    for _ in 0..9 {
-        writes(&rt, &mut master, 0);
+    let rt = &rt;
+    let alloc = rt.alloc();
+    let mut master = running(rt, alloc, 0, 1);
+    for number in 0..4 {
+        launched(rt, &mut master, REDUCE, 0);
+        hears(rt, &mut master, &[(Told::Failed, number, 0)]);
     }
-    let later = StoreAnswer::Wrote(Err(HistoryFault::Superseded(2)));
-    stops(&rt, &mut master, DutyName::Flush, later);
+    confirm!(rt; master.phase() == Phase::Failing);
+    let full = &[(DutyName::Append, Said::Full, Then::WouldStop)];
+    answers(rt, alloc, &mut master, full);
+    for _ in 0..9 {
+        let wrote = &[(DutyName::Append, Said::Wrote, Then::Silent)];
+        answers(rt, alloc, &mut master, wrote);
+    }
+    let late = &[(DutyName::Flush, Said::Late, Then::Stops)];
+    answers(rt, alloc, &mut master, late);
 }

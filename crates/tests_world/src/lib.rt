@@ -5,15 +5,17 @@
 // below learns nothing of it: where that needs the fact, `assert!` stands.
 macro_rules! confirm {
     ($rt:expr; $condition:expr) => {
-        crate::confirm::is_so(&$rt, $condition, stringify!($condition))
+        crate::confirm::is_so($rt, $condition, stringify!($condition))
     };
     ($rt:expr; $condition:expr, $at:expr) => {
-        crate::confirm::is_so_at(&$rt, $condition, stringify!($condition), $at)
+        crate::confirm::is_so_at($rt, $condition, stringify!($condition), $at)
     };
 }
 
 #[cfg(test)]
 mod again;
+#[cfg(test)]
+mod answers;
 #[cfg(test)]
 mod committing;
 #[cfg(test)]
@@ -41,8 +43,10 @@ mod refusals;
 #[cfg(test)]
 mod refusing;
 #[cfg(test)]
-mod running;
+mod sent;
 #[cfg(test)]
 mod stopping;
 #[cfg(test)]
 mod texts;
+#[cfg(test)]
+mod told;

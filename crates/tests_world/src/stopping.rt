@@ -1,159 +1,131 @@
 //! What makes a master Stopped, and what else ends its job.
 
-use crate::masters::{answered, due, generation_of, given_up, is_done, master, sends, writes};
-use crate::running::{finishes, first_attempt, launches, running};
-use mr_history::{HistoryFault, Record, Records};
-use mr_ids::AppAttempt;
+use crate::answers::{Said, Then, answers};
+use crate::masters::{REDUCE, given_up, launched, master, running};
+use crate::sent::{is_ack, is_launch, is_yes};
+use crate::told::{Told, heard};
 use mr_master::MasterMachine;
-use mr_master_model::{DutyName, Phase, StoreAnswer};
-use mr_names::{Answer, NameFault};
-use mr_packet::{Address, Envelope, Packet};
+use mr_master_model::{DutyName, Phase};
 use std::alloc::Global;
 use std::process::Abort;
 
-// The namespace refuses.
-fn missing() -> StoreAnswer {
-    StoreAnswer::Names(Err(NameFault::Missing))
-}
-
-// A later master is there.
-fn superseded() -> StoreAnswer {
-    StoreAnswer::Names(Err(NameFault::Superseded(2)))
-}
-
-// The answer of what is due stops the master: nothing is sent, nothing is due any more.
-pub fn stops(rt: &impl Abort, master: &mut MasterMachine, name: DutyName, answer: StoreAnswer) {
-    confirm!(rt; due(rt, master) == Some(name), &name);
-    confirm!(rt; answered(rt, master, answer).len() == 0, &name);
-    assert!(rt;
-        master.phase() == Phase::Stopped && due(rt, master).is_none(),
-        "{name:?}"
-    );
-}
-
-// Whether every one of the two nodes is told this outcome.
-fn is_outcome(told: &[Envelope], succeeded: bool) -> bool {
-    if told.len() != 2 {
-        return false;
-    }
-    is_told(&told[0], 0, succeeded) && is_told(&told[1], 1, succeeded)
-}
-
-fn is_told(envelope: &Envelope, node: u32, succeeded: bool) -> bool {
-    let told = match &envelope.body {
-        Packet::Outcome { succeeded: told } => *told == succeeded,
-        _ => false,
-    };
-    told && envelope.to == Address::Node(node)
-}
-
-// So many looks find no mark.
-fn looks(rt: &impl Abort, master: &mut MasterMachine, count: u32) {
-    for _ in 0..count {
-        let absent = StoreAnswer::Names(Ok(Answer::Found(None)));
-        sends(rt, master, absent, 0);
-    }
-}
-
 #[test]
 fn bad_line_stops_the_reading(rt: HostRuntime) {
-    let mut master = master(&rt, rt.alloc());
-    looks(&rt, &mut master, 3);
-    let unread = StoreAnswer::Unread(HistoryFault::BadLine(1));
-    stops(&rt, &mut master, DutyName::Read, unread);
+    let rt = &rt;
+    let mut master = master(rt, rt.alloc(), 1, 1, 2);
+    let rows = &[
+        (DutyName::Marks, Said::Absent, Then::Silent),
+        (DutyName::Marks, Said::Absent, Then::Silent),
+        (DutyName::Marks, Said::Absent, Then::Silent),
+        (DutyName::Read, Said::BadLine, Then::Stops),
+    ];
+    answers(rt, rt.alloc(), &mut master, rows);
 }
 
 #[test]
 fn refusal_stops_the_setup(rt: HostRuntime) {
-    let mut master = master(&rt, rt.alloc());
-    looks(&rt, &mut master, 3);
-    let none = StoreAnswer::Told(Records::new(rt.alloc()));
-    sends(&rt, &mut master, none, 0);
-    stops(&rt, &mut master, DutyName::Setup, missing());
+    let rt = &rt;
+    let mut master = master(rt, rt.alloc(), 1, 1, 2);
+    let rows = &[
+        (DutyName::Marks, Said::Absent, Then::Silent),
+        (DutyName::Marks, Said::Absent, Then::Silent),
+        (DutyName::Marks, Said::Absent, Then::Silent),
+        (DutyName::Read, Said::NoRecord, Then::Silent),
+        (DutyName::Setup, Said::Missing, Then::Stops),
+    ];
+    answers(rt, rt.alloc(), &mut master, rows);
 }
 
-// A second master, of which the first recorded the success of the reduce.
-fn second(rt: &impl Abort, alloc: Global, record: Record) -> MasterMachine {
-    let Some(app) = AppAttempt::new(2) else {
-        panic!(rt; "no generation 2");
-    };
-    let mut master = generation_of(rt, alloc, app, 0, 2);
-    let mut records = Records::new(alloc);
-    records.push(record).expect(rt, "no memory");
-    looks(rt, &mut master, 3);
-    sends(rt, &mut master, StoreAnswer::Told(records), 0);
-    master
-}
-
-// The output of the winner is nowhere.
+// A second master, of which the first recorded the success of the reduce: the output of the winner is nowhere.
 #[test]
 fn missing_output_stops_the_recovery(rt: HostRuntime) {
-    let won = Record::ReduceSucceeded {
-        attempt: first_attempt(&rt),
-        bytes: None,
-    };
-    let mut master = second(&rt, rt.alloc(), won);
-    is_done(&rt, &mut master);
-    let absent = StoreAnswer::Names(Ok(Answer::Found(None)));
-    stops(&rt, &mut master, DutyName::Recover, absent);
+    let rt = &rt;
+    let mut master = master(rt, rt.alloc(), 2, 0, 2);
+    let rows = &[
+        (DutyName::Marks, Said::Absent, Then::Silent),
+        (DutyName::Marks, Said::Absent, Then::Silent),
+        (DutyName::Marks, Said::Absent, Then::Silent),
+        (DutyName::Read, Said::ReduceSucceeded, Then::Silent),
+        (DutyName::Setup, Said::Done, Then::Silent),
+        (DutyName::Recover, Said::Absent, Then::Stops),
+    ];
+    answers(rt, rt.alloc(), &mut master, rows);
 }
 
 // What an earlier master recorded as failed is aborted at once; a fault there stops the master.
 #[test]
 fn recorded_failure_is_aborted(rt: HostRuntime) {
-    let mut master = second(&rt, rt.alloc(), Record::JobUnsuccessful);
-    assert!(rt; master.phase() == Phase::Failing);
-    let mut copy = master.copy().expect(&rt, "no memory");
-    stops(&rt, &mut copy, DutyName::Abort, StoreAnswer::Fault);
-    let told = answered(&rt, &mut master, missing());
-    assert!(rt; is_outcome(&told, false) && master.phase() == Phase::Ended);
+    let rt = &rt;
+    let mut master = master(rt, rt.alloc(), 2, 0, 2);
+    let rows = &[
+        (DutyName::Marks, Said::Absent, Then::Silent),
+        (DutyName::Marks, Said::Absent, Then::Silent),
+        (DutyName::Marks, Said::Absent, Then::Silent),
+        (DutyName::Read, Said::JobFailed, Then::Silent),
+    ];
+    answers(rt, rt.alloc(), &mut master, rows);
+    confirm!(rt; master.phase() == Phase::Failing);
+    let rows = &[
+        (DutyName::Abort, Said::Fault, Then::WouldStop),
+        (DutyName::Abort, Said::Missing, Then::EndsOnTwo),
+    ];
+    answers(rt, rt.alloc(), &mut master, rows);
+}
+
+/// The first attempt at the reduce is launched on node 0.
+pub fn launches(rt: &impl Abort, master: &mut MasterMachine) {
+    let packet = launched(rt, master, REDUCE, 0);
+    confirm!(rt; is_launch(rt, &packet));
 }
 
 #[test]
 fn refusal_stops_a_bar(rt: HostRuntime) {
-    let mut master = running(&rt, rt.alloc());
-    launches(&rt, &mut master);
-    given_up(&rt, &mut master, 0);
-    stops(&rt, &mut master, DutyName::Bar, missing());
+    let rt = &rt;
+    let mut master = running(rt, rt.alloc(), 0, 1);
+    launches(rt, &mut master);
+    given_up(rt, &mut master);
+    let rows = &[(DutyName::Bar, Said::Missing, Then::Stops)];
+    answers(rt, rt.alloc(), &mut master, rows);
 }
 
-// The reduce is done, and both of its records are appended.
-fn done(rt: &impl Abort, alloc: Global) -> MasterMachine {
-    let mut master = running(rt, alloc);
+// The attempt asks and is named; it is done, which is acknowledged.
+fn finishes(rt: &impl Abort, master: &mut MasterMachine) {
+    let yes = heard(rt, master, Told::Pending, 0);
+    assert!(rt; yes.len() == 1);
+    confirm!(rt; is_yes(rt, &yes[0]));
+    let ack = heard(rt, master, Told::Done, 0);
+    assert!(rt; ack.len() == 1);
+    confirm!(rt; is_ack(rt, &ack[0]));
+}
+
+/// The reduce is done, and both of its records are stable: the job commit is to start.
+pub fn won(rt: &impl Abort, alloc: Global) -> MasterMachine {
+    let mut master = running(rt, alloc, 0, 1);
     launches(rt, &mut master);
     finishes(rt, &mut master);
-    for _ in 0..2 {
-        writes(rt, &mut master, 0);
-    }
+    let rows = &[
+        (DutyName::Append, Said::Wrote, Then::Silent),
+        (DutyName::Append, Said::Wrote, Then::Silent),
+        (DutyName::Flush, Said::Wrote, Then::One),
+    ];
+    answers(rt, alloc, &mut master, rows);
     master
 }
 
-// The same, and they are stable: the job commit is to start.
-pub fn won(rt: &impl Abort, alloc: Global) -> MasterMachine {
-    let mut master = done(rt, alloc);
-    writes(rt, &mut master, 1);
-    master
-}
-
-// A later master stops the job commit. Any other refusal fails the job, which is marked, and then aborted.
+// A later master stops the job commit. Any other refusal fails the job, which is marked, and then aborted. COMMIT_FAIL is created, and what
+// is temporary is deleted: a fault at the first stops the master, at the second only a later master does.
 #[test]
 fn refused_merge_fails_the_job(rt: HostRuntime) {
-    let mut master = won(&rt, rt.alloc());
-    is_done(&rt, &mut master);
-    let mut copy = master.copy().expect(&rt, "no memory");
-    stops(&rt, &mut copy, DutyName::Merge, superseded());
-    sends(&rt, &mut master, missing(), 0);
-    aborts(&rt, &mut master);
-}
-
-// COMMIT_FAIL is created, and what is temporary is deleted: a fault at the first stops the master, at the second only a later master does.
-fn aborts(rt: &impl Abort, master: &mut MasterMachine) {
-    let mut copy = master.copy().expect(rt, "no memory");
-    stops(rt, &mut copy, DutyName::Fail, StoreAnswer::Fault);
-    is_done(rt, master);
-    let mut copy = master.copy().expect(rt, "no memory");
-    stops(rt, &mut copy, DutyName::Abort, superseded());
-    let told = answered(rt, master, StoreAnswer::Fault);
-    assert!(rt; told.len() == 1 && is_told(&told[0], 0, false));
-    assert!(rt; master.phase() == Phase::Ended);
+    let rt = &rt;
+    let mut master = won(rt, rt.alloc());
+    let rows = &[
+        (DutyName::Started, Said::Done, Then::Silent),
+        (DutyName::Merge, Said::Superseded, Then::WouldStop),
+        (DutyName::Merge, Said::Missing, Then::Silent),
+        (DutyName::Fail, Said::Fault, Then::WouldStop),
+        (DutyName::Fail, Said::Done, Then::Silent),
+        (DutyName::Abort, Said::Superseded, Then::WouldStop),
+        (DutyName::Abort, Said::Fault, Then::EndsOnOne),
+    ];
+    answers(rt, rt.alloc(), &mut master, rows);
 }
