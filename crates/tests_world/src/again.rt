@@ -53,17 +53,9 @@ pub fn applied(rt: &impl Abort, world: &mut World, event: Event) -> Result<Took,
     match world.apply(event) {
         Err(WorldFault::NoMemory) => {
             let after = Look::at(world);
-            assert!(rt; after == before);
+            confirm!(rt; after == before);
             world.apply(copy)
         }
-        answer => answer,
-    }
-}
-
-/// What is foreseen of the event.
-pub fn foreseen(world: &World, event: &Event) -> Result<(), WorldFault> {
-    match world.foresee(event) {
-        Err(WorldFault::NoMemory) => world.foresee(event),
         answer => answer,
     }
 }
@@ -118,10 +110,13 @@ pub fn shown(rt: &impl Abort, world: &World) -> Vec<VisibleFile> {
 
 /// Whether the event would make a store call.
 pub fn asks(rt: &impl Abort, world: &World, event: &Event) -> bool {
-    match world.asks(event) {
-        Ok(asked) => asked.is_some(),
-        Err(_) => world.asks(event).expect(rt, "no memory").is_some(),
-    }
+    let asked = match world.asks(event) {
+        Ok(asked) => asked,
+        Err(_) => world.asks(event).expect(rt, "no memory"),
+    };
+    let is_so = asked.is_some();
+    drop(asked);
+    is_so
 }
 
 /// A copy of the world.
@@ -134,9 +129,9 @@ pub fn world_copied(rt: &impl Abort, world: &World) -> World {
 
 /// What is read of both is the same.
 pub fn are_alike(rt: &impl Abort, world: &World, copy: &World) {
-    assert!(rt; Look::at(copy) == Look::at(world));
-    assert!(rt; copy.journal() == world.journal());
-    assert!(rt; winners(rt, copy) == winners(rt, world));
-    assert!(rt; is_marked(rt, copy) == is_marked(rt, world));
-    assert!(rt; shown(rt, copy) == shown(rt, world));
+    confirm!(rt; Look::at(copy) == Look::at(world));
+    confirm!(rt; copy.journal() == world.journal());
+    confirm!(rt; winners(rt, copy) == winners(rt, world));
+    confirm!(rt; is_marked(rt, copy) == is_marked(rt, world));
+    confirm!(rt; shown(rt, copy) == shown(rt, world));
 }

@@ -1,10 +1,10 @@
 //! What the tests begin with: a job of the words of `a b a`, and a run of it.
 
-use crate::again::{applied, due, foreseen, world_copied};
+use crate::again::{applied, due, world_copied};
 use crate::events::{start, store_call};
+use crate::masters::JOB;
 use mr_container::Wish;
-use mr_event::{Event, Weather, Why};
-use mr_ids::{AppAttempt, JobId, TaskId, TaskKind};
+use mr_event::{Event, Weather};
 use mr_master_model::Phase;
 use mr_packet::{Bytes, ContainerId};
 use mr_world::{Config, Input, Splits, World, WorldFault};
@@ -28,7 +28,7 @@ pub struct Run {
 }
 
 /// Where a run stops, if not at its master's end.
-#[derive(Clone, Copy, Debug, PartialEq, Eq)]
+#[derive(Clone, Copy)]
 pub enum Stop {
     Never,
     BeforeStep,
@@ -36,29 +36,11 @@ pub enum Stop {
     BeforeWrite,
 }
 
-/// A task of the job.
-pub fn task(kind: TaskKind, number: u32) -> TaskId {
-    TaskId {
-        job: JobId {
-            start: 200707121733,
-            number: 3,
-        },
-        kind,
-        number,
-    }
-}
-
-/// The container of this number of the first master.
-pub fn container(rt: &impl Abort, number: u32) -> ContainerId {
-    let app = AppAttempt::new(1).expect(rt, "no generation 1");
-    ContainerId { app, number }
-}
-
 /// These bytes.
 pub fn bytes(rt: &impl Abort, alloc: Global, items: &[u8]) -> Bytes {
-    match Vec::from_slice(alloc, items) {
-        Ok(made) => Bytes::from_vec(made),
-        Err(_) => Bytes::from_vec(Vec::from_slice(alloc, items).expect(rt, "no memory")),
+    match Bytes::from_slice(alloc, items) {
+        Ok(made) => made,
+        Err(_) => Bytes::from_slice(alloc, items).expect(rt, "no memory"),
     }
 }
 
@@ -70,7 +52,7 @@ fn config(rt: &impl Abort, alloc: Global, nodes: u32) -> Result<Config, AllocErr
     splits.push(split)?;
     assert!(rt; nodes >= 1 && nodes <= 64);
     Ok(Config {
-        job: task(TaskKind::Map, 0).job,
+        job: JOB,
         splits: Splits::from_vec(splits),
         reduces: 1,
         nodes,
@@ -94,74 +76,56 @@ fn opened(rt: &impl Abort, alloc: Global, nodes: u32) -> Result<World, WorldFaul
 
 /// A run whose first master started.
 pub fn started(rt: &impl Abort, alloc: Global, nodes: u32) -> Run {
-    let mut run = Run {
-        world: world(rt, alloc, nodes),
+    let mut world = world(rt, alloc, nodes);
+    comes_to(rt, &mut world, start(1), Ok(()));
+    Run {
+        world,
         next: 0,
         last: None,
-    };
-    takes(rt, &mut run.world, start(1));
-    run
-}
-
-/// Of bytes that are handed in the same is foreseen without a copy of them.
-pub fn foresees_bytes(
-    rt: &impl Abort,
-    world: &World,
-    event: &Event,
-    foreseen: Result<(), WorldFault>,
-) {
-    if let Event::Computed { container, bytes } = event {
-        assert!(rt; world.foresee_computed(container, bytes) == foreseen);
     }
 }
 
-/// The event is taken, as was foreseen. The packets that it added are the last ones of the bag.
-pub fn takes(rt: &impl Abort, world: &mut World, event: Event) {
-    assert!(rt; foreseen(world, &event).is_ok());
-    foresees_bytes(rt, world, &event, Ok(()));
-    let before = world.bag().len();
-    let length = world.journal().len();
+/// The event comes to this, as was foreseen. Where it is taken the journal grows, and the packets that it added are the last ones of the
+/// bag. Else neither journal nor bag grows.
+pub fn comes_to(rt: &impl Abort, world: &mut World, event: Event, want: Result<(), WorldFault>) {
+    is_foreseen(rt, world, &event, want);
+    let bag = world.bag().len();
+    let journal = world.journal().len();
     match applied(rt, world, event) {
         Ok(took) => {
-            assert!(rt; took.first == before);
-            assert!(rt; world.journal().len() > length);
+            confirm!(rt; want.is_ok());
+            confirm!(rt; took.first == bag);
+            confirm!(rt; world.journal().len() > journal);
         }
-        Err(_) => panic!(rt; "refused"),
+        Err(fault) => {
+            confirm!(rt; want == Err(fault), &fault);
+            confirm!(rt; world.bag().len() == bag);
+            confirm!(rt; world.journal().len() == journal);
+        }
     }
 }
 
-/// The event is not permitted for this reason, as was foreseen, and neither journal nor bag grew.
-pub fn refuses(rt: &impl Abort, world: &mut World, event: Event, want: Why) {
-    let answer = foreseen(world, &event);
-    foresees_bytes(rt, world, &event, answer);
-    let before = world.bag().len();
-    let length = world.journal().len();
-    match applied(rt, world, event) {
-        Err(WorldFault::NotNow(why)) => {
-            confirm!(rt; why == want, &why);
-            confirm!(rt; answer == Err(WorldFault::NotNow(why)));
-            assert!(rt; world.bag().len() == before);
-            assert!(rt; world.journal().len() == length);
-        }
-        _ => panic!(rt; "not refused"),
+// What is foreseen of the event. Of bytes that are handed in the same is foreseen without a copy of them.
+fn is_foreseen(rt: &impl Abort, world: &World, event: &Event, want: Result<(), WorldFault>) {
+    let answer = match world.foresee(event) {
+        Err(WorldFault::NoMemory) => world.foresee(event),
+        answer => answer,
+    };
+    confirm!(rt; answer == want, &answer);
+    if let Event::Computed { container, bytes } = event {
+        confirm!(rt; world.foresee_computed(container, bytes) == want);
     }
 }
 
 /// Bytes are handed in to the container: what the job makes of what it asks for.
-pub fn computes(rt: &impl Abort, alloc: Global, world: &mut World, c: ContainerId) {
-    let made = match world.input(&c) {
-        Some(Input::Map { .. }) => bytes(rt, alloc, &BLOCK),
-        Some(Input::Reduce { .. }) => bytes(rt, alloc, TEXT),
+pub fn computes(rt: &impl Abort, alloc: Global, world: &mut World, container: ContainerId) {
+    let items = match world.input(&container) {
+        Some(Input::Map { .. }) => BLOCK.as_slice(),
+        Some(Input::Reduce { .. }) => TEXT,
         None => panic!(rt; "it does not compute"),
     };
-    takes(
-        rt,
-        world,
-        Event::Computed {
-            container: c,
-            bytes: made,
-        },
-    );
+    let bytes = bytes(rt, alloc, items);
+    comes_to(rt, world, Event::Computed { container, bytes }, Ok(()));
 }
 
 impl Run {
@@ -174,21 +138,21 @@ impl Run {
         }
     }
 
-    /// What happens by itself until master `k` is through, or until it stops.
-    pub fn calms(&mut self, rt: &impl Abort, alloc: Global, k: u32, stop: Stop) {
+    /// What happens by itself until the first master is through, or until it stops.
+    pub fn calms(&mut self, rt: &impl Abort, alloc: Global, stop: Stop) {
         for _ in 0..1000 {
-            match self.world.phase(k) {
+            match self.world.phase(1) {
                 Some(Phase::Ended | Phase::Stopped) | None => return,
                 Some(_) => {}
             }
-            if !self.goes_on(rt, alloc, k, stop) {
+            if !self.goes_on(rt, alloc, stop) {
                 return;
             }
         }
     }
 
     // Whether it stops before what the container wishes.
-    fn stops_before(&self, stop: &Stop, c: &ContainerId) -> bool {
+    fn stops_before(&self, stop: Stop, c: &ContainerId) -> bool {
         match stop {
             Stop::BeforeCompute => self.world.wish(c) == Some(Wish::Compute),
             Stop::BeforeWrite => self.world.wish(c) == Some(Wish::Write),
@@ -197,27 +161,27 @@ impl Run {
     }
 
     // One event, the first that is there of a packet, a store call, a launch and a step of a container; false where it stops or none is there.
-    fn goes_on(&mut self, rt: &impl Abort, alloc: Global, k: u32, stop: Stop) -> bool {
+    fn goes_on(&mut self, rt: &impl Abort, alloc: Global, stop: Stop) -> bool {
         if self.delivers(rt) {
             return true;
         }
-        if due(rt, &self.world, k).is_some() {
-            takes(rt, &mut self.world, store_call(k));
+        if due(rt, &self.world, 1).is_some() {
+            comes_to(rt, &mut self.world, store_call(1), Ok(()));
             return true;
         }
-        if let Some(task) = self.world.wanted(k) {
-            takes(
-                rt,
-                &mut self.world,
-                Event::LaunchOn {
-                    generation: k,
-                    task,
-                    node: 0,
-                },
-            );
+        if let Some(task) = self.world.wanted(1) {
+            let launch = Event::LaunchOn {
+                generation: 1,
+                task,
+                node: 0,
+            };
+            comes_to(rt, &mut self.world, launch, Ok(()));
             return true;
         }
-        stop != Stop::BeforeStep && self.steps(rt, alloc, stop)
+        match stop {
+            Stop::BeforeStep => false,
+            _ => self.steps(rt, alloc, stop),
+        }
     }
 
     // The next packet that goes to somebody who is alive is delivered.
@@ -225,13 +189,8 @@ impl Run {
         for place in self.next..self.world.bag().len() {
             self.next = place + 1;
             if self.world.undeliverable(place).is_none() {
-                takes(
-                    rt,
-                    &mut self.world,
-                    Event::Deliver {
-                        packet: place as u64,
-                    },
-                );
+                let packet = place as u64;
+                comes_to(rt, &mut self.world, Event::Deliver { packet }, Ok(()));
                 return true;
             }
         }
@@ -240,24 +199,21 @@ impl Run {
 
     // The next living container steps or computes; false where none lives, or it stops.
     fn steps(&mut self, rt: &impl Abort, alloc: Global, stop: Stop) -> bool {
-        let Some(c) = self.world.next_living(self.last) else {
+        let Some(container) = self.world.next_living(self.last) else {
             return false;
         };
-        if self.stops_before(&stop, &c) {
+        if self.stops_before(stop, &container) {
             return false;
         }
-        self.last = Some(c);
-        if self.world.input(&c).is_some() {
-            computes(rt, alloc, &mut self.world, c);
+        self.last = Some(container);
+        if self.world.input(&container).is_some() {
+            computes(rt, alloc, &mut self.world, container);
         } else {
-            takes(
-                rt,
-                &mut self.world,
-                Event::ContainerStep {
-                    container: c,
-                    weather: Weather::Calm,
-                },
-            );
+            let step = Event::ContainerStep {
+                container,
+                weather: Weather::Calm,
+            };
+            comes_to(rt, &mut self.world, step, Ok(()));
         }
         true
     }

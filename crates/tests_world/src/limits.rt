@@ -1,40 +1,26 @@
 //! Events that would pass a limit: each is refused so, and nothing has changed.
 
-use crate::again::{applied, foreseen};
 use crate::events::start;
-use crate::fixtures::{Run, Stop, computes, container, foresees_bytes, started, takes, world};
+use crate::fixtures::{Run, Stop, comes_to, computes, started, world};
+use crate::masters::container;
 use mr_packet::Bytes;
-use mr_world::{Event, Weather, World, WorldFault};
+use mr_world::{Event, Weather, WorldFault};
 use std::alloc::Global;
 use std::process::Abort;
 
-// The event is refused, as was foreseen, and neither journal nor bag grew.
-fn is_too_much(rt: &impl Abort, world: &mut World, event: Event) {
-    let bag = world.bag().len();
-    let journal = world.journal().len();
-    assert!(rt; foreseen(world, &event) == Err(WorldFault::Full));
-    foresees_bytes(rt, world, &event, Err(WorldFault::Full));
-    match applied(rt, world, event) {
-        Err(WorldFault::Full) => {}
-        _ => panic!(rt; "not refused"),
-    }
-    assert!(rt; world.bag().len() == bag);
-    assert!(rt; world.journal().len() == journal);
-}
-
-// Masters start, from this one up to the last that there may be.
-fn masters_start(rt: &impl Abort, world: &mut World, first: u32) {
-    for generation in first..=1000 {
-        takes(rt, world, start(generation));
-    }
-}
+// What an event comes to that would pass a limit.
+const FULL: Result<(), WorldFault> = Err(WorldFault::Full);
 
 // Fails where a thousand and first master starts, or where the thousandth does not.
 #[test]
 fn generations_run_out(rt: HostRuntime) {
-    let mut world = world(&rt, rt.alloc(), 1);
-    masters_start(&rt, &mut world, 1);
-    is_too_much(&rt, &mut world, start(1001));
+    let rt = &rt;
+    let mut world = world(rt, rt.alloc(), 1);
+    for generation in 1..=1000 {
+        comes_to(rt, &mut world, start(generation), Ok(()));
+    }
+    comes_to(rt, &mut world, start(1001), FULL);
+    drop(world);
 }
 
 // So many bytes, all 0.
@@ -42,10 +28,10 @@ fn zeros(rt: &impl Abort, alloc: Global, count: usize) -> Vec<u8> {
     vec![in alloc; 0u8; count].expect(rt, "no memory")
 }
 
-// The step of the container of this number.
-fn step(rt: &impl Abort, number: u32, weather: Weather) -> Event {
+// The step of container 1.
+fn step(rt: &impl Abort, weather: Weather) -> Event {
     Event::ContainerStep {
-        container: container(rt, number),
+        container: container(rt, 1),
         weather,
     }
 }
@@ -58,12 +44,15 @@ fn computed(rt: &impl Abort, number: u32, items: Vec<u8>) -> Event {
     }
 }
 
-// The job's reduce, in the container of number 1, is about to compute.
-fn reduce_computes(rt: &impl Abort, alloc: Global) -> Run {
+// The job's reduce, in container 1, computed so many bytes and is about to write them.
+fn reduce_computed(rt: &impl Abort, alloc: Global, count: usize) -> Run {
     let mut run = started(rt, alloc, 1);
-    run.calms(rt, alloc, 1, Stop::BeforeCompute);
+    run.calms(rt, alloc, Stop::BeforeCompute);
     computes(rt, alloc, &mut run.world, container(rt, 0));
-    run.calms(rt, alloc, 1, Stop::BeforeCompute);
+    run.calms(rt, alloc, Stop::BeforeCompute);
+    let text = computed(rt, 1, zeros(rt, alloc, count));
+    comes_to(rt, &mut run.world, text, Ok(()));
+    run.calms(rt, alloc, Stop::BeforeWrite);
     run
 }
 
@@ -71,25 +60,21 @@ fn reduce_computes(rt: &impl Abort, alloc: Global) -> Run {
 // 2^24 + 1 bytes is written, or where it is told as a refusal of the store.
 #[test]
 fn part_file_is_too_long(rt: HostRuntime) {
-    let alloc = rt.alloc();
-    let mut run = reduce_computes(&rt, alloc);
-    let long = zeros(&rt, alloc, 16_777_217);
-    takes(&rt, &mut run.world, computed(&rt, 1, long));
-    run.calms(&rt, alloc, 1, Stop::BeforeWrite);
-    is_too_much(&rt, &mut run.world, step(&rt, 1, Weather::Calm));
-    is_too_much(&rt, &mut run.world, step(&rt, 1, Weather::Unanswered));
-    takes(&rt, &mut run.world, step(&rt, 1, Weather::Unavailable));
+    let rt = &rt;
+    let mut run = reduce_computed(rt, rt.alloc(), 16_777_217);
+    comes_to(rt, &mut run.world, step(rt, Weather::Calm), FULL);
+    comes_to(rt, &mut run.world, step(rt, Weather::Unanswered), FULL);
+    comes_to(rt, &mut run.world, step(rt, Weather::Unavailable), Ok(()));
+    drop(run);
 }
 
 // And the longest file that there may be is written.
 #[test]
 fn longest_part_file_is_written(rt: HostRuntime) {
-    let alloc = rt.alloc();
-    let mut run = reduce_computes(&rt, alloc);
-    let most = zeros(&rt, alloc, 16_777_216);
-    takes(&rt, &mut run.world, computed(&rt, 1, most));
-    run.calms(&rt, alloc, 1, Stop::BeforeWrite);
-    takes(&rt, &mut run.world, step(&rt, 1, Weather::Calm));
+    let rt = &rt;
+    let mut run = reduce_computed(rt, rt.alloc(), 16_777_216);
+    comes_to(rt, &mut run.world, step(rt, Weather::Calm), Ok(()));
+    drop(run);
 }
 
 // A map's output: one block of so many bytes, behind its length, 256^2 of which are told by the second byte of the length and 256 by the
@@ -105,11 +90,13 @@ fn one_block(rt: &impl Abort, alloc: Global, length: usize, told: [u8; 4]) -> Ve
 // One byte more than may lie on a shelf, and the most that may. Fails where an output of 2^24 + 1 bytes is taken.
 #[test]
 fn map_output_is_too_long(rt: HostRuntime) {
+    let rt = &rt;
     let alloc = rt.alloc();
-    let mut run = started(&rt, alloc, 1);
-    run.calms(&rt, alloc, 1, Stop::BeforeStep);
-    let long = one_block(&rt, alloc, 16_777_213, [0, 255, 255, 253]);
-    is_too_much(&rt, &mut run.world, computed(&rt, 0, long));
-    let most = one_block(&rt, alloc, 16_777_212, [0, 255, 255, 252]);
-    takes(&rt, &mut run.world, computed(&rt, 0, most));
+    let mut run = started(rt, alloc, 1);
+    run.calms(rt, alloc, Stop::BeforeStep);
+    let long = one_block(rt, alloc, 16_777_213, [0, 255, 255, 253]);
+    comes_to(rt, &mut run.world, computed(rt, 0, long), FULL);
+    let most = one_block(rt, alloc, 16_777_212, [0, 255, 255, 252]);
+    comes_to(rt, &mut run.world, computed(rt, 0, most), Ok(()));
+    drop(run);
 }

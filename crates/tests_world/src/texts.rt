@@ -7,12 +7,20 @@ use std::process::Abort;
 
 fn shows(rt: &impl Abort, alloc: Global, fault: WorldFault, text: &str) {
     let printed = fault.to_string(alloc).expect(rt, "no memory");
-    assert!(rt; printed.as_str() == text);
+    confirm!(rt; printed.as_str() == text, &text);
+}
+
+// The text of the reason, by itself and as what a world answers.
+fn shows_reason(rt: &impl Abort, alloc: Global, why: Why, text: &str) {
+    let printed = why.to_string(alloc).expect(rt, "no memory");
+    confirm!(rt; printed.as_str() == text, &text);
+    shows(rt, alloc, WorldFault::NotNow(why), text);
 }
 
 #[test]
 fn texts_of_reasons(rt: HostRuntime) {
-    let reasons = [
+    let rt = &rt;
+    let reasons = &[
         (Why::WrongGeneration, "WrongGeneration"),
         (Why::NoMaster, "NoMaster"),
         (Why::NoDuty, "NoDuty"),
@@ -27,15 +35,14 @@ fn texts_of_reasons(rt: HostRuntime) {
         (Why::NotBlocks, "NotBlocks"),
     ];
     for (why, text) in reasons {
-        let printed = why.to_string(rt.alloc()).expect(&rt, "no memory");
-        assert!(rt; printed.as_str() == text);
-        shows(&rt, rt.alloc(), WorldFault::NotNow(why), text);
+        shows_reason(rt, rt.alloc(), *why, text);
     }
 }
 
 #[test]
 fn texts_of_task_reasons(rt: HostRuntime) {
-    let faults = [
+    let rt = &rt;
+    let faults = &[
         (TaskFault::AlreadyWon, "Task AlreadyWon"),
         (TaskFault::TooManyLive, "Task TooManyLive"),
         (TaskFault::TooManyAttempts, "Task TooManyAttempts"),
@@ -43,12 +50,13 @@ fn texts_of_task_reasons(rt: HostRuntime) {
         (TaskFault::NoMemory, "Task NoMemory"),
     ];
     for (fault, text) in faults {
-        shows(&rt, rt.alloc(), WorldFault::NotNow(Why::Task(fault)), text);
+        shows(rt, rt.alloc(), WorldFault::NotNow(Why::Task(*fault)), text);
     }
 }
 
 #[test]
 fn texts_of_world_faults(rt: HostRuntime) {
-    shows(&rt, rt.alloc(), WorldFault::Full, "Full");
-    shows(&rt, rt.alloc(), WorldFault::NoMemory, "NoMemory");
+    let rt = &rt;
+    shows(rt, rt.alloc(), WorldFault::Full, "Full");
+    shows(rt, rt.alloc(), WorldFault::NoMemory, "NoMemory");
 }
