@@ -78,7 +78,7 @@ pub fn perform(
         let refusal = names.foresee(*caller, &op);
         let answer = names.perform(*caller, &op);
         drop(op);
-        confirm!(rt; refusal == answer.as_ref().err().copied(), &refusal);
+        confirm!(rt; refusal == answer.as_ref().err().copied(), &(refusal, &answer));
         is_told(rt, alloc, answer, row);
     }
 }

@@ -29,7 +29,7 @@ pub enum Call {
 }
 
 /// What is answered.
-#[derive(Clone, Copy, PartialEq, Eq)]
+#[derive(Clone, Copy, Debug, PartialEq, Eq)]
 pub enum Is {
     /// The call is done; of a launch, it gives the attempt.
     Fine,
@@ -48,6 +48,8 @@ pub enum Is {
     Running,
     Recording,
     Killed,
+    /// There was no memory. No row wants it.
+    NoMemory,
     /// What no row wants.
     Other,
 }
@@ -60,7 +62,8 @@ pub fn hold(rt: &impl Abort, task: &mut TaskMachine, rows: &[Row]) {
     for (place, row) in rows.iter().enumerate() {
         let (call, number, want) = *row;
         let a = attempt_at(rt, task.task(), number);
-        confirm!(rt; answer(task, call, a) == want, &place);
+        let told = answer(task, call, a);
+        confirm!(rt; told == want, &(place, told));
     }
 }
 
@@ -101,6 +104,7 @@ fn launched(answer: Result<AttemptId, TaskFault>, a: AttemptId) -> Is {
         Err(TaskFault::AlreadyWon) => Is::AlreadyWon,
         Err(TaskFault::TooManyLive) => Is::TooManyLive,
         Err(TaskFault::TooManyAttempts) => Is::TooManyAttempts,
+        Err(TaskFault::NoMemory) => Is::NoMemory,
         _ => Is::Other,
     }
 }
@@ -109,6 +113,7 @@ fn called(answer: Result<(), TaskFault>) -> Is {
     match answer {
         Ok(()) => Is::Fine,
         Err(TaskFault::Unknown) => Is::Unknown,
+        Err(TaskFault::NoMemory) => Is::NoMemory,
         Err(_) => Is::Other,
     }
 }

@@ -64,6 +64,7 @@ fn calls(rt: &impl Abort, names: &mut Namespace, layout: &Layout, machine: &mut 
     let op = call.expect(rt, "no call");
     let answer = names.perform(machine.caller(), &op);
     drop(op);
+    confirm!(rt; !matches!(answer, Err(NameFault::NoMemory)), &answer);
     machine.on(Reply::Answered(answer));
 }
 

@@ -25,13 +25,16 @@ fn hold(rt: &impl Abort, grant: &mut Grant, rows: &[Row]) {
     for (place, row) in rows.iter().enumerate() {
         let (call, number, want) = *row;
         let a = attempt(rt, TaskKind::Reduce, number);
-        confirm!(rt; answer(grant, call, a) == want, &place);
+        confirm!(rt; answer(rt, grant, call, a) == want, &place);
     }
 }
 
-fn answer(grant: &mut Grant, call: Call, a: AttemptId) -> bool {
+fn answer(rt: &impl Abort, grant: &mut Grant, call: Call, a: AttemptId) -> bool {
     match call {
-        Call::Pending => grant.pending(a).is_ok(),
+        Call::Pending => {
+            grant.pending(a).expect(rt, "no memory");
+            true
+        }
         Call::Release => {
             grant.release(a);
             true
