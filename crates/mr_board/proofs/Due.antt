@@ -1,15 +1,15 @@
 -- Whether a container is to compute, and just this; and why bytes are refused.
 use Rattle.std.proofs.Common.{◌≡◌, ◌↔◌, ℕ, List, Bool, true, false, Option, Some, None, Result, Ok, Err, IfSome, IsErrAnd, IsTrue, if◌then◌else◌, is_some, refl, sym, ap, subst, inl, ◌∙◌}
 use Rattle.std.proofs.lemmas.Result.{err_from_is_err_and}
-use Rattle.mr_event.specs.declared.event.Event.{Event}
-use Rattle.mr_event.specs.declared.why.Why.{Why}
+use Rattle.mr_world_events.specs.declared.event.Event.{Event}
+use Rattle.mr_world_events.specs.declared.why.Why.{Why}
 use Rattle.mr_packet.specs.declared.packet.ContainerId.{ContainerId}
-use Rattle.mr_model.specs.World.{Compute}
-use Rattle.mr_model.specs.Effect.{not_now}
-use Rattle.mr_model.specs.Sequential.{Input, input_of}
-use Rattle.mr_work.specs.Works.{InputsAreShort, IsShort}
-use Rattle.mr_world.specs.mr_parts.specs.declared.fault.WorldFault.{WorldFault}
-use Rattle.mr_world.specs.mr_parts.specs.declared.fault.WorldFault.TheVariants as fault
+use Rattle.mr_world_model.specs.World.{Compute}
+use Rattle.mr_world_model.specs.Effect.{not_now}
+use Rattle.mr_world_model.specs.Sequential.{Input, input_of}
+use Rattle.mr_container_work.specs.Works.{InputsAreShort, IsShort}
+use Rattle.mr_world.specs.mr_world_state.specs.declared.fault.WorldFault.{WorldFault}
+use Rattle.mr_world.specs.mr_world_state.specs.declared.fault.WorldFault.TheVariants as fault
 use Rattle.mr_world.specs.Applying.{IsRefused, foretold, foretold_in}
 use Rattle.mr_world.specs.Journal.{Journal, fits, fits_first, world_in}
 use Rattle.mr_world.specs.Ranges.{IsInRange}

@@ -2,13 +2,13 @@
 use Rattle.std.proofs.Common.{◌≡◌, ℕ, ◌≤◌, ◌^◌, Bool, true, false, List, [], ◌∷◌, ◌++◌, length, Option, Some, None, if◌then◌else◌, refl, sym, ap, subst, ◌∙◌}
 use Rattle.std.specs.List.{AllByRecursion}
 use Rattle.std.specs.Option.{option_and_then}
-use Rattle.mr_event.specs.declared.event.Event.{Event}
-use Rattle.mr_event.specs.declared.event.Event.TheVariants as event
+use Rattle.mr_world_events.specs.declared.event.Event.{Event}
+use Rattle.mr_world_events.specs.declared.event.Event.TheVariants as event
 use Rattle.mr_packet.specs.declared.packet.ContainerId.{ContainerId}
-use Rattle.mr_model.specs.Packets.{Config}
-use Rattle.mr_model.specs.World.{World, Compute}
-use Rattle.mr_model.specs.Sequential.{CarriesDefinition, Input, IsFaithful, Job, input_of, made_of}
-use Rattle.mr_model.proofs.Faithful.{faithful-more, faithful-none}
+use Rattle.mr_world_model.specs.Packets.{Config}
+use Rattle.mr_world_model.specs.World.{World, Compute}
+use Rattle.mr_world_model.specs.Sequential.{CarriesDefinition, Input, IsFaithful, Job, input_of, made_of}
+use Rattle.mr_world_model.proofs.Faithful.{faithful-more, faithful-none}
 use Rattle.mr_world.specs.Journal.{Journal, world_in}
 use Rattle.mr_world.specs.Limits.{within}
 use Rattle.mr_world.specs.Readings.{input_in}

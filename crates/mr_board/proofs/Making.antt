@@ -1,11 +1,11 @@
 -- An event that is made from a seat: what a board is then, whether it was taken or not.
 use Rattle.std.proofs.Common.{◌≡◌, ℕ, ◌+◌, true, List, [], ◌∷◌, ◌++◌, length, length-append, None, Result, Ok, Err, IsErrAnd, refl, sym, ap, subst, arith, ◌∙◌}
 use Rattle.std.proofs.lemmas.Result.{err_from_is_err_and}
-use Rattle.mr_event.specs.declared.event.Event.{Event}
-use Rattle.mr_model.specs.Effect.{not_now}
-use Rattle.mr_model.specs.Sequential.{CarriesDefinition, Job}
-use Rattle.mr_world.specs.mr_parts.specs.declared.fault.WorldFault.{WorldFault}
-use Rattle.mr_world.specs.mr_parts.specs.declared.fault.WorldFault.TheVariants as fault
+use Rattle.mr_world_events.specs.declared.event.Event.{Event}
+use Rattle.mr_world_model.specs.Effect.{not_now}
+use Rattle.mr_world_model.specs.Sequential.{CarriesDefinition, Job}
+use Rattle.mr_world.specs.mr_world_state.specs.declared.fault.WorldFault.{WorldFault}
+use Rattle.mr_world.specs.mr_world_state.specs.declared.fault.WorldFault.TheVariants as fault
 use Rattle.mr_world.specs.declared.took.Took.{Took}
 use Rattle.mr_world.specs.Applying.{CanHappen, IsRefused, Takes}
 use Rattle.mr_world.specs.Journal.{Journal, fits, fits_first, world_in}

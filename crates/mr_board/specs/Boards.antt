@@ -4,17 +4,17 @@ use Rattle.std.specs.List.{All}
 use Rattle.mr_ids.specs.declared.id.TaskKind.{TaskKind}
 use Rattle.mr_ids.specs.declared.id.TaskKind.TheVariants as kind
 use Rattle.mr_packet.specs.declared.packet.ContainerId.{ContainerId}
-use Rattle.mr_event.specs.declared.event.Event.{Event}
-use Rattle.mr_event.specs.declared.event.Event.TheVariants.{Computed}
-use Rattle.mr_event.specs.declared.why.Why.{Why}
-use Rattle.mr_event.specs.declared.why.Why.TheVariants.{NoContainer, WrongWish}
+use Rattle.mr_world_events.specs.declared.event.Event.{Event}
+use Rattle.mr_world_events.specs.declared.event.Event.TheVariants.{Computed}
+use Rattle.mr_world_events.specs.declared.why.Why.{Why}
+use Rattle.mr_world_events.specs.declared.why.Why.TheVariants.{NoContainer, WrongWish}
 use Rattle.mr_user.specs.Computation.{Computation}
-use Rattle.mr_sequential.specs.Jobs.{job_of}
-use Rattle.mr_model.specs.Packets.{Config}
-use Rattle.mr_model.specs.Claims.{IsMarked}
-use Rattle.mr_model.specs.Sequential.{Input, IsFaithful, Job, Pieces, SeesSequential, Split, made_of}
-use Rattle.mr_world.specs.mr_parts.specs.declared.fault.WorldFault.{WorldFault}
-use Rattle.mr_world.specs.mr_parts.specs.declared.fault.WorldFault.TheVariants.{NotNow, Full, NoMemory}
+use Rattle.mr_world_files.specs.Jobs.{job_of}
+use Rattle.mr_world_model.specs.Packets.{Config}
+use Rattle.mr_world_model.specs.Claims.{IsMarked}
+use Rattle.mr_world_model.specs.Sequential.{Input, IsFaithful, Job, Pieces, SeesSequential, Split, made_of}
+use Rattle.mr_world.specs.mr_world_state.specs.declared.fault.WorldFault.{WorldFault}
+use Rattle.mr_world.specs.mr_world_state.specs.declared.fault.WorldFault.TheVariants.{NotNow, Full, NoMemory}
 use Rattle.mr_world.specs.declared.took.Took.{Took}
 use Rattle.mr_world.specs.Applying as world
 use Rattle.mr_world.specs.Journal.{Journal, world_in}

@@ -1,9 +1,9 @@
 //! The board: a world, with a note of who made each of its events.
 ghost use Rattle.std.specs.Prelude.{◌≡◌, ◌↔◌, ℕ, ◌<◌, [], length, IfOk, IfErr, IsTrue, OnOk, Some, slice_get, vec_capacity, vec_len};
 ghost use Rattle.mr_user.specs.Computation.{computation};
-ghost use Rattle.mr_sequential.specs.Jobs.{job_of};
-ghost use Rattle.mr_model.specs.Sequential.{CarriesDefinition};
-ghost use Rattle.mr_model.specs.World.{Compute};
+ghost use Rattle.mr_world_files.specs.Jobs.{job_of};
+ghost use Rattle.mr_world_model.specs.Sequential.{CarriesDefinition};
+ghost use Rattle.mr_world_model.specs.World.{Compute};
 ghost use Rattle.mr_world.specs.Applying.{IsRefused};
 ghost use Rattle.mr_world.specs.Headline.{HeadlineHolds};
 ghost use Rattle.mr_world.specs.Journal.{world_in};
@@ -12,12 +12,12 @@ ghost use Rattle.mr_board.specs.Boards.{Account, Applies, Hands, IsDue, IsFaithf
 use crate::close::{Mismatch, accounts};
 use crate::seat::Seat;
 use crate::work::{Finished, Work, copied};
-use mr_event::{Event, Why};
+use mr_container_work::inputs_are_short;
 use mr_packet::ContainerId;
-use mr_sequential::files_of_jobs_are_sequential;
 use mr_user::Job;
-use mr_work::inputs_are_short;
 use mr_world::{Took, World, WorldFault};
+use mr_world_events::{Event, Why};
+use mr_world_files::files_of_jobs_are_sequential;
 use std::alloc::{AllocError, Global};
 use std::marker::{Model, PhantomData};
 

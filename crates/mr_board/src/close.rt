@@ -4,7 +4,7 @@ ghost use Rattle.std.specs.List.{All};
 ghost use Rattle.mr_board.specs.Boards.{Account, Differ, made_by};
 
 use crate::seat::Seat;
-use mr_event::Event;
+use mr_world_events::Event;
 
 /// The seats do not account for the journal.
 #[derive(Clone, Copy, PartialEq, Eq, Debug)]

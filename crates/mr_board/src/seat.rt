@@ -1,7 +1,7 @@
 //! A seat: the right to act on a board under a number.
 ghost use Rattle.std.specs.Prelude.{◌≡◌, []};
 
-use mr_event::Event;
+use mr_world_events::Event;
 use std::alloc::Global;
 use std::marker::Model;
 

@@ -2,20 +2,20 @@
 ghost use Rattle.std.specs.Prelude.{◌≡◌, ◌↔◌, ◌≤◌, IfOk, IfErr, IsTrue, Some};
 ghost use Rattle.mr_ids.specs.declared.id.TaskKind.{TaskKind};
 ghost use Rattle.mr_user.specs.Computation.{computation};
-ghost use Rattle.mr_model.specs.Packets.{Config};
-ghost use Rattle.mr_model.specs.World.{Compute};
-ghost use Rattle.mr_model.specs.Sequential.{made_of};
-ghost use Rattle.mr_sequential.specs.Jobs.{job_of};
-ghost use Rattle.mr_work.specs.Works.{as_input, FaultIs, IsShort};
+ghost use Rattle.mr_world_model.specs.Packets.{Config};
+ghost use Rattle.mr_world_model.specs.World.{Compute};
+ghost use Rattle.mr_world_model.specs.Sequential.{made_of};
+ghost use Rattle.mr_world_files.specs.Jobs.{job_of};
+ghost use Rattle.mr_container_work.specs.Works.{as_input, FaultIs, IsShort};
 ghost use Rattle.mr_world.specs.Readings.{as_input as as_lent};
 ghost use Rattle.mr_board.specs.Boards.{IsMeant, kind_of};
 
-use mr_event::Event;
+use mr_container_work::{Input, work};
 use mr_ids::Bytes;
 use mr_mapside::WorkFault;
 use mr_packet::ContainerId;
 use mr_user::{Gate, Job, MAX_REDUCES};
-use mr_work::{Input, work};
+use mr_world_events::Event;
 use std::alloc::{AllocError, Global};
 use std::marker::{Model, PhantomData};
 
@@ -29,7 +29,7 @@ pub struct Work {
 
 impl Model for Work {
     ghost use Rattle.std.specs.Prelude.{◌≤◌};
-    ghost use Rattle.mr_work.specs.Works.{as_input, IsShort};
+    ghost use Rattle.mr_container_work.specs.Works.{as_input, IsShort};
     ghost use Rattle.mr_board.specs.Boards.{Task};
 
     ghost Value = { Task };
@@ -54,8 +54,8 @@ pub struct Finished<J: Job> {
 impl<J: Job> Model for Finished<J> {
     ghost use Rattle.std.specs.Prelude.{◌≡◌};
     ghost use Rattle.mr_user.specs.Computation.{computation};
-    ghost use Rattle.mr_sequential.specs.Jobs.{job_of};
-    ghost use Rattle.mr_work.specs.Works.{as_input};
+    ghost use Rattle.mr_world_files.specs.Jobs.{job_of};
+    ghost use Rattle.mr_container_work.specs.Works.{as_input};
     ghost use Rattle.mr_board.specs.Boards.{Done, IsMeant};
 
     ghost Value = { Done };
@@ -81,7 +81,7 @@ impl Work {
 
     /// Passes the gate, and computes. It needs no board, and returns where the gate's `enter` does.
     ///
-    /// Its refusals are those of `mr_work::work`. `Gate` is answered where the gate lets no work pass, `User` where
+    /// Its refusals are those of `mr_container_work::work`. `Gate` is answered where the gate lets no work pass, `User` where
     /// the job refuses a line, and `Shuffle` where the pieces can't be merged. `Full` is answered where the bytes are
     /// too many, and `NoMemory` where memory was refused.
     pub fn run<J: Job, G: Gate>(

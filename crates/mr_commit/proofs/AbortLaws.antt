@@ -3,13 +3,13 @@ use Rattle.std.proofs.Common.{◌≡◌, ℕ, zero, suc, Bool, true, false, ◌|
 use Rattle.std.specs.Option.{option_or}
 use Rattle.mr_paths.specs.Path.{parent}
 use Rattle.mr_paths.specs.Layout.{temporary, task_attempt}
-use Rattle.mr_tree.specs.declared.node.Node.{Node}
+use Rattle.mr_names_tree.specs.declared.node.Node.{Node}
 use Rattle.mr_names.specs.declared.op.Caller.{Caller}
 use Rattle.mr_names.specs.declared.fault.NameFault.{NameFault}
 use Rattle.mr_names.specs.declared.fault.NameFault.TheVariants as names
 use Rattle.mr_names.specs.declared.op.Op.TheVariants as op
-use Rattle.mr_tree.specs.Content.{IsTree}
-use Rattle.mr_tree.specs.Held.{node_at, is_absent}
+use Rattle.mr_names_tree.specs.Content.{IsTree}
+use Rattle.mr_names_tree.specs.Held.{node_at, is_absent}
 use Rattle.mr_names.specs.Calls.{State, unheard, own_refusal, refused, settled, call_of, first_of}
 use Rattle.mr_names.proofs.Callers.{unheard-is}
 use Rattle.mr_names.proofs.CallLaws.{deleted_there, nothing_beneath}

@@ -6,14 +6,14 @@ use Rattle.std.specs.FinMap.Entries.{where_key, find-where_key}
 use Rattle.std.specs.declared.cmp.Ordering.TheVariants.{Equal}
 use Rattle.mr_paths.specs.Path.{path_cmp, path_total, path_exact, strip, rebased}
 use Rattle.mr_paths.proofs.Paths.{append-strip}
-use Rattle.mr_tree.specs.declared.node.Node.{Node}
+use Rattle.mr_names_tree.specs.declared.node.Node.{Node}
 use Rattle.mr_names.specs.declared.op.Op.{Op}
 use Rattle.mr_names.specs.declared.op.Op.TheVariants as op
-use Rattle.mr_tree.specs.Content.{Content, without, with_all, moved, renamed}
-use Rattle.mr_tree.specs.Held.{node_at}
-use Rattle.mr_tree.specs.Listing.{children, line_of}
+use Rattle.mr_names_tree.specs.Content.{Content, without, with_all, moved, renamed}
+use Rattle.mr_names_tree.specs.Held.{node_at}
+use Rattle.mr_names_tree.specs.Listing.{children, line_of}
 use Rattle.mr_names.specs.Calls.{effect}
-use Rattle.mr_tree.proofs.ContentLaws.{same, same_path, same_itself, same_or_not, get_kept, get-without}
+use Rattle.mr_names_tree.proofs.ContentLaws.{same, same_path, same_itself, same_or_not, get_kept, get-without}
 use Rattle.mr_commit.specs.CommitterEffect.{longest, deepest}
 use Rattle.mr_commit.specs.Settles.{RaisesBy}
 

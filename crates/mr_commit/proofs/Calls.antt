@@ -9,7 +9,7 @@ use Rattle.mr_names.specs.declared.op.Answer.{Answer}
 use Rattle.std.specs.Option.{option_or}
 use Rattle.mr_names.proofs.Callers.{unheard-is}
 use Rattle.mr_names.specs.Calls.{State, first_of, refusal, own_refusal, passes_limit, unheard, refused, settled, call_of, answer, Makes, MakesAlways, may_want_memory}
-use Rattle.mr_tree.specs.Content.{Content}
+use Rattle.mr_names_tree.specs.Content.{Content}
 use Rattle.mr_commit.specs.Line.{is_answer_to}
 
 -- what a call answers is an answer of this call

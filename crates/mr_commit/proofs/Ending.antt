@@ -9,17 +9,17 @@ use Rattle.mr_paths.specs.Layout.{committed, temporary_name}
 use Rattle.mr_names.specs.declared.op.Caller.{Caller}
 use Rattle.mr_names.specs.declared.fault.NameFault.{NameFault}
 use Rattle.mr_names.specs.declared.fault.NameFault.TheVariants as names
-use Rattle.mr_tree.specs.declared.node.Kind.{Kind}
-use Rattle.mr_tree.specs.declared.node.Kind.TheVariants as kind
-use Rattle.mr_tree.specs.declared.node.Entry.{Entry}
-use Rattle.mr_tree.specs.declared.node.Node.{Node}
+use Rattle.mr_names_tree.specs.declared.node.Kind.{Kind}
+use Rattle.mr_names_tree.specs.declared.node.Kind.TheVariants as kind
+use Rattle.mr_names_tree.specs.declared.node.Entry.{Entry}
+use Rattle.mr_names_tree.specs.declared.node.Node.{Node}
 use Rattle.mr_names.specs.declared.op.Op.{Op}
 use Rattle.mr_names.specs.declared.op.Op.TheVariants as op
 use Rattle.mr_names.specs.declared.op.Answer.{Answer}
-use Rattle.mr_tree.specs.Content.{Content}
+use Rattle.mr_names_tree.specs.Content.{Content}
 use Rattle.mr_names.proofs.TreeLaws.{past_caller}
-use Rattle.mr_tree.specs.Held.{node_at, is_file}
-use Rattle.mr_tree.specs.Listing.{children}
+use Rattle.mr_names_tree.specs.Held.{node_at, is_file}
+use Rattle.mr_names_tree.specs.Listing.{children}
 use Rattle.mr_names.specs.Calls.{State, refused, settled, call_of, answer}
 use Rattle.mr_commit.specs.declared.fault.CommitFault.{CommitFault}
 use Rattle.mr_commit.specs.declared.fault.CommitFault.TheVariants as fault

@@ -11,25 +11,25 @@ use Rattle.mr_paths.specs.Path.{strip}
 use Rattle.mr_paths.specs.Layout.{temporary_name, temporary, job_attempt, marker}
 use Rattle.mr_paths.proofs.Paths.{strip-append, append-strip}
 use Rattle.mr_paths.proofs.Apart.{temporary_and_marker_part}
-use Rattle.mr_tree.specs.declared.node.Node.{Node}
-use Rattle.mr_tree.specs.declared.node.Node.TheVariants.{Dir, File}
-use Rattle.mr_tree.specs.declared.node.Kind.{Kind}
-use Rattle.mr_tree.specs.declared.node.Kind.TheVariants as kind
-use Rattle.mr_tree.specs.declared.node.Entry.{Entry}
+use Rattle.mr_names_tree.specs.declared.node.Node.{Node}
+use Rattle.mr_names_tree.specs.declared.node.Node.TheVariants.{Dir, File}
+use Rattle.mr_names_tree.specs.declared.node.Kind.{Kind}
+use Rattle.mr_names_tree.specs.declared.node.Kind.TheVariants as kind
+use Rattle.mr_names_tree.specs.declared.node.Entry.{Entry}
 use Rattle.mr_names.specs.declared.op.Caller.{Caller}
 use Rattle.mr_names.specs.declared.fault.NameFault.{NameFault}
 use Rattle.mr_names.specs.declared.op.Op.{Op}
 use Rattle.mr_names.specs.declared.op.Op.TheVariants as op
-use Rattle.mr_tree.specs.Node.{kind_of}
-use Rattle.mr_tree.specs.Content.{Content, IsTree, is_path, within}
-use Rattle.mr_tree.specs.Held.{node_at, is_present, is_file}
-use Rattle.mr_tree.specs.Listing.{children}
+use Rattle.mr_names_tree.specs.Node.{kind_of}
+use Rattle.mr_names_tree.specs.Content.{Content, IsTree, is_path, within}
+use Rattle.mr_names_tree.specs.Held.{node_at, is_present, is_file}
+use Rattle.mr_names_tree.specs.Listing.{children}
 use Rattle.mr_names.specs.Laws.{kind_listed, MayCreate, MayRename}
 use Rattle.mr_names.specs.Calls.{State, refusal, refused, settled, call_of, effect, answer}
 use Rattle.mr_names.proofs.CallLaws.{is_path-same, others_stay, renamed_there, created_there, answered_only, nothing_beneath, files_are_leaves}
 use Rattle.mr_names.proofs.CallerLaws.{tree_stays, fence_stays, others_bar_none}
-use Rattle.mr_tree.proofs.ContentLaws.{above_is_dir}
-use Rattle.mr_tree.proofs.ListingLaws.{lists_children, lists_in_order}
+use Rattle.mr_names_tree.proofs.ContentLaws.{above_is_dir}
+use Rattle.mr_names_tree.proofs.ListingLaws.{lists_children, lists_in_order}
 use Rattle.mr_names.proofs.TreeLaws.{past_caller}
 use Rattle.mr_commit.specs.declared.fault.CommitFault.{CommitFault}
 use Rattle.mr_commit.specs.declared.fault.CommitFault.TheVariants as fault

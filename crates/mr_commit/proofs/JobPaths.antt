@@ -5,7 +5,7 @@ use Rattle.mr_ids.specs.Text.{numeral}
 use Rattle.mr_paths.specs.Path.{strip, Diverge}
 use Rattle.mr_paths.specs.Layout.{temporary_name, temporary, job_attempt}
 use Rattle.mr_paths.proofs.Apart.{diverge_by_name, diverge_beneath_left, diverge_beneath_one, diverge_not_within}
-use Rattle.mr_tree.specs.Content.{within}
+use Rattle.mr_names_tree.specs.Content.{within}
 
 pub apart_within : (p q : List (List ℕ)) → Diverge p q → within p q ≡ false
 apart_within p q d = ap (λ x. is_some (strip p x)) (sym (append-nil q)) ∙ ap is_some (diverge_not_within p q [] d)

@@ -1,7 +1,7 @@
 -- The lines that follow from an answer: of a merge, and by the rule of a line.
 use Rattle.std.proofs.Common.{◌≡◌, ◌<◌, ℕ, zero, suc, Bool, true, false, cond, List, [], ◌∷◌, filter, length, get_or, refl, sym, ap, ◌∙◌, Ok, Err, Result, subst, arith}
 use Rattle.std.specs.Prelude.{IfOk, IfErr}
-use Rattle.mr_tree.specs.declared.node.Entry.{Entry}
+use Rattle.mr_names_tree.specs.declared.node.Entry.{Entry}
 use Rattle.mr_commit.specs.declared.fault.CommitFault.{CommitFault}
 use Rattle.mr_commit.specs.declared.fault.CommitFault.TheVariants as fault
 use Rattle.mr_commit.specs.declared.line.Rule.{Rule}

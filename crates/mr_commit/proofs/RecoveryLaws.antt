@@ -10,8 +10,8 @@ use Rattle.mr_paths.specs.Path.{strip, parent, Diverge}
 use Rattle.mr_paths.specs.Layout.{committed, job_attempt, part}
 use Rattle.mr_paths.proofs.Apart.{tasks_part, diverge_both_ways, diverge_not_within, parent_of_child}
 use Rattle.mr_paths.proofs.Layouts.{committed_is}
-use Rattle.mr_tree.specs.declared.node.Node.{Node}
-use Rattle.mr_tree.specs.declared.node.Node.TheVariants.{Dir, File}
+use Rattle.mr_names_tree.specs.declared.node.Node.{Node}
+use Rattle.mr_names_tree.specs.declared.node.Node.TheVariants.{Dir, File}
 use Rattle.mr_names.specs.declared.op.Caller.{Caller}
 use Rattle.mr_names.specs.declared.op.Answer.{Answer}
 use Rattle.mr_names.specs.declared.op.Answer.TheVariants as answers
@@ -19,9 +19,9 @@ use Rattle.mr_names.specs.declared.fault.NameFault.{NameFault}
 use Rattle.mr_names.specs.declared.fault.NameFault.TheVariants as names
 use Rattle.mr_names.specs.declared.op.Op.{Op}
 use Rattle.mr_names.specs.declared.op.Op.TheVariants as op
-use Rattle.mr_tree.specs.Node.{kind_of}
-use Rattle.mr_tree.specs.Content.{IsTree, within}
-use Rattle.mr_tree.specs.Held.{node_at, is_present, is_file, is_dir, bytes_of}
+use Rattle.mr_names_tree.specs.Node.{kind_of}
+use Rattle.mr_names_tree.specs.Content.{IsTree, within}
+use Rattle.mr_names_tree.specs.Held.{node_at, is_present, is_file, is_dir, bytes_of}
 use Rattle.mr_names.specs.Barred.{bars}
 use Rattle.mr_names.specs.Laws.{MayDelete, MayRename, IsHeard}
 use Rattle.mr_names.specs.Calls.{State, unheard, own_refusal, first_of, refused, settled, call_of}

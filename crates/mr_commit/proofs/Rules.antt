@@ -1,9 +1,9 @@
 -- What follows from an answer by each rule of a line.
 use Rattle.std.proofs.Common.{◌≡◌, ◌<◌, ℕ, true, List, [], ◌∷◌, map, filter, length, Option, Some, None, Result, Ok, Err, refl, sym, ap, ◌∙◌, subst, ◌⊎◌, ⊎_elim, arith}
 use Rattle.std.specs.Prelude.{IfOk, IfErr}
-use Rattle.mr_tree.specs.declared.node.Entry.{Entry}
-use Rattle.mr_tree.specs.declared.node.Kind.{Kind}
-use Rattle.mr_tree.specs.declared.node.Kind.TheVariants as kind
+use Rattle.mr_names_tree.specs.declared.node.Entry.{Entry}
+use Rattle.mr_names_tree.specs.declared.node.Kind.{Kind}
+use Rattle.mr_names_tree.specs.declared.node.Kind.TheVariants as kind
 use Rattle.mr_names.specs.declared.op.Op.{Op}
 use Rattle.mr_names.specs.declared.op.Answer.{Answer}
 use Rattle.mr_commit.specs.declared.fault.CommitFault.{CommitFault}

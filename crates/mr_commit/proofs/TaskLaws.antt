@@ -8,8 +8,8 @@ use Rattle.mr_names.specs.declared.op.Caller.{Caller}
 use Rattle.mr_names.specs.declared.fault.NameFault.{NameFault}
 use Rattle.mr_names.specs.declared.op.Op.{Op}
 use Rattle.mr_names.specs.declared.op.Op.TheVariants as op
-use Rattle.mr_tree.specs.Content.{Content, IsTree, within}
-use Rattle.mr_tree.specs.Held.{node_at}
+use Rattle.mr_names_tree.specs.Content.{Content, IsTree, within}
+use Rattle.mr_names_tree.specs.Held.{node_at}
 use Rattle.mr_names.specs.Calls.{State, refused, settled, call_of, effect}
 use Rattle.mr_names.proofs.CallLaws.{others_stay, renamed_there, renamed_away}
 use Rattle.mr_names.proofs.CallerLaws.{tree_stays, fence_stays}

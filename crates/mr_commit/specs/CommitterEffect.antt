@@ -4,10 +4,10 @@
 use Rattle.std.specs.Prelude.{◌≡◌, ℕ, zero, suc, ◌+◌, ◌-◌, ◌*◌, ◌⊎◌, Bool, List, [], ◌∷◌, length, max, Option, Some, None, Result, Ok, Err, is_some}
 use Rattle.std.specs.FinMap as finite
 use Rattle.mr_names.specs.declared.op.Caller.{Caller}
-use Rattle.mr_tree.specs.Content.{Content}
+use Rattle.mr_names_tree.specs.Content.{Content}
 use Rattle.mr_names.specs.Calls.{State, call_of, unheard}
 use Rattle.mr_names.specs.declared.fault.NameFault.{NameFault}
-use Rattle.mr_tree.specs.declared.node.Kind.{Kind}
+use Rattle.mr_names_tree.specs.declared.node.Kind.{Kind}
 use Rattle.mr_names.specs.declared.op.Answer.{Answer}
 use Rattle.mr_names.specs.declared.op.Op.TheVariants as op
 use Rattle.mr_ids.specs.Attempt.{Attempt}

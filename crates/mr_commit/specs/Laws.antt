@@ -3,10 +3,10 @@ use Rattle.std.specs.Prelude.{◌≡◌, ◌≢◌, ℕ, true, false, List, [], 
 use Rattle.mr_ids.specs.Attempt.{Attempt}
 use Rattle.mr_ids.specs.declared.id.TaskId.{TaskId}
 use Rattle.mr_paths.specs.Layout.{temporary_name, temporary, job_attempt, task_attempt, committed, marker}
-use Rattle.mr_tree.specs.declared.node.Node.TheVariants.{File}
+use Rattle.mr_names_tree.specs.declared.node.Node.TheVariants.{File}
 use Rattle.mr_names.specs.declared.op.Caller.{Caller}
-use Rattle.mr_tree.specs.Content.{Content, IsTree, within}
-use Rattle.mr_tree.specs.Held.{node_at, is_present}
+use Rattle.mr_names_tree.specs.Content.{Content, IsTree, within}
+use Rattle.mr_names_tree.specs.Held.{node_at, is_present}
 use Rattle.mr_names.specs.declared.op.Op.{Op}
 use Rattle.mr_names.specs.Calls.{State, answer}
 use Rattle.mr_commit.specs.declared.fault.CommitFault.{CommitFault}

@@ -8,9 +8,9 @@ use Rattle.mr_ids.specs.declared.id.TaskId.{TaskId}
 use Rattle.mr_paths.specs.Layout.{temporary_name, committed, part}
 use Rattle.mr_names.specs.declared.fault.NameFault.{NameFault}
 use Rattle.mr_names.specs.declared.fault.NameFault.TheVariants as names
-use Rattle.mr_tree.specs.declared.node.Kind.{Kind}
-use Rattle.mr_tree.specs.declared.node.Kind.TheVariants as kind
-use Rattle.mr_tree.specs.declared.node.Entry.{Entry}
+use Rattle.mr_names_tree.specs.declared.node.Kind.{Kind}
+use Rattle.mr_names_tree.specs.declared.node.Kind.TheVariants as kind
+use Rattle.mr_names_tree.specs.declared.node.Entry.{Entry}
 use Rattle.mr_names.specs.declared.op.Op.{Op}
 use Rattle.mr_names.specs.declared.op.Op.TheVariants as op
 use Rattle.mr_names.specs.declared.op.Answer.{Answer}

@@ -3,11 +3,11 @@
 use Rattle.std.specs.Prelude.{◌≡◌, ◌≢◌, ◌≤◌, ◌<◌, ◌⊎◌, ℕ, true, false, List, [], ◌∷◌, ◌++◌, length, Option, Some, None, Ok, Err}
 use Rattle.mr_ids.specs.declared.id.TaskId.{TaskId}
 use Rattle.mr_paths.specs.Layout.{committed, part}
-use Rattle.mr_tree.specs.declared.node.Node.{Node}
+use Rattle.mr_names_tree.specs.declared.node.Node.{Node}
 use Rattle.mr_names.specs.declared.fault.NameFault.{NameFault}
 use Rattle.mr_names.specs.declared.op.Caller.{Caller}
-use Rattle.mr_tree.specs.Content.{Content, IsTree, within}
-use Rattle.mr_tree.specs.Held.{node_at, is_present, is_file, bytes_of}
+use Rattle.mr_names_tree.specs.Content.{Content, IsTree, within}
+use Rattle.mr_names_tree.specs.Held.{node_at, is_present, is_file, bytes_of}
 use Rattle.mr_names.specs.Calls.{State, unheard}
 use Rattle.mr_commit.specs.declared.fault.CommitFault.{CommitFault}
 use Rattle.mr_commit.specs.declared.fault.CommitFault.TheVariants as fault

@@ -1,7 +1,7 @@
 //! The threads: one a node, one a master that the plan can start, one for starts and faults. All that waits is here.
 ghost use Rattle.std.specs.Prelude.{IfOk};
 ghost use Rattle.mr_user.specs.Computation.{computation};
-ghost use Rattle.mr_report.specs.Reports.{IsReported};
+ghost use Rattle.mr_board_report.specs.Reports.{IsReported};
 
 use crate::actor::{Actor, Role};
 use crate::calls::Bells;
@@ -12,7 +12,7 @@ use crate::plan::Plan;
 use crate::turn::Next;
 use mr_board::mr_world::World;
 use mr_board::{Board, Seat};
-use mr_report::{Report, reported};
+use mr_board_report::{Report, reported};
 use mr_user::{Gate, Job};
 use std::alloc::Global;
 use std::sync::{Mutex, Wait};

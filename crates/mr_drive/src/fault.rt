@@ -1,6 +1,6 @@
 //! What a world's refusal means to a run.
 use mr_board::mr_world::WorldFault;
-pub use mr_report::DriveFault;
+pub use mr_board_report::DriveFault;
 
 /// What a world's refusal means to a run: none where the event is only not permitted now.
 pub(crate) fn stopping(fault: WorldFault) -> Option<DriveFault> {

@@ -3,8 +3,8 @@ use crate::fault::DriveFault;
 use crate::made::made;
 use crate::turn::Turn;
 use mr_board::{Board, Seat};
-use mr_event::{Event, PlanAct, PlanFault, PlanFaults};
 use mr_user::Job;
+use mr_world_events::{Event, PlanAct, PlanFault, PlanFaults};
 
 /// The faults that are still to come, and whether a master is to start after a crash.
 #[derive(Drop)]

@@ -2,10 +2,10 @@
 use crate::fault::{DriveFault, stopping};
 use crate::made::made;
 use mr_board::{Board, Finished, Seat};
-use mr_event::Event;
 use mr_mapside::WorkFault;
 use mr_packet::ContainerId;
 use mr_user::Job;
+use mr_world_events::Event;
 
 /// The bytes are handed in. A container whose work was refused by the job or by the shuffle dies. What is not permitted any more is dropped.
 pub(crate) fn hand_in<J: Job>(

@@ -31,6 +31,6 @@ mod plan;
 mod turn;
 
 pub use driver::drive;
-pub use mr_report::{DriveFault, Report};
+pub use mr_board_report::{DriveFault, Report};
 pub use pair_gate::PairGate;
 pub use plan::Plan;

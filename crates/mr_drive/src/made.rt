@@ -2,8 +2,8 @@
 use crate::fault::{DriveFault, stopping};
 use crate::turn::Turn;
 use mr_board::{Board, Seat};
-use mr_event::Event;
 use mr_user::Job;
+use mr_world_events::Event;
 
 /// Makes an event. One that is not permitted now is dropped.
 pub(crate) fn made<J: Job>(

@@ -6,8 +6,8 @@ use crate::made::made;
 use crate::turn::Turn;
 use mr_board::mr_world::World;
 use mr_board::{Board, Seat};
-use mr_event::{Event, Weather};
 use mr_user::Job;
+use mr_world_events::{Event, Weather};
 
 /// At most one event of the master of generation `k`: a packet for it, else its store call, else its launch.
 pub(crate) fn master_turn<J: Job>(

@@ -6,10 +6,10 @@ use crate::made::made;
 use crate::turn::Turn;
 use mr_board::mr_world::{Input, World};
 use mr_board::{Board, Seat};
-use mr_event::{Event, Weather};
 use mr_ids::TaskKind;
 use mr_packet::ContainerId;
 use mr_user::Job;
+use mr_world_events::{Event, Weather};
 use std::alloc::Global;
 
 /// At most one event of a node, or a work of one of its containers. The node answers fetches before it computes: the work of a reduce waits while

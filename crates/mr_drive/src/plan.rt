@@ -1,6 +1,6 @@
 //! What is to be driven.
 use mr_board::mr_world::Config;
-use mr_event::{PlanAct, PlanFaults};
+use mr_world_events::{PlanAct, PlanFaults};
 
 /// A job, and the faults that are to befall its run.
 #[derive(Drop)]

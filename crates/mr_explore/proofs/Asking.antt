@@ -6,22 +6,22 @@ use Rattle.mr_packet.specs.declared.packet.ContainerId.{ContainerId}
 use Rattle.mr_packet.specs.declared.packet.Packet.TheVariants as packet
 use Rattle.mr_packet.specs.declared.packet.Address.{Address}
 use Rattle.mr_packet.specs.declared.packet.Address.TheVariants as address
-use Rattle.mr_event.specs.declared.event.Event.{Event}
-use Rattle.mr_event.specs.declared.event.Event.TheVariants as event
+use Rattle.mr_world_events.specs.declared.event.Event.{Event}
+use Rattle.mr_world_events.specs.declared.event.Event.TheVariants as event
 use Rattle.mr_container.specs.declared.wish.Wish as container_wish
 use Rattle.mr_container.specs.declared.wish.Wish.TheVariants as wish
 use Rattle.mr_container.specs.Readings as container
-use Rattle.mr_model.specs.Ids.{Attempt}
-use Rattle.mr_model.specs.Content.{Op}
-use Rattle.mr_model.specs.Packets.{Config, Envelope, Packet}
-use Rattle.mr_model.specs.Pasts.{Place, Step, as_wish, computed, wish as wish_read, wished_op, wished_packet}
-use Rattle.mr_model.specs.Hearing.{Launched, Placed, Seen, find_launched, is_running, has}
-use Rattle.mr_model.specs.Duties.{Came, next_seen}
-use Rattle.mr_model.specs.World.{World, Deliver, ContainerStep, Container_act, call_of, came_act, container_act, is_over_by, is_stopped, caller_of, master_act, op_at, op_of, op_made, packet_at, packet_of, seen_by, unless_stopped, Weather}
-use Rattle.mr_model.specs.Sending.{ack_to, answer_to, master_sends, node_replies, node_sends, own_end, ready, replies, said_ended, sent, some_packet}
-use Rattle.mr_model.specs.Effect.{content_after, effect, happens, history_called, not_now}
-use Rattle.mr_model.specs.Claims.{Limits}
-use Rattle.mr_model.specs.Results.{first_told, outcome, told_by}
+use Rattle.mr_world_model.specs.Ids.{Attempt}
+use Rattle.mr_world_model.specs.Content.{Op}
+use Rattle.mr_world_model.specs.Packets.{Config, Envelope, Packet}
+use Rattle.mr_world_model.specs.Pasts.{Place, Step, as_wish, computed, wish as wish_read, wished_op, wished_packet}
+use Rattle.mr_world_model.specs.Hearing.{Launched, Placed, Seen, find_launched, is_running, has}
+use Rattle.mr_world_model.specs.Duties.{Came, next_seen}
+use Rattle.mr_world_model.specs.World.{World, Deliver, ContainerStep, Container_act, call_of, came_act, container_act, is_over_by, is_stopped, caller_of, master_act, op_at, op_of, op_made, packet_at, packet_of, seen_by, unless_stopped, Weather}
+use Rattle.mr_world_model.specs.Sending.{ack_to, answer_to, master_sends, node_replies, node_sends, own_end, ready, replies, said_ended, sent, some_packet}
+use Rattle.mr_world_model.specs.Effect.{content_after, effect, happens, history_called, not_now}
+use Rattle.mr_world_model.specs.Claims.{Limits}
+use Rattle.mr_world_model.specs.Results.{first_told, outcome, told_by}
 use Rattle.mr_play.specs.mr_world.specs.Readings.{wish_by}
 use Rattle.mr_explore.specs.Vain.{asks_here, is_asked, is_asking, is_waiting, waits, waits_by}
 

@@ -1,7 +1,7 @@
 -- Why no exploration is begun.
 use Rattle.std.proofs.Common.{ℕ, List, inr, sym}
-use Rattle.mr_commands.specs.declared.fault.SimFault.{SimFault}
-use Rattle.mr_commands.specs.declared.fault.SimFault.TheVariants as fault
+use Rattle.mr_sim_commands.specs.declared.fault.SimFault.{SimFault}
+use Rattle.mr_sim_commands.specs.declared.fault.SimFault.TheVariants as fault
 use Rattle.mr_play.specs.declared.player.Player.{Player}
 use Rattle.mr_play.specs.Shown.{HasPrinted, text_in}
 use Rattle.mr_explore.specs.Exploring.{ExploreFails}

@@ -5,14 +5,14 @@ use Rattle.std.specs.List.{flat_map, list_all, range_with_len}
 use Rattle.std.proofs.lemmas.Bool.{and_parts, eqb-true, leb-true, leb-false}
 use Rattle.std.proofs.lemmas.Bool.Decides.{nat_tests}
 use Rattle.mr_packet.specs.declared.packet.ContainerId.{ContainerId}
-use Rattle.mr_model.specs.Packets.{Config}
-use Rattle.mr_model.specs.Hearing.{Launched}
-use Rattle.mr_model.specs.Duties.{seen}
-use Rattle.mr_model.specs.World.{World, Event, seen_by}
-use Rattle.mr_model.specs.Claims.{In, Limits, world_of}
-use Rattle.mr_model.proofs.Beside.{numbers-always}
-use Rattle.mr_model.proofs.Cluster.{open_place, launched_as}
-use Rattle.mr_model.proofs.Ranges.{always-placed}
+use Rattle.mr_world_model.specs.Packets.{Config}
+use Rattle.mr_world_model.specs.Hearing.{Launched}
+use Rattle.mr_world_model.specs.Duties.{seen}
+use Rattle.mr_world_model.specs.World.{World, Event, seen_by}
+use Rattle.mr_world_model.specs.Claims.{In, Limits, world_of}
+use Rattle.mr_world_model.proofs.Beside.{numbers-always}
+use Rattle.mr_world_model.proofs.Cluster.{open_place, launched_as}
+use Rattle.mr_world_model.proofs.Ranges.{always-placed}
 use Rattle.mr_play.specs.mr_world.specs.Readings.{launched_by, living, wish_by}
 use Rattle.mr_explore.specs.Vain.{waits, waits_by}
 use Rattle.mr_explore.proofs.Waiting.{AllWait}

@@ -1,14 +1,14 @@
 -- Runs that are made, one after the other.
 use Rattle.std.proofs.Common.{◌≡◌, ◌<◌, ◌≤◌, ◌+◌, ℕ, true, false, List, [], ◌∷◌, ◌++◌, map, length, length-append, append_assoc, Option, Some, None, Result, Ok, Err, IsErrAnd, inl, inr, refl, sym, ap, subst, ◌∙◌, arith}
 use Rattle.std.proofs.lemmas.Result.{err_from_is_err_and}
-use Rattle.mr_commands.specs.declared.fault.SimFault.{SimFault}
-use Rattle.mr_commands.specs.declared.fault.SimFault.TheVariants as fault
-use Rattle.mr_walk.specs.declared.fault.WalkFault.{WalkFault}
-use Rattle.mr_walk.specs.declared.fault.WalkFault.TheVariants as walk_fault
-use Rattle.mr_walk.specs.declared.ended.Ended.{Ended}
-use Rattle.mr_walk.specs.Runs.{Found, PassesLimit}
-use Rattle.mr_walk.specs.Taking.{Takes}
-use Rattle.mr_ends.specs.Table.{Came, Table, all_noted, noted}
+use Rattle.mr_sim_commands.specs.declared.fault.SimFault.{SimFault}
+use Rattle.mr_sim_commands.specs.declared.fault.SimFault.TheVariants as fault
+use Rattle.mr_explore_search.specs.declared.fault.WalkFault.{WalkFault}
+use Rattle.mr_explore_search.specs.declared.fault.WalkFault.TheVariants as walk_fault
+use Rattle.mr_explore_search.specs.declared.ended.Ended.{Ended}
+use Rattle.mr_explore_search.specs.Runs.{Found, PassesLimit}
+use Rattle.mr_explore_search.specs.Taking.{Takes}
+use Rattle.mr_explore_ends.specs.Table.{Came, Table, all_noted, noted}
 use Rattle.mr_explore.specs.Exploring.{Fails, Made, MadeRun, Makes, MakesOne, Remaining, as_found, came}
 use Rattle.mr_explore.specs.Runs.{Exploring}
 use Rattle.mr_explore.specs.inner.Players.{fault_of}

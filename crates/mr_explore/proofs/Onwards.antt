@@ -1,6 +1,6 @@
 -- How a run goes on by itself.
 use Rattle.std.proofs.Common.{◌≡◌, ◌+◌, ◌-◌, ◌<◌, ◌≤◌, ℕ, suc, Bool, true, false, Ok, refl, sym, ap, ◌∙◌, arith}
-use Rattle.mr_walk.specs.Steps.{Goes, Ends, Full, GoesOn}
+use Rattle.mr_explore_search.specs.Steps.{Goes, Ends, Full, GoesOn}
 use Rattle.mr_play.specs.mr_world.specs.Limits.{within}
 use Rattle.mr_play.specs.mr_world.specs.declared.limits.TheConstants.{MAX_EVENTS}
 use Rattle.mr_play.specs.declared.player.Player.{Player}
@@ -20,7 +20,7 @@ stepped old new false h = λ most. ap (counted (steps_made (job_as old.job) old.
 pub no_step : (old new : Player) → onward_in old ≡ Full → StepsOnce old (Ok false) new
 no_step old new h = λ most. ap (counted (steps_made (job_as old.job) old.world.config (within old.world.config) most)) h
 
--- ---- as a run of mr_walk
+-- ---- as a run of mr_explore_search
 
 same_view : (old new : Player) → SameJob old new → with (view_of old) (state_in new) ≡ view_of new
 same_view old new same = λ i. record { job = sym same.job i; config = sym same.config i; played = state_in new }

@@ -2,15 +2,15 @@
 use Rattle.std.proofs.Common.{◌≡◌, ℕ, List, [], ◌∷◌, map, Result, Ok, Err, IfOk, IfErr, OnOk, IsErrAnd, inl, inr, refl, sym, subst, ◌∙◌}
 use Rattle.std.proofs.lemmas.Result.{err_from_is_err_and}
 use Rattle.std.specs.List.{AllByRecursion}
-use Rattle.mr_commands.specs.declared.fault.SimFault.{SimFault}
-use Rattle.mr_commands.specs.declared.fault.SimFault.TheVariants as fault
-use Rattle.mr_commands.specs.Faults.{SeqFails}
+use Rattle.mr_sim_commands.specs.declared.fault.SimFault.{SimFault}
+use Rattle.mr_sim_commands.specs.declared.fault.SimFault.TheVariants as fault
+use Rattle.mr_sim_commands.specs.Faults.{SeqFails}
 use Rattle.mr_play.specs.Text.{job_line}
-use Rattle.mr_walk.specs.Taking.{no_more}
-use Rattle.mr_ends.specs.declared.row.Row.{Row}
-use Rattle.mr_ends.specs.Rows.{as_end}
-use Rattle.mr_ends.specs.Table.{End, all_noted}
-use Rattle.mr_ends.specs.Text as ends
+use Rattle.mr_explore_search.specs.Taking.{no_more}
+use Rattle.mr_explore_ends.specs.declared.row.Row.{Row}
+use Rattle.mr_explore_ends.specs.Rows.{as_end}
+use Rattle.mr_explore_ends.specs.Table.{End, all_noted}
+use Rattle.mr_explore_ends.specs.Text as ends
 use Rattle.mr_explore.specs.declared.asked.Asked.{Asked}
 use Rattle.mr_explore.specs.Ends.{LeadToEnds, LeadsTo, TellFails, TellsEnds}
 use Rattle.mr_explore.specs.Explored.{ExploredFails, PrintsExplored, found_in, goal_of}

@@ -1,12 +1,12 @@
 -- An input has one run at most, and nothing is printed of one that is refused.
 use Rattle.std.proofs.Common.{◌≡◌, ◌⊎◌, ◌<◌, ℕ, List, [], ◌∷◌, ◌++◌, map, length, Some, None, Result, Ok, inl, inr, sym, ap, subst, ◌∙◌, arith}
 use Rattle.std.specs.Option.{option_map}
-use Rattle.mr_commands.specs.declared.fault.JobTextFault.{JobTextFault}
-use Rattle.mr_commands.specs.declared.job.submission.Submission.{Submission}
+use Rattle.mr_sim_commands.specs.declared.fault.JobTextFault.{JobTextFault}
+use Rattle.mr_sim_commands.specs.declared.job.submission.Submission.{Submission}
 use Rattle.mr_play.specs.mr_world.specs.Limits.{within}
 use Rattle.mr_play.specs.Text.{config_of}
 use Rattle.mr_play.proofs.Playing.{one_end, one_play_text_law}
-use Rattle.mr_walk.specs.Runs.{Found, PassesLimit}
+use Rattle.mr_explore_search.specs.Runs.{Found, PassesLimit}
 use Rattle.mr_explore.specs.declared.asked.Asked.{Asked}
 use Rattle.mr_explore.specs.Explored.{IsFullExplored, PrintsExplored}
 use Rattle.mr_explore.specs.Exploring.{IsFullBehind, MadeRun, as_found}

@@ -3,21 +3,21 @@ use Rattle.std.proofs.Common.{◌≡◌, ◌≤◌, ◌^◌, ◌&&◌, ℕ, suc,
 use Rattle.std.proofs.lemmas.Bool.Decides.{nat_tests}
 use Rattle.std.specs.Option.{option_and_then}
 use Rattle.mr_ids.specs.declared.id.TheConstants.{MAX_APP_ATTEMPTS}
-use Rattle.mr_model.specs.Packets.{Config}
-use Rattle.mr_event.specs.declared.why.Why.{Why}
-use Rattle.mr_model.specs.World.{World, Event, Start}
-use Rattle.mr_model.specs.Effect.{not_now}
-use Rattle.mr_model.specs.Claims.{Limits}
-use Rattle.mr_model.specs.Sequential.{Job}
+use Rattle.mr_world_model.specs.Packets.{Config}
+use Rattle.mr_world_events.specs.declared.why.Why.{Why}
+use Rattle.mr_world_model.specs.World.{World, Event, Start}
+use Rattle.mr_world_model.specs.Effect.{not_now}
+use Rattle.mr_world_model.specs.Claims.{Limits}
+use Rattle.mr_world_model.specs.Sequential.{Job}
 use Rattle.mr_play.specs.mr_world.specs.Limits.{within}
-use Rattle.mr_play.specs.mr_parts.specs.declared.fault.WorldFault.{WorldFault}
-use Rattle.mr_play.specs.mr_parts.specs.declared.fault.WorldFault.TheVariants as world_fault
+use Rattle.mr_play.specs.mr_world_state.specs.declared.fault.WorldFault.{WorldFault}
+use Rattle.mr_play.specs.mr_world_state.specs.declared.fault.WorldFault.TheVariants as world_fault
 use Rattle.mr_play.specs.mr_world.specs.Standing.{Refuses}
 use Rattle.mr_play.specs.mr_world.specs.Applying.{IsRefused}
 use Rattle.mr_play.specs.mr_world.specs.Journal.{world_in, fits, fits_first}
 use Rattle.mr_play.specs.mr_world.specs.declared.limits.TheConstants.{MAX_EVENTS}
-use Rattle.mr_commands.specs.declared.fault.SimFault.{SimFault}
-use Rattle.mr_commands.specs.declared.job.submission.JobKind.{JobKind}
+use Rattle.mr_sim_commands.specs.declared.fault.SimFault.{SimFault}
+use Rattle.mr_sim_commands.specs.declared.job.submission.JobKind.{JobKind}
 use Rattle.mr_play.specs.declared.player.Player.{Player}
 use Rattle.mr_play.specs.Branches.{Forks, Tries}
 use Rattle.mr_play.specs.Text.{job_as}

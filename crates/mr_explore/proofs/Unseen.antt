@@ -4,16 +4,16 @@ use Rattle.std.specs.Prelude.{if◌then◌else◌, ◌&&◌, nat_eq, nat_lt}
 use Rattle.std.specs.List.{flat_map, list_all, range_with_len}
 use Rattle.std.proofs.lemmas.Bool.{and_parts}
 use Rattle.mr_packet.specs.declared.packet.ContainerId.{ContainerId}
-use Rattle.mr_model.specs.Ids.{marker, reduce_of}
-use Rattle.mr_model.specs.Content.{entry_at, is_file}
-use Rattle.mr_model.specs.Records.{records_below, winner_in}
-use Rattle.mr_model.specs.Packets.{Config}
-use Rattle.mr_model.specs.World.{World, Event, opening_world}
-use Rattle.mr_model.specs.Effect.{happens, run}
-use Rattle.mr_model.specs.Claims.{Limits, world_of}
-use Rattle.mr_model.specs.Results.{visible_in}
-use Rattle.mr_model.proofs.Basic.{run-append}
-use Rattle.mr_model.specs.Sequential.{Job}
+use Rattle.mr_world_model.specs.Ids.{marker, reduce_of}
+use Rattle.mr_world_model.specs.Content.{entry_at, is_file}
+use Rattle.mr_world_model.specs.Records.{records_below, winner_in}
+use Rattle.mr_world_model.specs.Packets.{Config}
+use Rattle.mr_world_model.specs.World.{World, Event, opening_world}
+use Rattle.mr_world_model.specs.Effect.{happens, run}
+use Rattle.mr_world_model.specs.Claims.{Limits, world_of}
+use Rattle.mr_world_model.specs.Results.{visible_in}
+use Rattle.mr_world_model.proofs.Basic.{run-append}
+use Rattle.mr_world_model.specs.Sequential.{Job}
 use Rattle.mr_play.specs.mr_world.specs.Readings.{living}
 use Rattle.mr_play.specs.Played.{Played, world}
 use Rattle.mr_play.specs.WorldText.{line_of_marker, line_of_outcome, line_of_winner, visible_text, world_text}

@@ -7,20 +7,20 @@ use Rattle.mr_packet.specs.declared.packet.ContainerId.{ContainerId}
 use Rattle.mr_packet.specs.declared.packet.Packet.TheVariants as packet
 use Rattle.mr_packet.specs.declared.packet.Address.{Address}
 use Rattle.mr_packet.specs.declared.packet.Address.TheVariants as address
-use Rattle.mr_event.specs.declared.event.Event.{Event}
-use Rattle.mr_event.specs.declared.event.Event.TheVariants as event
+use Rattle.mr_world_events.specs.declared.event.Event.{Event}
+use Rattle.mr_world_events.specs.declared.event.Event.TheVariants as event
 use Rattle.mr_container.specs.declared.wish.Wish.{Wish}
 use Rattle.mr_container.specs.declared.wish.Wish.TheVariants as wish
 use Rattle.mr_container.specs.Readings as container
-use Rattle.mr_model.specs.Ids.{Attempt, container_eq}
-use Rattle.mr_model.specs.Content.{Op}
-use Rattle.mr_model.specs.Packets.{Config, Envelope, Packet}
-use Rattle.mr_model.specs.Pasts.{Called, Computed, Got, Place, Sent, Step}
-use Rattle.mr_model.specs.World.{World, ContainerStep, Container_act, Deliver, Obeyed, Weather, container_act, ends, got_act, obeyed, obeyed_at, obeys, op_of, packet_of, step_act}
-use Rattle.mr_model.specs.Sending.{sent}
-use Rattle.mr_model.specs.Effect.{addressee, effect, happens, is_obeyed, not_now, run, with_container_step, with_place}
-use Rattle.mr_model.specs.Claims.{Limits}
-use Rattle.mr_model.proofs.Basic.{Extends, Extends-more, Extends-refl, Extends-trans, along, taken_or_not, unless_parts}
+use Rattle.mr_world_model.specs.Ids.{Attempt, container_eq}
+use Rattle.mr_world_model.specs.Content.{Op}
+use Rattle.mr_world_model.specs.Packets.{Config, Envelope, Packet}
+use Rattle.mr_world_model.specs.Pasts.{Called, Computed, Got, Place, Sent, Step}
+use Rattle.mr_world_model.specs.World.{World, ContainerStep, Container_act, Deliver, Obeyed, Weather, container_act, ends, got_act, obeyed, obeyed_at, obeys, op_of, packet_of, step_act}
+use Rattle.mr_world_model.specs.Sending.{sent}
+use Rattle.mr_world_model.specs.Effect.{addressee, effect, happens, is_obeyed, not_now, run, with_container_step, with_place}
+use Rattle.mr_world_model.specs.Claims.{Limits}
+use Rattle.mr_world_model.proofs.Basic.{Extends, Extends-more, Extends-refl, Extends-trans, along, taken_or_not, unless_parts}
 use Rattle.mr_play.specs.mr_world.specs.Readings.{wish_by}
 use Rattle.mr_explore.specs.Vain.{asks, asks_here, is_asked, is_asking, is_waiting, waits_by}
 use Rattle.mr_explore.proofs.Asking.{LooksLike, looks, of_step}

@@ -4,7 +4,7 @@ use Rattle.std.proofs.lemmas.List.{map-append, take_more}
 use Rattle.std.proofs.lemmas.Grind.{flat_map-append}
 use Rattle.std.specs.List.{flat_map}
 use Rattle.mr_history.specs.Reading.{records_of}
-use Rattle.mr_model.specs.Records.{History, Record, records_below}
+use Rattle.mr_world_model.specs.Records.{History, Record, records_below}
 
 -- the records of the segments that come first, and of one more
 pub told_more : (h : History) (segments : List (List ℕ)) (bytes : List ℕ) (k : ℕ) → flat_map records_of segments ≡ records_below h k → records_of bytes ≡ (h k).stable → flat_map records_of (segments ++ bytes ∷ []) ≡ records_below h (suc k)

@@ -2,15 +2,15 @@
 use Rattle.std.specs.Prelude.{◌≡◌, ◌+◌, ℕ, List, ◌∷◌, ◌++◌, Option, Some, None, Ok}
 use Rattle.std.specs.List.{AllByRecursion}
 use Rattle.mr_play.specs.mr_world.specs.Limits.{within}
-use Rattle.mr_commands.specs.declared.fault.SimFault.{SimFault}
-use Rattle.mr_commands.specs.declared.fault.SimFault.TheVariants as fault
-use Rattle.mr_commands.specs.declared.job.submission.Submission.{Submission}
-use Rattle.mr_commands.specs.job.Text.{submission_of}
-use Rattle.mr_commands.specs.seq.Text.{PrintsSeq, RefusesSeq}
+use Rattle.mr_sim_commands.specs.declared.fault.SimFault.{SimFault}
+use Rattle.mr_sim_commands.specs.declared.fault.SimFault.TheVariants as fault
+use Rattle.mr_sim_commands.specs.declared.job.submission.Submission.{Submission}
+use Rattle.mr_sim_commands.specs.job.Text.{submission_of}
+use Rattle.mr_sim_commands.specs.seq.Text.{PrintsSeq, RefusesSeq}
 use Rattle.mr_play.specs.Text.{IsBadPlayJob, PrintsPlay, job_line}
-use Rattle.mr_ends.specs.Table.{End}
-use Rattle.mr_ends.specs.Text.{Found, Sequential, explored_text}
-use Rattle.mr_end_lines.specs.Ends.{ends_json}
+use Rattle.mr_explore_ends.specs.Table.{End}
+use Rattle.mr_explore_ends.specs.Text.{Found, Sequential, explored_text}
+use Rattle.mr_explore_lines.specs.Ends.{ends_json}
 use Rattle.mr_explore.specs.declared.asked.Form.{Form}
 use Rattle.mr_explore.specs.declared.asked.Form.TheVariants.{Text, Json}
 

@@ -1,14 +1,14 @@
 -- What `explore` prints of an input, and why it prints nothing (our own profile).
 use Rattle.std.specs.Prelude.{◌≡◌, ◌⊎◌, ℕ, List, ◌++◌, map, Option}
 use Rattle.std.specs.Option.{option_map}
-use Rattle.mr_commands.specs.declared.fault.SimFault.{SimFault}
-use Rattle.mr_commands.specs.declared.fault.SimFault.TheVariants as fault
+use Rattle.mr_sim_commands.specs.declared.fault.SimFault.{SimFault}
+use Rattle.mr_sim_commands.specs.declared.fault.SimFault.TheVariants as fault
 use Rattle.mr_play.specs.mr_world.specs.Limits.{within}
 use Rattle.mr_play.specs.Text.{IsFullPlay, PlayFails}
-use Rattle.mr_walk.specs.Runs as walk
-use Rattle.mr_walk.specs.Taking.{no_more}
-use Rattle.mr_ends.specs.Table.{table_of}
-use Rattle.mr_ends.specs.Text.{Found}
+use Rattle.mr_explore_search.specs.Runs as walk
+use Rattle.mr_explore_search.specs.Taking.{no_more}
+use Rattle.mr_explore_ends.specs.Table.{table_of}
+use Rattle.mr_explore_ends.specs.Text.{Found}
 use Rattle.mr_explore.specs.declared.asked.Asked.{Asked}
 use Rattle.mr_explore.specs.Ends.{TellsEnds}
 use Rattle.mr_explore.specs.Exploring.{AreMost, IsFullBehind, MadeRun, as_found, came}

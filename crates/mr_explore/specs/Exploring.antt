@@ -1,15 +1,15 @@
 -- What an exploration promises.
 use Rattle.std.specs.Prelude.{◌≡◌, ◌≤◌, ◌<◌, ◌⊎◌, ◌-◌, ℕ, Bool, true, false, List, [], ◌∷◌, ◌++◌, length, map, Result, Ok, Err}
-use Rattle.mr_commands.specs.declared.fault.SimFault.{SimFault}
-use Rattle.mr_commands.specs.declared.fault.SimFault.TheVariants as fault
+use Rattle.mr_sim_commands.specs.declared.fault.SimFault.{SimFault}
+use Rattle.mr_sim_commands.specs.declared.fault.SimFault.TheVariants as fault
 use Rattle.mr_play.specs.mr_world.specs.Journal.{Journal, world_in}
 use Rattle.mr_play.specs.mr_world.specs.Limits.{within}
 use Rattle.mr_play.specs.Text.{IsFullPlay, PlayFails}
 use Rattle.mr_play.specs.WorldText.{world_text}
-use Rattle.mr_walk.specs.Runs.{Found, Run, PassesLimit}
-use Rattle.mr_walk.specs.Taking.{no_more}
-use Rattle.mr_ends.specs.Table.{Came, Table, all_noted, empty}
-use Rattle.mr_ends.specs.Text as ends
+use Rattle.mr_explore_search.specs.Runs.{Found, Run, PassesLimit}
+use Rattle.mr_explore_search.specs.Taking.{no_more}
+use Rattle.mr_explore_ends.specs.Table.{Came, Table, all_noted, empty}
+use Rattle.mr_explore_ends.specs.Text as ends
 use Rattle.mr_explore.specs.Runs.{CannotStart, Exploring, IsRunOf, runs_with}
 
 -- ---- runs that were made

@@ -3,23 +3,23 @@
 use Rattle.std.specs.Prelude.{ℕ, zero, suc, ◌&&◌, Bool, false, nat_lt, List, [], ◌∷◌, ◌++◌, drop, length, map, slice_get, Option, Some, None, is_none, if◌then◌else◌}
 use Rattle.std.specs.List.{flat_map, range_with_len}
 use Rattle.std.specs.Option.{option_and_then}
-use Rattle.mr_event.specs.declared.event.Weather.TheVariants.{Calm, Unavailable, Unanswered}
+use Rattle.mr_world_events.specs.declared.event.Weather.TheVariants.{Calm, Unavailable, Unanswered}
 use Rattle.mr_ids.specs.declared.id.TaskKind.TheVariants.{Map, Reduce}
-use Rattle.mr_model.specs.Packets.{Config}
-use Rattle.mr_model.specs.World.{Event, Start, Crash, Duty, LaunchOn, Deliver, ContainerStep, Die, NodeRestart, Expire}
-use Rattle.mr_model.specs.Effect.{not_now}
-use Rattle.mr_model.specs.Claims.{Limits}
-use Rattle.mr_model.specs.Sequential.{Job}
+use Rattle.mr_world_model.specs.Packets.{Config}
+use Rattle.mr_world_model.specs.World.{Event, Start, Crash, Duty, LaunchOn, Deliver, ContainerStep, Die, NodeRestart, Expire}
+use Rattle.mr_world_model.specs.Effect.{not_now}
+use Rattle.mr_world_model.specs.Claims.{Limits}
+use Rattle.mr_world_model.specs.Sequential.{Job}
 use Rattle.mr_play.specs.mr_world.specs.declared.limits.TheConstants.{MAX_EVENTS}
 use Rattle.mr_play.specs.mr_world.specs.Histories.{history_of, stable_bytes}
 use Rattle.mr_play.specs.mr_world.specs.Readings.{living, unflushed_in}
 use Rattle.mr_packet.specs.declared.packet.ContainerId.{ContainerId}
 use Rattle.mr_play.specs.Played.{Played, calms, losing, stepped_by, taken, world}
-use Rattle.mr_walk.specs.Steps.{Onward, Goes, Ends, Full}
-use Rattle.mr_faults.specs.declared.fault.Fault.{Fault}
-use Rattle.mr_faults.specs.declared.fault.Fault.TheVariants as fault
-use Rattle.mr_faults.specs.Kinds.{ends_from, of_delivered, of_kept, of_node, of_packet, of_tasks}
-use Rattle.mr_faults.specs.Next.{without_next}
+use Rattle.mr_explore_search.specs.Steps.{Onward, Goes, Ends, Full}
+use Rattle.mr_explore_faults.specs.declared.fault.Fault.{Fault}
+use Rattle.mr_explore_faults.specs.declared.fault.Fault.TheVariants as fault
+use Rattle.mr_explore_faults.specs.Kinds.{ends_from, of_delivered, of_kept, of_node, of_packet, of_tasks}
+use Rattle.mr_explore_faults.specs.Next.{without_next}
 use Rattle.mr_explore.specs.Vain.{all_wait, ask_behind, most_ahead}
 
 -- of bytes that these go on from: how many of those behind them there are up to each line feed

@@ -1,12 +1,12 @@
 -- Laws of the definitions.
 use Rattle.std.specs.Prelude.{◌≡◌, ℕ, true, List, ◌++◌, Some}
-use Rattle.mr_model.specs.Packets.{Config}
-use Rattle.mr_model.specs.World.{World, Event}
-use Rattle.mr_model.specs.Effect.{happens}
-use Rattle.mr_model.specs.Claims.{Limits, world_of}
-use Rattle.mr_model.specs.Sequential.{Job}
+use Rattle.mr_world_model.specs.Packets.{Config}
+use Rattle.mr_world_model.specs.World.{World, Event}
+use Rattle.mr_world_model.specs.Effect.{happens}
+use Rattle.mr_world_model.specs.Claims.{Limits, world_of}
+use Rattle.mr_world_model.specs.Sequential.{Job}
 use Rattle.mr_play.specs.mr_world.specs.Readings.{living}
-use Rattle.mr_commands.specs.declared.fault.JobTextFault.{JobTextFault}
+use Rattle.mr_sim_commands.specs.declared.fault.JobTextFault.{JobTextFault}
 use Rattle.mr_play.specs.Played.{Played, world}
 use Rattle.mr_play.specs.Text.{IsBadPlayJob, IsBadPlayLine}
 use Rattle.mr_play.specs.WorldText.{world_text}

@@ -1,16 +1,16 @@
 -- Which runs there are of an input (our own profile): all that come of it by at most a given number of faults, as
--- mr_walk says it. A run goes on as a calm of the newest master, unless in vain.
+-- mr_explore_search says it. A run goes on as a calm of the newest master, unless in vain.
 use Rattle.std.specs.Prelude.{◌≡◌, ◌≢◌, ◌⊎◌, ℕ, List, Option, Some, None}
 use Rattle.std.specs.Option.{option_map}
-use Rattle.mr_model.specs.Packets.{Config}
-use Rattle.mr_model.specs.World.{World, Start}
+use Rattle.mr_world_model.specs.Packets.{Config}
+use Rattle.mr_world_model.specs.World.{World, Start}
 use Rattle.mr_play.specs.mr_world.specs.Limits.{within}
-use Rattle.mr_commands.specs.declared.job.submission.JobKind.{JobKind}
+use Rattle.mr_sim_commands.specs.declared.job.submission.JobKind.{JobKind}
 use Rattle.mr_play.specs.Played.{Played, world}
 use Rattle.mr_play.specs.Text.{PrintsPlay, config_of, job_as}
-use Rattle.mr_walk.specs.Steps.{Onward, Goes, Ends, Full, Steps}
-use Rattle.mr_walk.specs.Runs.{Found, runs}
-use Rattle.mr_faults.specs.declared.fault.Fault.{Fault}
+use Rattle.mr_explore_search.specs.Steps.{Onward, Goes, Ends, Full, Steps}
+use Rattle.mr_explore_search.specs.Runs.{Found, runs}
+use Rattle.mr_explore_faults.specs.declared.fault.Fault.{Fault}
 use Rattle.mr_explore.specs.Faults.{befallen, faults_at, most_events, newest, onward, told}
 
 -- a run of a job's cluster, as far as it is

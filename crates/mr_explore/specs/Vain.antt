@@ -5,12 +5,12 @@ use Rattle.std.specs.List.{list_all, list_any, range_with_len}
 use Rattle.mr_packet.specs.declared.packet.ContainerId.{ContainerId}
 use Rattle.mr_container.specs.declared.wish.Wish.{Wish}
 use Rattle.mr_container.specs.declared.wish.Wish.TheVariants as wish
-use Rattle.mr_model.specs.Packets.{Config, Envelope, Packet, Answer, Done, Pending, Poll, Where}
-use Rattle.mr_model.specs.World.{World, Event, ContainerStep, Deliver}
-use Rattle.mr_model.specs.Effect.{addressee}
-use Rattle.mr_play.specs.mr_parts.specs.declared.limits.TheConstants.{MAX_CONTAINERS}
+use Rattle.mr_world_model.specs.Packets.{Config, Envelope, Packet, Answer, Done, Pending, Poll, Where}
+use Rattle.mr_world_model.specs.World.{World, Event, ContainerStep, Deliver}
+use Rattle.mr_world_model.specs.Effect.{addressee}
+use Rattle.mr_play.specs.mr_world_state.specs.declared.limits.TheConstants.{MAX_CONTAINERS}
 use Rattle.mr_play.specs.mr_world.specs.Readings.{wish_in}
-use Rattle.mr_faults.specs.Kinds.{is_delivery}
+use Rattle.mr_explore_faults.specs.Kinds.{is_delivery}
 
 -- ---- who waits
 

@@ -1,17 +1,17 @@
 //! A fault befalls a run.
 ghost use Rattle.std.specs.Prelude.{◌≡◌, suc, false, None, IfOk, IfErr};
-ghost use Rattle.mr_model.specs.World.{Start};
+ghost use Rattle.mr_world_model.specs.World.{Start};
 ghost use Rattle.mr_play.specs.mr_world.specs.Journal.{world_in};
 ghost use Rattle.mr_play.specs.Branches.{Tries};
 ghost use Rattle.mr_play.specs.Players.{state_in};
-ghost use Rattle.mr_faults.specs.declared.fault.Fault.TheVariants as fault;
+ghost use Rattle.mr_explore_faults.specs.declared.fault.Fault.TheVariants as fault;
 ghost use Rattle.mr_explore.specs.inner.Players.{befallen_in, told_in};
 
-use mr_commands::SimFault;
-use mr_event::{Event, Weather};
-use mr_faults::Fault;
+use mr_explore_faults::Fault;
 use mr_play::Player;
 use mr_play::mr_world::WorldFault;
+use mr_sim_commands::SimFault;
+use mr_world_events::{Event, Weather};
 use std::alloc::Global;
 
 /// The fault befalls the run; whether it can. It fails by an allocation failure.

@@ -1,17 +1,17 @@
 //! An exploration: runs are made, one after the other, and what comes of them is noted.
 ghost use Rattle.std.specs.Prelude.{◌≡◌, IfOk, IfErr, OnOk};
-ghost use Rattle.mr_ends.specs.Table.{noted};
-ghost use Rattle.mr_walk.specs.Taking.{no_more};
+ghost use Rattle.mr_explore_ends.specs.Table.{noted};
+ghost use Rattle.mr_explore_search.specs.Taking.{no_more};
 ghost use Rattle.mr_explore.specs.Exploring.{Begins, ExploreFails, Makes, MakesOne, came};
 ghost use Rattle.mr_explore.specs.inner.Players.{fault_of};
 
 use crate::explored::Explored;
 use crate::watch::Watch;
 use crate::winners::Winners;
-use mr_commands::SimFault;
-use mr_ends::Table;
+use mr_explore_ends::Table;
+use mr_explore_search::{Ended, Walk, WalkFault};
 use mr_play::mr_world::MAX_EVENTS;
-use mr_walk::{Ended, Walk, WalkFault};
+use mr_sim_commands::SimFault;
 use std::alloc::Global;
 use std::marker::Model;
 

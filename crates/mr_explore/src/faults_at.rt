@@ -1,7 +1,7 @@
 //! What may befall a run where it is.
 ghost use Rattle.std.specs.Prelude.{◌≡◌, ◌++◌, slice_get, IfOk, OnOk};
 ghost use Rattle.std.specs.List.{flat_map};
-ghost use Rattle.mr_faults.specs.Kinds.{of_kept};
+ghost use Rattle.mr_explore_faults.specs.Kinds.{of_kept};
 ghost use Rattle.mr_play.specs.mr_world.specs.Histories.{stable_bytes};
 ghost use Rattle.mr_play.specs.mr_world.specs.Journal.{history_in, world_in};
 ghost use Rattle.mr_explore.specs.Faults.{ends_behind};
@@ -9,15 +9,15 @@ ghost use Rattle.mr_explore.specs.inner.Players.{faults_in, kept_after, kept_of,
 
 use crate::going::{go_further, run_length};
 use crate::vain::living;
-use mr_commands::SimFault;
-use mr_event::{Event, Weather};
-use mr_faults::{
+use mr_explore_faults::{
     Fault, add_of_bag, add_of_containers, add_of_ends, add_of_kept, add_of_nodes, add_of_packet,
     add_of_tasks, without_next,
 };
 use mr_ids::TaskKind;
 use mr_play::Player;
 use mr_play::mr_world::World;
+use mr_sim_commands::SimFault;
+use mr_world_events::{Event, Weather};
 use std::alloc::Global;
 use std::collections::LinkedList;
 

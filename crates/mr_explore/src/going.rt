@@ -5,9 +5,9 @@ ghost use Rattle.mr_explore.specs.inner.Players.{GoesAs, StepsOnce, calm_in, onw
 ghost use Rattle.mr_play.specs.Players.{state_in};
 
 use crate::vain::is_in_vain;
-use mr_commands::SimFault;
 use mr_play::Player;
 use mr_play::mr_world::MAX_EVENTS;
+use mr_sim_commands::SimFault;
 use std::alloc::Global;
 
 /// The run makes an event more by itself; whether there was one. It has ended too where it goes on in vain.

@@ -6,10 +6,10 @@ ghost use Rattle.mr_play.specs.mr_world.specs.Limits.{within};
 ghost use Rattle.mr_explore.specs.Ends.{LeadToEnds, LeadsTo};
 ghost use Rattle.mr_explore.specs.inner.Checks.{IsUnchecked};
 
-use mr_commands::SimFault;
-use mr_ends::{Row, Table};
+use mr_explore_ends::{Row, Table};
 use mr_play::{Printed, play};
 use mr_script::split_once;
+use mr_sim_commands::SimFault;
 use std::alloc::{AllocError, Global};
 
 /// Plays the script of each end behind the job text of an input: it leads to the end.

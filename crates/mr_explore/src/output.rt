@@ -1,7 +1,7 @@
 //! The output of `explore`.
 ghost use Rattle.std.specs.Prelude.{◌≡◌, ◌++◌, IfOk, IfErr, OnOk};
 ghost use Rattle.std.specs.Option.{option_map};
-ghost use Rattle.mr_ends.specs.Founds.{as_found};
+ghost use Rattle.mr_explore_ends.specs.Founds.{as_found};
 ghost use Rattle.mr_explore.specs.Ends.{TellFails, TellsEnds, told_text};
 ghost use Rattle.mr_explore.specs.Explored.{ExploredFails, PrintsExplored};
 ghost use Rattle.mr_explore.specs.Exploring.{found_of};
@@ -11,9 +11,9 @@ use crate::exploration::Exploration;
 use crate::leading::check_scripts;
 use crate::sequential::sequential_of;
 use crate::watch::Watch;
-use mr_commands::SimFault;
-use mr_end_lines::put_ends;
-use mr_ends::{Found, Sequential, put_found};
+use mr_explore_ends::{Found, Sequential, put_found};
+use mr_explore_lines::put_ends;
+use mr_sim_commands::SimFault;
 use std::alloc::{AllocError, Global};
 
 /// What `explore` prints of an input, which is a job text and a script behind it. It tells the ends of the input's

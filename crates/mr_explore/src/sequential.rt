@@ -1,14 +1,14 @@
 //! The files of the sequential execution.
 ghost use Rattle.std.specs.Prelude.{◌≡◌, Ok, IfOk, IfErr};
 ghost use Rattle.std.specs.Option.{option_map};
-ghost use Rattle.mr_commands.specs.job.Text.{submission_of};
+ghost use Rattle.mr_sim_commands.specs.job.Text.{submission_of};
 ghost use Rattle.mr_play.specs.Text.{IsBadPlayJob, job_line};
 ghost use Rattle.mr_explore.specs.Ends.{AreFilesOf, IsSequentialOf};
 ghost use Rattle.mr_explore.specs.inner.Checks.{IsUnsaid};
 
 use crate::leading::job_line_of;
-use mr_commands::{SimFault, read_job_text, seq_output};
-use mr_ends::Sequential;
+use mr_explore_ends::Sequential;
+use mr_sim_commands::{SimFault, read_job_text, seq_output};
 use std::alloc::Global;
 
 /// The files of the sequential execution of the job of an input.

@@ -1,18 +1,18 @@
 //! Whether a run goes on in vain: all who live wait for their masters, and all that comes is that they ask, and that nothing is answered, or no.
 ghost use Rattle.std.specs.Prelude.{◌≡◌, filter, length, IfOk, IfErr};
 ghost use Rattle.std.specs.List.{list_all, list_any};
-ghost use Rattle.mr_faults.specs.Kinds.{is_delivery};
+ghost use Rattle.mr_explore_faults.specs.Kinds.{is_delivery};
 ghost use Rattle.mr_play.specs.mr_world.specs.Journal.{world_in};
 ghost use Rattle.mr_play.specs.mr_world.specs.Readings.{living};
 ghost use Rattle.mr_explore.specs.Vain.{all_come, all_wait, ask_behind, asked_last, asks, asks_in, comes, count_of, is_asking, is_step, is_waiting, most_ahead, only_ask, step_twice, waits};
 ghost use Rattle.mr_explore.specs.inner.Players.{asks_on_in, vain_in};
 
-use mr_commands::SimFault;
 use mr_container::Wish;
-use mr_event::Event;
 use mr_packet::{ContainerId, Envelope, Packet};
 use mr_play::mr_world::{MAX_CONTAINERS, World};
 use mr_play::{Player, read};
+use mr_sim_commands::SimFault;
+use mr_world_events::Event;
 use std::alloc::Global;
 
 // Two questions and two answers.

@@ -2,14 +2,14 @@
 ghost use Rattle.std.specs.Prelude.{◌≡◌, ◌++◌, true, map, IfSome, IfOk, OnOk, IfErr};
 ghost use Rattle.std.specs.List.{flat_map};
 ghost use Rattle.mr_history.specs.Reading.{records_of};
-ghost use Rattle.mr_model.specs.Claims.{records};
+ghost use Rattle.mr_world_model.specs.Claims.{records};
 ghost use Rattle.mr_play.specs.mr_world.specs.Journal.{world_in};
 ghost use Rattle.mr_play.specs.WorldText.{won_in, world_text};
 
-use mr_commands::SimFault;
 use mr_ids::{AttemptId, JobId};
 use mr_play::mr_world::World;
 use mr_play::{print_world_won, read};
+use mr_sim_commands::SimFault;
 use std::alloc::{AllocError, Global};
 use std::marker::Model;
 

@@ -69,7 +69,7 @@
 //! Only tested: that the calls succeed with ample memory, the lines' texts against the table. Only measured by
 //! hand: that `replay` takes time that grows linearly.
 //!
-//! **mr_commands, `history`** (src/history.rt): proved is what is given (`PrintsHistory`). It is `version 2` for a
+//! **mr_sim_commands, `history`** (src/history.rt): proved is what is given (`PrintsHistory`). It is `version 2` for a
 //! segment of version 2, then the text of the records, then that of the dropped bytes, or the first bad line. The
 //! format, what a crash leaves and how to read a segment by hand: [docs/MRSIM.md](../../../docs/MRSIM.md).
 //!

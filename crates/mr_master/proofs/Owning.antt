@@ -28,12 +28,12 @@ use Rattle.mr_master_model.specs.Readings.{Seen, launch_refusal, expire_refusal}
 use Rattle.mr_master_model.specs.Duty.{duty}
 use Rattle.mr_master_model.specs.Answered.{is_fine, is_superseded, is_unsuccessful, looked, heard_by, goes_on, read_by, takes_over, next_winner, winners, name_of, running_after, failing_after, changed, work_after, with_work}
 use Rattle.mr_master_model.specs.Next.{moved, next_seen, seen}
-use Rattle.mr_hearing.specs.mr_phase.specs.Taking.{winner_of}
-use Rattle.mr_hearing.specs.mr_change.specs.State.{Master, StandsFor}
-use Rattle.mr_answer.specs.Placed.{IsPlaced}
-use Rattle.mr_hearing.specs.mr_tasks.proofs.Keeping.{within-tasks}
+use Rattle.mr_master_events.specs.mr_master_phase.specs.Taking.{winner_of}
+use Rattle.mr_master_events.specs.mr_master_state.specs.State.{Master, StandsFor}
+use Rattle.mr_master_calls.specs.Placed.{IsPlaced}
+use Rattle.mr_master_events.specs.mr_master_tasks.proofs.Keeping.{within-tasks}
 use Rattle.mr_master.proofs.Past_stays.{either, delivered-holds}
-use Rattle.mr_hearing.specs.mr_tasks.proofs.Telling.{task-of-is}
+use Rattle.mr_master_events.specs.mr_master_tasks.proofs.Telling.{task-of-is}
 
 abbrev EachOwn : Setting → List TaskWinner → Type 0
 EachOwn w [] = Unit {0}

@@ -29,10 +29,10 @@ use Rattle.mr_master_model.specs.Duty.{Duty, duty}
 use Rattle.mr_master_model.specs.Answered.{is_fine, is_finished, heard_by, with_earlier, with_maps, after_bar, moved_first, success_in, tell_recorded, recorded, after_duty, after_due, changed, work_after, with_work, after_answer}
 use Rattle.mr_master_model.specs.Next.{moved, next_seen, seen}
 use Rattle.mr_master_model.proofs.Growing.{Grew, step-grows}
-use Rattle.mr_hearing.specs.mr_change.specs.State.{Master, Keeps, StandsFor, StandsForSome, Stands, Unchanged}
-use Rattle.mr_hearing.specs.mr_change.specs.Passing.{is_out_of, is_out, ArePast, HasPassed, NoneLive, Passes}
-use Rattle.mr_hearing.specs.mr_tasks.proofs.Keeping.{machine-of}
-use Rattle.mr_hearing.specs.mr_change.proofs.Standing.{unchanged-keeps}
+use Rattle.mr_master_events.specs.mr_master_state.specs.State.{Master, Keeps, StandsFor, StandsForSome, Stands, Unchanged}
+use Rattle.mr_master_events.specs.mr_master_state.specs.Passing.{is_out_of, is_out, ArePast, HasPassed, NoneLive, Passes}
+use Rattle.mr_master_events.specs.mr_master_tasks.proofs.Keeping.{machine-of}
+use Rattle.mr_master_events.specs.mr_master_state.proofs.Standing.{unchanged-keeps}
 
 -- ---- what is heard leaves the bars, and the work too where the job does not fail: so what holds of both still holds
 

@@ -2,7 +2,7 @@
 //!
 //! `MasterMachine` stands for a past, a list of steps: packets that were heard, launches, expiries, answers of store
 //! calls. What it stores is what is read off that past by the words of `mr_master_model`, part by part
-//! (`mr_change`). Each public call promises the past that it stands for then. What it answers or sends is what
+//! (`mr_master_state`). Each public call promises the past that it stands for then. What it answers or sends is what
 //! is read off the past before.
 //!
 //! Whoever runs a master keeps the bag. Each step is taken in the same way:
@@ -43,6 +43,6 @@ mod memory;
 
 pub use master::MasterMachine;
 pub use memory::wants_memory;
-pub use mr_hearing::LaunchError;
-pub use mr_hearing::mr_change::Prepared;
-pub use mr_hearing::mr_tables::Duty;
+pub use mr_master_events::LaunchError;
+pub use mr_master_events::mr_master_state::Prepared;
+pub use mr_master_events::mr_master_tables::Duty;

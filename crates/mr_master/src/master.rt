@@ -1,23 +1,23 @@
 //! The application master as whoever runs it sees it: `MasterMachine`, whose calls are handed on to the `Machine` of
-//! `mr_change`, and to what hears packets and takes answers.
+//! `mr_master_state`, and to what hears packets and takes answers.
 ghost use Rattle.std.specs.Prelude.{◌≡◌, true, [], ◌∷◌, None, IfOk, IfErr, OnOk, OnErr, unwrap_or};
 ghost use Rattle.std.specs.Option.{is_some};
-ghost use Rattle.mr_hearing.specs.mr_change.specs.State.{StandsFor, StandsForSome, Stands, StandsStill, Answers};
+ghost use Rattle.mr_master_events.specs.mr_master_state.specs.State.{StandsFor, StandsForSome, Stands, StandsStill, Answers};
 ghost use Rattle.mr_master_model.specs.Duty.{duty};
 ghost use Rattle.mr_master_model.specs.Past.{Step, Launches, Hears, Expires, Answered, phase_of};
 ghost use Rattle.mr_master_model.specs.Readings.{launch_refusal, expire_refusal, wanted};
 ghost use Rattle.mr_master_model.specs.Next.{seen, sent};
-ghost use Rattle.mr_hearing.specs.mr_change.specs.Prepared.{IsOne, IsExpiry, PlansFor, IsReadyFor, IsReadyForStep};
-ghost use Rattle.mr_hearing.specs.Refused.{launch_error};
+ghost use Rattle.mr_master_events.specs.mr_master_state.specs.Prepared.{IsOne, IsExpiry, PlansFor, IsReadyFor, IsReadyForStep};
+ghost use Rattle.mr_master_events.specs.Refused.{launch_error};
 
-use mr_answer::{next_duty, ready_for};
-use mr_hearing::mr_change::{Machine, Prepared};
-use mr_hearing::mr_tables::Duty;
-use mr_hearing::{
+use mr_ids::TaskId;
+use mr_master_calls::{next_duty, ready_for};
+use mr_master_events::mr_master_state::{Machine, Prepared};
+use mr_master_events::mr_master_tables::Duty;
+use mr_master_events::{
     LaunchError, expire_refusal, launch_refusal, no_memory, prepare_expiry, prepare_launch,
     prepare_packet,
 };
-use mr_ids::TaskId;
 use mr_master_model::{LaunchFault, Phase, Setting, StoreAnswer};
 use mr_packet::{Envelope, Packet};
 use mr_task::TaskFault;
@@ -43,8 +43,8 @@ impl Drop for MasterMachine {
 }
 
 impl Model for MasterMachine {
-    ghost use Rattle.mr_hearing.specs.mr_change.specs.Passing.{HasPassed};
-    ghost use Rattle.mr_hearing.specs.mr_change.specs.State.{Master};
+    ghost use Rattle.mr_master_events.specs.mr_master_state.specs.Passing.{HasPassed};
+    ghost use Rattle.mr_master_events.specs.mr_master_state.specs.State.{Master};
 
     ghost Value = { Master };
 

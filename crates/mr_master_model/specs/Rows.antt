@@ -3,7 +3,7 @@ use Rattle.std.specs.Prelude.{◌≡◌, ℕ, true, false, List, [], ◌∷◌, 
 use Rattle.mr_ids.specs.Attempt.{Attempt}
 use Rattle.mr_ids.specs.declared.id.TaskId.{TaskId}
 use Rattle.mr_ids.specs.declared.id.TaskKind.TheVariants.{Map, Reduce}
-use Rattle.mr_tree.specs.declared.node.Kind.{Kind}
+use Rattle.mr_names_tree.specs.declared.node.Kind.{Kind}
 use Rattle.mr_names.specs.declared.op.Answer.TheVariants as found
 use Rattle.mr_commit.specs.Tables.{setup_job, commit_job}
 use Rattle.mr_packet.specs.declared.packet.ContainerId.{ContainerId}

@@ -6,17 +6,17 @@ use Rattle.std.specs.Cmp.Lexicographic.{pointwise, nat_list_eq_equiv}
 use Rattle.std.specs.FinMap as finite
 use Rattle.mr_paths.specs.Path.{strip, parent, prefixes, path_ties, path_total}
 use Rattle.mr_paths.proofs.Paths.{strip-append}
-use Rattle.mr_tree.specs.declared.node.Node.{Node}
-use Rattle.mr_tree.specs.declared.node.Node.TheVariants.{Dir, File}
+use Rattle.mr_names_tree.specs.declared.node.Node.{Node}
+use Rattle.mr_names_tree.specs.declared.node.Node.TheVariants.{Dir, File}
 use Rattle.mr_names.specs.declared.fault.NameFault.TheVariants as fault
 use Rattle.mr_names.specs.declared.op.Op.TheVariants as op
 use Rattle.mr_names.specs.declared.namespace.TheConstants.{MAX_FILE_LEN}
-use Rattle.mr_tree.specs.Node.{appended, closed_of}
-use Rattle.mr_tree.specs.Content.{Content, IsTree, is_path, within, changed_at, changed_by}
-use Rattle.mr_tree.specs.Held.{node_at, is_absent, is_file, is_dir, is_closed, bytes_of}
+use Rattle.mr_names_tree.specs.Node.{appended, closed_of}
+use Rattle.mr_names_tree.specs.Content.{Content, IsTree, is_path, within, changed_at, changed_by}
+use Rattle.mr_names_tree.specs.Held.{node_at, is_absent, is_file, is_dir, is_closed, bytes_of}
 use Rattle.mr_names.specs.Calls.{refusal, effect, first_of}
 use Rattle.mr_names.specs.Laws.{EachPath, MadeThere, CreatedThere, AppendedThere, ClosedThere, DeletedThere, RenamedThere, RenamedAway, OthersStay, OnlyMakersMake, DirsStay, ClosedFilesStay, NothingBeneath, FilesAreLeaves, MayMkdirs, MayCreate, IsOpenFile, MayAppend, MayDelete, MayRename, AnsweredOnly, AnsweredAlways}
-use Rattle.mr_tree.proofs.ContentLaws.{same_path, same_itself, get-without, get-renamed, get-renamed-outside, nothing_within, above_is_dir}
+use Rattle.mr_names_tree.proofs.ContentLaws.{same_path, same_itself, get-without, get-renamed, get-renamed-outside, nothing_within, above_is_dir}
 use Rattle.mr_names.proofs.TreeLaws.{row_passes, present, absent, is_there, nonempty, get-made, parent-push, Pushed, front_and_last, any_at, list_any-prefixes}
 
 -- ---- one path written or changed

@@ -15,7 +15,7 @@ use Rattle.mr_names.specs.declared.op.Op.TheVariants as op
 use Rattle.mr_names.specs.declared.namespace.TheConstants.{MAX_ENTRIES, MAX_BARRED}
 use Rattle.mr_names.specs.Attempts.{attempt_cmp, attempt_total, attempt_exact}
 use Rattle.mr_names.specs.Barred.{Barred, bars, is_barred, has_no_room}
-use Rattle.mr_tree.specs.Content.{IsTree}
+use Rattle.mr_names_tree.specs.Content.{IsTree}
 use Rattle.mr_names.specs.Calls.{State, FilesFit, entry_count, own_refusal, unheard, refused, barred_after, settled, call_of}
 use Rattle.mr_names.specs.Laws.{BelowTheFence, BarredIsRefused, IsHeard, HeardHasItsOwn, HeardIs, AnsweredIsHeard, HeardAlike, RefusedStays, AnsweredIsMade, AnsweredMayBeMade, FenceStays, TreeStays, SoundStays, bar_of, BarredGrow, OnlyBarBars, OthersBarNone, BarKeepsContent, BarBars, Becomes, at_once, by_call, by_raise, BarredForGood}
 use Rattle.mr_names.proofs.TreeLaws.{row_passes, tree_effect, neither, past_caller}

@@ -3,15 +3,15 @@ use Rattle.std.proofs.Common.{◌≡◌, ◌≤◌, ◌+◌, ℕ, Bool, true, fa
 use Rattle.std.specs.Option.{option_map}
 use Rattle.std.specs.FinMap as finite
 use Rattle.mr_paths.specs.Path.{path_cmp, strip}
-use Rattle.mr_tree.specs.declared.node.Node.{Node}
-use Rattle.mr_tree.specs.declared.node.Node.TheVariants.{Dir, File}
+use Rattle.mr_names_tree.specs.declared.node.Node.{Node}
+use Rattle.mr_names_tree.specs.declared.node.Node.TheVariants.{Dir, File}
 use Rattle.mr_names.specs.declared.op.Caller.{Caller}
 use Rattle.mr_names.specs.declared.op.Op.{Op}
 use Rattle.mr_names.specs.declared.op.Op.TheVariants as op
 use Rattle.mr_names.specs.declared.namespace.TheConstants.{MAX_ENTRIES, MAX_FILE_LEN}
-use Rattle.mr_tree.specs.Node.{appended, closed_of}
-use Rattle.mr_tree.specs.Content.{Content, IsTree, is_path, within, renamed_at_by}
-use Rattle.mr_tree.specs.Held.{node_at, bytes_of}
+use Rattle.mr_names_tree.specs.Node.{appended, closed_of}
+use Rattle.mr_names_tree.specs.Content.{Content, IsTree, is_path, within, renamed_at_by}
+use Rattle.mr_names_tree.specs.Held.{node_at, bytes_of}
 use Rattle.mr_names.specs.Calls.{State, FilesFit, IsSound, entry_count, missing, refusal, refused, effect}
 use Rattle.mr_names.specs.Laws.{node_after, MayMkdirs, MayCreate}
 use Rattle.mr_names.proofs.CallLaws.{each_path, answered_only, get-written, is_path-same}

@@ -5,8 +5,8 @@ use Rattle.std.specs.FinMap as finite
 use Rattle.std.specs.FinSet as set
 use Rattle.std.specs.FinMap.Entries.{put}
 use Rattle.mr_paths.specs.Path.{path_cmp, path_total, path_exact}
-use Rattle.mr_tree.specs.declared.node.Node.{Node}
-use Rattle.mr_tree.specs.declared.node.Node.TheVariants.{Dir, File}
+use Rattle.mr_names_tree.specs.declared.node.Node.{Node}
+use Rattle.mr_names_tree.specs.declared.node.Node.TheVariants.{Dir, File}
 use Rattle.mr_names.specs.declared.fault.NameFault.{NameFault}
 use Rattle.mr_names.specs.declared.fault.NameFault.TheVariants as fault
 use Rattle.mr_names.specs.declared.op.Op.{Op}
@@ -15,8 +15,8 @@ use Rattle.mr_names.specs.declared.op.Answer.{Answer}
 use Rattle.mr_names.specs.declared.op.Answer.TheVariants as answers
 use Rattle.std.specs.List.{filter_map}
 use Rattle.std.specs.Ordering.{eq_by_cmp}
-use Rattle.mr_tree.specs.Listing.{entry_of, line_of}
-use Rattle.mr_tree.specs.Content.{Content}
+use Rattle.mr_names_tree.specs.Listing.{entry_of, line_of}
+use Rattle.mr_names_tree.specs.Content.{Content}
 use Rattle.mr_names.specs.Calls.{raised, unheard, own_refusal, barred_after, effect, answer, call_of}
 use Rattle.mr_names.specs.Rows.{first_master, ended, call_then, with_entries, root_alone, with_a_b, with_a_b_f, with_f, NamespaceRefusals, RootRefusals, ReadAndForesee}
 use Rattle.mr_names.proofs.Callers.{unheard-low}

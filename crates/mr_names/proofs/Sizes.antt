@@ -5,9 +5,9 @@ use Rattle.std.specs.FinMap.Entries.{where_key, find-where_key}
 use Rattle.std.specs.declared.cmp.Ordering.TheVariants.{Equal}
 use Rattle.std.proofs.lemmas.List.{length-map}
 use Rattle.mr_paths.specs.Path.{path_cmp, path_total, path_exact}
-use Rattle.mr_tree.specs.declared.node.Node.{Node}
-use Rattle.mr_tree.specs.declared.node.Node.TheVariants.{Dir}
-use Rattle.mr_tree.specs.Content.{Content, with_all, with_dirs, moved, renamed, changed_at, changed_by}
+use Rattle.mr_names_tree.specs.declared.node.Node.{Node}
+use Rattle.mr_names_tree.specs.declared.node.Node.TheVariants.{Dir}
+use Rattle.mr_names_tree.specs.Content.{Content, with_all, with_dirs, moved, renamed, changed_at, changed_by}
 
 pub len_insert : (c : Content) (path : List (List ℕ)) (node : Node) → finite.len (finite.insert c path node) ≤ finite.len c + 1
 len_insert c path node = by (finite.contains_key c path) (finite.len-insert path_total c path node)

@@ -7,17 +7,17 @@ use Rattle.std.proofs.lemmas.Map.Views.{any-filter_same}
 use Rattle.std.specs.FinMap as finite
 use Rattle.mr_paths.specs.Path.{strip, parent, prefixes, path_ties, path_cmp}
 use Rattle.mr_paths.proofs.Paths.{strip-append, append-strip}
-use Rattle.mr_tree.specs.declared.node.Node.{Node}
-use Rattle.mr_tree.specs.declared.node.Node.TheVariants.{Dir, File}
+use Rattle.mr_names_tree.specs.declared.node.Node.{Node}
+use Rattle.mr_names_tree.specs.declared.node.Node.TheVariants.{Dir, File}
 use Rattle.mr_names.specs.declared.fault.NameFault.{NameFault}
 use Rattle.mr_names.specs.declared.op.Caller.{Caller}
 use Rattle.mr_names.specs.declared.op.Op.{Op}
 use Rattle.mr_names.specs.declared.op.Op.TheVariants as op
-use Rattle.mr_tree.specs.Node.{appended, closed_of}
-use Rattle.mr_tree.specs.Content.{Content, IsTree, without, with_all, renamed, renamed_at, renamed_at_by, within, changed_at, changed_by}
-use Rattle.mr_tree.specs.Held.{node_at, is_absent, is_file}
+use Rattle.mr_names_tree.specs.Node.{appended, closed_of}
+use Rattle.mr_names_tree.specs.Content.{Content, IsTree, without, with_all, renamed, renamed_at, renamed_at_by, within, changed_at, changed_by}
+use Rattle.mr_names_tree.specs.Held.{node_at, is_absent, is_file}
 use Rattle.mr_names.specs.Calls.{State, missing, refusal, passes_limit, unheard, refused, effect}
-use Rattle.mr_tree.proofs.ContentLaws.{same, same_or_not, same_path, get_written, get_kept, get-without, get-with_all, last_at, get-renamed, nothing_within}
+use Rattle.mr_names_tree.proofs.ContentLaws.{same, same_or_not, same_path, get_written, get_kept, get-without, get-with_all, last_at, get-renamed, nothing_within}
 
 -- ---- a path and its last name
 

@@ -9,7 +9,7 @@ use Rattle.std.specs.Coded.{Coded, code_by, coded×, coded_ℕ}
 use Rattle.std.specs.FinMap as finite
 use Rattle.std.specs.FinSet as set
 use Rattle.mr_paths.specs.Path.{strip, parent, prefixes}
-use Rattle.mr_tree.specs.declared.node.Node.TheVariants.{Dir, File}
+use Rattle.mr_names_tree.specs.declared.node.Node.TheVariants.{Dir, File}
 use Rattle.mr_names.specs.declared.fault.NameFault.{NameFault}
 use Rattle.mr_names.specs.declared.fault.NameFault.TheVariants as fault
 use Rattle.mr_names.specs.declared.op.Caller.{Caller}
@@ -18,10 +18,10 @@ use Rattle.mr_names.specs.declared.op.Op.TheVariants as op
 use Rattle.mr_names.specs.declared.op.Answer.{Answer}
 use Rattle.mr_names.specs.declared.op.Answer.TheVariants as answers
 use Rattle.mr_names.specs.declared.namespace.TheConstants.{MAX_ENTRIES, MAX_FILE_LEN, MAX_BARRED}
-use Rattle.mr_tree.specs.Node.{appended, closed_of, kind_of}
-use Rattle.mr_tree.specs.Content.{Content, content_code, IsTree, without, with_dirs, renamed, changed_at}
-use Rattle.mr_tree.specs.Held.{is_dir, is_file, is_closed, bytes_of, node_at, is_absent, is_present}
-use Rattle.mr_tree.specs.Listing.{children}
+use Rattle.mr_names_tree.specs.Node.{appended, closed_of, kind_of}
+use Rattle.mr_names_tree.specs.Content.{Content, content_code, IsTree, without, with_dirs, renamed, changed_at}
+use Rattle.mr_names_tree.specs.Held.{is_dir, is_file, is_closed, bytes_of, node_at, is_absent, is_present}
+use Rattle.mr_names_tree.specs.Listing.{children}
 use Rattle.mr_names.specs.Barred.{Barred, barred_code, bars, is_barred, has_no_room}
 
 -- the namespace: its content, its fence, and the attempts that are barred

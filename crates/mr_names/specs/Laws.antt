@@ -4,8 +4,8 @@ use Rattle.std.specs.List.{list_any}
 use Rattle.std.specs.Option.{option_map}
 use Rattle.mr_ids.specs.Attempt.{Attempt}
 use Rattle.mr_paths.specs.Path.{parent, prefixes}
-use Rattle.mr_tree.specs.declared.node.Node.{Node}
-use Rattle.mr_tree.specs.declared.node.Node.TheVariants.{Dir, File}
+use Rattle.mr_names_tree.specs.declared.node.Node.{Node}
+use Rattle.mr_names_tree.specs.declared.node.Node.TheVariants.{Dir, File}
 use Rattle.mr_names.specs.declared.fault.NameFault.{NameFault}
 use Rattle.mr_names.specs.declared.fault.NameFault.TheVariants as fault
 use Rattle.mr_names.specs.declared.op.Answer.{Answer}
@@ -13,11 +13,11 @@ use Rattle.mr_names.specs.declared.op.Caller.{Caller}
 use Rattle.mr_names.specs.declared.op.Op.{Op}
 use Rattle.mr_names.specs.declared.op.Op.TheVariants as op
 use Rattle.mr_names.specs.declared.namespace.TheConstants.{MAX_ENTRIES, MAX_FILE_LEN}
-use Rattle.mr_tree.specs.Node.{appended, closed_of}
-use Rattle.mr_tree.specs.Content.{Content, IsTree, is_path, without, renamed, renamed_at, within}
-use Rattle.mr_tree.specs.Held.{node_at, is_absent, is_file, bytes_of}
-pub use Rattle.mr_tree.specs.Held.{MayRename}
-pub use Rattle.mr_tree.specs.Listing.{kind_listed, ListsChildren, ListsInOrder}
+use Rattle.mr_names_tree.specs.Node.{appended, closed_of}
+use Rattle.mr_names_tree.specs.Content.{Content, IsTree, is_path, without, renamed, renamed_at, within}
+use Rattle.mr_names_tree.specs.Held.{node_at, is_absent, is_file, bytes_of}
+pub use Rattle.mr_names_tree.specs.Held.{MayRename}
+pub use Rattle.mr_names_tree.specs.Listing.{kind_listed, ListsChildren, ListsInOrder}
 use Rattle.mr_names.specs.Barred.{bars, is_barred}
 use Rattle.mr_names.specs.Calls.{State, IsSound, opening, raised, missing, entry_count, refusal, own_refusal, unheard, refused, effect, barred_after, answer, call_of}
 

@@ -1,4 +1,4 @@
--- The namespace: what each call answers and leaves. What a content is stands in mr_tree (Node, Content, Held, Listing). Then read Barred and
+-- The namespace: what each call answers and leaves. What a content is stands in mr_names_tree (Node, Content, Held, Listing). Then read Barred and
 -- Calls, then Laws and Rows.
 pub mod Attempts
 pub mod Barred

@@ -3,8 +3,8 @@
 use Rattle.std.specs.Prelude.{◌≡◌, ℕ, true, false, List, [], ◌∷◌, Some, None, Result, Ok, Err, codes}
 use Rattle.std.specs.FinMap as finite
 use Rattle.std.specs.FinSet as set
-use Rattle.mr_tree.specs.declared.node.Node.{Node}
-use Rattle.mr_tree.specs.declared.node.Node.TheVariants.{Dir, File}
+use Rattle.mr_names_tree.specs.declared.node.Node.{Node}
+use Rattle.mr_names_tree.specs.declared.node.Node.TheVariants.{Dir, File}
 use Rattle.mr_names.specs.declared.fault.NameFault.{NameFault}
 use Rattle.mr_names.specs.declared.fault.NameFault.TheVariants as fault
 use Rattle.mr_names.specs.declared.op.Caller.{Caller}
@@ -12,7 +12,7 @@ use Rattle.mr_names.specs.declared.op.Op.{Op}
 use Rattle.mr_names.specs.declared.op.Op.TheVariants as op
 use Rattle.mr_names.specs.declared.op.Answer.{Answer}
 use Rattle.mr_names.specs.declared.op.Answer.TheVariants as answers
-use Rattle.mr_tree.specs.Listing.{entry_of}
+use Rattle.mr_names_tree.specs.Listing.{entry_of}
 use Rattle.mr_names.specs.Calls.{State, opening, raised, call_of, refused}
 
 -- the calls of one caller, each with its answer, lead from one namespace to another

@@ -67,7 +67,7 @@
 //! (`crates/tests_base/src/names.rt`). Neither: speed, and how many requests for memory a call makes (the rename of a
 //! directory of 65,535 files makes fewer than 1,000: `tools/hostile`). No call recurses.
 //!
-//! The content is kept by `mr_tree`, beneath, as a tree of nodes in a slab. Its types that callers see (`Node`, `Kind`,
+//! The content is kept by `mr_names_tree`, beneath, as a tree of nodes in a slab. Its types that callers see (`Node`, `Kind`,
 //! `Entry`, `Entries`, `Found`, `Walk`) are given on here.
 #![tactic(auto)]
 
@@ -83,6 +83,6 @@ pub use laws::{
     settles, stays_tree,
 };
 pub use mr_ids::Bytes;
-pub use mr_tree::{Entries, Entry, Found, Kind, Node, Walk};
+pub use mr_names_tree::{Entries, Entry, Found, Kind, Node, Walk};
 pub use namespace::{MAX_BARRED, MAX_ENTRIES, MAX_FILE_LEN, Namespace};
 pub use op::{Answer, Caller, Op};

@@ -1,14 +1,14 @@
-//! The namespace as its callers see it: each call, and its refusals in their order, with the fence and the barred attempts. What stands where is kept in a `Tree` of mr_tree.
+//! The namespace as its callers see it: each call, and its refusals in their order, with the fence and the barred attempts. What stands where is kept in a `Tree` of mr_names_tree.
 ghost use Rattle.std.specs.Prelude.{IsOkUnless, ◌≡◌, ◌+◌, ℕ, [], ◌∷◌, ◌++◌, IfOk, OnOk, OnErr, length, nat_lt, ◌<◌, ◌^◌, if◌then◌else◌, Some, None, true, false};
-ghost use Rattle.mr_tree.specs.Walk.{walk};
+ghost use Rattle.mr_names_tree.specs.Walk.{walk};
 ghost use Rattle.mr_names.specs.Calls.{State, IsSound, opening, raised, Makes, MakesAlways, Refuses, unheard, refused, entry_count, may_want_memory};
 
 use crate::barred::Barred;
 use crate::fault::NameFault;
 use crate::op::{Answer, Caller, Op};
 use mr_ids::{AppAttempt, AttemptId, Bytes};
+use mr_names_tree::{Entries, Kind, Node, Tree, Walk};
 use mr_paths::{Path, is_within, parent};
-use mr_tree::{Entries, Kind, Node, Tree, Walk};
 use std::alloc::{AllocError, Global};
 use std::marker::Model;
 

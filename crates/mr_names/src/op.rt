@@ -2,8 +2,8 @@
 ghost use Rattle.std.specs.Prelude.{◌≡◌, IfOk};
 
 use mr_ids::{AppAttempt, AttemptId, Bytes};
+use mr_names_tree::{Entries, Kind};
 use mr_paths::Path;
-use mr_tree::{Entries, Kind};
 use std::alloc::AllocError;
 
 /// Who makes a call: a master, or a container.

@@ -10,20 +10,20 @@ use Rattle.mr_ids.specs.declared.id.TaskKind.TheVariants.{Map, Reduce}
 use Rattle.mr_packet.specs.declared.packet.ContainerId.{ContainerId}
 use Rattle.mr_packet.specs.declared.packet.Envelope.{Envelope}
 use Rattle.mr_mapside.specs.Cutting.{cut}
-use Rattle.mr_event.specs.declared.why.Why.{Why}
-use Rattle.mr_event.specs.declared.why.Why.TheVariants as why
-use Rattle.mr_model.specs.Ids.{of_reduces}
-use Rattle.mr_model.specs.Packets.{Config, Store}
-use Rattle.mr_model.specs.Pasts.{Place, wish, fetched}
-use Rattle.mr_model.specs.World.{World, Event, Calm, Compute, ContainerStep, Deliver, Die, Duty, LaunchOn, duty, seen_by, wish_at, wish_of}
-use Rattle.mr_model.specs.Effect.{addressee, unless, not_now, wants_compute, is_blocks, tasks_of}
-use Rattle.mr_model.specs.Claims.{Limits, world_of}
-use Rattle.mr_model.specs.Sequential.{Job, JobLaws, Input, Split, Pieces, given, input_at, input_of, made_of, most_output}
-use Rattle.mr_model.specs.Wanted.{wanted}
-use Rattle.mr_model.proofs.Cluster.{open_place}
-use Rattle.mr_model.proofs.Ranges.{always-placed}
-use Rattle.mr_model.proofs.Wanted.{wanted_may_be_launched}
-use Rattle.mr_model.specs.bridge.Works.{named}
+use Rattle.mr_world_events.specs.declared.why.Why.{Why}
+use Rattle.mr_world_events.specs.declared.why.Why.TheVariants as why
+use Rattle.mr_world_model.specs.Ids.{of_reduces}
+use Rattle.mr_world_model.specs.Packets.{Config, Store}
+use Rattle.mr_world_model.specs.Pasts.{Place, wish, fetched}
+use Rattle.mr_world_model.specs.World.{World, Event, Calm, Compute, ContainerStep, Deliver, Die, Duty, LaunchOn, duty, seen_by, wish_at, wish_of}
+use Rattle.mr_world_model.specs.Effect.{addressee, unless, not_now, wants_compute, is_blocks, tasks_of}
+use Rattle.mr_world_model.specs.Claims.{Limits, world_of}
+use Rattle.mr_world_model.specs.Sequential.{Job, JobLaws, Input, Split, Pieces, given, input_at, input_of, made_of, most_output}
+use Rattle.mr_world_model.specs.Wanted.{wanted}
+use Rattle.mr_world_model.proofs.Cluster.{open_place}
+use Rattle.mr_world_model.proofs.Ranges.{always-placed}
+use Rattle.mr_world_model.proofs.Wanted.{wanted_may_be_launched}
+use Rattle.mr_master_refinement.specs.Works.{named}
 use Rattle.mr_world.specs.Readings.{living, launched_by, is_behind, next_living}
 use Rattle.mr_play.specs.Played.{Next, is_dropped, passed, cursor_at, has_ended, is_through, result_of, computed_of, computing, stepping, next_packet, next_duty, next_launch, next_step, next_of}
 use Rattle.mr_play.specs.Laws.{CalmsArePermitted}

@@ -1,14 +1,14 @@
 -- A calm, an event at a time.
 use Rattle.std.proofs.Common.{◌≡◌, ◌+◌, ◌-◌, ◌<◌, ◌≤◌, ℕ, suc, Bool, true, false, cond, Option, Some, None, Result, Ok, Err, refl, sym, ap, subst, ◌∙◌, arith}
-use Rattle.mr_model.specs.Packets.{Config}
+use Rattle.mr_world_model.specs.Packets.{Config}
 use Rattle.mr_script.specs.declared.event_name.EventName.{EventName}
 use Rattle.mr_world.specs.Limits.{within}
 use Rattle.mr_play.specs.declared.calm.Coming.{Coming}
 use Rattle.mr_play.specs.declared.calm.Coming.TheVariants as coming
-use Rattle.mr_commands.specs.declared.fault.SimFault.{SimFault}
-use Rattle.mr_commands.specs.declared.fault.SimFault.TheVariants as fault
+use Rattle.mr_sim_commands.specs.declared.fault.SimFault.{SimFault}
+use Rattle.mr_sim_commands.specs.declared.fault.SimFault.TheVariants as fault
 use Rattle.mr_play.specs.declared.player.Player.{Player}
-use Rattle.mr_commands.specs.declared.job.submission.JobKind.{JobKind}
+use Rattle.mr_sim_commands.specs.declared.job.submission.JobKind.{JobKind}
 use Rattle.mr_play.specs.EventNames.{stops_at}
 use Rattle.mr_play.specs.Text.{job_as}
 use Rattle.mr_play.specs.Played.{calmed_by, calms, cursor_at, is_through, most_calm, next_of}

@@ -10,14 +10,14 @@ use Rattle.mr_container.specs.declared.wish.Wish.TheVariants as wished
 use Rattle.mr_container.specs.Readings as container
 use Rattle.mr_master_model.specs.declared.phase.DutyName.{DutyName}
 use Rattle.mr_master_model.specs.Duty.{Duty}
-use Rattle.mr_model.specs.Packets.{Config}
-use Rattle.mr_model.specs.Pasts.{Place, Step, wish}
-use Rattle.mr_model.specs.World.{World, Event, Calm, ContainerStep, duty, seen_by, wish_at, wish_of}
-use Rattle.mr_model.specs.Effect.{addressee, wants_compute}
-use Rattle.mr_model.specs.Claims.{Limits}
-use Rattle.mr_model.specs.Sequential.{Job}
-use Rattle.mr_model.specs.Wanted.{wanted}
-use Rattle.mr_model.specs.bridge.Works.{named}
+use Rattle.mr_world_model.specs.Packets.{Config}
+use Rattle.mr_world_model.specs.Pasts.{Place, Step, wish}
+use Rattle.mr_world_model.specs.World.{World, Event, Calm, ContainerStep, duty, seen_by, wish_at, wish_of}
+use Rattle.mr_world_model.specs.Effect.{addressee, wants_compute}
+use Rattle.mr_world_model.specs.Claims.{Limits}
+use Rattle.mr_world_model.specs.Sequential.{Job}
+use Rattle.mr_world_model.specs.Wanted.{wanted}
+use Rattle.mr_master_refinement.specs.Works.{named}
 use Rattle.mr_world.specs.Readings.{due_in, wanted_in, wish_by, wish_in, living, launched_by, next_living}
 use Rattle.mr_play.specs.declared.calm.Coming.{Coming}
 use Rattle.mr_play.specs.declared.calm.Coming.TheVariants as coming
@@ -95,7 +95,7 @@ module _ (job : Job) (cfg : Config) (limits : Limits) (w : World) (k : ℕ) (las
   rest_of l = rw (le-ltb at (length w.bag) l) refl
 
   abbrev duty_as : Duty → Next
-  duty_as d = record { names = duty_event d.name ∷ []; event = Some (Rattle.mr_model.specs.World.Duty k Calm); stepped = last; cursor = at }
+  duty_as d = record { names = duty_event d.name ∷ []; event = Some (Rattle.mr_world_model.specs.World.Duty k Calm); stepped = last; cursor = at }
 
   due_some : (o : Option Duty) (d : DutyName) → option_map (λ (x : Duty). x.name) o ≡ Some d → option_map duty_as o ≡ Some (next_as job cfg limits w k last at (coming.Duty (duty_event d)))
   due_some None d e = absurd (none_is d e)
@@ -148,7 +148,7 @@ module _ (job : Job) (cfg : Config) (limits : Limits) (w : World) (k : ℕ) (las
   computes_alike : (c : ContainerId) → wants_compute (wish_of cfg w c) ≡ container.is_computing (wish_by cfg (w.place c) (w.container_past c))
   unfolding wish
   computes_alike c = by (w.place c) where
-    seen : (v : container_wish.Wish) (p : container.Pieces) → wants_compute (Rattle.mr_model.specs.Pasts.as_wish p v) ≡ container.is_computing v
+    seen : (v : container_wish.Wish) (p : container.Pieces) → wants_compute (Rattle.mr_world_model.specs.Pasts.as_wish p v) ≡ container.is_computing v
     seen (wished.Where m) p = refl
     seen (wished.Fetch a n i) p = refl
     seen (wished.Lost a) p = refl

@@ -5,25 +5,25 @@ use Rattle.std.specs.Option.{option_and_then, option_or}
 use Rattle.mr_ids.specs.declared.id.JobId.{JobId}
 use Rattle.mr_ids.specs.declared.id.TaskKind.{TaskKind}
 use Rattle.mr_ids.specs.declared.id.TaskKind.TheVariants.{Map, Reduce}
-use Rattle.mr_event.specs.declared.why.Why.{Why}
+use Rattle.mr_world_events.specs.declared.why.Why.{Why}
 use Rattle.mr_packet.specs.declared.packet.ContainerId.{ContainerId}
 use Rattle.mr_script.specs.declared.command.Command.{Command}
 use Rattle.mr_script.specs.declared.command.Command.TheVariants as command
 use Rattle.mr_script.specs.declared.event_name.EventName.{EventName}
 use Rattle.mr_script.specs.declared.expectation.Expectation.{Expectation}
 use Rattle.mr_script.specs.Script.{AreCommands, IsCommand}
-use Rattle.mr_model.specs.Ids.{of_reduces}
-use Rattle.mr_model.specs.Packets.{Config}
-use Rattle.mr_model.specs.Pasts.{Place, wish, fetched}
-use Rattle.mr_model.specs.World.{World, Event, Start, Crash, Duty, LaunchOn, Deliver, ContainerStep, Compute, Die, NodeRestart, Expire, Calm, duty, seen_by, wish_at, wish_of}
-use Rattle.mr_model.specs.Effect.{unless, not_now, wants_compute, tasks_of}
-use Rattle.mr_model.specs.Claims.{Limits, world_of}
-use Rattle.mr_model.specs.Sequential.{Job, Input, Split, Pieces, given, input_at, input_of, made_of, most_output, CarriesDefinition, IsFaithful}
-use Rattle.mr_model.specs.Wanted.{wanted}
-use Rattle.mr_model.proofs.Lists.{Each}
-use Rattle.mr_model.proofs.Cluster.{open_place}
-use Rattle.mr_model.proofs.Ranges.{always-placed}
-use Rattle.mr_model.specs.bridge.Works.{named}
+use Rattle.mr_world_model.specs.Ids.{of_reduces}
+use Rattle.mr_world_model.specs.Packets.{Config}
+use Rattle.mr_world_model.specs.Pasts.{Place, wish, fetched}
+use Rattle.mr_world_model.specs.World.{World, Event, Start, Crash, Duty, LaunchOn, Deliver, ContainerStep, Compute, Die, NodeRestart, Expire, Calm, duty, seen_by, wish_at, wish_of}
+use Rattle.mr_world_model.specs.Effect.{unless, not_now, wants_compute, tasks_of}
+use Rattle.mr_world_model.specs.Claims.{Limits, world_of}
+use Rattle.mr_world_model.specs.Sequential.{Job, Input, Split, Pieces, given, input_at, input_of, made_of, most_output, CarriesDefinition, IsFaithful}
+use Rattle.mr_world_model.specs.Wanted.{wanted}
+use Rattle.mr_world_model.proofs.Lists.{Each}
+use Rattle.mr_world_model.proofs.Cluster.{open_place}
+use Rattle.mr_world_model.proofs.Ranges.{always-placed}
+use Rattle.mr_master_refinement.specs.Works.{named}
 use Rattle.mr_world.specs.declared.limits.TheConstants.{MAX_EVENTS}
 use Rattle.mr_world.specs.Readings.{input_in, living, next_living}
 use Rattle.mr_play.specs.EventNames.{stops_at}

@@ -13,23 +13,23 @@ use Rattle.mr_jobs.specs.WordCount.{word_count}
 use Rattle.mr_shuffle.specs.SequentialText.{AreSplits}
 use Rattle.mr_script.specs.declared.command.Command.{Command}
 use Rattle.mr_script.specs.Script.{AreCommands}
-use Rattle.mr_model.specs.Packets.{Config}
-use Rattle.mr_model.specs.Claims.{IsMarked}
-use Rattle.mr_model.specs.Results.{outcome, visible}
-use Rattle.mr_model.specs.Sequential.{JobLaws}
-use Rattle.mr_sequential.specs.Jobs.{LawsOf}
-use Rattle.mr_sequential.specs.Shown.{named, ShowsSequential}
-use Rattle.mr_sequential.proofs.Seen.{marked_worlds_show}
+use Rattle.mr_world_model.specs.Packets.{Config}
+use Rattle.mr_world_model.specs.Claims.{IsMarked}
+use Rattle.mr_world_model.specs.Results.{outcome, visible}
+use Rattle.mr_world_model.specs.Sequential.{JobLaws}
+use Rattle.mr_world_files.specs.Jobs.{LawsOf}
+use Rattle.mr_world_files.specs.Shown.{named, ShowsSequential}
+use Rattle.mr_world_files.proofs.Seen.{marked_worlds_show}
 use Rattle.mr_world.specs.Limits.{within}
 use Rattle.mr_world.proofs.Headlines.{outputs-are-bounded}
-use Rattle.mr_commands.specs.declared.fault.JobTextFault.{JobTextFault}
-use Rattle.mr_commands.specs.declared.job.submission.JobKind.{JobKind}
-use Rattle.mr_commands.specs.declared.job.submission.JobKind.TheVariants.{WordCount, MaxByKey, LineIndex}
-use Rattle.mr_commands.specs.declared.job.submission.Submission.{Submission}
-use Rattle.mr_commands.specs.job.Submission.{IsWithinLimits}
-use Rattle.mr_commands.specs.job.Text.{submission_of}
-use Rattle.mr_commands.specs.seq.PartFiles.{part_files_text}
-use Rattle.mr_commands.specs.seq.Text.{output_of}
+use Rattle.mr_sim_commands.specs.declared.fault.JobTextFault.{JobTextFault}
+use Rattle.mr_sim_commands.specs.declared.job.submission.JobKind.{JobKind}
+use Rattle.mr_sim_commands.specs.declared.job.submission.JobKind.TheVariants.{WordCount, MaxByKey, LineIndex}
+use Rattle.mr_sim_commands.specs.declared.job.submission.Submission.{Submission}
+use Rattle.mr_sim_commands.specs.job.Submission.{IsWithinLimits}
+use Rattle.mr_sim_commands.specs.job.Text.{submission_of}
+use Rattle.mr_sim_commands.specs.seq.PartFiles.{part_files_text}
+use Rattle.mr_sim_commands.specs.seq.Text.{output_of}
 use Rattle.mr_play.specs.Played.{Played, world}
 use Rattle.mr_play.specs.Text.{job_as, config_of, played_of, job_line, script_lines, printed_world}
 use Rattle.mr_play.specs.WorldText.{visible_text, winner_line, marker_line, outcome_line, line_of_marker, world_text}

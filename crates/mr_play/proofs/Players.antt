@@ -3,12 +3,12 @@ use Rattle.std.proofs.Common.{◌≡◌, ◌<◌, ℕ, suc, List, [], ◌∷◌,
 use Rattle.std.proofs.Math.Seq.{split_at}
 use Rattle.std.proofs.lemmas.Result.{err_from_is_err_and}
 use Rattle.std.specs.Option.{option_and_then}
-use Rattle.mr_model.specs.Packets.{Config}
+use Rattle.mr_world_model.specs.Packets.{Config}
 use Rattle.mr_script.specs.declared.command.Command.{Command}
 use Rattle.mr_world.specs.Limits.{within}
-use Rattle.mr_commands.specs.declared.fault.SimFault.{SimFault}
+use Rattle.mr_sim_commands.specs.declared.fault.SimFault.{SimFault}
 use Rattle.mr_play.specs.declared.player.Player.{Player}
-use Rattle.mr_commands.specs.declared.job.submission.JobKind.{JobKind}
+use Rattle.mr_sim_commands.specs.declared.job.submission.JobKind.{JobKind}
 use Rattle.mr_play.specs.Text.{job_as}
 use Rattle.mr_play.specs.Played.{Played, obeyed, played}
 use Rattle.mr_play.specs.declared.sources.Stretch.{Stretch}

@@ -2,7 +2,7 @@
 use Rattle.std.proofs.Common.{◌≡◌, ◌⊎◌, ℕ, zero, suc, Bool, true, false, cond, ◌&&◌, nat_lt, List, [], ◌∷◌, ◌++◌, length, Option, Some, None, Result, Ok, Err, inl, inr, refl, sym, ap, subst, ◌∙◌, append-nil, append_assoc}
 use Rattle.std.specs.Option.{option_and_then}
 use Rattle.mr_ids.specs.declared.id.TaskKind.TheVariants.{Map}
-use Rattle.mr_event.specs.declared.why.Why.{Why}
+use Rattle.mr_world_events.specs.declared.why.Why.{Why}
 use Rattle.mr_packet.specs.declared.packet.ContainerId.{ContainerId}
 use Rattle.mr_master_model.specs.declared.phase.DutyName.{DutyName}
 use Rattle.mr_master_model.specs.declared.phase.DutyName.TheVariants as duty
@@ -14,23 +14,23 @@ use Rattle.mr_script.specs.declared.event_name.EventName.{EventName}
 use Rattle.mr_script.specs.declared.expectation.Expectation.{Expectation}
 use Rattle.mr_script.specs.declared.event_name.EventName.TheVariants as name
 use Rattle.mr_script.proofs.Readings.{one_reading_law as one_script, read_or_bad_law as script_or_bad}
-use Rattle.mr_model.specs.Packets.{Config}
-use Rattle.mr_model.specs.World.{Event}
-use Rattle.mr_model.specs.Effect.{not_now}
-use Rattle.mr_model.specs.Claims.{Limits, IsMarked, LooksTheSame, winner, world_of}
-use Rattle.mr_model.specs.Sequential.{Job}
-use Rattle.mr_model.proofs.Grows.{winner_stays}
-use Rattle.mr_model.proofs.Outcomes.{no_later_event}
+use Rattle.mr_world_model.specs.Packets.{Config}
+use Rattle.mr_world_model.specs.World.{Event}
+use Rattle.mr_world_model.specs.Effect.{not_now}
+use Rattle.mr_world_model.specs.Claims.{Limits, IsMarked, LooksTheSame, winner, world_of}
+use Rattle.mr_world_model.specs.Sequential.{Job}
+use Rattle.mr_world_model.proofs.Grows.{winner_stays}
+use Rattle.mr_world_model.proofs.Outcomes.{no_later_event}
 use Rattle.mr_world.specs.declared.limits.TheConstants.{MAX_EVENTS}
-use Rattle.mr_commands.specs.declared.job.submission.Submission.{Submission}
+use Rattle.mr_sim_commands.specs.declared.job.submission.Submission.{Submission}
 use Rattle.mr_play.specs.EventNames.{duty_event, wish_event, stops_at}
 use Rattle.mr_play.specs.Expectations.{is_met, unmet_line, value_in}
 use Rattle.mr_play.specs.Played.{Played, Next, world, computing, taken, unless_refused, made, calmed, calmed_by, calms, is_through, cursor_at, next_of, stepped_by, most_calm, losing, expecting, obeyed, played}
 use Rattle.mr_play.specs.Sources.{noted, stretch_of, stretches}
 use Rattle.mr_script.specs.Lines.{after}
 use Rattle.mr_script.specs.Script.{AreCommands, IsFirstBad}
-use Rattle.mr_commands.specs.declared.fault.JobTextFault.{JobTextFault}
-use Rattle.mr_commands.specs.job.Text.{submission_of}
+use Rattle.mr_sim_commands.specs.declared.fault.JobTextFault.{JobTextFault}
+use Rattle.mr_sim_commands.specs.job.Text.{submission_of}
 use Rattle.mr_play.specs.Text.{PrintsPlay, IsBadPlayJob, IsBadPlayLine, IsFullPlay, played_of, played_text, job_line, script_by, script_lines}
 use Rattle.mr_play.specs.Laws.{NamesAreOfDutiesAndWishes, OnePlayText, GoesOn, ScriptsGoOn}
 

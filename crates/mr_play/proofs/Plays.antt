@@ -3,10 +3,10 @@ use Rattle.std.proofs.Common.{◌≡◌, ℕ, List, Result, IfErr, IsErrAnd, sym
 use Rattle.std.proofs.lemmas.Result.{err_from_is_err_and}
 use Rattle.mr_script.specs.declared.command.Command.{Command}
 use Rattle.mr_world.specs.Limits.{within}
-use Rattle.mr_commands.specs.declared.fault.SimFault.{SimFault}
-use Rattle.mr_commands.specs.declared.fault.SimFault.TheVariants as fault
+use Rattle.mr_sim_commands.specs.declared.fault.SimFault.{SimFault}
+use Rattle.mr_sim_commands.specs.declared.fault.SimFault.TheVariants as fault
 use Rattle.mr_play.specs.declared.player.Player.{Player}
-use Rattle.mr_commands.specs.declared.job.submission.Submission.{Submission}
+use Rattle.mr_sim_commands.specs.declared.job.submission.Submission.{Submission}
 use Rattle.mr_play.specs.Sources.{stretches}
 use Rattle.mr_play.specs.Text.{config_of, job_as, played_of, stretches_of}
 use Rattle.mr_play.specs.Played.{begun, played}

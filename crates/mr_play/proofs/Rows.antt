@@ -1,11 +1,11 @@
 -- What a few scripts make of a cluster.
 use Rattle.std.proofs.Common.{refl}
-use Rattle.mr_model.specs.World.{reply_of, reply_to, master_act, call_of, container_act, obeyed, ends}
-use Rattle.mr_model.specs.Effect.{run, happens, not_now, node_past_after}
-use Rattle.mr_model.specs.Sending.{sent}
-use Rattle.mr_model.specs.Hearing.{heard}
-use Rattle.mr_model.specs.Duties.{seen, next_seen, duty_of, phase_told, told}
-use Rattle.mr_model.specs.bridge.Works.{duty_name}
+use Rattle.mr_world_model.specs.World.{reply_of, reply_to, master_act, call_of, container_act, obeyed, ends}
+use Rattle.mr_world_model.specs.Effect.{run, happens, not_now, node_past_after}
+use Rattle.mr_world_model.specs.Sending.{sent}
+use Rattle.mr_world_model.specs.Hearing.{heard}
+use Rattle.mr_world_model.specs.Duties.{seen, next_seen, duty_of, phase_told, told}
+use Rattle.mr_master_refinement.specs.Works.{duty_name}
 use Rattle.mr_play.specs.Played.{most_calm}
 use Rattle.mr_play.specs.Rows.{PlayedRows}
 

@@ -8,9 +8,9 @@ use Rattle.mr_world.specs.Journal.{Journal, history_in, run_of, world_in}
 use Rattle.mr_world.specs.Limits.{within}
 use Rattle.mr_play.specs.declared.shown.Shown.{Shown}
 use Rattle.mr_play.specs.declared.player.Player.{Player}
-use Rattle.mr_commands.specs.declared.job.submission.Submission.{Submission}
-use Rattle.mr_commands.specs.declared.fault.SimFault.{SimFault}
-use Rattle.mr_commands.specs.job.Text.{submission_of}
+use Rattle.mr_sim_commands.specs.declared.job.submission.Submission.{Submission}
+use Rattle.mr_sim_commands.specs.declared.fault.SimFault.{SimFault}
+use Rattle.mr_sim_commands.specs.job.Text.{submission_of}
 use Rattle.mr_play.specs.Text.{job_line, script_lines, IsAsExpected}
 use Rattle.mr_play.specs.WorldText.{world_text}
 use Rattle.mr_play.specs.Players.{state_in}

@@ -1,11 +1,11 @@
 -- What works are given.
 use Rattle.std.proofs.Common.{Bool, true, false, cond, None, IfSome}
 use Rattle.mr_packet.specs.declared.packet.ContainerId.{ContainerId}
-use Rattle.mr_model.specs.Packets.{Config}
-use Rattle.mr_model.specs.World.{World}
-use Rattle.mr_model.specs.Sequential.{input_of}
-use Rattle.mr_work.specs.Works as works
-use Rattle.mr_work.proofs.Inputs as given
+use Rattle.mr_world_model.specs.Packets.{Config}
+use Rattle.mr_world_model.specs.World.{World}
+use Rattle.mr_world_model.specs.Sequential.{input_of}
+use Rattle.mr_container_work.specs.Works as works
+use Rattle.mr_container_work.proofs.Inputs as given
 use Rattle.mr_world.specs.Ranges.{IsInRange}
 use Rattle.mr_world.specs.Readings.{input_in}
 use Rattle.mr_play.specs.Players.{IsShort}

@@ -2,12 +2,12 @@
 use Rattle.std.proofs.Common.{◌≡◌, ℕ, zero, suc, ◌+◌, Bool, List, ◌++◌, map, Option, refl, ap, ◌∙◌, append_assoc}
 use Rattle.std.specs.List.{flat_map, range_with_len}
 use Rattle.mr_ids.specs.Attempt.{Attempt}
-use Rattle.mr_model.specs.Ids.{Name, marker, reduce_of}
-use Rattle.mr_model.specs.Content.{entry_at, is_file}
-use Rattle.mr_model.specs.Packets.{Config}
-use Rattle.mr_model.specs.World.{World}
-use Rattle.mr_model.specs.Claims.{winner}
-use Rattle.mr_model.specs.Results.{outcome, visible}
+use Rattle.mr_world_model.specs.Ids.{Name, marker, reduce_of}
+use Rattle.mr_world_model.specs.Content.{entry_at, is_file}
+use Rattle.mr_world_model.specs.Packets.{Config}
+use Rattle.mr_world_model.specs.World.{World}
+use Rattle.mr_world_model.specs.Claims.{winner}
+use Rattle.mr_world_model.specs.Results.{outcome, visible}
 use Rattle.mr_play.specs.WorldText.{line_of_marker, line_of_outcome, line_of_winner, marker_line, outcome_line, visible_text, winner_line, world_text}
 use Rattle.mr_play.specs.inner.PlaySteps.{winners_text}
 

@@ -1,11 +1,11 @@
 -- What the calls of a player promise that is taken further by parts.
 use Rattle.std.specs.Prelude.{◌≡◌, Bool, true, false, Option, Some, None, Result, Ok, Err, is_none, if◌then◌else◌}
 use Rattle.mr_packet.specs.declared.packet.ContainerId.{ContainerId}
-use Rattle.mr_model.specs.World.{Event}
-use Rattle.mr_model.specs.Effect.{not_now}
+use Rattle.mr_world_model.specs.World.{Event}
+use Rattle.mr_world_model.specs.Effect.{not_now}
 use Rattle.mr_world.specs.Limits.{within}
-use Rattle.mr_commands.specs.declared.fault.SimFault.{SimFault}
-use Rattle.mr_commands.specs.declared.fault.SimFault.TheVariants as fault
+use Rattle.mr_sim_commands.specs.declared.fault.SimFault.{SimFault}
+use Rattle.mr_sim_commands.specs.declared.fault.SimFault.TheVariants as fault
 use Rattle.mr_play.specs.declared.player.Player.{Player}
 use Rattle.mr_play.specs.Text.{job_as}
 use Rattle.mr_play.specs.Played.{Played, stepped_by, taken}

@@ -4,12 +4,12 @@ use Rattle.std.specs.Str.{bytes_eq}
 use Rattle.mr_script.specs.declared.expectation.Expectation.{Expectation}
 use Rattle.mr_script.specs.declared.expectation.Expectation.TheVariants.{Winner, Marker, Outcome}
 use Rattle.mr_script.specs.Expected.{winner_word, marker_word, outcome_word, value_word, expected_words}
-use Rattle.mr_model.specs.Ids.{marker, reduce_of}
-use Rattle.mr_model.specs.Content.{entry_at, is_file}
-use Rattle.mr_model.specs.Packets.{Config}
-use Rattle.mr_model.specs.World.{World}
-use Rattle.mr_model.specs.Claims.{winner}
-use Rattle.mr_model.specs.Results.{outcome}
+use Rattle.mr_world_model.specs.Ids.{marker, reduce_of}
+use Rattle.mr_world_model.specs.Content.{entry_at, is_file}
+use Rattle.mr_world_model.specs.Packets.{Config}
+use Rattle.mr_world_model.specs.World.{World}
+use Rattle.mr_world_model.specs.Claims.{winner}
+use Rattle.mr_world_model.specs.Results.{outcome}
 
 -- what is so of what an expectation speaks of; the job may have no reduce of that number
 abbrev pub value_in : Config → World → Expectation → List ℕ

@@ -3,12 +3,12 @@
 use Rattle.std.specs.Prelude.{◌≡◌, ℕ, Bool, true, List, ◌++◌, Option, Some}
 use Rattle.mr_script.specs.declared.command.Command.{Command}
 use Rattle.mr_script.specs.Script.{AreCommands}
-use Rattle.mr_model.specs.Packets.{Config}
-use Rattle.mr_model.specs.Claims.{Limits, IsMarked}
-use Rattle.mr_model.specs.Sequential.{IsFaithful}
+use Rattle.mr_world_model.specs.Packets.{Config}
+use Rattle.mr_world_model.specs.Claims.{Limits, IsMarked}
+use Rattle.mr_world_model.specs.Sequential.{IsFaithful}
 use Rattle.mr_world.specs.Limits.{within}
-use Rattle.mr_commands.specs.declared.job.submission.Submission.{Submission}
-use Rattle.mr_commands.specs.seq.Text.{PrintsSeq, RefusesSeq}
+use Rattle.mr_sim_commands.specs.declared.job.submission.Submission.{Submission}
+use Rattle.mr_sim_commands.specs.seq.Text.{PrintsSeq, RefusesSeq}
 use Rattle.mr_play.specs.Played.{Played}
 use Rattle.mr_play.specs.Text.{PrintsPlay, printed_world, job_as, config_of, played_of, job_line}
 use Rattle.mr_play.specs.WorldText.{line_of_marker, line_of_outcome}

@@ -6,13 +6,13 @@ use Rattle.mr_container.specs.declared.wish.Wish.{Wish}
 use Rattle.mr_script.specs.declared.command.Command.{Command}
 use Rattle.mr_script.specs.declared.event_name.EventName.{EventName}
 use Rattle.mr_script.specs.declared.event_name.EventName.TheVariants as name
-use Rattle.mr_model.specs.Ids.{TaskId}
-use Rattle.mr_model.specs.Packets.{Config}
-use Rattle.mr_model.specs.World.{Event}
-use Rattle.mr_model.specs.Claims.{Limits, IsMarked, LooksTheSame, winner}
-use Rattle.mr_model.specs.Effect.{not_now}
-use Rattle.mr_model.specs.Sequential.{Job, JobLaws}
-use Rattle.mr_commands.specs.declared.fault.JobTextFault.{JobTextFault}
+use Rattle.mr_world_model.specs.Ids.{TaskId}
+use Rattle.mr_world_model.specs.Packets.{Config}
+use Rattle.mr_world_model.specs.World.{Event}
+use Rattle.mr_world_model.specs.Claims.{Limits, IsMarked, LooksTheSame, winner}
+use Rattle.mr_world_model.specs.Effect.{not_now}
+use Rattle.mr_world_model.specs.Sequential.{Job, JobLaws}
+use Rattle.mr_sim_commands.specs.declared.fault.JobTextFault.{JobTextFault}
 use Rattle.mr_play.specs.EventNames.{duty_event, wish_event}
 use Rattle.mr_play.specs.Played.{Played, Next, cursor_at, is_through, next_of, played, world}
 use Rattle.mr_play.specs.Text.{PrintsPlay, IsBadPlayJob, IsBadPlayLine, IsFullPlay}

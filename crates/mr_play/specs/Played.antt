@@ -8,16 +8,16 @@ use Rattle.mr_task.specs.declared.fault.TaskFault.{TaskFault}
 use Rattle.mr_task.specs.declared.fault.TaskFault.TheVariants as task_fault
 use Rattle.mr_packet.specs.declared.packet.ContainerId.{ContainerId}
 use Rattle.mr_packet.specs.declared.packet.Envelope.{Envelope}
-use Rattle.mr_event.specs.declared.why.Why.{Why}
-use Rattle.mr_event.specs.declared.why.Why.TheVariants as why
-use Rattle.mr_model.specs.Packets.{Config}
-use Rattle.mr_model.specs.Hearing.{Phase, Finished, Stopped}
-use Rattle.mr_model.specs.World.{World, Event, Calm, Compute, ContainerStep, Deliver, Die, Duty, LaunchOn, duty, seen_by, wish_of}
-use Rattle.mr_model.specs.Effect.{addressee, not_now, wants_compute}
-use Rattle.mr_model.specs.Claims.{Limits, world_of}
-use Rattle.mr_model.specs.Sequential.{Job, Input, made_of, most_output}
-use Rattle.mr_model.specs.Wanted.{wanted}
-use Rattle.mr_model.specs.bridge.Works.{named}
+use Rattle.mr_world_events.specs.declared.why.Why.{Why}
+use Rattle.mr_world_events.specs.declared.why.Why.TheVariants as why
+use Rattle.mr_world_model.specs.Packets.{Config}
+use Rattle.mr_world_model.specs.Hearing.{Phase, Finished, Stopped}
+use Rattle.mr_world_model.specs.World.{World, Event, Calm, Compute, ContainerStep, Deliver, Die, Duty, LaunchOn, duty, seen_by, wish_of}
+use Rattle.mr_world_model.specs.Effect.{addressee, not_now, wants_compute}
+use Rattle.mr_world_model.specs.Claims.{Limits, world_of}
+use Rattle.mr_world_model.specs.Sequential.{Job, Input, made_of, most_output}
+use Rattle.mr_world_model.specs.Wanted.{wanted}
+use Rattle.mr_master_refinement.specs.Works.{named}
 use Rattle.mr_world.specs.declared.limits.TheConstants.{MAX_EVENTS}
 use Rattle.mr_world.specs.Readings.{input_in, living, next_living, wish_by}
 use Rattle.mr_script.specs.declared.command.Command.{Command}

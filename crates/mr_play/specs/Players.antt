@@ -2,22 +2,22 @@
 use Rattle.std.specs.Prelude.{◌≡◌, ◌+◌, ◌%◌, ℕ, suc, Bool, true, false, List, [], ◌∷◌, ◌++◌, Option, Some, None, Result, Ok, Err, IfSome}
 use Rattle.std.specs.Option.{option_and_then, option_to_list}
 use Rattle.mr_packet.specs.declared.packet.ContainerId.{ContainerId}
-use Rattle.mr_event.specs.declared.why.Why.{Why}
+use Rattle.mr_world_events.specs.declared.why.Why.{Why}
 use Rattle.mr_mapside.specs.declared.fault.WorkFault.{WorkFault}
-use Rattle.mr_model.specs.Packets.{Config}
-use Rattle.mr_model.specs.World.{World, Event, Calm, ContainerStep, Deliver, Duty, LaunchOn}
-use Rattle.mr_model.specs.Effect.{not_now}
-use Rattle.mr_model.specs.Claims.{Limits}
-use Rattle.mr_model.specs.Sequential.{Job, Input}
-use Rattle.mr_work.specs.Works as works
+use Rattle.mr_world_model.specs.Packets.{Config}
+use Rattle.mr_world_model.specs.World.{World, Event, Calm, ContainerStep, Deliver, Duty, LaunchOn}
+use Rattle.mr_world_model.specs.Effect.{not_now}
+use Rattle.mr_world_model.specs.Claims.{Limits}
+use Rattle.mr_world_model.specs.Sequential.{Job, Input}
+use Rattle.mr_container_work.specs.Works as works
 use Rattle.mr_script.specs.declared.event_name.EventName.{EventName}
 use Rattle.mr_script.specs.declared.event_name.EventName.TheVariants as name
 use Rattle.mr_world.specs.Journal.{world_in}
 use Rattle.mr_world.specs.Limits.{within}
 use Rattle.mr_play.specs.declared.calm.Coming.{Coming}
 use Rattle.mr_play.specs.declared.calm.Coming.TheVariants as coming
-use Rattle.mr_commands.specs.declared.fault.SimFault.{SimFault}
-use Rattle.mr_commands.specs.declared.fault.SimFault.TheVariants as fault
+use Rattle.mr_sim_commands.specs.declared.fault.SimFault.{SimFault}
+use Rattle.mr_sim_commands.specs.declared.fault.SimFault.TheVariants as fault
 use Rattle.mr_play.specs.declared.player.Player.{Player}
 use Rattle.mr_play.specs.declared.sources.Stretch.{Stretch}
 use Rattle.mr_play.specs.Text.{job_as}

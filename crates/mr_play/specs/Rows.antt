@@ -1,14 +1,14 @@
 -- What a few scripts make of a cluster, worked out: what the definitions come to.
 use Rattle.std.specs.Prelude.{◌≡◌, ℕ, true, List, [], ◌∷◌, ◌++◌, Some, None, codes}
 use Rattle.mr_ids.specs.declared.id.TaskKind.TheVariants.{Map}
-use Rattle.mr_event.specs.declared.why.Why.TheVariants.{WrongGeneration, NoMaster, NotRunning, NoPacket, NoDuty}
+use Rattle.mr_world_events.specs.declared.why.Why.TheVariants.{WrongGeneration, NoMaster, NotRunning, NoPacket, NoDuty}
 use Rattle.mr_script.specs.declared.command.Command.{Command}
 use Rattle.mr_script.specs.declared.command.Command.TheVariants as command
 use Rattle.mr_script.specs.declared.event_name.EventName.TheVariants as name
-use Rattle.mr_model.specs.Packets.{Config}
-use Rattle.mr_model.specs.World.{Event, Start, Crash, Duty, LaunchOn, Deliver, Calm, Unavailable}
-use Rattle.mr_model.specs.Claims.{Limits}
-use Rattle.mr_model.specs.Sequential.{Job}
+use Rattle.mr_world_model.specs.Packets.{Config}
+use Rattle.mr_world_model.specs.World.{Event, Start, Crash, Duty, LaunchOn, Deliver, Calm, Unavailable}
+use Rattle.mr_world_model.specs.Claims.{Limits}
+use Rattle.mr_world_model.specs.Sequential.{Job}
 use Rattle.mr_play.specs.Played.{begun, played, refused_line}
 
 -- a job of one map and one reduce on one node

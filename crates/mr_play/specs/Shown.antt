@@ -1,8 +1,8 @@
 -- What `play` shows behind what came of a script, where it is asked to: the history (our own profile). What stands before it is a trace, which the crate above says.
 use Rattle.std.specs.Prelude.{◌≡◌, ℕ, zero, suc, true, false, List, [], ◌∷◌, ◌++◌, length, codes, decimal}
 use Rattle.mr_history.specs.Reading.{records_of}
-use Rattle.mr_model.specs.Packets.{Config}
-use Rattle.mr_model.specs.Claims.{Limits}
+use Rattle.mr_world_model.specs.Packets.{Config}
+use Rattle.mr_world_model.specs.Claims.{Limits}
 use Rattle.mr_world.specs.Histories.{stable_bytes}
 use Rattle.mr_world.specs.Journal.{Journal, history_in, world_in}
 use Rattle.mr_world.specs.Limits.{within}

@@ -7,23 +7,23 @@ use Rattle.mr_user.specs.Codecs.{text_codec, number_codec, position_codec}
 use Rattle.mr_jobs.specs.WordCount.{word_count}
 use Rattle.mr_jobs.specs.MaxByKey.{max_by_key}
 use Rattle.mr_jobs.specs.LineIndex.{line_index}
-use Rattle.mr_model.specs.Packets.{Config}
-use Rattle.mr_model.specs.World.{World}
-use Rattle.mr_model.specs.Claims.{Limits}
-use Rattle.mr_model.specs.Sequential.{Job}
-use Rattle.mr_sequential.specs.Jobs.{job_of}
+use Rattle.mr_world_model.specs.Packets.{Config}
+use Rattle.mr_world_model.specs.World.{World}
+use Rattle.mr_world_model.specs.Claims.{Limits}
+use Rattle.mr_world_model.specs.Sequential.{Job}
+use Rattle.mr_world_files.specs.Jobs.{job_of}
 use Rattle.mr_world.specs.Journal.{Journal}
 use Rattle.mr_script.specs.declared.command.Command.{Command}
 use Rattle.mr_script.specs.Lines.{before, after, lines_of}
 use Rattle.mr_script.specs.Script.{AreCommands, IsFirstBad}
-use Rattle.mr_commands.specs.declared.fault.JobTextFault.{JobTextFault}
-use Rattle.mr_commands.specs.declared.fault.SimFault.{SimFault}
-use Rattle.mr_commands.specs.declared.fault.SimFault.TheVariants.{NoMemory, BadCommand, Full}
-use Rattle.mr_commands.specs.declared.fault.SimFault.TheVariants as fault
-use Rattle.mr_commands.specs.declared.job.submission.JobKind.{JobKind}
-use Rattle.mr_commands.specs.declared.job.submission.JobKind.TheVariants.{WordCount, MaxByKey, LineIndex}
-use Rattle.mr_commands.specs.declared.job.submission.Submission.{Submission}
-use Rattle.mr_commands.specs.job.Text.{submission_of}
+use Rattle.mr_sim_commands.specs.declared.fault.JobTextFault.{JobTextFault}
+use Rattle.mr_sim_commands.specs.declared.fault.SimFault.{SimFault}
+use Rattle.mr_sim_commands.specs.declared.fault.SimFault.TheVariants.{NoMemory, BadCommand, Full}
+use Rattle.mr_sim_commands.specs.declared.fault.SimFault.TheVariants as fault
+use Rattle.mr_sim_commands.specs.declared.job.submission.JobKind.{JobKind}
+use Rattle.mr_sim_commands.specs.declared.job.submission.JobKind.TheVariants.{WordCount, MaxByKey, LineIndex}
+use Rattle.mr_sim_commands.specs.declared.job.submission.Submission.{Submission}
+use Rattle.mr_sim_commands.specs.job.Text.{submission_of}
 use Rattle.mr_play.specs.declared.sources.Stretch.{Stretch}
 use Rattle.mr_play.specs.Played.{Played, begun, played}
 use Rattle.mr_play.specs.Sources.{stretches}

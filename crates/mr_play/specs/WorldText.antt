@@ -3,13 +3,13 @@ use Rattle.std.specs.Prelude.{ℕ, Bool, List, [], ◌∷◌, ◌++◌, map, Opt
 use Rattle.std.specs.List.{flat_map, range_with_len}
 use Rattle.mr_ids.specs.Attempt.{Attempt}
 use Rattle.mr_script.specs.Expected.{winner_word, marker_word, outcome_word}
-use Rattle.mr_model.specs.Ids.{Name, marker, reduce_of}
-use Rattle.mr_model.specs.Content.{entry_at, is_file}
-use Rattle.mr_model.specs.Packets.{Config}
-use Rattle.mr_model.specs.World.{World}
-use Rattle.mr_model.specs.Claims.{winner}
-use Rattle.mr_model.specs.Results.{outcome, visible}
-use Rattle.mr_commands.specs.seq.PartFiles.{file_text}
+use Rattle.mr_world_model.specs.Ids.{Name, marker, reduce_of}
+use Rattle.mr_world_model.specs.Content.{entry_at, is_file}
+use Rattle.mr_world_model.specs.Packets.{Config}
+use Rattle.mr_world_model.specs.World.{World}
+use Rattle.mr_world_model.specs.Claims.{winner}
+use Rattle.mr_world_model.specs.Results.{outcome, visible}
+use Rattle.mr_sim_commands.specs.seq.PartFiles.{file_text}
 
 -- a line for a reduce: its winner, if it has one
 abbrev pub line_of_winner : ℕ → Option Attempt → List ℕ

@@ -8,8 +8,8 @@ ghost use Rattle.mr_play.specs.Players.{state_in, Goes};
 
 use crate::memory::read;
 use crate::player::Player;
-use mr_commands::SimFault;
-use mr_event::Event;
+use mr_sim_commands::SimFault;
+use mr_world_events::Event;
 use std::alloc::Global;
 
 impl Player {

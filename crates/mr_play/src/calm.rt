@@ -2,11 +2,11 @@
 ghost use Rattle.std.specs.Prelude.{◌≡◌, ◌<◌, ◌%◌, ◌||◌, ℕ, false, Some, None, IfOk, IfErr, is_some, length};
 ghost use Rattle.std.specs.List.{slice_get};
 ghost use Rattle.std.specs.Option.{option_map};
-ghost use Rattle.mr_model.specs.Effect.{addressee};
+ghost use Rattle.mr_world_model.specs.Effect.{addressee};
 ghost use Rattle.mr_world.specs.Journal.{world_in};
 ghost use Rattle.mr_world.specs.Limits.{within};
 ghost use Rattle.mr_world.specs.Readings.{due_in};
-ghost use Rattle.mr_commands.specs.declared.fault.SimFault.TheVariants.{NoMemory};
+ghost use Rattle.mr_sim_commands.specs.declared.fault.SimFault.TheVariants.{NoMemory};
 ghost use Rattle.mr_play.specs.EventNames.{stops_at};
 ghost use Rattle.mr_play.specs.Text.{job_as};
 ghost use Rattle.mr_play.specs.Played.{cursor_at, is_dropped, is_through, most_calm, next_of, next_step};
@@ -15,13 +15,13 @@ ghost use Rattle.mr_play.specs.Players.{calm_of, cluster_in, next_in, CalmsOnce,
 use crate::event_names::{duty_event, wish_event};
 use crate::memory::read;
 use crate::player::Player;
-use mr_commands::SimFault;
-use mr_event::{Event, Weather};
 use mr_ids::TaskId;
 use mr_master_model::{DutyName, Phase};
 use mr_packet::ContainerId;
 use mr_script::EventName;
+use mr_sim_commands::SimFault;
 use mr_world::World;
+use mr_world_events::{Event, Weather};
 use std::alloc::Global;
 use std::collections::BTreeSet;
 

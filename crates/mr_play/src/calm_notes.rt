@@ -4,9 +4,9 @@ ghost use Rattle.std.specs.Prelude.{◌≡◌, IfErr};
 use crate::calm::MOST_CALM;
 use crate::player::Player;
 use itoa::Buffer;
-use mr_commands::SimFault;
 use mr_master_model::Phase;
 use mr_script::{EventName, event_word};
+use mr_sim_commands::SimFault;
 use std::alloc::AllocError;
 
 /// How a calm ended.

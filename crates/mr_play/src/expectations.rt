@@ -1,19 +1,19 @@
 //! What a script expects, and what is so.
 ghost use Rattle.std.specs.Prelude.{◌≡◌, ◌++◌, IfOk, IfErr, OnOk, nat_lt, if◌then◌else◌, codes};
 ghost use Rattle.std.specs.Str.{bytes_eq};
-ghost use Rattle.mr_model.specs.Claims.{winner};
-ghost use Rattle.mr_model.specs.Ids.{reduce_of};
+ghost use Rattle.mr_world_model.specs.Claims.{winner};
+ghost use Rattle.mr_world_model.specs.Ids.{reduce_of};
 ghost use Rattle.mr_script.specs.Expected.{subject_words, value_word, winner_word};
 ghost use Rattle.mr_world.specs.Journal.{world_in};
-ghost use Rattle.mr_commands.specs.declared.fault.SimFault.TheVariants.{NoMemory};
+ghost use Rattle.mr_sim_commands.specs.declared.fault.SimFault.TheVariants.{NoMemory};
 ghost use Rattle.mr_play.specs.Expectations.{unmet_line, value_in};
 
 use crate::memory::read;
 use crate::values::{put_marker, put_outcome, put_winner};
 use itoa::Buffer;
-use mr_commands::SimFault;
 use mr_ids::{TaskId, TaskKind};
 use mr_script::Expectation;
+use mr_sim_commands::SimFault;
 use mr_world::World;
 use std::alloc::{AllocError, Global};
 

@@ -7,15 +7,15 @@ ghost use Rattle.mr_user.specs.Computation.{computation};
 ghost use Rattle.mr_jobs.specs.LineIndex.{line_index};
 ghost use Rattle.mr_jobs.specs.MaxByKey.{max_by_key};
 ghost use Rattle.mr_jobs.specs.WordCount.{word_count};
-ghost use Rattle.mr_sequential.specs.Jobs.{LawsOf};
-ghost use Rattle.mr_commands.specs.job.Text.{Fails, submission_of};
+ghost use Rattle.mr_world_files.specs.Jobs.{LawsOf};
+ghost use Rattle.mr_sim_commands.specs.job.Text.{Fails, submission_of};
 ghost use Rattle.mr_play.specs.Faithful.{MarkedShowsSeq, RefusedIsNeverMarked, ScriptsAreFaithful};
 ghost use Rattle.mr_play.specs.Text.{job_line};
 
-use mr_commands::{SimFault, read_job_text};
 use mr_jobs::{LineIndex, MaxByKey, WordCount};
 use mr_script::split_once;
-use mr_sequential::jobs_have_their_laws;
+use mr_sim_commands::{SimFault, read_job_text};
+use mr_world_files::jobs_have_their_laws;
 use std::alloc::Global;
 
 /// The events of every script are faithful: whatever is handed in and taken is what the job's definition gives for that container's input.

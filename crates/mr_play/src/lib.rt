@@ -3,7 +3,7 @@
 //! # What is proved
 //!
 //! **What `play` prints** (`play`, for every input): exactly the text of the definitions (`PrintsPlay` of `specs/Text`). First stand the lines of refused
-//! events; then the winners, the marker, the outcome and the visible files. They are those of a cluster of `mr_model`: of the run that the events make
+//! events; then the winners, the marker, the outcome and the visible files. They are those of a cluster of `mr_world_model`: of the run that the events make
 //! which come of the script and its calms (`specs/Played`). What a container computes is what the job's definition makes of its input (`computed`).
 //!
 //! **What it refuses** (`PlayFails`): the first bad key of the job text is told, else the first bad line of the script. `Full` is told exactly where there

@@ -1,11 +1,11 @@
 //! A script that is played: a world, and how far the script is.
 ghost use Rattle.std.specs.Prelude.{◌≡◌, [], ◌∷◌, ◌++◌, length, Some, OnOk, IfOk, IfErr};
-ghost use Rattle.mr_commands.specs.declared.fault.SimFault.TheVariants.{NoMemory};
+ghost use Rattle.mr_sim_commands.specs.declared.fault.SimFault.TheVariants.{NoMemory};
 ghost use Rattle.mr_play.specs.Text.{config_of, job_as, played_of};
 ghost use Rattle.mr_play.specs.Played.{begun, computing, expecting, losing, made, most_calm, obeyed, played, stepped_by};
 ghost use Rattle.mr_play.specs.Players.{calm_of, cluster_in, state_in, Goes, GoesNoting, IsEvent, Applies};
 ghost use Rattle.mr_play.specs.Sources.{is_calm, stretch_of, stretches};
-ghost use Rattle.mr_commands.specs.job.Submission.{IsWithinLimits};
+ghost use Rattle.mr_sim_commands.specs.job.Submission.{IsWithinLimits};
 ghost use Rattle.mr_world.specs.Limits.{within};
 
 use crate::expectations::{is_expected, print_unmet, value_of};
@@ -13,11 +13,11 @@ use crate::memory::read;
 use crate::refused::print_refused;
 use crate::sources::{Source, Stretch};
 use crate::works::computed;
-use mr_commands::{JobKind, SimFault, Submission};
-use mr_event::{Event, Why};
 use mr_packet::ContainerId;
 use mr_script::{Command, EventName, Expectation};
+use mr_sim_commands::{JobKind, SimFault, Submission};
 use mr_world::{Config, World, WorldFault};
+use mr_world_events::{Event, Why};
 use std::alloc::{AllocError, Global};
 use std::collections::BTreeSet;
 

@@ -3,8 +3,8 @@ ghost use Rattle.std.specs.Prelude.{◌≡◌, ◌++◌, OnOk};
 ghost use Rattle.mr_play.specs.Played.{refused_line, task_fault_word, why_words};
 
 use itoa::Buffer;
-use mr_event::Why;
 use mr_task::TaskFault;
+use mr_world_events::Why;
 use std::alloc::AllocError;
 
 /// The variant of a task's fault.

@@ -1,12 +1,12 @@
 //! What is shown beside what `play` prints.
 ghost use Rattle.std.specs.Prelude.{◌≡◌, IfOk, IfErr};
-ghost use Rattle.mr_commands.specs.declared.fault.SimFault.TheVariants as fault;
+ghost use Rattle.mr_sim_commands.specs.declared.fault.SimFault.TheVariants as fault;
 ghost use Rattle.mr_play.specs.Shown.{HasText};
 
 use crate::histories::print_histories;
 use crate::player::Player;
 use crate::world_text::print_world;
-use mr_commands::SimFault;
+use mr_sim_commands::SimFault;
 
 /// What `play` shows beyond what came of the script.
 #[derive(Clone, Copy, Debug, PartialEq, Eq)]

@@ -4,19 +4,19 @@ ghost use Rattle.std.specs.Prelude.{◌≡◌, None, IfOk, IfErr};
 ghost use Rattle.mr_script.specs.Lines.{after, lines_of};
 ghost use Rattle.mr_script.specs.Script.{AreCommands};
 ghost use Rattle.mr_world.specs.Limits.{within};
-ghost use Rattle.mr_commands.specs.declared.fault.SimFault.TheVariants as fault;
+ghost use Rattle.mr_sim_commands.specs.declared.fault.SimFault.TheVariants as fault;
 ghost use Rattle.mr_play.specs.Text.{job_line, played_of, script_by, IsAsExpected, PlayFails, PrintsPlay};
 ghost use Rattle.mr_play.specs.Players.{FullWhere};
 ghost use Rattle.mr_play.specs.inner.PlaySteps.{HasPlayed, IsUnread};
 ghost use Rattle.mr_play.specs.Shown.{HasPrinted, text_in};
-ghost use Rattle.mr_commands.specs.job.Submission.{IsWithinLimits};
+ghost use Rattle.mr_sim_commands.specs.job.Submission.{IsWithinLimits};
 
 use crate::player::Player;
 use crate::printed::Printed;
 use crate::world_text::print_world;
-use mr_commands::{SimFault, Submission, read_job_text};
 use mr_ids::JobId;
 use mr_script::{Command as ScriptCommand, ScriptFault, commands_of, split_once};
+use mr_sim_commands::{SimFault, Submission, read_job_text};
 use std::alloc::Global;
 
 /// The job text, which is the first line, and the script behind it.

@@ -1,23 +1,23 @@
 //! The works of containers: what a container computes from its input.
 ghost use Rattle.std.specs.Prelude.{◌≡◌, Some};
 ghost use Rattle.std.specs.Option.{option_map};
-ghost use Rattle.mr_model.specs.Sequential.{made_of};
-ghost use Rattle.mr_sequential.specs.Jobs.{job_of};
-ghost use Rattle.mr_model.specs.Claims.{Limits};
+ghost use Rattle.mr_world_model.specs.Sequential.{made_of};
+ghost use Rattle.mr_world_files.specs.Jobs.{job_of};
+ghost use Rattle.mr_world_model.specs.Claims.{Limits};
 ghost use Rattle.mr_user.specs.Computation.{computation};
 ghost use Rattle.mr_world.specs.Readings.{as_input};
 ghost use Rattle.mr_play.specs.Text.{job_as};
 ghost use Rattle.mr_play.specs.Played.{computed_of};
 ghost use Rattle.mr_play.specs.Players.{IsEvent, IsShort, Works};
 
-use mr_commands::{JobKind, SimFault};
-use mr_event::Event;
+use mr_container_work::{work_of_map, work_of_reduce};
 use mr_jobs::{LineIndex, MaxByKey, WordCount};
 use mr_mapside::WorkFault;
 use mr_packet::{Bytes, ContainerId};
+use mr_sim_commands::{JobKind, SimFault};
 use mr_user::{Job, OpenGate};
-use mr_work::{work_of_map, work_of_reduce};
 use mr_world::{Config, Input};
+use mr_world_events::Event;
 use std::alloc::Global;
 
 /// The event of a container's `compute`. Its bytes are handed in, and these are no bytes where it has no input. It

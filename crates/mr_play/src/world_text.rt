@@ -3,15 +3,15 @@ ghost use Rattle.std.specs.Prelude.{◌≡◌, ◌++◌, map, IfErr, OnOk};
 ghost use Rattle.std.specs.List.{flat_map};
 ghost use Rattle.mr_world.specs.Journal.{world_in};
 ghost use Rattle.mr_world.specs.VisibleFiles.{as_pair};
-ghost use Rattle.mr_commands.specs.declared.fault.SimFault.TheVariants.{NoMemory};
+ghost use Rattle.mr_sim_commands.specs.declared.fault.SimFault.TheVariants.{NoMemory};
 ghost use Rattle.mr_play.specs.WorldText.{line_of_marker, line_of_outcome, line_of_winner, visible_text, won_in, world_text};
 ghost use Rattle.mr_play.specs.inner.PlaySteps.{winners_text};
 
 use crate::memory::read;
 use crate::values::{put_marker, put_outcome, put_winner};
 use itoa::Buffer;
-use mr_commands::{SimFault, print_file};
 use mr_ids::AttemptId;
+use mr_sim_commands::{SimFault, print_file};
 use mr_world::{VisibleFile, World};
 use std::alloc::AllocError;
 

@@ -1,6 +1,6 @@
 -- The first word of a command, and what stands after it. Our own format.
 use Rattle.std.specs.Prelude.{Bool, true, false, ℕ, List, codes, Option, Some, None}
-use Rattle.mr_event.specs.declared.event.Event.TheVariants as event
+use Rattle.mr_world_events.specs.declared.event.Event.TheVariants as event
 use Rattle.mr_script.specs.declared.command.Command.{Command}
 use Rattle.mr_script.specs.declared.command.Command.TheVariants as command
 use Rattle.mr_script.specs.declared.line.Verb.{Verb}

@@ -3,16 +3,16 @@ ghost use Rattle.std.specs.Prelude.{◌≡◌, ◌<◌, ◌^◌, ℕ, IfSome, If
 ghost use Rattle.mr_ids.specs.declared.id.TaskId as task;
 ghost use Rattle.mr_ids.specs.declared.id.TaskKind as kind;
 ghost use Rattle.mr_packet.specs.declared.packet.ContainerId as container;
-ghost use Rattle.mr_event.specs.declared.event.Weather as weather;
+ghost use Rattle.mr_world_events.specs.declared.event.Weather as weather;
 ghost use Rattle.mr_script.specs.declared.event_name.EventName as name;
 ghost use Rattle.mr_script.specs.Script.{IsGeneration, IsContainer, IsTaskOf};
 ghost use Rattle.mr_script.specs.Words.{with_word, kind_word, task_words, container_word, and_words, fault_word, stop_words};
 
 use crate::event_name::{EventName, event_named};
 use crate::word::{container, generation, long_number, number, split_once};
-use mr_event::Weather;
 use mr_ids::{AppAttempt, JobId, TaskId, TaskKind};
 use mr_packet::ContainerId;
+use mr_world_events::Weather;
 
 /// A generation, and a number below 2^64.
 pub fn with_long(rest: &[u8]) -> Option<(AppAttempt, u64)>

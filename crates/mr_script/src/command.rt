@@ -1,8 +1,8 @@
 //! What a line of a script says: that an event happens, that a container computes, that a calm begins, that a packet is lost, or what is expected.
 use crate::event_name::EventName;
 use crate::expectation::Expectation;
-use mr_event::Event;
 use mr_packet::ContainerId;
+use mr_world_events::Event;
 
 /// A command of a script.
 #[derive(Drop)]

@@ -8,8 +8,8 @@ use crate::arguments::{calming, launching, stepping, with_fault, with_long, with
 use crate::command::Command;
 use crate::expectation::expected;
 use crate::word::{container, long_number, number, split_once};
-use mr_event::Event;
 use mr_ids::JobId;
+use mr_world_events::Event;
 
 /// The first word of a command.
 #[derive(Clone, Copy, Debug, PartialEq, Eq)]

@@ -1,10 +1,10 @@
 -- The faults of each subcommand are faults of the text.
 use Rattle.std.proofs.Common.{ℕ, Bool, List, Result, Ok, Err, IfErr}
 use Rattle.mr_threads.specs.mr_world.specs.Limits.{within}
-use Rattle.mr_commands.specs.declared.fault.SimFault.{SimFault}
-use Rattle.mr_commands.specs.declared.fault.SimFault.TheVariants.{NoMemory, Read, Write, TooLong, BadCommand, BadRecord, Job, Refused, Full, JobFailed, TurnsSpent, JournalMismatch, Thread}
-use Rattle.mr_commands.specs.Faults.{CommitterFails, HistoryFails, SeqFails}
-use Rattle.mr_drawing.specs.declared.part.Part.{Part}
+use Rattle.mr_sim_commands.specs.declared.fault.SimFault.{SimFault}
+use Rattle.mr_sim_commands.specs.declared.fault.SimFault.TheVariants.{NoMemory, Read, Write, TooLong, BadCommand, BadRecord, Job, Refused, Full, JobFailed, TurnsSpent, JournalMismatch, Thread}
+use Rattle.mr_sim_commands.specs.Faults.{CommitterFails, HistoryFails, SeqFails}
+use Rattle.mr_trace_svg.specs.declared.part.Part.{Part}
 use Rattle.mr_threads.specs.mr_play.specs.declared.shown.Shown.{Shown}
 use Rattle.mr_threads.specs.mr_play.specs.Text.{PlayFails}
 use Rattle.mr_sim.specs.declared.subcommand.Command.TheVariants.{Committer, Play, PlayShown, PlayDrawn, PlayJson, History, HistoryJson, Seq, Threads, ThreadsSeen, Explore}

@@ -2,9 +2,9 @@
 use Rattle.std.specs.Prelude.{ℕ}
 use Rattle.mr_sim.specs.declared.ending.Ending.{Ending}
 use Rattle.mr_sim.specs.declared.ending.Ending.TheVariants.{Done, Unmet, Helped, RefusedWords, Failed}
-use Rattle.mr_commands.specs.declared.fault.SimFault.{SimFault}
-use Rattle.mr_commands.specs.declared.fault.SimFault.TheVariants.{NoMemory, Read, Write, TooLong, BadCommand, BadRecord, Job, Refused, Full, JobFailed, TurnsSpent, JournalMismatch, Thread}
-use Rattle.mr_commands.specs.Faults.{status_of}
+use Rattle.mr_sim_commands.specs.declared.fault.SimFault.{SimFault}
+use Rattle.mr_sim_commands.specs.declared.fault.SimFault.TheVariants.{NoMemory, Read, Write, TooLong, BadCommand, BadRecord, Job, Refused, Full, JobFailed, TurnsSpent, JournalMismatch, Thread}
+use Rattle.mr_sim_commands.specs.Faults.{status_of}
 
 -- the exit status of the program by how it ended
 abbrev pub exit_status_of : Ending → ℕ

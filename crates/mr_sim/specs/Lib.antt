@@ -1,4 +1,4 @@
--- What each subcommand of `mrsim` prints, and which faults it answers: Printed, whose words stand in mr_commands and mr_play. Expected has what
+-- What each subcommand of `mrsim` prints, and which faults it answers: Printed, whose words stand in mr_sim_commands and mr_play. Expected has what
 -- scripts expect, Fault the exit statuses, and Laws what follows.
 pub mod Expected
 pub mod Fault

@@ -4,22 +4,22 @@ use Rattle.std.specs.Io.KnownBytes.{Appends}
 use Rattle.mr_history.specs.Reading.{bad_line}
 use Rattle.mr_script.specs.Lines.{lines_of}
 use Rattle.mr_threads.specs.mr_world.specs.Limits.{within}
-use Rattle.mr_commands.specs.declared.fault.JobTextFault.{JobTextFault}
-use Rattle.mr_commands.specs.declared.fault.SimFault.{SimFault}
-use Rattle.mr_commands.specs.declared.fault.SimFault.TheVariants.{NoMemory, Read, Write, TooLong, BadCommand, BadRecord, Job, Refused, Full, JobFailed, TurnsSpent, JournalMismatch, Thread}
+use Rattle.mr_sim_commands.specs.declared.fault.JobTextFault.{JobTextFault}
+use Rattle.mr_sim_commands.specs.declared.fault.SimFault.{SimFault}
+use Rattle.mr_sim_commands.specs.declared.fault.SimFault.TheVariants.{NoMemory, Read, Write, TooLong, BadCommand, BadRecord, Job, Refused, Full, JobFailed, TurnsSpent, JournalMismatch, Thread}
 use Rattle.mr_sim.specs.declared.subcommand.Command.{Command}
 use Rattle.mr_sim.specs.declared.subcommand.Command.TheVariants.{Committer, Play, PlayShown, PlayDrawn, PlayJson, History, HistoryJson, Seq, Threads, ThreadsSeen, Explore}
-use Rattle.mr_commands.specs.committer.Script.{IsFirstBad}
-use Rattle.mr_commands.specs.committer.Text.{PrintsCommitter}
-use Rattle.mr_commands.specs.history.Text.{PrintsHistory}
-use Rattle.mr_commands.specs.job.Text.{submission_of}
+use Rattle.mr_sim_commands.specs.committer.Script.{IsFirstBad}
+use Rattle.mr_sim_commands.specs.committer.Text.{PrintsCommitter}
+use Rattle.mr_sim_commands.specs.history.Text.{PrintsHistory}
+use Rattle.mr_sim_commands.specs.job.Text.{submission_of}
 use Rattle.mr_explore.specs.Explored.{IsFullExplored, PrintsExplored}
-use Rattle.mr_threads.specs.mr_json.specs.Plays.{TellsPlay}
-use Rattle.mr_threads.specs.mr_json.specs.Segments.{TellsHistory}
+use Rattle.mr_threads.specs.mr_trace_json.specs.Plays.{TellsPlay}
+use Rattle.mr_threads.specs.mr_trace_json.specs.Segments.{TellsHistory}
 use Rattle.mr_threads.specs.mr_play.specs.Shown.{Draws}
 use Rattle.mr_threads.specs.mr_trace.specs.Shown.{Shows}
 use Rattle.mr_threads.specs.mr_play.specs.Text.{PrintsPlay, IsBadPlayJob, IsBadPlayLine, IsFullPlay}
-use Rattle.mr_commands.specs.seq.Text.{PrintsSeq, RefusesSeq}
+use Rattle.mr_sim_commands.specs.seq.Text.{PrintsSeq, RefusesSeq}
 use Rattle.mr_threads.specs.Runs.{IsRead}
 use Rattle.mr_threads.specs.Text.{HasFailed, ShowsRun}
 

@@ -2,7 +2,7 @@
 ghost use Rattle.std.specs.Prelude.{◌≡◌};
 ghost use Rattle.mr_sim.specs.Fault.{exit_status_of};
 
-use mr_commands::SimFault;
+use mr_sim_commands::SimFault;
 
 /// How the program ended.
 #[derive(Clone, Copy, Debug, PartialEq, Eq)]

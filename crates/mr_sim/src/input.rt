@@ -2,7 +2,7 @@
 ghost use Rattle.std.specs.Prelude.{◌≡◌, ◌<◌, ◌≤◌, ◌^◌, IfOk, IfErr, IfSome, IsErrOf, length, vec_len};
 ghost use Rattle.mr_sim.specs.Fault.{IsReadFault};
 
-use mr_commands::SimFault;
+use mr_sim_commands::SimFault;
 use std::alloc::Global;
 use std::io::{ErrorKind, Read};
 

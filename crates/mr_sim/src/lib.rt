@@ -1,5 +1,5 @@
 //! The simulator: what `mrsim` reads and writes. The subcommands stand beneath it. Those that need no cluster are in
-//! mr_commands, `play` is in mr_play, and what is shown beside it in mr_trace, mr_picture and mr_json. `explore` is
+//! mr_sim_commands, `play` is in mr_play, and what is shown beside it in mr_trace, mr_trace_picture and mr_trace_json. `explore` is
 //! in mr_explore, and `threads` in mr_threads.
 //!
 //! # What is proved
@@ -18,9 +18,9 @@
 //! | `history` | the records of the segment's whole lines, and the number of torn bytes |
 //! | `seq` | the sequential execution of the job that the text submits: for each reduce, by rising name, `== `, the part file's name and length, and its bytes |
 //! | `play` | what came of the run of the cluster that a script and its calms make |
-//! | `play` with a trace, the history or a picture | what mr_trace, mr_play and mr_picture say of that run |
-//! | `play` and `history` as lines of JSON | what mr_json says of the run and of the segment |
-//! | `explore` | what mr_ends and mr_end_lines say of the ends of all runs of the input with at most as many faults as are asked for |
+//! | `play` with a trace, the history or a picture | what mr_trace, mr_play and mr_trace_picture say of that run |
+//! | `play` and `history` as lines of JSON | what mr_trace_json says of the run and of the segment |
+//! | `explore` | what mr_explore_ends and mr_explore_lines say of the ends of all runs of the input with at most as many faults as are asked for |
 //! | `threads` | what `seq` prints for the job text; what is shown of a run in its place is what mr_threads says of it |
 //!
 //! **`run_streams`, from a reader to a writer**: reads all, answers, writes all. Proved, for every reader and writer that tell
@@ -53,7 +53,7 @@
 //! **`run_with_help`** is the call that `mrsim` makes, and `run_with_remarks` hands on to it. It has the same clauses. Where there is a fault it hands out
 //! beside it what was expected in place of what is bad (`Refusal`). The fault is the contract. What the help says is in no clause, and takes no memory.
 //!
-//! Each input has at most one text, by the laws of mr_commands and mr_play. No input is both printed and refused, by
+//! Each input has at most one text, by the laws of mr_sim_commands and mr_play. No input is both printed and refused, by
 //! any subcommand (`printed_or_refused`). Where there is a text for an input of at most 2^24 bytes, the clause
 //! `fault` leaves only `NoMemory`, `Read` and `Write`. There are two exceptions. Where runs are made once more, it
 //! leaves `JournalMismatch` too. Where threads run a job, whether there is a run and whether it fails depends on the
@@ -83,12 +83,12 @@ mod subcommand;
 
 pub use ending::{Ending, exit_status};
 pub use laws::printed_or_refused;
-pub use mr_commands::{JobTextFault, SimFault};
-pub use mr_drawing::Part;
-pub use mr_ends::is_goal;
 pub use mr_explore::{Asked, Form};
+pub use mr_explore_ends::is_goal;
+pub use mr_sim_commands::{JobTextFault, SimFault};
 pub use mr_threads::Seen;
 pub use mr_threads::mr_play::Shown;
+pub use mr_trace_svg::Part;
 pub use refusal::{Help, Refusal};
 pub use remarks::{Remarks, run_with_help, run_with_remarks};
 pub use subcommand::{Command, answer, run, run_streams};

@@ -2,8 +2,8 @@
 ghost use Rattle.std.specs.Prelude.{◌≡◌};
 
 use crate::subcommand::Command;
-use mr_commands::{JobTextFault, SimFault};
-use mr_hint::{Hint, Script, hint_of};
+use mr_sim_commands::{JobTextFault, SimFault};
+use mr_sim_hints::{Hint, Script, hint_of};
 use std::fmt;
 
 /// What was expected in place of what is bad. It is written as a line, without a line feed.

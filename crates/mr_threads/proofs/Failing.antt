@@ -1,9 +1,9 @@
 -- Why threads print nothing.
 use Rattle.std.proofs.Common.{◌≡◌, ℕ, Bool, true, false, List}
-use Rattle.mr_drive.specs.mr_report.specs.declared.report.Report.{Report}
-use Rattle.mr_commands.specs.declared.fault.SimFault.{SimFault}
-use Rattle.mr_commands.specs.declared.fault.SimFault.TheVariants.{NoMemory, Read, Write, TooLong, BadCommand, BadRecord, Job, Refused, Full, JobFailed, TurnsSpent, JournalMismatch, Thread}
-use Rattle.mr_commands.specs.job.Text.{submission_of, Fails}
+use Rattle.mr_drive.specs.mr_board_report.specs.declared.report.Report.{Report}
+use Rattle.mr_sim_commands.specs.declared.fault.SimFault.{SimFault}
+use Rattle.mr_sim_commands.specs.declared.fault.SimFault.TheVariants.{NoMemory, Read, Write, TooLong, BadCommand, BadRecord, Job, Refused, Full, JobFailed, TurnsSpent, JournalMismatch, Thread}
+use Rattle.mr_sim_commands.specs.job.Text.{submission_of, Fails}
 use Rattle.mr_threads.specs.Runs.{IsRead, Reports}
 use Rattle.mr_threads.specs.Text.{HasFailed, ShownFails, ThreadsFail}
 use Rattle.mr_threads.specs.inner.{IsOfThreads}

@@ -2,20 +2,20 @@
 use Rattle.std.proofs.Common.{◌≡◌, ℕ, ◌+◌, true, List, [], ◌∷◌, ◌++◌, map, Ok, refl, sym, ap, subst, ◌∙◌, append_assoc}
 use Rattle.std.specs.List.{flat_map, range_with_len}
 use Rattle.mr_paths.specs.Layout as layout
-use Rattle.mr_model.specs.Claims.{IsMarked}
-use Rattle.mr_model.specs.Packets.{Config}
-use Rattle.mr_model.specs.World.{World}
-use Rattle.mr_model.specs.Results.{outcome, visible}
-use Rattle.mr_sequential.specs.Shown.{named, ShowsSequential}
+use Rattle.mr_world_model.specs.Claims.{IsMarked}
+use Rattle.mr_world_model.specs.Packets.{Config}
+use Rattle.mr_world_model.specs.World.{World}
+use Rattle.mr_world_model.specs.Results.{outcome, visible}
+use Rattle.mr_world_files.specs.Shown.{named, ShowsSequential}
 use Rattle.mr_trace.specs.mr_world.specs.Journal.{Journal, world_in}
 use Rattle.mr_trace.specs.mr_world.specs.VisibleFiles.{as_pair}
-use Rattle.mr_drive.specs.mr_report.specs.declared.report.Report.{Report}
-use Rattle.mr_commands.specs.declared.job.submission.JobKind.{JobKind}
-use Rattle.mr_commands.specs.declared.job.submission.JobKind.TheVariants.{WordCount, MaxByKey, LineIndex}
-use Rattle.mr_commands.specs.declared.job.submission.Submission.{Submission}
-use Rattle.mr_commands.specs.job.Text.{submission_of}
-use Rattle.mr_commands.specs.seq.PartFiles.{part_files_text}
-use Rattle.mr_commands.specs.seq.Text.{output_of, PrintsSeq}
+use Rattle.mr_drive.specs.mr_board_report.specs.declared.report.Report.{Report}
+use Rattle.mr_sim_commands.specs.declared.job.submission.JobKind.{JobKind}
+use Rattle.mr_sim_commands.specs.declared.job.submission.JobKind.TheVariants.{WordCount, MaxByKey, LineIndex}
+use Rattle.mr_sim_commands.specs.declared.job.submission.Submission.{Submission}
+use Rattle.mr_sim_commands.specs.job.Text.{submission_of}
+use Rattle.mr_sim_commands.specs.seq.PartFiles.{part_files_text}
+use Rattle.mr_sim_commands.specs.seq.Text.{output_of, PrintsSeq}
 use Rattle.mr_trace.specs.mr_play.specs.Text.{job_as, config_of}
 use Rattle.mr_trace.specs.mr_play.specs.WorldText.{visible_text, winner_line, marker_line, outcome_line, line_of_marker, world_text}
 use Rattle.mr_threads.specs.declared.seen.Seen.{Seen}

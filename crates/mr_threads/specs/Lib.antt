@@ -4,7 +4,7 @@ pub mod Text
 pub mod inner
 -- Crates beneath that this one gives on. The crates above name them through it.
 pub use Rattle.mr_trace
-pub use Rattle.mr_picture
-pub use Rattle.mr_json
+pub use Rattle.mr_trace_picture
+pub use Rattle.mr_trace_json
 pub use Rattle.mr_trace.specs.mr_play
 pub use Rattle.mr_trace.specs.mr_world

@@ -1,17 +1,17 @@
 -- A run that threads made of a job: a list of events that came to its end, whatever the schedule was (our own profile).
 use Rattle.std.specs.Prelude.{◌≡◌, true, ℕ, List, map, Some, Ok}
-use Rattle.mr_model.specs.Claims.{IsMarked}
-use Rattle.mr_model.specs.Packets.{Config}
-use Rattle.mr_model.specs.Results.{outcome, visible}
-use Rattle.mr_model.specs.Sequential.{Job, IsFaithful}
-use Rattle.mr_sequential.specs.Shown.{ShowsSequential}
+use Rattle.mr_world_model.specs.Claims.{IsMarked}
+use Rattle.mr_world_model.specs.Packets.{Config}
+use Rattle.mr_world_model.specs.Results.{outcome, visible}
+use Rattle.mr_world_model.specs.Sequential.{Job, IsFaithful}
+use Rattle.mr_world_files.specs.Shown.{ShowsSequential}
 use Rattle.mr_trace.specs.mr_world.specs.Journal.{Journal, world_in}
 use Rattle.mr_trace.specs.mr_world.specs.Limits.{within}
 use Rattle.mr_trace.specs.mr_world.specs.VisibleFiles.{as_pair}
-use Rattle.mr_drive.specs.mr_report.specs.Reports.{IsThrough}
-use Rattle.mr_drive.specs.mr_report.specs.declared.report.Report.{Report}
-use Rattle.mr_commands.specs.declared.job.submission.Submission.{Submission}
-use Rattle.mr_commands.specs.job.Text.{submission_of}
+use Rattle.mr_drive.specs.mr_board_report.specs.Reports.{IsThrough}
+use Rattle.mr_drive.specs.mr_board_report.specs.declared.report.Report.{Report}
+use Rattle.mr_sim_commands.specs.declared.job.submission.Submission.{Submission}
+use Rattle.mr_sim_commands.specs.job.Text.{submission_of}
 use Rattle.mr_trace.specs.mr_play.specs.Text.{job_as, config_of}
 
 -- a run of a job: each result in it is what the job's functions give, and an outcome was told or the newest master is Stopped

@@ -1,13 +1,13 @@
 -- What `threads` shows of a run, and why there is none (our own profile). Where the job succeeded it prints what `seq` prints.
 use Rattle.std.specs.Prelude.{◌≡◌, true, false, ℕ, List, [], ◌++◌, Some, Ok, Err}
-use Rattle.mr_model.specs.Claims.{IsMarked}
-use Rattle.mr_model.specs.Results.{outcome}
+use Rattle.mr_world_model.specs.Claims.{IsMarked}
+use Rattle.mr_world_model.specs.Results.{outcome}
 use Rattle.mr_trace.specs.mr_world.specs.Journal.{Journal, world_in}
-use Rattle.mr_commands.specs.declared.fault.SimFault.{SimFault}
-use Rattle.mr_commands.specs.declared.fault.SimFault.TheVariants.{NoMemory, Job, Full, JobFailed, TurnsSpent, JournalMismatch, Thread}
-use Rattle.mr_commands.specs.declared.job.submission.Submission.{Submission}
-use Rattle.mr_commands.specs.job.Text.{submission_of}
-use Rattle.mr_commands.specs.seq.Text.{PrintsSeq}
+use Rattle.mr_sim_commands.specs.declared.fault.SimFault.{SimFault}
+use Rattle.mr_sim_commands.specs.declared.fault.SimFault.TheVariants.{NoMemory, Job, Full, JobFailed, TurnsSpent, JournalMismatch, Thread}
+use Rattle.mr_sim_commands.specs.declared.job.submission.Submission.{Submission}
+use Rattle.mr_sim_commands.specs.job.Text.{submission_of}
+use Rattle.mr_sim_commands.specs.seq.Text.{PrintsSeq}
 use Rattle.mr_trace.specs.mr_play.specs.declared.shown.Shown.{Shown}
 use Rattle.mr_trace.specs.mr_play.specs.Faithful.{IsMarkedText}
 use Rattle.mr_trace.specs.mr_play.specs.Shown.{IsHistory}
@@ -15,8 +15,8 @@ use Rattle.mr_trace.specs.mr_play.specs.Text.{config_of, job_as}
 use Rattle.mr_trace.specs.mr_play.specs.WorldText.{world_text}
 use Rattle.mr_trace.specs.Happened.{by_threads}
 use Rattle.mr_trace.specs.Trace.{trace_text}
-use Rattle.mr_repeat.specs.Repeating.{commented, repeating}
-use Rattle.mr_json.specs.Endings.{json_text}
+use Rattle.mr_script_writer.specs.Repeating.{commented, repeating}
+use Rattle.mr_trace_json.specs.Endings.{json_text}
 use Rattle.mr_threads.specs.Runs.{IsRead, IsRun}
 use Rattle.mr_threads.specs.declared.seen.Seen.{Seen}
 use Rattle.mr_threads.specs.declared.seen.Seen.TheVariants as seen

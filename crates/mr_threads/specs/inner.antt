@@ -1,6 +1,6 @@
 -- Words for private contracts and for proofs. No public clause cites them.
-use Rattle.mr_commands.specs.declared.fault.SimFault.{SimFault}
-use Rattle.mr_commands.specs.declared.fault.SimFault.TheVariants.{NoMemory, Full, TurnsSpent, JournalMismatch, Thread}
+use Rattle.mr_sim_commands.specs.declared.fault.SimFault.{SimFault}
+use Rattle.mr_sim_commands.specs.declared.fault.SimFault.TheVariants.{NoMemory, Full, TurnsSpent, JournalMismatch, Thread}
 -- of mr_play: a tactic names a word by a module of a crate that crates.txt lists, or of its own
 unfoldable pub use Rattle.mr_trace.specs.mr_play.specs.Text.{job_as}
 

@@ -1,19 +1,19 @@
 //! The job of a job text, run by threads.
 ghost use Rattle.std.specs.Prelude.{◌≡◌, IfOk, IfErr};
 ghost use Rattle.mr_user.specs.Computation.{computation};
-ghost use Rattle.mr_sequential.specs.Jobs.{job_of};
-ghost use Rattle.mr_commands.specs.job.Submission.{IsWithinLimits};
+ghost use Rattle.mr_world_files.specs.Jobs.{job_of};
+ghost use Rattle.mr_sim_commands.specs.job.Submission.{IsWithinLimits};
 ghost use Rattle.mr_trace.specs.mr_play.specs.Text.{config_of, job_as};
 ghost use Rattle.mr_threads.specs.Runs.{IsReportOf, Reports};
 ghost use Rattle.mr_threads.specs.Text.{ShownFails};
 ghost use Rattle.mr_threads.specs.inner.{IsOfThreads};
 
-use mr_commands::{JobKind, SimFault, Submission, read_job_text};
 use mr_drive::{DriveFault, PairGate, Plan, Report, drive};
 use mr_jobs::{LineIndex, MaxByKey, WordCount};
-use mr_sequential::{jobs_have_their_laws, marked_worlds_show_sequential_files};
+use mr_sim_commands::{JobKind, SimFault, Submission, read_job_text};
 use mr_trace::mr_world::Config;
 use mr_user::{Gate, Job, OpenGate};
+use mr_world_files::{jobs_have_their_laws, marked_worlds_show_sequential_files};
 use std::alloc::AllocGlobal;
 use std::rt::Clock;
 use std::sync::Wait;

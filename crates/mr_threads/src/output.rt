@@ -2,12 +2,12 @@
 ghost use Rattle.std.specs.Prelude.{◌≡◌, IfOk, IfErr, map};
 ghost use Rattle.std.specs.List.{flat_map};
 ghost use Rattle.mr_trace.specs.mr_world.specs.VisibleFiles.{as_pair};
-ghost use Rattle.mr_commands.specs.seq.Text.{PrintsSeq};
+ghost use Rattle.mr_sim_commands.specs.seq.Text.{PrintsSeq};
 ghost use Rattle.mr_trace.specs.mr_play.specs.WorldText.{visible_text};
 ghost use Rattle.mr_threads.specs.Text.{ShownFails, ThreadsFail};
 
 use crate::driven::{Manner, driven};
-use mr_commands::{SimFault, print_file, read_job_text};
+use mr_sim_commands::{SimFault, print_file, read_job_text};
 use mr_trace::mr_world::VisibleFile;
 use std::alloc::{AllocError, AllocGlobal, Global};
 use std::rt::Clock;

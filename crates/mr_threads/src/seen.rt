@@ -1,20 +1,20 @@
 //! What is shown of a run that threads made.
 ghost use Rattle.std.specs.Prelude.{◌≡◌, ◌++◌, [], true, false, IfOk, IfErr};
-ghost use Rattle.mr_commands.specs.declared.fault.SimFault.TheVariants.{NoMemory};
+ghost use Rattle.mr_sim_commands.specs.declared.fault.SimFault.TheVariants.{NoMemory};
 ghost use Rattle.mr_threads.specs.Text.{ShownFails, ShowsRun, Tells, TellsRun, text_of_run};
-ghost use Rattle.mr_repeat.specs.Repeating.{commented, repeating};
+ghost use Rattle.mr_script_writer.specs.Repeating.{commented, repeating};
 ghost use Rattle.mr_trace.specs.Happened.{by_threads};
 ghost use Rattle.mr_trace.specs.Trace.{trace_text};
 
 use crate::driven::{Manner, driven};
-use mr_commands::SimFault;
-use mr_drawing::Part;
-use mr_json::json_of;
-use mr_picture::drawn;
-use mr_repeat::{put_comments, put_script};
+use mr_script_writer::{put_comments, put_script};
+use mr_sim_commands::SimFault;
 use mr_trace::mr_play::{Shown, print_histories, print_world};
 use mr_trace::mr_world::World;
 use mr_trace::{Makers, trace_of};
+use mr_trace_json::json_of;
+use mr_trace_picture::drawn;
+use mr_trace_svg::Part;
 use std::alloc::{AllocGlobal, Global};
 use std::rt::Clock;
 use std::sync::Wait;

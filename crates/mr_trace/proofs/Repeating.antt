@@ -1,12 +1,12 @@
 -- The events of a journal happen once more.
 use Rattle.std.proofs.Common.{◌≡◌, ◌<◌, ◌∙◌, ℕ, suc, true, false, Bool, List, [], ◌∷◌, ◌++◌, Option, Some, None, length, drop, drop-cons, get_or, sym, ap, subst}
-use Rattle.mr_event.specs.declared.event.Event.{Event}
-use Rattle.mr_event.specs.declared.why.Why.{Why}
-use Rattle.mr_model.specs.Packets.{Config}
-use Rattle.mr_model.specs.Effect.{not_now}
-use Rattle.mr_play.specs.mr_parts.specs.declared.fault.WorldFault.{WorldFault}
-use Rattle.mr_play.specs.mr_parts.specs.declared.fault.WorldFault.TheVariants as fault
-use Rattle.mr_play.specs.mr_parts.specs.Standing.{Refuses}
+use Rattle.mr_world_events.specs.declared.event.Event.{Event}
+use Rattle.mr_world_events.specs.declared.why.Why.{Why}
+use Rattle.mr_world_model.specs.Packets.{Config}
+use Rattle.mr_world_model.specs.Effect.{not_now}
+use Rattle.mr_play.specs.mr_world_state.specs.declared.fault.WorldFault.{WorldFault}
+use Rattle.mr_play.specs.mr_world_state.specs.declared.fault.WorldFault.TheVariants as fault
+use Rattle.mr_play.specs.mr_world_state.specs.Standing.{Refuses}
 use Rattle.mr_play.specs.mr_world.specs.Applying.{CanHappen, IsRefused}
 use Rattle.mr_play.specs.mr_world.specs.Journal.{Journal, world_in, fits, fits_first}
 use Rattle.mr_play.specs.mr_world.specs.Repeating.{CanFollow}

@@ -2,7 +2,7 @@
 use Rattle.std.proofs.Common.{◌≡◌, ◌++◌, ◌∷◌, [], ℕ, List, drop, length, sym, ap, ◌∙◌, append_assoc}
 use Rattle.std.proofs.Math.Seq.{drop-append_seam}
 use Rattle.mr_packet.specs.declared.packet.Envelope.{Envelope}
-use Rattle.mr_event.specs.declared.event.Event.{Event}
+use Rattle.mr_world_events.specs.declared.event.Event.{Event}
 use Rattle.mr_play.specs.mr_world.specs.Journal.{Journal}
 use Rattle.mr_trace.specs.declared.makers.Maker.{Maker}
 use Rattle.mr_trace.specs.Happened.{Happened, happened, happened_behind}

@@ -4,14 +4,14 @@ use Rattle.std.specs.Option.{option_and_then, option_map}
 use Rattle.mr_packet.specs.declared.packet.Address.{Address}
 use Rattle.mr_packet.specs.declared.packet.Address.TheVariants as address
 use Rattle.mr_packet.specs.declared.packet.Envelope.{Envelope}
-use Rattle.mr_event.specs.declared.event.Event.{Event}
-use Rattle.mr_event.specs.declared.event.Event.TheVariants as event
+use Rattle.mr_world_events.specs.declared.event.Event.{Event}
+use Rattle.mr_world_events.specs.declared.event.Event.TheVariants as event
 use Rattle.mr_script.specs.declared.event_name.EventName.{EventName}
-use Rattle.mr_model.specs.Packets.{Config}
-use Rattle.mr_model.specs.Pasts.{Place}
-use Rattle.mr_model.specs.Sending.{sent}
-use Rattle.mr_model.specs.World.{World}
-use Rattle.mr_play.specs.mr_parts.specs.declared.asked.Asked.{Asked}
+use Rattle.mr_world_model.specs.Packets.{Config}
+use Rattle.mr_world_model.specs.Pasts.{Place}
+use Rattle.mr_world_model.specs.Sending.{sent}
+use Rattle.mr_world_model.specs.World.{World}
+use Rattle.mr_play.specs.mr_world_state.specs.declared.asked.Asked.{Asked}
 use Rattle.mr_play.specs.mr_world.specs.Asks.{asked_in}
 use Rattle.mr_play.specs.mr_world.specs.Journal.{Journal, world_in}
 use Rattle.mr_play.specs.mr_world.specs.Readings.{due_in, place_in, wish_in}

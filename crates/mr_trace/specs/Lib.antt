@@ -6,4 +6,4 @@ pub mod Shown
 -- Crates beneath that this one gives on. The crates above name them through it.
 pub use Rattle.mr_play
 pub use Rattle.mr_play.specs.mr_world
-pub use Rattle.mr_play.specs.mr_parts
+pub use Rattle.mr_play.specs.mr_world_state

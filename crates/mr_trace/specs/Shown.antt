@@ -1,7 +1,7 @@
 -- What `play` shows beside what came of a script, where it is asked to (our own profile): a trace before it, and the history behind it.
 use Rattle.std.specs.Prelude.{◌≡◌, ℕ, true, false, List, [], ◌++◌}
-use Rattle.mr_model.specs.Packets.{Config}
-use Rattle.mr_model.specs.Claims.{Limits}
+use Rattle.mr_world_model.specs.Packets.{Config}
+use Rattle.mr_world_model.specs.Claims.{Limits}
 use Rattle.mr_play.specs.declared.shown.Shown.{Shown}
 use Rattle.mr_play.specs.Shown.{IsHistory}
 use Rattle.mr_play.specs.Text.{PrintsPlay, printed_journal, printed_stretches}

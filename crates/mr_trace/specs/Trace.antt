@@ -2,14 +2,14 @@
 use Rattle.std.specs.Prelude.{ℕ, ◌+◌, Bool, List, [], ◌∷◌, ◌++◌, Option, Some, None, if◌then◌else◌, codes, decimal}
 use Rattle.std.specs.List.{flat_map}
 use Rattle.mr_packet.specs.declared.packet.Envelope.{Envelope}
-use Rattle.mr_event.specs.declared.event.Event.{Event}
-use Rattle.mr_event.specs.declared.event.Event.TheVariants as event
-use Rattle.mr_event.specs.declared.event.Weather.{Weather}
-use Rattle.mr_event.specs.declared.event.Weather.TheVariants.{Calm}
+use Rattle.mr_world_events.specs.declared.event.Event.{Event}
+use Rattle.mr_world_events.specs.declared.event.Event.TheVariants as event
+use Rattle.mr_world_events.specs.declared.event.Weather.{Weather}
+use Rattle.mr_world_events.specs.declared.event.Weather.TheVariants.{Calm}
 use Rattle.mr_script.specs.declared.event_name.EventName.{EventName}
 use Rattle.mr_script.specs.Names.{name_text}
-use Rattle.mr_play.specs.mr_parts.specs.declared.asked.Asked.{Asked}
-use Rattle.mr_play.specs.mr_parts.specs.declared.asked.Asked.TheVariants as asked
+use Rattle.mr_play.specs.mr_world_state.specs.declared.asked.Asked.{Asked}
+use Rattle.mr_play.specs.mr_world_state.specs.declared.asked.Asked.TheVariants as asked
 use Rattle.mr_play.specs.mr_world.specs.Journal.{Journal}
 use Rattle.mr_trace.specs.declared.makers.Maker.{Maker}
 use Rattle.mr_trace.specs.declared.makers.Maker.TheVariants as maker

@@ -4,7 +4,7 @@ use Rattle.std.specs.Prelude.{ℕ, Bool, List, [], ◌∷◌, ◌++◌, length, 
 use Rattle.std.specs.List.{join_with_byte}
 use Rattle.mr_ids.specs.Text.{attempt_text}
 use Rattle.mr_names.specs.declared.fault.NameFault.{NameFault}
-use Rattle.mr_tree.specs.declared.node.Kind.TheVariants.{Dir, File}
+use Rattle.mr_names_tree.specs.declared.node.Kind.TheVariants.{Dir, File}
 use Rattle.mr_names.specs.declared.op.Answer.{Answer}
 use Rattle.mr_names.specs.declared.op.Answer.TheVariants as answer
 use Rattle.mr_names.specs.declared.op.Op.{Op}
@@ -16,10 +16,10 @@ use Rattle.mr_packet.specs.declared.packet.Address.TheVariants.{Master, Containe
 use Rattle.mr_packet.specs.declared.packet.Envelope.{Envelope}
 use Rattle.mr_packet.specs.declared.packet.Packet.{Packet}
 use Rattle.mr_packet.specs.declared.packet.Packet.TheVariants as packet
-use Rattle.mr_event.specs.declared.event.Event.{Event}
-use Rattle.mr_event.specs.declared.event.Event.TheVariants as event
-use Rattle.mr_event.specs.declared.event.Weather.{Weather}
-use Rattle.mr_event.specs.declared.event.Weather.TheVariants.{Calm, Unavailable, Unanswered}
+use Rattle.mr_world_events.specs.declared.event.Event.{Event}
+use Rattle.mr_world_events.specs.declared.event.Event.TheVariants as event
+use Rattle.mr_world_events.specs.declared.event.Weather.{Weather}
+use Rattle.mr_world_events.specs.declared.event.Weather.TheVariants.{Calm, Unavailable, Unanswered}
 use Rattle.mr_script.specs.Words.{container_word}
 use Rattle.mr_container.specs.declared.reply.Reply.{Reply}
 use Rattle.mr_container.specs.declared.reply.Reply.TheVariants as reply
@@ -27,9 +27,9 @@ use Rattle.mr_master_model.specs.declared.store.StoreAnswer.{StoreAnswer}
 use Rattle.mr_master_model.specs.declared.store.StoreAnswer.TheVariants as stored
 use Rattle.mr_master_model.specs.declared.store.StoreCall.{StoreCall}
 use Rattle.mr_master_model.specs.declared.store.StoreCall.TheVariants as call
-use Rattle.mr_commands.specs.committer.Text.{name_fault_text}
-use Rattle.mr_commands.specs.history.Text.{length_text, record_text}
-use Rattle.mr_repeat.specs.Repeating.{command_line}
+use Rattle.mr_sim_commands.specs.committer.Text.{name_fault_text}
+use Rattle.mr_sim_commands.specs.history.Text.{length_text, record_text}
+use Rattle.mr_script_writer.specs.Repeating.{command_line}
 
 -- words with a space between them
 abbrev pub spaced : List (List ℕ) → List ℕ

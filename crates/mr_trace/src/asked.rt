@@ -4,9 +4,9 @@ ghost use Rattle.mr_play.specs.mr_world.specs.Asks.{asked_in};
 ghost use Rattle.mr_trace.specs.Trace.{asked_text, call_text, heard_text, weather_of};
 
 use crate::call_words::{put_op, put_reply, put_store_answer, put_store_call};
-use mr_event::{Event, Weather};
 use mr_play::mr_world::{Asked, World};
 use mr_play::read;
+use mr_world_events::{Event, Weather};
 use std::alloc::AllocError;
 
 /// The store call that an event would make now, and its answer. Nothing where it makes none.

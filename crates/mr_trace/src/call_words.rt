@@ -1,16 +1,16 @@
 //! Store calls and what is heard of them in words.
 ghost use Rattle.std.specs.Prelude.{◌≡◌, ◌++◌, ◌∷◌, OnOk};
-ghost use Rattle.mr_commands.specs.committer.Text.{name_fault_text};
+ghost use Rattle.mr_sim_commands.specs.committer.Text.{name_fault_text};
 ghost use Rattle.mr_trace.specs.Words.{answer_text, closed_word, count_text, history_fault_text, op_text, path_text, reply_text, store_answer_text, store_call_text, unheard_word};
 
 use crate::trace_words::{put_attempt, put_number, put_small};
-use mr_commands::{print_names, print_record};
 use mr_container::Reply;
-use mr_event::Weather;
 use mr_history::HistoryFault;
 use mr_master_model::{StoreAnswer, StoreCall};
 use mr_names::{Answer, Kind, NameFault, Op};
 use mr_paths::Path;
+use mr_sim_commands::{print_names, print_record};
+use mr_world_events::Weather;
 use std::alloc::AllocError;
 
 /// A master's store call.

@@ -1,6 +1,6 @@
 //! Who makes the events of a run, which is told beside each.
 ghost use Rattle.std.specs.Prelude.{◌≡◌, ◌≤◌, ◌++◌, ℕ, OnOk, length};
-ghost use Rattle.mr_model.specs.World.{Event};
+ghost use Rattle.mr_world_model.specs.World.{Event};
 ghost use Rattle.mr_play.specs.mr_world.specs.Journal.{Journal};
 ghost use Rattle.mr_trace.specs.Happened.{maker_of, source_at};
 ghost use Rattle.mr_trace.specs.Trace.{maker_text};
@@ -8,9 +8,9 @@ ghost use Rattle.mr_trace.specs.declared.makers.Maker.TheVariants.{Line};
 
 use crate::seats::{Seat, put_in_brackets, seat_of};
 use crate::trace_words::put_number;
-use mr_event::Event;
 use mr_play::mr_world::World;
 use mr_play::{Source, Stretch};
+use mr_world_events::Event;
 use std::alloc::AllocError;
 
 /// Who made the events of a run, which is told beside each.

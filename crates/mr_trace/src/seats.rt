@@ -8,9 +8,9 @@ ghost use Rattle.mr_play.specs.mr_world.specs.Journal.{world_in};
 ghost use Rattle.mr_play.specs.mr_world.specs.Readings.{place_in};
 
 use crate::trace_words::put_small;
-use mr_event::Event;
 use mr_packet::{Address, ContainerId};
 use mr_play::mr_world::World;
+use mr_world_events::Event;
 use std::alloc::AllocError;
 
 /// A thread, by what it makes the events of.

@@ -1,6 +1,6 @@
 //! `play` with its trace and its history beside its text.
 ghost use Rattle.std.specs.Prelude.{◌≡◌, [], true, false, IfOk, IfErr};
-ghost use Rattle.mr_commands.specs.declared.fault.SimFault.TheVariants.{NoMemory};
+ghost use Rattle.mr_sim_commands.specs.declared.fault.SimFault.TheVariants.{NoMemory};
 ghost use Rattle.mr_play.specs.Text.{IsAsExpected, PlayFails};
 ghost use Rattle.mr_play.specs.mr_world.specs.Limits.{within};
 ghost use Rattle.mr_trace.specs.Happened.{by_lines};
@@ -9,8 +9,8 @@ ghost use Rattle.mr_trace.specs.Trace.{trace_text};
 
 use crate::makers::Makers;
 use crate::trace::trace_of;
-use mr_commands::SimFault;
 use mr_play::{Player, Printed, Shown, played, shown_text};
+use mr_sim_commands::SimFault;
 use std::alloc::Global;
 
 // The trace, where it is asked for, else nothing.

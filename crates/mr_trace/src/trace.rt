@@ -1,7 +1,7 @@
 //! The trace of a run: its events in words, each with its line of the script, its store call and its packets.
 ghost use Rattle.std.specs.Prelude.{◌≡◌, ◌++◌, ◌∷◌, [], OnOk, IfOk, IfErr, OnErr, drop};
-ghost use Rattle.mr_commands.specs.declared.fault.SimFault.TheVariants.{NoMemory};
-ghost use Rattle.mr_model.specs.Sending.{sent};
+ghost use Rattle.mr_sim_commands.specs.declared.fault.SimFault.TheVariants.{NoMemory};
+ghost use Rattle.mr_world_model.specs.Sending.{sent};
 ghost use Rattle.mr_play.specs.mr_world.specs.Applying.{CanHappen};
 ghost use Rattle.mr_play.specs.mr_world.specs.Journal.{world_in};
 ghost use Rattle.mr_play.specs.mr_world.specs.Repeating.{CanFollow};
@@ -11,12 +11,12 @@ ghost use Rattle.mr_trace.specs.Trace.{beginning_text, line_text, lines_text, na
 use crate::asked::put_asked;
 use crate::makers::{Makers, left_at, maker_of, put_maker};
 use crate::trace_words::{put_envelope, put_event, put_number};
-use mr_commands::SimFault;
-use mr_event::Event;
 use mr_packet::Envelope;
 use mr_play::mr_world::{Config, World, WorldFault};
 use mr_play::{duty_event, read, wish_event};
 use mr_script::{EventName, event_word};
+use mr_sim_commands::SimFault;
+use mr_world_events::Event;
 use std::alloc::{AllocError, Global};
 
 /// A line for each event of a world's journal. It has its place there, the event in the words of a script, what the

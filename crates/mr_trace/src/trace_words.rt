@@ -5,10 +5,10 @@ ghost use Rattle.mr_script.specs.Words.{container_word};
 ghost use Rattle.mr_trace.specs.Words.{address_text, envelope_text, event_text};
 
 use crate::packet_words::put_packet;
-use mr_event::Event;
 use mr_ids::AttemptId;
 use mr_packet::{Address, ContainerId, Envelope};
-use mr_repeat::put_command;
+use mr_script_writer::put_command;
+use mr_world_events::Event;
 use std::alloc::AllocError;
 
 /// A word and a number behind it.
@@ -16,7 +16,7 @@ pub fn put_number(out: &mut Vec<u8>, word: &[u8], number: u64) -> Result<(), All
     ensures { OnOk result (out.new.items ≡ out.old.items ++ word.now ++ decimal number) }
 {
     out.extend_from_slice(word)?;
-    mr_repeat::put_number(out, number)
+    mr_script_writer::put_number(out, number)
 }
 
 /// A word and a small number behind it.
@@ -39,7 +39,7 @@ pub fn put_container(out: &mut Vec<u8>, word: &[u8], c: &ContainerId) -> Result<
     ensures { OnOk result (out.new.items ≡ out.old.items ++ word.now ++ container_word c.now) }
 {
     out.extend_from_slice(word)?;
-    mr_repeat::put_container(out, c)
+    mr_script_writer::put_container(out, c)
 }
 
 /// An event in the words of the script's command that makes it again. Of a computed result, whose bytes no command says, it tells their number too.

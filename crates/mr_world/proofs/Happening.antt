@@ -1,19 +1,19 @@
 -- What an event that happened makes of the parts and the journal of a world.
 use Rattle.std.proofs.Common.{◌≡◌, ℕ, ◌+◌, ◌-◌, ◌<◌, ◌≤◌, sym, ◌∙◌, ap, subst, List, [], ◌∷◌, ◌++◌, length, length-append, arith, ◌&&◌, nat_lt}
 use Rattle.std.proofs.lemmas.Bool.{lt-ltb}
-use Rattle.mr_model.specs.Packets.{Config}
-use Rattle.mr_model.specs.World.{World, Event}
-use Rattle.mr_model.specs.Effect.{effect, not_now}
-use Rattle.mr_model.specs.Sending.{sent}
-use Rattle.mr_parts.specs.declared.fault.WorldFault.{WorldFault}
+use Rattle.mr_world_model.specs.Packets.{Config}
+use Rattle.mr_world_model.specs.World.{World, Event}
+use Rattle.mr_world_model.specs.Effect.{effect, not_now}
+use Rattle.mr_world_model.specs.Sending.{sent}
+use Rattle.mr_world_state.specs.declared.fault.WorldFault.{WorldFault}
 use Rattle.mr_world.specs.declared.limits.TheConstants.{MAX_EVENTS}
-use Rattle.mr_parts.specs.declared.parts.Parts.{Parts}
+use Rattle.mr_world_state.specs.declared.parts.Parts.{Parts}
 use Rattle.mr_world.specs.declared.took.Took.{Took}
 use Rattle.mr_world.specs.Applying.{Counts, Takes}
 use Rattle.mr_world.specs.Histories.{change_of, changed}
 use Rattle.mr_world.specs.Journal.{Journal, Keeps, run_of}
-use Rattle.mr_parts.specs.Limits.{within, fits_counted}
-use Rattle.mr_parts.specs.Standing.{Standing, IsTaken, Refuses, RefusesEvent}
+use Rattle.mr_world_state.specs.Limits.{within, fits_counted}
+use Rattle.mr_world_state.specs.Standing.{Standing, IsTaken, Refuses, RefusesEvent}
 use Rattle.mr_world.proofs.Journals.{journal_of, keeps-one, takes}
 
 -- an event was taken by the parts p, which became q

@@ -2,22 +2,22 @@
 use Rattle.std.proofs.Common.{◌≡◌, sym, subst, true, List, [], ◌++◌, length, append-nil, nat_lt, nat_le, if◌then◌else◌, ◌^◌}
 use Rattle.std.proofs.lemmas.Bool.{leb-true}
 use Rattle.mr_mapside.specs.declared.TheConstants.{MAX_OUTPUT_LEN}
-use Rattle.mr_model.specs.Packets.{Config}
-use Rattle.mr_model.specs.World.{Event, Compute}
-use Rattle.mr_model.specs.Sequential.{BoundsOutputs, most_output}
-use Rattle.mr_model.proofs.Grows.{winner_stays}
-use Rattle.mr_model.proofs.Won.{told_the_same}
-use Rattle.mr_model.proofs.Outcomes.{marker_means_complete, no_later_event, outcomes_agree}
-use Rattle.mr_model.proofs.Numbers.{whole_is_one}
-use Rattle.mr_model.proofs.Published.{published_are_winners}
-use Rattle.mr_model.proofs.Results.{results_stay}
-use Rattle.mr_model.proofs.Faithful.{marked_files_are_sequential}
-use Rattle.mr_model.proofs.Found.{recovery_finds}
-use Rattle.mr_model.proofs.Suspicion.{bars_hold}
+use Rattle.mr_world_model.specs.Packets.{Config}
+use Rattle.mr_world_model.specs.World.{Event, Compute}
+use Rattle.mr_world_model.specs.Sequential.{BoundsOutputs, most_output}
+use Rattle.mr_world_model.proofs.Grows.{winner_stays}
+use Rattle.mr_world_model.proofs.Won.{told_the_same}
+use Rattle.mr_world_model.proofs.Outcomes.{marker_means_complete, no_later_event, outcomes_agree}
+use Rattle.mr_world_model.proofs.Numbers.{whole_is_one}
+use Rattle.mr_world_model.proofs.Published.{published_are_winners}
+use Rattle.mr_world_model.proofs.Results.{results_stay}
+use Rattle.mr_world_model.proofs.Faithful.{marked_files_are_sequential}
+use Rattle.mr_world_model.proofs.Found.{recovery_finds}
+use Rattle.mr_world_model.proofs.Suspicion.{bars_hold}
 use Rattle.mr_world.specs.Headline.{HeadlineHolds}
 use Rattle.mr_world.specs.Journal.{Journal}
-use Rattle.mr_parts.specs.Limits.{within, fits_bytes}
-use Rattle.mr_parts.proofs.Bounds.{fits-parts}
+use Rattle.mr_world_state.specs.Limits.{within, fits_bytes}
+use Rattle.mr_world_state.proofs.Bounds.{fits-parts}
 
 -- the limits take no map's output beyond what it may have
 pub outputs-are-bounded : (cfg : Config) → BoundsOutputs (within cfg)

@@ -3,11 +3,11 @@ use Rattle.std.proofs.Common.{◌≡◌, ℕ, refl, ◌∙◌, List, [], ◌∷�
 use Rattle.std.proofs.lemmas.Bool.Decides.{nat_tests}
 use Rattle.mr_history.specs.State.{State}
 use Rattle.mr_history.specs.Calls as segments
-use Rattle.mr_model.specs.Packets.{Config}
-use Rattle.mr_model.specs.World.{World, Event, opening_world}
-use Rattle.mr_model.specs.Effect.{happens, run}
-use Rattle.mr_parts.specs.Histories.{change_of, changed, opening_history}
-use Rattle.mr_parts.specs.Limits.{within}
+use Rattle.mr_world_model.specs.Packets.{Config}
+use Rattle.mr_world_model.specs.World.{World, Event, opening_world}
+use Rattle.mr_world_model.specs.Effect.{happens, run}
+use Rattle.mr_world_state.specs.Histories.{change_of, changed, opening_history}
+use Rattle.mr_world_state.specs.Limits.{within}
 use Rattle.mr_world.specs.Histories.{changed_by, history_of, stable_bytes}
 use Rattle.mr_world.specs.Journal.{run_of}
 

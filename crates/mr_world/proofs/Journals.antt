@@ -3,19 +3,19 @@ use Rattle.std.proofs.Common.{◌≡◌, suc, ◌<◌, refl, sym, ◌∙◌, ap,
 use Rattle.std.proofs.lemmas.Bool.{and_parts, lt-ltb}
 use Rattle.std.proofs.Math.Seq.{split_at}
 use Rattle.std.proofs.lemmas.Result.{err_from_is_err_and}
-use Rattle.mr_model.specs.Packets.{Config}
-use Rattle.mr_model.specs.World.{World, Event, opening_world}
-use Rattle.mr_model.specs.Effect.{not_now, effect, happens, run, Why}
-use Rattle.mr_model.specs.Sequential.{is_taken}
-use Rattle.mr_model.proofs.Basic.{run-append}
-use Rattle.mr_parts.specs.declared.fault.WorldFault.{WorldFault}
-use Rattle.mr_parts.specs.declared.fault.WorldFault.TheVariants as fault
+use Rattle.mr_world_model.specs.Packets.{Config}
+use Rattle.mr_world_model.specs.World.{World, Event, opening_world}
+use Rattle.mr_world_model.specs.Effect.{not_now, effect, happens, run, Why}
+use Rattle.mr_world_model.specs.Sequential.{is_taken}
+use Rattle.mr_world_model.proofs.Basic.{run-append}
+use Rattle.mr_world_state.specs.declared.fault.WorldFault.{WorldFault}
+use Rattle.mr_world_state.specs.declared.fault.WorldFault.TheVariants as fault
 use Rattle.mr_world.specs.declared.limits.TheConstants.{MAX_EVENTS}
-use Rattle.mr_parts.specs.declared.parts.Parts.{Parts}
+use Rattle.mr_world_state.specs.declared.parts.Parts.{Parts}
 use Rattle.mr_world.specs.declared.took.Took.{Took}
 use Rattle.mr_world.specs.Histories.{change_of, changed, history_of, opening_history}
-use Rattle.mr_parts.specs.Limits.{within}
-use Rattle.mr_parts.specs.Standing.{Standing, IsTaken, Refuses}
+use Rattle.mr_world_state.specs.Limits.{within}
+use Rattle.mr_world_state.specs.Standing.{Standing, IsTaken, Refuses}
 use Rattle.mr_world.specs.Journal.{Journal, Keeps, run_of, world_in, if_taken, taken, fits, fits_first}
 use Rattle.mr_world.specs.Applying.{CanHappen, IsRefused, Takes, AllFit, Ran, StopsAt, Runs, Counts}
 use Rattle.mr_world.proofs.Histories.{history-one}

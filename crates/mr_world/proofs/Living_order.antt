@@ -10,22 +10,22 @@ use Rattle.std.specs.List.{AllByRecursion, flat_map, list_any, range_with_len}
 use Rattle.std.specs.List.Sorted.{IsStrictlySortedBy}
 use Rattle.std.specs.Ordering.{is_eq, nat_cmp, ordering_then}
 use Rattle.std.specs.declared.cmp.Ordering.TheVariants.{Less, Equal}
-use Rattle.mr_model.specs.Ids.{ContainerId}
-use Rattle.mr_model.specs.Packets.{Config}
-use Rattle.mr_model.specs.Hearing.{Launched}
-use Rattle.mr_model.specs.Duties.{seen}
-use Rattle.mr_model.specs.World.{World, Event, seen_by}
-use Rattle.mr_model.specs.Claims.{In, world_of}
-use Rattle.mr_model.proofs.Beside.{numbers-always}
-use Rattle.mr_model.proofs.Cluster.{open_place, launched_as}
-use Rattle.mr_model.proofs.Ranges.{always-placed}
-use Rattle.mr_parts.specs.mr_cluster.specs.Living.{container_cmp}
-use Rattle.mr_parts.specs.mr_cluster.specs.Order.{in_order}
-use Rattle.mr_parts.specs.mr_cluster.proofs.Keys.{found_is, is_it, it-is, kept-listed}
-use Rattle.mr_parts.specs.declared.parts.Parts.{Parts}
-use Rattle.mr_parts.specs.Limits.{within}
+use Rattle.mr_world_model.specs.Ids.{ContainerId}
+use Rattle.mr_world_model.specs.Packets.{Config}
+use Rattle.mr_world_model.specs.Hearing.{Launched}
+use Rattle.mr_world_model.specs.Duties.{seen}
+use Rattle.mr_world_model.specs.World.{World, Event, seen_by}
+use Rattle.mr_world_model.specs.Claims.{In, world_of}
+use Rattle.mr_world_model.proofs.Beside.{numbers-always}
+use Rattle.mr_world_model.proofs.Cluster.{open_place, launched_as}
+use Rattle.mr_world_model.proofs.Ranges.{always-placed}
+use Rattle.mr_world_state.specs.mr_world_actors.specs.Living.{container_cmp}
+use Rattle.mr_world_state.specs.mr_world_actors.specs.Order.{in_order}
+use Rattle.mr_world_state.specs.mr_world_actors.proofs.Keys.{found_is, is_it, it-is, kept-listed}
+use Rattle.mr_world_state.specs.declared.parts.Parts.{Parts}
+use Rattle.mr_world_state.specs.Limits.{within}
 use Rattle.mr_world.specs.Readings.{living, launched_by}
-use Rattle.mr_parts.specs.Standing.{Standing}
+use Rattle.mr_world_state.specs.Standing.{Standing}
 
 -- ---- who is in a list
 

@@ -1,12 +1,12 @@
 -- The store call of an event that is looked at, the journal's limit with it.
 use Rattle.std.proofs.Common.{◌≡◌, refl, subst, Bool, true, false, ◌&&◌, Option, Some, None, if◌then◌else◌, is_none}
-use Rattle.mr_event.specs.declared.why.Why.{Why}
-use Rattle.mr_model.specs.Effect.{not_now}
-use Rattle.mr_model.specs.World.{Event}
-use Rattle.mr_parts.specs.declared.asked.Asked.{Asked}
-use Rattle.mr_parts.specs.declared.fault.WorldFault.{WorldFault}
-use Rattle.mr_parts.specs.declared.fault.WorldFault.TheVariants as fault
-use Rattle.mr_parts.specs.Standing.{IsTaken, Refuses}
+use Rattle.mr_world_events.specs.declared.why.Why.{Why}
+use Rattle.mr_world_model.specs.Effect.{not_now}
+use Rattle.mr_world_model.specs.World.{Event}
+use Rattle.mr_world_state.specs.declared.asked.Asked.{Asked}
+use Rattle.mr_world_state.specs.declared.fault.WorldFault.{WorldFault}
+use Rattle.mr_world_state.specs.declared.fault.WorldFault.TheVariants as fault
+use Rattle.mr_world_state.specs.Standing.{IsTaken, Refuses}
 use Rattle.mr_world.specs.Applying.{CanHappen, IsRefused}
 use Rattle.mr_world.specs.Asks.{asked_by, asked_in}
 use Rattle.mr_world.specs.Journal.{Journal, world_in, fits, fits_first}

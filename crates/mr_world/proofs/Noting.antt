@@ -8,8 +8,8 @@ use Rattle.std.specs.Option.{option_or}
 use Rattle.mr_ids.specs.Attempt.{Attempt}
 use Rattle.mr_ids.specs.declared.id.JobId.{JobId}
 use Rattle.mr_history.specs.declared.record.Record.{Record}
-use Rattle.mr_model.specs.Ids.{reduce_of}
-use Rattle.mr_model.specs.Records.{winner_in}
+use Rattle.mr_world_model.specs.Ids.{reduce_of}
+use Rattle.mr_world_model.specs.Records.{winner_in}
 use Rattle.mr_world.specs.inner.Winning.{Notes, NotesAt, is_free, success_of, with_entry, with_one}
 use Rattle.mr_world.proofs.Read_winners.{at-place, none-told}
 

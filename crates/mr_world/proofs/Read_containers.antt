@@ -7,18 +7,18 @@ use Rattle.mr_ids.specs.declared.id.TaskKind.TheVariants.{Map, Reduce}
 use Rattle.mr_container.specs.declared.wish.Wish.{Wish}
 use Rattle.mr_container.specs.Readings.{Seen, seen, is_computing}
 use Rattle.mr_container.specs.State as container
-use Rattle.mr_model.specs.Ids.{ContainerId, is_reduce, of_reduces}
-use Rattle.mr_model.specs.Packets.{Config}
-use Rattle.mr_model.specs.Pasts.{Place, fetched}
-use Rattle.mr_model.specs.World.{World, wish_of, wish_at}
-use Rattle.mr_model.specs.Effect.{wants_compute}
-use Rattle.mr_model.specs.Sequential as sequential
-use Rattle.mr_model.proofs.Containers.{blocks-agree}
-use Rattle.mr_parts.specs.mr_cluster.specs.Living.{kept}
-use Rattle.mr_parts.specs.declared.parts.Parts.{Parts}
+use Rattle.mr_world_model.specs.Ids.{ContainerId, is_reduce, of_reduces}
+use Rattle.mr_world_model.specs.Packets.{Config}
+use Rattle.mr_world_model.specs.Pasts.{Place, fetched}
+use Rattle.mr_world_model.specs.World.{World, wish_of, wish_at}
+use Rattle.mr_world_model.specs.Effect.{wants_compute}
+use Rattle.mr_world_model.specs.Sequential as sequential
+use Rattle.mr_world_model.proofs.Containers.{blocks-agree}
+use Rattle.mr_world_state.specs.mr_world_actors.specs.Living.{kept}
+use Rattle.mr_world_state.specs.declared.parts.Parts.{Parts}
 use Rattle.mr_world.specs.Readings.{wish_by, wish_in, input_in, place_in}
-use Rattle.mr_parts.specs.Standing.{Standing}
-use Rattle.mr_parts.proofs.Saying.{says}
+use Rattle.mr_world_state.specs.Standing.{Standing}
+use Rattle.mr_world_state.proofs.Saying.{says}
 
 alive : (p : Parts) (w : World) (c : ContainerId) (m : container.Container) → Standing p w → kept p.living c ≡ Some m → w.is_alive c ≡ true
 alive p w c m s at = sym (s.living.alive c) ∙ ap is_some at

@@ -5,23 +5,23 @@ use Rattle.mr_ids.specs.declared.id.TaskId.{TaskId}
 use Rattle.mr_history.specs.Calls.{segment}
 use Rattle.mr_history.specs.Recorded.{tail_width}
 use Rattle.mr_history.proofs.Segments.{tail_len}
-use Rattle.mr_parts.specs.mr_master.specs.State as master
+use Rattle.mr_world_state.specs.mr_master.specs.State as master
 use Rattle.mr_master_model.specs.declared.phase.Phase.{Phase}
 use Rattle.mr_master_model.specs.declared.setting.Setting.{Setting}
 use Rattle.mr_master_model.specs.Duty as machine
 use Rattle.mr_master_model.specs.Next.{seen}
 use Rattle.mr_master_model.specs.Past as past
 use Rattle.mr_master_model.specs.Readings as read
-use Rattle.mr_model.specs.World.{World, duty, seen_by}
-use Rattle.mr_model.specs.Wanted.{wanted}
-use Rattle.mr_model.specs.bridge.Steps.{setting, steps}
-use Rattle.mr_model.specs.bridge.Works.{phase_of, named}
-use Rattle.mr_parts.specs.declared.parts.Parts.{Parts}
-use Rattle.mr_parts.specs.Machines.{master_of}
+use Rattle.mr_world_model.specs.World.{World, duty, seen_by}
+use Rattle.mr_world_model.specs.Wanted.{wanted}
+use Rattle.mr_master_refinement.specs.Steps.{setting, steps}
+use Rattle.mr_master_refinement.specs.Works.{phase_of, named}
+use Rattle.mr_world_state.specs.declared.parts.Parts.{Parts}
+use Rattle.mr_world_state.specs.Machines.{master_of}
 use Rattle.mr_world.specs.Readings.{phase_in, wanted_in, due_in, unflushed_in}
-use Rattle.mr_parts.specs.Standing.{Standing}
-use Rattle.mr_parts.proofs.Mastering.{is-generation}
-use Rattle.mr_parts.proofs.Stepping.{agrees}
+use Rattle.mr_world_state.specs.Standing.{Standing}
+use Rattle.mr_world_state.proofs.Mastering.{is-generation}
+use Rattle.mr_world_state.proofs.Stepping.{agrees}
 
 -- ---- who is alive
 

@@ -11,19 +11,19 @@ use Rattle.mr_names.specs.declared.op.Caller.{Caller}
 use Rattle.mr_names.specs.declared.op.Op.{Op}
 use Rattle.mr_names.specs.declared.op.Op.TheVariants as op
 use Rattle.mr_names.specs.Calls.{State, IsSound, unheard, refused, own_refusal, call_of, settled, first_of}
-use Rattle.mr_tree.specs.Content.{IsTree}
-use Rattle.mr_tree.specs.Listing as listing
+use Rattle.mr_names_tree.specs.Content.{IsTree}
+use Rattle.mr_names_tree.specs.Listing as listing
 use Rattle.mr_paths.specs.Layout as layout
-use Rattle.mr_model.specs.Ids.{Path, dest, marker}
-use Rattle.mr_model.specs.Content.{Content, Entry, Dir, File, Listed, children, entry_at, is_dir, is_file, option_kind, bytes_of}
-use Rattle.mr_model.specs.Results.{visible, visible_in}
-use Rattle.mr_model.specs.World.{World}
-use Rattle.mr_model.proofs.Listing.{children-names, has_name}
-use Rattle.mr_model.proofs.Names.{name_eq-refl}
-use Rattle.mr_parts.specs.declared.parts.Parts.{Parts}
+use Rattle.mr_world_model.specs.Ids.{Path, dest, marker}
+use Rattle.mr_world_model.specs.Content.{Content, Entry, Dir, File, Listed, children, entry_at, is_dir, is_file, option_kind, bytes_of}
+use Rattle.mr_world_model.specs.Results.{visible, visible_in}
+use Rattle.mr_world_model.specs.World.{World}
+use Rattle.mr_world_model.proofs.Listing.{children-names, has_name}
+use Rattle.mr_world_model.proofs.Names.{name_eq-refl}
+use Rattle.mr_world_state.specs.declared.parts.Parts.{Parts}
 use Rattle.mr_world.specs.declared.results.VisibleFile.{VisibleFile}
 use Rattle.mr_world.specs.VisibleFiles.{as_pair, contents, is_file_kind, seen_beneath}
-use Rattle.mr_parts.specs.Standing.{Standing}
+use Rattle.mr_world_state.specs.Standing.{Standing}
 
 -- ---- who looks on from outside is heard
 

@@ -12,15 +12,15 @@ use Rattle.mr_history.specs.declared.record.Record.TheVariants.{ReduceSucceeded}
 use Rattle.mr_history.specs.Calls as history
 use Rattle.mr_history.specs.Reading as reading
 use Rattle.mr_history.specs.Reading.{records_of}
-use Rattle.mr_model.specs.Ids.{task_eq, reduce_of}
-use Rattle.mr_model.specs.Records.{records_below, winner_in}
-use Rattle.mr_model.specs.Claims.{records, winner}
-use Rattle.mr_model.specs.World.{World}
-use Rattle.mr_model.proofs.Bytes.{tells-below}
-use Rattle.mr_parts.specs.declared.parts.Parts.{Parts}
-use Rattle.mr_parts.specs.Standing.{Standing}
+use Rattle.mr_world_model.specs.Ids.{task_eq, reduce_of}
+use Rattle.mr_world_model.specs.Records.{records_below, winner_in}
+use Rattle.mr_world_model.specs.Claims.{records, winner}
+use Rattle.mr_world_model.specs.World.{World}
+use Rattle.mr_world_model.proofs.Bytes.{tells-below}
+use Rattle.mr_world_state.specs.declared.parts.Parts.{Parts}
+use Rattle.mr_world_state.specs.Standing.{Standing}
 use Rattle.mr_world.specs.inner.Winning.{success_of}
-use Rattle.mr_parts.proofs.Bounds.{small}
+use Rattle.mr_world_state.proofs.Bounds.{small}
 
 -- ---- the first success
 

@@ -1,12 +1,12 @@
 -- Each event of a journal that is what was taken could happen when it came.
 use Rattle.std.proofs.Common.{◌≡◌, ◌+◌, ◌<◌, ◌≤◌, ℕ, suc, refl, sym, ap, subst, Bool, true, false, List, [], ◌∷◌, ◌++◌, Option, Some, None, if◌then◌else◌, is_none, length, length-append, drop, arith}
 use Rattle.std.proofs.lemmas.Bool.{and_parts, lt-ltb}
-use Rattle.mr_model.specs.Packets.{Config}
-use Rattle.mr_model.specs.World.{World, Event, opening_world}
-use Rattle.mr_model.specs.Effect.{not_now, happens, run}
-use Rattle.mr_model.specs.Sequential.{is_taken}
+use Rattle.mr_world_model.specs.Packets.{Config}
+use Rattle.mr_world_model.specs.World.{World, Event, opening_world}
+use Rattle.mr_world_model.specs.Effect.{not_now, happens, run}
+use Rattle.mr_world_model.specs.Sequential.{is_taken}
 use Rattle.mr_world.specs.declared.limits.TheConstants.{MAX_EVENTS}
-use Rattle.mr_parts.specs.Limits.{within}
+use Rattle.mr_world_state.specs.Limits.{within}
 use Rattle.mr_world.specs.Journal.{run_of, taken}
 use Rattle.mr_world.specs.Applying.{CanHappen}
 use Rattle.mr_world.specs.Repeating.{CanFollow}

@@ -1,17 +1,17 @@
 -- What the calls of a world promise. Our own: where code and definitions meet.
 use Rattle.std.specs.Prelude.{◌≡◌, ℕ, Bool, true, false, ◌&&◌, nat_lt, List, [], ◌∷◌, ◌++◌, Option, Some, None, Result, Ok, Err, length}
-use Rattle.mr_event.specs.declared.why.Why.{Why}
-use Rattle.mr_model.specs.Packets.{Config}
-use Rattle.mr_model.specs.World.{World, Event}
-use Rattle.mr_model.specs.Effect.{not_now, effect, happens}
-use Rattle.mr_model.specs.Sending.{sent}
-use Rattle.mr_parts.specs.declared.fault.WorldFault.{WorldFault}
-use Rattle.mr_parts.specs.declared.fault.WorldFault.TheVariants as fault
+use Rattle.mr_world_events.specs.declared.why.Why.{Why}
+use Rattle.mr_world_model.specs.Packets.{Config}
+use Rattle.mr_world_model.specs.World.{World, Event}
+use Rattle.mr_world_model.specs.Effect.{not_now, effect, happens}
+use Rattle.mr_world_model.specs.Sending.{sent}
+use Rattle.mr_world_state.specs.declared.fault.WorldFault.{WorldFault}
+use Rattle.mr_world_state.specs.declared.fault.WorldFault.TheVariants as fault
 use Rattle.mr_world.specs.declared.limits.TheConstants.{MAX_EVENTS}
-use Rattle.mr_parts.specs.declared.parts.Parts.{Parts}
+use Rattle.mr_world_state.specs.declared.parts.Parts.{Parts}
 use Rattle.mr_world.specs.declared.took.Took.{Took}
-use Rattle.mr_parts.specs.Limits.{within, fits_counted}
-use Rattle.mr_parts.specs.Standing.{Standing, IsTaken, Refuses}
+use Rattle.mr_world_state.specs.Limits.{within, fits_counted}
+use Rattle.mr_world_state.specs.Standing.{Standing, IsTaken, Refuses}
 use Rattle.mr_world.specs.Journal.{Journal, world_in, run_of, taken, fits, fits_first}
 
 -- an event is permitted and passes no limit

@@ -1,10 +1,10 @@
 -- The store call that an event would make, by whom, and what its caller would hear (our own profile).
 use Rattle.std.specs.Prelude.{◌&&◌, Option, None, if◌then◌else◌, is_none}
-use Rattle.mr_model.specs.World.{Event}
-use Rattle.mr_model.specs.Effect.{not_now}
-use Rattle.mr_parts.specs.declared.asked.Asked.{Asked}
+use Rattle.mr_world_model.specs.World.{Event}
+use Rattle.mr_world_model.specs.Effect.{not_now}
+use Rattle.mr_world_state.specs.declared.asked.Asked.{Asked}
 -- that of an event that is taken
-pub use Rattle.mr_parts.specs.Asks.{asked_by, by_master, by_container}
+pub use Rattle.mr_world_state.specs.Asks.{asked_by, by_master, by_container}
 use Rattle.mr_world.specs.Journal.{Journal, world_in, fits}
 
 -- an event that would not be taken makes none

@@ -1,17 +1,17 @@
--- The headline, of a world before and after a call. What is claimed is mr_model's, which says what of it is Hadoop's
+-- The headline, of a world before and after a call. What is claimed is mr_world_model's, which says what of it is Hadoop's
 -- and Dean and Ghemawat's.
 use Rattle.std.specs.Prelude.{◌≡◌, ◌≤◌, ℕ, Bool, true, nat_lt, List, [], Some, None, if◌then◌else◌}
-use Rattle.mr_model.specs.Ids.{Attempt, Path, TaskId, is_reduce, part}
-use Rattle.mr_model.specs.Content.{Entry, File, Op, Superseded, Barred, entry_at}
-use Rattle.mr_model.specs.Records.{records_below, winner_in}
-use Rattle.mr_model.specs.Packets.{Caller, Names, Refused}
-use Rattle.mr_model.specs.Hearing.{Launched, Seen, is_running}
-use Rattle.mr_model.specs.Duties.{winners_of}
-use Rattle.mr_model.specs.World.{reply_to, seen_by}
-use Rattle.mr_model.specs.Claims.{In, winner, IsToldWon, IsToldOutcome, IsMarked, IsComplete, IsReduce, IsVisible, IsWhole, LooksTheSame, HoldsWhole, WasBarred, has_not_run}
-use Rattle.mr_model.specs.Results.{outcome, visible}
-use Rattle.mr_model.specs.Sequential.{Job, JobLaws, IsFaithful, SeesSequential}
-use Rattle.mr_parts.specs.Limits.{within}
+use Rattle.mr_world_model.specs.Ids.{Attempt, Path, TaskId, is_reduce, part}
+use Rattle.mr_world_model.specs.Content.{Entry, File, Op, Superseded, Barred, entry_at}
+use Rattle.mr_world_model.specs.Records.{records_below, winner_in}
+use Rattle.mr_world_model.specs.Packets.{Caller, Names, Refused}
+use Rattle.mr_world_model.specs.Hearing.{Launched, Seen, is_running}
+use Rattle.mr_world_model.specs.Duties.{winners_of}
+use Rattle.mr_world_model.specs.World.{reply_to, seen_by}
+use Rattle.mr_world_model.specs.Claims.{In, winner, IsToldWon, IsToldOutcome, IsMarked, IsComplete, IsReduce, IsVisible, IsWhole, LooksTheSame, HoldsWhole, WasBarred, has_not_run}
+use Rattle.mr_world_model.specs.Results.{outcome, visible}
+use Rattle.mr_world_model.specs.Sequential.{Job, JobLaws, IsFaithful, SeesSequential}
+use Rattle.mr_world_state.specs.Limits.{within}
 use Rattle.mr_world.specs.Journal.{Journal, world_in}
 
 -- what the newest master has seen

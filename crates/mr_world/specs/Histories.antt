@@ -1,14 +1,14 @@
--- The job history in bytes, as a journal's events leave it. What one event changes is told in mr_parts. Our own: where
+-- The job history in bytes, as a journal's events leave it. What one event changes is told in mr_world_state. Our own: where
 -- code and definitions meet.
 use Rattle.std.specs.Prelude.{ℕ, ◌&&◌, nat_lt, nat_le, List, [], ◌∷◌, if◌then◌else◌}
 use Rattle.mr_history.specs.State.{State}
 use Rattle.mr_history.specs.Calls.{segment}
-use Rattle.mr_model.specs.Packets.{Config}
-use Rattle.mr_model.specs.World.{World, Event, opening_world}
-use Rattle.mr_model.specs.Effect.{happens}
+use Rattle.mr_world_model.specs.Packets.{Config}
+use Rattle.mr_world_model.specs.World.{World, Event, opening_world}
+use Rattle.mr_world_model.specs.Effect.{happens}
 -- what an event changes; the history before the first one, and after one
-pub use Rattle.mr_parts.specs.Histories.{opening_history, if_made, change_of, changed}
-use Rattle.mr_parts.specs.Limits.{within}
+pub use Rattle.mr_world_state.specs.Histories.{opening_history, if_made, change_of, changed}
+use Rattle.mr_world_state.specs.Limits.{within}
 
 -- the history after events in turn, each of which is taken
 abbrev pub changed_by : Config → World → State → List Event → State

@@ -2,16 +2,16 @@
 -- Our own: where code and definitions meet.
 use Rattle.std.specs.Prelude.{◌≡◌, ◌≤◌, Bool, ◌&&◌, nat_lt, List, [], ◌∷◌, ◌++◌, if◌then◌else◌, length}
 use Rattle.mr_history.specs.State.{State}
-use Rattle.mr_model.specs.Packets.{Config}
-use Rattle.mr_model.specs.World.{World, Event, opening_world}
-use Rattle.mr_model.specs.Effect.{happens}
-use Rattle.mr_model.specs.Claims.{world_of}
-use Rattle.mr_model.specs.Sequential.{is_taken}
+use Rattle.mr_world_model.specs.Packets.{Config}
+use Rattle.mr_world_model.specs.World.{World, Event, opening_world}
+use Rattle.mr_world_model.specs.Effect.{happens}
+use Rattle.mr_world_model.specs.Claims.{world_of}
+use Rattle.mr_world_model.specs.Sequential.{is_taken}
 use Rattle.mr_world.specs.declared.limits.TheConstants.{MAX_EVENTS}
-use Rattle.mr_parts.specs.declared.parts.Parts.{Parts}
+use Rattle.mr_world_state.specs.declared.parts.Parts.{Parts}
 use Rattle.mr_world.specs.Histories.{history_of}
-use Rattle.mr_parts.specs.Limits.{within, fits_counted}
-use Rattle.mr_parts.specs.Standing.{Standing}
+use Rattle.mr_world_state.specs.Limits.{within, fits_counted}
+use Rattle.mr_world_state.specs.Standing.{Standing}
 
 -- the events are those that were taken, in order
 pub record Journal : Type 0 where

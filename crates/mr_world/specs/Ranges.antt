@@ -1,2 +1,2 @@
--- The ranges of a config's numbers: those of mr_parts.
-pub use Rattle.mr_parts.specs.Ranges.{IsInRange}
+-- The ranges of a config's numbers: those of mr_world_state.
+pub use Rattle.mr_world_state.specs.Ranges.{IsInRange}

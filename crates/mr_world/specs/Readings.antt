@@ -10,14 +10,14 @@ use Rattle.mr_container.specs.declared.wish.Wish.TheVariants as wish
 use Rattle.mr_container.specs.Readings as container
 use Rattle.mr_master_model.specs.declared.phase.Phase.{Phase}
 use Rattle.mr_master_model.specs.declared.phase.DutyName.{DutyName}
-use Rattle.mr_model.specs.Packets.{Config}
-use Rattle.mr_model.specs.Pasts.{Place, Step}
-use Rattle.mr_model.specs.World.{World, duty, seen_by}
-use Rattle.mr_model.specs.Sequential as sequential
-use Rattle.mr_model.specs.Wanted.{wanted}
-use Rattle.mr_model.specs.bridge.Works.{phase_of, named}
+use Rattle.mr_world_model.specs.Packets.{Config}
+use Rattle.mr_world_model.specs.Pasts.{Place, Step}
+use Rattle.mr_world_model.specs.World.{World, duty, seen_by}
+use Rattle.mr_world_model.specs.Sequential as sequential
+use Rattle.mr_world_model.specs.Wanted.{wanted}
+use Rattle.mr_master_refinement.specs.Works.{phase_of, named}
 -- the next living container after another, in cyclic order
-pub use Rattle.mr_parts.specs.mr_cluster.specs.Order.{is_behind, next_living}
+pub use Rattle.mr_world_state.specs.mr_world_actors.specs.Order.{is_behind, next_living}
 use Rattle.mr_world.specs.declared.inputs.Input.{Input}
 use Rattle.mr_world.specs.declared.inputs.Input.TheVariants.{Map, Reduce}
 

@@ -1,7 +1,7 @@
 -- The events of a journal can happen once more, in a world of their own.
 use Rattle.std.specs.Prelude.{List, [], ◌∷◌, ◌++◌}
-use Rattle.mr_model.specs.Packets.{Config}
-use Rattle.mr_model.specs.World.{Event}
+use Rattle.mr_world_model.specs.Packets.{Config}
+use Rattle.mr_world_model.specs.World.{Event}
 use Rattle.mr_world.specs.Applying.{CanHappen}
 
 -- behind the events before them each of these can happen, in turn

@@ -1,10 +1,10 @@
 -- What a reader sees of a directory. That hidden names are no output is Hadoop's committer document's.
 use Rattle.std.specs.Prelude.{ℕ, Bool, true, false, List, [], ◌∷◌, ◌++◌, Option, Some, None, if◌then◌else◌}
-use Rattle.mr_tree.specs.declared.node.Kind.{Kind}
-use Rattle.mr_tree.specs.declared.node.Kind.TheVariants as kind
-use Rattle.mr_model.specs.Ids.{Name, Path, is_hidden}
-use Rattle.mr_model.specs.Content.{Content, Entry, Dir, File, entry_at}
-use Rattle.mr_model.specs.Results.{file_as}
+use Rattle.mr_names_tree.specs.declared.node.Kind.{Kind}
+use Rattle.mr_names_tree.specs.declared.node.Kind.TheVariants as kind
+use Rattle.mr_world_model.specs.Ids.{Name, Path, is_hidden}
+use Rattle.mr_world_model.specs.Content.{Content, Entry, Dir, File, entry_at}
+use Rattle.mr_world_model.specs.Results.{file_as}
 use Rattle.mr_world.specs.declared.results.VisibleFile.{VisibleFile}
 
 -- the name and the bytes of a file that is seen

@@ -1,7 +1,7 @@
 //! Events once more, for a world of its own that is as far.
 ghost use Rattle.std.specs.Prelude.{◌≡◌, IfOk};
 
-use mr_event::Event;
+use mr_world_events::Event;
 use std::alloc::{AllocError, Global};
 
 /// Equal events.

@@ -1,15 +1,15 @@
 //! An event happens to the parts, or is looked at. Whether the journal has room for it is told here too.
 ghost use Rattle.std.specs.Prelude.{◌≡◌, ◌<◌, IfErr, IfOk, OnOk, length, vec_capacity, vec_len};
-ghost use Rattle.mr_model.specs.World.{World, Compute};
-ghost use Rattle.mr_parts.specs.Histories.{LeavesHistory};
-ghost use Rattle.mr_parts.specs.Standing.{Standing, Tries};
+ghost use Rattle.mr_world_model.specs.World.{World, Compute};
+ghost use Rattle.mr_world_state.specs.Histories.{LeavesHistory};
+ghost use Rattle.mr_world_state.specs.Standing.{Standing, Tries};
 ghost use Rattle.mr_world.specs.Applying.{Counts, ForetellsAt, RefusesAt, foretold_at};
 
 use crate::limits::MAX_EVENTS;
 use crate::took::Took;
-use mr_event::Event;
 use mr_packet::{Bytes, ContainerId};
-use mr_parts::{Parts, WorldFault};
+use mr_world_events::Event;
+use mr_world_state::{Parts, WorldFault};
 
 /// An event happens: which packets it added to the bag.
 pub fn take(parts: &mut Parts, event: &Event) -> Result<Took, WorldFault>

@@ -2,14 +2,14 @@
 //! What it was launched as, its wish, and what it is to compute from: for programs that run a world.
 ghost use Rattle.std.specs.Prelude.{◌≡◌};
 ghost use Rattle.std.specs.Option.{option_map};
-ghost use Rattle.mr_model.specs.World.{World};
+ghost use Rattle.mr_world_model.specs.World.{World};
 ghost use Rattle.mr_world.specs.Readings.{as_input, input_in, place_in, wish_in};
-ghost use Rattle.mr_parts.specs.Standing.{Standing};
+ghost use Rattle.mr_world_state.specs.Standing.{Standing};
 
 use mr_container::{Place, Wish};
 use mr_ids::TaskKind;
 use mr_packet::{Bytes, ContainerId};
-use mr_parts::Parts;
+use mr_world_state::Parts;
 
 /// What a container is to compute from, lent from the world.
 #[derive(Debug, PartialEq, Eq, Drop)]

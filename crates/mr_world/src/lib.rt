@@ -1,5 +1,5 @@
 //! The world: a cluster that is run, event by event, in one process. It has a namespace, a history, a bag of packets,
-//! and the machines of masters, nodes and containers. It is at each point what `mr_model` defines to be the run of
+//! and the machines of masters, nodes and containers. It is at each point what `mr_world_model` defines to be the run of
 //! the events that it took, its *journal*.
 //!
 //! # How to begin
@@ -72,7 +72,7 @@
 //! }
 //! ```
 //!
-//! (Both are run in `crates/tests_guides`.) Events, weather and reasons are those of `mr_event`, which this crate
+//! (Both are run in `crates/tests_guides`.) Events, weather and reasons are those of `mr_world_events`, which this crate
 //! gives on.
 //!
 //! # What is proved
@@ -82,7 +82,7 @@
 //!
 //! - `World::new` has an empty journal, and `journal` and `config` lend what contracts see. A `Config` is copied and
 //!   compared. It tells that its splits are those of a job (`Config::ranges`), so that
-//!   `mr_sequential::jobs_have_their_laws` holds of each world;
+//!   `mr_world_files::jobs_have_their_laws` holds of each world;
 //! - `World::copy` gives a world of its own with the same config and the same journal, from where it goes on by itself.
 //!   It refuses for want of memory alone;
 //! - `apply` refuses an event with the first reason why it is not permitted, else `Full` where it would pass a limit,
@@ -137,9 +137,9 @@ mod world;
 
 pub use inputs::Input;
 pub use limits::MAX_EVENTS;
-pub use mr_event::{Event, Weather, Why};
-pub use mr_parts::{Asked, Config, MAX_CONTAINERS, WorldFault};
 pub use mr_user::Splits;
+pub use mr_world_events::{Event, Weather, Why};
+pub use mr_world_state::{Asked, Config, MAX_CONTAINERS, WorldFault};
 pub use results::VisibleFile;
 pub use took::Took;
 pub use world::World;

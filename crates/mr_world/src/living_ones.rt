@@ -1,13 +1,13 @@
 //! Who lives.
 //! All containers that are alive, or the next one after another: for programs that run a world.
 ghost use Rattle.std.specs.Prelude.{◌≡◌, IfOk, IfErr};
-ghost use Rattle.mr_model.specs.World.{World};
-ghost use Rattle.mr_parts.specs.declared.fault.WorldFault.TheVariants.{NoMemory};
+ghost use Rattle.mr_world_model.specs.World.{World};
+ghost use Rattle.mr_world_state.specs.declared.fault.WorldFault.TheVariants.{NoMemory};
 ghost use Rattle.mr_world.specs.Readings.{living, next_living};
-ghost use Rattle.mr_parts.specs.Standing.{Standing};
+ghost use Rattle.mr_world_state.specs.Standing.{Standing};
 
 use mr_packet::ContainerId;
-use mr_parts::{Parts, WorldFault};
+use mr_world_state::{Parts, WorldFault};
 
 /// The containers that are alive, by generation, then number. Its only fault is an allocation failure.
 pub fn living(parts: &Parts) -> Result<Vec<ContainerId>, WorldFault>

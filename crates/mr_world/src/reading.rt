@@ -3,17 +3,17 @@
 ghost use Rattle.std.specs.Prelude.{◌≡◌, ◌≤◌, ◌<◌, IfOk, IfErr, []};
 ghost use Rattle.std.specs.Option.{option_map};
 ghost use Rattle.mr_history.specs.Reading.{records_of};
-ghost use Rattle.mr_parts.specs.declared.fault.WorldFault.TheVariants.{NoMemory};
-ghost use Rattle.mr_model.specs.World.{World};
-ghost use Rattle.mr_parts.specs.Standing.{Standing};
+ghost use Rattle.mr_world_state.specs.declared.fault.WorldFault.TheVariants.{NoMemory};
+ghost use Rattle.mr_world_model.specs.World.{World};
+ghost use Rattle.mr_world_state.specs.Standing.{Standing};
 ghost use Rattle.mr_world.specs.Histories.{stable_bytes};
 ghost use Rattle.mr_world.specs.Readings.{due_in, phase_in, wanted_in, unflushed_in};
 
 use mr_ids::{AppAttempt, TaskId};
 use mr_master_model::{DutyName, Phase};
 use mr_packet::Envelope;
-use mr_parts::mr_master::Duty;
-use mr_parts::{Parts, WorldFault};
+use mr_world_state::mr_master::Duty;
+use mr_world_state::{Parts, WorldFault};
 
 /// All packets that were ever sent, in the order of their sending.
 pub fn packets(parts: &Parts) -> &[Envelope]

@@ -4,19 +4,19 @@ ghost use Rattle.std.specs.Prelude.{◌≡◌, IfOk, IfErr, OnOk, None, map};
 ghost use Rattle.std.specs.List.{flat_map};
 ghost use Rattle.std.specs.Option.{option_map, option_to_list};
 ghost use Rattle.mr_names.specs.Calls.{IsSound, unheard};
-ghost use Rattle.mr_model.specs.Ids.{marker};
-ghost use Rattle.mr_model.specs.Content.{entry_at, is_file, children, option_kind};
-ghost use Rattle.mr_model.specs.Results.{first_told, outcome, visible};
-ghost use Rattle.mr_model.specs.World.{World};
-ghost use Rattle.mr_parts.specs.declared.fault.WorldFault.TheVariants.{NoMemory};
+ghost use Rattle.mr_world_model.specs.Ids.{marker};
+ghost use Rattle.mr_world_model.specs.Content.{entry_at, is_file, children, option_kind};
+ghost use Rattle.mr_world_model.specs.Results.{first_told, outcome, visible};
+ghost use Rattle.mr_world_model.specs.World.{World};
+ghost use Rattle.mr_world_state.specs.declared.fault.WorldFault.TheVariants.{NoMemory};
 ghost use Rattle.mr_world.specs.VisibleFiles.{as_pair, contents, is_file_kind, seen_beneath};
-ghost use Rattle.mr_parts.specs.Standing.{Standing};
+ghost use Rattle.mr_world_state.specs.Standing.{Standing};
 
 use mr_ids::AppAttempt;
 use mr_names::{Bytes, Caller, Entries, Kind, NameFault, Namespace};
 use mr_packet::{Envelope, Packet};
-use mr_parts::{Parts, WorldFault};
 use mr_paths::{Name, Path, is_hidden};
+use mr_world_state::{Parts, WorldFault};
 use std::alloc::{AllocError, Global};
 
 /// A file that a reader of the destination sees.

@@ -1,17 +1,17 @@
 //! Which attempts won, as the history tells.
 ghost use Rattle.std.specs.Prelude.{◌≡◌, ℕ, IfOk, IfErr, None, map, replicate, slice_get};
 ghost use Rattle.std.specs.List.{range_with_len};
-ghost use Rattle.mr_model.specs.Ids.{reduce_of};
-ghost use Rattle.mr_model.specs.Records.{winner_in};
-ghost use Rattle.mr_model.specs.Claims.{records, winner};
-ghost use Rattle.mr_model.specs.World.{World};
-ghost use Rattle.mr_parts.specs.declared.fault.WorldFault.TheVariants.{NoMemory};
-ghost use Rattle.mr_parts.specs.Standing.{Standing};
+ghost use Rattle.mr_world_model.specs.Ids.{reduce_of};
+ghost use Rattle.mr_world_model.specs.Records.{winner_in};
+ghost use Rattle.mr_world_model.specs.Claims.{records, winner};
+ghost use Rattle.mr_world_model.specs.World.{World};
+ghost use Rattle.mr_world_state.specs.declared.fault.WorldFault.TheVariants.{NoMemory};
+ghost use Rattle.mr_world_state.specs.Standing.{Standing};
 ghost use Rattle.mr_world.specs.inner.Winning.{Notes, NotesAt, if_at, is_free, success_of};
 
 use mr_history::{Record, Records};
 use mr_ids::{AttemptId, JobId, TaskId, TaskKind};
-use mr_parts::{Parts, WorldFault};
+use mr_world_state::{Parts, WorldFault};
 use std::alloc::{AllocError, Global};
 
 /// The recorded winner of a reduce, if it has one: the attempt of its first success that is stable. Its only

@@ -2,8 +2,8 @@
 
 use crate::fixtures::{TEXT, Table, opened};
 use mr_board::{Mismatch, Seat};
-use mr_event::Event;
 use mr_world::World;
+use mr_world_events::Event;
 use std::alloc::Global;
 use std::process::Abort;
 

@@ -1,10 +1,10 @@
 //! Jobs that threads run: gates, and works at once. Runs with faults of a plan are rows of tools/hostile.
-ghost use Rattle.mr_commands.specs.job.Submission.{IsWithinLimits};
+ghost use Rattle.mr_sim_commands.specs.job.Submission.{IsWithinLimits};
 
-use mr_commands::{Submission, read_job_text};
 use mr_drive::{DriveFault, Plan, Report, drive};
 use mr_ids::TaskKind;
 use mr_jobs::WordCount;
+use mr_sim_commands::{Submission, read_job_text};
 use mr_user::{Gate, GateFault};
 use mr_world::Config;
 use std::alloc::Global;

@@ -3,12 +3,12 @@
 ghost use Rattle.std.specs.Prelude.{◌≡◌, []};
 
 use mr_board::{Board, Finished, Mismatch, Seat, Work};
-use mr_event::{Event, Weather};
 use mr_ids::{AppAttempt, Bytes, JobId, TaskKind};
 use mr_jobs::WordCount;
 use mr_packet::ContainerId;
 use mr_user::{Gate, GateFault, OpenGate};
 use mr_world::{Config, Splits, Took, World, WorldFault};
+use mr_world_events::{Event, Weather};
 use std::alloc::Global;
 use std::process::Abort;
 

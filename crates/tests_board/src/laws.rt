@@ -1,14 +1,14 @@
 //! The laws of what a world's calls answer, each called once on the world of a job that has succeeded, with ample memory.
 
 use crate::fixtures::{TEXT, ended};
-use mr_event::Event;
 use mr_ids::{AttemptId, JobId, TaskId, TaskKind};
-use mr_laws::{
+use mr_packet::Packet;
+use mr_world::{VisibleFile, World};
+use mr_world_events::Event;
+use mr_world_laws::{
     files_stay_after_the_outcome, marked_files_stay, marker_stays, outcome_stays,
     success_means_marker, told_winner_is_the_winner, winner_stays,
 };
-use mr_packet::Packet;
-use mr_world::{VisibleFile, World};
 use std::alloc::Global;
 use std::process::Abort;
 

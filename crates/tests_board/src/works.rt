@@ -1,13 +1,13 @@
 //! Works that are taken off a board, done, and handed in.
 
 use crate::fixtures::{BLOCK, ShutGate, container, opened};
-use mr_event::{Event, Why};
 use mr_ids::Bytes;
 use mr_jobs::WordCount;
 use mr_mapside::WorkFault;
 use mr_packet::ContainerId;
 use mr_user::GateFault;
 use mr_world::WorldFault;
+use mr_world_events::{Event, Why};
 
 // Whether the event hands in the map's block.
 fn is_the_block(event: &Event, c: ContainerId) -> bool {

@@ -1,6 +1,6 @@
 //! What is told of lines that are no commands: whether something is told of just these lines.
-use mr_hint::{Script, Trouble, hint_of};
 use mr_sim::{Command, SimFault, answer};
+use mr_sim_hints::{Script, Trouble, hint_of};
 use std::alloc::Global;
 use std::process::Abort;
 

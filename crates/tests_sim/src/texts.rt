@@ -1,8 +1,8 @@
 //! What is answered from bytes alone, and texts that no run of the program prints.
-use mr_commands::{JobKind, read_job_text};
-use mr_event::{PlanAct, PlanFault};
 use mr_ids::JobId;
 use mr_sim::{Asked, Command, Form, JobTextFault, Seen, SimFault, answer};
+use mr_sim_commands::{JobKind, read_job_text};
+use mr_world_events::{PlanAct, PlanFault};
 use std::process::Abort;
 
 // One map and one reduce.

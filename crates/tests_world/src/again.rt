@@ -1,10 +1,10 @@
 //! Calls that are made again where memory was refused: the world is as it was, and goes on from there as if nothing had been.
 
-use mr_event::Event;
 use mr_ids::{AttemptId, TaskId};
 use mr_master_model::{DutyName, Phase};
 use mr_packet::ContainerId;
 use mr_world::{Took, VisibleFile, World, WorldFault};
+use mr_world_events::Event;
 use std::process::Abort;
 
 /// What is read of a world without memory, of its newest master where it is of a master.

@@ -4,10 +4,10 @@ use crate::again::{applied, due, world_copied};
 use crate::events::{start, store_call};
 use crate::masters::JOB;
 use mr_container::Wish;
-use mr_event::{Event, Weather};
 use mr_master_model::Phase;
 use mr_packet::{Bytes, ContainerId};
 use mr_world::{Config, Input, Splits, World, WorldFault};
+use mr_world_events::{Event, Weather};
 use std::alloc::{AllocError, Global};
 use std::process::Abort;
 

@@ -5,11 +5,11 @@ use crate::events::{crash, start, store_call};
 use crate::fixtures::{Stop, started, world};
 use crate::masters::{JOB, REDUCE, container};
 use mr_container::Wish;
-use mr_event::Event;
 use mr_ids::Bytes;
 use mr_master_model::{DutyName, Phase};
 use mr_packet::ContainerId;
 use mr_world::{Input, Splits, World};
+use mr_world_events::Event;
 use std::alloc::{AllocError, Global};
 use std::process::Abort;
 

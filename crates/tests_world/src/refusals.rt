@@ -2,8 +2,8 @@
 
 use crate::fixtures::{Stop, bytes, comes_to, started};
 use crate::masters::container;
-use mr_event::{Event, Why};
 use mr_world::WorldFault;
+use mr_world_events::{Event, Why};
 
 // The container is to compute, and takes no such bytes.
 #[test]

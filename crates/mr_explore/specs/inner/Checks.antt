@@ -1,8 +1,8 @@
 -- Why scripts are not checked, and files not told.
 use Rattle.std.specs.Prelude.{◌≡◌, ℕ, List, Err}
-use Rattle.mr_commands.specs.declared.fault.SimFault.{SimFault}
-use Rattle.mr_commands.specs.declared.fault.SimFault.TheVariants as fault
-use Rattle.mr_commands.specs.job.Text.{submission_of}
+use Rattle.mr_sim_commands.specs.declared.fault.SimFault.{SimFault}
+use Rattle.mr_sim_commands.specs.declared.fault.SimFault.TheVariants as fault
+use Rattle.mr_sim_commands.specs.job.Text.{submission_of}
 
 -- no memory; or `play` came to another end
 abbrev pub IsUnchecked : SimFault → Type 0

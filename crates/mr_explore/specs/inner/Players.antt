@@ -1,19 +1,19 @@
 -- The definitions, of a player.
 use Rattle.std.specs.Prelude.{◌≡◌, ℕ, suc, Bool, true, false, List, Option, None, Result, Ok, Err}
 use Rattle.mr_packet.specs.declared.packet.ContainerId.{ContainerId}
-use Rattle.mr_model.specs.World.{Event, Crash}
+use Rattle.mr_world_model.specs.World.{Event, Crash}
 use Rattle.mr_play.specs.mr_world.specs.Limits.{within}
 use Rattle.mr_play.specs.declared.player.Player.{Player}
 use Rattle.mr_play.specs.Played.{Played, losing}
 use Rattle.mr_play.specs.Text.{job_as}
 use Rattle.mr_play.specs.Players.{SameJob, state_in}
-use Rattle.mr_walk.specs.Steps.{Onward, Goes, Ends, Full}
-use Rattle.mr_faults.specs.declared.fault.Fault.{Fault}
+use Rattle.mr_explore_search.specs.Steps.{Onward, Goes, Ends, Full}
+use Rattle.mr_explore_faults.specs.declared.fault.Fault.{Fault}
 use Rattle.mr_explore.specs.Faults.{asks_on, befallen_by, calm, faults_at, faults_by, goes_in_vain, kept, kept_in, listed, most_events, next_event, of_crashes, of_event, of_world, onward, steps_made, told}
-use Rattle.mr_commands.specs.declared.fault.SimFault.{SimFault}
-use Rattle.mr_commands.specs.declared.fault.SimFault.TheVariants as fault
-use Rattle.mr_walk.specs.declared.fault.WalkFault.{WalkFault}
-use Rattle.mr_walk.specs.declared.fault.WalkFault.TheVariants as walk_fault
+use Rattle.mr_sim_commands.specs.declared.fault.SimFault.{SimFault}
+use Rattle.mr_sim_commands.specs.declared.fault.SimFault.TheVariants as fault
+use Rattle.mr_explore_search.specs.declared.fault.WalkFault.{WalkFault}
+use Rattle.mr_explore_search.specs.declared.fault.WalkFault.TheVariants as walk_fault
 use Rattle.mr_explore.specs.Runs.{Exploring, newest_in, start_first}
 
 abbrev pub view_of : Player → Exploring

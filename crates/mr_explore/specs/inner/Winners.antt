@@ -4,8 +4,8 @@ use Rattle.std.specs.List.{flat_map, range_with_len}
 use Rattle.mr_ids.specs.Attempt.{Attempt}
 use Rattle.mr_ids.specs.declared.id.JobId.{JobId}
 use Rattle.mr_history.specs.Reading.{records_of}
-use Rattle.mr_model.specs.Ids.{reduce_of}
-use Rattle.mr_model.specs.Records.{winner_in}
+use Rattle.mr_world_model.specs.Ids.{reduce_of}
+use Rattle.mr_world_model.specs.Records.{winner_in}
 
 -- the winners of the first `reduces` reduces of a job, by the bytes of the segments in their order
 abbrev pub told_winners : JobId → ℕ → List (List ℕ) → List (Option Attempt)

@@ -6,10 +6,10 @@ use Rattle.mr_script.specs.declared.command.Command.{Command}
 use Rattle.mr_script.specs.Lines.{lines_of}
 use Rattle.mr_script.specs.Script.{IsFirstBad}
 use Rattle.mr_world.specs.Limits.{within}
-use Rattle.mr_commands.specs.declared.fault.SimFault.{SimFault}
-use Rattle.mr_commands.specs.declared.fault.SimFault.TheVariants as fault
+use Rattle.mr_sim_commands.specs.declared.fault.SimFault.{SimFault}
+use Rattle.mr_sim_commands.specs.declared.fault.SimFault.TheVariants as fault
 use Rattle.mr_play.specs.declared.player.Player.{Player}
-use Rattle.mr_commands.specs.declared.job.submission.Submission.{Submission}
+use Rattle.mr_sim_commands.specs.declared.job.submission.Submission.{Submission}
 use Rattle.mr_play.specs.Text.{config_of, played_of, stretches_of}
 use Rattle.mr_play.specs.WorldText.{line_of_winner}
 use Rattle.mr_play.specs.Players.{state_in}

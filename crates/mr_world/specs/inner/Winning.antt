@@ -8,7 +8,7 @@ use Rattle.mr_ids.specs.declared.id.JobId.{JobId}
 use Rattle.mr_ids.specs.declared.id.TaskId.{TaskId}
 use Rattle.mr_history.specs.declared.record.Record.{Record}
 use Rattle.mr_history.specs.declared.record.Record.TheVariants.{ReduceSucceeded}
-use Rattle.mr_model.specs.Ids.{reduce_of}
+use Rattle.mr_world_model.specs.Ids.{reduce_of}
 
 -- the attempt, if it is one at the task
 abbrev pub if_at : Attempt → TaskId → Option Attempt

@@ -1,7 +1,7 @@
 use Rattle.std.proofs.Common.{take}
 use Rattle.std.specs.List.{AllByRecursion}
 use Rattle.mr_explore.specs.Ends.{LeadsTo}
-use Rattle.mr_ends.specs.declared.row.Row.{Row}
+use Rattle.mr_explore_ends.specs.declared.row.Row.{Row}
 use Rattle.mr_explore.proofs.leading.check_rows.Given as goal
 
 -- those so far lead to their ends

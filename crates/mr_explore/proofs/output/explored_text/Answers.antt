@@ -1,5 +1,5 @@
 use Rattle.std.proofs.Common.{ap, subst, ◌∙◌}
-use Rattle.mr_ends.specs.Table.{Table}
+use Rattle.mr_explore_ends.specs.Table.{Table}
 use Rattle.mr_explore.specs.Ends.{LeadToEnds, told_text}
 use Rattle.mr_explore.proofs.Printing.{unchecked_failed, unsaid_failed}
 use Rattle.mr_explore.proofs.output.explored_text.Goals as goal

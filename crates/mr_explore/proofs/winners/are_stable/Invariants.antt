@@ -1,7 +1,7 @@
 use Rattle.std.proofs.Common.{◌≡◌, map, take}
 use Rattle.std.specs.List.{flat_map}
 use Rattle.mr_history.specs.Reading.{records_of}
-use Rattle.mr_model.specs.Records.{records_below}
+use Rattle.mr_world_model.specs.Records.{records_below}
 use Rattle.mr_play.specs.mr_world.specs.Journal.{world_in}
 use Rattle.mr_explore.proofs.winners.are_stable.Given as goal
 

@@ -1,4 +1,4 @@
-use Rattle.mr_tree.proofs.ListingLaws as laws
+use Rattle.mr_names_tree.proofs.ListingLaws as laws
 use Rattle.mr_names.proofs.laws.listings.Goals as goal
 
 pub returns : goal.returns

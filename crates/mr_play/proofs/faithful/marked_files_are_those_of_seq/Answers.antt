@@ -1,5 +1,5 @@
 use Rattle.std.proofs.Common.{◌∙◌, sym, ap}
-use Rattle.mr_commands.specs.job.Text.{submission_of}
+use Rattle.mr_sim_commands.specs.job.Text.{submission_of}
 use Rattle.mr_play.proofs.Marked.{marked-shows, refused-never}
 use Rattle.mr_play.proofs.faithful.marked_files_are_those_of_seq.Goals as goal
 

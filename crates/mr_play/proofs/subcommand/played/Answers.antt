@@ -1,7 +1,7 @@
 use Rattle.std.proofs.Common.{◌≡◌, Ok, List, ℕ, subst}
 use Rattle.mr_script.specs.Lines.{lines_of}
 use Rattle.mr_script.specs.Script.{AreCommands}
-use Rattle.mr_commands.specs.job.Text.{submission_of}
+use Rattle.mr_sim_commands.specs.job.Text.{submission_of}
 use Rattle.mr_play.proofs.Showing.{all-printed}
 use Rattle.mr_play.proofs.subcommand.played.Goals as goal
 

@@ -1,6 +1,6 @@
 use Rattle.std.proofs.Common.{◌≡◌, ◌++◌, ◌∙◌, ap, sym, append_assoc, codes, decimal, Result, Ok, Err}
 use Rattle.std.specs.Prelude.{OnOk}
-use Rattle.mr_commands.specs.committer.Text.{name_fault_text}
+use Rattle.mr_sim_commands.specs.committer.Text.{name_fault_text}
 use Rattle.mr_trace.proofs.call_words.put_name_fault.Goals as goal
 
 on_ok : {A E P Q : Type 0} (r : Result A E) → OnOk r P → (P → Q) → OnOk r Q

@@ -1,5 +1,5 @@
 use Rattle.std.proofs.Common.{◌≡◌, ◌≤◌, ◌++◌, drop, length}
-use Rattle.mr_model.specs.World.{Event}
+use Rattle.mr_world_model.specs.World.{Event}
 use Rattle.mr_play.specs.mr_world.specs.Journal.{Journal}
 use Rattle.mr_play.specs.mr_world.specs.Repeating.{CanFollow}
 use Rattle.mr_trace.specs.Happened.{happened_behind, maker_of}

@@ -1,6 +1,6 @@
 use Rattle.std.proofs.Common.{sym, ◌∙◌, arith}
 use Rattle.mr_world.proofs.Histories.{no-bytes}
-use Rattle.mr_parts.proofs.Mastering.{unraised}
+use Rattle.mr_world_state.proofs.Mastering.{unraised}
 use Rattle.mr_world.proofs.Read_winners.{none-stable}
 use Rattle.mr_world.proofs.reading.stable.Goals as goal
 use Rattle.mr_world.proofs.reading.stable.Goals.{in_default-via-in-Some+else-is_raised, in_default-via-in_default}

@@ -1,5 +1,5 @@
 use Rattle.std.proofs.Common.{◌≡◌, drop}
-use Rattle.mr_model.specs.Results.{first_told}
+use Rattle.mr_world_model.specs.Results.{first_told}
 use Rattle.mr_world.proofs.results.first_told.Given as goal
 
 -- what is told first by the packets that are left is what is told first by all

@@ -1,6 +1,6 @@
 use Rattle.std.proofs.Common.{◌≡◌, ◌++◌, drop, map}
 use Rattle.std.specs.List.{flat_map}
-use Rattle.mr_model.specs.Content.{Listed}
+use Rattle.mr_world_model.specs.Content.{Listed}
 use Rattle.mr_world.specs.VisibleFiles.{as_pair, seen_beneath}
 use Rattle.mr_world.proofs.results.visible_files.Given as goal
 

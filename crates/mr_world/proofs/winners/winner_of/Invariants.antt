@@ -1,5 +1,5 @@
 use Rattle.std.proofs.Common.{◌≡◌, drop}
-use Rattle.mr_model.specs.Records.{winner_in}
+use Rattle.mr_world_model.specs.Records.{winner_in}
 use Rattle.mr_world.proofs.winners.winner_of.Given as goal
 
 -- who wins by the records that are left is who wins by all

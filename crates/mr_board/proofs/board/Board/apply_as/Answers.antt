@@ -1,6 +1,6 @@
 use Rattle.std.proofs.Common.{◌≡◌, Bool, true, false, refl, sym, ◌∙◌}
 use Rattle.mr_user.specs.Computation.{computation}
-use Rattle.mr_sequential.specs.Jobs.{job_of}
+use Rattle.mr_world_files.specs.Jobs.{job_of}
 use Rattle.mr_world.specs.Journal.{world_in}
 use Rattle.mr_world.proofs.Headlines.{holds-still}
 use Rattle.mr_board.proofs.Faithful.{carries-nothing, not-both}

@@ -1,11 +1,11 @@
 use Rattle.std.proofs.Common.{◌≡◌, Err, ap, refl, subst, sym, ◌∙◌}
 use Rattle.mr_user.specs.Computation.{computation}
-use Rattle.mr_sequential.specs.Jobs.{job_of}
-use Rattle.mr_event.specs.declared.event.Event.{Event}
-use Rattle.mr_event.specs.declared.why.Why.{Why}
-use Rattle.mr_model.specs.World.{Compute}
-use Rattle.mr_model.specs.Sequential.{CarriesDefinition}
-use Rattle.mr_world.specs.mr_parts.specs.declared.fault.WorldFault.TheVariants.{NotNow}
+use Rattle.mr_world_files.specs.Jobs.{job_of}
+use Rattle.mr_world_events.specs.declared.event.Event.{Event}
+use Rattle.mr_world_events.specs.declared.why.Why.{Why}
+use Rattle.mr_world_model.specs.World.{Compute}
+use Rattle.mr_world_model.specs.Sequential.{CarriesDefinition}
+use Rattle.mr_world.specs.mr_world_state.specs.declared.fault.WorldFault.TheVariants.{NotNow}
 use Rattle.mr_world.specs.Journal.{world_in}
 use Rattle.mr_world.proofs.Headlines.{holds-still}
 use Rattle.mr_board.specs.Boards.{Makes, why_not_due}

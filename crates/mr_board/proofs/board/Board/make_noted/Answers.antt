@@ -1,7 +1,7 @@
 use Rattle.std.proofs.Common.{◌≡◌, ap, subst, sym, ◌∙◌}
 use Rattle.mr_user.specs.Computation.{computation}
-use Rattle.mr_sequential.specs.Jobs.{job_of}
-use Rattle.mr_model.specs.Sequential.{CarriesDefinition}
+use Rattle.mr_world_files.specs.Jobs.{job_of}
+use Rattle.mr_world_model.specs.Sequential.{CarriesDefinition}
 use Rattle.mr_world.specs.Headline.{HeadlineHolds}
 use Rattle.mr_world.specs.Journal.{Journal, world_in}
 use Rattle.mr_world.proofs.Headlines.{holds-still}

@@ -1,6 +1,6 @@
 use Rattle.std.proofs.Common.{◌≡◌, ap, length, sym, ◌∙◌}
 use Rattle.mr_user.specs.Computation.{computation}
-use Rattle.mr_sequential.specs.Jobs.{job_of}
+use Rattle.mr_world_files.specs.Jobs.{job_of}
 use Rattle.mr_board.proofs.Faithful.{faithful-empty}
 use Rattle.mr_board.proofs.board.Board.new.Goals as goal
 

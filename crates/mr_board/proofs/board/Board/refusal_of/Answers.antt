@@ -1,5 +1,5 @@
 use Rattle.std.proofs.Common.{◌≡◌, ap, sym, ◌∙◌}
-use Rattle.mr_model.specs.World.{Compute}
+use Rattle.mr_world_model.specs.World.{Compute}
 use Rattle.mr_board.specs.Boards.{Noted}
 use Rattle.mr_board.proofs.Due.{refused-as-foretold, refused-for-memory, told-alike}
 use Rattle.mr_board.proofs.board.Board.refusal_of.Goals as goal

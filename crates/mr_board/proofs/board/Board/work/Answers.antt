@@ -1,5 +1,5 @@
 use Rattle.std.proofs.Common.{◌≡◌, ◌≤◌, Some, ap, subst, sym, ◌∙◌}
-use Rattle.mr_work.specs.Works.{IsShort}
+use Rattle.mr_container_work.specs.Works.{IsShort}
 use Rattle.mr_world.specs.Ranges.{IsInRange}
 use Rattle.mr_world.specs.Readings.{as_input}
 use Rattle.mr_board.specs.Boards.{Noted, input_now}

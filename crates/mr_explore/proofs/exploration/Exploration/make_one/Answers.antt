@@ -1,5 +1,5 @@
 use Rattle.std.proofs.Common.{sym, ap, subst, ◌∙◌}
-use Rattle.mr_ends.specs.Table.{noted}
+use Rattle.mr_explore_ends.specs.Table.{noted}
 use Rattle.mr_explore.specs.Exploring.{Fails, Remaining, came}
 use Rattle.mr_explore.proofs.Making.{none_left, walk_failed, walk_made}
 use Rattle.mr_explore.proofs.exploration.Exploration.make_one.Goals as goal

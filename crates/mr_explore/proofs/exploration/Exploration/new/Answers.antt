@@ -1,5 +1,5 @@
 use Rattle.std.proofs.Common.{ℕ, refl, sym, ap, ◌∙◌}
-use Rattle.mr_walk.specs.Runs.{runs}
+use Rattle.mr_explore_search.specs.Runs.{runs}
 use Rattle.mr_explore.specs.Runs.{explored}
 use Rattle.mr_explore.proofs.Onwards.{most_events_is}
 use Rattle.mr_explore.proofs.exploration.Exploration.new.Goals as goal

@@ -1,5 +1,5 @@
 use Rattle.std.proofs.Common.{subst}
-use Rattle.mr_walk.specs.Steps.{GoesOn}
+use Rattle.mr_explore_search.specs.Steps.{GoesOn}
 use Rattle.mr_explore.specs.Runs.{Exploring, explored}
 use Rattle.mr_explore.specs.inner.Players.{view_of}
 use Rattle.mr_explore.proofs.explored.ExploredRun.go_on.Goals as goal

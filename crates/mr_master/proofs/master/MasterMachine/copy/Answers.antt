@@ -1,5 +1,5 @@
 use Rattle.mr_master_model.specs.Next.{seen}
-use Rattle.mr_hearing.specs.mr_change.proofs.Keeping.{held}
+use Rattle.mr_master_events.specs.mr_master_state.proofs.Keeping.{held}
 use Rattle.mr_master.proofs.Past_stays.{passed-same}
 use Rattle.mr_master.proofs.master.MasterMachine.copy.Goals as goal
 

@@ -3,7 +3,7 @@ use Rattle.mr_task.specs.declared.fault.TaskFault.TheVariants.{NoMemory}
 use Rattle.mr_master_model.specs.declared.phase.LaunchFault.{LaunchFault}
 use Rattle.mr_master_model.specs.declared.phase.LaunchFault.TheVariants.{Task}
 use Rattle.mr_master_model.specs.Past.{Expires}
-use Rattle.mr_hearing.specs.mr_change.proofs.Standing.{then-stands}
+use Rattle.mr_master_events.specs.mr_master_state.proofs.Standing.{then-stands}
 use Rattle.mr_master.proofs.master.MasterMachine.expire.Goals as goal
 
 pub take-requires : goal.take-requires

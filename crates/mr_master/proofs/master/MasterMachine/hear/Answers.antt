@@ -1,6 +1,6 @@
 use Rattle.std.proofs.Common.{◌∙◌}
 use Rattle.mr_master_model.specs.Past.{Hears}
-use Rattle.mr_hearing.specs.mr_change.proofs.Standing.{then-stands}
+use Rattle.mr_master_events.specs.mr_master_state.proofs.Standing.{then-stands}
 use Rattle.mr_master.proofs.master.MasterMachine.hear.Goals as goal
 
 pub take-requires : goal.take-requires

@@ -1,5 +1,5 @@
 use Rattle.std.proofs.Common.{[]}
-use Rattle.mr_hearing.specs.mr_change.proofs.Standing.{stands-for-some}
+use Rattle.mr_master_events.specs.mr_master_state.proofs.Standing.{stands-for-some}
 use Rattle.mr_master.proofs.Past_stays.{passed-none}
 use Rattle.mr_master.proofs.master.MasterMachine.new.Goals as goal
 

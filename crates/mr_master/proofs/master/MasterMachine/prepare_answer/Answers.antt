@@ -1,9 +1,9 @@
 use Rattle.std.proofs.Common.{subst}
 use Rattle.mr_master_model.specs.Past.{Answered}
 use Rattle.mr_master_model.specs.Next.{seen}
-use Rattle.mr_hearing.specs.mr_change.specs.Prepared.{PlansFor}
-use Rattle.mr_hearing.specs.mr_change.specs.State.{Master}
-use Rattle.mr_hearing.specs.mr_change.proofs.Keeping.{held}
+use Rattle.mr_master_events.specs.mr_master_state.specs.Prepared.{PlansFor}
+use Rattle.mr_master_events.specs.mr_master_state.specs.State.{Master}
+use Rattle.mr_master_events.specs.mr_master_state.proofs.Keeping.{held}
 use Rattle.mr_master.proofs.Owning.{is-placed}
 use Rattle.mr_master.proofs.Past_stays.{none-live}
 use Rattle.mr_master.proofs.master.MasterMachine.prepare_answer.Goals as goal

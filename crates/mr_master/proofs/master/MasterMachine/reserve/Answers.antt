@@ -1,13 +1,13 @@
 use Rattle.std.proofs.Common.{◌≡◌, sym, subst, OnErr}
 use Rattle.mr_master_model.specs.Past.{Step}
 use Rattle.mr_master_model.specs.Next.{seen}
-use Rattle.mr_hearing.specs.mr_change.specs.Prepared.{HasRoom, IsExpiry, PlansFor, IsReadyFor}
-use Rattle.mr_hearing.specs.mr_change.specs.State.{Master}
-use Rattle.mr_hearing.specs.mr_change.proofs.Keeping.{held}
-use Rattle.mr_hearing.specs.mr_change.proofs.Containers.{on-ok}
-use Rattle.mr_hearing.specs.mr_change.proofs.Made.{now-ready}
+use Rattle.mr_master_events.specs.mr_master_state.specs.Prepared.{HasRoom, IsExpiry, PlansFor, IsReadyFor}
+use Rattle.mr_master_events.specs.mr_master_state.specs.State.{Master}
+use Rattle.mr_master_events.specs.mr_master_state.proofs.Keeping.{held}
+use Rattle.mr_master_events.specs.mr_master_state.proofs.Containers.{on-ok}
+use Rattle.mr_master_events.specs.mr_master_state.proofs.Made.{now-ready}
 use Rattle.mr_master.proofs.Past_stays.{passed-unchanged}
-use Rattle.mr_hearing.specs.mr_change.proofs.Standing.{unchanged-keeps}
+use Rattle.mr_master_events.specs.mr_master_state.proofs.Standing.{unchanged-keeps}
 use Rattle.mr_master.proofs.master.MasterMachine.reserve.Goals as goal
 
 pub invariant_of-self : goal.invariant_of-self

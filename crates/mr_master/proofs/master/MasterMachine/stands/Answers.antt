@@ -1,5 +1,5 @@
 use Rattle.std.proofs.Common.{subst}
-use Rattle.mr_hearing.specs.mr_change.specs.State.{Master, StandsForSome}
+use Rattle.mr_master_events.specs.mr_master_state.specs.State.{Master, StandsForSome}
 use Rattle.mr_master.proofs.master.MasterMachine.stands.Goals as goal
 
 pub returns : goal.returns

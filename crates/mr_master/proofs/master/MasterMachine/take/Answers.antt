@@ -1,8 +1,8 @@
 use Rattle.std.proofs.Common.{sym, subst}
-use Rattle.mr_hearing.specs.mr_change.specs.Prepared.{IsSound, HasRoom, IsReadyFor}
-use Rattle.mr_hearing.specs.mr_change.specs.State.{Master}
-use Rattle.mr_hearing.specs.mr_change.proofs.Keeping.{held}
-use Rattle.mr_hearing.specs.mr_change.proofs.Made.{step-stands}
+use Rattle.mr_master_events.specs.mr_master_state.specs.Prepared.{IsSound, HasRoom, IsReadyFor}
+use Rattle.mr_master_events.specs.mr_master_state.specs.State.{Master}
+use Rattle.mr_master_events.specs.mr_master_state.proofs.Keeping.{held}
+use Rattle.mr_master_events.specs.mr_master_state.proofs.Made.{step-stands}
 use Rattle.mr_master.proofs.Past_stays.{passed-still, passed-more}
 use Rattle.mr_master.proofs.master.MasterMachine.take.Goals as goal
 

@@ -1,7 +1,7 @@
 use Rattle.std.proofs.Common.{Option, subst}
 use Rattle.std.specs.Option.{option_map}
-use Rattle.mr_model.specs.Packets.{Config}
-use Rattle.mr_model.specs.Sequential.{Input}
+use Rattle.mr_world_model.specs.Packets.{Config}
+use Rattle.mr_world_model.specs.Sequential.{Input}
 use Rattle.mr_world.specs.Limits.{within}
 use Rattle.mr_world.specs.Readings.{as_input}
 use Rattle.mr_play.specs.Text.{job_as}

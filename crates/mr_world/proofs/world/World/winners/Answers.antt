@@ -1,8 +1,8 @@
 use Rattle.std.proofs.Common.{◌≡◌, subst, map, IfOk}
 use Rattle.std.proofs.lemmas.Result.{IfOk-weaker}
 use Rattle.std.specs.List.{range_with_len}
-use Rattle.mr_model.specs.Claims.{winner}
-use Rattle.mr_model.specs.Ids.{reduce_of}
+use Rattle.mr_world_model.specs.Claims.{winner}
+use Rattle.mr_world_model.specs.Ids.{reduce_of}
 use Rattle.mr_world.specs.Journal.{Journal, run_of, world_in}
 use Rattle.mr_world.proofs.world.World.winners.Goals as goal
 

@@ -1,7 +1,0 @@
-use Rattle.std.proofs.Common.{take}
-use Rattle.mr_master_model.specs.Sends.{flush_sends}
-use Rattle.mr_change.specs.State.{Reads}
-use Rattle.mr_answer.proofs.flush.flush_packets.Given as goal
-
-abbrev pub invariant-loop-i : goal.invariant-loop-i
-invariant-loop-i l = Reads l.master (λ w s. flush_sends w s (take l.i l.tail)) l.packets.items

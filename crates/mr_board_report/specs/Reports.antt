@@ -1,0 +1,40 @@
+-- What a report of a driven job says (our own profile). The files are those of the sequential execution (Dean and Ghemawat 3.3).
+use Rattle.std.specs.Prelude.{◌≡◌, Bool, true, List, map, Some, None}
+use Rattle.mr_user.specs.Computation.{Computation}
+use Rattle.mr_master_model.specs.declared.phase.Phase.TheVariants.{Stopped}
+use Rattle.mr_world_model.specs.Packets.{Config}
+use Rattle.mr_world_model.specs.Results.{outcome, visible}
+use Rattle.mr_world_files.specs.Jobs.{job_of}
+use Rattle.mr_world_files.specs.Shown.{ShowsSequential}
+use Rattle.mr_board.specs.mr_world.specs.Journal.{Journal, world_in}
+use Rattle.mr_board.specs.mr_world.specs.Readings.{phase_in}
+use Rattle.mr_board.specs.mr_world.specs.VisibleFiles.{as_pair}
+use Rattle.mr_board.specs.mr_world.specs.declared.results.VisibleFile.{VisibleFile}
+use Rattle.mr_board.specs.Boards.{IsFaithfulFor}
+use Rattle.mr_board_report.specs.declared.fault.DriveFault.{DriveFault}
+use Rattle.mr_board_report.specs.declared.fault.DriveFault.TheVariants.{JournalMismatch, TurnsSpent, NoMemory}
+
+-- an outcome was told, or the newest master is Stopped
+abbrev pub IsThrough : Journal → Type 0
+IsThrough j = outcome (world_in j) ≡ None → phase_in j.config (world_in j) (world_in j).fence ≡ Some Stopped
+
+-- a report of this world, for a plan of this config
+pub record IsReported {K V : Type 0} (job : Computation K V) (config : Config) (succeeded : Bool) (files : List VisibleFile) (j : Journal) : Type 0 where
+  pub config_is : j.config ≡ config
+  -- each result in its journal is what the job's functions give
+  pub faithful : IsFaithfulFor job j
+  pub through : IsThrough j
+  -- the files are what a reader of the destination sees
+  pub seen : map as_pair files ≡ visible (world_in j)
+  -- it succeeded where success was told
+  pub told : succeeded ≡ true → outcome (world_in j) ≡ Some true
+  pub tells : outcome (world_in j) ≡ Some true → succeeded ≡ true
+  -- and then a reader sees the files of the sequential execution, and nothing else
+  pub sequential : succeeded ≡ true → ShowsSequential (job_of job) j.config (world_in j)
+
+-- why there is no report of this world, for a plan of this config: another config, an end that was not reached, or no memory
+abbrev pub IsUnreported : Config → Journal → DriveFault → Type 0
+IsUnreported config j JournalMismatch = j.config ≡ config → ⊥
+IsUnreported config j TurnsSpent = (j.config ≡ config) × (IsThrough j → ⊥)
+IsUnreported config j NoMemory = (j.config ≡ config) × IsThrough j
+IsUnreported config j _ = ⊥

@@ -1,6 +1,0 @@
-use Rattle.mr_change.proofs.Keeping.{held}
-use Rattle.mr_change.proofs.machine.Machine.all_succeeded.Goals as goal
-
-pub returns : goal.returns
-returns c = λ w s keeps.
-    c.all_succeeded.ensures w s.calls (held c.self.view_is keeps).tasks

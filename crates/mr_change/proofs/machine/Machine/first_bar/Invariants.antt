@@ -1,5 +1,0 @@
-use Rattle.mr_change.specs.Passing.{NoneLive}
-use Rattle.mr_change.proofs.machine.Machine.first_bar.Given as goal
-
-abbrev pub invariant-loop-i : goal.invariant-loop-i
-invariant-loop-i l = NoneLive l.self l.i

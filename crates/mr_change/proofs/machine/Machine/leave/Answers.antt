@@ -1,5 +1,0 @@
-use Rattle.mr_change.specs.Told.{with_deaths}
-use Rattle.mr_change.proofs.machine.Machine.leave.Goals as goal
-
-pub returns : goal.returns
-returns c = λ w s keeps. c.tell_losses.ensures w (with_deaths w s c.args.dead.now) (c.tell_deaths.ensures w s keeps)

@@ -1,8 +1,0 @@
-use Rattle.mr_task.specs.Calls.{Loses}
-use Rattle.mr_change.proofs.Keeping.{held, tell-keeps}
-use Rattle.mr_change.proofs.machine.Machine.loses.Goals as goal
-
-pub returns : goal.returns
-returns c = λ w s keeps.
-    let a = c.args.attempt in
-    tell-keeps _ w s a.task c.args.place (Loses a) c.lose.new.self (held c.self.view_is keeps) (c.requires.own w s keeps) (c.requires.at w s keeps) c.lose.ensures

@@ -1,6 +1,0 @@
-use Rattle.mr_change.proofs.Keeping.{held}
-use Rattle.mr_change.proofs.Parts.{with-work}
-use Rattle.mr_change.proofs.machine.Machine.set_work.Goals as goal
-
-pub returns : goal.returns
-returns c = λ w s keeps. with-work c.set.new.self c.args.work c.set.ensures (held c.self.view_is keeps)

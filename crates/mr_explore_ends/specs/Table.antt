@@ -1,0 +1,64 @@
+-- The ends that runs came to, and what leads to each (our own profile).
+use Rattle.std.specs.Prelude.{ℕ, ◌+◌, ◌-◌, ◌^◌, min, Bool, ◌&&◌, ◌||◌, List, [], ◌∷◌, ◌++◌, ◌==◌, nat_lt, length, if◌then◌else◌}
+use Rattle.std.specs.Str.{bytes_eq}
+use Rattle.mr_world_events.specs.declared.event.Event.{Event}
+use Rattle.mr_script_writer.specs.Repeating.{repeating}
+
+-- a run that was made: what is printed of the end that it came to, how many faults it has, and its events
+pub record Came : Type 0 where
+  pub end : List ℕ
+  pub faults : ℕ
+  pub events : List Event
+
+-- an end: what is printed of it, and how many runs came to it. Of the first shortest of these runs it has how many
+-- faults and events there are, and the script that repeats it
+pub record End : Type 0 where
+  pub end : List ℕ
+  pub runs : ℕ
+  pub faults : ℕ
+  pub events : ℕ
+  pub script : List ℕ
+
+-- how many runs there are with one more; they are counted up to 2^64 - 1
+abbrev pub one_more : ℕ → ℕ
+one_more n = min (n + 1) (2 ^ 64 - 1)
+
+-- an end to which one run came
+abbrev pub opened : Came → End
+opened c = record { end = c.end; runs = 1; faults = c.faults; events = length c.events; script = repeating c.events }
+
+-- a run with these faults and events is shorter than the shortest so far: by its faults, or with as many by its events
+abbrev pub is_shorter : ℕ → ℕ → End → Bool
+is_shorter faults events e = nat_lt faults e.faults || ((faults == e.faults) && nat_lt events e.events)
+
+-- one run more came to the end, with this many faults and these events
+abbrev pub met : ℕ → List Event → End → End
+met faults events e =
+    if is_shorter faults (length events) e
+    then record e { runs = one_more e.runs; faults = faults; events = length events; script = repeating events }
+    else record e { runs = one_more e.runs }
+
+-- the ends in the order in which they came first
+abbrev pub noted_in : Came → List End → List End
+noted_in c [] = opened c ∷ []
+noted_in c (e ∷ es) = if bytes_eq e.end c.end then met c.faults c.events e ∷ es else e ∷ noted_in c es
+
+-- how many runs were made, and the ends that came
+pub record Table : Type 0 where
+  pub runs : ℕ
+  pub ends : List End
+
+abbrev pub noted : Came → Table → Table
+noted c t = record { runs = one_more t.runs; ends = noted_in c t.ends }
+
+abbrev pub empty : Table
+empty = record { runs = 0; ends = [] }
+
+-- runs that were made behind others
+abbrev pub all_noted : List Came → Table → Table
+all_noted [] t = t
+all_noted (c ∷ cs) t = all_noted cs (noted c t)
+
+-- the table of runs, in the order in which they were made
+abbrev pub table_of : List Came → Table
+table_of cs = all_noted cs empty

@@ -1,0 +1,86 @@
+-- What is printed of the ends that runs came to (our own profile). All but the scripts stands in comments, so that each part of it, behind the job text, is an input of `play`.
+use Rattle.std.specs.Prelude.{ℕ, zero, suc, ◌+◌, Bool, true, false, List, [], ◌∷◌, ◌++◌, ◌==◌, length, codes, decimal, Option, Some, None, unwrap_or, if◌then◌else◌}
+use Rattle.std.specs.List.{flat_map, range_with_len}
+use Rattle.std.specs.Str.{bytes_eq}
+use Rattle.mr_script.specs.Lines.{after}
+use Rattle.mr_script_writer.specs.Repeating.{commented}
+use Rattle.mr_explore_ends.specs.Table.{End, Table}
+use Rattle.mr_explore_ends.specs.Goals.{best_of}
+
+-- ---- whether the files of an end are those of the sequential execution
+
+-- what stands behind the first n lines of a text
+abbrev pub behind_lines : ℕ → List ℕ → List ℕ
+behind_lines zero bytes = bytes
+behind_lines (suc n) bytes = behind_lines n (unwrap_or (after 10 bytes) [])
+
+-- what `seq` prints of the job, if it prints anything, and how many lines of an end stand before its files. These are
+-- a winner for each reduce, the marker, and the outcome
+pub record Sequential : Type 0 where
+  pub files : Option (List ℕ)
+  pub lines : ℕ
+
+abbrev pub are_files : Option (List ℕ) → List ℕ → Bool
+are_files None files = false
+are_files (Some said) files = bytes_eq files said
+
+abbrev pub is_sequential : Sequential → List ℕ → Bool
+is_sequential s end = are_files s.files (behind_lines s.lines end)
+
+-- ---- the text
+
+-- words, a number, and what is counted
+unfoldable pub counting : List ℕ → ℕ → List ℕ → List ℕ
+counting before n word = before ++ decimal n ++ word ++ (if n == 1 then [] else codes "s")
+
+-- what was found: the table of the runs that were made, how many faults a run has at most, and whether these are all
+pub record Found : Type 0 where
+  pub table : Table
+  pub faults : ℕ
+  pub whole : Bool
+
+abbrev pub if_not_all : Bool → List ℕ
+if_not_all true = []
+if_not_all false = codes ", not all"
+
+-- how many runs were made, with how many faults, and whether these are all
+abbrev pub runs_text : Found → List ℕ
+runs_text f = counting (codes "# ") f.table.runs (codes " run") ++ counting (codes " with at most ") f.faults (codes " fault") ++ if_not_all f.whole
+
+abbrev pub sequential_line : Bool → List ℕ
+sequential_line true = codes "# sequential yes\n"
+sequential_line false = codes "# sequential no\n"
+
+-- how many runs came to an end, and how many faults and events the first shortest of them has
+abbrev pub shortest_line : End → List ℕ
+shortest_line e =
+    counting (codes "# ") e.runs (codes " run") ++ counting (codes "; the first shortest has ") e.faults (codes " fault") ++ counting (codes " and ") e.events (codes " event") ++ 10 ∷ []
+
+-- an end: that line, what is printed of it, whether its files are those of the sequential execution, and the script
+abbrev pub end_text : Sequential → End → List ℕ
+end_text s e = shortest_line e ++ commented e.end ++ sequential_line (is_sequential s e.end) ++ e.script
+
+-- an end behind an empty line, if its script has just this many faults
+abbrev pub text_if : Sequential → ℕ → End → List ℕ
+text_if s faults e = if e.faults == faults then 10 ∷ end_text s e else []
+
+abbrev pub ends_text : Sequential → List End → ℕ → List ℕ
+ends_text s ends faults = flat_map (text_if s faults) ends
+
+-- all ends, those of the fewest faults first
+abbrev pub all_text : Sequential → Found → List ℕ
+all_text s f =
+    runs_text f ++ counting (codes ", ") (length f.table.ends) (codes " end") ++ 10 ∷ flat_map (ends_text s f.table.ends) (range_with_len 0 (f.faults + 1))
+
+-- the best end that meets a goal, or `none`
+abbrev pub best_text : Sequential → Option End → List ℕ
+best_text s None = codes "none\n"
+best_text s (Some e) = end_text s e
+
+abbrev pub found_text : Sequential → List ℕ → Found → List ℕ
+found_text s goal f = runs_text f ++ 10 ∷ best_text s (best_of goal f.table.ends)
+
+-- what is printed, of all ends or of the best that meets a goal
+abbrev pub explored_text : Sequential → Option (List ℕ) → Found → List ℕ
+explored_text s None f = all_text s f
+explored_text s (Some goal) f = found_text s goal f

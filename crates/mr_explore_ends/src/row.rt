@@ -1,0 +1,78 @@
+//! Rows of a table: an end, and the first shortest of the runs that came to it.
+ghost use Rattle.std.specs.Prelude.{◌≡◌, IfOk, OnOk, OnErr};
+ghost use Rattle.mr_script_writer.specs.Repeating.{repeating};
+ghost use Rattle.mr_explore_ends.specs.Rows.{as_end};
+ghost use Rattle.mr_explore_ends.specs.Table.{is_shorter, met, opened};
+
+use mr_script_writer::put_script;
+use mr_world_events::Event;
+use std::alloc::{AllocError, Global};
+
+/// An end: how many runs came to it, and which of them has the fewest faults, and then the fewest events.
+#[derive(Debug, Drop)]
+pub struct Row {
+    /// What is printed of it.
+    pub end: Vec<u8>,
+    /// From 1.
+    pub runs: u64,
+    pub faults: u32,
+    /// How many lines the script has.
+    pub events: usize,
+    /// A script of `play` that leads to it, an event a line. Of several with as few faults and events it is the one that was made first.
+    pub script: Vec<u8>,
+}
+
+impl Row {
+    /// An end to which one run came. It fails where there is no memory.
+    pub fn new(
+        alloc: Global,
+        end: Vec<u8>,
+        faults: u32,
+        events: &[Event],
+    ) -> Result<Row, AllocError>
+        ensures { IfOk result (λ row. as_end row ≡ opened (record { end = end.items; faults = faults; events = events.now })) }
+    {
+        let script = script_of(alloc, events)?;
+        Ok(Row {
+            end,
+            runs: 1,
+            faults,
+            events: events.len(),
+            script,
+        })
+    }
+
+    /// One run more came to this end. It fails where there is no memory, and leaves the row as it was.
+    pub(crate) fn meet(
+        &mut self,
+        alloc: Global,
+        faults: u32,
+        events: &[Event],
+    ) -> Result<(), AllocError>
+        ensures met { OnOk result (as_end self.new ≡ met faults events.now (as_end self.old)) }
+        ensures stays { OnErr result (self.new ≡ self.old) }
+    {
+        if self.is_after(faults, events.len()) {
+            self.script = script_of(alloc, events)?;
+            self.faults = faults;
+            self.events = events.len();
+        }
+        self.runs = self.runs.saturating_add(1);
+        Ok(())
+    }
+
+    /// Whether its script has more faults than these, or as many and more events.
+    pub(crate) fn is_after(&self, faults: u32, events: usize) -> bool
+        ensures { result ≡ is_shorter faults events (as_end self.now) }
+    {
+        faults < self.faults || (faults == self.faults && events < self.events)
+    }
+}
+
+fn script_of(alloc: Global, events: &[Event]) -> Result<Vec<u8>, AllocError>
+    ensures { IfOk result (λ script. script.items ≡ repeating events.now) }
+{
+    let mut script = Vec::new(alloc);
+    put_script(&mut script, events)?;
+    Ok(script)
+}

@@ -1,6 +1,0 @@
-use Rattle.std.proofs.Common.{◌≡◌, ◌+◌, [], ◌∷◌, ◌++◌, take, map}
-use Rattle.mr_faults.specs.Kinds.{of_tasks}
-use Rattle.mr_faults.proofs.adding.add_of_tasks.Given as goal
-
-abbrev pub invariant-loop-number : goal.invariant-loop-number
-invariant-loop-number l = l.faults ≡ l.fn.faults ++ of_tasks l.job l.kind l.number l.nodes

@@ -1,7 +1,0 @@
--- Why a launch comes to nothing.
-pub mod Refused
-pub mod inner
--- Crates beneath that this one gives on. The crates above name them through it.
-pub use Rattle.mr_change
-pub use Rattle.mr_change.specs.mr_tasks
-pub use Rattle.mr_change.specs.mr_phase

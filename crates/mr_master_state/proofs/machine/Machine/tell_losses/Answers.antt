@@ -1,0 +1,17 @@
+use Rattle.mr_ids.specs.Attempt.{Attempt}
+use Rattle.mr_task.specs.Calls.{Loses}
+use Rattle.mr_master_state.specs.Told.{with_losses}
+use Rattle.std.proofs.Common.{take}
+use Rattle.mr_master_state.proofs.Dying.{next-keeps, all-keep}
+use Rattle.mr_master_state.proofs.machine.Machine.tell_losses.Goals as goal
+
+pub loop-i-init : goal.loop-i-init
+loop-i-init c = λ w s keeps. keeps
+
+pub loop-i-preserved : goal.loop-i-preserved
+loop-i-preserved c = λ w s keeps.
+    next-keeps w s (λ (a : Attempt). Loses a) c.args.lost.now c.loop-i.i c.index-lost-i.result c.loop-i-test.true c.index-lost-i.is
+    (c.tell_loss.ensures w (with_losses w s (take c.loop-i.i c.args.lost.now)) (c.loop-i.invariant w s keeps))
+
+pub returns : goal.returns
+returns c = λ w s keeps. all-keep w s (λ (a : Attempt). Loses a) c.args.lost.now c.loop-i.i c.loop-i-test.false (c.loop-i.invariant w s keeps)

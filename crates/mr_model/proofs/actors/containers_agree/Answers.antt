@@ -1,5 +1,0 @@
-use Rattle.mr_model.proofs.Containers as containers
-use Rattle.mr_model.proofs.actors.containers_agree.Goals as goal
-
-pub returns : goal.returns
-returns c = containers.containers_agree

@@ -1,5 +1,0 @@
-use Rattle.mr_model.proofs.Acts as laws
-use Rattle.mr_model.proofs.actors.nodes_act.Goals as goal
-
-pub returns : goal.returns
-returns c = laws.nodes_act

@@ -1,5 +1,0 @@
-use Rattle.mr_model.proofs.Nodes as nodes
-use Rattle.mr_model.proofs.actors.nodes_agree.Goals as goal
-
-pub returns : goal.returns
-returns c = nodes.nodes_agree

@@ -1,5 +1,0 @@
-use Rattle.mr_model.proofs.bridge.Stores as laws
-use Rattle.mr_model.proofs.machines.masters_go_on.Goals as goal
-
-pub returns : goal.returns
-returns c = laws.masters_go_on

@@ -1,5 +1,0 @@
-use Rattle.mr_model.proofs.Sends.{one_yes_always}
-use Rattle.mr_model.proofs.one_container_was_told_yes.Goals as goal
-
-pub returns : goal.returns
-returns c = record { yes = one_yes_always }

@@ -1,5 +1,0 @@
-use Rattle.mr_model.proofs.Outcomes.{outcomes_agree}
-use Rattle.mr_model.proofs.one_outcome.Goals as goal
-
-pub returns : goal.returns
-returns c = record { one = outcomes_agree }

@@ -1,5 +1,0 @@
-use Rattle.mr_model.proofs.Grows.{winner_stays}
-use Rattle.mr_model.proofs.the_winner_stays.Goals as goal
-
-pub returns : goal.returns
-returns c = record { stays = winner_stays }

@@ -1,5 +1,0 @@
-use Rattle.mr_parts.proofs.Generations.{begun}
-use Rattle.mr_parts.proofs.masters.Masters.begin.Goals as goal
-
-pub returns-clause-ok : goal.returns-clause-ok
-returns-clause-ok c = begun c.args.self.now c.args.machine (record { machines = c.push.new.self }) c.in_ok-push.ensures.items

@@ -1,7 +1,0 @@
-use Rattle.std.proofs.Common.{is_some}
-use Rattle.mr_parts.specs.Machines.{master_of}
-use Rattle.mr_parts.proofs.Restarting.{Count}
-use Rattle.mr_parts.proofs.masters.Masters.count_alive.Given as goal
-
-abbrev pub invariant-loop-older : goal.invariant-loop-older
-invariant-loop-older l = Count (λ k. is_some (master_of l.fn.self k)) l.older l.count

@@ -1,5 +1,0 @@
-use Rattle.mr_repeat.proofs.Reading.{scripts_are_read_back_law}
-use Rattle.mr_repeat.proofs.laws.scripts_are_read_back.Goals as goal
-
-pub returns : goal.returns
-returns c = scripts_are_read_back_law

@@ -1,6 +1,0 @@
-use Rattle.std.proofs.Common.{◌≡◌, ◌++◌, take}
-use Rattle.mr_repeat.specs.Repeating.{repeating}
-use Rattle.mr_repeat.proofs.script.put_script.Given as goal
-
-abbrev pub invariant-loop-event : goal.invariant-loop-event
-invariant-loop-event l = l.out.items ≡ l.fn.out.items ++ repeating (take l.event-index l.events)

@@ -1,0 +1,49 @@
+//! The subcommand `seq`.
+ghost use Rattle.std.specs.Prelude.{◌≡◌, ◌≤◌, length, map, IfOk, IfErr};
+ghost use Rattle.mr_user.specs.Faults.{RefusedIf};
+ghost use Rattle.mr_sim_commands.specs.Faults.{SeqFails};
+ghost use Rattle.mr_sim_commands.specs.seq.Text.{ArePartFiles, PrintsSeq, RefusesLine};
+ghost use Rattle.mr_sim_commands.specs.job.Submission.{IsWithinLimits};
+
+mod part_files;
+
+use crate::fault::SimFault;
+use crate::job::{JobKind, Submission, read_job_text};
+use crate::seq::part_files::part_files_text;
+use mr_jobs::{LineIndex, MaxByKey, WordCount};
+use mr_user::{UserFault, sequential};
+pub use part_files::print_file;
+use std::alloc::Global;
+
+/// The part files of a job's sequential execution.
+#[tactic(auto, unfolding(crate::specs::seq::Text::output_of))]
+fn part_files_of(alloc: Global, submission: &Submission) -> Result<Vec<Vec<u8>>, UserFault>
+    requires { IsWithinLimits submission.now }
+    ensures files { IfOk result (λ files. ArePartFiles submission.now (map (λ file. file.items) files.items)) }
+    ensures fault { IfErr result (λ fault. RefusedIf fault (RefusesLine submission.now)) }
+{
+    let splits = submission.splits.as_slice();
+    let reduces = submission.reduces;
+    match submission.job {
+        JobKind::WordCount => sequential(alloc, &WordCount, splits, reduces),
+        JobKind::MaxByKey => sequential(alloc, &MaxByKey, splits, reduces),
+        JobKind::LineIndex => sequential(alloc, &LineIndex, splits, reduces),
+    }
+}
+
+/// What `seq` prints for a job text.
+///
+/// `Job` names the first bad key of the job text; `Refused`: the job refuses a line of a split. `NoMemory` may come at any text; no
+/// other fault comes.
+pub fn seq_output(alloc: Global, input: &[u8]) -> Result<Vec<u8>, SimFault>
+    ensures ok { IfOk result (λ v. PrintsSeq input.now v.items) }
+    ensures fault { IfErr result (SeqFails input.now) }
+{
+    let submission = read_job_text(alloc, input)?;
+    match part_files_of(alloc, &submission) {
+        Ok(files) => Ok(part_files_text(alloc, &files)?),
+        Err(UserFault::Refused) => Err(SimFault::Refused),
+        Err(UserFault::NoMemory) => Err(SimFault::NoMemory),
+        Err(UserFault::BadWire) => unreachable!(),
+    }
+}

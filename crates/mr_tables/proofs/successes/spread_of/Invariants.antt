@@ -1,6 +1,0 @@
-use Rattle.std.proofs.Common.{take}
-use Rattle.mr_tables.specs.Earlier.{TellsSpots}
-use Rattle.mr_tables.proofs.successes.spread_of.Given as goal
-
-abbrev pub invariant-loop-told : goal.invariant-loop-told
-invariant-loop-told l = TellsSpots l.spread (take l.told-index l.records)

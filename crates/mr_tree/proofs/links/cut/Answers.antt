@@ -1,5 +1,0 @@
-use Rattle.mr_tree.proofs.Graph.{node_cut}
-use Rattle.mr_tree.proofs.links.cut.Goals as goal
-
-pub returns : goal.returns
-returns c = node_cut c.args.nodes.now c.unlink.new.nodes c.try_remove.new.self c.args.at c.args.key c.args.name.now c.unlink.ensures c.try_remove.ensures.updates

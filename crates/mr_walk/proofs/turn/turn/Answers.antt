@@ -1,9 +1,0 @@
-use Rattle.mr_walk.proofs.Turning.{turned_fault}
-use Rattle.mr_walk.proofs.turn.turn.Goals as goal
-
-pub returns-in_ok-try_fault-in-Some : goal.returns-in_ok-try_fault-in-Some
-returns-in_ok-try_fault-in-Some g c =
-    turned_fault g.R.Run.steps c.args.most c.args.level c.in-Some.fault c.pop_front.new.self c.args.levels.now c.try_fault.new.levels c.in-Some.ensures.items c.in_ok-try_fault-in-Some.ensures.tries
-
-pub returns-in-None : goal.returns-in-None
-returns-in-None g c = c.go_from.ensures c.args.level.faults c.in-None.ensures.cases.0 c.args.most

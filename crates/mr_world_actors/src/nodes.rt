@@ -1,0 +1,116 @@
+//! The machines of all nodes, by number.
+ghost use Rattle.std.specs.Prelude.{◌≡◌, ℕ, None, Some, is_some, IfOk, IfSome, OnOk, OnErr, ◌<◌, ◌-◌, ◌^◌, nat_lt, if◌then◌else◌};
+ghost use Rattle.std.specs.Option.{option_copied};
+ghost use Rattle.mr_node.specs.Readings.{opening, reaction};
+ghost use Rattle.mr_node.specs.Past.{Hears, Restarts, Shelves};
+ghost use Rattle.mr_world_actors.specs.Nodes.{node_of, ChangesNode, SameNodes, node_stepped, reaction_of, added_by};
+
+use mr_ids::AttemptId;
+use mr_mapside::MapOutput;
+use mr_node::{NodeMachine, Reaction};
+use mr_packet::Packet;
+use std::alloc::{AllocError, Global};
+
+/// The machines of all nodes, by number from 0.
+#[derive(Drop)]
+pub struct Nodes {
+    machines: Vec<NodeMachine>,
+}
+
+impl Nodes {
+    /// `count` nodes that begin, in a job of `reduces` reduces. Its only error is an allocation failure.
+    #[tactic(auto, unfolding(crate::specs::Nodes::node_of))]
+    pub fn new(alloc: Global, count: u32, reduces: u32) -> Result<Nodes, AllocError>
+        ensures { IfOk result (λ nodes. (n : ℕ) → node_of nodes n ≡ (if nat_lt n count then Some (record { number = n; seen = opening reduces }) else None)) }
+    {
+        let mut machines = Vec::new(alloc);
+        for n in 0..count {
+            machines.push(NodeMachine::new(alloc, n, reduces))?;
+        }
+        Ok(Nodes { machines })
+    }
+
+    /// Equal machines of the same nodes. Its only fault is an allocation failure.
+    #[tactic(auto, unfolding(crate::specs::Nodes::node_of))]
+    pub fn copy(&self) -> Result<Nodes, AllocError>
+        ensures { IfOk result (SameNodes self.now) }
+    {
+        let mut machines = Vec::with_capacity(*self.machines.allocator(), self.machines.len())?;
+        for machine in &self.machines {
+            machines.push(machine.copy()?)?;
+        }
+        Ok(Nodes { machines })
+    }
+
+    /// The machine of a node, if there is one of this number.
+    #[tactic(auto, unfolding(crate::specs::Nodes::node_of))]
+    pub fn get(&self, n: u32) -> Option<&NodeMachine>
+        ensures { option_copied result ≡ node_of self.now n }
+    {
+        self.machines.get(n as usize)
+    }
+
+    /// The output of a map attempt is put on a node's shelf. Where memory is refused nothing changes.
+    #[tactic(auto, unfolding(crate::specs::Nodes::node_of))]
+    pub fn put(&mut self, n: u32, a: AttemptId, output: MapOutput) -> Result<(), AllocError>
+        ensures ok { OnOk result (ChangesNode self.old n (node_stepped self.old n (Shelves a output)) self.new) }
+        ensures err { OnErr result (SameNodes self.old self.new) }
+    {
+        match self.machines.get_mut(n as usize) {
+            Some(machine) => machine.put(a, output),
+            None => Ok(()),
+        }
+    }
+
+    /// A node hears a packet: what it makes the node do. Where memory is refused nothing changes.
+    #[tactic(auto, unfolding(crate::specs::Nodes::node_of))]
+    pub fn hear(&mut self, n: u32, packet: &Packet) -> Result<Reaction, AllocError>
+        ensures ok { OnOk result (ChangesNode self.old n (node_stepped self.old n (Hears packet.now)) self.new) }
+        ensures reaction { IfOk result (λ r. r ≡ reaction_of (node_of self.old n) packet.now) }
+        ensures err { OnErr result (SameNodes self.old self.new) }
+    {
+        match self.machines.get_mut(n as usize) {
+            Some(machine) => machine.hear(packet),
+            None => Ok(Reaction::Nothing),
+        }
+    }
+
+    /// Whether a node would answer a packet with one.
+    #[tactic(auto, unfolding(crate::specs::Nodes::node_of))]
+    pub fn would_answer(&self, n: u32, packet: &Packet) -> bool
+        ensures { result ≡ is_some (added_by (reaction_of (node_of self.now n) packet.now)) }
+    {
+        match self.machines.get(n as usize) {
+            Some(machine) => would_answer(machine, packet),
+            None => false,
+        }
+    }
+
+    /// A node, if there is one of this number, begins anew: in the next incarnation, of which there is one, and with an empty shelf.
+    #[tactic(auto, unfolding(crate::specs::Nodes::node_of))]
+    pub fn restart(&mut self, n: u32)
+        requires { IfSome (node_of self.old n) (λ m. m.seen.incarnation < 2 ^ 32 - 1) }
+        ensures { ChangesNode self.old n (node_stepped self.old n Restarts) self.new }
+    {
+        if let Some(machine) = self.machines.get_mut(n as usize) {
+            machine.restart();
+        }
+    }
+}
+
+// Whether a node would answer a packet with one. It answers whoever asks it to kill or to send. It answers a launch for another
+// incarnation with its own incarnation, unless it knows the container.
+#[tactic(auto, unfolding(mr_node::specs::Readings::reaction), using(crate::proofs::Replying::answers_launch))]
+fn would_answer(machine: &NodeMachine, packet: &Packet) -> bool
+    ensures { result ≡ is_some (added_by (reaction machine.now.number machine.now.seen packet.now)) }
+{
+    match packet {
+        Packet::Kill { .. } | Packet::Fetch { .. } => true,
+        Packet::Launch {
+            c,
+            a: _,
+            incarnation,
+        } => !machine.knows(c) && *incarnation != machine.incarnation(),
+        _ => false,
+    }
+}

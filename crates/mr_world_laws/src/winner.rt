@@ -1,0 +1,47 @@
+//! Winners: what is told once is told for good, and nodes are told the same.
+ghost use Rattle.std.specs.Prelude.{◌≡◌, ◌⊎◌, IfErr, IfOk, IfSome, IsSome, Some};
+ghost use Rattle.mr_world.specs.mr_world_state.specs.declared.fault.WorldFault.TheVariants.{Full, NoMemory};
+
+use crate::told::Told;
+use mr_ids::{AttemptId, TaskId};
+use mr_packet::Packet;
+use mr_world::{World, WorldFault};
+use mr_world_events::Event;
+
+/// A winner that was told is told again, whatever happens in between.
+///
+/// Refusals: `Full` or `NoMemory`, those of `World::run`. The events before the one that was refused so have happened then.
+#[tactic(auto, using(crate::proofs::Again::winner_again, crate::proofs::Again::run_refused))]
+pub fn winner_stays(
+    world: &mut World,
+    events: Vec<Event>,
+    task: TaskId,
+) -> Result<Told<Option<AttemptId>>, WorldFault>
+    ensures stays { IfOk result (λ told. IsSome told.before → told.after ≡ told.before) }
+    ensures fault { IfErr result (λ fault. (fault ≡ WorldFault.Full) ⊎ (fault ≡ WorldFault.NoMemory)) }
+{
+    let before = world.winner(task)?;
+    world.run(events)?;
+    let after = world.winner(task)?;
+    Ok(Told { before, after })
+}
+
+/// The winner that the packet at this place of the bag tells of, where it is a packet that tells of one, and what `winner` answers of its task: the same.
+///
+/// Its only fault is an allocation failure.
+#[tactic(auto, using(crate::proofs::Again::bag_winner))]
+pub fn told_winner_is_the_winner(
+    world: &World,
+    place: usize,
+) -> Result<Option<(AttemptId, Option<AttemptId>)>, WorldFault>
+    ensures same { IfOk result (λ told. IfSome told (λ winners. winners.1 ≡ Some winners.0)) }
+    ensures memory { IfErr result (λ fault. fault ≡ WorldFault.NoMemory) }
+{
+    let Some(envelope) = world.bag().get(place) else {
+        return Ok(None);
+    };
+    match envelope.body {
+        Packet::Won { t, a } => Ok(Some((a, world.winner(t)?))),
+        _ => Ok(None),
+    }
+}

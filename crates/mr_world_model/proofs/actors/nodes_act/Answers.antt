@@ -1,0 +1,5 @@
+use Rattle.mr_world_model.proofs.Acts as laws
+use Rattle.mr_world_model.proofs.actors.nodes_act.Goals as goal
+
+pub returns : goal.returns
+returns c = laws.nodes_act

@@ -1,0 +1,30 @@
+-- The cluster, and what holds in every run of it, in the order in which to read it. Up to Wanted it is defined. From Claims to Sequential stands what is claimed
+-- of runs. All behind that is for whoever ties these words to the crates beneath or to machines that run.
+pub mod Ids
+pub mod Content
+pub mod Records
+pub mod Bytes
+pub mod Packets
+pub mod Pasts
+pub mod Hearing
+pub mod Duties
+pub mod World
+pub mod Sending
+pub mod Effect
+pub mod Wanted
+pub mod Claims
+pub mod Results
+pub mod Reachable
+pub mod Beside
+pub mod Sequential
+pub mod Stores
+pub mod Laws
+pub mod Calls
+pub mod Containers
+pub mod Nodes
+pub mod Places
+pub mod Actors
+pub mod Stored
+pub mod Acts
+pub mod Addressed
+pub mod Made

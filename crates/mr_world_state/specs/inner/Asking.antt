@@ -1,0 +1,44 @@
+-- A master's store call, as the parts make it: what is known before, and what is left.
+use Rattle.std.specs.Prelude.{◌≡◌, ℕ, Bool, false, ◌&&◌, Result, Ok, Err}
+use Rattle.mr_master_model.specs.declared.store.StoreCall.{StoreCall}
+use Rattle.mr_master_model.specs.declared.store.StoreAnswer.{StoreAnswer}
+use Rattle.mr_world_model.specs.World.{World, Weather, Duty}
+use Rattle.mr_world_model.specs.Stored.{left_in}
+use Rattle.mr_master_refinement.specs.Stores.{told_in}
+use Rattle.mr_world_stores.specs.Calls.{is_made}
+-- what both stores answer and leave
+pub use Rattle.mr_world_stores.specs.Masters.{answer_to, names_after, history_after, is_segment_full, finds_full, IsRanged, IsSuited}
+use Rattle.mr_world_state.specs.declared.duty.Due.{Due}
+use Rattle.mr_world_state.specs.declared.fault.WorldFault.{WorldFault}
+use Rattle.mr_world_state.specs.declared.parts.Parts.{Parts}
+use Rattle.mr_world_state.specs.inner.Duties.{HasDuty}
+use Rattle.mr_world_state.specs.Standing.{Standing, RefusesEvent}
+
+-- it is made in this weather, and would be
+abbrev pub passes : Parts → ℕ → Weather → StoreCall → Bool
+passes p k f c = is_made f && finds_full p.names p.history k c
+
+-- ---- what is left once the call was made, or was not
+
+pub record HasAsked (old : Parts) (k : ℕ) (f : Weather) (c : StoreCall) (new : Parts) : Type 0 where
+  pub names : new.names ≡ left_in f old.names (names_after old.names k c)
+  pub history : new.history ≡ left_in f old.history (history_after old.history k c)
+  pub rest : new ≡ record old { names = new.names; history = new.history }
+
+-- ---- what is known before
+
+-- A duty that is due and finds no store full: its call, and what the master is told of it.
+pub record IsForeseen (p : Parts) (k : ℕ) (f : Weather) (c : StoreCall) (a : StoreAnswer) : Type 0 where
+  pub due : HasDuty p k c
+  pub ranged : IsRanged c
+  pub room : passes p k f c ≡ false
+  pub told : a ≡ told_in f (answer_to p.names p.history k c)
+
+-- a duty is refused so, in each weather
+abbrev pub RefusesDuty : Parts → ℕ → Weather → WorldFault → Type 0
+RefusesDuty p k f fault = (w : World) → Standing p w → RefusesEvent p.config w (Duty k f) fault
+
+-- a look at a duty: it is due, or refused so
+abbrev pub ForeseesDuty : Parts → ℕ → Weather → Result Due WorldFault → Type 0
+ForeseesDuty p k f (Ok due) = (due.app ≡ k) × IsForeseen p k f due.duty.call due.answer
+ForeseesDuty p k f (Err fault) = RefusesDuty p k f fault

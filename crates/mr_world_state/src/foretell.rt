@@ -1,0 +1,39 @@
+//! What a master will hear of its store call, found out before the call is made, so that the master can be made ready
+//! for it.
+ghost use Rattle.std.specs.Prelude.{◌≡◌, ◌≤◌, true, false, not, None, IfOk, IfErr, OnOk};
+ghost use Rattle.mr_master_refinement.specs.Stores.{told_in};
+ghost use Rattle.mr_world_state.specs.inner.Asking.{answer_to, passes, IsRanged};
+ghost use Rattle.mr_world_state.specs.Standing.{Refuses};
+
+use crate::fault::WorldFault;
+use crate::parts::Parts;
+use mr_ids::AppAttempt;
+use mr_master_model::{StoreAnswer, StoreCall};
+use mr_world_events::Weather;
+use mr_world_stores::{finds_full, is_made, master_answer, tell_ranges};
+
+impl Parts {
+    /// What a master will be told of its store call in this weather. Refused `Full` where the call is made and finds
+    /// a store full.
+    pub(crate) fn foretell(
+        &self,
+        app: AppAttempt,
+        call: &StoreCall,
+        weather: Weather,
+    ) -> Result<StoreAnswer, WorldFault>
+        requires { app ≤ self.now.history.fence }
+        ensures told { IfOk result (λ answer. answer ≡ told_in weather (answer_to self.now.names self.now.history app call.now)) }
+        ensures room { OnOk result (passes self.now app weather call.now ≡ false) }
+        ensures ranged { IsRanged call.now }
+        ensures refused { IfErr result (λ fault. Refuses None (not (passes self.now app weather call.now)) true fault) }
+    {
+        tell_ranges(call);
+        if is_made(weather) && finds_full(&self.names, &self.history, app, call) {
+            return Err(WorldFault::Full);
+        }
+        match weather {
+            Weather::Calm => Ok(master_answer(&self.names, &self.history, app, call)?),
+            Weather::Unavailable | Weather::Unanswered => Ok(StoreAnswer::Fault),
+        }
+    }
+}

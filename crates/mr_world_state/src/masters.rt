@@ -1,0 +1,140 @@
+//! The machines of the masters that are alive, by generation.
+ghost use Rattle.std.specs.Prelude.{◌≡◌, ℕ, true, None, is_some, IfOk, OnOk, OnErr};
+ghost use Rattle.std.specs.Option.{option_copied};
+ghost use Rattle.mr_master_model.specs.Past.{Step};
+ghost use Rattle.mr_world_state.specs.Machines.{master_of, master_count};
+ghost use Rattle.mr_world_state.specs.inner.Duties.{IsKept, IsPlannedAt, IsReadyAt, HasActed, IsReserved, IsReadyIn, ActsIn};
+ghost use Rattle.mr_world_state.specs.inner.Masters.{SameMasters, Begins, Ceases, AreCopied, IsCopied};
+
+use mr_master::{MasterMachine, Prepared};
+use mr_packet::Envelope;
+use std::alloc::{AllocError, Global};
+
+/// The machines of the masters that are alive, by generation, from 1. For each other one that was started an empty
+/// place is kept.
+#[derive(Drop)]
+pub struct Masters {
+    machines: Vec<Option<MasterMachine>>,
+}
+
+impl Masters {
+    /// No master was started.
+    #[tactic(auto, unfolding(crate::specs::Machines::master_of, crate::specs::Machines::master_count))]
+    pub(crate) fn new(alloc: Global) -> Masters
+        ensures none { (k : ℕ) → master_of result k ≡ None }
+        ensures count { master_count result ≡ 0 }
+    {
+        Masters {
+            machines: Vec::new(alloc),
+        }
+    }
+
+    /// Masters of the same generations, each of which stands for what it stood for. Its only fault is an allocation
+    /// failure.
+    #[tactic(auto, using(crate::proofs::Copying::masters_copied))]
+    pub(crate) fn copy(&self) -> Result<Masters, AllocError>
+        ensures { IfOk result (AreCopied self.now) }
+    {
+        let mut machines = Vec::with_capacity(*self.machines.allocator(), self.machines.len())?;
+        for machine in &self.machines {
+            machines.push(copied(machine)?)?;
+        }
+        Ok(Masters { machines })
+    }
+
+    /// The machine of the master of this generation, if it is alive.
+    #[tactic(auto, unfolding(crate::specs::Machines::master_of))]
+    pub fn get(&self, k: u32) -> Option<&MasterMachine>
+        ensures { option_copied result ≡ master_of self.now k }
+    {
+        let place = k.checked_sub(1)?;
+        self.machines.get(place as usize)?.as_ref()
+    }
+
+    /// Whether the master of this generation is alive.
+    pub fn contains(&self, k: u32) -> bool
+        ensures { result ≡ is_some (master_of self.now k) }
+    {
+        self.get(k).is_some()
+    }
+
+    /// A master of the next generation begins, with this machine. Where memory is refused nothing changes.
+    #[tactic(auto, unfolding(crate::specs::Machines::master_of, crate::specs::Machines::master_count))]
+    pub(crate) fn begin(&mut self, machine: MasterMachine) -> Result<(), AllocError>
+        ensures ok { OnOk result (Begins self.old machine self.new) }
+        ensures err { OnErr result (SameMasters self.old self.new) }
+    {
+        self.machines.push(Some(machine))?;
+        Ok(())
+    }
+
+    /// The master of this generation is alive no longer.
+    #[tactic(auto, unfolding(crate::specs::Machines::master_of, crate::specs::Machines::master_count))]
+    pub(crate) fn cease(&mut self, k: u32)
+        ensures { Ceases self.old k self.new }
+    {
+        let Some(place) = k.checked_sub(1) else {
+            return;
+        };
+        if let Some(machine) = self.machines.get_mut(place as usize) {
+            *machine = None;
+        }
+    }
+
+    /// A living master makes room for what is prepared; nothing changes but its spare room.
+    pub(crate) fn reserve(&mut self, k: u32, prepared: &Prepared) -> Result<(), AllocError>
+        requires { is_some (master_of self.old k) ≡ true }
+        ensures kept { IsKept self.old k self.new }
+        ensures ready { OnOk result ((step : Step) → IsPlannedAt self.old k step prepared.now → IsReadyAt self.new k step prepared.now) }
+    {
+        let Some(place) = self.machines.get_mut(k as usize - 1) else {
+            unreachable!();
+        };
+        reserve_in(place, prepared)
+    }
+
+    /// A master takes the step that was prepared. Gives the packets that it sends.
+    pub(crate) fn act(&mut self, k: u32, prepared: Prepared) -> Vec<Envelope>
+        requires { (step : Step) × IsReadyAt self.old k step prepared }
+        ensures packets { result.items ≡ prepared.packets }
+        ensures acted { (step : Step) → IsReadyAt self.old k step prepared → HasActed self.old k step self.new }
+    {
+        let Some(place) = self.machines.get_mut(k as usize - 1) else {
+            unreachable!();
+        };
+        act_in(place, prepared)
+    }
+}
+
+// The machine at a place makes room for what is prepared.
+fn reserve_in(place: &mut Option<MasterMachine>, prepared: &Prepared) -> Result<(), AllocError>
+    requires { is_some place.old ≡ true }
+    ensures { IsReserved place.old prepared.now result place.new }
+{
+    match place {
+        Some(machine) => machine.reserve(prepared),
+        None => unreachable!(),
+    }
+}
+
+// The machine at a place takes the step that was prepared.
+fn act_in(place: &mut Option<MasterMachine>, prepared: Prepared) -> Vec<Envelope>
+    requires { IsReadyIn place.old prepared }
+    ensures packets { result.items ≡ prepared.packets }
+    ensures acted { ActsIn place.old prepared place.new }
+{
+    match place {
+        Some(machine) => machine.take(prepared),
+        None => unreachable!(),
+    }
+}
+
+// A machine for another place, if there is one at this.
+fn copied(place: &Option<MasterMachine>) -> Result<Option<MasterMachine>, AllocError>
+    ensures { IfOk result (IsCopied place.now) }
+{
+    match place {
+        Some(machine) => Ok(Some(machine.copy()?)),
+        None => Ok(None),
+    }
+}

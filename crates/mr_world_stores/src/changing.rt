@@ -1,0 +1,54 @@
+//! A master's store call is made: what it leaves of the namespace, or of the job history.
+ghost use Rattle.std.specs.Prelude.{◌≡◌, ◌≤◌, OnOk, OnErr};
+ghost use Rattle.mr_names.specs.Calls.{call_of};
+ghost use Rattle.mr_history.specs.Calls as segments;
+ghost use Rattle.mr_world_model.specs.Stored.{master};
+ghost use Rattle.mr_world_stores.specs.Masters.{IsSuited, is_look};
+
+use crate::foretelling::master_caller;
+use mr_history::{History, Record};
+use mr_ids::AppAttempt;
+use mr_master_model::StoreCall;
+use mr_names::{Namespace, Op};
+use std::alloc::AllocError;
+
+/// The namespace is left as the call leaves it. A look is not made again: it changes nothing.
+pub fn change_names(names: &mut Namespace, app: AppAttempt, op: &Op) -> Result<(), AllocError>
+    ensures ok { OnOk result (names.new ≡ (call_of names.old (master app) op.now).1) }
+    ensures err { OnErr result (names.new ≡ names.old) }
+{
+    if is_look(op) || names.foresee(master_caller(app), op).is_some() {
+        return Ok(());
+    }
+    match names.perform(master_caller(app), op) {
+        Ok(_) => Ok(()),
+        Err(fault) => Err(fault.wants_memory()),
+    }
+}
+
+/// The history is left as an append leaves it.
+pub fn append_record(
+    history: &mut History,
+    app: AppAttempt,
+    line: &Record,
+) -> Result<(), AllocError>
+    requires raised { app ≤ history.old.fence }
+    requires suited { IsSuited history.old app (StoreCall.Append line.now) }
+    ensures ok { OnOk result (history.new ≡ (segments.call_of history.old app (segments.Append line.now)).1) }
+    ensures err { OnErr result (history.new ≡ history.old) }
+{
+    if history.append_refusal(app, line).is_some() {
+        return Ok(());
+    }
+    match history.append(app, *line) {
+        Ok(()) => Ok(()),
+        Err(fault) => Err(fault.wants_memory()),
+    }
+}
+
+// Whether the call changes nothing.
+fn is_look(op: &Op) -> bool
+    ensures { result ≡ is_look op.now }
+{
+    matches!(op, Op::List(_) | Op::Exists(_) | Op::Read(_))
+}

@@ -1,0 +1,46 @@
+//! A run that counts to two, and that may be set back to its beginning where it is at one.
+ghost use Rattle.tests_explore.specs.Counting.{counting};
+
+use mr_explore_search::{Run, WalkFault};
+use std::alloc::Global;
+use std::collections::LinkedList;
+
+/// How far it has counted.
+#[derive(Clone, Copy, Debug, PartialEq, Eq)]
+pub struct Counting {
+    pub at: u32,
+}
+
+impl Run for Counting {
+    type Fault = u32;
+
+    ghost steps = { counting };
+
+    fn fork(&self, _alloc: Global) -> Result<Counting, WalkFault> {
+        Ok(*self)
+    }
+
+    fn go_on(&mut self, _alloc: Global) -> Result<bool, WalkFault> {
+        if self.at < 2 {
+            self.at += 1;
+            Ok(true)
+        } else {
+            Ok(false)
+        }
+    }
+
+    fn faults(&self, alloc: Global) -> Result<LinkedList<u32>, WalkFault> {
+        let mut faults = LinkedList::new(alloc);
+        faults.push_front(0)?;
+        Ok(faults)
+    }
+
+    fn befall(&mut self, _alloc: Global, fault: u32) -> Result<bool, WalkFault> {
+        if self.at == 1 {
+            self.at = fault;
+            Ok(true)
+        } else {
+            Ok(false)
+        }
+    }
+}

@@ -1,0 +1,40 @@
+//! The runs that come of one by at most so many faults.
+
+use crate::counting::Counting;
+use mr_explore_search::Walk;
+use std::alloc::Global;
+use std::process::Abort;
+
+// How many faults more each run might have had that comes of it, in the order in which they are made.
+fn spares(rt: &impl Abort, alloc: Global, faults: u32) -> Vec<u32> {
+    let mut walk = Walk::new(alloc, Counting { at: 0 }, faults, 10).expect(rt, "no walk");
+    let mut spares = Vec::new(alloc);
+    for _ in 0..10 {
+        match walk.next_run(alloc).expect(rt, "no run") {
+            Some(ended) => {
+                assert!(rt; ended.run.at == 2);
+                spares.push(ended.spare).expect(rt, "no memory");
+            }
+            None => return spares,
+        }
+    }
+    panic!(rt; "too many runs")
+}
+
+// Without a fault there is one run. Where there may be one, it is set back at one, and then it is not. Where there may be two, it is set back once more first.
+#[test]
+fn runs_with_faults(rt: HostRuntime) {
+    assert!(rt; spares(&rt, rt.alloc(), 0).as_slice() == [0].as_slice());
+    assert!(rt; spares(&rt, rt.alloc(), 1).as_slice() == [0, 1].as_slice());
+    assert!(rt; spares(&rt, rt.alloc(), 2).as_slice() == [0, 1, 2].as_slice());
+}
+
+// A run that makes at most one step by itself ends there.
+#[test]
+fn runs_of_one_step(rt: HostRuntime) {
+    let alloc = rt.alloc();
+    let mut walk = Walk::new(alloc, Counting { at: 0 }, 0, 1).expect(&rt, "no walk");
+    let ended = walk.next_run(alloc).expect(&rt, "no run");
+    assert!(rt; ended.is_some_and(|ended| ended.run.at == 1));
+    assert!(rt; walk.next_run(alloc).expect(&rt, "no run").is_none());
+}
