@@ -16,7 +16,7 @@ use std::marker::Model;
 use std::mem;
 
 // How many pairs make a run.
-const RUN_LEN: usize = 16384;
+const RUN_LEN: usize = 4096;
 
 // The runs for one reduce, each as it is written. Contracts see them as a list of lists of bytes.
 #[derive(Drop)]

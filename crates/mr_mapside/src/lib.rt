@@ -24,7 +24,7 @@
 //!   to that reduce, by rising keys, each key's values combined.
 //! - Its faults: `User(Refused)` is answered only where the job refuses a line of the split, and no other `User` is
 //!   ever answered. `Full` is answered only where the output's bytes pass 2^24, and `Shuffle` never.
-//! - Read in the code, not proved: it holds at most 16,384 decoded pairs, beside those of the present line and the
+//! - Read in the code, not proved: it holds at most 4,096 decoded pairs, beside those of the present line and the
 //!   values of the one key that is combined. The others are kept as they are written, in sorted runs, which it merges
 //!   at the end. The merge holds a pair of each run, which are more than 1,024 where a split has more than 16,777,216
 //!   pairs.

@@ -23,7 +23,7 @@ use std::alloc::{AllocError, Global};
 /// The gate is entered once, before the work, and a gate that answers a fault is answered `Gate`. Then
 /// `User(Refused)` is answered where the job refuses a line, and `Full` where the output would pass `MAX_OUTPUT_LEN`.
 /// `NoMemory` is answered only where a growth was refused. For n pairs it compares keys n log n times. It holds at
-/// most 16,384 decoded pairs, beside those of the present line and the values of the one key that is combined. The
+/// most 4,096 decoded pairs, beside those of the present line and the values of the one key that is combined. The
 /// others are kept as they are written.
 pub fn map_work<J: Job, G: Gate>(
     alloc: Global,

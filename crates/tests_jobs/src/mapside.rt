@@ -58,10 +58,10 @@ fn long_line_of_one_word(rt: HostRuntime) {
 fn word_of_two_runs(rt: HostRuntime) {
     let rt = &rt;
     let alloc = rt.alloc();
-    let split = b"a\n".repeat(alloc, 16_385).expect(rt, "no memory");
+    let split = b"a\n".repeat(alloc, 4_097).expect(rt, "no memory");
     let mut want = Vec::new(alloc);
-    put(rt, &mut want, b"\0\x04\x40\x11");
-    for line in 0u64..16_385 {
+    put(rt, &mut want, b"\0\x01\x10\x11");
+    for line in 0u64..4_097 {
         put(rt, &mut want, b"\0\0\0\x01a\0\0\0\x03");
         put(rt, &mut want, &line.to_be_bytes());
     }
