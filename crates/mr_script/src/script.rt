@@ -7,13 +7,16 @@ ghost use Rattle.mr_script.specs.declared.script.ScriptFault.TheVariants.{NoMemo
 
 use crate::word::cut;
 use std::alloc::{AllocError, AllocFailed, Global};
+use thiserror::Error;
 
 /// Why a script was not read.
-#[derive(Clone, Copy, Debug, PartialEq, Eq)]
+#[derive(Clone, Copy, Debug, PartialEq, Eq, Error)]
 pub enum ScriptFault {
     /// There was no memory for its commands.
+    #[error("NoMemory")]
     NoMemory,
     /// The first line that is no command, by its number.
+    #[error("BadCommand({0})")]
     BadCommand(usize),
 }
 
