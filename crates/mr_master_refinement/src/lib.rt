@@ -1,6 +1,6 @@
 //! Masters of the cluster and masters' machines: what is read off a master's past here is what `mr_master_model` reads
-//! off the same past. These functions do nothing. `specs/bridge/Steps` is the translation: `setting` of a config and a
-//! generation, `steps` of a past. `specs/bridge/Works` says what a phase is for the machine: the lines that are left of
+//! off the same past. These functions do nothing. `specs/Steps` is the translation: `setting` of a config and a
+//! generation, `steps` of a past. `specs/Works` says what a phase is for the machine: the lines that are left of
 //! a committer's table.
 //!
 //! # What is proved

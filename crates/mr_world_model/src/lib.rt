@@ -51,9 +51,7 @@
 //!   - no container begins twice (`begins_once`), or is placed elsewhere than on one of the cluster's nodes
 //!     (`places_are_nodes`).
 //!
-//! - the bridge to the machine of a master (`specs/bridge`, `src/machines.rt`): at every point of a past a master here
-//!   acts as its machine (`mr_master_model`). That is what it calls next, refuses, launches next and sends
-//!   (`masters_agree`).
+//! That a master here acts as its machine, at every point of a past, is proved in `mr_master_refinement`.
 //!
 //! What each word means: [README.md](../README.md#its-words). Why it holds:
 //! [docs/INVARIANT.md](../../../docs/INVARIANT.md). That a world of machines which is run is one of these is said in `mr_world`.
