@@ -27,7 +27,7 @@ outputs-are-bounded cfg w c p bytes place map t =
     leb-true (length bytes) MAX_OUTPUT_LEN (subst (λ b. (if b then nat_lt (length bytes) (2 ^ 32) else nat_le (length bytes) MAX_OUTPUT_LEN) ≡ true) map own)
 
 pub holds-on : (cfg : Config) (es fs : List Event) → HeadlineHolds (record { config = cfg; events = es }) (record { config = cfg; events = es ++ fs })
-holds-on cfg es fs = let one = outcomes_agree cfg (within cfg) in let stay = results_stay cfg (within cfg) in let found = recovery_finds cfg (within cfg) in record {
+holds-on cfg es fs = let one = outcomes_agree cfg (within cfg) in let stay = results_stay cfg (within cfg) in let found = recovery_finds cfg (within cfg) in let bars = bars_hold cfg (within cfg) in record {
   winner_stays = winner_stays cfg (within cfg) es fs;
   told = told_the_same cfg (within cfg) (es ++ fs);
   whole_files = marker_means_complete cfg (within cfg) (es ++ fs);
@@ -46,7 +46,10 @@ holds-on cfg es fs = let one = outcomes_agree cfg (within cfg) in let stay = res
   exactly = found.exactly (es ++ fs);
   launches_later = found.before (es ++ fs);
   never_again = found.never (es ++ fs);
-  barred = (bars_hold cfg (within cfg)).refused es fs;
+  never_its_own = found.own es fs;
+  barred = bars.refused es fs;
+  over = bars.over (es ++ fs);
+  expiry = bars.expiry (es ++ fs);
 }
 
 -- where a journal was added to

@@ -1,18 +1,19 @@
 -- The headline, of a world before and after a call. What is claimed is mr_world_model's, which says what of it is Hadoop's
 -- and Dean and Ghemawat's.
-use Rattle.std.specs.Prelude.{◌≡◌, ◌≤◌, ℕ, Bool, true, nat_lt, List, [], Some, None, if◌then◌else◌}
+use Rattle.std.specs.Prelude.{◌≡◌, ◌≤◌, ⊥, ℕ, Bool, true, nat_lt, List, [], ◌∷◌, ◌++◌, Some, None, if◌then◌else◌}
 use Rattle.mr_world_model.specs.Ids.{Attempt, Path, TaskId, is_reduce, part}
 use Rattle.mr_world_model.specs.Content.{Entry, File, Op, Superseded, Barred, entry_at}
 use Rattle.mr_world_model.specs.Records.{records_below, winner_in}
 use Rattle.mr_world_model.specs.Packets.{Caller, Names, Refused}
-use Rattle.mr_world_model.specs.Hearing.{Launched, Seen, is_running}
+use Rattle.mr_world_model.specs.Hearing.{Launched, Seen, is_running, is_over}
 use Rattle.mr_world_model.specs.Duties.{winners_of}
-use Rattle.mr_world_model.specs.World.{reply_to, seen_by}
+use Rattle.mr_world_model.specs.World.{LaunchOn, Expire, reply_to, seen_by}
+use Rattle.mr_world_model.specs.Effect.{not_now}
 use Rattle.mr_world_model.specs.Claims.{In, winner, IsToldWon, IsToldOutcome, IsMarked, IsComplete, IsReduce, IsVisible, IsWhole, LooksTheSame, HoldsWhole, WasBarred, has_not_run}
 use Rattle.mr_world_model.specs.Results.{outcome, visible}
 use Rattle.mr_world_model.specs.Sequential.{Job, JobLaws, IsFaithful, SeesSequential}
 use Rattle.mr_world_state.specs.Limits.{within}
-use Rattle.mr_world.specs.Journal.{Journal, world_in}
+use Rattle.mr_world.specs.Journal.{Journal, world_in, run_of}
 
 -- what the newest master has seen
 abbrev pub newest : Journal → Seen
@@ -51,6 +52,12 @@ pub record HeadlineHolds (old new : Journal) : Type 0 where
   -- a master launches nothing before it runs, and never a reduce that had a winner in a generation below its own
   pub launches_later : (k : ℕ) → has_not_run (seen_by new.config (world_in new) k).phase ≡ true → (seen_by new.config (world_in new) k).launched ≡ []
   pub never_again : (k : ℕ) (l : Launched) → k ≤ (world_in new).fence → In l (seen_by new.config (world_in new) k).launched → is_reduce l.attempt ≡ true → winner_in (records_below (world_in new).history k) l.attempt.task ≡ None
+  -- nor ever again one whose success it accepted
+  pub never_its_own : (k n : ℕ) (a : Attempt) → In a (seen_by old.config (world_in old) k).accepted → is_reduce a ≡ true → not_now new.config (world_in new) (LaunchOn k a.task n) ≡ None → ⊥
   -- once a bar of an attempt was answered, each call of that attempt is refused, by the fence where it is below it
   pub barred : (k : ℕ) (a : Attempt) → WasBarred (world_in old) k a → (c : Caller) → c.attempt ≡ Some a → (op : Op) →
       reply_to (world_in new) c (Names op) ≡ Refused (if nat_lt c.app (world_in new).fence then Superseded (world_in new).fence else Barred)
+  -- and it is over for the master that barred it; giving up a node alone makes no attempt of a reduce over
+  pub over : (k : ℕ) (a : Attempt) → WasBarred (world_in new) k a → is_over (seen_by new.config (world_in new) k).ended a ≡ true
+  pub expiry : (k n j : ℕ) (a : Attempt) → is_reduce a ≡ true →
+      is_over (seen_by new.config (run_of new.config (new.events ++ Expire k n ∷ [])) j).ended a ≡ is_over (seen_by new.config (world_in new) j).ended a
