@@ -162,23 +162,26 @@ impl ContainerMachine {
     {
         let a = self.place.attempt;
         match self.wish {
-            Wish::Where { map } => Some(self.to_master(Packet::Where { c: self.id, map })),
+            Wish::Where { map } => Some(self.to_master(Packet::Where {
+                container: self.id,
+                map,
+            })),
             Wish::Fetch {
                 a: from,
                 node,
                 incarnation,
             } => Some(self.to_node(node, from, incarnation)),
             Wish::Lost { a: gone } => Some(self.to_master(Packet::FetchLost {
-                c: self.id,
-                a: gone,
+                container: self.id,
+                attempt: gone,
             })),
-            Wish::Pending => Some(self.to_master(Packet::Pending { a })),
-            Wish::Poll => Some(self.to_master(Packet::Poll { a })),
+            Wish::Pending => Some(self.to_master(Packet::Pending { attempt: a })),
+            Wish::Poll => Some(self.to_master(Packet::Poll { attempt: a })),
             Wish::Report => Some(self.to_master(Packet::Done {
-                a,
+                attempt: a,
                 bytes: self.reported(),
             })),
-            Wish::Failed => Some(self.to_master(Packet::Failed { a })),
+            Wish::Failed => Some(self.to_master(Packet::Failed { attempt: a })),
             Wish::Compute
             | Wish::Mkdirs
             | Wish::Create
@@ -200,8 +203,8 @@ impl ContainerMachine {
         Envelope {
             to: Address::Node(node),
             body: Packet::Fetch {
-                c: self.id,
-                a: from,
+                container: self.id,
+                attempt: from,
                 reduce: self.place.attempt.task().number,
                 incarnation,
                 offset: self.pieces.got_len() as u64,
@@ -248,20 +251,23 @@ impl ContainerMachine {
         match packet {
             Packet::MapReady {
                 map,
-                a,
-                n,
+                attempt,
+                node,
                 incarnation,
-            } => self.hear_ready(*map, *a, *n, *incarnation),
+            } => self.hear_ready(*map, *attempt, *node, *incarnation),
             Packet::Piece {
-                a,
+                attempt,
                 reduce,
                 offset,
                 total,
                 bytes,
-            } => self.hear_piece(a, *reduce, *offset, *total, bytes)?,
-            Packet::FetchLost { c: _, a } => self.hear_lost(*a),
-            Packet::Answer { a, yes } => self.hear_answer(a, *yes),
-            Packet::DoneAck { a } => self.hear_ack(a),
+            } => self.hear_piece(attempt, *reduce, *offset, *total, bytes)?,
+            Packet::FetchLost {
+                container: _,
+                attempt,
+            } => self.hear_lost(*attempt),
+            Packet::Answer { attempt, yes } => self.hear_answer(attempt, *yes),
+            Packet::DoneAck { attempt } => self.hear_ack(attempt),
             _ => {}
         }
         Ok(())
@@ -361,7 +367,7 @@ impl ContainerMachine {
         ensures spare { bag.old.spare ≡ bag.new.spare + length (end_of self.now.id self.now.seen.wish) }
     {
         if let Wish::Over = self.wish {
-            bag.push_reserved(self.to_master(Packet::Ended { c: self.id }));
+            bag.push_reserved(self.to_master(Packet::Ended { container: self.id }));
         }
     }
 

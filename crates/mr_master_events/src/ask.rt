@@ -37,7 +37,7 @@ fn answer(container: ContainerId, attempt: AttemptId, may: bool) -> Envelope
     to_container(
         container,
         Packet::Answer {
-            a: attempt,
+            attempt: attempt,
             yes: may,
         },
     )

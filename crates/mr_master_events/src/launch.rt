@@ -140,8 +140,8 @@ fn told(attempt: AttemptId, launch: &Launch) -> Envelope
     to_node(
         launch.node,
         Packet::Launch {
-            c: launch.container,
-            a: attempt,
+            container: launch.container,
+            attempt: attempt,
             incarnation: launch.incarnation,
         },
     )

@@ -21,7 +21,7 @@ pub fn prepare_packet(master: &Machine, packet: &Packet) -> Result<Prepared, All
     ensures { IfOk result (λ ready. PlansFor master.now (Hears packet.now) ready) }
 {
     match packet {
-        Packet::NodeUp { n, incarnation } => prepare_node_up(master, *n, *incarnation),
+        Packet::NodeUp { node, incarnation } => prepare_node_up(master, *node, *incarnation),
         _ => prepare_if_running(master, packet),
     }
 }
@@ -43,13 +43,13 @@ fn prepare_running(master: &Machine, packet: &Packet) -> Result<Prepared, AllocE
     ensures { IfOk result (λ ready. Plans master.now ready (λ w s. replies w s (heard w s packet.now) packet.now) (λ w s. heard w s packet.now)) }
 {
     match packet {
-        Packet::Pending { a } => prepare_ask(master, *a),
-        Packet::Poll { a } => prepare_ask(master, *a),
-        Packet::Done { a, bytes } => prepare_done(master, *a, *bytes),
-        Packet::Failed { a } => prepare_failed(master, *a),
-        Packet::Ended { c } => prepare_ended(master, c),
-        Packet::Where { c, map } => prepare_where(master, c, *map),
-        Packet::FetchLost { c, a } => Ok(prepare_loss(master, *c, *a)),
+        Packet::Pending { attempt } => prepare_ask(master, *attempt),
+        Packet::Poll { attempt } => prepare_ask(master, *attempt),
+        Packet::Done { attempt, bytes } => prepare_done(master, *attempt, *bytes),
+        Packet::Failed { attempt } => prepare_failed(master, *attempt),
+        Packet::Ended { container } => prepare_ended(master, container),
+        Packet::Where { container, map } => prepare_where(master, container, *map),
+        Packet::FetchLost { container, attempt } => Ok(prepare_loss(master, *container, *attempt)),
         _ => Ok(Prepared::silent(master.alloc, Change::Nothing)),
     }
 }

@@ -91,8 +91,8 @@ fn map_ready(
         container,
         Packet::MapReady {
             map,
-            a: attempt,
-            n: node,
+            attempt: attempt,
+            node: node,
             incarnation,
         },
     )

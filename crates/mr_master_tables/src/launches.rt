@@ -166,8 +166,8 @@ fn note_kill(killed: &mut Vec<bool>, packet: &Envelope)
     ensures noted { NotesKills killed.old.items (packet.now ∷ []) killed.new.items }
     ensures count { length killed.new.items ≡ length killed.old.items }
 {
-    if let Packet::Kill { c } = &packet.body {
-        mark(killed, c.number as usize);
+    if let Packet::Kill { container } = &packet.body {
+        mark(killed, container.number as usize);
     }
 }
 

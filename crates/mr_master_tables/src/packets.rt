@@ -35,7 +35,7 @@ pub fn kill(launch: &Launch) -> Envelope
     to_node(
         launch.node,
         Packet::Kill {
-            c: launch.container,
+            container: launch.container,
         },
     )
 }
@@ -53,8 +53,8 @@ pub fn push_won(
         packets.push(to_node(
             node,
             Packet::Won {
-                t: task,
-                a: attempt,
+                task: task,
+                attempt: attempt,
             },
         ))?;
     }

@@ -193,7 +193,7 @@ impl NodeMachine {
         Envelope {
             to: Address::Master(master),
             body: Packet::NodeUp {
-                n: self.number,
+                node: self.number,
                 incarnation: self.incarnation,
             },
         }
@@ -259,15 +259,25 @@ impl NodeMachine {
         ensures err { OnErr result (self.new ≡ self.old) }
     {
         Ok(match packet {
-            Packet::Launch { c, a, incarnation } => self.note_launch(*c, *a, *incarnation)?,
-            Packet::Kill { c } => Reaction::Adds(self.note_kill(*c)?),
+            Packet::Launch {
+                container,
+                attempt,
+                incarnation,
+            } => self.note_launch(*container, *attempt, *incarnation)?,
+            Packet::Kill { container } => Reaction::Adds(self.note_kill(*container)?),
             Packet::Fetch {
-                c,
-                a,
+                container,
+                attempt,
                 reduce,
                 incarnation,
                 offset,
-            } => Reaction::Adds(self.fetch_piece(*c, *a, *reduce, *incarnation, *offset)?),
+            } => Reaction::Adds(self.fetch_piece(
+                *container,
+                *attempt,
+                *reduce,
+                *incarnation,
+                *offset,
+            )?),
             _ => Reaction::Nothing,
         })
     }
@@ -331,7 +341,10 @@ fn lost(c: &ContainerId, a: AttemptId) -> Envelope
 {
     Envelope {
         to: Address::Container(*c),
-        body: Packet::FetchLost { c: *c, a },
+        body: Packet::FetchLost {
+            container: *c,
+            attempt: a,
+        },
     }
 }
 
@@ -346,7 +359,7 @@ fn ended(c: &ContainerId) -> Envelope
 {
     Envelope {
         to: Address::Master(c.app),
-        body: Packet::Ended { c: *c },
+        body: Packet::Ended { container: *c },
     }
 }
 
@@ -368,7 +381,7 @@ fn piece(
     Ok(Envelope {
         to: Address::Container(c),
         body: Packet::Piece {
-            a,
+            attempt: a,
             reduce,
             offset,
             total: total as u64,

@@ -33,27 +33,27 @@ pub enum Address {
 pub enum Packet {
     /// To a node: the container is to run the attempt, in this incarnation of the node.
     Launch {
-        c: ContainerId,
-        a: AttemptId,
+        container: ContainerId,
+        attempt: AttemptId,
         incarnation: u32,
     },
     /// To a node: the container is to end.
     Kill {
-        c: ContainerId,
+        container: ContainerId,
     },
     /// To a node: the container wants its reduce's block of the attempt's output, from an offset in bytes on, from this incarnation
     /// of the node.
     Fetch {
-        c: ContainerId,
-        a: AttemptId,
+        container: ContainerId,
+        attempt: AttemptId,
         reduce: u32,
         incarnation: u32,
         offset: u64,
     },
     /// To a node: the attempt is the recorded winner of the reduce task.
     Won {
-        t: TaskId,
-        a: AttemptId,
+        task: TaskId,
+        attempt: AttemptId,
     },
     /// To a node: the job came to its end.
     Outcome {
@@ -61,60 +61,60 @@ pub enum Packet {
     },
     /// To a master: the attempt has output, and asks for permission to commit.
     Pending {
-        a: AttemptId,
+        attempt: AttemptId,
     },
     /// To a master: the attempt was told no, and asks again.
     Poll {
-        a: AttemptId,
+        attempt: AttemptId,
     },
     /// To a master: the attempt is done. A reduce's tells the length of its part file in bytes, a map's none.
     Done {
-        a: AttemptId,
+        attempt: AttemptId,
         bytes: Option<u32>,
     },
     /// To a master: the attempt failed.
     Failed {
-        a: AttemptId,
+        attempt: AttemptId,
     },
     /// To a master: the container came to its end.
     Ended {
-        c: ContainerId,
+        container: ContainerId,
     },
     /// To a master: the node runs, in this incarnation.
     NodeUp {
-        n: u32,
+        node: u32,
         incarnation: u32,
     },
     /// To a master: the container asks where the output of a map task lies, by the task's number.
     Where {
-        c: ContainerId,
+        container: ContainerId,
         map: u32,
     },
     /// To a container, and from it to its master: the output of the map attempt is not there.
     FetchLost {
-        c: ContainerId,
-        a: AttemptId,
+        container: ContainerId,
+        attempt: AttemptId,
     },
     /// To a container: whether its attempt may commit.
     Answer {
-        a: AttemptId,
+        attempt: AttemptId,
         yes: bool,
     },
     /// To a container: its master heard that the attempt is done.
     DoneAck {
-        a: AttemptId,
+        attempt: AttemptId,
     },
     /// To a container: the output of the map task is this attempt's, on this node of this incarnation.
     MapReady {
         map: u32,
-        a: AttemptId,
-        n: u32,
+        attempt: AttemptId,
+        node: u32,
         incarnation: u32,
     },
     /// To a container: bytes of the block of this reduce in the attempt's output, from an offset on; `total` is the length of the whole
     /// block.
     Piece {
-        a: AttemptId,
+        attempt: AttemptId,
         reduce: u32,
         offset: u64,
         total: u64,

@@ -52,8 +52,8 @@ pub fn join_addressees(
 ) -> Result<(), AllocError> {
     for envelope in world.bag().iter().skip(first) {
         push_new(cast, &envelope.to)?;
-        if let Packet::Launch { c, .. } = &envelope.body {
-            push_new(cast, &Address::Container(*c))?;
+        if let Packet::Launch { container, .. } = &envelope.body {
+            push_new(cast, &Address::Container(*container))?;
         }
     }
     Ok(())

@@ -48,10 +48,15 @@ fn push_containers(
     cast: &[Address],
 ) -> Result<(), AllocError> {
     for envelope in world.bag() {
-        if let Packet::Launch { c, a, .. } = &envelope.body {
-            let who = Address::Container(*c);
+        if let Packet::Launch {
+            container,
+            attempt,
+            ..
+        } = &envelope.body
+        {
+            let who = Address::Container(*container);
             if cast.contains(&who) {
-                lanes.push(container_lane(alloc, who, a)?)?;
+                lanes.push(container_lane(alloc, who, attempt)?)?;
             }
         }
     }

@@ -245,7 +245,7 @@ fn acknowledges(attempt: AttemptId, packet: &Packet) -> bool
     ensures { result ≡ acknowledges attempt packet.now }
 {
     match packet {
-        Packet::DoneAck { a } => attempt == *a,
+        Packet::DoneAck { attempt: done } => attempt == *done,
         _ => false,
     }
 }

@@ -107,10 +107,10 @@ fn would_answer(machine: &NodeMachine, packet: &Packet) -> bool
     match packet {
         Packet::Kill { .. } | Packet::Fetch { .. } => true,
         Packet::Launch {
-            c,
-            a: _,
+            container,
+            attempt: _,
             incarnation,
-        } => !machine.knows(c) && *incarnation != machine.incarnation(),
+        } => !machine.knows(container) && *incarnation != machine.incarnation(),
         _ => false,
     }
 }

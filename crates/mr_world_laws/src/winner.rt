@@ -41,7 +41,7 @@ pub fn told_winner_is_the_winner(
         return Ok(None);
     };
     match envelope.body {
-        Packet::Won { t, a } => Ok(Some((a, world.winner(t)?))),
+        Packet::Won { task, attempt } => Ok(Some((attempt, world.winner(task)?))),
         _ => Ok(None),
     }
 }

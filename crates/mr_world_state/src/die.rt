@@ -42,6 +42,6 @@ pub fn ended(c: &ContainerId) -> Envelope
 {
     Envelope {
         to: Address::Master(c.app),
-        body: Packet::Ended { c: *c },
+        body: Packet::Ended { container: *c },
     }
 }

@@ -130,7 +130,11 @@ fn hear_launch(
     ensures no_node { OnErr result (SameNodes nodes.old nodes.new) }
     ensures none_lives { OnErr result (Same living.old living.new) }
 {
-    let packet = Packet::Launch { c, a, incarnation };
+    let packet = Packet::Launch {
+        container: c,
+        attempt: a,
+        incarnation,
+    };
     let Some(place) = place_on(nodes, n, a) else {
         return Ok(added(nodes.hear(n, &packet)?));
     };
@@ -184,12 +188,25 @@ fn hear_packet(
     ensures none_lives { OnErr result (Same living.old living.new) }
 {
     match packet {
-        Packet::Launch { c, a, incarnation } => {
-            hear_launch(alloc, nodes, living, n, maps, *c, *a, *incarnation)
+        Packet::Launch {
+            container,
+            attempt,
+            incarnation,
+        } => {
+            hear_launch(
+                alloc,
+                nodes,
+                living,
+                n,
+                maps,
+                *container,
+                *attempt,
+                *incarnation,
+            )
         }
-        Packet::Kill { c } => {
+        Packet::Kill { container } => {
             let reaction = nodes.hear(n, packet)?;
-            living.remove(c);
+            living.remove(container);
             Ok(added(reaction))
         }
         _ => Ok(added(nodes.hear(n, packet)?)),

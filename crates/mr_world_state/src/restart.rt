@@ -111,7 +111,10 @@ fn told_up(masters: &Masters, k: u32, n: u32, incarnation: u32) -> Option<Envelo
     match AppAttempt::new(k) {
         Some(app) if masters.contains(k) => Some(Envelope {
             to: Address::Master(app),
-            body: Packet::NodeUp { n, incarnation },
+            body: Packet::NodeUp {
+                node: n,
+                incarnation,
+            },
         }),
         _ => None,
     }

@@ -174,8 +174,8 @@ fn containers_and_nodes(rt: HostRuntime) {
     let mut bag = Bag::new(alloc);
     let mut node = NodeMachine::new(alloc, 0, 1);
     let launch = Packet::Launch {
-        c,
-        a: attempt(&rt, 0),
+        container: c,
+        attempt: attempt(&rt, 0),
         incarnation: 1,
     };
     let mut container = there(
@@ -195,7 +195,7 @@ fn containers_and_nodes(rt: HostRuntime) {
         stores::container_step(&mut names, &layout, &mut bag, &mut container),
     );
     let body = Packet::NodeUp {
-        n: 0,
+        node: 0,
         incarnation: 2,
     };
     let envelope = Envelope {

@@ -10,7 +10,7 @@ fn push(rt: &impl Abort, bag: &mut Bag, number: u32) {
     let kill = Envelope {
         to: Address::Node(number),
         body: Packet::Kill {
-            c: container(rt, 0),
+            container: container(rt, 0),
         },
     };
     bag.push(kill).expect(rt, "no memory");

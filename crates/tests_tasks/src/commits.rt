@@ -71,7 +71,7 @@ fn calls(rt: &impl Abort, names: &mut Namespace, layout: &Layout, machine: &mut 
 // The attempt of this number at the reduce is told whether it may commit.
 fn is_answered(rt: &impl Abort, machine: &mut ContainerMachine, number: u32, yes: bool) {
     let a = attempt(rt, TaskKind::Reduce, number);
-    hears(rt, machine, Packet::Answer { a, yes });
+    hears(rt, machine, Packet::Answer { attempt: a, yes });
 }
 
 // A reduce that wrote its part file.
@@ -238,7 +238,7 @@ fn fault_aborts(rt: HostRuntime) {
 // It hears that its master knows the attempt of this number to be done, and then wishes this.
 fn is_acknowledged(rt: &impl Abort, map: &mut ContainerMachine, number: u32, want: Wish) {
     let a = attempt(rt, TaskKind::Map, number);
-    hears(rt, map, Packet::DoneAck { a });
+    hears(rt, map, Packet::DoneAck { attempt: a });
     wishes(rt, map, want);
 }
 

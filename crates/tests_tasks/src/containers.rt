@@ -32,8 +32,8 @@ pub fn wishes(rt: &impl Abort, machine: &ContainerMachine, want: Wish) {
 pub fn is_told_where(rt: &impl Abort, machine: &mut ContainerMachine) {
     let ready = Packet::MapReady {
         map: 0,
-        a: attempt(rt, TaskKind::Map, 0),
-        n: 0,
+        attempt: attempt(rt, TaskKind::Map, 0),
+        node: 0,
         incarnation: 1,
     };
     hears(rt, machine, ready);
@@ -53,7 +53,7 @@ pub type Piece<'a> = (u32, u32, u64, u64, &'a [u8]);
 pub fn gets(rt: &impl Abort, alloc: Global, machine: &mut ContainerMachine, piece: &Piece) {
     let (number, reduce, offset, total, bytes) = piece;
     let piece = Packet::Piece {
-        a: attempt(rt, TaskKind::Map, *number),
+        attempt: attempt(rt, TaskKind::Map, *number),
         reduce: *reduce,
         offset: *offset,
         total: *total,

@@ -63,7 +63,14 @@ fn lost_in_the_middle(rt: HostRuntime) {
     asks_from(rt, &reduce, 1);
     let c = container(rt, 0);
     let a = attempt(rt, TaskKind::Map, 0);
-    hears(rt, &mut reduce, Packet::FetchLost { c, a });
+    hears(
+        rt,
+        &mut reduce,
+        Packet::FetchLost {
+            container: c,
+            attempt: a,
+        },
+    );
     wishes(rt, &reduce, Wish::Lost { a });
     reduce.sent();
     wishes(rt, &reduce, Wish::Where { map: 0 });

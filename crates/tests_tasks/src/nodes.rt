@@ -53,7 +53,7 @@ fn comes(
             reacts(node.launch(*c, a, incarnation).expect(rt, "no memory"), c)
         }
         Event::Packet => {
-            let kill = Packet::Kill { c: *c };
+            let kill = Packet::Kill { container: *c };
             reacts(node.hear(&kill).expect(rt, "no memory"), c)
         }
         Event::Kill => tells(node.kill(*c).expect(rt, "no memory"), c),
@@ -71,11 +71,10 @@ fn reacts(reaction: Reaction, c: &ContainerId) -> Deed {
 
 fn tells(envelope: Envelope, c: &ContainerId) -> Deed {
     match &envelope.body {
-        Packet::Ended { c: ended } if *ended == *c && envelope.to == Address::Master(c.app) => {
-            Deed::Ended
-        }
+        Packet::Ended { container: ended }
+            if *ended == *c && envelope.to == Address::Master(c.app) => { Deed::Ended }
         Packet::NodeUp {
-            n: 7,
+            node: 7,
             incarnation: 2,
         } => Deed::Up,
         _ => Deed::Other,

@@ -14,7 +14,10 @@ fn finds(rt: &impl Abort, master: &mut MasterMachine) {
         app: generation(rt, 2),
         number: 0,
     };
-    let asks = Packet::Where { c, map: 0 };
+    let asks = Packet::Where {
+        container: c,
+        map: 0,
+    };
     let sent = master.hear(&asks).expect(rt, "no memory");
     confirm!(rt; is_ready(rt, &sent, &c));
     drop(sent);

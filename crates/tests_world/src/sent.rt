@@ -7,9 +7,11 @@ use std::process::Abort;
 /// Whether the first attempt at the reduce is launched in container 0, in incarnation 1 of node 0.
 pub fn is_launch(rt: &impl Abort, envelope: &Envelope) -> bool {
     let told = match &envelope.body {
-        Packet::Launch { c, a, incarnation } => {
-            *c == container(rt, 0) && *a == attempt(rt, REDUCE, 0) && *incarnation == 1
-        }
+        Packet::Launch {
+            container: c,
+            attempt: a,
+            incarnation,
+        } => { *c == container(rt, 0) && *a == attempt(rt, REDUCE, 0) && *incarnation == 1 }
         _ => false,
     };
     told && envelope.to == Address::Node(0)
@@ -18,7 +20,7 @@ pub fn is_launch(rt: &impl Abort, envelope: &Envelope) -> bool {
 /// Whether container 0 is told that the first attempt at the reduce may commit.
 pub fn is_yes(rt: &impl Abort, envelope: &Envelope) -> bool {
     let told = match &envelope.body {
-        Packet::Answer { a, yes } => *yes && *a == attempt(rt, REDUCE, 0),
+        Packet::Answer { attempt: a, yes } => *yes && *a == attempt(rt, REDUCE, 0),
         _ => false,
     };
     told && envelope.to == Address::Container(container(rt, 0))
@@ -27,7 +29,7 @@ pub fn is_yes(rt: &impl Abort, envelope: &Envelope) -> bool {
 /// Whether container 0 is told that its master heard of the end of the first attempt at the reduce.
 pub fn is_ack(rt: &impl Abort, envelope: &Envelope) -> bool {
     let told = match &envelope.body {
-        Packet::DoneAck { a } => *a == attempt(rt, REDUCE, 0),
+        Packet::DoneAck { attempt: a } => *a == attempt(rt, REDUCE, 0),
         _ => false,
     };
     told && envelope.to == Address::Container(container(rt, 0))
@@ -39,7 +41,7 @@ pub fn is_kill(rt: &impl Abort, packets: &[Envelope], number: u32) -> bool {
         return false;
     }
     let told = match &packets[0].body {
-        Packet::Kill { c } => *c == container(rt, number),
+        Packet::Kill { container: c } => *c == container(rt, number),
         _ => false,
     };
     told && packets[0].to == Address::Node(0)
@@ -62,8 +64,8 @@ pub fn is_ready(rt: &impl Abort, packets: &[Envelope], to: &ContainerId) -> bool
     let told = match &packets[0].body {
         Packet::MapReady {
             map: 0,
-            a,
-            n: 1,
+            attempt: a,
+            node: 1,
             incarnation: 1,
         } => *a == attempt(rt, MAP, 1),
         _ => false,

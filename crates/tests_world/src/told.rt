@@ -52,19 +52,28 @@ fn packet(rt: &impl Abort, told: Told, number: u32) -> Packet {
     let c = container(rt, number);
     let a = attempt(rt, REDUCE, number);
     match told {
-        Told::Pending => Packet::Pending { a },
-        Told::Poll => Packet::Poll { a },
-        Told::Done => Packet::Done { a, bytes: Some(4) },
-        Told::Failed => Packet::Failed { a },
-        Told::Ended => Packet::Ended { c },
-        Told::Where => Packet::Where { c, map: 0 },
-        Told::FetchLost => Packet::FetchLost { c, a },
+        Told::Pending => Packet::Pending { attempt: a },
+        Told::Poll => Packet::Poll { attempt: a },
+        Told::Done => Packet::Done {
+            attempt: a,
+            bytes: Some(4),
+        },
+        Told::Failed => Packet::Failed { attempt: a },
+        Told::Ended => Packet::Ended { container: c },
+        Told::Where => Packet::Where {
+            container: c,
+            map: 0,
+        },
+        Told::FetchLost => Packet::FetchLost {
+            container: c,
+            attempt: a,
+        },
         Told::MapDone => Packet::Done {
-            a: attempt(rt, MAP, number),
+            attempt: attempt(rt, MAP, number),
             bytes: None,
         },
         Told::NodeUp => Packet::NodeUp {
-            n: 0,
+            node: 0,
             incarnation: number,
         },
     }

@@ -12,7 +12,7 @@ pub returns-in-NodeUp : goal.returns-in-NodeUp
 returns-in-NodeUp c =
     let m = c.args.master.now in
     let p = c.args.packet.now in
-    let n = c.in-NodeUp.n in
+    let n = c.in-NodeUp.node in
     let i = c.in-NodeUp.incarnation in
     if-ok c.prepare_node_up.result (λ r. Plans m r (λ w s. []) (λ w s. if is_over s.work then s else after_node_up w s n i)) (λ r. PlansFor m (Hears p) r)
     (λ r x. plan-node-up p n i c.in-NodeUp.is x) c.prepare_node_up.ensures
