@@ -160,7 +160,7 @@ impl ContainerMachine {
     pub fn packet(&self) -> Option<Envelope>
         ensures { result ≡ wished_packet self.now.id self.now.place.attempt self.now.seen self.now.seen.wish }
     {
-        let a = self.place.attempt;
+        let attempt = self.place.attempt;
         match self.wish {
             Wish::Where { map } => Some(self.to_master(Packet::Where {
                 container: self.id,
@@ -175,13 +175,13 @@ impl ContainerMachine {
                 container: self.id,
                 attempt: gone,
             })),
-            Wish::Pending => Some(self.to_master(Packet::Pending { attempt: a })),
-            Wish::Poll => Some(self.to_master(Packet::Poll { attempt: a })),
+            Wish::Pending => Some(self.to_master(Packet::Pending { attempt })),
+            Wish::Poll => Some(self.to_master(Packet::Poll { attempt })),
             Wish::Report => Some(self.to_master(Packet::Done {
-                attempt: a,
+                attempt,
                 bytes: self.reported(),
             })),
-            Wish::Failed => Some(self.to_master(Packet::Failed { attempt: a })),
+            Wish::Failed => Some(self.to_master(Packet::Failed { attempt })),
             Wish::Compute
             | Wish::Mkdirs
             | Wish::Create

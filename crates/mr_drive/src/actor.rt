@@ -61,7 +61,7 @@ impl Actor {
     pub(crate) fn heard(&mut self, envelope: &Envelope) -> Result<(), AllocError> {
         match (&envelope.to, &envelope.body) {
             (Address::Container(c), _) => self.is_ready(c),
-            (Address::Node(_), Packet::Launch { container: c, .. }) => self.is_ready(c),
+            (Address::Node(_), Packet::Launch { container, .. }) => self.is_ready(container),
             _ => Ok(()),
         }
     }

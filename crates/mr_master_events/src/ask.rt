@@ -34,11 +34,5 @@ pub fn prepare_ask(master: &Machine, attempt: AttemptId) -> Result<Prepared, All
 fn answer(container: ContainerId, attempt: AttemptId, may: bool) -> Envelope
     ensures { result ≡ to_container container (Packet.Answer attempt may) }
 {
-    to_container(
-        container,
-        Packet::Answer {
-            attempt: attempt,
-            yes: may,
-        },
-    )
+    to_container(container, Packet::Answer { attempt, yes: may })
 }

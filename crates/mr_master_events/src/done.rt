@@ -54,7 +54,7 @@ pub fn prepare_done(
 fn done_ack(container: ContainerId, attempt: AttemptId) -> Envelope
     ensures { result ≡ to_container container (Packet.DoneAck attempt) }
 {
-    to_container(container, Packet::DoneAck { attempt: attempt })
+    to_container(container, Packet::DoneAck { attempt })
 }
 
 // The record of a success.

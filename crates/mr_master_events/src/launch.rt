@@ -141,7 +141,7 @@ fn told(attempt: AttemptId, launch: &Launch) -> Envelope
         launch.node,
         Packet::Launch {
             container: launch.container,
-            attempt: attempt,
+            attempt,
             incarnation: launch.incarnation,
         },
     )

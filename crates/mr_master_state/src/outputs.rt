@@ -91,8 +91,8 @@ fn map_ready(
         container,
         Packet::MapReady {
             map,
-            attempt: attempt,
-            node: node,
+            attempt,
+            node,
             incarnation,
         },
     )

@@ -50,13 +50,7 @@ pub fn push_won(
     ensures { OnOk result (packets.new.items ≡ packets.old.items ++ to_all nodes (Packet.Won task attempt)) }
 {
     for node in 0..nodes {
-        packets.push(to_node(
-            node,
-            Packet::Won {
-                task: task,
-                attempt: attempt,
-            },
-        ))?;
+        packets.push(to_node(node, Packet::Won { task, attempt }))?;
     }
     Ok(())
 }
