@@ -1,5 +1,6 @@
 //! The phases of a master, what each of its store calls is for, and why it launches nothing on a node or does not give it up.
 use mr_task::TaskFault;
+use thiserror::Error;
 
 /// The phase of a master.
 #[derive(Clone, Copy, Debug, PartialEq, Eq)]
@@ -53,15 +54,20 @@ pub enum DutyName {
     Abort,
 }
 
-/// Why a master launches nothing on a node, or does not give the node up.
-#[derive(Clone, Copy, Debug, PartialEq, Eq)]
+/// Why a master launches nothing on a node, or does not give the node up. Each prints as its variant, `Task` with what
+/// it holds behind it, as `Task AlreadyWon`.
+#[derive(Clone, Copy, Debug, PartialEq, Eq, Error)]
 pub enum LaunchFault {
     /// It is not Running.
+    #[error("NotRunning")]
     NotRunning,
     /// The job has no such task.
+    #[error("NoTask")]
     NoTask,
     /// There is no such node.
+    #[error("NoNode")]
     NoNode,
     /// The task refuses it.
+    #[error("Task {0}")]
     Task(TaskFault),
 }
