@@ -38,6 +38,7 @@ fn ask(task: &mut TaskMachine, attempt: AttemptId) -> Result<(), AllocError>
     requires { Answers task.old (λ t k calls. has (seen t k calls).arrived attempt) true }
     ensures { OnOk result (Stands task.old (Asks attempt) task.new) }
 {
+    // For the prover: a task's machine stands for some calls.
     task.stands();
     match task.pending(attempt) {
         Ok(()) => Ok(()),

