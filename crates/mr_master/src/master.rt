@@ -78,6 +78,7 @@ impl MasterMachine {
     pub fn stands(&self)
         ensures { StandsForSome self.now }
     {
+        // For the prover: a machine stands for some past.
         let _machine = &self.machine;
     }
 }

@@ -14,6 +14,7 @@ pub fn living(parts: &Parts) -> Result<Vec<ContainerId>, WorldFault>
     ensures is { IfOk result (λ all. (w : World) → Standing parts.now w → all.items ≡ living parts.now.config w) }
     ensures memory { IfErr result (λ fault. fault ≡ WorldFault.NoMemory) }
 {
+    // For the prover: the containers stand in order.
     parts.living.tell_order();
     let all = parts.living.all(parts.layout.dest.allocator())?;
     Ok(all)
@@ -24,6 +25,7 @@ pub fn living(parts: &Parts) -> Result<Vec<ContainerId>, WorldFault>
 pub fn next_living(parts: &Parts, after: Option<ContainerId>) -> Option<ContainerId>
     ensures { (w : World) → Standing parts.now w → result ≡ next_living (living parts.now.config w) after }
 {
+    // For the prover: the containers stand in order.
     parts.living.tell_order();
     parts.living.next(after)
 }

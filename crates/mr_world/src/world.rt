@@ -158,6 +158,7 @@ impl World {
     pub fn repeats(&self)
         ensures { CanFollow self.now.config [] self.now.events }
     {
+        // For the prover: the events of a journal can follow one another.
         let _events = &self.journal;
     }
 

@@ -24,6 +24,7 @@ impl Parts {
         ensures foresees { ForeseesCall self.now c.now weather result }
         ensures lives { OnOk result (is_some (kept self.now.living c.now) ≡ true) }
     {
+        // For the prover: a bag holds at most 1,000,000 packets.
         tell_most(&self.bag);
         let machine = match self.living.get(c) {
             Some(machine) => machine,

@@ -25,6 +25,7 @@ impl Parts {
         ensures memory { IfErr result (λ fault. fault ≡ WorldFault.NoMemory → ⊥) }
         ensures fine { IfOk result (λ place. bytes_fault place.attempt.task.kind self.now.config.reduces bytes.now ≡ None) }
     {
+        // For the prover: a bag holds at most 1,000,000 packets.
         tell_most(&self.bag);
         let machine = match self.living.get(c) {
             Some(machine) => machine,

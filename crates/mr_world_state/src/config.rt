@@ -46,6 +46,7 @@ impl Config {
         ensures numbers { IsInRange self.now }
         ensures splits { AreSplits self.now.splits }
     {
+        // For the prover: each split is of bytes.
         self.splits.tell_bytes();
     }
 
@@ -81,6 +82,7 @@ impl Config {
     pub fn maps(&self) -> u32
         ensures { result ≡ length self.now.splits }
     {
+        // For the prover: a config has at most 1,000 splits.
         self.ranges();
         self.splits.len() as u32
     }

@@ -27,6 +27,7 @@ impl Parts {
         if let Some(fault) = machine.expire_refusal(node) {
             return Err(WorldFault::NotNow(why(fault)));
         }
+        // For the prover: a machine stands for some past.
         machine.stands();
         let prepared = match machine.prepare_expiry(node) {
             Ok(prepared) => prepared,

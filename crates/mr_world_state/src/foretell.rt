@@ -27,6 +27,7 @@ impl Parts {
         ensures ranged { IsRanged call.now }
         ensures refused { IfErr result (λ fault. Refuses None (not (passes self.now app weather call.now)) true fault) }
     {
+        // For the prover: the numbers of a record are in the ranges of their types.
         tell_ranges(call);
         if is_made(weather) && finds_full(&self.names, &self.history, app, call) {
             return Err(WorldFault::Full);

