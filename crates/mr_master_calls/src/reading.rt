@@ -21,5 +21,11 @@ pub fn ready_read(master: &Machine, answer: StoreAnswer) -> Result<Prepared, All
     let read = Earlier::of(master.alloc, records)?;
     let next = read_work(&master.setting, read.as_slice())?;
     let earlier = Boxed::new(master.alloc, read)?;
-    Ok(Prepared::silent(master.alloc, Change::HasRead(earlier, next)))
+    Ok(Prepared::silent(
+        master.alloc,
+        Change::HasRead {
+            records: earlier,
+            work: next,
+        },
+    ))
 }

@@ -59,7 +59,7 @@ fn ready_start(master: &Machine, next: Work) -> Result<Prepared, AllocError>
     let after = tasks_after(master)?;
     let tasks = Boxed::new(master.alloc, after)?;
     let packets = won_packets(master)?;
-    Ok(Prepared::new(packets, Change::Enters(tasks, next)))
+    Ok(Prepared::new(packets, Change::Enters { tasks, work: next }))
 }
 
 // The output of a reduce was taken over, and the master will not run yet: to the next work will be moved the
@@ -73,7 +73,14 @@ fn ready_winner(master: &Machine, winner: &TaskWinner, next: Work) -> Result<Pre
     let recovered = master.tasks.recovered(place, winner.attempt)?;
     let machine = Boxed::new(master.alloc, recovered)?;
     let packets = won_packets(master)?;
-    Ok(Prepared::new(packets, Change::EntersOne(place, machine, next)))
+    Ok(Prepared::new(
+        packets,
+        Change::EntersOne {
+            place,
+            machine,
+            work: next,
+        },
+    ))
 }
 
 // What is next after the last call of the table. Where a reduce was taken over, those that are left after the

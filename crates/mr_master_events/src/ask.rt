@@ -25,7 +25,11 @@ pub fn prepare_ask(master: &Machine, attempt: AttemptId) -> Result<Prepared, All
     let ready = Prepared::of_one(
         master.alloc,
         answer(launch.container, attempt, may),
-        Change::Asks(place, attempt, machine),
+        Change::Asks {
+            place,
+            attempt,
+            machine,
+        },
     )?;
     Ok(ready)
 }

@@ -32,7 +32,12 @@ pub fn prepare_done(
             let ready = Prepared::of_one(
                 master.alloc,
                 done_ack(launch.container, attempt),
-                Change::Reports(place, attempt, DoneReply::Accepted, due),
+                Change::Reports {
+                    place,
+                    attempt,
+                    reply: DoneReply::Accepted,
+                    due,
+                },
             )?;
             Ok(ready)
         }
@@ -40,13 +45,23 @@ pub fn prepare_done(
             let ready = Prepared::of_one(
                 master.alloc,
                 done_ack(launch.container, attempt),
-                Change::Reports(place, attempt, DoneReply::Again, None),
+                Change::Reports {
+                    place,
+                    attempt,
+                    reply: DoneReply::Again,
+                    due: None,
+                },
             )?;
             Ok(ready)
         }
         DoneReply::Ignored => Ok(Prepared::silent(
             master.alloc,
-            Change::Reports(place, attempt, DoneReply::Ignored, None),
+            Change::Reports {
+                place,
+                attempt,
+                reply: DoneReply::Ignored,
+                due: None,
+            },
         )),
     }
 }

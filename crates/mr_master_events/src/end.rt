@@ -48,7 +48,15 @@ fn prepare_end(
 {
     let blame = blame_of(master, place, attempt, end);
     let packets = blame_packets(master, attempt, blame)?;
-    Ok(Prepared::new(packets, Change::Ends(place, attempt, *end, blame)))
+    Ok(Prepared::new(
+        packets,
+        Change::Ends {
+            place,
+            attempt,
+            end: *end,
+            blame,
+        },
+    ))
 }
 
 // Whose failure it is.

@@ -8,7 +8,7 @@ ghost use Rattle.mr_master_model.specs.Sends.{kill_of};
 ghost use Rattle.mr_master_events.specs.inner.Expiring.{kills_on};
 ghost use Rattle.mr_master_state.specs.mr_master_tables.specs.Gone.{gone_of};
 ghost use Rattle.mr_master_state.specs.Prepared.{Plans, PlansFor, IsExpiry};
-ghost use Rattle.mr_master_state.specs.State.{Reads, Adds};
+ghost use Rattle.mr_master_state.specs.State.{Reads};
 
 use crate::launch::no_memory;
 use mr_ids::{AttemptId, TaskKind};
@@ -58,7 +58,7 @@ fn give_up(master: &Machine, node: u32) -> Result<Prepared, AllocError>
     let lost = master.all_lost(&gone)?;
     let late = gone_of_kind(master, TaskKind::Reduce, &gone)?;
     let packets = kills(master, &dead)?;
-    Ok(Prepared::new(packets, Change::GivesUp(dead, lost, late)))
+    Ok(Prepared::new(packets, Change::GivesUp { dead, lost, late }))
 }
 
 // The attempts at the tasks of a kind that are live and gone.
@@ -75,20 +75,6 @@ fn kills(master: &Machine, attempts: &[AttemptId]) -> Result<Vec<Envelope>, Allo
     ensures { IfOk result (λ packets. Reads master.now (λ w s. flat_map (kill_of w s) attempts.now) packets.items) }
 {
     let mut packets = Vec::new(master.alloc);
-    push_each_kill(master, &mut packets, attempts)?;
+    master.push_each_kill(&mut packets, attempts)?;
     Ok(packets)
-}
-
-fn push_each_kill(
-    master: &Machine,
-    packets: &mut Vec<Envelope>,
-    attempts: &[AttemptId],
-) -> Result<(), AllocError>
-    ensures { OnOk result (Adds master.now packets.old.items (λ w s. flat_map (kill_of w s) attempts.now) packets.new.items) }
-{
-    for i in 0..attempts.len() {
-        let attempt = attempts[i];
-        master.push_kill(packets, attempt)?;
-    }
-    Ok(())
 }

@@ -19,15 +19,19 @@ use mr_master_state::{Boxed, Change, Machine, Prepared};
 use mr_packet::{ContainerId, Envelope, Packet};
 use mr_task::TaskFault;
 use std::alloc::AllocError;
+use thiserror::Error;
 
-/// Why a launch came to nothing.
-#[derive(Clone, Copy, Debug, PartialEq, Eq)]
+/// Why a launch came to nothing. `Refused` prints as its reason.
+#[derive(Clone, Copy, Debug, PartialEq, Eq, Error)]
 pub enum LaunchError {
     /// It is refused, for this reason, the first that applies.
+    #[error("{0}")]
     Refused(LaunchFault),
     /// The master launched 2^32 containers: there is no number for another one.
+    #[error("Full")]
     Full,
     /// Memory was refused.
+    #[error("NoMemory")]
     NoMemory,
 }
 
@@ -85,7 +89,12 @@ fn prepare_next(master: &Machine, place: usize, launch: Launch) -> Result<Prepar
     let prepared = Prepared::of_one(
         master.alloc,
         told(attempt, &launch),
-        Change::Launches(place, attempt, machine, launch),
+        Change::Launches {
+            place,
+            attempt,
+            machine,
+            launch,
+        },
     )?;
     Ok(prepared)
 }

@@ -39,7 +39,13 @@ fn prepare_known(master: &Machine, node: u32, incarnation: u32, nodes: Nodes) ->
     let lost = Vec::new(master.alloc);
     Prepared::silent(
         master.alloc,
-        Change::Knows(node, incarnation, nodes, dead, lost),
+        Change::Knows {
+            node,
+            incarnation,
+            nodes,
+            dead,
+            lost,
+        },
     )
 }
 
@@ -58,7 +64,13 @@ fn prepare_restart(
     let lost = master.all_lost(&gone)?;
     Ok(Prepared::silent(
         master.alloc,
-        Change::Knows(node, incarnation, nodes, dead, lost),
+        Change::Knows {
+            node,
+            incarnation,
+            nodes,
+            dead,
+            lost,
+        },
     ))
 }
 

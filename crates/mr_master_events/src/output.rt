@@ -29,7 +29,10 @@ pub fn prepare_where(
     let ready = Prepared::of_some(
         master.alloc,
         map_answer(master, container, map),
-        Change::Hears(place, launched.0),
+        Change::Hears {
+            place,
+            attempt: launched.0,
+        },
     )?;
     Ok(ready)
 }
@@ -59,7 +62,7 @@ fn prepare_lost(master: &Machine, attempt: AttemptId) -> Prepared
     ensures { Plans master.now result (λ w s. []) (λ w s. if is_lost_map w s attempt attempt.task.kind then tell s attempt.task (Loses attempt) else s) }
 {
     match place_if_lost(master, attempt) {
-        Some(place) => Prepared::silent(master.alloc, Change::Loses(place, attempt)),
+        Some(place) => Prepared::silent(master.alloc, Change::Loses { place, attempt }),
         None => Prepared::silent(master.alloc, Change::Nothing),
     }
 }

@@ -48,16 +48,31 @@ next-item {X} {Y} f xs i x old mid new within is before now =
 
 -- ---- of one task
 
-abbrev pub gone_if_live : Setting → Seen → Gone → TaskId → Attempt → List Attempt
-gone_if_live w s g t a = cond (task.is_live (of_task w s t) a) (if_gone w s g a) []
+-- one attempt, if it is live
+abbrev pub if_live : Setting → Seen → TaskId → Attempt → List Attempt
+if_live w s t a = cond (task.is_live (of_task w s t) a) (a ∷ []) []
 
-pub gone-all : (w : Setting) (s : Seen) (g : Gone) (t : TaskId) (xs : List Attempt) (i : ℕ) → length xs ≤ i → is_task w t ≡ true → xs ≡ (of_task w s t).arrived
-    → flat_map (gone_if_live w s g t) (take i xs) ≡ of_job w t (gone_of w s g t)
-gone-all w s g t xs i all e is =
-    ap (λ (l : List Attempt). flat_map (gone_if_live w s g t) l) (take_all i xs all ∙ is)
-    ∙ passing (task.is_live (of_task w s t)) (if_gone w s g) (of_task w s t).arrived
-    ∙ singles (λ a. is_gone g (launch_of w s a)) (task.live (of_task w s t))
-    ∙ ap (λ b. cond b (gone_of w s g t) []) (sym e)
+pub live-all : (w : Setting) (s : Seen) (t : TaskId) (xs : List Attempt) (i : ℕ) → length xs ≤ i → is_task w t ≡ true → xs ≡ (of_task w s t).arrived
+    → flat_map (if_live w s t) (take i xs) ≡ of_job w t (task.live (of_task w s t))
+live-all w s t xs i all e is =
+    ap (λ (l : List Attempt). flat_map (if_live w s t) l) (take_all i xs all ∙ is)
+    ∙ singles (task.is_live (of_task w s t)) (of_task w s t).arrived
+    ∙ ap (λ b. cond b (task.live (of_task w s t)) []) (sym e)
+
+-- what is gathered of a list for a task of the job
+pub of-job : {Y : Type 0} (w : Setting) (t : TaskId) (f : Attempt → List Y) (xs : List Attempt) → flat_map f (of_job w t xs) ≡ of_job w t (flat_map f xs)
+of-job {Y} w t f xs = by (is_task w t)
+  where
+    by : (b : Bool) → flat_map f (cond b xs []) ≡ cond b (flat_map f xs) []
+    by true = refl
+    by false = refl
+
+pub gone-all : (w : Setting) (s : Seen) (g : Gone) (t : TaskId) (xs : List Attempt) (i : ℕ) → length xs ≤ i → xs ≡ of_job w t (task.live (of_task w s t))
+    → flat_map (if_gone w s g) (take i xs) ≡ of_job w t (gone_of w s g t)
+gone-all w s g t xs i all is =
+    ap (λ (l : List Attempt). flat_map (if_gone w s g) l) (take_all i xs all ∙ is)
+    ∙ of-job w t (if_gone w s g) (task.live (of_task w s t))
+    ∙ ap (λ (l : List Attempt). of_job w t l) (singles (λ a. is_gone g (launch_of w s a)) (task.live (of_task w s t)))
 
 -- ---- of the tasks of a kind
 

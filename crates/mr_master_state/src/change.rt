@@ -24,36 +24,105 @@ pub enum Change {
     /// The committer's table goes on with these lines.
     GoesOn(Following),
     /// The earlier segments were read.
-    HasRead(Boxed<Earlier>, Work),
-    /// A reduce was taken over: the machine at this place is this one from then on. The reduces that are left after
-    /// the next one are moved to the work that is next.
-    EntersOne(usize, Boxed<TaskMachine>, Work),
-    /// The master begins to run: these are the machines of the tasks from then on.
-    Enters(Boxed<Tasks>, Work),
+    HasRead {
+        /// What they tell.
+        records: Boxed<Earlier>,
+        /// The work that is next.
+        work: Work,
+    },
+    /// A reduce was taken over. The reduces that are left after the next one are moved to the work that is next.
+    EntersOne {
+        /// Where the task's machine is.
+        place: usize,
+        /// The machine of the task from then on.
+        machine: Boxed<TaskMachine>,
+        /// The work that is next.
+        work: Work,
+    },
+    /// The master begins to run.
+    Enters {
+        /// The machines of the tasks from then on.
+        tasks: Boxed<Tasks>,
+        /// The work that is next.
+        work: Work,
+    },
     /// An attempt was barred: it ends.
     Dies(AttemptId),
     /// The first record due was appended.
     Appends,
     /// All that was appended is stable.
     Flushes(Work),
-    /// The attempt, whose task's machine is at this place, is heard of.
-    Hears(usize, AttemptId),
-    /// It asks: the machine of its task is this one from then on.
-    Asks(usize, AttemptId, Boxed<TaskMachine>),
-    /// It says that it is done, and this is the answer. Where it is accepted now, this record is due.
-    Reports(usize, AttemptId, DoneReply, Option<Record>),
-    /// It ended so, by whose failure.
-    Ends(usize, AttemptId, Ending, Blame),
-    /// Its output is lost.
-    Loses(usize, AttemptId),
-    /// A node is known in this incarnation: what is known of the nodes then, the attempts that end, and those whose
-    /// outputs are lost.
-    Knows(u32, u32, Nodes, Vec<AttemptId>, Vec<AttemptId>),
-    /// The attempt is launched so: the machine of its task, at this place, is this one from then on.
-    Launches(usize, AttemptId, Boxed<TaskMachine>, Launch),
-    /// A node is given up: the attempts that end, those whose outputs are lost, and those whose bars are due, if they
-    /// were not.
-    GivesUp(Vec<AttemptId>, Vec<AttemptId>, Vec<AttemptId>),
+    /// An attempt is heard of.
+    Hears {
+        /// Where its task's machine is.
+        place: usize,
+        attempt: AttemptId,
+    },
+    /// An attempt asks for permission to commit.
+    Asks {
+        /// Where its task's machine is.
+        place: usize,
+        attempt: AttemptId,
+        /// The machine of its task from then on.
+        machine: Boxed<TaskMachine>,
+    },
+    /// An attempt says that it is done.
+    Reports {
+        /// Where its task's machine is.
+        place: usize,
+        attempt: AttemptId,
+        /// What it is answered.
+        reply: DoneReply,
+        /// The record that is due, where it is accepted now.
+        due: Option<Record>,
+    },
+    /// An attempt ended.
+    Ends {
+        /// Where its task's machine is.
+        place: usize,
+        attempt: AttemptId,
+        /// How it ended.
+        end: Ending,
+        /// Whose failure that is.
+        blame: Blame,
+    },
+    /// The output of an attempt is lost.
+    Loses {
+        /// Where its task's machine is.
+        place: usize,
+        attempt: AttemptId,
+    },
+    /// A node is known in a higher incarnation.
+    Knows {
+        node: u32,
+        /// The incarnation, from then on.
+        incarnation: u32,
+        /// What is known of the nodes then.
+        nodes: Nodes,
+        /// The attempts that end.
+        dead: Vec<AttemptId>,
+        /// The attempts whose outputs are lost.
+        lost: Vec<AttemptId>,
+    },
+    /// An attempt is launched.
+    Launches {
+        /// Where its task's machine is.
+        place: usize,
+        attempt: AttemptId,
+        /// The machine of its task from then on.
+        machine: Boxed<TaskMachine>,
+        /// Where it is launched, and in which container.
+        launch: Launch,
+    },
+    /// A node is given up.
+    GivesUp {
+        /// The attempts that end.
+        dead: Vec<AttemptId>,
+        /// The attempts whose outputs are lost.
+        lost: Vec<AttemptId>,
+        /// The attempts whose bars are due, if they were not.
+        late: Vec<AttemptId>,
+    },
 }
 
 /// What room a change wants.
@@ -73,10 +142,14 @@ impl Change {
         ensures { result ≡ room_of self.now }
     {
         match self {
-            Change::Reports(_, _, _, due) => Room::Records(due_count(due)),
-            Change::Ends(_, _, _, blame) => Room::Records(blame.record_count()),
-            Change::Launches(_, attempt, _, launch) => Room::Launch(attempt.task(), launch.node),
-            Change::GivesUp(_, _, late) => Room::Bars(late.len()),
+            Change::Reports { due, .. } => Room::Records(due_count(due)),
+            Change::Ends { blame, .. } => Room::Records(blame.record_count()),
+            Change::Launches {
+                attempt,
+                launch,
+                ..
+            } => Room::Launch(attempt.task(), launch.node),
+            Change::GivesUp { late, .. } => Room::Bars(late.len()),
             _ => Room::Records(0),
         }
     }

@@ -14,7 +14,7 @@
 //! - What is asked of a machine is what is read off all that it may stand for. Of attempts: `known`, `launched_in`,
 //!   `is_live`, `succeeded`, `ready_at`, `is_lost_map`. Of tasks: `place_within`, `wanted`, `all_succeeded`. Of a node:
 //!   `push_all_gone`, `all_gone`, `all_lost`. Of bars: `first_bar`, `passed`.
-//! - `push_kill`, `push_kills` and `kills_but` make the Kills that the definitions send.
+//! - `push_kill`, `push_each_kill`, `push_kills` and `kills_but` make the Kills that the definitions send.
 //! - `reserve` makes room for what is prepared. Nothing else changes, also where memory is refused. Of an expiry the
 //!   machine is the one that it was then.
 //! - `take` makes exactly the change that was prepared (`changed_by`), notes which containers are sent a Kill, and gives
@@ -32,6 +32,7 @@ mod copy;
 mod flush;
 mod heard;
 mod launched;
+mod live;
 mod machine;
 mod nodes;
 mod outputs;

@@ -14,7 +14,7 @@ use crate::machine::Machine;
 use mr_ids::{AttemptId, TaskId, TaskKind};
 use mr_master_model::Setting;
 use mr_master_tables::{Gone, lower};
-use mr_master_tasks::{is_live, place_of};
+use mr_master_tasks::place_of;
 use std::alloc::AllocError;
 
 impl Machine {
@@ -44,18 +44,10 @@ impl Machine {
     ) -> Result<(), AllocError>
         ensures { OnOk result (Adds self.now attempts.old.items (λ w s. of_job w task (gone_of w s gone.now task)) attempts.new.items) }
     {
-        let Some(place) = place_of(&self.setting, task) else {
-            return Ok(());
-        };
-        let Some(machine) = self.tasks.at(place) else {
-            return Ok(());
-        };
-        let arrived = machine.arrived();
-        for i in 0..arrived.len() {
-            let attempt = arrived[i];
-            if is_live(machine, attempt) {
-                self.push_if_gone(attempts, attempt, gone)?;
-            }
+        let live = self.live_of(task)?;
+        for i in 0..live.len() {
+            let attempt = live[i];
+            self.push_if_gone(attempts, attempt, gone)?;
         }
         Ok(())
     }

@@ -170,26 +170,55 @@ impl Machine {
             Change::Nothing => {}
             Change::Becomes(work) => self.set_work(work),
             Change::GoesOn(following) => self.goes_on(following),
-            Change::HasRead(records, work) => self.has_read(records, work),
-            Change::EntersOne(place, machine, work) => self.enters_one(place, machine, work),
-            Change::Enters(tasks, work) => self.enters(tasks, work),
+            Change::HasRead { records, work } => self.has_read(records, work),
+            Change::EntersOne {
+                place,
+                machine,
+                work,
+            } => self.enters_one(place, machine, work),
+            Change::Enters { tasks, work } => self.enters(tasks, work),
             Change::Dies(attempt) => self.tell_death(attempt),
             Change::Appends => self.append_first(),
             Change::Flushes(work) => self.flushes(work),
-            Change::Hears(place, attempt) => self.hears(place, attempt),
-            Change::Asks(place, attempt, machine) => self.asks(place, attempt, machine),
-            Change::Reports(place, attempt, reply, due) => {
+            Change::Hears { place, attempt } => self.hears(place, attempt),
+            Change::Asks {
+                place,
+                attempt,
+                machine,
+            } => self.asks(place, attempt, machine),
+            Change::Reports {
+                place,
+                attempt,
+                reply,
+                due,
+            } => {
                 self.reports(place, attempt, reply, due);
             }
-            Change::Ends(place, attempt, end, blame) => self.ends(place, attempt, &end, blame),
-            Change::Loses(place, attempt) => self.loses(place, attempt),
-            Change::Knows(node, incarnation, nodes, dead, lost) => {
+            Change::Ends {
+                place,
+                attempt,
+                end,
+                blame,
+            } => self.ends(place, attempt, &end, blame),
+            Change::Loses { place, attempt } => self.loses(place, attempt),
+            Change::Knows {
+                node,
+                incarnation,
+                nodes,
+                dead,
+                lost,
+            } => {
                 self.knows(node, incarnation, nodes, dead, lost);
             }
-            Change::Launches(place, attempt, machine, launch) => {
+            Change::Launches {
+                place,
+                attempt,
+                machine,
+                launch,
+            } => {
                 self.has_launched(place, attempt, machine, launch);
             }
-            Change::GivesUp(dead, lost, late) => self.has_given_up(dead, lost, late),
+            Change::GivesUp { dead, lost, late } => self.has_given_up(dead, lost, late),
         }
     }
 

@@ -1,9 +1,7 @@
 //! Kills to the containers of attempts that are live: of one, of a task's, and of all but the one whose end failed
 //! the job.
-ghost use Rattle.std.specs.Prelude.{◌≡◌, ◌&&◌, not, flat_map, IfOk, OnOk};
+ghost use Rattle.std.specs.Prelude.{◌≡◌, flat_map, IfOk, OnOk};
 ghost use Rattle.mr_grant.specs.Attempts.{same_attempt};
-ghost use Rattle.mr_task.specs.Readings.{seen, is_live};
-ghost use Rattle.mr_task.specs.State.{Answers};
 ghost use Rattle.mr_master_model.specs.Job.{first_tasks, count_of, all_tasks};
 ghost use Rattle.mr_master_model.specs.Sends.{kill_of, kills_of};
 ghost use Rattle.mr_master_state.specs.Kills.{kills_but};
@@ -13,9 +11,7 @@ use crate::machine::Machine;
 use crate::nodes::count_of;
 use mr_ids::{AttemptId, TaskId, TaskKind};
 use mr_master_tables::kill;
-use mr_master_tasks::{is_live, place_of};
 use mr_packet::Envelope;
-use mr_task::TaskMachine;
 use std::alloc::AllocError;
 
 impl Machine {
@@ -33,24 +29,27 @@ impl Machine {
         Ok(())
     }
 
+    /// Asks the containers of these attempts to stop, one after another. Of an attempt that is not known nothing is sent.
+    pub fn push_each_kill(
+        &self,
+        packets: &mut Vec<Envelope>,
+        attempts: &[AttemptId],
+    ) -> Result<(), AllocError>
+        ensures { OnOk result (Adds self.now packets.old.items (λ w s. flat_map (kill_of w s) attempts.now) packets.new.items) }
+    {
+        for i in 0..attempts.len() {
+            let attempt = attempts[i];
+            self.push_kill(packets, attempt)?;
+        }
+        Ok(())
+    }
+
     /// Asks the containers of a task's live attempts to stop, in order of arrival.
     pub fn push_kills(&self, packets: &mut Vec<Envelope>, task: TaskId) -> Result<(), AllocError>
         ensures { OnOk result (Adds self.now packets.old.items (λ w s. kills_of w s task) packets.new.items) }
     {
-        let Some(place) = place_of(&self.setting, task) else {
-            return Ok(());
-        };
-        let Some(machine) = self.tasks.at(place) else {
-            return Ok(());
-        };
-        let arrived = machine.arrived();
-        for i in 0..arrived.len() {
-            let attempt = arrived[i];
-            if is_live(machine, attempt) {
-                self.push_kill(packets, attempt)?;
-            }
-        }
-        Ok(())
+        let live = self.live_of(task)?;
+        self.push_each_kill(packets, &live)
     }
 }
 
@@ -64,16 +63,10 @@ impl Machine {
     ) -> Result<(), AllocError>
         ensures { OnOk result (Adds self.now packets.old.items (λ w s. kills_but w s ended.now task) packets.new.items) }
     {
-        let Some(place) = place_of(&self.setting, task) else {
-            return Ok(());
-        };
-        let Some(machine) = self.tasks.at(place) else {
-            return Ok(());
-        };
-        let arrived = machine.arrived();
-        for i in 0..arrived.len() {
-            let attempt = arrived[i];
-            if is_other_live(machine, &attempt, ended) {
+        let live = self.live_of(task)?;
+        for i in 0..live.len() {
+            let attempt = live[i];
+            if !is_same(ended, &attempt) {
                 self.push_kill(packets, attempt)?;
             }
         }
@@ -110,13 +103,6 @@ impl Machine {
         self.push_all_kills_but(&mut packets, TaskKind::Reduce, ended)?;
         Ok(packets)
     }
-}
-
-// Whether the attempt is live, and is not the one that ended.
-fn is_other_live(machine: &TaskMachine, attempt: &AttemptId, ended: &AttemptId) -> bool
-    ensures { Answers machine.now (λ t k calls. is_live (seen t k calls) attempt.now && not (same_attempt ended.now attempt.now)) result }
-{
-    is_live(machine, *attempt) && !is_same(ended, attempt)
 }
 
 pub fn is_same(a: &AttemptId, b: &AttemptId) -> bool

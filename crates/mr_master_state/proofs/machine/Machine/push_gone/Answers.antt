@@ -1,16 +1,10 @@
-use Rattle.std.proofs.Common.{refl, ◌∙◌, ap, List, ◌++◌}
+use Rattle.std.proofs.Common.{◌≤◌, ◌∙◌, ap, length, List, ◌++◌, arith}
 use Rattle.mr_ids.specs.Attempt.{Attempt}
-use Rattle.mr_master_state.proofs.Keeping.{held}
-use Rattle.mr_master_tasks.proofs.Keeping.{placed}
 use Rattle.mr_master_state.proofs.Gathering.{gone-all}
-use Rattle.mr_master_tasks.proofs.Keeping.{found-at}
 use Rattle.mr_master_state.proofs.machine.Machine.push_gone.Goals as goal
 
 pub returns : goal.returns
 returns c = λ w s keeps.
-    let t = c.args.task in
-    let k = held c.self.view_is keeps in
-    let p = placed _ w t t c.in-Some.place k.setting refl c.in-Some.ensures in
-    let st = found-at _ w s.calls t c.in-Some.place c.in-Some-at.machine.now k.tasks p.0 p.1 c.in-Some-at.ensures in
+    let all : length c.in_ok-live.live.items ≤ c.loop-i.i = omega (arith, c.len-i-end.ensures, c.in_ok-live.live.ok.0, c.loop-i-test.false) in
     c.loop-i.invariant w s keeps ∙ ap (λ (l : List Attempt). c.args.attempts.now.items ++ l)
-    (gone-all w s c.args.gone.now t c.arrived-arrived.result.now c.loop-i.i c.loop-i-test.false p.0 (c.arrived-arrived.ensures t w.app (s.calls t) st))
+    (gone-all w s c.args.gone.now c.args.task c.in_ok-live.live.items c.loop-i.i all (c.in_ok-live.ensures w s keeps))

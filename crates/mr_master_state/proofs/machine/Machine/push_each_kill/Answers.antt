@@ -1,6 +1,6 @@
 use Rattle.mr_master_model.specs.Sends.{kill_of}
 use Rattle.mr_master_state.proofs.Gathering.{next-item}
-use Rattle.mr_master_events.proofs.expiry.push_each_kill.Goals as goal
+use Rattle.mr_master_state.proofs.machine.Machine.push_each_kill.Goals as goal
 
 pub loop-i-preserved : goal.loop-i-preserved
 loop-i-preserved c = λ w s keeps.

@@ -1,8 +1,0 @@
-use Rattle.std.proofs.Common.{take}
-use Rattle.std.specs.List.{flat_map}
-use Rattle.mr_master_state.specs.State.{Adds}
-use Rattle.mr_master_state.proofs.Kills.{kill_if_live}
-use Rattle.mr_master_state.proofs.machine.Machine.push_kills.Given as goal
-
-abbrev pub invariant-loop-i : goal.invariant-loop-i
-invariant-loop-i l = Adds l.self l.initial.packets.items (λ w s. flat_map (kill_if_live w s l.fn.task) (take l.i l.arrived)) l.packets.items
