@@ -1,6 +1,6 @@
 -- The headline, of a world before and after a call. What is claimed is mr_world_model's, which says what of it is Hadoop's
 -- and Dean and Ghemawat's.
-use Rattle.std.specs.Prelude.{◌≡◌, ◌≤◌, ⊥, ℕ, Bool, true, nat_lt, List, [], ◌∷◌, ◌++◌, Some, None, if◌then◌else◌}
+use Rattle.std.specs.Prelude.{◌≡◌, ◌≤◌, ℕ, Bool, true, nat_lt, List, [], ◌∷◌, ◌++◌, Some, None, if◌then◌else◌}
 use Rattle.mr_world_model.specs.Ids.{Attempt, Path, TaskId, is_reduce, part}
 use Rattle.mr_world_model.specs.Content.{Entry, File, Op, Superseded, Barred, entry_at}
 use Rattle.mr_world_model.specs.Records.{records_below, winner_in}
