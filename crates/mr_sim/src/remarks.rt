@@ -10,7 +10,7 @@ use crate::refusal::Refusal;
 use crate::subcommand::{Command, answer_with, write_text};
 use mr_script::split_once;
 use mr_sim_commands::SimFault;
-use mr_sim_keys::put_idle_keys;
+use mr_sim_hints::put_idle_keys;
 use mr_threads::mr_play::{Printed, play};
 use mr_threads::mr_trace::play_shown;
 use mr_threads::mr_trace_json::play_json;
