@@ -1,17 +1,18 @@
 -- The faults of each subcommand are faults of the text.
 use Rattle.std.proofs.Common.{ℕ, Bool, List, Result, Ok, Err, IfErr}
-use Rattle.mr_threads.specs.mr_world.specs.Limits.{within}
+use Rattle.mr_trace.specs.mr_world.specs.Limits.{within}
 use Rattle.mr_sim_commands.specs.declared.fault.SimFault.{SimFault}
 use Rattle.mr_sim_commands.specs.declared.fault.SimFault.TheVariants.{NoMemory, Read, Write, TooLong, BadCommand, BadRecord, Job, Refused, Full, JobFailed, TurnsSpent, JournalMismatch, Thread}
 use Rattle.mr_sim_commands.specs.Faults.{CommitterFails, HistoryFails, SeqFails}
 use Rattle.mr_trace_svg.specs.declared.part.Part.{Part}
-use Rattle.mr_threads.specs.mr_play.specs.declared.shown.Shown.{Shown}
-use Rattle.mr_threads.specs.mr_play.specs.Text.{PlayFails}
+use Rattle.mr_trace.specs.mr_play.specs.declared.shown.Shown.{Shown}
+use Rattle.mr_trace.specs.mr_play.specs.Text.{PlayFails}
 use Rattle.mr_sim.specs.declared.subcommand.Command.TheVariants.{Committer, Play, PlayShown, PlayDrawn, PlayJson, History, HistoryJson, Seq, Threads, ThreadsSeen, Explore}
 use Rattle.mr_explore.specs.declared.asked.Asked.{Asked}
 use Rattle.mr_explore.specs.Explored.{ExploredFails}
 use Rattle.mr_threads.specs.declared.seen.Seen.{Seen}
 use Rattle.mr_threads.specs.Text.{ShownFails, ThreadsFail}
+use Rattle.mr_threads.proofs.Failing.{nothing_to_print}
 use Rattle.mr_sim.specs.Printed.{RefusesText}
 
 pub committer_fails : {A : Type 0} (input : List ℕ) (r : Result A SimFault) → IfErr r (CommitterFails input) → IfErr r (RefusesText Committer input)
@@ -126,21 +127,10 @@ threads_fails turns hold input (Err TurnsSpent) h = h
 threads_fails turns hold input (Err JournalMismatch) h = h
 threads_fails turns hold input (Err Thread) h = h
 
-pub unrun_fails : {A : Type 0} (turns : ℕ) (hold : Bool) (input : List ℕ) (r : Result A SimFault) → IfErr r (ShownFails input) → IfErr r (RefusesText (Threads turns hold) input)
-unrun_fails turns hold input (Ok x) h = h
-unrun_fails turns hold input (Err NoMemory) h = h
-unrun_fails turns hold input (Err Read) h = h
-unrun_fails turns hold input (Err Write) h = h
-unrun_fails turns hold input (Err TooLong) h = h
-unrun_fails turns hold input (Err (BadCommand n)) h = h
-unrun_fails turns hold input (Err (BadRecord n)) h = h
-unrun_fails turns hold input (Err (Job e)) h = h
-unrun_fails turns hold input (Err Refused) h = h
-unrun_fails turns hold input (Err Full) h = h
-unrun_fails turns hold input (Err JobFailed) h = absurd h
-unrun_fails turns hold input (Err TurnsSpent) h = h
-unrun_fails turns hold input (Err JournalMismatch) h = h
-unrun_fails turns hold input (Err Thread) h = h
+-- without a handle there are fewer faults: those of threads whose run is shown
+pub unthreaded_fails : {A : Type 0} (input : List ℕ) (r : Result A SimFault) → IfErr r (ShownFails input) → IfErr r (ThreadsFail input)
+unthreaded_fails input (Ok x) h = h
+unthreaded_fails input (Err e) h = nothing_to_print input e h
 
 pub seen_fails : {A : Type 0} (turns : ℕ) (hold : Bool) (seen : Seen) (input : List ℕ) (r : Result A SimFault) → IfErr r (ShownFails input) → IfErr r (RefusesText (ThreadsSeen turns hold seen) input)
 seen_fails turns hold seen input (Ok x) h = h

@@ -3,11 +3,11 @@ use Rattle.std.proofs.Common.{◌≡◌, Some, None, Ok, Err, sym, ◌∙◌, ar
 use Rattle.mr_sim_commands.specs.declared.fault.SimFault.TheVariants.{NoMemory, Read, Write, TooLong, BadCommand, BadRecord, Job, Refused, Full, JobFailed, TurnsSpent, JournalMismatch, Thread}
 use Rattle.mr_sim.specs.declared.subcommand.Command.TheVariants.{Committer, Play, PlayShown, PlayDrawn, PlayJson, History, HistoryJson, Seq, Threads, ThreadsSeen, Explore}
 use Rattle.mr_sim.specs.Laws.{PrintedOrRefused}
-use Rattle.mr_threads.specs.mr_world.specs.Limits as limits
+use Rattle.mr_trace.specs.mr_world.specs.Limits as limits
 use Rattle.mr_sim_commands.proofs.Readings.{read_or_bad_law}
 use Rattle.mr_sim_commands.proofs.Reduces.{seq_not_both}
 use Rattle.mr_explore.proofs.Refused.{explored_or_refused_law}
-use Rattle.mr_threads.specs.mr_play.proofs.Playing.{one_play_text_law}
+use Rattle.mr_trace.specs.mr_play.proofs.Playing.{one_play_text_law}
 
 pub printed_or_refused_law : PrintedOrRefused
 printed_or_refused_law command input text NoMemory short p h = tt

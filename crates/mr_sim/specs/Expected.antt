@@ -1,11 +1,11 @@
 -- What a script expects of its run, and how the program ends by it: our own.
 use Rattle.std.specs.Prelude.{◌≡◌, ℕ, Bool, true, false, List}
-use Rattle.mr_threads.specs.mr_play.specs.Text.{IsAsExpected}
+use Rattle.mr_trace.specs.mr_play.specs.Text.{IsAsExpected}
 use Rattle.mr_sim.specs.declared.ending.Ending.{Ending}
 use Rattle.mr_sim.specs.declared.ending.Ending.TheVariants.{Done, Unmet}
 use Rattle.mr_sim.specs.declared.subcommand.Command.{Command}
 use Rattle.mr_sim.specs.declared.subcommand.Command.TheVariants.{Committer, Play, PlayShown, PlayDrawn, PlayJson, History, HistoryJson, Seq, Threads, ThreadsSeen, Explore}
-use Rattle.mr_threads.specs.mr_world.specs.Limits.{within}
+use Rattle.mr_trace.specs.mr_world.specs.Limits.{within}
 
 -- Whether all is as the input expects. Only scripts of `play` expect anything.
 abbrev pub IsMet : Command → List ℕ → Bool → Type 0

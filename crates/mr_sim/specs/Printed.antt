@@ -3,7 +3,7 @@ use Rattle.std.specs.Prelude.{◌≡◌, ◌<◌, ◌≤◌, ◌^◌, Option, So
 use Rattle.std.specs.Io.KnownBytes.{Appends}
 use Rattle.mr_history.specs.Reading.{bad_line}
 use Rattle.mr_script.specs.Lines.{lines_of}
-use Rattle.mr_threads.specs.mr_world.specs.Limits.{within}
+use Rattle.mr_trace.specs.mr_world.specs.Limits.{within}
 use Rattle.mr_sim_commands.specs.declared.fault.JobTextFault.{JobTextFault}
 use Rattle.mr_sim_commands.specs.declared.fault.SimFault.{SimFault}
 use Rattle.mr_sim_commands.specs.declared.fault.SimFault.TheVariants.{NoMemory, Read, Write, TooLong, BadCommand, BadRecord, Job, Refused, Full, JobFailed, TurnsSpent, JournalMismatch, Thread}
@@ -14,11 +14,11 @@ use Rattle.mr_sim_commands.specs.committer.Text.{PrintsCommitter}
 use Rattle.mr_sim_commands.specs.history.Text.{PrintsHistory}
 use Rattle.mr_sim_commands.specs.job.Text.{submission_of}
 use Rattle.mr_explore.specs.Explored.{IsFullExplored, PrintsExplored}
-use Rattle.mr_threads.specs.mr_trace_json.specs.Plays.{TellsPlay}
-use Rattle.mr_threads.specs.mr_trace_json.specs.Segments.{TellsHistory}
-use Rattle.mr_threads.specs.mr_play.specs.Shown.{Draws}
-use Rattle.mr_threads.specs.mr_trace.specs.Shown.{Shows}
-use Rattle.mr_threads.specs.mr_play.specs.Text.{PrintsPlay, IsBadPlayJob, IsBadPlayLine, IsFullPlay}
+use Rattle.mr_trace_json.specs.Plays.{TellsPlay}
+use Rattle.mr_trace_json.specs.Segments.{TellsHistory}
+use Rattle.mr_trace.specs.mr_play.specs.Shown.{Draws}
+use Rattle.mr_trace.specs.Shown.{Shows}
+use Rattle.mr_trace.specs.mr_play.specs.Text.{PrintsPlay, IsBadPlayJob, IsBadPlayLine, IsFullPlay}
 use Rattle.mr_sim_commands.specs.seq.Text.{PrintsSeq, RefusesSeq}
 use Rattle.mr_threads.specs.Runs.{IsRead}
 use Rattle.mr_threads.specs.Text.{HasFailed, ShowsRun}

@@ -42,15 +42,12 @@
 //! | `Full` | an event of a script, or a work, passes a limit of the world |
 //! | `Write` | there is a text to be written |
 //!
-//! **`run`** has the clauses of `run_streams` (`printed`, `fault`, `nothing`), and takes the handle that starts threads. The handle may wait, so the
-//! contract does not say that `run` returns. `answer` and `run_streams` have no such handle, and answer `threads` by the first bad key of its job text,
-//! else by `Thread`.
+//! **`run`** is the call that `mrsim` makes. It has the clauses of `run_streams` (`printed`, `fault`, `nothing`), and takes the handle that starts threads.
+//! The handle may wait, so the contract does not say that `run` returns. `answer` and `run_streams` have no such handle, and answer `threads` by the first
+//! bad key of its job text, else by `Thread`.
 //!
-//! **`run_with_remarks`** is the call that `run` hands on to. It has the clauses of `run`, and tells whether all is as the input expects (clause
-//! `met`, by `IsMet`). Of a script of `play` this says whether each `expect` was met (`IsAsExpected` of mr_play); of all else it is true. The ending of
-//! the program follows from that (`Remarks::ending`).
-//!
-//! **`run_with_help`** is the call that `mrsim` makes, and `run_with_remarks` hands on to it. It has the same clauses. Where there is a fault it hands out
+//! `run` also tells whether all is as the input expects (clause `met`, by `IsMet`). Of a script of `play` this says whether each `expect` was met
+//! (`IsAsExpected` of mr_play); of all else it is true. The ending of the program follows from that (`Remarks::ending`). Where there is a fault it hands out
 //! beside it what was expected in place of what is bad (`Refusal`). The fault is the contract. What the help says is in no clause, and takes no memory.
 //!
 //! Each input has at most one text, by the laws of mr_sim_commands and mr_play. No input is both printed and refused, by
@@ -74,11 +71,14 @@
 #![tactic(auto)]
 
 mod ending;
+mod host;
 mod input;
+mod input_kind;
 mod laws;
 mod progress;
 mod refusal;
 mod remarks;
+mod streams;
 mod subcommand;
 
 pub use ending::{Ending, exit_status};
@@ -87,8 +87,9 @@ pub use mr_explore::{Asked, Form};
 pub use mr_explore_ends::is_goal;
 pub use mr_sim_commands::{JobTextFault, SimFault};
 pub use mr_threads::Seen;
-pub use mr_threads::mr_play::Shown;
+pub use mr_trace::mr_play::Shown;
 pub use mr_trace_svg::Part;
 pub use refusal::{Help, Refusal};
-pub use remarks::{Remarks, run_with_help, run_with_remarks};
-pub use subcommand::{Command, answer, run, run_streams};
+pub use remarks::Remarks;
+pub use streams::{run, run_streams};
+pub use subcommand::{Command, answer};

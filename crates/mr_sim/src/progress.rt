@@ -1,21 +1,32 @@
 //! How far an exploration is.
 use mr_explore::Watch;
 
-/// Tells on standard error how far an exploration is. What can't be told is dropped.
+/// Tells it on standard error. What can't be told is dropped.
 #[derive(Drop)]
-pub struct Progress<'a, H: Eprint> {
-    rt: &'a H,
+pub(crate) struct OnStandardError<'a, H: Eprint> {
+    /// The handle.
+    pub(crate) rt: &'a H,
 }
 
-impl<'a, H: Eprint> Progress<'a, H> {
-    /// Tells it by this handle.
-    pub fn new(rt: &'a H) -> Progress<'a, H> {
-        Progress { rt }
+impl<H: Eprint> Watch for OnStandardError<'_, H> {
+    fn tell(&self, runs: u64, ends: usize) {
+        let _ = eprintln!(self.rt; "mrsim: {runs} runs, {ends} ends");
     }
 }
 
-impl<'a, H: Eprint> Watch for Progress<'a, H> {
+/// Tells it where that is asked for.
+#[derive(Drop)]
+pub(crate) struct Progress<'a, W: Watch> {
+    /// Who is told.
+    pub(crate) watch: &'a W,
+    /// Whether it is asked for.
+    pub(crate) is_asked: bool,
+}
+
+impl<W: Watch> Watch for Progress<'_, W> {
     fn tell(&self, runs: u64, ends: usize) {
-        let _ = eprintln!(self.rt; "mrsim: {runs} runs, {ends} ends");
+        if self.is_asked {
+            self.watch.tell(runs, ends);
+        }
     }
 }

@@ -1,9 +1,10 @@
 //! A fault with what helps whoever wrote the input: what was expected in its place.
 ghost use Rattle.std.specs.Prelude.{◌≡◌};
 
+use crate::input_kind::InputKind;
 use crate::subcommand::Command;
 use mr_sim_commands::{JobTextFault, SimFault};
-use mr_sim_hints::{Hint, Script, hint_of};
+use mr_sim_hints::{Hint, hint_of};
 use std::fmt;
 
 /// What was expected in place of what is bad. It is written as a line, without a line feed.
@@ -38,9 +39,10 @@ impl Refusal {
     pub fn of(command: &Command<'_>, input: &[u8], fault: SimFault) -> Refusal
         ensures { result.fault ≡ fault }
     {
+        let kind = InputKind::of(command);
         let help = match fault {
-            SimFault::BadCommand(line) => line_help(command, line_at(input, line)),
-            SimFault::Job(key) => Some(Help::Words(key_help(command, key))),
+            SimFault::BadCommand(line) => line_help(kind, line_at(input, line)),
+            SimFault::Job(key) => Some(Help::Words(key_help(kind, key))),
             SimFault::BadRecord(_) => Some(Help::Words(RECORD)),
             _ => None,
         };
@@ -71,21 +73,17 @@ fn line_at(input: &[u8], line: usize) -> &[u8] {
 }
 
 // What was expected in a line of a script.
-fn line_help(command: &Command<'_>, line: &[u8]) -> Option<Help> {
-    let script = match command {
-        Command::Committer => Script::Committer,
-        _ => Script::Play,
-    };
-    match hint_of(script, line) {
+fn line_help(kind: InputKind, line: &[u8]) -> Option<Help> {
+    match hint_of(kind.script()?, line) {
         Some(hint) => Some(Help::Line(hint)),
         None => None,
     }
 }
 
 // What was expected at a key of a job text, or of the whole text.
-fn key_help(command: &Command<'_>, key: JobTextFault) -> &'static str {
+fn key_help(kind: InputKind, key: JobTextFault) -> &'static str {
     match key {
-        JobTextFault::Text => text_help(command),
+        JobTextFault::Text => text_help(kind),
         JobTextFault::Id => "expected a job's name, as \"id\":\"job_200707121733_0003\"",
         JobTextFault::Job => "expected \"job\":\"wordcount\", \"maxbykey\" or \"lineindex\"",
         JobTextFault::Reduces => "expected a whole number from 1 to 1000, as \"reduces\":2",
@@ -103,11 +101,9 @@ fn key_help(command: &Command<'_>, key: JobTextFault) -> &'static str {
     }
 }
 
-fn text_help(command: &Command<'_>) -> &'static str {
-    match command {
-        Command::Seq | Command::Threads { .. } | Command::ThreadsSeen { .. } => {
-            "expected one JSON object, in UTF-8"
-        }
+fn text_help(kind: InputKind) -> &'static str {
+    match kind {
+        InputKind::JobText => "expected one JSON object, in UTF-8",
         _ => "expected one JSON object, in UTF-8, all of it on line 1",
     }
 }

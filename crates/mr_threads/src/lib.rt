@@ -27,9 +27,5 @@ mod driven;
 mod output;
 mod seen;
 
-pub use mr_trace;
-pub use mr_trace::{mr_play, mr_world};
-pub use mr_trace_json;
-pub use mr_trace_picture;
 pub use output::{threads_output, unthreaded};
 pub use seen::{Seen, threads_seen};

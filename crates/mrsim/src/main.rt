@@ -12,7 +12,7 @@ mod words;
 
 use crate::explore::bad_goal;
 use crate::words::{command_line, command_of, ending_of, file_of};
-use mr_sim::{Ending, Help, Refusal, Remarks, SimFault, run_with_help};
+use mr_sim::{Ending, Help, Refusal, Remarks, SimFault, run};
 use std::alloc::Global;
 use std::fs::File;
 use std::io::Write;
@@ -148,9 +148,9 @@ fn main(rt: HostRuntime) -> ExitCode {
         return code_of(&rt, ending);
     }
     let ran = match file {
-        None => run_with_help(&rt, &command, &mut rt.reader(), &mut io::writer(&rt)),
+        None => run(&rt, &command, &mut rt.reader(), &mut io::writer(&rt)),
         Some(name) => match File::open(&rt, name) {
-            Ok(mut reader) => run_with_help(&rt, &command, &mut reader, &mut io::writer(&rt)),
+            Ok(mut reader) => run(&rt, &command, &mut reader, &mut io::writer(&rt)),
             Err(error) => Err(Refusal {
                 fault: open_fault(&error),
                 help: open_help(&error),

@@ -1,5 +1,5 @@
 //! A run over streams that fail.
-use mr_sim::{Command, Ending, SimFault, run, run_streams, run_with_remarks};
+use mr_sim::{Command, Ending, SimFault, run, run_streams};
 use std::io;
 use std::io::{Error, ErrorKind, Read, Write};
 use std::process::Abort;
@@ -106,12 +106,12 @@ fn each_read_fails<H: AllocGlobal + Eprint + Clock + Threads + Wait + Sync + Abo
         };
         let mut output = FaultyWriter::new(3, 1000);
         match run(rt, &Command::Committer, &mut input, &mut output) {
-            Ok(()) => {
-                confirm!(rt; output.took(HELLO_TEXT));
+            Ok(remarks) => {
+                confirm!(rt; remarks.met && output.took(HELLO_TEXT));
                 whole = whole.saturating_add(1);
             }
-            Err(fault) => {
-                confirm!(rt; fault == SimFault::Read, &fault);
+            Err(refusal) => {
+                confirm!(rt; refusal.fault == SimFault::Read, &refusal);
                 confirm!(rt; output.len == 0);
             }
         }
@@ -127,8 +127,8 @@ fn each_write_fails<H: AllocGlobal + Eprint + Clock + Threads + Wait + Sync + Ab
         let mut input = HELLO;
         let mut output = FaultyWriter::new(3, good);
         match run(rt, &Command::Committer, &mut input, &mut output) {
-            Ok(()) => whole = whole.saturating_add(1),
-            Err(fault) => confirm!(rt; fault == SimFault::Write, &fault),
+            Ok(_) => whole = whole.saturating_add(1),
+            Err(refusal) => confirm!(rt; refusal.fault == SimFault::Write, &refusal),
         }
         // What was taken is the text's beginning: nothing is lost between, nothing doubled.
         let taken = output.len.min(HELLO_TEXT.len());
@@ -150,12 +150,14 @@ fn failed_flush_is_answered(rt: HostRuntime) {
     let mut input = HELLO;
     let mut output = FaultyWriter::new(512, 1000);
     output.flushes = false;
-    let fault = run(&rt, &Command::Committer, &mut input, &mut output).err();
+    let fault = run(&rt, &Command::Committer, &mut input, &mut output)
+        .err()
+        .map(|refusal| refusal.fault);
     confirm!(rt; fault == Some(SimFault::Write), &fault);
     confirm!(rt; output.took(HELLO_TEXT));
 }
 
-// The same without a handle. Then with the remarks of the run.
+// The same without a handle. Then with one, and with the remarks of the run.
 #[test]
 fn runs_over_streams(rt: HostRuntime) {
     let mut input = HELLO;
@@ -168,9 +170,7 @@ fn runs_over_streams(rt: HostRuntime) {
 fn runs_with_remarks(rt: HostRuntime) {
     let mut input = HELLO;
     let mut output = FaultyWriter::new(512, 1000);
-    let remarks = run_with_remarks(&rt, &Command::Committer, &mut input, &mut output).expect(
-        &rt, "a fault",
-    );
+    let remarks = run(&rt, &Command::Committer, &mut input, &mut output).expect(&rt, "a fault");
     confirm!(rt; remarks.ending() == Ending::Done);
     confirm!(rt; output.took(HELLO_TEXT));
 }

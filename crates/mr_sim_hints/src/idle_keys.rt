@@ -1,12 +1,5 @@
-//! Keys of a job text that say nothing, as a misspelt one does.
-//!
-//! A job text may have other keys beside those of a job, and they are ignored. So `"node":3` runs a job on one node. `put_idle_keys` tells them, for standard error.
-//!
-//! # What is proved
-//!
-//! That it is safe, and ends. What it writes is tested (`tests_sim`), and no clause tells it: it is a remark beside the output.
-#![tactic(auto)]
-
+//! Keys of a job text that say nothing, as a misspelt one does. A job text may have other keys beside those of a job, and they are ignored: with `"node":3`
+//! the job runs on one node.
 use memchr::memchr;
 use serde_json::Value;
 use std::alloc::{AllocError, Global};

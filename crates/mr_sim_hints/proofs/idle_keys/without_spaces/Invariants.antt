@@ -1,5 +1,5 @@
 use Rattle.std.specs.Prelude.{⊤, length}
-use Rattle.mr_sim_keys.proofs.without_spaces.Given as goal
+use Rattle.mr_sim_hints.proofs.idle_keys.without_spaces.Given as goal
 
 abbrev pub invariant-loop-last : goal.invariant-loop-last
 invariant-loop-last l = ⊤

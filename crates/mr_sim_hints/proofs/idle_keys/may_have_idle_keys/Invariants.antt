@@ -1,5 +1,5 @@
 use Rattle.std.specs.Prelude.{⊤, length}
-use Rattle.mr_sim_keys.proofs.may_have_idle_keys.Given as goal
+use Rattle.mr_sim_hints.proofs.idle_keys.may_have_idle_keys.Given as goal
 
 abbrev pub invariant-loop-place : goal.invariant-loop-place
 invariant-loop-place l = ⊤
