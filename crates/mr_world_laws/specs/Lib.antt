@@ -1,2 +1,3 @@
--- What a law of this crate cites, where no call can say it: that some world succeeds.
+-- What the laws of this crate cite beside std: which calls they make, and, where no call can say it, that some world succeeds.
+pub mod Runs
 pub mod Succeeds

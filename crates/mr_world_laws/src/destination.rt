@@ -1,5 +1,7 @@
 //! What a reader of the destination sees: it is final once the marker was seen, or an outcome was told.
-ghost use Rattle.std.specs.Prelude.{◌≡◌, ◌⊎◌, true, IfErr, IfOk, IfSome};
+ghost use Rattle.std.specs.Prelude.{◌≡◌, ◌⊎◌, true, false, IfErr, IfNone, IfOk, IfSome, IsSome, None, OnOk};
+ghost use Rattle.mr_world.specs.Applying.{Ran};
+ghost use Rattle.mr_world_laws.specs.Runs.{marker_in, outcome_in, AreFilesIn, EndedAt};
 ghost use Rattle.mr_world.specs.mr_world_state.specs.declared.fault.WorldFault.TheVariants.{Full, NoMemory};
 
 use crate::told::Told;
@@ -12,6 +14,10 @@ use mr_world_events::Event;
 #[tactic(auto, using(crate::proofs::Again::marker_again, crate::proofs::Again::run_refused))]
 pub fn marker_stays(world: &mut World, events: Vec<Event>) -> Result<Told<bool>, WorldFault>
     ensures stays { IfOk result (λ marked. marked.before ≡ true → marked.after ≡ true) }
+    ensures before { IfOk result (λ marked. marked.before ≡ marker_in world.old) }
+    ensures after { IfOk result (λ marked. marked.after ≡ marker_in world.new) }
+    ensures ran { OnOk result (Ran world.old events.items world.new) }
+    ensures ended { IfErr result (λ fault. EndedAt world.old events.items fault world.new) }
     ensures fault { IfErr result (λ fault. (fault ≡ WorldFault.Full) ⊎ (fault ≡ WorldFault.NoMemory)) }
 {
     let before = world.marker()?;
@@ -29,6 +35,11 @@ pub fn marked_files_stay(
     events: Vec<Event>,
 ) -> Result<Option<Told<Vec<VisibleFile>>>, WorldFault>
     ensures stay { IfOk result (λ seen. IfSome seen (λ files. files.after.items ≡ files.before.items)) }
+    ensures before { IfOk result (λ seen. IfSome seen (λ files. AreFilesIn world.old files.before.items)) }
+    ensures after { IfOk result (λ seen. IfSome seen (λ files. AreFilesIn world.new files.after.items)) }
+    ensures some { IfOk result (λ seen. IfSome seen (λ files. (marker_in world.old ≡ true) × Ran world.old events.items world.new)) }
+    ensures none { IfOk result (λ seen. IfNone seen ((marker_in world.old ≡ false) × (world.new ≡ world.old))) }
+    ensures ended { IfErr result (λ fault. EndedAt world.old events.items fault world.new) }
     ensures fault { IfErr result (λ fault. (fault ≡ WorldFault.Full) ⊎ (fault ≡ WorldFault.NoMemory)) }
 {
     if !world.marker()? {
@@ -50,6 +61,11 @@ pub fn files_stay_after_the_outcome(
     events: Vec<Event>,
 ) -> Result<Option<Told<Vec<VisibleFile>>>, WorldFault>
     ensures stay { IfOk result (λ seen. IfSome seen (λ files. files.after.items ≡ files.before.items)) }
+    ensures before { IfOk result (λ seen. IfSome seen (λ files. AreFilesIn world.old files.before.items)) }
+    ensures after { IfOk result (λ seen. IfSome seen (λ files. AreFilesIn world.new files.after.items)) }
+    ensures some { IfOk result (λ seen. IfSome seen (λ files. IsSome (outcome_in world.old) × Ran world.old events.items world.new)) }
+    ensures none { IfOk result (λ seen. IfNone seen ((outcome_in world.old ≡ None) × (world.new ≡ world.old))) }
+    ensures ended { IfErr result (λ fault. EndedAt world.old events.items fault world.new) }
     ensures fault { IfErr result (λ fault. (fault ≡ WorldFault.Full) ⊎ (fault ≡ WorldFault.NoMemory)) }
 {
     if world.outcome().is_none() {

@@ -1,8 +1,9 @@
 //! The headline in the words of whoever calls a world: laws by what its calls answer.
 //!
-//! Each law is a function that makes the calls one after another, and its contract says in one sentence what their answers have to do with each other. To believe it, read
-//! the few lines of its body; its contract cites std and the types of these calls alone, no definition of this repository. *Why* it holds is said by the definitions: they are in the
-//! contracts of the calls (`mr_world::World`), and the laws follow from these (`HeadlineHolds`).
+//! Each law is a function that makes the calls one after another, and its contract says in one sentence what their answers have to do with each other. That sentence cites std and the
+//! types of these calls alone, no definition of this repository. The other clauses say that the events were run on the world, and that what is told is what the calls answer of it
+//! before and after (`specs/Runs`). *Why* it holds is said by the definitions: they are in the contracts of the calls (`mr_world::World`), and the laws follow from these
+//! (`HeadlineHolds`).
 //!
 //! # What is proved
 //!
@@ -18,7 +19,8 @@
 //!
 //! - `a_world_succeeds`: in some world a job with a map succeeds, under the world's own limits. This clause alone cites definitions, since no call is made.
 //!
-//! A law that runs events ends with the fault of `World::run`: `Full` or `NoMemory`, never `NotNow` (clause `fault`). Those that run none end with `NoMemory` alone.
+//! A law that runs events ends with the fault of `World::run`: `Full` or `NoMemory`, never `NotNow` (clause `fault`); how far the events were run then, says `ended`. Those that run
+//! none end with `NoMemory` alone.
 //!
 //! Only tested: that they answer with ample memory.
 #![tactic(auto)]
