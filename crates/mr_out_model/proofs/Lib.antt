@@ -1,0 +1,3 @@
+pub mod Moments
+pub mod Standings
+pub mod Invariant

@@ -1,0 +1,12 @@
+//! Runs of commands over an output directory, with kills and power cuts, and what each of them keeps.
+//!
+//! # What is proved
+//!
+//! `directory_keeps_promises`: of any list of moves from what an honest `begin` left, and of any more moves behind it.
+//! A move is a command that is given the lock, an honest answer to its call, its end, its end by a kill behind any of
+//! its calls, what others do beneath the work folder with files that are not claimed, or a power cut.
+#![tactic(auto)]
+
+mod laws;
+
+pub use laws::directory_keeps_promises;
