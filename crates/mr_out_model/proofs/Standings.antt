@@ -7,7 +7,7 @@ use Rattle.mr_ids.specs.Attempt.{Attempt}
 use Rattle.mr_ids.specs.Same.{same_task, same_attempt}
 use Rattle.mr_ids.specs.declared.id.JobId.{JobId}
 use Rattle.mr_ids.specs.declared.id.TaskId.{TaskId}
-use Rattle.mr_ids.proofs.Same.{task-is, same_attempt-is}
+use Rattle.mr_ids.proofs.Same.{same_attempt-is, same_attempt-itself}
 use Rattle.mr_history.specs.declared.record.Record.{Record}
 use Rattle.mr_history.specs.declared.record.Record.TheVariants.{AttemptStarted, MapSucceeded, ReduceSucceeded, AttemptFailed, JobUnsuccessful}
 use Rattle.mr_history.specs.Winner.{winner_in}
@@ -105,7 +105,7 @@ has-lost job tasks rs a st e l = by (winner_in rs a.task) refl e
 
     other : (b : Attempt) → winner_in rs a.task ≡ Some b → (v : Bool) → same_attempt b a ≡ v → cond v Won Beaten ≡ st → HasLost rs a
     other b w true is e = absurd (subst IsLost (sym e) l)
-    other b w false is e = record { why = inr (inr (b, w)); never = λ s. let same : b ≡ a = cc in absurd (true≢false (sym (ap (λ x. same_attempt x a) same ∙ itself) ∙ is)) }
+    other b w false is e = record { why = inr (inr (b, w)); never = λ s. let same : b ≡ a = cc in absurd (true≢false (sym (ap (λ (x : Attempt). same_attempt x a) same ∙ same_attempt-itself a) ∙ is)) }
 
     by : (o : Option Attempt) → winner_in rs a.task ≡ o → beside o a (unwon job tasks rs a) ≡ st → HasLost rs a
     by None w e = none w (list_any (tells_failure a) rs) (is_over rs) (is_of_job job tasks a && list_any (tells_start a) rs) refl refl e

@@ -26,8 +26,8 @@ HasTold [] a standing = ⊥
 HasTold (t ∷ ts) a standing = ((t.attempt ≡ a) × (t.standing ≡ standing)) ⊎ HasTold ts a standing
 
 -- it told that the attempt lost
-abbrev pub HasTold_lost : List Telling → Attempt → Type 0
-HasTold_lost ts a = HasTold ts a Beaten ⊎ (HasTold ts a GivenUp ⊎ HasTold ts a JobOver)
+abbrev pub HasToldLoss : List Telling → Attempt → Type 0
+HasToldLoss ts a = HasTold ts a Beaten ⊎ (HasTold ts a GivenUp ⊎ HasTold ts a JobOver)
 
 -- What holds of a world w, and of any later one v.
 pub record Promises (s : Setting) (w v : World) : Type 0 where
@@ -43,7 +43,7 @@ pub record Promises (s : Setting) (w v : World) : Type 0 where
   -- of whom a command said that it won, it is the recorded winner from then on
   pub won : (a : Attempt) → HasTold w.told a Won → winner_in v.disk.synced a.task ≡ Some a
   -- and of whom one said that it lost, it never is
-  pub lost : (a : Attempt) → HasTold_lost w.told a → winner_in v.disk.synced a.task ≢ Some a
+  pub lost : (a : Attempt) → HasToldLoss w.told a → winner_in v.disk.synced a.task ≢ Some a
 
 -- Behind every list of moves that begins with what an honest `begin` left, and any more moves.
 abbrev pub DirectoryKeepsPromises : Type 0

@@ -2,4 +2,3 @@
 pub mod Standing
 pub mod Commands
 pub mod Steps
-pub mod inner

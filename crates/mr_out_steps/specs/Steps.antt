@@ -27,20 +27,20 @@ abbrev pub fails : Turn
 fails = Goes (Over outcome.Failed)
 
 abbrev pub if_done : Turn → Turn → Reply → Turn
-if_done yes otherwise Done = yes
-if_done yes otherwise _ = otherwise
+if_done next otherwise Done = next
+if_done next otherwise _ = otherwise
 
 -- done, or nothing was there
 abbrev pub if_gone : Turn → Reply → Turn
-if_gone yes Done = yes
-if_gone yes Missing = yes
-if_gone yes _ = fails
+if_gone next Done = next
+if_gone next Missing = next
+if_gone next _ = fails
 
 -- done, or it is there already
 abbrev pub if_there : Turn → Reply → Turn
-if_there yes Done = yes
-if_there yes Taken = yes
-if_there yes _ = fails
+if_there next Done = next
+if_there next Taken = next
+if_there next _ = fails
 
 -- was the attempt's file handed in before?
 abbrev pub claim_looked : Attempt → Reply → Turn

@@ -1,25 +1,24 @@
-//! The commands of an output directory as step machines, over the records of its history and the calls of a disk.
+//! What a command of an output directory does of each answer, over the records of its history and the calls of a disk.
 //!
 //! The winner of a task is the attempt whose success is recorded first in the durable part of the history. A command is
-//! pure: `call` names the call that it makes next, `took` hears the answer. So "killed anywhere" is "behind any
-//! `took`", and whoever runs it makes each call on a real disk, or on one in memory.
+//! pure: a phase names the call that is made next (`Phase::call`), a word leads to a turn (`Phase::hears`). So "killed
+//! anywhere" is "behind any answer", and whoever runs it makes each call on a real disk, or on one in memory.
+//!
+//! # What is defined
+//!
+//! `standing` tells how an attempt stands by the records, `winners` who won each task. `Command` is a command between
+//! two calls, `next_call` its call, and `heard` what it is once that was answered.
 //!
 //! # What is proved
 //!
-//! - `Command::call`, `outcome` and `took` are exactly `next_call`, `outcome_in` and `heard` of the definitions, a
-//!   refusal of memory aside (`Takes`). What follows from a phase and a word stands in one table, `turn`.
-//! - `standing_of`, `winner`, `winners` and `is_over` say exactly what the records tell.
-//!
-//! What a run of commands keeps, whatever kills and power cuts come, is said in the crate above, over these
-//! definitions.
+//! `Phase::call`, `outcome` and `hears` are exactly `call_in`, `outcome_in` and `turn`: one table of phases and words.
+//! The lists behind them are those of mr_out_command.
 #![tactic(auto)]
 
-mod command;
 mod order;
 mod phase;
 mod standing;
 
-pub use command::Command;
 pub use order::{Order, Outcome};
 pub use phase::{Phase, Turn};
-pub use standing::{Standing, is_over, standing_of, winner, winners};
+pub use standing::Standing;

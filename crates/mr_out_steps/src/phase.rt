@@ -105,7 +105,8 @@ impl Phase {
         }
     }
 
-    pub(crate) fn is_reading(self) -> bool
+    /// Whether the command waits for the records.
+    pub fn is_reading(self) -> bool
         ensures { result ≡ is_reading self }
     {
         match self {
@@ -114,7 +115,8 @@ impl Phase {
         }
     }
 
-    pub(crate) fn is_listing(self) -> bool
+    /// Whether the command waits for the list of what was handed in.
+    pub fn is_listing(self) -> bool
         ensures { result ≡ is_listing self }
     {
         match self {
@@ -188,31 +190,31 @@ fn success(a: AttemptId) -> Phase
     })
 }
 
-fn if_done(yes: Turn, otherwise: Turn, reply: Reply) -> Turn
-    ensures { result ≡ if_done yes otherwise reply }
+fn if_done(next: Turn, otherwise: Turn, reply: Reply) -> Turn
+    ensures { result ≡ if_done next otherwise reply }
 {
     match reply {
-        Reply::Done => yes,
+        Reply::Done => next,
         _ => otherwise,
     }
 }
 
 // Done, or nothing was there.
-fn if_gone(yes: Turn, reply: Reply) -> Turn
-    ensures { result ≡ if_gone yes reply }
+fn if_gone(next: Turn, reply: Reply) -> Turn
+    ensures { result ≡ if_gone next reply }
 {
     match reply {
-        Reply::Done | Reply::Missing => yes,
+        Reply::Done | Reply::Missing => next,
         _ => FAILS,
     }
 }
 
 // Done, or it is there already.
-fn if_there(yes: Turn, reply: Reply) -> Turn
-    ensures { result ≡ if_there yes reply }
+fn if_there(next: Turn, reply: Reply) -> Turn
+    ensures { result ≡ if_there next reply }
 {
     match reply {
-        Reply::Done | Reply::Taken => yes,
+        Reply::Done | Reply::Taken => next,
         _ => FAILS,
     }
 }

@@ -1,13 +1,20 @@
-// A library with one function.
+//! Tests of the commands of an output directory, over a disk in memory: kills and power cuts at every call.
 #![tactic(auto)]
 
-ghost use Rattle.std.specs.Prelude.{◌≡◌};
-ghost use Rattle.tests_out.specs.Echo.{echo_of};
-
-// The `ensures` clause is the contract: what `echo` returns is `echo_of` of its argument, a definition
-// in `specs/Echo.antt`, which a caller's clause can cite too.
-pub fn echo(x: usize) -> usize
-    ensures { result ≡ echo_of x }
-{
-    x
+// Ends the test where the condition is not so, and tells it. It is a call where `assert!` is a branch.
+macro_rules! confirm {
+    ($rt:expr; $condition:expr) => {
+        crate::confirm::is_so($rt, $condition, stringify!($condition))
+    };
 }
+
+#[cfg(test)]
+mod choices;
+#[cfg(test)]
+mod confirm;
+#[cfg(test)]
+mod disk;
+#[cfg(test)]
+mod run;
+#[cfg(test)]
+mod stops;

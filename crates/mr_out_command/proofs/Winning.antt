@@ -8,7 +8,7 @@ use Rattle.mr_history.specs.declared.record.Record.{Record}
 use Rattle.mr_history.specs.declared.record.Record.TheVariants.{AttemptStarted, MapSucceeded, ReduceSucceeded, AttemptFailed, JobUnsuccessful}
 use Rattle.mr_history.specs.Winner.{winner_in}
 use Rattle.mr_out_steps.specs.Standing.{task_of, winners, with_winner}
-use Rattle.mr_out_steps.specs.inner.Standing.{success_of}
+use Rattle.mr_out_command.specs.inner.Standing.{success_of}
 
 pub found : (r : Record) (rs : List Record) (t : TaskId) (a : Attempt) → success_of r t ≡ Some a → winner_in (r ∷ rs) t ≡ Some a
 unfolding winner_in

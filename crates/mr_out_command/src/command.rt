@@ -1,15 +1,13 @@
 //! A command of an output directory as a step machine: the call that it makes next, and what it does of the answer.
-ghost use Rattle.std.specs.Prelude.{◌≡◌, [], ◌∷◌, ◌++◌, OnOk, Option, List};
-ghost use Rattle.mr_ids.specs.Attempt.{Attempt};
+ghost use Rattle.std.specs.Prelude.{◌≡◌, OnOk, IfOk};
 ghost use Rattle.mr_out_steps.specs.Commands.{opening, next_call, outcome_in};
 ghost use Rattle.mr_out_steps.specs.Steps.{heard, Takes, acts, turn, goes, begins, begins_with, own_work, publishes, lists, ends, links, empties, follows, noted, reads, listed, fails_now, answer_to, is_under_way};
 
-use crate::order::{Order, Outcome};
-use crate::phase::{Phase, Turn};
-use crate::standing::{Standing, is_over, standing_of, winners};
+use crate::standing::{is_over, standing_of, winners};
 use mr_history::{Record, Records};
 use mr_ids::{AttemptId, JobId};
 use mr_out_disk::{Answer, Call, Reply};
+use mr_out_steps::{Order, Outcome, Phase, Standing, Turn};
 use std::alloc::{AllocError, Global};
 use std::collections::LinkedList;
 use std::marker::Model;
@@ -46,7 +44,9 @@ impl Drop for Command {
 }
 
 impl Model for Command {
-    ghost Value = { Rattle.mr_out_steps.specs.Commands.Command };
+    ghost use Rattle.mr_out_steps.specs.Commands.{Command};
+
+    ghost Value = { Command };
 
     ghost view = { λ c. record { order = c.order; job = c.job; tasks = c.tasks; records = c.records; left = c.left; kept = c.kept; phase = c.phase } };
 }
@@ -169,7 +169,7 @@ impl Command {
     }
 
     fn own_work(&self) -> Result<Option<Phase>, AllocError>
-        ensures { OnOk result (result ≡ Result.Ok (own_work self.now.order self.now)) }
+        ensures { IfOk result (λ work. work ≡ own_work self.now.order self.now) }
     {
         match self.order {
             Order::Done(a) => Ok(self.if_under_way(a, Phase::FindingClaim(a))),
@@ -191,9 +191,13 @@ impl Command {
     }
 
     fn abortion(&self) -> Result<Option<Phase>, AllocError>
-        ensures { OnOk result (result ≡ Result.Ok (own_work Order.Abort self.now)) }
+        ensures { IfOk result (λ work. work ≡ own_work Order.Abort self.now) }
     {
-        if is_over(self.records.as_slice()) || self.winners()?.is_some() {
+        if is_over(self.records.as_slice()) {
+            return Ok(None);
+        }
+        let winners = self.winners()?;
+        if winners.is_some() {
             return Ok(None);
         }
         Ok(Some(Phase::Appending(Record::JobUnsuccessful)))
@@ -226,7 +230,7 @@ impl Command {
     }
 
     // Where every task has a winner, and the job is not over, it is published.
-    #[tactic(auto, unfolding(crate::specs::Steps::publishes))]
+    #[tactic(auto, unfolding(mr_out_steps::specs::Steps::publishes))]
     fn publish(&mut self) -> Result<(), AllocError>
         ensures { OnOk result (self.new ≡ publishes self.old) }
     {
