@@ -1,5 +1,6 @@
 //! A command of an output directory as a step machine: the call that it makes next, and what it does of the answer.
-ghost use Rattle.std.specs.Prelude.{◌≡◌, OnOk, IfOk};
+ghost use Rattle.std.specs.Prelude.{◌≡◌, OnOk, IfOk, if◌then◌else◌};
+ghost use Rattle.mr_out_steps.specs.Standing.{standing, winners};
 ghost use Rattle.mr_out_steps.specs.Commands.{opening, next_call, outcome_in};
 ghost use Rattle.mr_out_steps.specs.Steps.{heard, Takes, acts, turn, goes, begins, begins_with, own_work, publishes, lists, ends, links, empties, follows, noted, reads, listed, fails_now, answer_to, is_under_way};
 

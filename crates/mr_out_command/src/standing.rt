@@ -1,5 +1,5 @@
 //! What the records of a job's history tell of an attempt, and of the whole job.
-ghost use Rattle.std.specs.Prelude.{◌≡◌, [], ◌∷◌, IfOk, List, Option};
+ghost use Rattle.std.specs.Prelude.{◌≡◌, IfOk, if◌then◌else◌};
 ghost use Rattle.std.specs.List.{list_any};
 ghost use Rattle.mr_history.specs.Winner.{winner_in};
 ghost use Rattle.mr_ids.specs.Same.{same_attempt, same_task};
