@@ -1,6 +1,6 @@
 //! A command of an output directory as a step machine: the call that it makes next, and what it does of the answer.
-ghost use Rattle.std.specs.Prelude.{◌≡◌, OnOk, IfOk, if◌then◌else◌};
-ghost use Rattle.mr_out_steps.specs.Standing.{standing, winners};
+ghost use Rattle.std.specs.Prelude.{◌≡◌, ◌||◌, OnOk, IfOk, is_some};
+ghost use Rattle.mr_out_steps.specs.Standing.{standing, winners, is_over};
 ghost use Rattle.mr_out_steps.specs.Commands.{opening, next_call, outcome_in};
 ghost use Rattle.mr_out_steps.specs.Steps.{heard, Takes, acts, turn, goes, begins, begins_with, own_work, publishes, lists, ends, links, empties, follows, noted, reads, listed, fails_now, answer_to, is_under_way};
 
@@ -119,7 +119,7 @@ impl Command {
                 Ok(())
             }
             Turn::Begins => self.begin(),
-            Turn::Notes(told) => self.note(told),
+            Turn::Notes(told) => self.note(&told),
             Turn::Publishes => self.publish(),
             Turn::LinksNext => {
                 self.link_next();
@@ -160,48 +160,62 @@ impl Command {
     fn begin(&mut self) -> Result<(), AllocError>
         ensures { OnOk result (self.new ≡ begins self.old) }
     {
-        match self.own_work()? {
-            None => self.publish(),
-            Some(phase) => {
-                self.phase = phase;
-                Ok(())
-            }
-        }
-    }
-
-    fn own_work(&self) -> Result<Option<Phase>, AllocError>
-        ensures { IfOk result (λ work. work ≡ own_work self.now.order self.now) }
-    {
         match self.order {
-            Order::Done(a) => Ok(self.if_under_way(a, Phase::FindingClaim(a))),
-            Order::Fail(a) => {
-                Ok(self.if_under_way(a, Phase::Appending(Record::AttemptFailed { attempt: a })))
-            }
-            Order::Resume => Ok(None),
-            Order::Abort => self.abortion(),
+            Order::Done(a) => self.begin_done(a),
+            Order::Fail(a) => self.begin_fail(a),
+            Order::Resume => self.publish(),
+            Order::Abort => self.begin_abort(),
         }
     }
 
-    fn if_under_way(&self, a: AttemptId, phase: Phase) -> Option<Phase>
-        ensures { result ≡ (if is_under_way (standing self.now.job self.now.tasks self.now.records a) then Option.Some phase else Option.None) }
+    fn begin_done(&mut self, a: AttemptId) -> Result<(), AllocError>
+        ensures { OnOk result (self.new ≡ begins_with (own_work (Order.Done a) self.old) self.old) }
     {
-        match self.standing(a) {
-            Standing::UnderWay => Some(phase),
-            _ => None,
+        if self.is_under_way(&a) {
+            self.phase = Phase::FindingClaim(a);
+            return Ok(());
         }
+        self.publish()
     }
 
-    fn abortion(&self) -> Result<Option<Phase>, AllocError>
-        ensures { IfOk result (λ work. work ≡ own_work Order.Abort self.now) }
+    fn begin_fail(&mut self, a: AttemptId) -> Result<(), AllocError>
+        ensures { OnOk result (self.new ≡ begins_with (own_work (Order.Fail a) self.old) self.old) }
+    {
+        if self.is_under_way(&a) {
+            self.phase = Phase::Appending(Record::AttemptFailed { attempt: a });
+            return Ok(());
+        }
+        self.publish()
+    }
+
+    fn begin_abort(&mut self) -> Result<(), AllocError>
+        ensures { OnOk result (self.new ≡ begins_with (own_work Order.Abort self.old) self.old) }
+    {
+        if self.is_settled()? {
+            return self.publish();
+        }
+        self.phase = Phase::Appending(Record::JobUnsuccessful);
+        Ok(())
+    }
+
+    // Whether the job is over, or every task has a winner.
+    fn is_settled(&self) -> Result<bool, AllocError>
+        ensures { IfOk result (λ settled. settled ≡ (is_over self.now.records || is_some (winners self.now.job self.now.records self.now.tasks))) }
     {
         if is_over(self.records.as_slice()) {
-            return Ok(None);
+            return Ok(true);
         }
         let winners = self.winners()?;
-        if winners.is_some() {
-            return Ok(None);
+        Ok(winners.is_some())
+    }
+
+    fn is_under_way(&self, a: &AttemptId) -> bool
+        ensures { result ≡ is_under_way (standing self.now.job self.now.tasks self.now.records a.now) }
+    {
+        match self.standing(*a) {
+            Standing::UnderWay => true,
+            _ => false,
         }
-        Ok(Some(Phase::Appending(Record::JobUnsuccessful)))
     }
 
     fn standing(&self, a: AttemptId) -> Standing
@@ -217,11 +231,18 @@ impl Command {
     }
 
     // A record is durable now.
-    fn note(&mut self, told: Record) -> Result<(), AllocError>
-        ensures { OnOk result (self.new ≡ follows told (noted told self.old)) }
+    fn note(&mut self, told: &Record) -> Result<(), AllocError>
+        ensures { OnOk result (self.new ≡ follows told.now (noted told.now self.old)) }
     {
-        self.records.push(told)?;
-        match told {
+        self.records.push(*told)?;
+        self.follow(told)
+    }
+
+    // What follows from a record that was noted.
+    fn follow(&mut self, told: &Record) -> Result<(), AllocError>
+        ensures { OnOk result (self.new ≡ follows told.now self.old) }
+    {
+        match *told {
             Record::AttemptFailed { attempt } => {
                 self.phase = Phase::DroppingClaim(attempt);
                 Ok(())

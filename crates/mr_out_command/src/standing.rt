@@ -130,7 +130,7 @@ fn success(told: &Record, task: &TaskId) -> Option<AttemptId>
 }
 
 fn by_task(a: &AttemptId, task: &TaskId) -> Option<AttemptId>
-    ensures { result ≡ (if same_task a.now.task task.now then Option.Some a.now else Option.None) }
+    ensures { result ≡ (if same_task a.now.task task.now then Some a.now else None) }
 {
     if is_same_task(&a.task(), task) {
         Some(*a)
