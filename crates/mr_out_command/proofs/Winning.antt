@@ -1,5 +1,6 @@
 -- One record more in front, and one task more.
-use Rattle.std.proofs.Common.{◌≡◌, ◌+◌, ℕ, Bool, true, false, cond, List, [], ◌∷◌, Option, Some, None, refl, sym, ap, ◌∙◌, add-one}
+use Rattle.std.proofs.Common.{◌≡◌, ◌<◌, ◌≤◌, ◌+◌, length, drop, get_or, drop-cons, ℕ, Bool, true, false, cond, List, [], ◌∷◌, Option, Some, None, refl, sym, ap, ◌∙◌, add-one}
+use Rattle.std.proofs.lemmas.List.{drop_all}
 use Rattle.mr_ids.specs.Attempt.{Attempt}
 use Rattle.mr_ids.specs.Same.{same_task}
 use Rattle.mr_ids.specs.declared.id.JobId.{JobId}
@@ -45,3 +46,17 @@ one_more job rs n = ap (λ m. winners job rs m) (add-one n)
 pub no_task : (job : JobId) (rs : List Record) → winners job rs 0 ≡ Some []
 unfolding winners
 no_task job rs = refl
+
+-- ---- the loop over the records
+
+left-is : (rs : List Record) (i : ℕ) (r : Record) → i < length rs → r ≡ get_or rs i r → drop i rs ≡ r ∷ drop (i + 1) rs
+left-is rs i r within is = drop-cons rs i r within ∙ (λ j. sym is j ∷ drop (sym (add-one i) j) rs)
+
+pub stops : (rs : List Record) (t : TaskId) (i : ℕ) (r : Record) (a : Attempt) → i < length rs → r ≡ get_or rs i r → success_of r t ≡ Some a → winner_in (drop i rs) t ≡ Some a
+stops rs t i r a within is e = ap (λ (qs : List Record). winner_in qs t) (left-is rs i r within is) ∙ found r (drop (i + 1) rs) t a e
+
+pub passes : (rs : List Record) (t : TaskId) (i : ℕ) (r : Record) → i < length rs → r ≡ get_or rs i r → success_of r t ≡ None → winner_in (drop i rs) t ≡ winner_in (drop (i + 1) rs) t
+passes rs t i r within is e = ap (λ (qs : List Record). winner_in qs t) (left-is rs i r within is) ∙ passed r (drop (i + 1) rs) t e
+
+pub at-end : (rs : List Record) (t : TaskId) (i : ℕ) → length rs ≤ i → winner_in (drop i rs) t ≡ None
+at-end rs t i l = ap (λ (qs : List Record). winner_in qs t) (drop_all i rs l) ∙ nobody t

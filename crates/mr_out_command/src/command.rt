@@ -163,9 +163,20 @@ impl Command {
         match self.order {
             Order::Done(a) => self.begin_done(a),
             Order::Fail(a) => self.begin_fail(a),
+            Order::Ask(a) => {
+                self.begin_ask(a);
+                Ok(())
+            }
             Order::Resume => self.publish(),
             Order::Abort => self.begin_abort(),
         }
+    }
+
+    // Who only asks is answered at once.
+    fn begin_ask(&mut self, a: AttemptId)
+        ensures { self.new ≡ begins_with (own_work (Order.Ask a) self.old) self.old }
+    {
+        self.phase = Phase::Over(Outcome::Stands(self.standing(a)));
     }
 
     fn begin_done(&mut self, a: AttemptId) -> Result<(), AllocError>
@@ -299,8 +310,19 @@ impl Command {
         ensures { result ≡ answer_to self.now.order self.now }
     {
         match self.order {
-            Order::Done(a) | Order::Fail(a) => Outcome::Stands(self.standing(a)),
-            Order::Resume | Order::Abort => Outcome::Finished,
+            Order::Done(a) | Order::Fail(a) | Order::Ask(a) => Outcome::Stands(self.standing(a)),
+            Order::Resume => Outcome::Finished,
+            Order::Abort => self.abort_answer(),
+        }
+    }
+
+    fn abort_answer(&self) -> Outcome
+        ensures { result ≡ answer_to Order.Abort self.now }
+    {
+        if is_over(self.records.as_slice()) {
+            Outcome::Finished
+        } else {
+            Outcome::AllWon
         }
     }
 }

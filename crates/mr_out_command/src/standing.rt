@@ -107,7 +107,6 @@ fn with_winner(
 }
 
 /// The winner of a task: the attempt of the first record of its success.
-#[tactic(auto, using(crate::proofs::Winning::found, crate::proofs::Winning::passed, crate::proofs::Winning::nobody))]
 pub fn winner(records: &[Record], task: &TaskId) -> Option<AttemptId>
     ensures { result ≡ winner_in records.now task.now }
 {

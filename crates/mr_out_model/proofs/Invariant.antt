@@ -164,12 +164,14 @@ pub record ToLink (s : Setting) (synced : List Record) (part : ℕ → Moments) 
 abbrev pub EndingOf : Setting → View → Order → Standing → Type 0
 EndingOf s v (order.Done a) st = (v.appended ≡ []) × (standing s.job s.tasks v.synced a ≡ st)
 EndingOf s v (order.Fail a) st = (v.appended ≡ []) × (standing s.job s.tasks v.synced a ≡ st)
+EndingOf s v (order.Ask a) st = (v.appended ≡ []) × (standing s.job s.tasks v.synced a ≡ st)
 EndingOf s v order.Resume st = Unit {0}
 EndingOf s v order.Abort st = Unit {0}
 
 abbrev pub Ending : Setting → View → Order → Outcome → Type 0
 Ending s v o (outcome.Stands st) = EndingOf s v o st
 Ending s v o outcome.Finished = Unit {0}
+Ending s v o outcome.AllWon = Unit {0}
 Ending s v o outcome.NoFile = Unit {0}
 Ending s v o outcome.NotAFile = Unit {0}
 Ending s v o outcome.StillWritten = Unit {0}

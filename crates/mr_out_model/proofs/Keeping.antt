@@ -13,7 +13,7 @@ use Rattle.mr_out_steps.specs.declared.standing.Standing.TheVariants.{Won, Beate
 use Rattle.mr_out_steps.specs.Standing.{task_of}
 use Rattle.mr_out_model.specs.Worlds.{Setting, World, begun}
 use Rattle.mr_out_model.specs.Runs.{Move, happens, May, after, IsRun}
-use Rattle.mr_out_model.specs.Promises.{IsWinners, HasTold, HasToldLoss, Promises, DirectoryKeepsPromises}
+use Rattle.mr_out_model.specs.Promises.{IsWinners, HasTold, HasToldLoss, Promises, DirectoryKeepsPromises, ReadersFindWinners}
 use Rattle.mr_out_model.proofs.Invariant.{view, all_records, IfThere, IsPart, PartOf, Wins, Stand, Shown, OfJob, Holds}
 use Rattle.mr_out_model.proofs.Records.{wins-more, wins-own, some-one, none-some}
 use Rattle.mr_out_model.proofs.Answering.{Grows, same-grows}
@@ -149,3 +149,14 @@ keeps s bytes moves more r q =
     let first = runs-on s moves (begun bytes) (still-there s (begun bytes) (begun-holds s bytes)) r in
     let w = after s (begun bytes) moves in
     promised s w (after s w more) first.holds (runs-on s more w (still-there s w first.holds) q)
+
+pub reads : ReadersFindWinners
+reads s bytes moves more r q e n l =
+    let w = after s (begun bytes) moves in
+    let v = after s w more in
+    let first = runs-on s moves (begun bytes) (still-there s (begun bytes) (begun-holds s bytes)) r in
+    let later = runs-on s more w (still-there s w first.holds) q in
+    let p = promised s w v first.holds later in
+    let there = p.marked e n l in
+    let listed : seen v.disk (Part n) ≡ Some there.0 = p.parts_stay e n ∙ there.1 in
+    record { file = there.0; listed = listed; winners = visible-is s v later.holds n there.0 listed; bytes = p.bytes_stay e n there.0 there.1 }

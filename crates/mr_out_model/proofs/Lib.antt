@@ -9,3 +9,4 @@ pub mod Answering
 pub mod Publishing
 pub mod Moving
 pub mod Keeping
+pub mod Fronts

@@ -143,6 +143,8 @@ ends-so s w (order.Done a) (outcome.Stands st) h e = tell-one s w a st h e.0 e.1
 ends-so s w (order.Done a) _ h e = tell-none s w h
 ends-so s w (order.Fail a) (outcome.Stands st) h e = tell-one s w a st h e.0 e.1
 ends-so s w (order.Fail a) _ h e = tell-none s w h
+ends-so s w (order.Ask a) (outcome.Stands st) h e = tell-one s w a st h e.0 e.1
+ends-so s w (order.Ask a) _ h e = tell-none s w h
 ends-so s w order.Resume _ h e = tell-none s w h
 ends-so s w order.Abort _ h e = tell-none s w h
 

@@ -12,6 +12,7 @@ use Rattle.mr_out_steps.specs.declared.standing.Standing.{Standing}
 use Rattle.mr_out_steps.specs.declared.standing.Standing.TheVariants.{Won, Beaten, GivenUp, JobOver, UnderWay, Unknown}
 use Rattle.mr_out_steps.specs.declared.order.Order.{Order}
 use Rattle.mr_out_steps.specs.declared.order.Order.TheVariants as order
+use Rattle.mr_out_steps.specs.declared.order.Outcome.TheVariants as outcome
 use Rattle.mr_out_steps.specs.declared.phase.Phase.{Phase}
 use Rattle.mr_out_steps.specs.declared.phase.Phase.TheVariants.{Listing, FindingClaim, Appending}
 use Rattle.mr_out_steps.specs.Standing.{task_of, standing, winners, with_winner, is_over}
@@ -83,8 +84,13 @@ ends-amid s v h c job tasks k = record { job = job; tasks = tasks; here = by c.o
     by : (o : Order) → Ending s v o (answer_to o c)
     by (order.Done a) = (k.none, stands-so s v c a job tasks k.records)
     by (order.Fail a) = (k.none, stands-so s v c a job tasks k.records)
+    by (order.Ask a) = (k.none, stands-so s v c a job tasks k.records)
     by order.Resume = tt
-    by order.Abort = tt
+    by order.Abort = aborted (is_over c.records)
+
+    aborted : (b : Bool) → Ending s v order.Abort (cond b outcome.Finished outcome.AllWon)
+    aborted true = tt
+    aborted false = tt
 
 -- ---- what is published
 
@@ -124,7 +130,7 @@ empties-amid s v h c (a ∷ rest) job tasks k st there = record { job = job; tas
 -- ---- its own work
 
 pub begins-amid : (s : Setting) (v : View) (h : Attempt → Option ℕ) (c : Command) → Core s v h → c.job ≡ s.job → c.tasks ≡ s.tasks → Known v.synced v.appended c.records → Amid s v h (begins c)
-begins-amid s v h c core job tasks k = by c.order
+begins-amid s v h c core job tasks k = by c.order refl
   where
     published : Amid s v h (publishes c)
     published = publishes-amid s v h c core job tasks k
@@ -152,11 +158,15 @@ begins-amid s v h c core job tasks k = by c.order
     abort true = published
     abort false = record { job = job; tasks = tasks; here = (k, tt) }
 
-    by : (o : Order) → Amid s v h (begins_with (own_work o c) c)
-    by (order.Done a) = done a (standing c.job c.tasks c.records a) refl
-    by (order.Fail a) = fail a (standing c.job c.tasks c.records a) refl
-    by order.Resume = published
-    by order.Abort = abort (is_over c.records || is_some (winners c.job c.records c.tasks))
+    asked : (a : Attempt) → c.order ≡ order.Ask a → Ending s v c.order (answer_to (order.Ask a) c)
+    asked a e = let P : Order → Type 0 = λ o. Ending s v o (answer_to (order.Ask a) c) in subst P (sym e) (k.none, stands-so s v c a job tasks k.records)
+
+    by : (o : Order) → c.order ≡ o → Amid s v h (begins_with (own_work o c) c)
+    by (order.Done a) e = done a (standing c.job c.tasks c.records a) refl
+    by (order.Fail a) e = fail a (standing c.job c.tasks c.records a) refl
+    by (order.Ask a) e = record { job = job; tasks = tasks; here = asked a e }
+    by order.Resume e = published
+    by order.Abort e = abort (is_over c.records || is_some (winners c.job c.records c.tasks))
 
 -- ---- a record is durable now
 

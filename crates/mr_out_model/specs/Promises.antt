@@ -49,3 +49,15 @@ pub record Promises (s : Setting) (w v : World) : Type 0 where
 abbrev pub DirectoryKeepsPromises : Type 0
 DirectoryKeepsPromises = (s : Setting) (bytes : ℕ → ℕ) (moves more : List Move) → IsRun s (begun bytes) moves → IsRun s (after s (begun bytes) moves) more
     → Promises s (after s (begun bytes) moves) (after s (after s (begun bytes) moves) more)
+
+-- What a reader finds of a task: one file, its winner's, with the bytes that it had when the marker was seen.
+pub record Reads (s : Setting) (w v : World) (n : ℕ) : Type 0 where
+  pub file : ℕ
+  pub listed : seen v.disk (Part n) ≡ Some file
+  pub winners : IsWinners s v n file
+  pub bytes : v.disk.bytes file ≡ w.disk.bytes file
+
+-- A reader who saw the marker, and then lists and reads, at whatever moments, finds that of each task.
+abbrev pub ReadersFindWinners : Type 0
+ReadersFindWinners = (s : Setting) (bytes : ℕ → ℕ) (moves more : List Move) → IsRun s (begun bytes) moves → IsRun s (after s (begun bytes) moves) more
+    → seen (after s (begun bytes) moves).disk Marker ≢ None → (n : ℕ) → n < s.tasks → Reads s (after s (begun bytes) moves) (after s (after s (begun bytes) moves) more) n

@@ -61,6 +61,7 @@ handed_by call answer w = w.handed
 abbrev pub telling : Order → Outcome → List Telling
 telling (order.Done a) (outcome.Stands s) = record { attempt = a; standing = s } ∷ []
 telling (order.Fail a) (outcome.Stands s) = record { attempt = a; standing = s } ∷ []
+telling (order.Ask a) (outcome.Stands s) = record { attempt = a; standing = s } ∷ []
 telling o end = []
 
 -- A file is claimed while its writer has handed it in, or it is visible at its writer's task.

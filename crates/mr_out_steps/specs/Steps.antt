@@ -121,8 +121,9 @@ goes phase c = record c { phase = phase }
 abbrev pub answer_to : Order → Command → Outcome
 answer_to (order.Done a) c = outcome.Stands (standing c.job c.tasks c.records a)
 answer_to (order.Fail a) c = outcome.Stands (standing c.job c.tasks c.records a)
+answer_to (order.Ask a) c = outcome.Stands (standing c.job c.tasks c.records a)
 answer_to order.Resume c = outcome.Finished
-answer_to order.Abort c = outcome.Finished
+answer_to order.Abort c = if is_over c.records then outcome.Finished else outcome.AllWon
 
 abbrev pub ends : Command → Command
 ends c = goes (Over (answer_to c.order c)) c
@@ -144,6 +145,7 @@ is_under_way _ = false
 abbrev pub own_work : Order → Command → Option Phase
 own_work (order.Done a) c = if is_under_way (standing c.job c.tasks c.records a) then Some (FindingClaim a) else None
 own_work (order.Fail a) c = if is_under_way (standing c.job c.tasks c.records a) then Some (Appending (AttemptFailed a)) else None
+own_work (order.Ask a) c = Some (Over (answer_to (order.Ask a) c))
 own_work order.Resume c = None
 own_work order.Abort c = if is_over c.records || is_some (winners c.job c.records c.tasks) then None else Some (Appending JobUnsuccessful)
 

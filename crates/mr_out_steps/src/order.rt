@@ -9,6 +9,8 @@ pub enum Order {
     Done(AttemptId),
     /// The attempt failed, or is given up.
     Fail(AttemptId),
+    /// How does the attempt stand? Nothing is changed.
+    Ask(AttemptId),
     /// What a killed command left is finished.
     Resume,
     /// The job is ended as failed, unless it is published or will be.
@@ -22,6 +24,8 @@ pub enum Outcome {
     Stands(Standing),
     /// The order was carried out. What there is to publish is published.
     Finished,
+    /// The job cannot be ended as failed, since every task has a winner. What there is to publish is published.
+    AllWon,
     /// The attempt has no file: none where it writes it, and none that was handed in. Nothing changed.
     NoFile,
     /// What stands where the attempt writes its file is no regular file, or has another name too. Nothing changed.
