@@ -3,12 +3,14 @@ use std::alloc::Global;
 use std::process::Abort;
 
 /// What was chosen, and of how many.
+#[derive(Clone, Copy, Debug)]
 struct Choice {
     taken: usize,
     count: usize,
 }
 
 /// The choices of the run that is being made.
+#[derive(Drop)]
 pub struct Choices {
     made: Vec<Choice>,
     next: usize,

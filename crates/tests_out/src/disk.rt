@@ -7,12 +7,14 @@ use std::alloc::Global;
 use std::collections::LinkedList;
 use std::process::Abort;
 
+#[derive(Debug, Drop)]
 struct Name {
     place: Place,
     /// The newest last; at least one.
     moments: Vec<Option<u64>>,
 }
 
+#[derive(Drop)]
 pub struct FakeDisk {
     alloc: Global,
     names: Vec<Name>,

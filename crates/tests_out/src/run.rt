@@ -41,12 +41,14 @@ fn file_of(a: &AttemptId) -> u64 {
 }
 
 /// How a command came to its end.
+#[derive(Clone, Copy)]
 enum End {
     Told(Outcome),
     Killed,
     Cut,
 }
 
+#[derive(Drop)]
 pub struct Run {
     alloc: Global,
     disk: FakeDisk,

@@ -3,10 +3,11 @@
 use crate::choices::Choices;
 use crate::run::{Run, attempt};
 use mr_out_steps::Order;
+use std::alloc::Global;
 use std::process::Abort;
 
 // Every run of these commands with so many stops.
-fn all(rt: &impl Abort, alloc: std::alloc::Global, orders: &[Order], stops: u32) {
+fn all(rt: &impl Abort, alloc: Global, orders: &[Order], stops: u32) {
     let mut choices = Choices::new(alloc);
     for _ in 0..10_000_000 {
         let mut run = Run::new(rt, alloc, stops);
