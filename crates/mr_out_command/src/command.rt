@@ -156,11 +156,17 @@ impl Command {
         }
     }
 
+    fn order(&self) -> Order
+        ensures { result ≡ self.now.order }
+    {
+        self.order
+    }
+
     // Its own work, where there is something to do.
     fn begin(&mut self) -> Result<(), AllocError>
         ensures { OnOk result (self.new ≡ begins self.old) }
     {
-        match self.order {
+        match self.order() {
             Order::Done(a) => self.begin_done(a),
             Order::Fail(a) => self.begin_fail(a),
             Order::Ask(a) => {

@@ -81,16 +81,16 @@ stands-so s v c a job tasks rs = λ i. standing (sym job i) (sym tasks i) (sym r
 pub ends-amid : (s : Setting) (v : View) (h : Attempt → Option ℕ) (c : Command) → c.job ≡ s.job → c.tasks ≡ s.tasks → Known v.synced v.appended c.records → Amid s v h (ends c)
 ends-amid s v h c job tasks k = record { job = job; tasks = tasks; here = by c.order }
   where
+    aborted : (b : Bool) → Ending s v order.Abort (cond b outcome.Finished outcome.AllWon)
+    aborted true = tt
+    aborted false = tt
+
     by : (o : Order) → Ending s v o (answer_to o c)
     by (order.Done a) = (k.none, stands-so s v c a job tasks k.records)
     by (order.Fail a) = (k.none, stands-so s v c a job tasks k.records)
     by (order.Ask a) = (k.none, stands-so s v c a job tasks k.records)
     by order.Resume = tt
     by order.Abort = aborted (is_over c.records)
-
-    aborted : (b : Bool) → Ending s v order.Abort (cond b outcome.Finished outcome.AllWon)
-    aborted true = tt
-    aborted false = tt
 
 -- ---- what is published
 
