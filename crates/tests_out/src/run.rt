@@ -60,7 +60,7 @@ pub struct Run {
 
 impl Run {
     /// A job of two tasks. Two attempts at the first and one at the second have written their files.
-    pub fn new(rt: &impl Abort, alloc: Global, stops: u32) -> Run {
+    pub fn new(rt: &impl Abort, alloc: Global) -> Run {
         let mut disk = FakeDisk::new(alloc);
         for &(number, of) in &[(0, 0), (1, 0), (0, 1)] {
             let a = attempt(rt, number, of);
@@ -75,8 +75,13 @@ impl Run {
             alloc,
             disk,
             told: Vec::new(alloc),
-            stops,
+            stops: 0,
         }
+    }
+
+    /// So many stops may come from now on.
+    pub fn allow(&mut self, stops: u32) {
+        self.stops = stops;
     }
 
     /// A command, which is said again where it was stopped and that is chosen.

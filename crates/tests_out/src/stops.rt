@@ -1,16 +1,20 @@
-//! Two tasks, `done` and `fail` in four orders, with up to two stops at every call: each a kill, or a power cut that
-//! leaves any state that the disk allows. Each stopped command is said again or not.
+//! Two tasks, `done` and `fail` in four orders, with a stop at every call, and two commands with up to two stops. A stop
+//! is a kill, or a power cut that leaves any state that the disk allows. A stopped command is said again or not.
 use crate::choices::Choices;
 use crate::run::{Run, attempt};
 use mr_out_steps::Order;
 use std::alloc::Global;
 use std::process::Abort;
 
-// Every run of these commands with so many stops.
-fn all(rt: &impl Abort, alloc: Global, orders: &[Order], stops: u32) {
+// Every run of these commands with so many stops, behind some that nobody stops.
+fn all(rt: &impl Abort, alloc: Global, first: &[Order], orders: &[Order], stops: u32) {
     let mut choices = Choices::new(alloc);
     for _ in 0..10_000_000 {
-        let mut run = Run::new(rt, alloc, stops);
+        let mut run = Run::new(rt, alloc);
+        for order in first {
+            run.say(rt, order, &mut choices);
+        }
+        run.allow(stops);
         for order in orders {
             run.say(rt, order, &mut choices);
         }
@@ -30,7 +34,7 @@ fn two_attempts_hand_in(rt: HostRuntime) {
         Order::Done(attempt(rt, 1, 0)),
         Order::Done(attempt(rt, 0, 1)),
     ];
-    all(rt, rt.alloc(), &orders, 2);
+    all(rt, rt.alloc(), &[], &orders, 1);
 }
 
 #[test]
@@ -42,7 +46,7 @@ fn one_that_handed_in_is_given_up(rt: HostRuntime) {
         Order::Done(attempt(rt, 1, 0)),
         Order::Done(attempt(rt, 0, 1)),
     ];
-    all(rt, rt.alloc(), &orders, 2);
+    all(rt, rt.alloc(), &[], &orders, 1);
 }
 
 #[test]
@@ -54,7 +58,7 @@ fn one_that_was_given_up_hands_in(rt: HostRuntime) {
         Order::Done(attempt(rt, 1, 0)),
         Order::Done(attempt(rt, 0, 1)),
     ];
-    all(rt, rt.alloc(), &orders, 2);
+    all(rt, rt.alloc(), &[], &orders, 1);
 }
 
 #[test]
@@ -66,5 +70,23 @@ fn one_that_is_beaten_is_given_up(rt: HostRuntime) {
         Order::Done(attempt(rt, 1, 0)),
         Order::Fail(attempt(rt, 1, 0)),
     ];
-    all(rt, rt.alloc(), &orders, 2);
+    all(rt, rt.alloc(), &[], &orders, 1);
+}
+
+#[test]
+fn the_last_hands_in_with_two_stops(rt: HostRuntime) {
+    let rt = &rt;
+    let first = [Order::Done(attempt(rt, 0, 0))];
+    let orders = [Order::Done(attempt(rt, 0, 1))];
+    all(rt, rt.alloc(), &first, &orders, 2);
+}
+
+#[test]
+fn one_is_given_up_with_two_stops(rt: HostRuntime) {
+    let rt = &rt;
+    let orders = [
+        Order::Fail(attempt(rt, 0, 0)),
+        Order::Done(attempt(rt, 1, 0)),
+    ];
+    all(rt, rt.alloc(), &[], &orders, 2);
 }
