@@ -1,14 +1,7 @@
 //! A command of an output directory as a step machine, over the records of its history and the calls of a disk.
 //!
-//! # How to begin
-//!
-//! ```rust
-//! let mut command = Command::new(alloc, Order::Done(attempt), job, tasks);
-//! for _ in 0..u64::MAX {
-//!     let Some(call) = command.call() else { break };
-//!     command.took(disk.perform(call));
-//! }
-//! ```
+//! Whoever runs a command holds the lock of the directory. As long as `call` names a call, it is made on the disk, and its
+//! answer is handed to `took`. Then `outcome` tells how the command ended.
 //!
 //! # What is proved
 //!
