@@ -111,7 +111,6 @@ impl Run {
             };
             let answer = self.disk.perform(rt, call);
             command.took(answer);
-            self.judge(rt);
             match self.stop(rt, choices) {
                 Some(end) => return end,
                 None => {}
@@ -129,6 +128,7 @@ impl Run {
             0 => None,
             1 => {
                 self.stops = self.stops.saturating_sub(1);
+                self.judge(rt);
                 Some(End::Killed)
             }
             _ => {

@@ -1,5 +1,5 @@
-//! Two tasks, `done` and `fail` in four orders, with a stop at every call, and two commands with up to two stops. A stop
-//! is a kill, or a power cut that leaves any state that the disk allows. A stopped command is said again or not.
+//! Two tasks, `done` and `fail` in four orders, with a stop at every call: a kill, or a power cut that leaves any state
+//! that the disk allows. A stopped command is said again or not. More stops are too many runs for a test.
 use crate::choices::Choices;
 use crate::run::{Run, attempt};
 use mr_out_steps::Order;
@@ -71,22 +71,4 @@ fn one_that_is_beaten_is_given_up(rt: HostRuntime) {
         Order::Fail(attempt(rt, 1, 0)),
     ];
     all(rt, rt.alloc(), &[], &orders, 1);
-}
-
-#[test]
-fn the_last_hands_in_with_two_stops(rt: HostRuntime) {
-    let rt = &rt;
-    let first = [Order::Done(attempt(rt, 0, 0))];
-    let orders = [Order::Done(attempt(rt, 0, 1))];
-    all(rt, rt.alloc(), &first, &orders, 2);
-}
-
-#[test]
-fn one_is_given_up_with_two_stops(rt: HostRuntime) {
-    let rt = &rt;
-    let orders = [
-        Order::Fail(attempt(rt, 0, 0)),
-        Order::Done(attempt(rt, 1, 0)),
-    ];
-    all(rt, rt.alloc(), &[], &orders, 2);
 }
