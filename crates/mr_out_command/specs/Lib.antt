@@ -1,0 +1,2 @@
+-- Words that only private functions speak of. What a command does stands in mr_out_steps.
+pub mod inner

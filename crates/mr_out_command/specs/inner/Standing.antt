@@ -1,0 +1,12 @@
+-- One record of a winner.
+use Rattle.std.specs.Prelude.{Option, Some, None, if◌then◌else◌}
+use Rattle.mr_ids.specs.Attempt.{Attempt}
+use Rattle.mr_ids.specs.Same.{same_task}
+use Rattle.mr_ids.specs.declared.id.TaskId.{TaskId}
+use Rattle.mr_history.specs.declared.record.Record.{Record}
+use Rattle.mr_history.specs.declared.record.Record.TheVariants.{AttemptStarted, MapSucceeded, ReduceSucceeded, AttemptFailed, JobUnsuccessful}
+
+-- the attempt of which the record tells that it succeeded at the task
+abbrev pub success_of : Record → TaskId → Option Attempt
+success_of (ReduceSucceeded a bytes) t = if same_task a.task t then Some a else None
+success_of _ t = None

@@ -1,0 +1,334 @@
+//! A command of an output directory as a step machine: the call that it makes next, and what it does of the answer.
+ghost use Rattle.std.specs.Prelude.{◌≡◌, ◌||◌, OnOk, IfOk, is_some};
+ghost use Rattle.mr_out_steps.specs.Standing.{standing, winners, is_over};
+ghost use Rattle.mr_out_steps.specs.Commands.{opening, next_call, outcome_in};
+ghost use Rattle.mr_out_steps.specs.Steps.{heard, Takes, acts, turn, goes, begins, begins_with, own_work, publishes, lists, ends, links, empties, follows, noted, reads, listed, fails_now, answer_to, is_under_way};
+
+use crate::standing::{is_over, standing_of, winners};
+use mr_history::{Record, Records};
+use mr_ids::{AttemptId, JobId};
+use mr_out_disk::{Answer, Call, Reply};
+use mr_out_steps::{Order, Outcome, Phase, Standing, Turn};
+use std::alloc::{AllocError, Global};
+use std::collections::LinkedList;
+use std::marker::Model;
+
+/// A command between two calls.
+///
+/// Whoever runs it holds the lock of the directory, makes the call that it names, and hands in the answer, until it has
+/// ended. It may be let go between any two calls, as by a kill: the next command finishes what it left.
+pub struct Command {
+    alloc: Global,
+    order: Order,
+    job: JobId,
+    tasks: u32,
+    records: Records,
+    left: LinkedList<AttemptId>,
+    kept: LinkedList<AttemptId>,
+    phase: Phase,
+}
+
+// Written by hand, so that the check takes the drop of a command as one call.
+impl Drop for Command {
+    fn drop(self) {
+        let Command {
+            alloc: _,
+            order: _,
+            job: _,
+            tasks: _,
+            records: _,
+            left: _,
+            kept: _,
+            phase: _,
+        } = self;
+    }
+}
+
+impl Model for Command {
+    ghost use Rattle.mr_out_steps.specs.Commands.{Command};
+
+    ghost Value = { Command };
+
+    ghost view = { λ c. record { order = c.order; job = c.job; tasks = c.tasks; records = c.records; left = c.left; kept = c.kept; phase = c.phase } };
+}
+
+impl Command {
+    /// A command that begins, in a job of so many tasks. It takes no memory.
+    pub fn new(alloc: Global, order: Order, job: JobId, tasks: u32) -> Command
+        ensures { result ≡ opening order job tasks }
+    {
+        Command {
+            alloc,
+            order,
+            job,
+            tasks,
+            records: Records::new(alloc),
+            left: LinkedList::new(alloc),
+            kept: LinkedList::new(alloc),
+            phase: Phase::Reading,
+        }
+    }
+
+    /// The call that it makes next, where it has not ended.
+    pub fn call(&self) -> Option<Call>
+        ensures { result ≡ next_call self.now }
+    {
+        self.phase.call()
+    }
+
+    /// How it ended, where it has.
+    pub fn outcome(&self) -> Option<Outcome>
+        ensures { result ≡ outcome_in self.now.phase }
+    {
+        self.phase.outcome()
+    }
+
+    /// Its call was answered so. An answer of another call ends it as failed.
+    ///
+    /// It may allocate; where that is refused, the command ends as one that had no memory.
+    pub fn took(&mut self, answer: Answer)
+        ensures { Takes self.old answer self.new }
+    {
+        if self.hear(answer).is_err() {
+            self.phase = Phase::Over(Outcome::NoMemory);
+        }
+    }
+
+    fn hear(&mut self, answer: Answer) -> Result<(), AllocError>
+        ensures { OnOk result (self.new ≡ heard self.old answer) }
+    {
+        match answer {
+            Answer::Says(reply) => self.hear_word(reply),
+            Answer::Told(records) => {
+                self.read(records);
+                Ok(())
+            }
+            Answer::Listed(attempts) => {
+                self.list(attempts);
+                Ok(())
+            }
+        }
+    }
+
+    fn hear_word(&mut self, reply: Reply) -> Result<(), AllocError>
+        ensures { OnOk result (self.new ≡ acts (turn self.old.phase reply) self.old) }
+    {
+        match self.phase.hears(reply) {
+            Turn::Goes(phase) => {
+                self.phase = phase;
+                Ok(())
+            }
+            Turn::Begins => self.begin(),
+            Turn::Notes(told) => self.note(&told),
+            Turn::Publishes => self.publish(),
+            Turn::LinksNext => {
+                self.link_next();
+                Ok(())
+            }
+            Turn::EmptiesNext => {
+                self.empty_next();
+                Ok(())
+            }
+        }
+    }
+
+    fn read(&mut self, records: Records)
+        ensures { self.new ≡ heard self.old (Answer.Told records) }
+    {
+        if self.phase.is_reading() {
+            self.records = records;
+            self.phase = Phase::SyncingEnd;
+        } else {
+            self.phase = Phase::Over(Outcome::Failed);
+        }
+    }
+
+    fn list(&mut self, attempts: LinkedList<AttemptId>)
+        ensures { self.new ≡ heard self.old (Answer.Listed attempts) }
+    {
+        if !self.phase.is_listing() {
+            self.phase = Phase::Over(Outcome::Failed);
+        } else if attempts.is_empty() {
+            self.end();
+        } else {
+            self.kept = attempts;
+            self.link_next();
+        }
+    }
+
+    fn order(&self) -> Order
+        ensures { result ≡ self.now.order }
+    {
+        self.order
+    }
+
+    // Its own work, where there is something to do.
+    fn begin(&mut self) -> Result<(), AllocError>
+        ensures { OnOk result (self.new ≡ begins self.old) }
+    {
+        match self.order() {
+            Order::Done(a) => self.begin_done(a),
+            Order::Fail(a) => self.begin_fail(a),
+            Order::Ask(a) => {
+                self.begin_ask(a);
+                Ok(())
+            }
+            Order::Resume => self.publish(),
+            Order::Abort => self.begin_abort(),
+        }
+    }
+
+    // Who only asks is answered at once.
+    fn begin_ask(&mut self, a: AttemptId)
+        ensures { self.new ≡ begins_with (own_work (Order.Ask a) self.old) self.old }
+    {
+        self.phase = Phase::Over(Outcome::Stands(self.standing(a)));
+    }
+
+    fn begin_done(&mut self, a: AttemptId) -> Result<(), AllocError>
+        ensures { OnOk result (self.new ≡ begins_with (own_work (Order.Done a) self.old) self.old) }
+    {
+        if self.is_under_way(&a) {
+            self.phase = Phase::FindingClaim(a);
+            return Ok(());
+        }
+        self.publish()
+    }
+
+    fn begin_fail(&mut self, a: AttemptId) -> Result<(), AllocError>
+        ensures { OnOk result (self.new ≡ begins_with (own_work (Order.Fail a) self.old) self.old) }
+    {
+        if self.is_under_way(&a) {
+            self.phase = Phase::Appending(Record::AttemptFailed { attempt: a });
+            return Ok(());
+        }
+        self.publish()
+    }
+
+    fn begin_abort(&mut self) -> Result<(), AllocError>
+        ensures { OnOk result (self.new ≡ begins_with (own_work Order.Abort self.old) self.old) }
+    {
+        if self.is_settled()? {
+            return self.publish();
+        }
+        self.phase = Phase::Appending(Record::JobUnsuccessful);
+        Ok(())
+    }
+
+    // Whether the job is over, or every task has a winner.
+    fn is_settled(&self) -> Result<bool, AllocError>
+        ensures { IfOk result (λ settled. settled ≡ (is_over self.now.records || is_some (winners self.now.job self.now.records self.now.tasks))) }
+    {
+        if is_over(self.records.as_slice()) {
+            return Ok(true);
+        }
+        let winners = self.winners()?;
+        Ok(winners.is_some())
+    }
+
+    fn is_under_way(&self, a: &AttemptId) -> bool
+        ensures { result ≡ is_under_way (standing self.now.job self.now.tasks self.now.records a.now) }
+    {
+        match self.standing(*a) {
+            Standing::UnderWay => true,
+            _ => false,
+        }
+    }
+
+    fn standing(&self, a: AttemptId) -> Standing
+        ensures { result ≡ standing self.now.job self.now.tasks self.now.records a }
+    {
+        standing_of(self.job, self.tasks, self.records.as_slice(), a)
+    }
+
+    fn winners(&self) -> Result<Option<LinkedList<AttemptId>>, AllocError>
+        ensures { IfOk result (λ all. all ≡ winners self.now.job self.now.records self.now.tasks) }
+    {
+        winners(self.alloc, self.job, self.records.as_slice(), self.tasks)
+    }
+
+    // A record is durable now.
+    fn note(&mut self, told: &Record) -> Result<(), AllocError>
+        ensures { OnOk result (self.new ≡ follows told.now (noted told.now self.old)) }
+    {
+        self.records.push(*told)?;
+        self.follow(told)
+    }
+
+    // What follows from a record that was noted.
+    fn follow(&mut self, told: &Record) -> Result<(), AllocError>
+        ensures { OnOk result (self.new ≡ follows told.now self.old) }
+    {
+        match *told {
+            Record::AttemptFailed { attempt } => {
+                self.phase = Phase::DroppingClaim(attempt);
+                Ok(())
+            }
+            _ => self.publish(),
+        }
+    }
+
+    // Where every task has a winner, and the job is not over, it is published.
+    #[tactic(auto, unfolding(mr_out_steps::specs::Steps::publishes))]
+    fn publish(&mut self) -> Result<(), AllocError>
+        ensures { OnOk result (self.new ≡ publishes self.old) }
+    {
+        if is_over(self.records.as_slice()) {
+            self.end();
+            return Ok(());
+        }
+        match self.winners()? {
+            None => self.end(),
+            Some(winners) => {
+                self.left = winners;
+                self.phase = Phase::Listing;
+            }
+        }
+        Ok(())
+    }
+
+    fn link_next(&mut self)
+        ensures { self.new ≡ links self.old.left self.old }
+    {
+        match self.left.pop_front() {
+            None => self.phase = Phase::SyncingParts,
+            Some(a) => self.phase = Phase::FindingKept(a),
+        }
+    }
+
+    fn empty_next(&mut self)
+        ensures { self.new ≡ empties self.old.kept self.old }
+    {
+        match self.kept.pop_front() {
+            None => self.end(),
+            Some(a) => self.phase = Phase::Emptying(a),
+        }
+    }
+
+    // It ends with what its order is answered.
+    fn end(&mut self)
+        ensures { self.new ≡ ends self.old }
+    {
+        self.phase = Phase::Over(self.answer());
+    }
+
+    fn answer(&self) -> Outcome
+        ensures { result ≡ answer_to self.now.order self.now }
+    {
+        match self.order {
+            Order::Done(a) | Order::Fail(a) | Order::Ask(a) => Outcome::Stands(self.standing(a)),
+            Order::Resume => Outcome::Finished,
+            Order::Abort => self.abort_answer(),
+        }
+    }
+
+    fn abort_answer(&self) -> Outcome
+        ensures { result ≡ answer_to Order.Abort self.now }
+    {
+        if is_over(self.records.as_slice()) {
+            Outcome::Finished
+        } else {
+            Outcome::AllWon
+        }
+    }
+}

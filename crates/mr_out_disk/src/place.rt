@@ -1,0 +1,26 @@
+//! The names of an output directory that a command looks at or changes, and the folders in which they stand.
+use mr_ids::AttemptId;
+
+/// A folder whose names become durable together, when it is synced.
+#[derive(Clone, Copy, Debug, PartialEq, Eq)]
+pub enum Folder {
+    /// The output directory itself: what a reader sees.
+    Output,
+    /// The files that were handed in, by attempt.
+    Kept,
+    /// The files that attempts write, by attempt.
+    Work,
+}
+
+/// A name of an output directory.
+#[derive(Clone, Copy, Debug, PartialEq, Eq)]
+pub enum Place {
+    /// The visible part file of a task, by the task's number.
+    Part(u32),
+    /// The success marker.
+    Marker,
+    /// The file that an attempt handed in, until the job is published.
+    Kept(AttemptId),
+    /// The file that an attempt writes.
+    Work(AttemptId),
+}

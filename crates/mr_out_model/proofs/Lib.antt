@@ -1,0 +1,12 @@
+pub mod Moments
+pub mod Standings
+pub mod Invariant
+pub mod Records
+pub mod Names
+pub mod Cutting
+pub mod Turns
+pub mod Answering
+pub mod Publishing
+pub mod Moving
+pub mod Keeping
+pub mod Fronts

@@ -1,0 +1,63 @@
+-- What holds behind every move of a run, kills and power cuts among them. That a job's output is whole where its marker is there is what the
+-- committer document promises of a job's commit; that of a reduce one execution counts is Dean and Ghemawat's (3.3).
+use Rattle.std.specs.Prelude.{◌≡◌, ◌≢◌, ◌⊎◌, ◌<◌, ℕ, true, List, [], ◌∷◌, Some, None}
+use Rattle.mr_ids.specs.Attempt.{Attempt}
+use Rattle.mr_history.specs.Winner.{winner_in}
+use Rattle.mr_out_disk.specs.declared.place.Place.TheVariants.{Part, Marker}
+use Rattle.mr_out_disk.specs.Disk.{seen}
+use Rattle.mr_out_disk.specs.Cuts.{IsFront}
+use Rattle.mr_out_steps.specs.declared.standing.Standing.{Standing}
+use Rattle.mr_out_steps.specs.declared.standing.Standing.TheVariants.{Won, Beaten, GivenUp, JobOver}
+use Rattle.mr_out_steps.specs.Standing.{task_of}
+use Rattle.mr_out_model.specs.Worlds.{Setting, Telling, World, begun}
+use Rattle.mr_out_model.specs.Runs.{Move, after, IsRun}
+
+-- The file is the very one that the recorded winner of the task handed in, all of it durable.
+pub record IsWinners (s : Setting) (w : World) (n f : ℕ) : Type 0 where
+  pub winner : Attempt
+  pub recorded : winner_in w.disk.synced (task_of s.job n) ≡ Some winner
+  pub handed : w.handed winner ≡ Some f
+  pub whole : w.disk.is_whole f ≡ true
+  pub number : n < s.tasks
+
+-- a command told this
+abbrev pub HasTold : List Telling → Attempt → Standing → Type 0
+HasTold [] a standing = ⊥
+HasTold (t ∷ ts) a standing = ((t.attempt ≡ a) × (t.standing ≡ standing)) ⊎ HasTold ts a standing
+
+-- it told that the attempt lost
+abbrev pub HasToldLoss : List Telling → Attempt → Type 0
+HasToldLoss ts a = HasTold ts a Beaten ⊎ (HasTold ts a GivenUp ⊎ HasTold ts a JobOver)
+
+-- What holds of a world w, and of any later one v.
+pub record Promises (s : Setting) (w v : World) : Type 0 where
+  -- durable records are a front of all later ones
+  pub records : IsFront w.disk.synced v.disk.synced
+  -- whatever part is visible is the winner's file
+  pub visible : (n f : ℕ) → seen w.disk (Part n) ≡ Some f → IsWinners s w n f
+  -- where the marker is there, each task's part is
+  pub marked : seen w.disk Marker ≢ None → (n : ℕ) → n < s.tasks → (f : ℕ) × (seen w.disk (Part n) ≡ Some f)
+  -- and then no part differs later, nor what is in it
+  pub parts_stay : seen w.disk Marker ≢ None → (n : ℕ) → seen v.disk (Part n) ≡ seen w.disk (Part n)
+  pub bytes_stay : seen w.disk Marker ≢ None → (n f : ℕ) → seen w.disk (Part n) ≡ Some f → v.disk.bytes f ≡ w.disk.bytes f
+  -- of whom a command said that it won, it is the recorded winner from then on
+  pub won : (a : Attempt) → HasTold w.told a Won → winner_in v.disk.synced a.task ≡ Some a
+  -- and of whom one said that it lost, it never is
+  pub lost : (a : Attempt) → HasToldLoss w.told a → winner_in v.disk.synced a.task ≢ Some a
+
+-- Behind every list of moves that begins with what an honest `begin` left, and any more moves.
+abbrev pub DirectoryKeepsPromises : Type 0
+DirectoryKeepsPromises = (s : Setting) (bytes : ℕ → ℕ) (moves more : List Move) → IsRun s (begun bytes) moves → IsRun s (after s (begun bytes) moves) more
+    → Promises s (after s (begun bytes) moves) (after s (after s (begun bytes) moves) more)
+
+-- What a reader finds of a task: one file, its winner's, with the bytes that it had when the marker was seen.
+pub record Reads (s : Setting) (w v : World) (n : ℕ) : Type 0 where
+  pub file : ℕ
+  pub listed : seen v.disk (Part n) ≡ Some file
+  pub winners : IsWinners s v n file
+  pub bytes : v.disk.bytes file ≡ w.disk.bytes file
+
+-- A reader who saw the marker, and then lists and reads, at whatever moments, finds that of each task.
+abbrev pub ReadersFindWinners : Type 0
+ReadersFindWinners = (s : Setting) (bytes : ℕ → ℕ) (moves more : List Move) → IsRun s (begun bytes) moves → IsRun s (after s (begun bytes) moves) more
+    → seen (after s (begun bytes) moves).disk Marker ≢ None → (n : ℕ) → n < s.tasks → Reads s (after s (begun bytes) moves) (after s (after s (begun bytes) moves) more) n

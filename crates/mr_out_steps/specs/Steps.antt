@@ -1,0 +1,212 @@
+-- What a command does of the answer to its call. That a log is synced before anything follows from it is what write-ahead logging asks; that the
+-- marker is made behind all files, and is made durable behind them, is the committer document's order of a job's commit. The rest is our own.
+use Rattle.std.specs.Prelude.{◌≡◌, ◌⊎◌, ℕ, ◌==◌, Bool, true, false, ◌||◌, is_some, List, [], ◌∷◌, ◌++◌, Option, Some, None, if◌then◌else◌}
+use Rattle.mr_ids.specs.Attempt.{Attempt}
+use Rattle.mr_history.specs.declared.record.Record.{Record}
+use Rattle.mr_history.specs.declared.record.Record.TheVariants.{AttemptStarted, MapSucceeded, ReduceSucceeded, AttemptFailed, JobUnsuccessful}
+use Rattle.mr_out_disk.specs.declared.answer.Answer.{Answer}
+use Rattle.mr_out_disk.specs.declared.answer.Answer.TheVariants.{Says, Told, Listed}
+use Rattle.mr_out_disk.specs.declared.answer.Reply.{Reply}
+use Rattle.mr_out_disk.specs.declared.answer.Reply.TheVariants.{Done, Missing, Taken, Found, Odd, Grew, Failed}
+use Rattle.mr_out_steps.specs.declared.standing.Standing.{Standing}
+use Rattle.mr_out_steps.specs.declared.standing.Standing.TheVariants.{Won, Beaten, GivenUp, JobOver, UnderWay, Unknown}
+use Rattle.mr_out_steps.specs.declared.order.Order.{Order}
+use Rattle.mr_out_steps.specs.declared.order.Order.TheVariants as order
+use Rattle.mr_out_steps.specs.declared.order.Outcome.{Outcome}
+use Rattle.mr_out_steps.specs.declared.order.Outcome.TheVariants as outcome
+use Rattle.mr_out_steps.specs.declared.phase.Phase.{Phase}
+use Rattle.mr_out_steps.specs.declared.phase.Phase.TheVariants.{Reading, SyncingEnd, FindingClaim, FindingWork, Claiming, SyncingFile, SyncingClaim, Appending, Committing, DroppingClaim, DroppingWork, Listing, FindingKept, Linking, Comparing, SyncingParts, Marking, SyncingMarker, Emptying, Over}
+use Rattle.mr_out_steps.specs.declared.phase.Turn.{Turn}
+use Rattle.mr_out_steps.specs.declared.phase.Turn.TheVariants.{Goes, Begins, Notes, Publishes, LinksNext, EmptiesNext}
+use Rattle.mr_out_steps.specs.Standing.{standing, winners, is_over}
+use Rattle.mr_out_steps.specs.Commands.{Command}
+
+-- ---- a phase and a word: what follows. Whatever is not named ends the command as failed
+
+abbrev pub fails : Turn
+fails = Goes (Over outcome.Failed)
+
+abbrev pub if_done : Turn → Turn → Reply → Turn
+if_done next otherwise Done = next
+if_done next otherwise _ = otherwise
+
+-- done, or nothing was there
+abbrev pub if_gone : Turn → Reply → Turn
+if_gone next Done = next
+if_gone next Missing = next
+if_gone next _ = fails
+
+-- done, or it is there already
+abbrev pub if_there : Turn → Reply → Turn
+if_there next Done = next
+if_there next Taken = next
+if_there next _ = fails
+
+-- was the attempt's file handed in before?
+abbrev pub claim_looked : Attempt → Reply → Turn
+claim_looked a (Found file) = Goes (SyncingFile a)
+claim_looked a Missing = Goes (FindingWork a)
+claim_looked a _ = fails
+
+-- did the attempt write its file?
+abbrev pub work_looked : Attempt → Reply → Turn
+work_looked a (Found file) = Goes (Claiming a)
+work_looked a Missing = Goes (Over outcome.NoFile)
+work_looked a Odd = Goes (Over outcome.NotAFile)
+work_looked a _ = fails
+
+abbrev pub claimed : Attempt → Reply → Turn
+claimed a Done = Goes (SyncingFile a)
+claimed a Missing = Goes (Over outcome.NoFile)
+claimed a _ = fails
+
+-- the file that an attempt handed in was synced; where that failed, the attempt has failed
+abbrev pub claim_synced : Attempt → Reply → Turn
+claim_synced a Done = Goes (SyncingClaim a)
+claim_synced a Grew = Goes (Over outcome.StillWritten)
+claim_synced a Failed = Goes (Appending (AttemptFailed a))
+claim_synced a _ = fails
+
+-- is this winner's file kept?
+abbrev pub kept_looked : Attempt → Reply → Turn
+kept_looked a (Found file) = Goes (Linking a file)
+kept_looked a Missing = Goes (Comparing a None)
+kept_looked a _ = fails
+
+abbrev pub linked : Attempt → ℕ → Reply → Turn
+linked a file Done = LinksNext
+linked a file Taken = Goes (Comparing a (Some file))
+linked a file _ = fails
+
+-- the visible file of a winner is the one that is kept; where none is kept any more, it was compared before
+abbrev pub compared : Attempt → Option ℕ → ℕ → Turn
+compared a None there = LinksNext
+compared a (Some file) there = if there == file then LinksNext else Goes (Over (outcome.Foreign a))
+
+-- which file is visible?
+abbrev pub part_looked : Attempt → Option ℕ → Reply → Turn
+part_looked a file (Found there) = compared a file there
+part_looked a file Missing = Goes (Over (outcome.Vanished a))
+part_looked a file Odd = Goes (Over (outcome.Foreign a))
+part_looked a file _ = fails
+
+unfoldable pub turn : Phase → Reply → Turn
+turn Reading reply = fails
+turn SyncingEnd reply = if_done Begins (Goes (Over outcome.NotKnown)) reply
+turn (FindingClaim a) reply = claim_looked a reply
+turn (FindingWork a) reply = work_looked a reply
+turn (Claiming a) reply = claimed a reply
+turn (SyncingFile a) reply = claim_synced a reply
+turn (SyncingClaim a) reply = if_done (Goes (Appending (ReduceSucceeded a None))) fails reply
+turn (Appending r) reply = if_done (Goes (Committing r)) (Goes (Over outcome.NotKnown)) reply
+turn (Committing r) reply = if_done (Notes r) (Goes (Over outcome.NotKnown)) reply
+turn (DroppingClaim a) reply = if_gone (Goes (DroppingWork a)) reply
+turn (DroppingWork a) reply = if_gone Publishes reply
+turn Listing reply = fails
+turn (FindingKept a) reply = kept_looked a reply
+turn (Linking a file) reply = linked a file reply
+turn (Comparing a file) reply = part_looked a file reply
+turn SyncingParts reply = if_done (Goes Marking) fails reply
+turn Marking reply = if_there (Goes SyncingMarker) reply
+turn SyncingMarker reply = if_done EmptiesNext fails reply
+turn (Emptying a) reply = if_gone EmptiesNext reply
+turn (Over o) reply = Goes (Over o)
+
+-- ---- what a command does in its turn
+
+abbrev pub goes : Phase → Command → Command
+goes phase c = record c { phase = phase }
+
+-- what it is answered in the end, by the records
+abbrev pub answer_to : Order → Command → Outcome
+answer_to (order.Done a) c = outcome.Stands (standing c.job c.tasks c.records a)
+answer_to (order.Fail a) c = outcome.Stands (standing c.job c.tasks c.records a)
+answer_to (order.Ask a) c = outcome.Stands (standing c.job c.tasks c.records a)
+answer_to order.Resume c = outcome.Finished
+answer_to order.Abort c = if is_over c.records then outcome.Finished else outcome.AllWon
+
+abbrev pub ends : Command → Command
+ends c = goes (Over (answer_to c.order c)) c
+
+-- where every task has a winner, their files are to be linked
+abbrev pub lists : Option (List Attempt) → Command → Command
+lists None c = ends c
+lists (Some ws) c = record c { left = ws; phase = Listing }
+
+-- a job that is over is not published
+unfoldable pub publishes : Command → Command
+publishes c = if is_over c.records then ends c else lists (winners c.job c.records c.tasks) c
+
+abbrev pub is_under_way : Standing → Bool
+is_under_way UnderWay = true
+is_under_way _ = false
+
+-- its own work, where there is something to do
+abbrev pub own_work : Order → Command → Option Phase
+own_work (order.Done a) c = if is_under_way (standing c.job c.tasks c.records a) then Some (FindingClaim a) else None
+own_work (order.Fail a) c = if is_under_way (standing c.job c.tasks c.records a) then Some (Appending (AttemptFailed a)) else None
+own_work (order.Ask a) c = Some (Over (answer_to (order.Ask a) c))
+own_work order.Resume c = None
+own_work order.Abort c = if is_over c.records || is_some (winners c.job c.records c.tasks) then None else Some (Appending JobUnsuccessful)
+
+abbrev pub begins_with : Option Phase → Command → Command
+begins_with None c = publishes c
+begins_with (Some phase) c = goes phase c
+
+abbrev pub begins : Command → Command
+begins c = begins_with (own_work c.order c) c
+
+-- a record is durable; a file of an attempt that failed is dropped
+abbrev pub follows : Record → Command → Command
+follows (AttemptFailed a) c = goes (DroppingClaim a) c
+follows r c = publishes c
+
+abbrev pub noted : Record → Command → Command
+noted r c = record c { records = c.records ++ r ∷ [] }
+
+abbrev pub links : List Attempt → Command → Command
+links [] c = goes SyncingParts c
+links (a ∷ rest) c = record c { left = rest; phase = FindingKept a }
+
+abbrev pub empties : List Attempt → Command → Command
+empties [] c = ends c
+empties (a ∷ rest) c = record c { kept = rest; phase = Emptying a }
+
+abbrev pub acts : Turn → Command → Command
+acts (Goes phase) c = goes phase c
+acts Begins c = begins c
+acts (Notes r) c = follows r (noted r c)
+acts Publishes c = publishes c
+acts LinksNext c = links c.left c
+acts EmptiesNext c = empties c.kept c
+
+-- ---- the answers
+
+abbrev pub is_reading : Phase → Bool
+is_reading Reading = true
+is_reading _ = false
+
+abbrev pub is_listing : Phase → Bool
+is_listing Listing = true
+is_listing _ = false
+
+abbrev pub reads : List Record → Command → Command
+reads rs c = record c { records = rs; phase = SyncingEnd }
+
+-- where nothing is kept any more, the job was published before
+abbrev pub listed : List Attempt → Command → Command
+listed [] c = ends c
+listed (a ∷ rest) c = links c.left (record c { kept = a ∷ rest })
+
+abbrev pub fails_now : Command → Command
+fails_now c = goes (Over outcome.Failed) c
+
+-- what a command is once its call was answered; an answer of another call ends it as failed
+abbrev pub heard : Command → Answer → Command
+heard c (Says reply) = acts (turn c.phase reply) c
+heard c (Told rs) = if is_reading c.phase then reads rs c else fails_now c
+heard c (Listed attempts) = if is_listing c.phase then listed attempts c else fails_now c
+
+-- where memory is refused, the command ends where it is
+abbrev pub Takes : Command → Answer → Command → Type 0
+Takes old answer new = (new ≡ heard old answer) ⊎ (new.phase ≡ Over outcome.NoMemory)
