@@ -1,5 +1,5 @@
 -- A master's store call: when it can be made, and what the parts stand for once the master heard its answer.
-use Rattle.std.proofs.Common.{◌≡◌, ◌≤◌, ℕ, refl, sym, ◌∙◌, ap, ap₂, subst, Bool, true, false, ◌&&◌, not, Option, Some, None, if◌then◌else◌, is_some, nat_lt, arith, Result, Ok, Err, IfErr, IsErrAnd}
+use Rattle.std.proofs.Common.{◌≡◌, ◌≤◌, ◌++◌, ℕ, refl, sym, ◌∙◌, ap, ap₂, subst, Bool, true, false, ◌&&◌, not, Option, Some, None, if◌then◌else◌, is_some, nat_lt, arith, Result, Ok, Err, IfErr, IsErrAnd}
 use Rattle.std.proofs.lemmas.Bool.Decides.{nat_tests}
 use Rattle.std.proofs.lemmas.Result.{err_from_is_err_and}
 use Rattle.std.specs.Option.{option_map}
@@ -13,7 +13,7 @@ use Rattle.mr_master_model.specs.Duty as due
 use Rattle.mr_master_model.specs.Next as next
 use Rattle.mr_master_model.specs.declared.store.StoreCall.{StoreCall}
 use Rattle.mr_master_model.specs.declared.store.StoreAnswer.{StoreAnswer}
-use Rattle.mr_master_model.specs.Past.{Step, Answered}
+use Rattle.mr_master_model.specs.Past.{Answered}
 use Rattle.mr_master.specs.Prepared.{Prepared}
 use Rattle.mr_master.specs.State as master
 use Rattle.mr_world_model.specs.Bytes.{Tells}
@@ -37,7 +37,8 @@ use Rattle.mr_world_state.specs.declared.fault.WorldFault.TheVariants as fault
 use Rattle.mr_world_state.specs.declared.masters.Masters.{Masters}
 use Rattle.mr_world_state.specs.declared.parts.Parts.{Parts}
 use Rattle.mr_world_state.specs.inner.Asking.{answer_to, names_after, history_after, passes, IsRanged, IsSuited, HasAsked, IsForeseen, RefusesDuty, ForeseesDuty}
-use Rattle.mr_world_state.specs.inner.Duties.{IsDue, HasDuty, IsSet, HasTaken, PlansAnswer, says_then, fits_then}
+use Rattle.mr_world_state.specs.inner.Duties.{IsDue, HasDuty, PlansAnswer, says_then, fits_then}
+use Rattle.mr_world_state.specs.inner.Masters.{Returns}
 use Rattle.mr_world_state.specs.Limits.{within, fits_bag, fits_store}
 use Rattle.mr_world_state.specs.Machines.{master_of}
 use Rattle.mr_world_state.specs.Standing.{Standing, Reached, IsTaken, Refuses, RefusesEvent, Foresees, Tries}
@@ -282,35 +283,25 @@ pub not-asked : (p q : Parts) (k : ℕ) (f : Weather) (c : StoreCall) (a : Store
 not-asked p q k f c a i still w s = (refuses-memory _ (wants-memory p k f c a i w s) refl, still w s)
 
 -- the call was made
-left-so : (q r : Parts) (k : ℕ) (f : Weather) (c : StoreCall) → HasAsked q k f c r → r ≡ record q { names = left_in f q.names (names_after q.names k c); history = left_in f q.history (history_after q.history k c) }
-left-so q r k f c h = h.rest ∙ ap₂ (λ n x. record q { names = n; history = x }) h.names h.history
-
-heard : (p r t : Parts) (masters : Masters) (bag : Held) (k : ℕ) (f : Weather) (c : StoreCall) (a : StoreAnswer) (x : Prepared) → IsForeseen p k f c a → PlansAnswer p k a (Ok x)
-    → ((w : World) → Standing p w → Standing (record p { masters = masters; bag = bag }) w) → IsSet (record p { masters = masters; bag = bag }) k (Answered a) x
-    → HasAsked (record p { masters = masters; bag = bag }) k f c r → ((step : Step) → IsSet r k step x → HasTaken r k step x t)
-    → (w : World) → Standing p w → IsTaken p.config w (Duty k f) × Standing t (effect p.config w (Duty k f))
-heard p r t masters bag k f c a x i plans still set h told w s =
-    let q : Parts = record p { masters = masters; bag = bag } in
-    let m = asks p k f c a i w s in let is = left-so q r k f c h in
-    let names = left_in f p.names (names_after p.names k c) in let history = left_in f p.history (history_after p.history k c) in
+pub asked : (p : Parts) (masters : Masters) (bag : Held) (names_then : names.State) (history_then : history.State) (before after : master.Master) (k : ℕ) (f : Weather) (c : StoreCall) (a : StoreAnswer) (x : Prepared) → IsForeseen p k f c a
+    → PlansAnswer p k a (Ok x) → master_of p.masters k ≡ Some before → Returns p.masters k after masters → master.Stands before (Answered a) after → bag.packets ≡ p.bag.packets ++ x.packets → HasAsked p.names p.history k f c names_then history_then
+    → (w : World) → Standing p w → IsTaken p.config w (Duty k f) × Standing (record p { names = names_then; history = history_then; masters = masters; bag = bag }) (effect p.config w (Duty k f))
+asked p masters bag names_then history_then before after k f c a x i plans at back stands sends h w s =
+    let m = asks p k f c a i w s in
+    let n = left_in f p.names (names_after p.names k c) in let g = left_in f p.history (history_after p.history k c) in
     let taken = planned p k f c a x i plans w s in
-    let set-now : IsSet (record q { names = names; history = history }) k (Answered a) x = record { machine = set.machine; spare = set.spare; room = set.room } in
-    let told-now : HasTaken (record q { names = names; history = history }) k (Answered a) x t = subst (λ (z : Parts). HasTaken z k (Answered a) x t) is (told (Answered a) (subst (λ (z : Parts). IsSet z k (Answered a) x) (sym is) set-now)) in (
+    let left : Parts = record p { names = names_then; history = history_then; masters = masters; bag = bag } in
+    let is : left ≡ record p { names = n; history = g; masters = masters; bag = bag } = ap₂ (λ y z. record p { names = y; history = z; masters = masters; bag = bag }) h.of_names h.of_history in (
       taken,
-      told-stands q t w k f m.call (answer_to p.names p.history k c) x names history (still w s) taken m.due m.agrees ((plans.1 w s).0 ∙ ap (says_then p.config w k) i.told)
-          (subst (λ b. HasTaken (record q { names = names; history = history }) k (Answered b) x t) i.told told-now),
+      subst (λ (z : Parts). Standing z (effect p.config w (Duty k f))) (sym is)
+          (told-stands p w k f m.call (answer_to p.names p.history k c) x n g masters bag before after s taken m.due m.agrees ((plans.1 w s).0 ∙ ap (says_then p.config w k) i.told) at back
+          (subst (λ b. master.Stands before (Answered b) after) i.told stands) sends),
     )
 
-pub asked : (p q r t : Parts) (k : ℕ) (f : Weather) (c : StoreCall) (a : StoreAnswer) (x : Prepared) → IsForeseen p k f c a → PlansAnswer p k a (Ok x) → q ≡ record p { masters = q.masters; bag = q.bag }
-    → ((w : World) → Standing p w → Standing q w) → IsSet q k (Answered a) x → HasAsked q k f c r → ((step : Step) → IsSet r k step x → HasTaken r k step x t)
-    → (w : World) → Standing p w → IsTaken p.config w (Duty k f) × Standing t (effect p.config w (Duty k f))
-asked p q r t k f c a x i plans rest still set h told = heard p r t q.masters q.bag k f c a x i plans
-    (λ w s. subst (λ (z : Parts). Standing z w) rest (still w s)) (subst (λ (z : Parts). IsSet z k (Answered a) x) rest set) (subst (λ (z : Parts). HasAsked z k f c r) rest h) told
-
--- the parts stand for what they stood for, also where the call found no memory
-pub still-so : (p q r : Parts) → ((w : World) → Standing p w → Standing q w) → r ≡ q → (w : World) → Standing p w → Standing r w
-still-so p q r still same w s = subst (λ (z : Parts). Standing z w) (sym same) (still w s)
+-- where it found no memory, both stores are what they were
+pub still-so : (p : Parts) (w : World) (n : names.State) (h : history.State) → n ≡ p.names → h ≡ p.history → Standing p w → Standing (record p { names = n; history = h }) w
+still-so p w n h e f s = subst (λ (z : Parts). Standing z w) (sym (ap₂ (λ x y. record p { names = x; history = y }) e f)) s
 
 -- the call that was made is the one that is due
-pub of-due : (q r : Parts) (k app : ℕ) (f : Weather) (c called : StoreCall) → app ≡ k → called ≡ c → HasAsked q app f called r → HasAsked q k f c r
-of-due q r k app f c called is same h = subst (λ z. HasAsked q k f z r) same (subst (λ j. HasAsked q j f called r) is h)
+pub of-due : (n m : names.State) (h g : history.State) (k app : ℕ) (f : Weather) (c called : StoreCall) → app ≡ k → called ≡ c → HasAsked n h app f called m g → HasAsked n h k f c m g
+of-due n m h g k app f c called is same x = subst (λ z. HasAsked n h k f z m g) same (subst (λ j. HasAsked n h j f called m g) is x)

@@ -3,7 +3,7 @@ use Rattle.std.proofs.Common.{◌≡◌, ◌≤◌, ◌<◌, ℕ, ◌+◌, refl,
 use Rattle.std.proofs.lemmas.Bool.{le-leb, lt-leb}
 use Rattle.std.proofs.lemmas.Bool.Decides.{nat_tests}
 use Rattle.std.proofs.lemmas.Result.{err_from_is_err_and}
-use Rattle.std.specs.declared.alloc.AllocError.{AllocError}
+use Rattle.std.specs.Option.{OnSome}
 use Rattle.mr_names.specs.Calls as names
 use Rattle.mr_history.specs.State as history
 use Rattle.mr_history.specs.Calls as segments
@@ -14,7 +14,7 @@ use Rattle.mr_master_model.specs.declared.store.StoreAnswer.{StoreAnswer}
 use Rattle.mr_master_model.specs.Next as next
 use Rattle.mr_master_model.specs.Past as machine
 use Rattle.mr_master.specs.State as master
-use Rattle.mr_master.specs.Prepared.{Prepared, PlansFor, IsReadyFor}
+use Rattle.mr_master.specs.Prepared.{Prepared, PlansFor}
 use Rattle.mr_world_model.specs.Packets.{Config, Store}
 use Rattle.mr_world_model.specs.Duties.{Asks}
 use Rattle.mr_world_model.specs.World.{World, Weather, Duty, call_of, duty, duty_made, is_applied, reply_of, reply_under}
@@ -29,7 +29,7 @@ use Rattle.mr_world_state.specs.declared.fault.WorldFault.{WorldFault}
 use Rattle.mr_world_state.specs.declared.fault.WorldFault.TheVariants as fault
 use Rattle.mr_world_state.specs.declared.masters.Masters.{Masters}
 use Rattle.mr_world_state.specs.declared.parts.Parts.{Parts}
-use Rattle.mr_world_state.specs.inner.Duties.{IsKept, IsPlannedAt, IsReadyAt, HasActed, IsReserved, IsReadyIn, ActsIn, IsSet, HasTaken, PlansAnswer, says_then, fits_then}
+use Rattle.mr_world_state.specs.inner.Duties.{IsPlannedAt, PlansAnswer, says_then, fits_then}
 use Rattle.mr_world_state.specs.Machines.{master_of}
 use Rattle.mr_world_state.specs.inner.Masters.{Returns}
 use Rattle.mr_world_state.specs.Limits.{within, fits_bag, fits_call, fits_store, launch_count}
@@ -43,65 +43,47 @@ use Rattle.mr_world_state.proofs.Stepping.{masters-step, masters-still, launches
 same-machine : (masters : Masters) (k : ℕ) (m n : master.Master) → Some m ≡ master_of masters k → master_of masters k ≡ Some n → m ≡ n
 same-machine masters k m n e f = let g : Some m ≡ Some n = e ∙ f in cc
 
-same-eq : (k : ℕ) → nat_eq k k ≡ true
-same-eq k = grind (arith, nat_tests)
-
-is-there : (old : Masters) (k : ℕ) (m : master.Master) (new : Masters) → Returns old k m new → master_of new k ≡ Some m
-is-there old k m new p = p.kept k ∙ ap (λ (b : Bool). if b then Some m else master_of old k) (same-eq k)
-
 -- ---- a step of a master
 
 pub planned-at : {E : Type 0} (masters : Masters) (k : ℕ) (step : machine.Step) (m : master.Master) (r : Result Prepared E) → master_of masters k ≡ Some m → IfOk r (λ p. PlansFor m step p) → IfOk r (λ p. IsPlannedAt masters k step p)
 planned-at masters k step m (Ok p) at is = record { machine = m; at = at; planned = is }
 planned-at masters k step m (Err e) at is = tt
 
--- room was made in the machine, which was at place a and is at place b then
-pub kept : (old new : Masters) (k : ℕ) {p : Prepared} {r : Result (Unit {0}) AllocError} {a b : Option master.Master} → master_of old k ≡ a → (x : IsReserved a p r b) → Returns old k x.after new → IsKept old k new
-kept old new k at x back = record { before = x.before; after = x.after; at = at ∙ x.was; returns = back; still = x.still }
+-- of the machine that is kept
+pub planned-here : (masters : Masters) (k : ℕ) (step : machine.Step) (p : Prepared) (m : master.Master) → Some m ≡ master_of masters k → IsPlannedAt masters k step p → PlansFor m step p
+planned-here masters k step p m at is = subst (λ n. PlansFor n step p) (sym (same-machine masters k m is.machine at is.at)) is.planned
 
-pub ready-at : (old new : Masters) (k : ℕ) (p : Prepared) (r : Result (Unit {0}) AllocError) {a b : Option master.Master} → master_of old k ≡ a → (x : IsReserved a p r b) → Returns old k x.after new
-    → OnOk r ((step : machine.Step) → IsPlannedAt old k step p → IsReadyAt new k step p)
-ready-at old new k p (Ok u) at x back = λ step is. record {
-  machine = x.after;
-  at = is-there old k x.after new back;
-  ready = x.ready step (subst (λ m. PlansFor m step p) (sym (same-machine old k x.before is.machine (sym (at ∙ x.was)) is.at)) is.planned);
-}
-ready-at old new k p (Err e) at x back = tt
+-- what is planned tells what it says
+pub says-planned : (m : master.Master) (step : machine.Step) (p : Prepared) → PlansFor m step p → master.Answers m (λ w past. next.sent w past step) p.packets
+says-planned m step p plans w past stands = plans.sent w (next.seen w past) stands
 
-pub ready-here : (masters : Masters) (k : ℕ) (step : machine.Step) (p : Prepared) (m : master.Master) → Some m ≡ master_of masters k → IsReadyAt masters k step p → IsReadyFor m step p
-ready-here masters k step p m at is = subst (λ n. IsReadyFor n step p) (sym (same-machine masters k m is.machine at is.at)) is.ready
+-- room was made for the step, then it was taken
+pub still-stands : (a b c : master.Master) (step : machine.Step) → master.StandsStill a b → master.Stands b step c → master.Stands a step c
+still-stands a b c step still stands w past at = stands w past (still w past at)
 
--- it takes the step
-pub ready-in : (masters : Masters) (k : ℕ) (p : Prepared) (a : Option master.Master) → master_of masters k ≡ a → (step : machine.Step) → IsReadyAt masters k step p → IsReadyIn a p
-ready-in masters k p a at step is = record { machine = is.machine; is = sym at ∙ is.at; step = step; ready = is.ready }
+pub same-stands : (m : master.Master) → master.StandsStill m m
+same-stands m w past at = at
 
-pub acts : (old new : Masters) (k : ℕ) (p : Prepared) {a b : Option master.Master} → master_of old k ≡ a → (x : ActsIn a p b) → Returns old k x.after new → (step : machine.Step) → IsReadyAt old k step p → HasActed old k step new
-acts old new k p at x back step is = record { before = x.before; after = x.after; at = at ∙ x.was; returns = back; stands = x.stands step (ready-here old k step p x.before (sym (at ∙ x.was)) is) }
+-- ---- the machine is lent
 
--- of the machine that acts, what it says
-pub says-at : (masters : Masters) (k : ℕ) (step : machine.Step) (p : Prepared) (m : master.Master) → IsReadyAt masters k step p → master_of masters k ≡ Some m → master.Answers m (λ w past. next.sent w past step) p.packets
-says-at masters k step p m is at w past stands = (ready-here masters k step p m (sym at) is).0.sent w (next.seen w past) stands
+-- what its borrower leaves stands at its place
+pub lent : {A : Type 0} {P : Type 0} (o : Option A) (x : A) → o ≡ Some x → OnSome o P → P
+lent {A} {P} o x e p = subst (λ (z : Option A). OnSome z P) e p
 
--- ---- parts in which room is made
+-- ---- parts in which the machine stands for what it stood for
 
-pub stands-still : (p : Parts) (w : World) (k : ℕ) (masters : Masters) (bag : Held) → Standing p w → IsKept p.masters k masters → bag.packets ≡ p.bag.packets → Standing (record p { masters = masters; bag = bag }) w
-stands-still p w k masters bag s i b = record {
+pub stands-still : (p : Parts) (w : World) (k : ℕ) (masters : Masters) (bag : Held) (before after : master.Master) → Standing p w → master_of p.masters k ≡ Some before → Returns p.masters k after masters → master.StandsStill before after
+    → bag.packets ≡ p.bag.packets → Standing (record p { masters = masters; bag = bag }) w
+stands-still p w k masters bag before after s at back still b = record {
   reached = s.reached;
   dest = s.dest;
   stores = s.stores;
   bag = b ∙ s.bag;
   living = s.living;
   nodes = s.nodes;
-  masters = masters-still p.config w p.masters masters k i.before i.after s.masters i.at i.returns i.still;
+  masters = masters-still p.config w p.masters masters k before after s.masters at back still;
   launched = s.launched;
 }
-
-pub bag-still : (p : Parts) (w : World) (bag : Held) → Standing p w → bag.packets ≡ p.bag.packets → Standing (record p { bag = bag }) w
-bag-still p w bag s b = record { reached = s.reached; dest = s.dest; stores = s.stores; bag = b ∙ s.bag; living = s.living; nodes = s.nodes; masters = s.masters; launched = s.launched }
-
-pub all-set : (old : Parts) (k : ℕ) (p : Prepared) (masters : Masters) (bag : Held) → ((step : machine.Step) → IsPlannedAt old.masters k step p → IsReadyAt masters k step p) → length p.packets ≤ bag.spare
-    → bag.packets ≡ old.bag.packets → length old.bag.packets + length p.packets ≤ MAX_PACKETS → (step : machine.Step) → IsPlannedAt old.masters k step p → IsSet (record old { masters = masters; bag = bag }) k step p
-all-set old k p masters bag ready spare b room step is = record { machine = ready step is; spare = spare; room = subst (λ (es : List Envelope). length es + length p.packets ≤ MAX_PACKETS) (sym b) room }
 
 -- ---- an answer is planned
 
@@ -140,15 +122,15 @@ pub says-then : {cfg : Config} {w : World} (k : ℕ) (f : Weather) (call : Store
 says-then {cfg} {w} k f call a n h r d now c = ap (λ x. says_then cfg w k x) (sym c.told) ∙ says k f call r d now
 
 -- Once the call was made, or not, and the master heard its answer
-pub told-stands : (p q : Parts) (w : World) (k : ℕ) (f : Weather) (call : Store) (a : StoreAnswer) (r : Prepared) (n : names.State) (h : history.State) → Standing p w → IsTaken p.config w (Duty k f) → duty p.config w k ≡ Some call
-    → CallAgrees p.config w k f call a n h → r.packets ≡ says_then p.config w k (told_in f a) → HasTaken (record p { names = n; history = h }) k (machine.Answered (told_in f a)) r q → Standing q (effect p.config w (Duty k f))
-told-stands p q w k f call a r n h s t d c is told = let i = told.acted in let of = is-generation p w k s (ap is_some i.at) in
-    subst (λ (z : Parts). Standing z (effect p.config w (Duty k f))) (sym told.rest)
-    (goes-on p w (Duty k f) n h q.bag q.masters p.launched s t refl c.left
-    (masters-step p.config w (Duty k f) k (Asks call (reply_under f (reply_of w k call))) p.masters q.masters i.before i.after s.masters i.at i.returns refl c.moves
-    (subst (λ x. master.Stands i.before (machine.Answered x) i.after) (sym c.told) i.stands))
+pub told-stands : (p : Parts) (w : World) (k : ℕ) (f : Weather) (call : Store) (a : StoreAnswer) (r : Prepared) (n : names.State) (h : history.State) (masters : Masters) (bag : Held) (before after : master.Master) → Standing p w → IsTaken p.config w (Duty k f)
+    → duty p.config w k ≡ Some call → CallAgrees p.config w k f call a n h → r.packets ≡ says_then p.config w k (told_in f a) → master_of p.masters k ≡ Some before → Returns p.masters k after masters → master.Stands before (machine.Answered (told_in f a)) after
+    → bag.packets ≡ p.bag.packets ++ r.packets → Standing (record p { names = n; history = h; masters = masters; bag = bag }) (effect p.config w (Duty k f))
+told-stands p w k f call a r n h masters bag before after s t d c is at back stands sends = let of = is-generation p w k s (ap is_some at) in
+    goes-on p w (Duty k f) n h bag masters p.launched s t refl c.left
+    (masters-step p.config w (Duty k f) k (Asks call (reply_under f (reply_of w k call))) p.masters masters before after s.masters at back refl c.moves
+    (subst (λ x. master.Stands before (machine.Answered x) after) (sym c.told) stands))
     (let same : launch_count (effect p.config w (Duty k f)) ≡ 0 + launch_count w = launches-add w.master_past (effect p.config w (Duty k f)).master_past k 0 of.0 c.moves.others (other-steps c.moves refl) 1000 of.1 in omega (arith, same, s.launched))
-    (told.bag ∙ ap (λ es. p.bag.packets ++ es) (is ∙ says-then k f call a n h s.reached d t.now c)))
+    (sends ∙ ap (λ es. p.bag.packets ++ es) (is ∙ says-then k f call a n h s.reached d t.now c))
 
 -- ---- when it can
 

@@ -19,12 +19,10 @@ use Rattle.mr_master_refinement.specs.Steps.{setting, steps}
 use Rattle.mr_master_refinement.specs.Points.{refusal_as, expire_why}
 use Rattle.mr_master_refinement.proofs.Stores.{masters_go_on, masters_send}
 use Rattle.mr_world_state.specs.declared.fault.WorldFault.TheVariants as fault
-use Rattle.mr_world_state.proofs.Attending.{says-at}
 use Rattle.mr_world_state.proofs.Launching.{reason}
 use Rattle.mr_world_state.specs.declared.masters.Masters.{Masters}
 use Rattle.mr_world_state.specs.declared.parts.Parts.{Parts}
 use Rattle.mr_world_state.specs.Machines.{master_of}
-use Rattle.mr_world_state.specs.inner.Duties.{IsSet, HasTaken}
 use Rattle.mr_world_state.specs.inner.Masters.{Returns}
 use Rattle.mr_world_state.specs.inner.Reasons.{why_of}
 use Rattle.mr_world_state.specs.Limits.{within, fits_bag, launch_count}
@@ -92,7 +90,7 @@ needs p k n m o packets a e told w s = let now = allowed p k n m o a e w s in re
 
 -- ---- what stands then
 
-acted : (p : Parts) (w : World) (k n : ℕ) (masters : Masters) (bag : Held) (before m : master.Master) (packets : List Envelope) → Standing p w → IsTaken p.config w (Expire k n) → master_of p.masters k ≡ Some before
+pub acted : (p : Parts) (w : World) (k n : ℕ) (masters : Masters) (bag : Held) (before m : master.Master) (packets : List Envelope) → Standing p w → IsTaken p.config w (Expire k n) → master_of p.masters k ≡ Some before
     → Returns p.masters k m masters → master.Stands before (machine.Expires n) m → master.Answers before (λ w past. next.sent w past (machine.Expires n)) packets → bag.packets ≡ p.bag.packets ++ packets
     → Standing (record p { masters = masters; bag = bag }) (effect p.config w (Expire k n))
 acted p w k n masters bag before m packets s taken at back step told b =
@@ -101,17 +99,3 @@ acted p w k n masters bag before m packets s taken at back step told b =
     (masters-step p.config w (Expire k n) k (Expires n) p.masters masters before m s.masters at back refl moves step)
     (let same : launch_count (effect p.config w (Expire k n)) ≡ 0 + launch_count w = launches-add w.master_past (effect p.config w (Expire k n)).master_past k 0 of.0 moves.others (other-steps moves refl) 1000 of.1 in omega (arith, same, s.launched))
     (b ∙ ap (λ es. p.bag.packets ++ es) (sends-these p k n before packets at told w s taken.now))
-
--- Room was made in p, which were then q; the master gave the node up, and then they were t.
-pub expired : (p q t : Parts) (w : World) (k n : ℕ) (x : Prepared) → Standing p w → IsTaken p.config w (Expire k n) → q ≡ record p { masters = q.masters; bag = q.bag } → ((w : World) → Standing p w → Standing q w)
-    → IsSet q k (machine.Expires n) x → HasTaken q k (machine.Expires n) x t → Standing t (effect p.config w (Expire k n))
-expired p q t w k n x s taken rest still set told = by p q.masters q.bag (subst (λ (z : Parts). Standing z w) rest (still w s)) taken
-    (subst (λ (z : Parts). IsSet z k (machine.Expires n) x) rest set) (subst (λ (z : Parts). HasTaken z k (machine.Expires n) x t) rest told)
-  where
-    by : (p : Parts) (masters : Masters) (bag : Held) → Standing (record p { masters = masters; bag = bag }) w → IsTaken p.config w (Expire k n) → IsSet (record p { masters = masters; bag = bag }) k (machine.Expires n) x
-        → HasTaken (record p { masters = masters; bag = bag }) k (machine.Expires n) x t → Standing t (effect p.config w (Expire k n))
-    by p masters bag s taken set told =
-        let q : Parts = record p { masters = masters; bag = bag } in
-        let a = told.acted in
-        subst (λ (z : Parts). Standing z (effect p.config w (Expire k n))) (sym told.rest)
-        (acted q w k n t.masters t.bag a.before a.after x.packets s taken a.at a.returns a.stands (says-at masters k (machine.Expires n) x a.before set.machine a.at) told.bag)

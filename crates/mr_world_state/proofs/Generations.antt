@@ -1,7 +1,7 @@
 -- The places of masters, by generation.
 use Rattle.std.proofs.Common.{◌≡◌, ℕ, zero, suc, refl, sym, ◌∙◌, ap, Bool, true, false, List, [], ◌∷◌, ◌++◌, Option, Some, None, if◌then◌else◌, nat_eq, length, slice_get, slice_set, ◌<◌, ◌≤◌, ◌-◌, get_or, nat_lt, length-append, arith}
-use Rattle.std.proofs.lemmas.Bool.{eq-eqb, ltb-true}
-use Rattle.std.proofs.lemmas.Option.{slice_get_read}
+use Rattle.std.proofs.lemmas.Bool.{eq-eqb, eqb-true, ltb-true, ltb-false}
+use Rattle.std.proofs.lemmas.Option.{slice_get_read, slice_get_past}
 use Rattle.std.proofs.lemmas.List.{length-set}
 use Rattle.std.proofs.lemmas.Bool.Decides.{nat_tests}
 use Rattle.std.specs.Option.{option_and_then}
@@ -9,7 +9,7 @@ use Rattle.mr_master.specs.State.{Master}
 use Rattle.mr_world_actors.proofs.Slots.{slice_last}
 use Rattle.mr_world_state.specs.declared.masters.Masters.{Masters}
 use Rattle.mr_world_state.specs.Machines.{master_of, master_count}
-use Rattle.mr_world_state.specs.inner.Masters.{Begins, ChangesMaster, Returns}
+use Rattle.mr_world_state.specs.inner.Masters.{SameMasters, Begins, ChangesMaster, Returns}
 
 next-eq : (a b : ℕ) → nat_eq (suc a) (suc b) ≡ nat_eq a b
 next-eq a b = grind (arith, nat_tests)
@@ -71,12 +71,32 @@ pub record IsPlace (masters : Masters) (i k : ℕ) (place : Option Master) : Typ
   pub within : i < length masters.machines.items
   pub at : master_of masters k ≡ place
 
-pub is-place : (masters : Masters) (k : ℕ) (place : Option Master) → 1 ≤ k → true ≡ nat_lt (k - 1) (length masters.machines.items) → place ≡ get_or masters.machines.items (k - 1) place → IsPlace masters (k - 1) k place
+pub is-place : (masters : Masters) (i k : ℕ) (place : Option Master) → (1 ≤ k) × (i ≡ k - 1) → true ≡ nat_lt i (length masters.machines.items) → place ≡ get_or masters.machines.items i place → IsPlace masters i k place
 unfolding master_of
-is-place masters k place low test is =
-    let next : k ≡ suc (k - 1) = omega (arith, low) in
+is-place masters i k place low test is =
+    let next : k ≡ suc i = omega (arith, low.0, low.1) in
     let within = ltb-true _ _ (sym test) in
-    record { next = next; within = within; at = ap (master_of masters) next ∙ ap (option_and_then (λ m. m)) (slice_get_read masters.machines.items _ (k - 1) place refl within is) }
+    record { next = next; within = within; at = ap (master_of masters) next ∙ ap (option_and_then (λ m. m)) (slice_get_read masters.machines.items _ i place refl within is) }
+
+-- of a generation that has no place nothing is kept
+pub no-place : (masters : Masters) (i k : ℕ) → (1 ≤ k) × (i ≡ k - 1) → false ≡ nat_lt i (length masters.machines.items) → None ≡ master_of masters k
+unfolding master_of
+no-place masters i k low test =
+    let next : k ≡ suc i = omega (arith, low.0, low.1) in
+    sym (ap (master_of masters) next ∙ ap (option_and_then (λ m. m)) (slice_get_past masters.machines.items i (ltb-false _ _ (sym test))))
+
+pub no-generation : (masters : Masters) (k : ℕ) → (1 ≤ k → ⊥) → None ≡ master_of masters k
+unfolding master_of
+no-generation masters zero none = refl
+no-generation masters (suc n) none = absurd (none (omega arith))
+
+-- the same stands there
+pub same-again : (old new : Masters) (i k : ℕ) (place : Option Master) → IsPlace old i k place → new.machines.items ≡ slice_set old.machines.items i place → SameMasters old new
+same-again old new i k place x e = record { count = written-count old new i place e; kept = λ j. written old new i k place x.next x.within e j ∙ by j (nat_eq j k) refl }
+  where
+    by : (j : ℕ) (b : Bool) → nat_eq j k ≡ b → (if b then place else master_of old j) ≡ master_of old j
+    by j true is = sym x.at ∙ ap (master_of old) (sym (eqb-true j k is))
+    by j false is = refl
 
 -- another machine stands there
 pub returned : (old new : Masters) (i k : ℕ) (before after : Option Master) (m : Master) → IsPlace old i k before → after ≡ Some m → new.machines.items ≡ slice_set old.machines.items i after → Returns old k m new

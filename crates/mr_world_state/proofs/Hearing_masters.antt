@@ -21,11 +21,9 @@ use Rattle.mr_world_state.specs.declared.fault.WorldFault.TheVariants as fault
 use Rattle.mr_world_state.specs.declared.masters.Masters.{Masters}
 use Rattle.mr_world_state.specs.declared.parts.Parts.{Parts}
 use Rattle.mr_world_state.specs.Machines.{master_of}
-use Rattle.mr_world_state.specs.inner.Duties.{IsSet, HasTaken}
 use Rattle.mr_world_state.specs.inner.Masters.{Returns}
 use Rattle.mr_world_state.specs.Limits.{within, fits_counted, goes_to_master, fits_bag, launch_count}
 use Rattle.mr_world_state.specs.Standing.{Standing, Reached, IsTaken, IsTo, RefusesEvent}
-use Rattle.mr_world_state.proofs.Attending.{says-at}
 use Rattle.mr_world_state.proofs.Refusals.{NeedsRoom, refuses-now}
 use Rattle.mr_world_state.proofs.Mastering.{not-kept, is-generation}
 use Rattle.mr_world_state.proofs.Frames.{reached-on, living-stay, nodes-stay}
@@ -80,7 +78,7 @@ needs p i k m packets to at told w s = record { now = allowed p i k m to at w s;
 
 -- ---- what stands then
 
-acted : (p : Parts) (w : World) (i k : ℕ) (masters : Masters) (bag : Held) (before m : master.Master) (packets : List Envelope) → Standing p w → IsTaken p.config w (Deliver i) → (to : IsTo p i (Master k)) → master_of p.masters k ≡ Some before
+pub acted : (p : Parts) (w : World) (i k : ℕ) (masters : Masters) (bag : Held) (before m : master.Master) (packets : List Envelope) → Standing p w → IsTaken p.config w (Deliver i) → (to : IsTo p i (Master k)) → master_of p.masters k ≡ Some before
     → Returns p.masters k m masters → master.Stands before (machine.Hears to.0) m → Replies p i before packets → bag.packets ≡ p.bag.packets ++ packets
     → Standing (record p { masters = masters; bag = bag }) (effect p.config w (Deliver i))
 acted p w i k masters bag before m packets s taken to at back step told b =
@@ -94,25 +92,3 @@ acted p w i k masters bag before m packets s taken to at back step told b =
       masters = masters-step p.config w (Deliver i) k (Came to.0) p.masters masters before m s.masters at back refl moves step;
       launched = (let same : launch_count (effect p.config w (Deliver i)) ≡ 0 + launch_count w = launches-add w.master_past (effect p.config w (Deliver i)).master_past k 0 of.0 moves.others (other-steps moves refl) 1000 of.1 in omega (arith, same, s.launched));
     }
-
--- Room was made in p, which were then q; the master heard the packet, and then they were t.
-pub heard : (p t : Parts) (masters : Masters) (bag : Held) (w : World) (i k : ℕ) (x : Prepared) → Standing (record p { masters = masters; bag = bag }) w → IsTaken p.config w (Deliver i) → (to : IsTo p i (Master k)) → bag.packets ≡ p.bag.packets
-    → IsSet (record p { masters = masters; bag = bag }) k (machine.Hears to.0) x → HasTaken (record p { masters = masters; bag = bag }) k (machine.Hears to.0) x t → Standing t (effect p.config w (Deliver i))
-heard p t masters bag w i k x s taken to b set told =
-    let q : Parts = record p { masters = masters; bag = bag } in
-    let a = told.acted in
-    let there : IsTo q i (Master k) = (to.0, subst (λ (es : List Envelope). slice_get es i ≡ Some (record { to = Master k; body = to.0 })) (sym b) to.1) in
-    let says = says-at masters k (machine.Hears to.0) x a.before set.machine a.at in
-    subst (λ (z : Parts). Standing z (effect p.config w (Deliver i))) (sym told.rest)
-    (acted q w i k t.masters t.bag a.before a.after x.packets s taken there a.at a.returns a.stands
-    (λ e at. let same : record { to = Master k; body = to.0 } ≡ e = is-same (sym there.1 ∙ at) in subst (λ (y : Envelope). master.Answers a.before (λ w past. next.sent w past (machine.Hears y.body)) x.packets) same says) told.bag)
-  where
-    is-same : {A : Type 0} {y z : A} → Some y ≡ Some z → y ≡ z
-    is-same e = cc
-
--- the same where q are the parts as they were left
-pub heard-in : (p q t : Parts) (w : World) (i k : ℕ) (x : Prepared) → Standing p w → IsTaken p.config w (Deliver i) → (to : IsTo p i (Master k)) → q ≡ record p { masters = q.masters; bag = q.bag } → q.bag.packets ≡ p.bag.packets
-    → ((w : World) → Standing p w → Standing q w) → IsSet q k (machine.Hears to.0) x → HasTaken q k (machine.Hears to.0) x t → Standing t (effect p.config w (Deliver i))
-heard-in p q t w i k x s taken to rest b still set told = heard p t q.masters q.bag w i k x
-    (subst (λ (z : Parts). Standing z w) rest (still w s)) taken to b
-    (subst (λ (z : Parts). IsSet z k (machine.Hears to.0) x) rest set) (subst (λ (z : Parts). HasTaken z k (machine.Hears to.0) x t) rest told)

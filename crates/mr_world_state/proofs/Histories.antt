@@ -3,6 +3,7 @@ use Rattle.std.proofs.Common.{◌≡◌, ℕ, refl, sym, ◌∙◌, ap, subst, O
 use Rattle.std.specs.Option.{option_and_then, option_map}
 use Rattle.mr_history.specs.declared.fault.HistoryFault.TheVariants as history_fault
 use Rattle.mr_history.specs.State.{State}
+use Rattle.mr_names.specs.Calls as names
 use Rattle.mr_history.specs.Calls as segments
 use Rattle.mr_history.specs.Laws.{Calls}
 use Rattle.mr_master_model.specs.declared.store.StoreCall.{StoreCall}
@@ -69,6 +70,5 @@ call-left h k f (Some x) c e = subst (λ (z : StoreCall). left_in f h (history_a
     same a b e = cc
 call-left h k f None c e = cc
 
-pub called : (p q r t : Parts) (k : ℕ) (f : Weather) (c : StoreCall) (a : StoreAnswer) → IsForeseen p k f c a → q ≡ record p { masters = q.masters; bag = q.bag } → HasAsked q k f c r → t.history ≡ r.history
-    → (w : World) → Standing p w → t.history ≡ changed p.history (change_of p.config w (Duty k f))
-called p q r t k f c a i rest h told w s = told ∙ (h.history ∙ (ap (λ (z : Parts). left_in f z.history (history_after z.history k c)) rest ∙ call-left p.history k f (duty p.config w k) c (i.due.due w s).due))
+pub called : (p : Parts) (m : names.State) (g : State) (k : ℕ) (f : Weather) (c : StoreCall) (a : StoreAnswer) → IsForeseen p k f c a → HasAsked p.names p.history k f c m g → (w : World) → Standing p w → g ≡ changed p.history (change_of p.config w (Duty k f))
+called p m g k f c a i h w s = h.of_history ∙ call-left p.history k f (duty p.config w k) c (i.due.due w s).due

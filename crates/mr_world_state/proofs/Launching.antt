@@ -28,12 +28,10 @@ use Rattle.mr_world_state.specs.declared.limits.TheConstants.{MAX_CONTAINERS}
 use Rattle.mr_world_state.specs.declared.masters.Masters.{Masters}
 use Rattle.mr_world_state.specs.declared.parts.Parts.{Parts}
 use Rattle.mr_world_state.specs.Machines.{master_of}
-use Rattle.mr_world_state.specs.inner.Duties.{IsSet, HasTaken}
 use Rattle.mr_world_state.specs.inner.Masters.{Returns}
 use Rattle.mr_world_state.specs.inner.Reasons.{why_of}
 use Rattle.mr_world_state.specs.Limits.{within, fits_bag, launch_count}
 use Rattle.mr_world_state.specs.Standing.{Standing, Reached, IsTaken, RefusesEvent}
-use Rattle.mr_world_state.proofs.Attending.{says-at}
 use Rattle.mr_world_state.proofs.Refusals.{NeedsRoom, refuses-now, refuses-full}
 use Rattle.mr_world_state.proofs.Mastering.{goes-on, not-kept, is-generation}
 use Rattle.mr_world_state.proofs.Stepping.{agrees, masters-step, one-launch, launches-add}
@@ -134,24 +132,6 @@ stands p w k t n masters bag before m packet s taken at back step says-packet b 
     (masters-step p.config w (LaunchOn k t n) k (Launches (launch_of k (seen_by p.config w k) t n)) p.masters masters before m s.masters at back refl moves step)
     (let more : launch_count (effect p.config w (LaunchOn k t n)) ≡ 1 + launch_count w = launches-add w.master_past (effect p.config w (LaunchOn k t n)).master_past k 1 of.0 moves.others (one-launch moves) 1000 of.1 in omega (arith, more, s.launched))
     (b ∙ ap (λ es. p.bag.packets ++ es) (says-packet (setting p.config k) (steps (w.master_past k)) (s.masters.machines k before at) ∙ says p.config w k t n s.reached taken.now))
-
--- ---- as the code does it: room is made in p, which are then q; the master launches, and then they are t, in which one launch more is counted
-
-pub launched : (p q t : Parts) (w : World) (k : ℕ) (task : TaskId) (n : ℕ) (x : Prepared) → Standing p w → IsTaken p.config w (LaunchOn k task n) → q ≡ record p { masters = q.masters; bag = q.bag } → ((w : World) → Standing p w → Standing q w)
-    → IsOne x.packets → IsSet q k (machine.Launches task n) x → HasTaken q k (machine.Launches task n) x t → Standing (record t { launched = t.launched + 1 }) (effect p.config w (LaunchOn k task n))
-launched p q t w k task n x s taken rest still one set told = by p q.masters q.bag (subst (λ (z : Parts). Standing z w) rest (still w s)) taken
-    (subst (λ (z : Parts). IsSet z k (machine.Launches task n) x) rest set) (subst (λ (z : Parts). HasTaken z k (machine.Launches task n) x t) rest told)
-  where
-    by : (p : Parts) (masters : Masters) (bag : Held) → Standing (record p { masters = masters; bag = bag }) w → IsTaken p.config w (LaunchOn k task n) → IsSet (record p { masters = masters; bag = bag }) k (machine.Launches task n) x
-        → HasTaken (record p { masters = masters; bag = bag }) k (machine.Launches task n) x t → Standing (record t { launched = t.launched + 1 }) (effect p.config w (LaunchOn k task n))
-    by p masters bag s taken set told =
-        let q : Parts = record p { masters = masters; bag = bag } in
-        let a = told.acted in
-        let says = says-at masters k (machine.Launches task n) x a.before set.machine a.at in
-        subst (λ (z : Parts). Standing (record z { launched = z.launched + 1 }) (effect p.config w (LaunchOn k task n))) (sym told.rest)
-        (stands q w k task n t.masters t.bag a.before a.after one.0 s taken a.at a.returns a.stands
-        (subst (λ (es : List Envelope). master.Answers a.before (λ w past. next.sent w past (machine.Launches task n)) es) one.1 says)
-        (told.bag ∙ ap (λ es. q.bag.packets ++ es) one.1))
 
 -- one packet finds the room that one packet finds
 pub one-fits : (n : ℕ) (packets : List Envelope) → IsOne packets → n + 1 ≤ MAX_PACKETS → n + length packets ≤ MAX_PACKETS

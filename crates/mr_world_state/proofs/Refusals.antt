@@ -68,6 +68,10 @@ pub memory-foreseen : {A : Type 0} (p : Parts) (e : Event) (r : Result A WorldFa
 memory-foreseen {A} p e r now counted g = let q = err_from_is_err_and r g in
     subst (λ (z : Result A WorldFault). Foresees {A = A} p e z) (sym q.1) (subst (λ f. Foresees {A = A} p e (Err f)) (sym q.2) (λ w s. refuses-memory _ (now w s) (counted w s)))
 
+pub refused-tried : {A : Type 0} (p q : Parts) (e : Event) (r : Result A WorldFault) (g : WorldFault) → ((w : World) → Standing p w → RefusesEvent p.config w e g) → ((w : World) → Standing p w → Standing q w) → IsErrAnd r (λ f. f ≡ g) → Tries p e r q
+refused-tried {A} p q e r g why same is = let z = err_from_is_err_and r is in
+    subst (λ (y : Result A WorldFault). Tries {A = A} p e y q) (sym z.1) (subst (λ f. Tries {A = A} p e (Err f) q) (sym z.2) (λ w s. (why w s, same w s)))
+
 pub memory-tried : {A : Type 0} (p q : Parts) (e : Event) (r : Result A WorldFault) → ((w : World) → Standing p w → IsTaken p.config w e) → ((w : World) → Standing p w → Standing q w) → IsErrAnd r (λ f. f ≡ fault.NoMemory) → Tries p e r q
 memory-tried {A} p q e r taken same g = let z = err_from_is_err_and r g in
     subst (λ (y : Result A WorldFault). Tries {A = A} p e y q) (sym z.1) (subst (λ f. Tries {A = A} p e (Err f) q) (sym z.2) (λ w s. (lacks-memory (taken w s), same w s)))

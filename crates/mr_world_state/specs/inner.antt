@@ -6,5 +6,7 @@ pub mod Calling
 pub mod Computing
 pub mod Replying
 pub mod Duties
+pub mod Lending
+pub mod Attending
 pub mod Addressees
 pub mod Asking

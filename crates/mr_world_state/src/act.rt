@@ -1,21 +1,21 @@
 //! A master takes a step. What it would send and change is prepared, room is made for it in the bag and in the
 //! master, and the step is taken. Before the step is taken all may be refused, and nothing changes but spare room.
 //! From then on nothing is refused.
-ghost use Rattle.std.specs.Prelude.{◌≡◌, ◌≤◌, ◌+◌, length, true, is_some, IfOk, OnOk};
+ghost use Rattle.std.specs.Prelude.{◌≡◌, ◌≤◌, ◌+◌, ◌++◌, length, true, is_some, IfOk, OnOk, OnErr};
 ghost use Rattle.mr_master_model.specs.Past.{Step, Answered};
-ghost use Rattle.mr_world_model.specs.World.{World};
-ghost use Rattle.mr_world_state.specs.inner.Duties.{IsPlannedAt, IsSet, HasTaken, PlansAnswer};
+ghost use Rattle.mr_master.specs.State.{StandsStill, Stands};
+ghost use Rattle.mr_master.specs.Prepared.{PlansFor, IsReadyFor, IsReadyForStep};
+ghost use Rattle.mr_world_state.specs.inner.Duties.{IsPlannedAt, PlansAnswer};
 ghost use Rattle.mr_world_state.specs.Machines.{master_of};
-ghost use Rattle.mr_world_state.specs.Standing.{Standing};
 
 use crate::fault::WorldFault;
 use crate::masters::Masters;
 use crate::parts::Parts;
 use crate::push::push_all;
 use crate::room::reserve;
-use mr_master::Prepared;
+use mr_master::{MasterMachine, Prepared};
 use mr_master_model::StoreAnswer;
-use mr_packet::MAX_PACKETS;
+use mr_packet::{Bag, MAX_PACKETS};
 use std::alloc::AllocError;
 
 impl Masters {
@@ -43,33 +43,50 @@ impl Parts {
         self.check_room(more)?;
         Ok(prepared)
     }
+}
 
-    /// Room is made for what is prepared: in the bag for its packets, and in the master. Nothing changes but spare room.
-    pub(crate) fn make_room(&mut self, k: u32, prepared: &Prepared) -> Result<(), AllocError>
-        requires alive { is_some (master_of self.old.masters k) ≡ true }
-        requires few { length self.old.bag.packets + length prepared.now.packets ≤ MAX_PACKETS }
-        ensures still { (w : World) → Standing self.old w → Standing self.new w }
-        ensures set { OnOk result ((step : Step) → IsPlannedAt self.old.masters k step prepared.now → IsSet self.new k step prepared.now) }
-        ensures bag { self.new.bag.packets ≡ self.old.bag.packets }
-        ensures rest { self.new ≡ record self.old { masters = self.new.masters; bag = self.new.bag } }
-        ensures config { self.new.config ≡ self.old.config }
-        ensures history { self.new.history ≡ self.old.history }
-        ensures launched { self.new.launched ≡ self.old.launched }
-    {
-        reserve(&mut self.bag, prepared.packets().len())?;
-        self.masters.reserve(k, prepared)?;
-        Ok(())
-    }
+/// Room is made for what is prepared: in the bag for its packets, and in the master. Nothing changes but spare room.
+pub fn make_room(
+    machine: &mut MasterMachine,
+    bag: &mut Bag,
+    prepared: &Prepared,
+) -> Result<(), AllocError>
+    ensures still { StandsStill machine.old machine.new }
+    ensures ready { OnOk result ((step : Step) → PlansFor machine.old step prepared.now → IsReadyFor machine.new step prepared.now) }
+    ensures bag { bag.new.packets ≡ bag.old.packets }
+    ensures spare { OnOk result (length prepared.now.packets ≤ bag.new.spare) }
+{
+    reserve(bag, prepared.packets().len())?;
+    machine.reserve(prepared)?;
+    Ok(())
+}
 
-    /// The master takes the step that was prepared, and its packets are sent.
-    pub(crate) fn act(&mut self, k: u32, prepared: Prepared)
-        requires { (step : Step) × IsSet self.old k step prepared }
-        ensures taken { (step : Step) → IsSet self.old k step prepared → HasTaken self.old k step prepared self.new }
-        ensures config { self.new.config ≡ self.old.config }
-        ensures history { self.new.history ≡ self.old.history }
-        ensures launched { self.new.launched ≡ self.old.launched }
-    {
-        let packets = self.masters.act(k, prepared);
-        push_all(&mut self.bag, packets);
-    }
+/// The master takes the step that was prepared, and its packets are sent.
+pub fn act(machine: &mut MasterMachine, bag: &mut Bag, prepared: Prepared)
+    requires ready { IsReadyForStep machine.old prepared }
+    requires spare { length prepared.packets ≤ bag.old.spare }
+    requires few { length bag.old.packets + length prepared.packets ≤ MAX_PACKETS }
+    ensures stands { (step : Step) → IsReadyFor machine.old step prepared → Stands machine.old step machine.new }
+    ensures sent { bag.new.packets ≡ bag.old.packets ++ prepared.packets }
+{
+    let packets = machine.take(prepared);
+    push_all(bag, packets);
+}
+
+/// The same two in one call. Where memory is refused nothing changes but spare room.
+pub fn take_step(
+    machine: &mut MasterMachine,
+    bag: &mut Bag,
+    prepared: Prepared,
+) -> Result<(), AllocError>
+    requires planned { (step : Step) × PlansFor machine.old step prepared }
+    requires few { length bag.old.packets + length prepared.packets ≤ MAX_PACKETS }
+    ensures stands { OnOk result ((step : Step) → PlansFor machine.old step prepared → Stands machine.old step machine.new) }
+    ensures sent { OnOk result (bag.new.packets ≡ bag.old.packets ++ prepared.packets) }
+    ensures still { OnErr result (StandsStill machine.old machine.new) }
+    ensures unsent { OnErr result (bag.new.packets ≡ bag.old.packets) }
+{
+    make_room(machine, bag, &prepared)?;
+    act(machine, bag, prepared);
+    Ok(())
 }

@@ -3,38 +3,39 @@
 ghost use Rattle.std.specs.Prelude.{◌≡◌, ◌≤◌, OnOk, OnErr};
 ghost use Rattle.mr_world_state.specs.inner.Asking.{HasAsked, IsSuited};
 
-use crate::parts::Parts;
+use mr_history::History;
 use mr_ids::AppAttempt;
 use mr_master_model::StoreCall;
+use mr_names::Namespace;
 use mr_world_events::Weather;
 use mr_world_stores::{append_record, change_names, is_made};
 use std::alloc::AllocError;
 
-impl Parts {
-    /// A master's store call is made, if it is in this weather: the stores are left as it leaves them, refused or
-    /// not. Where memory is refused nothing has changed.
-    pub(crate) fn ask(
-        &mut self,
-        app: AppAttempt,
-        call: &StoreCall,
-        weather: Weather,
-    ) -> Result<(), AllocError>
-        requires raised { app ≤ self.old.history.fence }
-        requires suited { IsSuited self.old.history app call.now }
-        ensures ok { OnOk result (HasAsked self.old app weather call.now self.new) }
-        ensures err { OnErr result (self.new ≡ self.old) }
-    {
-        if !is_made(weather) {
-            return Ok(());
+/// A master's store call is made, if it is in this weather: the stores are left as it leaves them, refused or not.
+/// Where memory is refused nothing has changed.
+pub fn ask(
+    names: &mut Namespace,
+    history: &mut History,
+    app: AppAttempt,
+    call: &StoreCall,
+    weather: Weather,
+) -> Result<(), AllocError>
+    requires raised { app ≤ history.old.fence }
+    requires suited { IsSuited history.old app call.now }
+    ensures ok { OnOk result (HasAsked names.old history.old app weather call.now names.new history.new) }
+    ensures names { OnErr result (names.new ≡ names.old) }
+    ensures history { OnErr result (history.new ≡ history.old) }
+{
+    if !is_made(weather) {
+        return Ok(());
+    }
+    match call {
+        StoreCall::Names(op) => change_names(names, app, op),
+        StoreCall::Append(line) => append_record(history, app, line),
+        StoreCall::Flush => {
+            let _refusal = history.flush(app);
+            Ok(())
         }
-        match call {
-            StoreCall::Names(op) => change_names(&mut self.names, app, op),
-            StoreCall::Append(line) => append_record(&mut self.history, app, line),
-            StoreCall::Flush => {
-                let _refusal = self.history.flush(app);
-                Ok(())
-            }
-            StoreCall::Read => Ok(()),
-        }
+        StoreCall::Read => Ok(()),
     }
 }

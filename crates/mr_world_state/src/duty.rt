@@ -6,6 +6,8 @@ ghost use Rattle.mr_world_state.specs.inner.Asking.{ForeseesDuty};
 ghost use Rattle.mr_world_state.specs.Machines.{master_of};
 ghost use Rattle.mr_world_state.specs.Standing.{Foresees, Standing, Tries};
 
+use crate::act::{act, make_room};
+use crate::ask::ask;
 use crate::fault::WorldFault;
 use crate::parts::Parts;
 use mr_ids::AppAttempt;
@@ -58,9 +60,18 @@ impl Parts {
     {
         let Due { app, duty, answer } = self.foresee_duty(k, weather)?;
         let prepared = self.check_answer(k, answer)?;
-        self.make_room(k, &prepared)?;
-        self.ask(app, duty.call(), weather)?;
-        self.act(k, prepared);
+        let Some(machine) = self.masters.get_mut(k) else {
+            unreachable!();
+        };
+        make_room(machine, &mut self.bag, &prepared)?;
+        ask(
+            &mut self.names,
+            &mut self.history,
+            app,
+            duty.call(),
+            weather,
+        )?;
+        act(machine, &mut self.bag, prepared);
         Ok(())
     }
 }

@@ -1,20 +1,21 @@
 //! The event by which a master launches an attempt on a node, and a master's refusals as reasons of the world.
-ghost use Rattle.std.specs.Prelude.{◌≡◌, ◌≤◌, ◌<◌, ◌+◌, length, is_some, true, IfOk, OnOk};
-ghost use Rattle.mr_master.specs.Prepared.{IsOne};
+ghost use Rattle.std.specs.Prelude.{◌≡◌, ◌≤◌, ◌<◌, ◌+◌, length, IfOk, OnOk};
+ghost use Rattle.mr_master.specs.Prepared.{IsOne, PlansFor};
 ghost use Rattle.mr_master_model.specs.Past.{Launches};
 ghost use Rattle.mr_world_model.specs.World.{LaunchOn};
-ghost use Rattle.mr_world_state.specs.Machines.{master_of};
-ghost use Rattle.mr_world_state.specs.inner.Duties.{IsPlannedAt};
+ghost use Rattle.mr_world_state.specs.inner.Attending.{ForeseesLaunch};
 ghost use Rattle.mr_world_state.specs.inner.Reasons.{why_of};
 ghost use Rattle.mr_world_state.specs.Standing.{Foresees, Tries};
 
+use crate::act::take_step;
 use crate::fault::WorldFault;
 use crate::limits::MAX_CONTAINERS;
 use crate::parts::Parts;
+use crate::room::check_room;
 use mr_ids::TaskId;
-use mr_master::{LaunchError, Prepared};
+use mr_master::{LaunchError, MasterMachine, Prepared};
 use mr_master_model::LaunchFault;
-use mr_packet::MAX_PACKETS;
+use mr_packet::{Bag, MAX_PACKETS};
 use mr_world_events::Why;
 
 impl Parts {
@@ -25,29 +26,12 @@ impl Parts {
         task: TaskId,
         node: u32,
     ) -> Result<Prepared, WorldFault>
-        ensures foresees { Foresees self.now (LaunchOn k task node) result }
-        ensures alive { OnOk result (is_some (master_of self.now.masters k) ≡ true) }
-        ensures few { OnOk result (self.now.launched < MAX_CONTAINERS) }
-        ensures planned { IfOk result (λ prepared. IsPlannedAt self.now.masters k (Launches task node) prepared) }
-        ensures one { IfOk result (λ prepared. IsOne prepared.packets) }
-        ensures room { IfOk result (λ prepared. length self.now.bag.packets + length prepared.packets ≤ MAX_PACKETS) }
+        ensures { Foresees self.now (LaunchOn k task node) result }
     {
         let Some(machine) = self.masters.get(k) else {
             return Err(WorldFault::NotNow(Why::NoMaster));
         };
-        if let Some(fault) = machine.launch_refusal(task, node) {
-            return Err(WorldFault::NotNow(why(fault)));
-        }
-        if self.launched >= MAX_CONTAINERS {
-            return Err(WorldFault::Full);
-        }
-        self.check_room(1)?;
-        match machine.prepare_launch(task, node) {
-            Ok(prepared) => Ok(prepared),
-            Err(LaunchError::Refused(fault)) => Err(WorldFault::NotNow(why(fault))),
-            Err(LaunchError::Full) => Err(WorldFault::Full),
-            Err(LaunchError::NoMemory) => Err(WorldFault::NoMemory),
-        }
+        check_launched(&self.bag, self.launched, machine, task, node)
     }
 
     /// The master of this generation launches the next attempt at the task on the node, which is told so.
@@ -56,11 +40,43 @@ impl Parts {
         ensures config { self.new.config ≡ self.old.config }
         ensures history { self.new.history ≡ self.old.history }
     {
-        let prepared = self.check_launch(k, task, node)?;
-        self.make_room(k, &prepared)?;
-        self.act(k, prepared);
+        let Some(machine) = self.masters.get_mut(k) else {
+            return Err(WorldFault::NotNow(Why::NoMaster));
+        };
+        let prepared = check_launched(&self.bag, self.launched, machine, task, node)?;
+        take_step(machine, &mut self.bag, prepared)?;
         self.launched += 1;
         Ok(())
+    }
+}
+
+// What the master would send and change once it launches an attempt at the task on the node, where that passes no
+// limit. So many containers were launched before.
+fn check_launched(
+    bag: &Bag,
+    launched: u32,
+    machine: &MasterMachine,
+    task: TaskId,
+    node: u32,
+) -> Result<Prepared, WorldFault>
+    ensures foresees { ForeseesLaunch bag.now launched machine.now task node result }
+    ensures few { OnOk result (launched < MAX_CONTAINERS) }
+    ensures planned { IfOk result (λ prepared. PlansFor machine.now (Launches task node) prepared) }
+    ensures one { IfOk result (λ prepared. IsOne prepared.packets) }
+    ensures room { IfOk result (λ prepared. length bag.now.packets + length prepared.packets ≤ MAX_PACKETS) }
+{
+    if let Some(fault) = machine.launch_refusal(task, node) {
+        return Err(WorldFault::NotNow(why(fault)));
+    }
+    if launched >= MAX_CONTAINERS {
+        return Err(WorldFault::Full);
+    }
+    check_room(bag, 1)?;
+    match machine.prepare_launch(task, node) {
+        Ok(prepared) => Ok(prepared),
+        Err(LaunchError::Refused(fault)) => Err(WorldFault::NotNow(why(fault))),
+        Err(LaunchError::Full) => Err(WorldFault::Full),
+        Err(LaunchError::NoMemory) => Err(WorldFault::NoMemory),
     }
 }
 

@@ -1,13 +1,12 @@
 //! The machines of the masters that are alive, by generation.
-ghost use Rattle.std.specs.Prelude.{◌≡◌, ℕ, true, None, is_some, IfOk, OnOk, OnErr};
-ghost use Rattle.std.specs.Option.{option_copied};
-ghost use Rattle.mr_master_model.specs.Past.{Step};
+ghost use Rattle.std.specs.Prelude.{◌≡◌, ℕ, None, is_some, IfOk, OnOk, OnErr};
+ghost use Rattle.std.specs.Option.{option_copied, option_copied_mut};
+ghost use Rattle.std.specs.Borrow.{sem};
 ghost use Rattle.mr_world_state.specs.Machines.{master_of, master_count};
-ghost use Rattle.mr_world_state.specs.inner.Duties.{IsKept, IsPlannedAt, IsReadyAt, HasActed, IsReserved, IsReadyIn, ActsIn};
+ghost use Rattle.mr_world_state.specs.inner.Lending.{LendsMaster};
 ghost use Rattle.mr_world_state.specs.inner.Masters.{SameMasters, Begins, Ceases, AreCopied, IsCopied};
 
-use mr_master::{MasterMachine, Prepared};
-use mr_packet::Envelope;
+use mr_master::MasterMachine;
 use std::alloc::{AllocError, Global};
 
 /// The machines of the masters that are alive, by generation, from 1. For each other one that was started an empty
@@ -51,6 +50,20 @@ impl Masters {
         self.machines.get(place as usize)?.as_ref()
     }
 
+    /// The same, to be changed.
+    pub(crate) fn get_mut(&mut self, k: u32) -> Option<&mut MasterMachine>
+        ensures* writes_back { sem 𝓛 (LendsMaster self.entry k result) }
+        ensures value { option_copied_mut result ≡ master_of self.old k }
+    {
+        let Some(place) = k.checked_sub(1) else {
+            return None;
+        };
+        match self.machines.get_mut(place as usize) {
+            Some(machine) => machine.as_mut(),
+            None => None,
+        }
+    }
+
     /// Whether the master of this generation is alive.
     pub fn contains(&self, k: u32) -> bool
         ensures { result ≡ is_some (master_of self.now k) }
@@ -79,53 +92,6 @@ impl Masters {
         if let Some(machine) = self.machines.get_mut(place as usize) {
             *machine = None;
         }
-    }
-
-    /// A living master makes room for what is prepared; nothing changes but its spare room.
-    pub(crate) fn reserve(&mut self, k: u32, prepared: &Prepared) -> Result<(), AllocError>
-        requires { is_some (master_of self.old k) ≡ true }
-        ensures kept { IsKept self.old k self.new }
-        ensures ready { OnOk result ((step : Step) → IsPlannedAt self.old k step prepared.now → IsReadyAt self.new k step prepared.now) }
-    {
-        let Some(place) = self.machines.get_mut(k as usize - 1) else {
-            unreachable!();
-        };
-        reserve_in(place, prepared)
-    }
-
-    /// A master takes the step that was prepared. Gives the packets that it sends.
-    pub(crate) fn act(&mut self, k: u32, prepared: Prepared) -> Vec<Envelope>
-        requires { (step : Step) × IsReadyAt self.old k step prepared }
-        ensures packets { result.items ≡ prepared.packets }
-        ensures acted { (step : Step) → IsReadyAt self.old k step prepared → HasActed self.old k step self.new }
-    {
-        let Some(place) = self.machines.get_mut(k as usize - 1) else {
-            unreachable!();
-        };
-        act_in(place, prepared)
-    }
-}
-
-// The machine at a place makes room for what is prepared.
-fn reserve_in(place: &mut Option<MasterMachine>, prepared: &Prepared) -> Result<(), AllocError>
-    requires { is_some place.old ≡ true }
-    ensures { IsReserved place.old prepared.now result place.new }
-{
-    match place {
-        Some(machine) => machine.reserve(prepared),
-        None => unreachable!(),
-    }
-}
-
-// The machine at a place takes the step that was prepared.
-fn act_in(place: &mut Option<MasterMachine>, prepared: Prepared) -> Vec<Envelope>
-    requires { IsReadyIn place.old prepared }
-    ensures packets { result.items ≡ prepared.packets }
-    ensures acted { ActsIn place.old prepared place.new }
-{
-    match place {
-        Some(machine) => machine.take(prepared),
-        None => unreachable!(),
     }
 }
 

@@ -6,6 +6,7 @@ ghost use Rattle.mr_world_state.specs.declared.fault.WorldFault.TheVariants.{Ful
 use crate::config::Config;
 use crate::fault::WorldFault;
 use crate::masters::Masters;
+use crate::room::check_room;
 use mr_history::History;
 use mr_names::Namespace;
 use mr_packet::{Bag, MAX_PACKETS};
@@ -58,9 +59,6 @@ impl Parts {
         ensures room { OnOk result (length self.now.bag.packets + more ≤ MAX_PACKETS) }
         ensures full { IfErr result (λ fault. (fault ≡ WorldFault.Full) × (MAX_PACKETS < length self.now.bag.packets + more)) }
     {
-        if MAX_PACKETS - self.bag.len() < more {
-            return Err(WorldFault::Full);
-        }
-        Ok(())
+        check_room(&self.bag, more)
     }
 }

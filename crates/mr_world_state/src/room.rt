@@ -1,6 +1,8 @@
 //! Room in the bag, made before anything changes, so that packets are sent later without memory.
-ghost use Rattle.std.specs.Prelude.{◌≡◌, ◌≤◌, OnOk, length};
+ghost use Rattle.std.specs.Prelude.{◌≡◌, ◌<◌, ◌≤◌, ◌+◌, OnOk, IfErr, length};
+ghost use Rattle.mr_world_state.specs.declared.fault.WorldFault.TheVariants.{Full};
 
+use crate::fault::WorldFault;
 use mr_packet::{Bag, BagFault, MAX_PACKETS};
 use std::alloc::AllocError;
 
@@ -14,6 +16,17 @@ pub fn reserve(bag: &mut Bag, more: usize) -> Result<(), AllocError>
         Err(BagFault::NoMemory) => Err(AllocError),
         Err(BagFault::Full) => unreachable!(),
     }
+}
+
+/// Refuses `Full` where `more` packets find no room.
+pub fn check_room(bag: &Bag, more: usize) -> Result<(), WorldFault>
+    ensures room { OnOk result (length bag.now.packets + more ≤ MAX_PACKETS) }
+    ensures full { IfErr result (λ fault. (fault ≡ WorldFault.Full) × (MAX_PACKETS < length bag.now.packets + more)) }
+{
+    if MAX_PACKETS - bag.len() < more {
+        return Err(WorldFault::Full);
+    }
+    Ok(())
 }
 
 /// How many packets a bag has at most. This call does nothing: it tells the caller so.

@@ -1,5 +1,7 @@
 -- A master's store call, as the parts make it: what is known before, and what is left.
 use Rattle.std.specs.Prelude.{◌≡◌, ℕ, Bool, false, ◌&&◌, Result, Ok, Err}
+use Rattle.mr_names.specs.Calls as names
+use Rattle.mr_history.specs.State as history
 use Rattle.mr_master_model.specs.declared.store.StoreCall.{StoreCall}
 use Rattle.mr_master_model.specs.declared.store.StoreAnswer.{StoreAnswer}
 use Rattle.mr_world_model.specs.World.{World, Weather, Duty}
@@ -20,10 +22,9 @@ passes p k f c = is_made f && finds_full p.names p.history k c
 
 -- ---- what is left once the call was made, or was not
 
-pub record HasAsked (old : Parts) (k : ℕ) (f : Weather) (c : StoreCall) (new : Parts) : Type 0 where
-  pub names : new.names ≡ left_in f old.names (names_after old.names k c)
-  pub history : new.history ≡ left_in f old.history (history_after old.history k c)
-  pub rest : new ≡ record old { names = new.names; history = new.history }
+pub record HasAsked (n : names.State) (h : history.State) (k : ℕ) (f : Weather) (c : StoreCall) (names_then : names.State) (history_then : history.State) : Type 0 where
+  pub of_names : names_then ≡ left_in f n (names_after n k c)
+  pub of_history : history_then ≡ left_in f h (history_after h k c)
 
 -- ---- what is known before
 

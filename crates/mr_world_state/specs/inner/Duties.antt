@@ -1,15 +1,14 @@
--- The duty of a master, and how a master takes a step: it is planned, there is room for it, and it is taken.
-use Rattle.std.specs.Prelude.{◌≡◌, ◌≤◌, ◌+◌, ◌++◌, ℕ, Bool, true, List, Some, None, Option, Result, Ok, Err, OnOk, is_some, length, nat_le}
+-- The duty of a master, and what is planned for the answer.
+use Rattle.std.specs.Prelude.{◌≡◌, ◌+◌, ℕ, Bool, true, List, Some, None, Result, Ok, Err, is_some, length, nat_le}
 use Rattle.std.specs.Option.{option_map}
-use Rattle.std.specs.declared.alloc.AllocError.{AllocError}
 use Rattle.mr_packet.specs.declared.packet.Envelope.{Envelope}
 use Rattle.mr_packet.specs.declared.bag.TheConstants.{MAX_PACKETS}
 use Rattle.mr_master_model.specs.Next as next
 use Rattle.mr_master_model.specs.Past.{Step, Answered}
 use Rattle.mr_master_model.specs.declared.store.StoreCall.{StoreCall}
 use Rattle.mr_master_model.specs.declared.store.StoreAnswer.{StoreAnswer}
-use Rattle.mr_master.specs.State.{Master, StandsStill, Stands}
-use Rattle.mr_master.specs.Prepared.{Prepared, PlansFor, IsReadyFor}
+use Rattle.mr_master.specs.State.{Master}
+use Rattle.mr_master.specs.Prepared.{Prepared, PlansFor}
 use Rattle.mr_world_model.specs.Packets.{Config}
 use Rattle.mr_world_model.specs.World.{World, duty}
 use Rattle.mr_master_refinement.specs.Steps.{setting, steps, store_call}
@@ -17,7 +16,6 @@ use Rattle.mr_world_state.specs.declared.fault.WorldFault.{WorldFault}
 use Rattle.mr_world_state.specs.declared.masters.Masters.{Masters}
 use Rattle.mr_world_state.specs.declared.parts.Parts.{Parts}
 use Rattle.mr_world_state.specs.Machines.{master_of}
-use Rattle.mr_world_state.specs.inner.Masters.{Returns}
 use Rattle.mr_world_state.specs.Standing.{Standing, Refuses}
 
 -- ---- the call
@@ -32,75 +30,11 @@ pub record HasDuty (p : Parts) (k : ℕ) (call : StoreCall) : Type 0 where
   pub kept : is_some (master_of p.masters k) ≡ true
   pub due : (w : World) → Standing p w → IsDue p.config w k call
 
--- ---- a step of a master
-
 -- what the machine of a master would send and change at a step
 pub record IsPlannedAt (masters : Masters) (k : ℕ) (step : Step) (p : Prepared) : Type 0 where
   pub machine : Master
   pub at : master_of masters k ≡ Some machine
   pub planned : PlansFor machine step p
-
--- the machine of a master is another one that stands for what it stood for
-pub record IsKept (old : Masters) (k : ℕ) (new : Masters) : Type 0 where
-  pub before : Master
-  pub after : Master
-  pub at : master_of old k ≡ Some before
-  pub returns : Returns old k after new
-  pub still : StandsStill before after
-
--- the machine of a master has room for the step
-pub record IsReadyAt (masters : Masters) (k : ℕ) (step : Step) (p : Prepared) : Type 0 where
-  pub machine : Master
-  pub at : master_of masters k ≡ Some machine
-  pub ready : IsReadyFor machine step p
-
--- it took the step
-pub record HasActed (old : Masters) (k : ℕ) (step : Step) (new : Masters) : Type 0 where
-  pub before : Master
-  pub after : Master
-  pub at : master_of old k ≡ Some before
-  pub returns : Returns old k after new
-  pub stands : Stands before step after
-
--- ---- the same of one place: the machine there, if there is one
-
--- it is another one that stands for what it stood for, and that has room for what is planned where memory was granted
-pub record IsReserved (old : Option Master) (p : Prepared) (result : Result (Unit {0}) AllocError) (new : Option Master) : Type 0 where
-  pub before : Master
-  pub after : Master
-  pub was : old ≡ Some before
-  pub is : new ≡ Some after
-  pub still : StandsStill before after
-  pub ready : OnOk result ((step : Step) → PlansFor before step p → IsReadyFor after step p)
-
--- it has room for a step
-pub record IsReadyIn (place : Option Master) (p : Prepared) : Type 0 where
-  pub machine : Master
-  pub is : place ≡ Some machine
-  pub step : Step
-  pub ready : IsReadyFor machine step p
-
--- it took the step
-pub record ActsIn (old : Option Master) (p : Prepared) (new : Option Master) : Type 0 where
-  pub before : Master
-  pub after : Master
-  pub was : old ≡ Some before
-  pub is : new ≡ Some after
-  pub stands : (step : Step) → IsReadyFor before step p → Stands before step after
-
--- ---- a step of the parts
-
--- the machine has room for the step, and the bag for the packets that are sent at it
-pub record IsSet (parts : Parts) (k : ℕ) (step : Step) (p : Prepared) : Type 0 where
-  pub machine : IsReadyAt parts.masters k step p
-  pub spare : length p.packets ≤ parts.bag.spare
-  pub room : length parts.bag.packets + length p.packets ≤ MAX_PACKETS
-
--- the master took the step, and its packets are sent
-pub record HasTaken (old : Parts) (k : ℕ) (step : Step) (p : Prepared) (new : Parts) : Type 0 where
-  pub acted : HasActed old.masters k step new.masters
-  pub bag : new.bag.packets ≡ old.bag.packets ++ p.packets
-  pub rest : new ≡ record old { masters = new.masters; bag = new.bag }
 
 -- ---- an answer
 

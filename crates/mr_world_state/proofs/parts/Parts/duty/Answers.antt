@@ -1,6 +1,8 @@
+use Rattle.std.proofs.Common.{◌≡◌, refl, sym, ap, subst, is_some, ◌∙◌, ◌++◌}
 use Rattle.mr_master_model.specs.Past.{Answered}
 use Rattle.mr_world_state.specs.declared.fault.WorldFault.TheVariants as fault
 use Rattle.mr_world_state.proofs.Asking.{unchanged-so, not-planned, not-asked, asked, of-due, suited-so, still-so}
+use Rattle.mr_world_state.proofs.Attending.{lent, stands-still, still-stands, planned-here}
 use Rattle.mr_world_state.proofs.Histories.{called}
 use Rattle.mr_world_state.proofs.parts.Parts.duty.Goals as goal
 
@@ -10,25 +12,38 @@ returns-in_err-prepared-clause-tries c = unchanged-so c.args.self.now c.args.sel
     c.from_residual-in_err-prepared.ensures.1
 
 pub returns-in_err-make_room-clause-tries : goal.returns-in_err-make_room-clause-tries
-returns-in_err-make_room-clause-tries c = unchanged-so c.args.self.now c.make_room.new.self c.args.k c.args.weather c.from_residual-in_err-make_room.result fault.NoMemory
-    (not-asked c.args.self.now c.make_room.new.self c.args.k c.args.weather c.in_ok-app.field-0.duty.call c.in_ok-app.field-0.answer c.in_ok-app.ensures.foresees.1 c.make_room.ensures.still)
-    c.from_residual-in_err-make_room.ensures.1
+returns-in_err-make_room-clause-tries c = unchanged-so c.args.self.now _ c.args.k c.args.weather c.from_residual-in_err-make_room.result fault.NoMemory
+    (not-asked c.args.self.now _ c.args.k c.args.weather c.in_ok-app.field-0.duty.call c.in_ok-app.field-0.answer c.in_ok-app.ensures.foresees.1
+    (λ w s. stands-still c.args.self.now w c.args.k _ c.make_room.new.bag c.in-Some.machine.now c.make_room.new.machine s (sym c.in-Some.ensures.value)
+    (lent c.get_mut.result c.in-Some.machine c.in-Some.is (c.get_mut.follows.holds c.make_room.new.machine)) c.make_room.ensures.still c.make_room.ensures.bag)) c.from_residual-in_err-make_room.ensures.1
 
 pub returns-in_err-ask-clause-tries : goal.returns-in_err-ask-clause-tries
-returns-in_err-ask-clause-tries c = unchanged-so c.args.self.now c.ask.new.self c.args.k c.args.weather c.from_residual-in_err-ask.result fault.NoMemory
-    (not-asked c.args.self.now c.ask.new.self c.args.k c.args.weather c.in_ok-app.field-0.duty.call c.in_ok-app.field-0.answer c.in_ok-app.ensures.foresees.1
-    (still-so c.args.self.now c.make_room.new.self c.ask.new.self c.make_room.ensures.still c.in_err-ask.ensures.err)) c.from_residual-in_err-ask.ensures.1
+returns-in_err-ask-clause-tries c = unchanged-so c.args.self.now _ c.args.k c.args.weather c.from_residual-in_err-ask.result fault.NoMemory
+    (not-asked c.args.self.now _ c.args.k c.args.weather c.in_ok-app.field-0.duty.call c.in_ok-app.field-0.answer c.in_ok-app.ensures.foresees.1
+    (λ w s. still-so (record c.args.self.now { masters = c.get_mut.follows.lender c.make_room.new.machine; bag = c.make_room.new.bag }) w _ _ c.in_err-ask.ensures.names c.in_err-ask.ensures.history
+    (stands-still c.args.self.now w c.args.k _ c.make_room.new.bag c.in-Some.machine.now c.make_room.new.machine s (sym c.in-Some.ensures.value)
+    (lent c.get_mut.result c.in-Some.machine c.in-Some.is (c.get_mut.follows.holds c.make_room.new.machine)) c.make_room.ensures.still c.make_room.ensures.bag))) c.from_residual-in_err-ask.ensures.1
 
 pub returns-clause-tries : goal.returns-clause-tries
-returns-clause-tries c = asked c.args.self.now c.make_room.new.self c.ask.new.self c.act.new.self c.args.k c.args.weather c.in_ok-app.field-0.duty.call c.in_ok-app.field-0.answer c.in_ok-prepared.prepared
-    c.in_ok-app.ensures.foresees.1 c.in_ok-prepared.ensures.plans c.make_room.ensures.rest c.make_room.ensures.still
-    (c.in_ok-make_room.ensures.set (Answered c.in_ok-app.field-0.answer) c.in_ok-prepared.ensures.plans.0)
-    (of-due c.make_room.new.self c.ask.new.self c.args.k c.in_ok-app.field-0.app c.args.weather c.in_ok-app.field-0.duty.call c.call.result.now c.in_ok-app.ensures.foresees.0 c.call.ensures c.in_ok-ask.ensures.ok) c.act.ensures.taken
+returns-clause-tries c =
+    let plans = planned-here c.args.self.now.masters c.args.k (Answered c.in_ok-app.field-0.answer) c.in_ok-prepared.prepared c.in-Some.machine.now c.in-Some.ensures.value c.in_ok-prepared.ensures.plans.0 in
+    let ready = c.in_ok-make_room.ensures.ready (Answered c.in_ok-app.field-0.answer) plans in
+    asked c.args.self.now _ c.act.new.bag c.ask.new.names c.ask.new.history c.in-Some.machine.now c.act.new.machine c.args.k c.args.weather c.in_ok-app.field-0.duty.call c.in_ok-app.field-0.answer c.in_ok-prepared.prepared
+    c.in_ok-app.ensures.foresees.1 c.in_ok-prepared.ensures.plans (sym c.in-Some.ensures.value)
+    (lent c.get_mut.result c.in-Some.machine c.in-Some.is (c.get_mut.follows.holds c.act.new.machine))
+    (still-stands c.in-Some.machine.now c.make_room.new.machine c.act.new.machine (Answered c.in_ok-app.field-0.answer) c.make_room.ensures.still (c.act.ensures.stands (Answered c.in_ok-app.field-0.answer) ready))
+    (c.act.ensures.sent ∙ ap (λ es. es ++ c.in_ok-prepared.prepared.packets) c.make_room.ensures.bag)
+    (of-due _ _ _ _ c.args.k c.in_ok-app.field-0.app c.args.weather c.in_ok-app.field-0.duty.call c.call.result.now c.in_ok-app.ensures.foresees.0 c.call.ensures c.in_ok-ask.ensures.ok)
 
 pub returns-clause-calls : goal.returns-clause-calls
-returns-clause-calls c = called c.args.self.now c.make_room.new.self c.ask.new.self c.act.new.self c.args.k c.args.weather c.in_ok-app.field-0.duty.call c.in_ok-app.field-0.answer c.in_ok-app.ensures.foresees.1 c.make_room.ensures.rest
-    (of-due c.make_room.new.self c.ask.new.self c.args.k c.in_ok-app.field-0.app c.args.weather c.in_ok-app.field-0.duty.call c.call.result.now c.in_ok-app.ensures.foresees.0 c.call.ensures c.in_ok-ask.ensures.ok) c.act.ensures.history
+returns-clause-calls c = called c.args.self.now _ _ c.args.k c.args.weather c.in_ok-app.field-0.duty.call c.in_ok-app.field-0.answer c.in_ok-app.ensures.foresees.1
+    (of-due _ _ _ _ c.args.k c.in_ok-app.field-0.app c.args.weather c.in_ok-app.field-0.duty.call c.call.result.now c.in_ok-app.ensures.foresees.0 c.call.ensures c.in_ok-ask.ensures.ok)
 
 pub ask-requires-clause-suited : goal.ask-requires-clause-suited
-ask-requires-clause-suited c = suited-so c.args.self.now c.requires.0 c.args.k c.in_ok-app.field-0.app c.in_ok-app.field-0.duty.call c.call.result.now c.make_room.new.self.history c.requires.1 c.in_ok-app.ensures.foresees.1.due
+ask-requires-clause-suited c = suited-so c.args.self.now c.requires.0 c.args.k c.in_ok-app.field-0.app c.in_ok-app.field-0.duty.call c.call.result.now c.args.self.now.history c.requires.1 c.in_ok-app.ensures.foresees.1.due
     c.in_ok-app.ensures.foresees.0 c.call.ensures
+
+pub act-requires-clause-ready : goal.act-requires-clause-ready
+act-requires-clause-ready c =
+    let step = Answered c.in_ok-app.field-0.answer in
+    (step, c.in_ok-make_room.ensures.ready step (planned-here c.args.self.now.masters c.args.k step c.in_ok-prepared.prepared c.in-Some.machine.now c.in-Some.ensures.value c.in_ok-prepared.ensures.plans.0))
