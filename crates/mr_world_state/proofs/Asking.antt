@@ -36,7 +36,7 @@ use Rattle.mr_world_state.specs.declared.fault.WorldFault.{WorldFault}
 use Rattle.mr_world_state.specs.declared.fault.WorldFault.TheVariants as fault
 use Rattle.mr_world_state.specs.declared.masters.Masters.{Masters}
 use Rattle.mr_world_state.specs.declared.parts.Parts.{Parts}
-use Rattle.mr_world_state.specs.inner.Asking.{answer_to, names_after, history_after, passes, IsRanged, IsSuited, HasAsked, IsForeseen, RefusesDuty, ForeseesDuty}
+use Rattle.mr_world_state.specs.inner.Asking.{answer_to, names_after, history_after, passes, IsRanged, IsSuited, HasAsked, IsForeseen, RefusesDuty, ForeseesDuty, KeepsStores, IsDutyOf, ForeseesDutyOf}
 use Rattle.mr_world_state.specs.inner.Duties.{IsDue, HasDuty, PlansAnswer, says_then, fits_then}
 use Rattle.mr_world_state.specs.inner.Masters.{Returns}
 use Rattle.mr_world_state.specs.Limits.{within, fits_bag, fits_store}
@@ -45,6 +45,7 @@ use Rattle.mr_world_state.specs.Standing.{Standing, Reached, IsTaken, Refuses, R
 use Rattle.mr_world_state.proofs.Attending.{history-agrees, told-stands, allowed, limit-is, bag-alone}
 use Rattle.mr_world_state.proofs.Histories.{read-left}
 use Rattle.mr_world_state.proofs.Filling.{is_let, let-is, names-free, append-free, call-fits}
+use Rattle.mr_world_state.proofs.Mastering.{not-kept}
 use Rattle.mr_world_state.proofs.Refusals.{refuses-now, refuses-memory}
 use Rattle.mr_world_state.proofs.Stepping.{agrees}
 
@@ -137,7 +138,7 @@ record-suits : {cfg : Config} {w : World} (k : ℕ) (r : Record) (v : ℕ) → R
 record-suits {cfg} {w} k r v x = subst (λ (u : World). duty cfg u k ≡ Some (Append_record r) → suits v r ≡ true) x.is (appended_records_fit.suits cfg (within cfg) x.events k r v)
 
 has-room : (p : Parts) (w : World) (k : ℕ) (f : Weather) (r : Record) → Standing p w → w.is_master k ≡ true → duty p.config w k ≡ Some (Append_record r) → InRange r
-    → passes p k f (store_call (Append_record r)) ≡ false → is_applied w k f ≡ true → HasRoom p.history k (Append_record r)
+    → passes p.names p.history k f (store_call (Append_record r)) ≡ false → is_applied w k f ≡ true → HasRoom p.history k (Append_record r)
 has-room p w k f r s alive d range free applied = (
   (record-fits k r s.reached d, range),
   record-suits k r (segments.segment p.history k).version s.reached d,
@@ -157,7 +158,7 @@ names-alone {cfg} {w} {k} {call} {a} {n} {h} f c = subst (λ (x : history.State)
 history-alone : {cfg : Config} {w : World} {k : ℕ} {call : Store} {a : StoreAnswer} {n : names.State} {h : history.State} (f : Weather) → CallAgrees cfg w k f call a n h → CallAgrees cfg w k f call a (left_in f n n) h
 history-alone {cfg} {w} {k} {call} {a} {n} {h} f c = subst (λ (x : names.State). CallAgrees cfg w k f call a x h) (sym (same-left f n)) c
 
-call-agrees : (p : Parts) (w : World) (k : ℕ) (f : Weather) (c : Store) → Standing p w → w.is_master k ≡ true → duty p.config w k ≡ Some c → IsRanged (store_call c) → passes p k f (store_call c) ≡ false
+call-agrees : (p : Parts) (w : World) (k : ℕ) (f : Weather) (c : Store) → Standing p w → w.is_master k ≡ true → duty p.config w k ≡ Some c → IsRanged (store_call c) → passes p.names p.history k f (store_call c) ≡ false
     → CallAgrees p.config w k f c (answer_to p.names p.history k (store_call c)) (left_in f p.names (names_after p.names k (store_call c))) (left_in f p.history (history_after p.history k (store_call c)))
 call-agrees p w k f (Names o) s alive d range free = names-alone f (store_calls_agree.names p.config w p.names p.history k f o s.stores d (names-free p.names w s.stores.namespace k f o free))
 call-agrees p w k f (Append_record r) s alive d range free = history-alone f (history-agrees p.names p.history k f (Append_record r) (segments.Append r) s.reached s.stores alive d refl (has-room p w k f r s alive d range free))
@@ -182,11 +183,11 @@ store-call-is (Some x) c e = (x, refl, same (store_call x) c e)
     same a b e = cc
 store-call-is None c e = cc
 
-may-ask : (p : Parts) (w : World) (k : ℕ) (f : Weather) (c : StoreCall) → Standing p w → IsDue p.config w k c → IsRanged c → passes p k f c ≡ false → MayAsk p w k f c
+may-ask : (p : Parts) (w : World) (k : ℕ) (f : Weather) (c : StoreCall) → Standing p w → IsDue p.config w k c → IsRanged c → passes p.names p.history k f c ≡ false → MayAsk p w k f c
 may-ask p w k f c s due range free = let x = store-call-is _ c due.due in
-    subst (λ (z : StoreCall). IsRanged z → passes p k f z ≡ false → MayAsk p w k f z) x.2 (by x.0 x.1) range free
+    subst (λ (z : StoreCall). IsRanged z → passes p.names p.history k f z ≡ false → MayAsk p w k f z) x.2 (by x.0 x.1) range free
   where
-    by : (x : Store) → duty p.config w k ≡ Some x → IsRanged (store_call x) → passes p k f (store_call x) ≡ false → MayAsk p w k f (store_call x)
+    by : (x : Store) → duty p.config w k ≡ Some x → IsRanged (store_call x) → passes p.names p.history k f (store_call x) ≡ false → MayAsk p w k f (store_call x)
     by x d range free = record {
       call = x;
       alive = due.alive;
@@ -196,19 +197,19 @@ may-ask p w k f c s due range free = let x = store-call-is _ c due.due in
     }
 
 -- one that finds a store full passes a limit
-too-much : (p : Parts) (w : World) (k : ℕ) (f : Weather) (c : StoreCall) → Standing p w → IsDue p.config w k c → passes p k f c ≡ true → within p.config w (Duty k f) ≡ false
+too-much : (p : Parts) (w : World) (k : ℕ) (f : Weather) (c : StoreCall) → Standing p w → IsDue p.config w k c → passes p.names p.history k f c ≡ true → within p.config w (Duty k f) ≡ false
 too-much p w k f c s due full = let x = store-call-is _ c due.due in
     limit-is p.config w k f x.0 x.1 ∙ ap (λ b. b && fits_bag p.config w (Duty k f))
-    (call-fits p.names p.history w k f x.0 s.stores (tells k s.stores (raised-to k s.reached due.alive)) ∙ ap not (subst (λ (z : StoreCall). passes p k f z ≡ true) (sym x.2) full))
+    (call-fits p.names p.history w k f x.0 s.stores (tells k s.stores (raised-to k s.reached due.alive)) ∙ ap not (subst (λ (z : StoreCall). passes p.names p.history k f z ≡ true) (sym x.2) full))
 
 now-is : (p : Parts) (w : World) (k : ℕ) (f : Weather) (c : StoreCall) → IsDue p.config w k c → not_now p.config w (Duty k f) ≡ None
 now-is p w k f c due = let x = store-call-is _ c due.due in allowed p.config w k f x.0 due.alive x.1
 
 -- refused before a store is asked
-pub not-foretold : (p : Parts) (k : ℕ) (f : Weather) (c : StoreCall) (g : WorldFault) → HasDuty p k c → Refuses None (not (passes p k f c)) true g → RefusesDuty p k f g
-not-foretold p k f c g has why w s = by (passes p k f c) refl why
+pub not-foretold : (p : Parts) (k : ℕ) (f : Weather) (c : StoreCall) (g : WorldFault) → HasDuty p k c → Refuses None (not (passes p.names p.history k f c)) true g → RefusesDuty p k f g
+not-foretold p k f c g has why w s = by (passes p.names p.history k f c) refl why
   where
-    by : (b : Bool) → passes p k f c ≡ b → Refuses None (not b) true g → RefusesEvent p.config w (Duty k f) g
+    by : (b : Bool) → passes p.names p.history k f c ≡ b → Refuses None (not b) true g → RefusesEvent p.config w (Duty k f) g
     by true e y = subst (λ o. Refuses o (within p.config w (Duty k f)) true g) (sym (now-is p w k f c (has.due w s))) (subst (λ b. Refuses None b true g) (sym (too-much p w k f c s (has.due w s) e)) y)
     by false e y = subst (RefusesEvent p.config w (Duty k f)) (sym y) (refuses-memory _ (now-is p w k f c (has.due w s)) refl)
 
@@ -244,8 +245,31 @@ pub no-master : (p : Parts) (k : ℕ) (f : Weather) (g : WorldFault) → (g ≡ 
 no-master p k f g none w s = subst (RefusesEvent p.config w (Duty k f)) (sym none.0) (refuses-now _ _ (dead p.config w k f (none.1 w s)))
 
 -- of the call that was asked about
-pub not-told : (p : Parts) (k app : ℕ) (f : Weather) (c called : StoreCall) (g : WorldFault) → HasDuty p k c → app ≡ k → called ≡ c → Refuses None (not (passes p app f called)) true g → RefusesDuty p k f g
-not-told p k app f c called g has is same why = not-foretold p k f c g has (subst (λ z. Refuses None (not (passes p k f z)) true g) same (subst (λ j. Refuses None (not (passes p j f called)) true g) is why))
+pub not-told : (p : Parts) (k app : ℕ) (f : Weather) (c called : StoreCall) (g : WorldFault) → HasDuty p k c → app ≡ k → called ≡ c → Refuses None (not (passes p.names p.history app f called)) true g → RefusesDuty p k f g
+not-told p k app f c called g has is same why = not-foretold p k f c g has (subst (λ z. Refuses None (not (passes p.names p.history k f z)) true g) same (subst (λ j. Refuses None (not (passes p.names p.history j f called)) true g) is why))
+
+-- there is no master of this generation
+pub not-there : (p : Parts) (k : ℕ) (f : Weather) → is_some (master_of p.masters k) ≡ false → RefusesDuty p k f (fault.NotNow NoMaster)
+not-there p k f e w s = refuses-now _ _ (dead p.config w k f (not-kept p k e w s))
+
+-- ---- a look at a machine and two stores, which the parts have
+
+pub not-told-of : (n : names.State) (h : history.State) (m : master.Master) (k : ℕ) (f : Weather) (c called : StoreCall) (g : WorldFault) → IsDutyOf m c → called ≡ c → Refuses None (not (passes n h k f called)) true g
+    → (p : Parts) → KeepsStores p n h k m → RefusesDuty p k f g
+not-told-of n h m k f c called g due same why p keeps = not-told p k k f c called g (due p k keeps.at) refl same
+    (subst (λ b. Refuses None (not b) true g) (sym (ap₂ (λ x y. passes x y k f called) keeps.names keeps.history)) why)
+
+pub foreseen-of : (n : names.State) (h : history.State) (m : master.Master) (k : ℕ) (f : Weather) (c called : StoreCall) (a : StoreAnswer) → IsDutyOf m c → called ≡ c → IsRanged called → passes n h k f called ≡ false → a ≡ told_in f (answer_to n h k called)
+    → (p : Parts) → KeepsStores p n h k m → IsForeseen p k f c a
+foreseen-of n h m k f c called a due same ranged room told p keeps = record {
+  due = due p k keeps.at;
+  ranged = subst IsRanged same ranged;
+  room = ap₂ (λ x y. passes x y k f c) keeps.names keeps.history ∙ (ap (passes n h k f) (sym same) ∙ room);
+  told = told ∙ (ap (λ z. told_in f (answer_to n h k z)) same ∙ sym (ap₂ (λ x y. told_in f (answer_to x y k c)) keeps.names keeps.history));
+}
+
+pub at-generation : (n : names.State) (h : history.State) (m : master.Master) (app k : ℕ) (f : Weather) (r : Result Due WorldFault) → app ≡ k → ForeseesDutyOf n h m app f r → (p : Parts) → KeepsStores p n h k m → ForeseesDuty p k f r
+at-generation n h m app k f r is all p keeps = subst (λ j. KeepsStores p n h j m → ForeseesDuty p j f r) is (all p) keeps
 
 -- ---- a call that is due and finds room
 

@@ -38,20 +38,7 @@ use Rattle.mr_world_state.proofs.Refusals.{refuses-full, refuses-memory}
 use Rattle.mr_world_state.proofs.Mastering.{goes-on, is-generation}
 use Rattle.mr_world_state.proofs.Stepping.{masters-step, masters-still, launches-add, other-steps}
 
--- ---- the machine at a place
-
-same-machine : (masters : Masters) (k : ℕ) (m n : master.Master) → Some m ≡ master_of masters k → master_of masters k ≡ Some n → m ≡ n
-same-machine masters k m n e f = let g : Some m ≡ Some n = e ∙ f in cc
-
 -- ---- a step of a master
-
-pub planned-at : {E : Type 0} (masters : Masters) (k : ℕ) (step : machine.Step) (m : master.Master) (r : Result Prepared E) → master_of masters k ≡ Some m → IfOk r (λ p. PlansFor m step p) → IfOk r (λ p. IsPlannedAt masters k step p)
-planned-at masters k step m (Ok p) at is = record { machine = m; at = at; planned = is }
-planned-at masters k step m (Err e) at is = tt
-
--- of the machine that is kept
-pub planned-here : (masters : Masters) (k : ℕ) (step : machine.Step) (p : Prepared) (m : master.Master) → Some m ≡ master_of masters k → IsPlannedAt masters k step p → PlansFor m step p
-planned-here masters k step p m at is = subst (λ n. PlansFor n step p) (sym (same-machine masters k m is.machine at is.at)) is.planned
 
 -- what is planned tells what it says
 pub says-planned : (m : master.Master) (step : machine.Step) (p : Prepared) → PlansFor m step p → master.Answers m (λ w past. next.sent w past step) p.packets

@@ -1,48 +1,33 @@
 //! A master takes a step. What it would send and change is prepared, room is made for it in the bag and in the
 //! master, and the step is taken. Before the step is taken all may be refused, and nothing changes but spare room.
 //! From then on nothing is refused.
-ghost use Rattle.std.specs.Prelude.{◌≡◌, ◌≤◌, ◌+◌, ◌++◌, length, true, is_some, IfOk, OnOk, OnErr};
+ghost use Rattle.std.specs.Prelude.{◌≡◌, ◌≤◌, ◌+◌, ◌++◌, length, IfOk, OnOk, OnErr};
 ghost use Rattle.mr_master_model.specs.Past.{Step, Answered};
 ghost use Rattle.mr_master.specs.State.{StandsStill, Stands};
 ghost use Rattle.mr_master.specs.Prepared.{PlansFor, IsReadyFor, IsReadyForStep};
-ghost use Rattle.mr_world_state.specs.inner.Duties.{IsPlannedAt, PlansAnswer};
-ghost use Rattle.mr_world_state.specs.Machines.{master_of};
+ghost use Rattle.mr_world_state.specs.inner.Attending.{PlansAnswerOf};
 
 use crate::fault::WorldFault;
-use crate::masters::Masters;
-use crate::parts::Parts;
 use crate::push::push_all;
-use crate::room::reserve;
+use crate::room::{check_room, reserve};
 use mr_master::{MasterMachine, Prepared};
 use mr_master_model::StoreAnswer;
 use mr_packet::{Bag, MAX_PACKETS};
 use std::alloc::AllocError;
 
-impl Masters {
-    /// What a living master would send and change once it hears this answer.
-    pub(crate) fn prepare_answer(&self, k: u32, answer: StoreAnswer) -> Result<Prepared, AllocError>
-        requires { is_some (master_of self.now k) ≡ true }
-        ensures { IfOk result (λ prepared. IsPlannedAt self.now k (Answered answer) prepared) }
-    {
-        let Some(machine) = self.get(k) else {
-            unreachable!();
-        };
-        machine.prepare_answer(answer)
-    }
-}
-
-impl Parts {
-    /// What a living master would send and change once it hears this answer, where its packets find room in the bag.
-    pub(crate) fn check_answer(&self, k: u32, answer: StoreAnswer) -> Result<Prepared, WorldFault>
-        requires { is_some (master_of self.now.masters k) ≡ true }
-        ensures plans { PlansAnswer self.now k answer result }
-        ensures room { IfOk result (λ prepared. length self.now.bag.packets + length prepared.packets ≤ MAX_PACKETS) }
-    {
-        let prepared = self.masters.prepare_answer(k, answer)?;
-        let more = prepared.packets().len();
-        self.check_room(more)?;
-        Ok(prepared)
-    }
+/// What a master would send and change once it hears this answer, where its packets find room in the bag.
+pub fn plan_answer(
+    bag: &Bag,
+    machine: &MasterMachine,
+    answer: StoreAnswer,
+) -> Result<Prepared, WorldFault>
+    ensures plans { PlansAnswerOf bag.now machine.now answer result }
+    ensures planned { IfOk result (λ prepared. PlansFor machine.now (Answered answer) prepared) }
+    ensures room { IfOk result (λ prepared. length bag.now.packets + length prepared.packets ≤ MAX_PACKETS) }
+{
+    let prepared = machine.prepare_answer(answer)?;
+    check_room(bag, prepared.packets().len())?;
+    Ok(prepared)
 }
 
 /// Room is made for what is prepared: in the bag for its packets, and in the master. Nothing changes but spare room.

@@ -1,19 +1,23 @@
 //! The event by which a master makes the store call that is due, hears the answer, and sends what follows.
-ghost use Rattle.std.specs.Prelude.{◌≡◌, ◌≤◌, IfOk, OnOk, OnErr, true, is_some};
+ghost use Rattle.std.specs.Prelude.{◌≡◌, ◌≤◌, IfOk, OnOk, OnErr};
 ghost use Rattle.mr_world_model.specs.World.{Duty, World};
 ghost use Rattle.mr_world_state.specs.Histories.{change_of, changed};
-ghost use Rattle.mr_world_state.specs.inner.Asking.{ForeseesDuty};
-ghost use Rattle.mr_world_state.specs.Machines.{master_of};
+ghost use Rattle.mr_world_state.specs.inner.Asking.{ForeseesDuty, ForeseesDutyOf};
 ghost use Rattle.mr_world_state.specs.Standing.{Foresees, Standing, Tries};
 
-use crate::act::{act, make_room};
+use crate::act::{act, make_room, plan_answer};
+use crate::alive::raised;
 use crate::ask::ask;
 use crate::fault::WorldFault;
+use crate::foretell::foretell;
+use crate::next_call::next_call;
 use crate::parts::Parts;
+use mr_history::History;
 use mr_ids::AppAttempt;
-use mr_master::Duty as StoreDuty;
+use mr_master::{Duty as StoreDuty, MasterMachine};
 use mr_master_model::StoreAnswer;
-use mr_world_events::Weather;
+use mr_names::Namespace;
+use mr_world_events::{Weather, Why};
 
 /// A master's duty that is due, and what the master will be told of its store call.
 #[derive(Drop)]
@@ -26,26 +30,25 @@ pub struct Due {
 impl Parts {
     /// The duty of the master of this generation, if it is alive and has one, and no store is full.
     pub(crate) fn foresee_duty(&self, k: u32, weather: Weather) -> Result<Due, WorldFault>
-        ensures foresees { ForeseesDuty self.now k weather result }
-        ensures raised { IfOk result (λ due. due.app ≤ self.now.history.fence) }
-        ensures alive { OnOk result (is_some (master_of self.now.masters k) ≡ true) }
+        ensures { ForeseesDuty self.now k weather result }
     {
-        let app = self.check_master(k)?;
-        let duty = self.next_call(k)?;
-        let answer = self.foretell(app, duty.call(), weather)?;
-        Ok(Due { app, duty, answer })
+        let app = raised(&self.history, k)?;
+        let Some(machine) = self.masters.get(k) else {
+            return Err(WorldFault::NotNow(Why::NoMaster));
+        };
+        find_duty(&self.names, &self.history, machine, app, weather)
     }
 
     /// Whether the master of this generation has a store call to make now, which passes no limit in this weather.
     pub(crate) fn check_duty(&self, k: u32, weather: Weather) -> Result<(), WorldFault>
         ensures { Foresees self.now (Duty k weather) result }
     {
-        let Due {
-            app: _,
-            duty: _,
-            answer,
-        } = self.foresee_duty(k, weather)?;
-        let _prepared = self.check_answer(k, answer)?;
+        let app = raised(&self.history, k)?;
+        let Some(machine) = self.masters.get(k) else {
+            return Err(WorldFault::NotNow(Why::NoMaster));
+        };
+        let due = find_duty(&self.names, &self.history, machine, app, weather)?;
+        let _prepared = plan_answer(&self.bag, machine, due.answer)?;
         Ok(())
     }
 
@@ -58,11 +61,16 @@ impl Parts {
         ensures calls { OnOk result ((w : World) → Standing self.old w → self.new.history ≡ changed self.old.history (change_of self.old.config w (Duty k weather))) }
         ensures kept { OnErr result (self.new.history ≡ self.old.history) }
     {
-        let Due { app, duty, answer } = self.foresee_duty(k, weather)?;
-        let prepared = self.check_answer(k, answer)?;
+        let app = raised(&self.history, k)?;
         let Some(machine) = self.masters.get_mut(k) else {
-            unreachable!();
+            return Err(WorldFault::NotNow(Why::NoMaster));
         };
+        let Due {
+            app: _,
+            duty,
+            answer,
+        } = find_duty(&self.names, &self.history, machine, app, weather)?;
+        let prepared = plan_answer(&self.bag, machine, answer)?;
         make_room(machine, &mut self.bag, &prepared)?;
         ask(
             &mut self.names,
@@ -74,4 +82,20 @@ impl Parts {
         act(machine, &mut self.bag, prepared);
         Ok(())
     }
+}
+
+// The duty of the master with this machine and this generation, if it has one, and no store is full.
+fn find_duty(
+    names: &Namespace,
+    history: &History,
+    machine: &MasterMachine,
+    app: AppAttempt,
+    weather: Weather,
+) -> Result<Due, WorldFault>
+    requires { app ≤ history.now.fence }
+    ensures { ForeseesDutyOf names.now history.now machine.now app weather result }
+{
+    let duty = next_call(machine)?;
+    let answer = foretell(names, history, app, duty.call(), weather)?;
+    Ok(Due { app, duty, answer })
 }

@@ -6,35 +6,35 @@ ghost use Rattle.mr_world_state.specs.inner.Asking.{answer_to, passes, IsRanged}
 ghost use Rattle.mr_world_state.specs.Standing.{Refuses};
 
 use crate::fault::WorldFault;
-use crate::parts::Parts;
+use mr_history::History;
 use mr_ids::AppAttempt;
 use mr_master_model::{StoreAnswer, StoreCall};
+use mr_names::Namespace;
 use mr_world_events::Weather;
 use mr_world_stores::{finds_full, is_made, master_answer, tell_ranges};
 
-impl Parts {
-    /// What a master will be told of its store call in this weather. Refused `Full` where the call is made and finds
-    /// a store full.
-    pub(crate) fn foretell(
-        &self,
-        app: AppAttempt,
-        call: &StoreCall,
-        weather: Weather,
-    ) -> Result<StoreAnswer, WorldFault>
-        requires { app ≤ self.now.history.fence }
-        ensures told { IfOk result (λ answer. answer ≡ told_in weather (answer_to self.now.names self.now.history app call.now)) }
-        ensures room { OnOk result (passes self.now app weather call.now ≡ false) }
-        ensures ranged { IsRanged call.now }
-        ensures refused { IfErr result (λ fault. Refuses None (not (passes self.now app weather call.now)) true fault) }
-    {
-        // For the prover: the numbers of a record are in the ranges of their types.
-        tell_ranges(call);
-        if is_made(weather) && finds_full(&self.names, &self.history, app, call) {
-            return Err(WorldFault::Full);
-        }
-        match weather {
-            Weather::Calm => Ok(master_answer(&self.names, &self.history, app, call)?),
-            Weather::Unavailable | Weather::Unanswered => Ok(StoreAnswer::Fault),
-        }
+/// What a master will be told of its store call in this weather. Refused `Full` where the call is made and finds a store
+/// full.
+pub fn foretell(
+    names: &Namespace,
+    history: &History,
+    app: AppAttempt,
+    call: &StoreCall,
+    weather: Weather,
+) -> Result<StoreAnswer, WorldFault>
+    requires { app ≤ history.now.fence }
+    ensures told { IfOk result (λ answer. answer ≡ told_in weather (answer_to names.now history.now app call.now)) }
+    ensures room { OnOk result (passes names.now history.now app weather call.now ≡ false) }
+    ensures ranged { IsRanged call.now }
+    ensures refused { IfErr result (λ fault. Refuses None (not (passes names.now history.now app weather call.now)) true fault) }
+{
+    // For the prover: the numbers of a record are in the ranges of their types.
+    tell_ranges(call);
+    if is_made(weather) && finds_full(names, history, app, call) {
+        return Err(WorldFault::Full);
+    }
+    match weather {
+        Weather::Calm => Ok(master_answer(names, history, app, call)?),
+        Weather::Unavailable | Weather::Unanswered => Ok(StoreAnswer::Fault),
     }
 }

@@ -7,8 +7,10 @@ use Rattle.mr_packet.specs.declared.packet.Address.TheVariants.{Master}
 use Rattle.mr_master.specs.State as master
 use Rattle.mr_master.specs.Prepared.{Prepared}
 use Rattle.mr_world_model.specs.World.{Event, Deliver, LaunchOn, Expire}
+use Rattle.mr_master_model.specs.declared.store.StoreAnswer.{StoreAnswer}
 use Rattle.mr_world_state.specs.declared.fault.WorldFault.{WorldFault}
 use Rattle.mr_world_state.specs.declared.parts.Parts.{Parts}
+use Rattle.mr_world_state.specs.inner.Duties.{PlansAnswer}
 use Rattle.mr_world_state.specs.Machines.{master_of}
 use Rattle.mr_world_state.specs.Standing.{IsTo, Foresees}
 
@@ -28,3 +30,7 @@ ForeseesLaunch bag launched m t n r = (p : Parts) (k : ℕ) → Keeps p bag k m 
 -- it gives a node up
 abbrev pub ForeseesExpiry : Held → master.Master → ℕ → Result Prepared WorldFault → Type 0
 ForeseesExpiry bag m n r = (p : Parts) (k : ℕ) → Keeps p bag k m → Foresees p (Expire k n) r
+
+-- it hears the answer of its store call
+abbrev pub PlansAnswerOf : Held → master.Master → StoreAnswer → Result Prepared WorldFault → Type 0
+PlansAnswerOf bag m a r = (p : Parts) (k : ℕ) → Keeps p bag k m → PlansAnswer p k a r

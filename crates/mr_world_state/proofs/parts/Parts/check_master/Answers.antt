@@ -1,14 +1,11 @@
-use Rattle.std.proofs.Common.{refl, sym, ◌∙◌}
-use Rattle.mr_world_state.proofs.Mastering.{not-raised, not-kept, unraised}
+use Rattle.std.proofs.Common.{◌≡◌, false, refl}
+use Rattle.mr_world_events.specs.declared.why.Why.TheVariants as Why
+use Rattle.mr_world_model.specs.World.{World}
+use Rattle.mr_world_state.specs.declared.fault.WorldFault.TheVariants as fault
+use Rattle.mr_world_state.specs.Standing.{Standing}
+use Rattle.mr_world_state.proofs.Asking.{if-err}
 use Rattle.mr_world_state.proofs.parts.Parts.check_master.Goals as goal
-use Rattle.mr_world_state.proofs.parts.Parts.check_master.Goals.{in_default-via-in-Some+then-is_raised+else-contains, in_default-via-in-Some+else-is_raised, in_default-via-in_default}
 
-pub returns-in_default-clause-refused : goal.returns-in_default-clause-refused
-returns-in_default-clause-refused c = (
-  refl,
-  elim c.in_default.branch [
-    | in_default-via-in-Some+then-is_raised+else-contains w ↦ not-kept c.args.self.now c.args.k (sym w.contains.ensures ∙ w.if-contains.false)
-    | in_default-via-in-Some+else-is_raised w ↦ not-raised c.args.self.now c.args.k (unraised _ _ _ (w.in-Some.ensures).1 (sym w.is_raised.ensures ∙ w.if-is_raised.false))
-    | in_default-via-in_default w ↦ λ v s. not-raised c.args.self.now c.args.k (λ r. w.in_default.ensures (r.0, r.2)) v s
-  ],
-)
+pub returns-in_err-app-clause-refused : goal.returns-in_err-app-clause-refused
+returns-in_err-app-clause-refused c = if-err (λ f. (f ≡ fault.NotNow Why.NoMaster) × ((w : World) → Standing c.args.self.now w → w.is_master c.args.k ≡ false)) c.from_residual.result c.in_err-app.field-0.0
+    (c.in_err-app.ensures.refused.0, c.in_err-app.ensures.refused.1 c.args.self.now refl) c.from_residual.ensures.1
