@@ -16,14 +16,23 @@ pub fn is_later(drawing: &Drawing) -> bool {
     drawing.part.from > 0
 }
 
-/// The title of a picture.
+/// The title of a picture: the job, how many events the run has, its marker and its outcome.
 pub fn title_of(alloc: Global, drawing: &Drawing) -> Result<Vec<u8>, AllocError> {
     let mut title = Vec::new(alloc);
     let mut buffer = Buffer::new();
     title.extend_from_slice(&drawing.job)?;
     title.extend_from_slice(b": a run of ")?;
     title.extend_from_slice(buffer.format(event_count(drawing)).as_bytes())?;
-    title.extend_from_slice(b" events, time goes down")?;
+    title.extend_from_slice(b" events")?;
+    let mut mark: &[u8] = b": ";
+    for words in drawing.ending.split(|byte| *byte == b'\n') {
+        if words.starts_with(b"marker ") || words.starts_with(b"outcome ") {
+            title.extend_from_slice(mark)?;
+            title.extend_from_slice(words)?;
+            mark = b", ";
+        }
+    }
+    title.extend_from_slice(b" (time goes down)")?;
     Ok(title)
 }
 

@@ -15,6 +15,14 @@ const LANE: u64 = 112;
 
 const ROW: u64 = 20;
 
+// After so many rows the names of the lanes stand once more, in a gap of this height.
+const NAMED_ROWS: usize = 40;
+
+const GAP: u64 = 40;
+
+// The narrowest picture, in which the key has room.
+const NARROWEST: u64 = 1340;
+
 // Where the first row stands, and how much lower it does where a note above it tells what is left out.
 const TOP: u64 = 152;
 
@@ -50,6 +58,7 @@ pub fn picture_of(alloc: Global, drawing: &Drawing) -> Result<Vec<u8>, AllocErro
     put_signs(&mut out, drawing, &places)?;
     put_words(&mut out, drawing, &places)?;
     put_heads(&mut out, drawing, &places, places.top.saturating_sub(36))?;
+    put_heads_between(&mut out, drawing, &places)?;
     put_heads(&mut out, drawing, &places, places.below)?;
     put_ending(&mut out, drawing, places.below.saturating_add(40))?;
     close(&mut out)?;
@@ -69,7 +78,7 @@ fn places_of(drawing: &Drawing) -> Places {
         lanes,
         details,
         below: below(top, drawing.rows.len()).saturating_add(14),
-        width: width.max(1300),
+        width: width.max(NARROWEST),
     }
 }
 
@@ -97,12 +106,24 @@ fn longest_detail(rows: &[Row]) -> u64 {
 }
 
 fn row_at(places: &Places, row: usize) -> u64 {
-    below(places.top, row)
+    height_of(places.top, row)
 }
 
-// The place that is this number of rows below a place.
+// Where a row stands, with the gaps above it, in a picture whose first row stands at `top`.
+fn height_of(top: u64, row: usize) -> u64 {
+    let gaps = (row / NAMED_ROWS) as u64;
+    (row as u64)
+        .saturating_mul(ROW)
+        .saturating_add(gaps.saturating_mul(GAP))
+        .saturating_add(top)
+}
+
+// Below the last of so many rows.
 fn below(top: u64, rows: usize) -> u64 {
-    (rows as u64).saturating_mul(ROW).saturating_add(top)
+    match rows.checked_sub(1) {
+        Some(last) => height_of(top, last).saturating_add(ROW),
+        None => top,
+    }
 }
 
 // Where a row and a lane meet.
@@ -424,10 +445,35 @@ fn put_signs(out: &mut String, drawing: &Drawing, places: &Places) -> Result<(),
 
 fn put_label(out: &mut String, row: &Row, here: Point) -> Result<(), AllocError> {
     let y = here.y.saturating_sub(3);
+    let aside = reach_of(row.sign);
     if row.leftwards {
-        text(out, "left", at(here.x.saturating_sub(9), y), &row.label)
+        text(out, "left", at(here.x.saturating_sub(aside), y), &row.label)
     } else {
-        text(out, "label", at(here.x.saturating_add(9), y), &row.label)
+        text(
+            out,
+            "label",
+            at(here.x.saturating_add(aside), y),
+            &row.label,
+        )
+    }
+}
+
+// How far from the lane its label stands, beside its sign.
+fn reach_of(sign: Sign) -> u64 {
+    match sign {
+        Sign::Marker | Sign::Success | Sign::Failure => 14,
+        Sign::TaskCommit => 11,
+        Sign::Dot
+        | Sign::Start
+        | Sign::Crash
+        | Sign::Death
+        | Sign::Restart
+        | Sign::Expiry
+        | Sign::Permission
+        | Sign::Winner
+        | Sign::JobCommit
+        | Sign::Refusal
+        | Sign::Stop => 9,
     }
 }
 
@@ -452,6 +498,20 @@ fn put_row_detail(out: &mut String, row: &Row, here: Point) -> Result<(), AllocE
         Some(front) => noted(out, here, &row.note, front, ".."),
         None => noted(out, here, &row.note, &row.detail, ""),
     }
+}
+
+// The names of the lanes once more, in the gaps between the rows.
+fn put_heads_between(
+    out: &mut String,
+    drawing: &Drawing,
+    places: &Places,
+) -> Result<(), AllocError> {
+    let gaps = drawing.rows.len().saturating_sub(1) / NAMED_ROWS;
+    for gap in 0..gaps {
+        let row = gap.saturating_add(1).saturating_mul(NAMED_ROWS);
+        put_heads(out, drawing, places, row_at(places, row).saturating_sub(32))?;
+    }
+    Ok(())
 }
 
 // The names of the lanes.

@@ -113,7 +113,7 @@ const LIVES: [Meaning; 9] = [
     Meaning {
         place: 6,
         mark: Mark::GivenUp,
-        words: b"is given up",
+        words: b"node is given up",
     },
     Meaning {
         place: 7,

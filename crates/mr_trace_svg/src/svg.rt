@@ -17,7 +17,8 @@ text{font-family:sans-serif;font-size:11px}
 .note{font-weight:bold}
 .head{font-weight:bold;text-anchor:middle}
 .under{font-size:10px;text-anchor:middle}
-.label,.left{font-size:9px;paint-order:stroke;stroke:#fff;stroke-width:3px;stroke-linejoin:round}
+.label,.left{font-size:9px}
+.head,.under,.label,.left{paint-order:stroke;stroke:#fff;stroke-width:3px;stroke-linejoin:round}
 .left{text-anchor:end}
 .rule{stroke:#eee}
 .guide{stroke:#ccc;stroke-dasharray:2 4}
