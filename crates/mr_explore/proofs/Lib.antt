@@ -6,6 +6,7 @@ mod Making
 mod Onwards
 mod Printing
 pub mod Refused
+mod Telling
 mod Trying
 mod Unseen
 mod Waiting

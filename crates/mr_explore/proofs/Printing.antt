@@ -19,13 +19,13 @@ use Rattle.mr_explore.specs.Exploring.{Begins, ExploreFails, Fails, IsFullBehind
 
 -- ---- each script leads to its end
 
-pub lead_all : (input : List ℕ) (rows : List Row) (ends : List End) → map as_end rows ≡ ends → AllByRecursion (λ (row : Row). LeadsTo input row.script.items row.end.items) rows → LeadToEnds input ends
+pub lead_all : (input : List ℕ) (rows : List Row) (ends : List End) → map as_end rows ≡ ends → AllByRecursion (λ (row : Row). LeadsTo input row.script.items row.end) rows → LeadToEnds input ends
 lead_all input rows ends e h = subst (LeadToEnds input) e (by rows h) where
-  by : (rows : List Row) → AllByRecursion (λ (row : Row). LeadsTo input row.script.items row.end.items) rows → LeadToEnds input (map as_end rows)
+  by : (rows : List Row) → AllByRecursion (λ (row : Row). LeadsTo input row.script.items row.end) rows → LeadToEnds input (map as_end rows)
   by [] h = tt
   by (row ∷ rows) h = (h.0, by rows h.1)
 
-pub led : {A : Type 0} (input : List ℕ) (rows : List Row) (ends : List End) (r : Result A SimFault) → map as_end rows ≡ ends → OnOk r (AllByRecursion (λ (row : Row). LeadsTo input row.script.items row.end.items) rows) → OnOk r (LeadToEnds input ends)
+pub led : {A : Type 0} (input : List ℕ) (rows : List Row) (ends : List End) (r : Result A SimFault) → map as_end rows ≡ ends → OnOk r (AllByRecursion (λ (row : Row). LeadsTo input row.script.items row.end) rows) → OnOk r (LeadToEnds input ends)
 led input rows ends (Ok a) e h = lead_all input rows ends e h
 led input rows ends (Err f) e h = h
 

@@ -16,7 +16,7 @@ use Rattle.mr_play.specs.mr_world.specs.Standing.{Refuses}
 use Rattle.mr_play.specs.mr_world.specs.Applying.{IsRefused}
 use Rattle.mr_play.specs.mr_world.specs.Journal.{world_in, fits, fits_first}
 use Rattle.mr_play.specs.mr_world.specs.declared.limits.TheConstants.{MAX_EVENTS}
-use Rattle.mr_sim_commands.specs.declared.fault.SimFault.{SimFault}
+use Rattle.std.specs.declared.alloc.AllocError.{AllocError}
 use Rattle.mr_sim_commands.specs.declared.job.submission.JobKind.{JobKind}
 use Rattle.mr_play.specs.declared.player.Player.{Player}
 use Rattle.mr_play.specs.Branches.{Forks, Tries}
@@ -37,7 +37,7 @@ pub forked_by : {A : Type 0} (f : Job → Config → Limits → Played → A) (o
 forked_by f old new h = same_by (λ job cfg w. f job cfg w (state_in new)) old new h.job h.config ∙ ap (f (job_as old.job) old.world.config (within old.world.config)) h.state
 
 -- the first step was made, and then the second is tried
-pub then_tried : (old mid new : Player) (first : Option Played) (second : Job → Config → Limits → Played → Option Played) (r : Result Bool SimFault) → SameJob old mid → first ≡ Some (state_in mid)
+pub then_tried : (old mid new : Player) (first : Option Played) (second : Job → Config → Limits → Played → Option Played) (r : Result Bool AllocError) → SameJob old mid → first ≡ Some (state_in mid)
     → Tries mid (second (job_as mid.job) mid.world.config (within mid.world.config) (state_in mid)) r new → Tries old (option_and_then (second (job_as old.job) old.world.config (within old.world.config)) first) r new
 then_tried old mid new first second (Ok true) same is h = (both old mid new same h.0, ap (option_and_then (second (job_as old.job) old.world.config (within old.world.config))) is ∙ (sym (same_by (λ job cfg w. second job cfg w (state_in mid)) old mid same.job same.config) ∙ h.1))
 then_tried old mid new first second (Ok false) same is h = ap (option_and_then (second (job_as old.job) old.world.config (within old.world.config))) is ∙ (sym (same_by (λ job cfg w. second job cfg w (state_in mid)) old mid same.job same.config) ∙ h)

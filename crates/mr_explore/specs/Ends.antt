@@ -1,22 +1,22 @@
 -- What is told of the ends that came (our own profile).
-use Rattle.std.specs.Prelude.{◌≡◌, ◌+◌, ℕ, List, ◌∷◌, ◌++◌, Option, Some, None, Ok}
+use Rattle.std.specs.Prelude.{◌≡◌, ℕ, List, ◌∷◌, ◌++◌, Option, Some, None}
 use Rattle.std.specs.List.{AllByRecursion}
 use Rattle.mr_play.specs.mr_world.specs.Limits.{within}
 use Rattle.mr_sim_commands.specs.declared.fault.SimFault.{SimFault}
 use Rattle.mr_sim_commands.specs.declared.fault.SimFault.TheVariants as fault
-use Rattle.mr_sim_commands.specs.declared.job.submission.Submission.{Submission}
-use Rattle.mr_sim_commands.specs.job.Text.{submission_of}
 use Rattle.mr_sim_commands.specs.seq.Text.{PrintsSeq, RefusesSeq}
 use Rattle.mr_play.specs.Text.{IsBadPlayJob, PrintsPlay, job_line}
+use Rattle.mr_script.specs.declared.expectation.Expectation.{Expectation}
+use Rattle.mr_explore_ends.specs.Outcomes.{Outcome, outcome_text}
 use Rattle.mr_explore_ends.specs.Table.{End}
 use Rattle.mr_explore_ends.specs.Text.{Found, Sequential, explored_text}
-use Rattle.mr_explore_lines.specs.Ends.{ends_json}
+use Rattle.mr_explore_ends.specs.JsonLines.{ends_json}
 use Rattle.mr_explore.specs.declared.asked.Form.{Form}
 use Rattle.mr_explore.specs.declared.asked.Form.TheVariants.{Text, Json}
 
 -- the script, behind the job text of the input, is played, and this is printed: the winners, the marker, the outcome and the visible files
-abbrev pub LeadsTo : (input script end : List ℕ) → Type 0
-LeadsTo input script end = PrintsPlay within (job_line input ++ 10 ∷ script) end
+abbrev pub LeadsTo : (input script : List ℕ) → Outcome → Type 0
+LeadsTo input script end = PrintsPlay within (job_line input ++ 10 ∷ script) (outcome_text end)
 
 -- each script leads to the end that it stands beside
 abbrev pub LeadToEnds : List ℕ → List End → Type 0
@@ -27,21 +27,17 @@ abbrev pub AreFilesOf : List ℕ → Option (List ℕ) → Type 0
 AreFilesOf text (Some files) = PrintsSeq text files
 AreFilesOf text None = RefusesSeq text
 
--- the files of the sequential execution of the job of an input. Before the files of an end stand a line for each
--- reduce, one for the marker, and one for the outcome
-pub record IsSequentialOf (input : List ℕ) (s : Sequential) : Type 0 where
-  pub job : Submission
-  pub said : submission_of (job_line input) ≡ Ok job
-  pub files : AreFilesOf (job_line input) s.files
-  pub lines : s.lines ≡ job.reduces + 2
+-- the files of the sequential execution of the job of an input
+abbrev pub IsSequentialOf : List ℕ → Sequential → Type 0
+IsSequentialOf input s = AreFilesOf (job_line input) s.files
 
 -- what was found in a form: all ends, or the best that meets a goal
-abbrev pub told_text : Form → Sequential → Option (List ℕ) → Found → List ℕ
+abbrev pub told_text : Form → Sequential → Option (List Expectation) → Found → List ℕ
 told_text Text s goal found = explored_text s goal found
 told_text Json s goal found = ends_json s goal found
 
 -- what is printed of what was found
-pub record TellsEnds (input : List ℕ) (form : Form) (goal : Option (List ℕ)) (found : Found) (text : List ℕ) : Type 0 where
+pub record TellsEnds (input : List ℕ) (form : Form) (goal : Option (List Expectation)) (found : Found) (text : List ℕ) : Type 0 where
   pub sequential : Sequential
   pub of_job : IsSequentialOf input sequential
   pub lead : LeadToEnds input found.table.ends

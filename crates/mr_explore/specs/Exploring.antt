@@ -1,13 +1,20 @@
 -- What an exploration promises.
 use Rattle.std.specs.Prelude.{◌≡◌, ◌≤◌, ◌<◌, ◌⊎◌, ◌-◌, ℕ, Bool, true, false, List, [], ◌∷◌, ◌++◌, length, map, Result, Ok, Err}
+use Rattle.std.specs.List.{flat_map}
 use Rattle.mr_sim_commands.specs.declared.fault.SimFault.{SimFault}
 use Rattle.mr_sim_commands.specs.declared.fault.SimFault.TheVariants as fault
 use Rattle.mr_play.specs.mr_world.specs.Journal.{Journal, world_in}
 use Rattle.mr_play.specs.mr_world.specs.Limits.{within}
 use Rattle.mr_play.specs.Text.{IsFullPlay, PlayFails}
-use Rattle.mr_play.specs.WorldText.{world_text}
+use Rattle.mr_play.specs.WorldText.{visible_text, won_in}
+use Rattle.mr_world_model.specs.Ids.{marker}
+use Rattle.mr_world_model.specs.Content.{entry_at, is_file}
+use Rattle.mr_world_model.specs.Packets.{Config}
+use Rattle.mr_world_model.specs.World.{World}
+use Rattle.mr_world_model.specs.Results.{outcome, visible}
 use Rattle.mr_explore_search.specs.Runs.{Found, Run, PassesLimit}
 use Rattle.mr_explore_search.specs.Taking.{no_more}
+use Rattle.mr_explore_ends.specs.Outcomes.{Outcome}
 use Rattle.mr_explore_ends.specs.Table.{Came, Table, all_noted, empty}
 use Rattle.mr_explore_ends.specs.Text as ends
 use Rattle.mr_explore.specs.Runs.{CannotStart, Exploring, IsRunOf, runs_with}
@@ -25,9 +32,13 @@ as_found m = Run m.spare m.run
 abbrev pub journal_of : Exploring → Journal
 journal_of e = record { config = e.config; events = e.played.events }
 
--- what a table knows of it, where a run has at most `faults` faults: its end is what `play` prints of its cluster
+-- what a run came to: the winners, the marker, the outcome and the visible files of its cluster, as `play` prints them
+abbrev pub outcome_of : Config → World → Outcome
+outcome_of cfg w = record { winners = won_in cfg w; marker = is_file (entry_at w.content marker); outcome = outcome w; files = flat_map visible_text (visible w) }
+
+-- what a table knows of it, where a run has at most `faults` faults
 abbrev pub came : ℕ → MadeRun → Came
-came faults m = record { end = world_text m.run.config (world_in (journal_of m.run)); faults = faults - m.spare; events = m.run.played.events }
+came faults m = record { end = outcome_of m.run.config (world_in (journal_of m.run)); faults = faults - m.spare; events = m.run.played.events }
 
 -- ---- what is left
 

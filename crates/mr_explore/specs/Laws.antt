@@ -12,6 +12,8 @@ use Rattle.mr_play.specs.Text.{IsBadPlayJob, IsBadPlayLine}
 use Rattle.mr_play.specs.WorldText.{world_text}
 use Rattle.mr_explore.specs.declared.asked.Asked.{Asked}
 use Rattle.mr_explore.specs.Explored.{IsFullExplored, PrintsExplored}
+use Rattle.mr_explore_ends.specs.Outcomes.{outcome_text}
+use Rattle.mr_explore.specs.Exploring.{outcome_of}
 use Rattle.mr_explore.specs.Faults.{calm, goes_in_vain}
 use Rattle.mr_explore.specs.Runs.{Exploring, IsRunOf}
 use Rattle.mr_explore.specs.Vain.{asks_here, most_ahead}
@@ -22,6 +24,10 @@ pub record ExploredOrRefused : Type 0 where
   pub not_bad_job : (asked : Asked) (input text : List ℕ) (e : JobTextFault) → PrintsExplored asked input text → IsBadPlayJob input e → ⊥
   pub not_bad_line : (asked : Asked) (input text : List ℕ) (n : ℕ) → PrintsExplored asked input text → IsBadPlayLine input n → ⊥
   pub not_full : (asked : Asked) (input text : List ℕ) → PrintsExplored asked input text → IsFullExplored asked input → ⊥
+
+-- what a run came to is written as `play` prints its cluster
+abbrev pub OutcomesArePrinted : Type 0
+OutcomesArePrinted = (cfg : Config) (w : World) → outcome_text (outcome_of cfg w) ≡ world_text cfg w
 
 -- Who only asks changes nothing that `play` prints of a cluster.
 pub record AskingShowsNothing : Type 0 where

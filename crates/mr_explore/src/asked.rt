@@ -1,5 +1,7 @@
 //! What is asked of an exploration.
 
+use mr_script::Expectation;
+
 /// How the ends are told.
 #[derive(Clone, Copy, Debug, PartialEq, Eq)]
 pub enum Form {
@@ -16,7 +18,7 @@ pub struct Asked<'a> {
     pub faults: u32,
     /// How many runs are made at most.
     pub most: u64,
-    /// Lines of the end that is sought, as `marker yes, outcome failed`; all ends are told where no end is sought.
-    pub goal: Option<&'a str>,
+    /// What is so of the end that is sought; all ends are told where no end is sought.
+    pub goal: Option<&'a [Expectation]>,
     pub form: Form,
 }

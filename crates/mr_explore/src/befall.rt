@@ -1,5 +1,5 @@
 //! A fault befalls a run.
-ghost use Rattle.std.specs.Prelude.{◌≡◌, suc, false, None, IfOk, IfErr};
+ghost use Rattle.std.specs.Prelude.{◌≡◌, suc, false, None, IfOk};
 ghost use Rattle.mr_world_model.specs.World.{Start};
 ghost use Rattle.mr_play.specs.mr_world.specs.Journal.{world_in};
 ghost use Rattle.mr_play.specs.Branches.{Tries};
@@ -8,14 +8,13 @@ ghost use Rattle.mr_explore_faults.specs.declared.fault.Fault.TheVariants as fau
 ghost use Rattle.mr_explore.specs.inner.Players.{befallen_in, told_in};
 
 use mr_explore_faults::Fault;
-use mr_play::Player;
 use mr_play::mr_world::WorldFault;
-use mr_sim_commands::SimFault;
+use mr_play::{Player, PlayerFault};
 use mr_world_events::{Event, Weather};
-use std::alloc::Global;
+use std::alloc::{AllocError, Global};
 
 /// The fault befalls the run; whether it can. It fails by an allocation failure.
-pub fn befall(alloc: Global, player: &mut Player, fault: Fault) -> Result<bool, SimFault>
+pub fn befall(alloc: Global, player: &mut Player, fault: Fault) -> Result<bool, AllocError>
     ensures { Tries player.old (befallen_in player.old (world_in player.old.world).fence fault) result player.new }
 {
     let k = player.world.newest();
@@ -51,9 +50,8 @@ pub fn befall(alloc: Global, player: &mut Player, fault: Fault) -> Result<bool, 
 /// Whether the fault may be tried on the run: where not, it can't befall it. It fails by an allocation failure.
 ///
 /// It looks at what is often not permitted and is one event; whether all else can befall a run is found out by trying it.
-pub fn may_befall(player: &Player, fault: &Fault) -> Result<bool, SimFault>
-    ensures cannot { IfOk result (λ may. may ≡ false → befallen_in player.now (world_in player.now.world).fence fault.now ≡ None) }
-    ensures memory { IfErr result (λ f. f ≡ SimFault.NoMemory) }
+pub fn may_befall(player: &Player, fault: &Fault) -> Result<bool, AllocError>
+    ensures { IfOk result (λ may. may ≡ false → befallen_in player.now (world_in player.now.world).fence fault.now ≡ None) }
 {
     let k = player.world.newest();
     match *fault {
@@ -78,13 +76,12 @@ pub fn may_befall(player: &Player, fault: &Fault) -> Result<bool, SimFault>
 }
 
 // Whether the event is permitted now, and passes no limit.
-fn may_happen(player: &Player, event: &Event) -> Result<bool, SimFault>
-    ensures cannot { IfOk result (λ may. may ≡ false → told_in player.now event.now (state_in player.now) ≡ None) }
-    ensures memory { IfErr result (λ f. f ≡ SimFault.NoMemory) }
+fn may_happen(player: &Player, event: &Event) -> Result<bool, AllocError>
+    ensures { IfOk result (λ may. may ≡ false → told_in player.now event.now (state_in player.now) ≡ None) }
 {
     match player.world.foresee(event) {
         Ok(()) => Ok(true),
-        Err(WorldFault::NoMemory) => Err(SimFault::NoMemory),
+        Err(WorldFault::NoMemory) => Err(AllocError),
         Err(WorldFault::NotNow(_)) => Ok(false),
         Err(WorldFault::Full) => Ok(false),
     }
@@ -96,20 +93,20 @@ fn deliver_late(
     player: &mut Player,
     packet: u64,
     events: u64,
-) -> Result<bool, SimFault>
+) -> Result<bool, AllocError>
     ensures { Tries player.old (befallen_in player.old (world_in player.old.world).fence (fault.Late packet events)) result player.new }
 {
     player.drop_packet(packet)?;
     let newest = player.world.newest();
     match player.calm_for(alloc, newest, None, events) {
         Ok(()) => player.tell(Event::Deliver { packet }),
-        Err(SimFault::Full) => Ok(false),
-        Err(fault) => Err(fault),
+        Err(PlayerFault::Full) => Ok(false),
+        Err(PlayerFault::NoMemory) => Err(AllocError),
     }
 }
 
 // Master `k` crashes, and the next one starts.
-fn crash(player: &mut Player, k: u32, kept: u64) -> Result<bool, SimFault>
+fn crash(player: &mut Player, k: u32, kept: u64) -> Result<bool, AllocError>
     ensures { Tries player.old (befallen_in player.old k (fault.Crash kept)) result player.new }
 {
     let crashed = player.tell(Event::Crash {
@@ -124,7 +121,7 @@ fn crash(player: &mut Player, k: u32, kept: u64) -> Result<bool, SimFault>
 }
 
 // The next master starts, and `k` makes the store call that is due.
-fn supersede_late(player: &mut Player, k: u32, kept: u64) -> Result<bool, SimFault>
+fn supersede_late(player: &mut Player, k: u32, kept: u64) -> Result<bool, AllocError>
     ensures { Tries player.old (befallen_in player.old k (fault.SupersededLate kept)) result player.new }
 {
     if start(player, k, kept)? {
@@ -138,7 +135,7 @@ fn supersede_late(player: &mut Player, k: u32, kept: u64) -> Result<bool, SimFau
 }
 
 // The master behind `k` starts.
-fn start(player: &mut Player, k: u32, kept: u64) -> Result<bool, SimFault>
+fn start(player: &mut Player, k: u32, kept: u64) -> Result<bool, AllocError>
     ensures { Tries player.old (told_in player.old (Start (suc k) kept) (state_in player.old)) result player.new }
 {
     match k.checked_add(1) {

@@ -12,7 +12,7 @@ use mr_explore_ends::Table;
 use mr_explore_search::{Ended, Walk, WalkFault};
 use mr_play::mr_world::MAX_EVENTS;
 use mr_sim_commands::SimFault;
-use std::alloc::Global;
+use std::alloc::{AllocError, Global};
 use std::marker::Model;
 
 // How many runs are made before it is told again how far it is.
@@ -126,13 +126,11 @@ fn note(
     winners: &mut Winners,
     ended: &Ended<Explored>,
     faults: u32,
-) -> Result<(), SimFault>
-    ensures noted { OnOk result (table.new ≡ noted (came faults (record { spare = ended.now.spare; run = ended.now.run })) table.old) }
-    ensures memory { IfErr result (λ fault. fault ≡ SimFault.NoMemory) }
+) -> Result<(), AllocError>
+    ensures { OnOk result (table.new ≡ noted (came faults (record { spare = ended.now.spare; run = ended.now.run })) table.old) }
 {
     let world = ended.run.world();
-    let mut end = Vec::new(alloc);
-    winners.print(alloc, &mut end, world)?;
+    let end = winners.outcome_of(alloc, world)?;
     let faults = faults.saturating_sub(ended.spare);
     table.note(alloc, end, faults, world.journal())?;
     Ok(())

@@ -2,7 +2,7 @@
 ghost use Rattle.std.specs.Prelude.{◌≡◌, Some, IfOk, IfErr};
 ghost use Rattle.std.specs.Option.{option_map};
 ghost use Rattle.mr_play.specs.Players.{state_in};
-ghost use Rattle.mr_explore_search.specs.Steps.{GoesOn, IsNotFull};
+ghost use Rattle.mr_explore_search.specs.Steps.{GoesOn};
 ghost use Rattle.mr_explore.specs.Exploring.{ExploreFails};
 ghost use Rattle.mr_explore.specs.Runs.{IsRunOf, StartsFrom, explored, newest_in, start_first, with};
 ghost use Rattle.mr_explore.specs.inner.Players.{CannotBegin, view_of};
@@ -13,7 +13,7 @@ use crate::going;
 use mr_explore_faults::Fault;
 use mr_explore_search::{Run, WalkFault};
 use mr_play::mr_world::World;
-use mr_play::{Player, played};
+use mr_play::{Player, PlayerFault, played};
 use mr_sim_commands::SimFault;
 use mr_world_events::Event;
 use std::alloc::Global;
@@ -66,7 +66,7 @@ impl Run for Explored {
     fn fork(&self, alloc: Global) -> Result<Explored, WalkFault> {
         match self.player.fork(alloc) {
             Ok(player) => Ok(Explored { player }),
-            Err(fault) => Err(walk_fault(fault)),
+            Err(_) => Err(WalkFault::NoMemory),
         }
     }
 
@@ -77,21 +77,21 @@ impl Run for Explored {
     fn faults(&self, alloc: Global) -> Result<LinkedList<Fault>, WalkFault> {
         match faults_at(alloc, &self.player) {
             Ok(faults) => Ok(faults),
-            Err(fault) => Err(walk_fault(fault)),
+            Err(_) => Err(WalkFault::NoMemory),
         }
     }
 
     fn may_befall(&self, fault: &Fault) -> Result<bool, WalkFault> {
         match may_befall(&self.player, fault) {
             Ok(may) => Ok(may),
-            Err(fault) => Err(walk_fault(fault)),
+            Err(_) => Err(WalkFault::NoMemory),
         }
     }
 
     fn befall(&mut self, alloc: Global, fault: Fault) -> Result<bool, WalkFault> {
         match befall(alloc, &mut self.player, fault) {
             Ok(befell) => Ok(befell),
-            Err(fault) => Err(walk_fault(fault)),
+            Err(_) => Err(WalkFault::NoMemory),
         }
     }
 }
@@ -104,19 +104,8 @@ fn go_further(alloc: Global, player: &mut Player) -> Result<bool, WalkFault>
     match going::go_further(alloc, player) {
         Ok(went) => Ok(went),
         Err(fault) => match fault {
-            SimFault::Full => Err(WalkFault::Full),
-            SimFault::NoMemory => Err(WalkFault::NoMemory),
-            SimFault::Read
-            | SimFault::Write
-            | SimFault::TooLong
-            | SimFault::BadCommand(_)
-            | SimFault::BadRecord(_)
-            | SimFault::Job(_)
-            | SimFault::Refused
-            | SimFault::JobFailed
-            | SimFault::TurnsSpent
-            | SimFault::JournalMismatch
-            | SimFault::Thread => unreachable!(),
+            PlayerFault::Full => Err(WalkFault::Full),
+            PlayerFault::NoMemory => Err(WalkFault::NoMemory),
         },
     }
 }
@@ -147,15 +136,5 @@ fn start_first(mut player: Player) -> Result<Player, SimFault>
         Ok(player)
     } else {
         Err(SimFault::Full)
-    }
-}
-
-// Why a run that was made once could not be made once more.
-fn walk_fault(fault: SimFault) -> WalkFault
-    ensures { IsNotFull result }
-{
-    match fault {
-        SimFault::NoMemory => WalkFault::NoMemory,
-        _ => WalkFault::Mismatch,
     }
 }

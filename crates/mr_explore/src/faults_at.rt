@@ -14,15 +14,14 @@ use mr_explore_faults::{
     add_of_tasks, without_next,
 };
 use mr_ids::TaskKind;
-use mr_play::Player;
 use mr_play::mr_world::World;
-use mr_sim_commands::SimFault;
+use mr_play::{Player, PlayerFault};
 use mr_world_events::{Event, Weather};
-use std::alloc::Global;
+use std::alloc::{AllocError, Global};
 use std::collections::LinkedList;
 
 /// All that may be tried where the run is, in the order in which it is tried.
-pub fn faults_at(alloc: Global, player: &Player) -> Result<LinkedList<Fault>, SimFault>
+pub fn faults_at(alloc: Global, player: &Player) -> Result<LinkedList<Fault>, AllocError>
     ensures { IfOk result (λ faults. faults ≡ faults_in player.now) }
 {
     let next = next_event(alloc, player)?;
@@ -35,7 +34,7 @@ fn listed(
     alloc: Global,
     player: &Player,
     next: &Option<Event>,
-) -> Result<LinkedList<Fault>, SimFault>
+) -> Result<LinkedList<Fault>, AllocError>
     ensures { IfOk result (λ faults. faults ≡ listed_in player.now next.now) }
 {
     let mut faults = LinkedList::new(alloc);
@@ -46,7 +45,7 @@ fn listed(
 }
 
 // A packet once more, the end of a container, faults of a node, and attempts of a task.
-fn add_of_world(faults: &mut LinkedList<Fault>, player: &Player) -> Result<(), SimFault>
+fn add_of_world(faults: &mut LinkedList<Fault>, player: &Player) -> Result<(), AllocError>
     ensures { OnOk result (faults.new ≡ faults.old ++ of_world_in player.now) }
 {
     let world = &player.world;
@@ -72,7 +71,7 @@ fn add_of_crashes(
     alloc: Global,
     faults: &mut LinkedList<Fault>,
     player: &Player,
-) -> Result<(), SimFault>
+) -> Result<(), AllocError>
     ensures { OnOk result (faults.new ≡ faults.old ++ of_crashes_in player.now) }
 {
     add_of_kept(faults, 0)?;
@@ -85,7 +84,7 @@ fn add_of_event(
     faults: &mut LinkedList<Fault>,
     player: &Player,
     next: &Option<Event>,
-) -> Result<(), SimFault>
+) -> Result<(), AllocError>
     ensures { OnOk result (faults.new ≡ faults.old ++ of_event_in player.now next.now) }
 {
     match next {
@@ -109,7 +108,7 @@ fn add_of_event(
 }
 
 // The event that the run makes next by itself.
-fn next_event(alloc: Global, player: &Player) -> Result<Option<Event>, SimFault>
+fn next_event(alloc: Global, player: &Player) -> Result<Option<Event>, AllocError>
     ensures { IfOk result (λ event. event ≡ next_in player.now) }
 {
     let mut ahead = player.fork(alloc)?;
@@ -117,18 +116,18 @@ fn next_event(alloc: Global, player: &Player) -> Result<Option<Event>, SimFault>
 }
 
 // The same. The player makes it.
-fn next_of(alloc: Global, ahead: &mut Player) -> Result<Option<Event>, SimFault>
+fn next_of(alloc: Global, ahead: &mut Player) -> Result<Option<Event>, AllocError>
     ensures { IfOk result (λ event. event ≡ next_in ahead.old) }
 {
     let place = ahead.world.journal().len();
     match go_further(alloc, ahead) {
         Ok(true) => event_at(&ahead.world, place),
-        Ok(false) | Err(SimFault::Full) => Ok(None),
-        Err(fault) => Err(fault),
+        Ok(false) | Err(PlayerFault::Full) => Ok(None),
+        Err(PlayerFault::NoMemory) => Err(AllocError),
     }
 }
 
-fn event_at(world: &World, place: usize) -> Result<Option<Event>, SimFault>
+fn event_at(world: &World, place: usize) -> Result<Option<Event>, AllocError>
     ensures { IfOk result (λ event. event ≡ slice_get world.now.events place) }
 {
     match world.journal().get(place) {
@@ -138,7 +137,7 @@ fn event_at(world: &World, place: usize) -> Result<Option<Event>, SimFault>
 }
 
 // How many events the run makes by itself without the packet.
-fn length_without(alloc: Global, player: &Player, packet: u64) -> Result<u64, SimFault>
+fn length_without(alloc: Global, player: &Player, packet: u64) -> Result<u64, AllocError>
     ensures { IfOk result (λ events. events ≡ length_in player.now packet) }
 {
     let mut ahead = player.fork(alloc)?;
@@ -151,7 +150,7 @@ fn add_of_unflushed(
     alloc: Global,
     faults: &mut LinkedList<Fault>,
     player: &Player,
-) -> Result<(), SimFault>
+) -> Result<(), AllocError>
     ensures { OnOk result (faults.new ≡ faults.old ++ flat_map of_kept (kept_of player.now)) }
 {
     let k = player.world.newest();
@@ -168,7 +167,7 @@ fn add_of_tail(
     player: &Player,
     k: u32,
     unflushed: u64,
-) -> Result<(), SimFault>
+) -> Result<(), AllocError>
     ensures { OnOk result (faults.new ≡ faults.old ++ flat_map of_kept (kept_after player.now k unflushed)) }
 {
     let mut ahead = player.fork(alloc)?;
@@ -189,7 +188,7 @@ fn add_of_stable(
     before: &World,
     after: &World,
     k: u32,
-) -> Result<(), SimFault>
+) -> Result<(), AllocError>
     ensures { OnOk result (faults.new ≡ faults.old ++ flat_map of_kept (ends_behind (stable_bytes (history_in before.now) k) (stable_bytes (history_in after.now) k))) }
 {
     let whole = before.stable(k).len();

@@ -1,9 +1,14 @@
 //! Laws of the definitions: these functions do nothing.
-ghost use Rattle.mr_explore.specs.Laws.{AskingShowsNothing, ExploredOrRefused};
+ghost use Rattle.mr_explore.specs.Laws.{AskingShowsNothing, ExploredOrRefused, OutcomesArePrinted};
 
 /// An input has one run at most from which it is explored, and nothing is printed of an input that is refused.
 pub fn explored_or_refused()
     ensures { ExploredOrRefused }
+{}
+
+/// What a run came to is written as `play` prints its cluster.
+pub fn outcomes_are_printed()
+    ensures { OutcomesArePrinted }
 {}
 
 /// An event by which somebody only asks, or is told no, changes nothing that `play` prints of a cluster. Nor does

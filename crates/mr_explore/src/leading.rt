@@ -25,7 +25,7 @@ pub fn check_scripts(alloc: Global, input: &[u8], table: &Table) -> Result<(), S
 
 // The same, of rows.
 fn check_rows(alloc: Global, input: &[u8], rows: &[Row]) -> Result<(), SimFault>
-    ensures lead { OnOk result (AllByRecursion (λ row. LeadsTo input.now row.script.items row.end.items) rows.now) }
+    ensures lead { OnOk result (AllByRecursion (λ row. LeadsTo input.now row.script.items row.end) rows.now) }
     ensures fault { IfErr result IsUnchecked }
 {
     for row in rows {
@@ -35,12 +35,13 @@ fn check_rows(alloc: Global, input: &[u8], rows: &[Row]) -> Result<(), SimFault>
 }
 
 fn check_row(alloc: Global, input: &[u8], row: &Row) -> Result<(), SimFault>
-    ensures leads { OnOk result (LeadsTo input.now row.now.script.items row.now.end.items) }
+    ensures leads { OnOk result (LeadsTo input.now row.now.script.items row.now.end) }
     ensures fault { IfErr result IsUnchecked }
 {
     let text = behind_job(alloc, input, &row.script)?;
+    let end = row.end.text(alloc)?;
     let printed = printed_of(alloc, &text)?;
-    if printed.text.as_slice() == row.end.as_slice() {
+    if printed.text.as_slice() == end.as_slice() {
         Ok(())
     } else {
         Err(SimFault::JournalMismatch)

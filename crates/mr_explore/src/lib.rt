@@ -3,7 +3,8 @@
 //! A job text with a script is played, and goes on as a calm of the newest master does. Into this calm faults are
 //! put, at each place. What one fault is, and where it may befall a run, is defined in `specs/Faults` (and its kinds
 //! in mr_explore_faults). Which runs there are is defined in `specs/Runs`, and what `explore` prints in `specs/Explored`.
-//! What is told of the ends of runs is defined in `specs/Ends` and in mr_explore_ends.
+//! What is told of the ends of runs is defined in `specs/Ends` and in mr_explore_ends. What a run came to is a value
+//! (`outcome_of` of `specs/Exploring`), and is written as `play` prints its cluster (`outcomes_are_printed`).
 //!
 //! # What is proved
 //!
@@ -47,9 +48,9 @@ mod winners;
 pub use asked::{Asked, Form};
 pub use exploration::Exploration;
 pub use explored::Explored;
-pub use laws::{asking_shows_nothing, explored_or_refused};
+pub use laws::{asking_shows_nothing, explored_or_refused, outcomes_are_printed};
 pub use leading::check_scripts;
-pub use mr_explore_ends::{Row, Table, best_of};
+pub use mr_explore_ends::{Outcome, Row, Table, best_of, read_goal};
 pub use mr_explore_faults::Fault;
 pub use output::{explore_output, explored_text};
 pub use watch::{Unwatched, Watch};

@@ -1,5 +1,5 @@
 //! The output of `explore`.
-ghost use Rattle.std.specs.Prelude.{◌≡◌, ◌++◌, IfOk, IfErr, OnOk};
+ghost use Rattle.std.specs.Prelude.{◌≡◌, true, IfOk, IfErr};
 ghost use Rattle.std.specs.Option.{option_map};
 ghost use Rattle.mr_explore_ends.specs.Founds.{as_found};
 ghost use Rattle.mr_explore.specs.Ends.{TellFails, TellsEnds, told_text};
@@ -11,9 +11,9 @@ use crate::exploration::Exploration;
 use crate::leading::check_scripts;
 use crate::sequential::sequential_of;
 use crate::watch::Watch;
-use mr_explore_ends::{Found, Sequential, put_found};
-use mr_explore_lines::put_ends;
-use mr_sim_commands::SimFault;
+use mr_explore_ends::{Found, Sequential, put_ends, put_found};
+use mr_script::Expectation;
+use mr_sim_commands::{Printed, SimFault};
 use std::alloc::{AllocError, Global};
 
 /// What `explore` prints of an input, which is a job text and a script behind it. It tells the ends of the input's
@@ -27,8 +27,9 @@ pub fn explore_output<W: Watch>(
     input: &[u8],
     asked: &Asked<'_>,
     watch: &W,
-) -> Result<Vec<u8>, SimFault>
-    ensures ok { IfOk result (λ text. PrintsExplored asked.now input.now text.items) }
+) -> Result<Printed, SimFault>
+    ensures ok { IfOk result (λ v. PrintsExplored asked.now input.now v.text.items) }
+    ensures met { IfOk result (λ v. v.met ≡ true) }
     ensures fault { IfErr result (ExploredFails asked.now input.now) }
 {
     let mut exploration = Exploration::new(alloc, input, asked.faults)?;
@@ -43,21 +44,23 @@ pub fn explored_text(
     alloc: Global,
     input: &[u8],
     exploration: &Exploration,
-    goal: Option<&str>,
+    goal: Option<&[Expectation]>,
     form: Form,
-) -> Result<Vec<u8>, SimFault>
-    ensures tells { IfOk result (λ text. TellsEnds input.now form (option_map (λ g. g.now) goal.entry) (found_of exploration.now) text.items) }
+) -> Result<Printed, SimFault>
+    ensures tells { IfOk result (λ v. TellsEnds input.now form (option_map (λ g. g.now) goal.entry) (found_of exploration.now) v.text.items) }
+    ensures met { IfOk result (λ v. v.met ≡ true) }
     ensures fault { IfErr result (TellFails input.now) }
 {
     let table = exploration.table();
     check_scripts(alloc, input, table)?;
-    let sequential = sequential_of(alloc, input)?;
+    let (sequential, idle_keys) = sequential_of(alloc, input)?;
     let found = Found {
         table,
         faults: exploration.faults(),
         whole: exploration.is_whole(),
     };
-    Ok(told(alloc, &found, &sequential, goal, form)?)
+    let text = told(alloc, &found, &sequential, goal, form)?;
+    Ok(Printed::plain(alloc, text, idle_keys))
 }
 
 // What was found, in this form.
@@ -65,14 +68,14 @@ fn told(
     alloc: Global,
     found: &Found<'_>,
     sequential: &Sequential,
-    goal: Option<&str>,
+    goal: Option<&[Expectation]>,
     form: Form,
 ) -> Result<Vec<u8>, AllocError>
     ensures { IfOk result (λ text. text.items ≡ told_text form sequential.now (option_map (λ g. g.now) goal.entry) (as_found found.now)) }
 {
     let mut text = Vec::new(alloc);
     match form {
-        Form::Text => put_found(&mut text, found, sequential, goal)?,
+        Form::Text => put_found(&mut text, alloc, found, sequential, goal)?,
         Form::Json => put_ends(&mut text, alloc, found, sequential, goal)?,
     }
     Ok(text)

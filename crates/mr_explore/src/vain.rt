@@ -1,5 +1,5 @@
 //! Whether a run goes on in vain: all who live wait for their masters, and all that comes is that they ask, and that nothing is answered, or no.
-ghost use Rattle.std.specs.Prelude.{◌≡◌, filter, length, IfOk, IfErr};
+ghost use Rattle.std.specs.Prelude.{◌≡◌, filter, length, IfOk};
 ghost use Rattle.std.specs.List.{list_all, list_any};
 ghost use Rattle.mr_explore_faults.specs.Kinds.{is_delivery};
 ghost use Rattle.mr_play.specs.mr_world.specs.Journal.{world_in};
@@ -10,10 +10,9 @@ ghost use Rattle.mr_explore.specs.inner.Players.{asks_on_in, vain_in};
 use mr_container::Wish;
 use mr_packet::{ContainerId, Envelope, Packet};
 use mr_play::mr_world::{MAX_CONTAINERS, World};
-use mr_play::{Player, read};
-use mr_sim_commands::SimFault;
+use mr_play::{Player, PlayerFault, read};
 use mr_world_events::Event;
-use std::alloc::Global;
+use std::alloc::{AllocError, Global};
 
 // Two questions and two answers.
 const PACKETS_OF_A_CONTAINER: usize = 4;
@@ -23,9 +22,8 @@ const EVENTS_OF_A_CONTAINER: usize = 12;
 const STEPS_OF_A_CONTAINER: usize = 2;
 
 /// Whether the run goes on in vain. Its only fault is an allocation failure.
-pub fn is_in_vain(alloc: Global, player: &Player) -> Result<bool, SimFault>
-    ensures is { IfOk result (λ vain. vain ≡ vain_in player.now) }
-    ensures memory { IfErr result (λ fault. fault ≡ SimFault.NoMemory) }
+pub fn is_in_vain(alloc: Global, player: &Player) -> Result<bool, AllocError>
+    ensures { IfOk result (λ vain. vain ≡ vain_in player.now) }
 {
     let living = living(&player.world)?;
     if all_wait(&player.world, &living) {
@@ -36,9 +34,8 @@ pub fn is_in_vain(alloc: Global, player: &Player) -> Result<bool, SimFault>
 }
 
 /// The containers that are alive.
-pub fn living(world: &World) -> Result<Vec<ContainerId>, SimFault>
-    ensures is { IfOk result (λ all. all.items ≡ living world.now.config (world_in world.now)) }
-    ensures memory { IfErr result (λ fault. fault ≡ SimFault.NoMemory) }
+pub fn living(world: &World) -> Result<Vec<ContainerId>, AllocError>
+    ensures { IfOk result (λ all. all.items ≡ living world.now.config (world_in world.now)) }
 {
     Ok(read(world.living())?)
 }
@@ -118,39 +115,24 @@ fn is_asking(packet: &Packet) -> bool
 }
 
 // Whether the next events of the calm only ask.
-fn asks_on(alloc: Global, player: &Player, living: &[ContainerId]) -> Result<bool, SimFault>
-    ensures is { IfOk result (λ on. on ≡ asks_on_in player.now living.now) }
-    ensures memory { IfErr result (λ fault. fault ≡ SimFault.NoMemory) }
+fn asks_on(alloc: Global, player: &Player, living: &[ContainerId]) -> Result<bool, AllocError>
+    ensures { IfOk result (λ on. on ≡ asks_on_in player.now living.now) }
 {
     let mut ahead = player.fork(alloc)?;
     ahead_asks(alloc, &mut ahead, living)
 }
 
 // The same. The player makes the events.
-fn ahead_asks(alloc: Global, ahead: &mut Player, living: &[ContainerId]) -> Result<bool, SimFault>
-    ensures is { IfOk result (λ on. on ≡ asks_on_in ahead.old living.now) }
-    ensures memory { IfErr result (λ fault. fault ≡ SimFault.NoMemory) }
+fn ahead_asks(alloc: Global, ahead: &mut Player, living: &[ContainerId]) -> Result<bool, AllocError>
+    ensures { IfOk result (λ on. on ≡ asks_on_in ahead.old living.now) }
 {
     let before = ahead.world.journal().len();
     let sent = ahead.world.bag().len();
     let newest = ahead.world.newest();
     match ahead.calm_for(alloc, newest, None, most_ahead(living) as u64) {
         Ok(()) => Ok(ask_behind(&ahead.world, living, before, sent)),
-        Err(fault) => match fault {
-            SimFault::Full => Ok(false),
-            SimFault::NoMemory => Err(SimFault::NoMemory),
-            SimFault::Read
-            | SimFault::Write
-            | SimFault::TooLong
-            | SimFault::BadCommand(_)
-            | SimFault::BadRecord(_)
-            | SimFault::Job(_)
-            | SimFault::Refused
-            | SimFault::JobFailed
-            | SimFault::TurnsSpent
-            | SimFault::JournalMismatch
-            | SimFault::Thread => unreachable!(),
-        },
+        Err(PlayerFault::Full) => Ok(false),
+        Err(PlayerFault::NoMemory) => Err(AllocError),
     }
 }
 

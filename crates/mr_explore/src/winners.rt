@@ -1,15 +1,16 @@
-//! Winners that were read of histories. Of one that comes again they are not read again: that takes longer than all else that is printed of a world.
-ghost use Rattle.std.specs.Prelude.{◌≡◌, ◌++◌, true, map, IfSome, IfOk, OnOk, IfErr};
+//! What runs came to, with winners that were read of histories. Of a history that comes again they are not read again: that takes longer than all else that is read of a world.
+ghost use Rattle.std.specs.Prelude.{◌≡◌, true, map, IfSome, IfOk};
 ghost use Rattle.std.specs.List.{flat_map};
 ghost use Rattle.mr_history.specs.Reading.{records_of};
 ghost use Rattle.mr_world_model.specs.Claims.{records};
 ghost use Rattle.mr_play.specs.mr_world.specs.Journal.{world_in};
-ghost use Rattle.mr_play.specs.WorldText.{won_in, world_text};
+ghost use Rattle.mr_play.specs.WorldText.{won_in};
+ghost use Rattle.mr_explore.specs.Exploring.{outcome_of};
 
+use mr_explore_ends::Outcome;
 use mr_ids::{AttemptId, JobId};
 use mr_play::mr_world::World;
-use mr_play::{print_world_won, read};
-use mr_sim_commands::SimFault;
+use mr_play::{print_visible, read};
 use std::alloc::{AllocError, Global};
 use std::marker::Model;
 
@@ -39,9 +40,8 @@ impl Model for Known {
 
 impl Known {
     // Those of a world.
-    fn read(alloc: Global, world: &World) -> Result<Known, SimFault>
-        ensures is { IfOk result (λ known. known ≡ won_in world.now.config (world_in world.now)) }
-        ensures memory { IfErr result (λ fault. fault ≡ SimFault.NoMemory) }
+    fn read(alloc: Global, world: &World) -> Result<Known, AllocError>
+        ensures { IfOk result (λ known. known ≡ won_in world.now.config (world_in world.now)) }
     {
         let segments = segments_of(alloc, world)?;
         let winners = winners_of(world)?;
@@ -68,16 +68,16 @@ impl Known {
         are_stable(world, &self.segments)
     }
 
-    fn winners(&self) -> &[Option<AttemptId>]
-        ensures { result.now ≡ self.now }
+    // Equal winners.
+    fn winners(&self, alloc: Global) -> Result<Vec<Option<AttemptId>>, AllocError>
+        ensures { IfOk result (λ all. all.items ≡ self.now) }
     {
-        &self.winners
+        Ok(Vec::from_slice(alloc, &self.winners)?)
     }
 }
 
-fn winners_of(world: &World) -> Result<Vec<Option<AttemptId>>, SimFault>
-    ensures is { IfOk result (λ all. all.items ≡ won_in world.now.config (world_in world.now)) }
-    ensures memory { IfErr result (λ fault. fault ≡ SimFault.NoMemory) }
+fn winners_of(world: &World) -> Result<Vec<Option<AttemptId>>, AllocError>
+    ensures { IfOk result (λ all. all.items ≡ won_in world.now.config (world_in world.now)) }
 {
     Ok(read(world.winners())?)
 }
@@ -123,17 +123,29 @@ impl Winners {
         }
     }
 
-    /// Writes what `play` prints of a world. It fails by an allocation failure.
-    pub fn print(&mut self, alloc: Global, out: &mut Vec<u8>, world: &World) -> Result<(), SimFault>
-        ensures text { OnOk result (out.new.items ≡ out.old.items ++ world_text world.now.config (world_in world.now)) }
-        ensures memory { IfErr result (λ fault. fault ≡ SimFault.NoMemory) }
+    /// What the run of a world came to. It fails by an allocation failure.
+    pub fn outcome_of(&mut self, alloc: Global, world: &World) -> Result<Outcome, AllocError>
+        ensures { IfOk result (λ outcome. outcome ≡ outcome_of world.now.config (world_in world.now)) }
+    {
+        let winners = self.winners_of(alloc, world)?;
+        outcome_with(alloc, world, winners)
+    }
+
+    // The winners of a world, which are read where its history was not read before.
+    fn winners_of(
+        &mut self,
+        alloc: Global,
+        world: &World,
+    ) -> Result<Vec<Option<AttemptId>>, AllocError>
+        ensures { IfOk result (λ all. all.items ≡ won_in world.now.config (world_in world.now)) }
     {
         if let Some(known) = self.of(world) {
-            return print_world_won(out, world, known.winners());
+            return Ok(known.winners(alloc)?);
         }
         let known = Known::read(alloc, world)?;
-        print_world_won(out, world, known.winners())?;
-        self.keep(known)
+        let winners = known.winners(alloc)?;
+        self.keep(known)?;
+        Ok(winners)
     }
 
     // Those of a world, if its history was read before.
@@ -149,13 +161,26 @@ impl Winners {
     }
 
     // Where there are too many, those that were read before are forgotten.
-    fn keep(&mut self, known: Known) -> Result<(), SimFault>
-        ensures memory { IfErr result (λ fault. fault ≡ SimFault.NoMemory) }
-    {
+    fn keep(&mut self, known: Known) -> Result<(), AllocError> {
         if self.known.len() == MOST_KNOWN {
             self.known.clear();
         }
         self.known.push(known)?;
         Ok(())
     }
+}
+
+// What the run of a world came to, whose winners were read before.
+fn outcome_with(
+    alloc: Global,
+    world: &World,
+    winners: Vec<Option<AttemptId>>,
+) -> Result<Outcome, AllocError>
+    requires { winners.items ≡ won_in world.now.config (world_in world.now) }
+    ensures { IfOk result (λ outcome. outcome ≡ outcome_of world.now.config (world_in world.now)) }
+{
+    let marker = read(world.marker())?;
+    let mut files = Vec::new(alloc);
+    print_visible(&mut files, world)?;
+    Ok(Outcome::new(winners, marker, world.outcome(), files))
 }

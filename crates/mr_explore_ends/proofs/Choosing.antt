@@ -1,19 +1,18 @@
--- Rows that are looked at in turn, numbers in turn, and lines that are passed.
-use Rattle.std.proofs.Common.{◌≡◌, ◌<◌, ◌+◌, ◌-◌, ℕ, zero, suc, List, [], ◌∷◌, ◌++◌, append_assoc, append-nil, length, map, drop, Option, Some, None, unwrap_or, if◌then◌else◌, get_or, drop-cons, refl, sym, ap, ◌∙◌, arith}
+-- Rows that are looked at in turn, and numbers in turn.
+use Rattle.std.proofs.Common.{◌≡◌, ◌<◌, ◌+◌, ℕ, zero, suc, List, ◌∷◌, ◌++◌, append_assoc, append-nil, length, map, drop, Option, if◌then◌else◌, get_or, drop-cons, sym, ap, ◌∙◌, arith}
 use Rattle.std.specs.List.{flat_map, range_with_len}
-use Rattle.mr_script.specs.Lines.{after}
+use Rattle.mr_script.specs.declared.expectation.Expectation.{Expectation}
 use Rattle.mr_explore_ends.specs.declared.row.Row.{Row}
 use Rattle.mr_explore_ends.specs.Rows.{as_end}
 use Rattle.mr_explore_ends.specs.Table.{End}
 use Rattle.mr_explore_ends.specs.Goals.{best_from, better, meets}
-use Rattle.mr_explore_ends.specs.Text.{behind_lines}
 
 -- the row at this place is looked at next
 next_row : (rows : List Row) (i : ℕ) (row : Row) → i < length rows → row ≡ get_or rows i row → map as_end (drop i rows) ≡ as_end row ∷ map as_end (drop (i + 1) rows)
 next_row rows i row few is =
     ap (map as_end) (drop-cons rows i row few) ∙ (ap (λ x. as_end x ∷ map as_end (drop (suc i) rows)) (sym is) ∙ ap (λ j. as_end row ∷ map as_end (drop j rows)) (let e : suc i ≡ i + 1 = omega arith in e))
 
-pub best_goes : (goal : List ℕ) (rows : List Row) (i : ℕ) (row : Row) (best new all : Option End) → i < length rows → row ≡ get_or rows i row → new ≡ (if meets goal row.end.items then better best (as_end row) else best) →
+pub best_goes : (goal : List Expectation) (rows : List Row) (i : ℕ) (row : Row) (best new all : Option End) → i < length rows → row ≡ get_or rows i row → new ≡ (if meets goal row.end then better best (as_end row) else best) →
     best_from goal best (map as_end (drop i rows)) ≡ all → best_from goal new (map as_end (drop (i + 1) rows)) ≡ all
 best_goes goal rows i row best new all few is chosen before = ap (λ b. best_from goal b (map as_end (drop (i + 1) rows))) chosen ∙ (sym (ap (best_from goal best) (next_row rows i row few is)) ∙ before)
 
@@ -38,28 +37,6 @@ number_goes f start out new n before written =
     written ∙ (ap (λ xs. xs ++ f n) before ∙ (append_assoc start (flat_map f (range_with_len 0 n)) (f n)
     ∙ ap (λ xs. start ++ xs) (ap (λ k. flat_map f (range_with_len 0 n) ++ f k) (let z : n ≡ 0 + n = omega arith in z) ∙ (sym (range_from f 0 n) ∙ ap (λ m. flat_map f (range_with_len 0 m)) (let e : suc n ≡ n + 1 = omega arith in e)))))
 
--- ---- lines that are passed
-
-none_behind : (n : ℕ) → behind_lines n [] ≡ []
-none_behind zero = refl
-none_behind (suc n) = none_behind n
-
-one_behind : (m n : ℕ) (text : List ℕ) → m ≡ suc n → behind_lines m text ≡ behind_lines n (unwrap_or (after 10 text) [])
-one_behind m n text e = ap (λ k. behind_lines k text) e
-
-pub line_goes : (lines n : ℕ) (text rest more : List ℕ) → n < lines → after 10 rest ≡ Some more → behind_lines (lines - n) rest ≡ behind_lines lines text → behind_lines (lines - (n + 1)) more ≡ behind_lines lines text
-line_goes lines n text rest more few e before =
-    let m : lines - n ≡ suc (lines - (n + 1)) = omega (arith, few) in
-    ap (λ o. behind_lines (lines - (n + 1)) (unwrap_or o [])) (sym e) ∙ (sym (one_behind (lines - n) (lines - (n + 1)) rest m) ∙ before)
-
-pub line_lacks : (lines n : ℕ) (text rest : List ℕ) → n < lines → after 10 rest ≡ None → behind_lines (lines - n) rest ≡ behind_lines lines text → [] ≡ behind_lines lines text
-line_lacks lines n text rest few e before =
-    let m : lines - n ≡ suc (lines - (n + 1)) = omega (arith, few) in
-    sym (none_behind (lines - (n + 1))) ∙ (ap (λ o. behind_lines (lines - (n + 1)) (unwrap_or o [])) (sym e) ∙ (sym (one_behind (lines - n) (lines - (n + 1)) rest m) ∙ before))
-
-pub lines_gone : (lines n : ℕ) (text rest : List ℕ) → n ≡ lines → behind_lines (lines - n) rest ≡ behind_lines lines text → rest ≡ behind_lines lines text
-lines_gone lines n text rest all before = ap (λ k. behind_lines k rest) (let e : 0 ≡ lines - n = omega (arith, all) in e) ∙ before
-
 -- ---- parts that are written in turn
 
 pub two_parts : (out first second one two : List ℕ) → first ≡ out ++ one → second ≡ first ++ two → second ≡ out ++ (one ++ two)
@@ -67,3 +44,6 @@ two_parts out first second one two a b = b ∙ (ap (λ xs. xs ++ two) a ∙ appe
 
 pub three_parts : (out first second third one two three : List ℕ) → first ≡ out ++ one → second ≡ first ++ two → third ≡ second ++ three → third ≡ out ++ ((one ++ two) ++ three)
 three_parts out first second third one two three a b c = two_parts out second third (one ++ two) three (two_parts out first second one two a b) c
+
+pub four_parts : (out first second third fourth one two three four : List ℕ) → first ≡ out ++ one → second ≡ first ++ two → third ≡ second ++ three → fourth ≡ third ++ four → fourth ≡ out ++ (((one ++ two) ++ three) ++ four)
+four_parts out first second third fourth one two three four a b c d = two_parts out third fourth ((one ++ two) ++ three) four (three_parts out first second third one two three a b c) d

@@ -1,3 +1,4 @@
 pub mod Choosing
+mod EndObjects
 mod Noting
 mod Pieces

@@ -2,8 +2,8 @@
 use Rattle.std.proofs.Common.{◌≡◌, ◌<◌, ◌≤◌, ◌+◌, ℕ, Bool, true, false, List, [], ◌∷◌, ◌++◌, length, length-append, map, Option, Some, None, Result, Ok, Err, OnOk, OnErr, get_or, set, refl, sym, ap, ◌∙◌, arith}
 use Rattle.std.proofs.lemmas.List.{get_or_at, set-get_or, set_at}
 use Rattle.std.specs.Prelude.{if◌then◌else◌}
-use Rattle.std.specs.Str.{bytes_eq}
 use Rattle.mr_explore_ends.specs.declared.row.Row.{Row}
+use Rattle.mr_explore_ends.specs.Outcomes.{same_outcome}
 use Rattle.mr_explore_ends.specs.Rows.{as_end}
 use Rattle.mr_explore_ends.specs.Table.{Came, End, met, noted_in, opened}
 use Rattle.mr_explore_ends.specs.inner.Rows.{place_from}
@@ -33,13 +33,13 @@ record IsAt (c : Came) (k : ℕ) (rows : List Row) (i : ℕ) : Type 0 where
 
 found_at : (c : Came) (k : ℕ) (rows : List Row) (i : ℕ) → place_from c.end k rows ≡ Some i → IsAt c k rows i
 found_at c k [] i e = absurd (not_some i e)
-found_at c k (r ∷ rs) i e = by (bytes_eq r.end.items c.end) refl e (found_at c (k + 1) rs i) where
-  goes : IsAt c (k + 1) rs i → bytes_eq r.end.items c.end ≡ false → IsAt c k (r ∷ rs) i
+found_at c k (r ∷ rs) i e = by (same_outcome r.end c.end) refl e (found_at c (k + 1) rs i) where
+  goes : IsAt c (k + 1) rs i → same_outcome r.end c.end ≡ false → IsAt c k (r ∷ rs) i
   goes at other =
       let place = at.place in
       record { front = r ∷ at.front; row = at.row; back = at.back; are = ap (λ xs. r ∷ xs) at.are; place = omega (arith, place); noted = ap (if_same c r rs) other ∙ ap (λ xs. as_end r ∷ xs) at.noted }
 
-  by : (b : Bool) → bytes_eq r.end.items c.end ≡ b → (if b then Some k else place_from c.end (k + 1) rs) ≡ Some i → (place_from c.end (k + 1) rs ≡ Some i → IsAt c (k + 1) rs i) → IsAt c k (r ∷ rs) i
+  by : (b : Bool) → same_outcome r.end c.end ≡ b → (if b then Some k else place_from c.end (k + 1) rs) ≡ Some i → (place_from c.end (k + 1) rs ≡ Some i → IsAt c (k + 1) rs i) → IsAt c k (r ∷ rs) i
   by true same here more = let place = some_is k i here in record { front = []; row = r; back = rs; are = refl; place = omega (arith, place); noted = ap (if_same c r rs) same }
   by false other here more = goes (more here) other
 
@@ -62,8 +62,8 @@ met_at c rows new i row d e is says =
 -- the end is new
 none_from : (c : Came) (k : ℕ) (rows : List Row) → place_from c.end k rows ≡ None → noted_in c (map as_end rows) ≡ map as_end rows ++ opened c ∷ []
 none_from c k [] e = refl
-none_from c k (r ∷ rs) e = by (bytes_eq r.end.items c.end) refl e (none_from c (k + 1) rs) where
-  by : (b : Bool) → bytes_eq r.end.items c.end ≡ b → (if b then Some k else place_from c.end (k + 1) rs) ≡ None → (place_from c.end (k + 1) rs ≡ None → noted_in c (map as_end rs) ≡ map as_end rs ++ opened c ∷ []) →
+none_from c k (r ∷ rs) e = by (same_outcome r.end c.end) refl e (none_from c (k + 1) rs) where
+  by : (b : Bool) → same_outcome r.end c.end ≡ b → (if b then Some k else place_from c.end (k + 1) rs) ≡ None → (place_from c.end (k + 1) rs ≡ None → noted_in c (map as_end rs) ≡ map as_end rs ++ opened c ∷ []) →
       noted_in c (map as_end (r ∷ rs)) ≡ map as_end (r ∷ rs) ++ opened c ∷ []
   by true same here more = absurd (not_some k (sym here))
   by false other here more = ap (if_same c r rs) other ∙ ap (λ xs. as_end r ∷ xs) (more here)

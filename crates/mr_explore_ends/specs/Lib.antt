@@ -1,7 +1,9 @@
--- Ends that runs came to. Table is what is known of them, Rows and Founds are how these are told, and Goals which are
--- sought. Text is what is printed, and inner has words for private contracts.
+-- Ends that runs came to. Outcomes is what a run comes to, Table what is known of all, Rows and Founds are how these are
+-- told, and Goals which are sought. Text and JsonLines are what is printed, and inner has words for private contracts.
 pub mod Founds
 pub mod Goals
+pub mod JsonLines
+pub mod Outcomes
 pub mod Rows
 pub mod Table
 pub mod Text

@@ -1,19 +1,19 @@
 -- The ends that runs came to, and what leads to each (our own profile).
 use Rattle.std.specs.Prelude.{ℕ, ◌+◌, ◌-◌, ◌^◌, min, Bool, ◌&&◌, ◌||◌, List, [], ◌∷◌, ◌++◌, ◌==◌, nat_lt, length, if◌then◌else◌}
-use Rattle.std.specs.Str.{bytes_eq}
 use Rattle.mr_world_events.specs.declared.event.Event.{Event}
 use Rattle.mr_script_writer.specs.Repeating.{repeating}
+use Rattle.mr_explore_ends.specs.Outcomes.{Outcome, same_outcome}
 
--- a run that was made: what is printed of the end that it came to, how many faults it has, and its events
+-- a run that was made: the end that it came to, how many faults it has, and its events
 pub record Came : Type 0 where
-  pub end : List ℕ
+  pub end : Outcome
   pub faults : ℕ
   pub events : List Event
 
--- an end: what is printed of it, and how many runs came to it. Of the first shortest of these runs it has how many
+-- an end, and how many runs came to it. Of the first shortest of these runs it has how many
 -- faults and events there are, and the script that repeats it
 pub record End : Type 0 where
-  pub end : List ℕ
+  pub end : Outcome
   pub runs : ℕ
   pub faults : ℕ
   pub events : ℕ
@@ -41,7 +41,7 @@ met faults events e =
 -- the ends in the order in which they came first
 abbrev pub noted_in : Came → List End → List End
 noted_in c [] = opened c ∷ []
-noted_in c (e ∷ es) = if bytes_eq e.end c.end then met c.faults c.events e ∷ es else e ∷ noted_in c es
+noted_in c (e ∷ es) = if same_outcome e.end c.end then met c.faults c.events e ∷ es else e ∷ noted_in c es
 
 -- how many runs were made, and the ends that came
 pub record Table : Type 0 where

@@ -1,31 +1,25 @@
 -- What is printed of the ends that runs came to (our own profile). All but the scripts stands in comments, so that each part of it, behind the job text, is an input of `play`.
-use Rattle.std.specs.Prelude.{ℕ, zero, suc, ◌+◌, Bool, true, false, List, [], ◌∷◌, ◌++◌, ◌==◌, length, codes, decimal, Option, Some, None, unwrap_or, if◌then◌else◌}
+use Rattle.std.specs.Prelude.{ℕ, ◌+◌, Bool, true, false, List, [], ◌∷◌, ◌++◌, ◌==◌, length, codes, decimal, Option, Some, None, if◌then◌else◌}
 use Rattle.std.specs.List.{flat_map, range_with_len}
 use Rattle.std.specs.Str.{bytes_eq}
-use Rattle.mr_script.specs.Lines.{after}
+use Rattle.mr_script.specs.declared.expectation.Expectation.{Expectation}
 use Rattle.mr_script_writer.specs.Repeating.{commented}
+use Rattle.mr_explore_ends.specs.Outcomes.{Outcome, outcome_text}
 use Rattle.mr_explore_ends.specs.Table.{End, Table}
 use Rattle.mr_explore_ends.specs.Goals.{best_of}
 
 -- ---- whether the files of an end are those of the sequential execution
 
--- what stands behind the first n lines of a text
-abbrev pub behind_lines : ℕ → List ℕ → List ℕ
-behind_lines zero bytes = bytes
-behind_lines (suc n) bytes = behind_lines n (unwrap_or (after 10 bytes) [])
-
--- what `seq` prints of the job, if it prints anything, and how many lines of an end stand before its files. These are
--- a winner for each reduce, the marker, and the outcome
+-- what `seq` prints of the job, if it prints anything
 pub record Sequential : Type 0 where
   pub files : Option (List ℕ)
-  pub lines : ℕ
 
 abbrev pub are_files : Option (List ℕ) → List ℕ → Bool
 are_files None files = false
 are_files (Some said) files = bytes_eq files said
 
-abbrev pub is_sequential : Sequential → List ℕ → Bool
-is_sequential s end = are_files s.files (behind_lines s.lines end)
+abbrev pub is_sequential : Sequential → Outcome → Bool
+is_sequential s end = are_files s.files end.files
 
 -- ---- the text
 
@@ -58,7 +52,7 @@ shortest_line e =
 
 -- an end: that line, what is printed of it, whether its files are those of the sequential execution, and the script
 abbrev pub end_text : Sequential → End → List ℕ
-end_text s e = shortest_line e ++ commented e.end ++ sequential_line (is_sequential s e.end) ++ e.script
+end_text s e = shortest_line e ++ commented (outcome_text e.end) ++ sequential_line (is_sequential s e.end) ++ e.script
 
 -- an end behind an empty line, if its script has just this many faults
 abbrev pub text_if : Sequential → ℕ → End → List ℕ
@@ -77,10 +71,10 @@ abbrev pub best_text : Sequential → Option End → List ℕ
 best_text s None = codes "none\n"
 best_text s (Some e) = end_text s e
 
-abbrev pub found_text : Sequential → List ℕ → Found → List ℕ
+abbrev pub found_text : Sequential → List Expectation → Found → List ℕ
 found_text s goal f = runs_text f ++ 10 ∷ best_text s (best_of goal f.table.ends)
 
 -- what is printed, of all ends or of the best that meets a goal
-abbrev pub explored_text : Sequential → Option (List ℕ) → Found → List ℕ
+abbrev pub explored_text : Sequential → Option (List Expectation) → Found → List ℕ
 explored_text s None f = all_text s f
 explored_text s (Some goal) f = found_text s goal f

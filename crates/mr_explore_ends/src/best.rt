@@ -7,10 +7,11 @@ ghost use Rattle.mr_explore_ends.specs.Rows.{as_end};
 use crate::goal::meets;
 use crate::row::Row;
 use crate::table::Table;
+use mr_script::Expectation;
 
 /// Of the ends that meet a goal, the first of those with the fewest faults, and then the fewest events. There is none
 /// where no end meets it.
-pub fn best_of<'a>(table: &'a Table, goal: &[u8]) -> Option<&'a Row>
+pub fn best_of<'a>(table: &'a Table, goal: &[Expectation]) -> Option<&'a Row>
     ensures { option_map (λ row. as_end row.now) result ≡ best_of goal.now table.now.ends }
 {
     let mut best: Option<&'a Row> = None;
@@ -21,8 +22,8 @@ pub fn best_of<'a>(table: &'a Table, goal: &[u8]) -> Option<&'a Row>
 }
 
 // The better of both, if the row meets the goal.
-fn better_if<'a>(goal: &[u8], best: Option<&'a Row>, row: &'a Row) -> Option<&'a Row>
-    ensures { option_map (λ row. as_end row.now) result ≡ (if meets goal.now row.now.end.items then better (option_map (λ row. as_end row.now) best.entry) (as_end row.now) else option_map (λ row. as_end row.now) best.entry) }
+fn better_if<'a>(goal: &[Expectation], best: Option<&'a Row>, row: &'a Row) -> Option<&'a Row>
+    ensures { option_map (λ row. as_end row.now) result ≡ (if meets goal.now row.now.end then better (option_map (λ row. as_end row.now) best.entry) (as_end row.now) else option_map (λ row. as_end row.now) best.entry) }
 {
     if meets(goal, &row.end) {
         better(best, row)

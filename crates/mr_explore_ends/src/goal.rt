@@ -1,24 +1,48 @@
 //! Ends that are sought.
-ghost use Rattle.std.specs.Prelude.{◌≡◌, [], ◌++◌, ◌∷◌, IfOk, OnOk, codes};
-ghost use Rattle.mr_explore_ends.specs.Goals.{SaysGoal, goal_script, meets, without_blank};
+ghost use Rattle.std.specs.Prelude.{◌≡◌, IfOk, IfSome, IfNone};
+ghost use Rattle.std.specs.List.{slice_get};
+ghost use Rattle.std.specs.Option.{option_eq};
+ghost use Rattle.mr_ids.specs.Same.{same_attempt};
+ghost use Rattle.mr_explore_ends.specs.Goals.{IsGoal, IsNoGoal, meets, without_blank};
+ghost use Rattle.mr_explore_ends.specs.Outcomes.{has_winner, is_so};
 
-use crate::lines::has_line;
-use mr_ids::JobId;
-use mr_script::{ScriptFault, commands_of, split_once};
+use crate::outcome::{Outcome, are_flags, are_told};
+use mr_ids::AttemptId;
+use mr_script::{Expectation, expected, split_once};
 use std::alloc::{AllocError, Global};
 
-/// Whether an end has each line of a goal, as `marker yes, outcome failed`: lines of what `play` prints, with a comma and a blank between.
-pub fn meets(goal: &[u8], end: &[u8]) -> bool
+/// Whether an end is as a goal says, in each of its lines.
+pub fn meets(goal: &[Expectation], end: &Outcome) -> bool
     ensures { result ≡ meets goal.now end.now }
 {
-    let mut rest = goal;
-    while let Some((line, after)) = split_once(rest, b',') {
-        if !has_line(end, without_blank(line)) {
-            return false;
-        }
-        rest = after;
+    goal.iter().all(|line| is_so(end, line))
+}
+
+// Whether an end is as is expected.
+fn is_so(end: &Outcome, expectation: &Expectation) -> bool
+    ensures { result ≡ is_so end.now expectation.now }
+{
+    match expectation {
+        Expectation::Winner(reduce, won) => has_winner(end, *reduce, won),
+        Expectation::Marker(there) => are_flags(end.marker(), *there),
+        Expectation::Outcome(told) => are_told(end.told(), *told),
     }
-    has_line(end, without_blank(rest))
+}
+
+// Whether there is a reduce of this number, and this is its winner.
+fn has_winner(end: &Outcome, reduce: u32, won: &Option<AttemptId>) -> bool
+    ensures { result ≡ has_winner won.now (slice_get end.now.winners reduce) }
+{
+    match end.winners().get(reduce as usize) {
+        Some(winner) => is_winner(winner, won),
+        None => false,
+    }
+}
+
+fn is_winner(a: &Option<AttemptId>, b: &Option<AttemptId>) -> bool
+    ensures { result ≡ option_eq same_attempt a.now b.now }
+{
+    *a == *b
 }
 
 fn without_blank(line: &[u8]) -> &[u8]
@@ -30,40 +54,34 @@ fn without_blank(line: &[u8]) -> &[u8]
     }
 }
 
-/// Whether each line of a goal is one that `play` may print of winners, the marker or the outcome. It fails where there is no memory.
-pub fn is_goal(alloc: Global, goal: &str) -> Result<bool, AllocError>
-    ensures { IfOk result (SaysGoal goal.now) }
+/// The goal that a text is, as `marker yes, outcome failed`: lines that `play` may print of winners, the marker or the outcome, with a comma and a blank
+/// between. None is answered where one of them is no such line. It fails where there is no memory.
+pub fn read_goal(alloc: Global, text: &str) -> Result<Option<Vec<Expectation>>, AllocError>
+    ensures some { IfOk result (λ read. IfSome read (λ goal. IsGoal text.now goal.items)) }
+    ensures none { IfOk result (λ read. IfNone read (IsNoGoal text.now)) }
 {
-    let script = goal_script(alloc, goal.as_bytes())?;
-    let any = JobId {
-        start: 0,
-        number: 0,
-    };
-    match commands_of(alloc, any, &script, 1) {
-        Ok(_) => Ok(true),
-        Err(ScriptFault::BadCommand(_)) => Ok(false),
-        Err(ScriptFault::NoMemory) => Err(AllocError),
-    }
+    read_lines(alloc, text.as_bytes())
 }
 
-// The lines of a goal as lines of a script that expects them.
-fn goal_script(alloc: Global, goal: &[u8]) -> Result<Vec<u8>, AllocError>
-    ensures { IfOk result (λ script. script.items ≡ goal_script goal.now) }
+// The same, of the bytes of a text.
+fn read_lines(alloc: Global, text: &[u8]) -> Result<Option<Vec<Expectation>>, AllocError>
+    ensures some { IfOk result (λ read. IfSome read (λ goal. IsGoal text.now goal.items)) }
+    ensures none { IfOk result (λ read. IfNone read (IsNoGoal text.now)) }
 {
-    let mut script = Vec::new(alloc);
-    let mut rest = goal;
+    // For the prover: a type that an expectation holds.
+    let _winner: Option<AttemptId> = None;
+    let mut goal = Vec::new(alloc);
+    let mut rest = text;
     while let Some((line, after)) = split_once(rest, b',') {
-        put_expecting(&mut script, without_blank(line))?;
+        let Some(expectation) = expected(without_blank(line)) else {
+            return Ok(None);
+        };
+        goal.push(expectation)?;
         rest = after;
     }
-    put_expecting(&mut script, without_blank(rest))?;
-    Ok(script)
-}
-
-fn put_expecting(out: &mut Vec<u8>, line: &[u8]) -> Result<(), AllocError>
-    ensures { OnOk result (out.new.items ≡ out.old.items ++ (codes "expect " ++ (line.now ++ 10 ∷ []))) }
-{
-    out.extend_from_slice(b"expect ")?;
-    out.extend_from_slice(line)?;
-    out.extend_from_slice(b"\n")
+    let Some(expectation) = expected(without_blank(rest)) else {
+        return Ok(None);
+    };
+    goal.push(expectation)?;
+    Ok(Some(goal))
 }

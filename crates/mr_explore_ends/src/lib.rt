@@ -6,24 +6,31 @@
 //!   that came before counts one run more. Its script becomes that of the new run where this has fewer faults than
 //!   the shortest so far, or as many faults and fewer events. So of several runs that are as short the first is kept.
 //!   An end that is new stands behind the others. A failed allocation leaves the table as it was.
-//! - **`best_of`** answers, of the ends that have each line of a goal, the first of those with the fewest faults and
-//!   events. It answers none where no end has them.
-//! - `is_goal` says whether each line of a goal is one that `play` may print, which is one that a script may expect.
+//! - **`best_of`** answers, of the ends that are as each line of a goal says, the first of those with the fewest faults and
+//!   events. It answers none where none is.
+//! - **`read_goal`** reads a goal exactly where each of its lines is one that `play` may print, which is one that a script
+//!   may expect (`IsGoal` of `specs/Goals`). Else it answers none.
+//! - **`Outcome`** is what a run came to, as a value. `Outcome::text` writes it exactly as `play` prints it (`outcome_text`
+//!   of `specs/Outcomes`). No text that was printed is read again.
 //! - **`put_found`** writes exactly the text of the definition (`explored_text` of `specs/Text`), byte for byte: of all ends, or of the best that meets a goal.
-//! - `Row::is_sequential` says whether what stands behind an end's lines is what `seq` prints.
+//! - **`put_ends`** writes exactly the lines of JSON of the definition (`ends_json` of `specs/JsonLines`). An object's
+//!   text is that of `serde_json` for the value that the definition names (`compact_text`).
+//! - `Sequential::is_of` says whether the files of an end are just what `seq` prints.
 #![tactic(auto)]
 
 mod best;
 mod goal;
-mod lines;
+mod json_lines;
+mod outcome;
 mod row;
 mod sequential;
 mod table;
 mod text;
 
 pub use best::best_of;
-pub use goal::{is_goal, meets};
-pub use lines::behind_lines;
+pub use goal::{meets, read_goal};
+pub use json_lines::put_ends;
+pub use outcome::Outcome;
 pub use row::Row;
 pub use sequential::Sequential;
 pub use table::Table;

@@ -4,6 +4,7 @@ ghost use Rattle.mr_script_writer.specs.Repeating.{repeating};
 ghost use Rattle.mr_explore_ends.specs.Rows.{as_end};
 ghost use Rattle.mr_explore_ends.specs.Table.{is_shorter, met, opened};
 
+use crate::outcome::Outcome;
 use mr_script_writer::put_script;
 use mr_world_events::Event;
 use std::alloc::{AllocError, Global};
@@ -11,8 +12,8 @@ use std::alloc::{AllocError, Global};
 /// An end: how many runs came to it, and which of them has the fewest faults, and then the fewest events.
 #[derive(Debug, Drop)]
 pub struct Row {
-    /// What is printed of it.
-    pub end: Vec<u8>,
+    /// What the runs came to.
+    pub end: Outcome,
     /// From 1.
     pub runs: u64,
     pub faults: u32,
@@ -26,11 +27,11 @@ impl Row {
     /// An end to which one run came. It fails where there is no memory.
     pub fn new(
         alloc: Global,
-        end: Vec<u8>,
+        end: Outcome,
         faults: u32,
         events: &[Event],
     ) -> Result<Row, AllocError>
-        ensures { IfOk result (λ row. as_end row ≡ opened (record { end = end.items; faults = faults; events = events.now })) }
+        ensures { IfOk result (λ row. as_end row ≡ opened (record { end = end; faults = faults; events = events.now })) }
     {
         let script = script_of(alloc, events)?;
         Ok(Row {

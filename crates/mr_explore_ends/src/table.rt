@@ -5,6 +5,7 @@ ghost use Rattle.mr_explore_ends.specs.Table.{empty, met, noted, noted_in, opene
 ghost use Rattle.mr_explore_ends.specs.declared.row.Row.{Row};
 ghost use Rattle.mr_explore_ends.specs.inner.Rows.{place_from};
 
+use crate::outcome::Outcome;
 use crate::row::Row;
 use mr_world_events::Event;
 use std::alloc::{AllocError, Global};
@@ -42,11 +43,11 @@ impl Table {
     pub fn note(
         &mut self,
         alloc: Global,
-        end: Vec<u8>,
+        end: Outcome,
         faults: u32,
         events: &[Event],
     ) -> Result<(), AllocError>
-        ensures noted { OnOk result (self.new ≡ noted (record { end = end.items; faults = faults; events = events.now }) self.old) }
+        ensures noted { OnOk result (self.new ≡ noted (record { end = end; faults = faults; events = events.now }) self.old) }
         ensures stays { OnErr result (self.new ≡ self.old) }
     {
         note_in(alloc, &mut self.rows, end, faults, events)?;
@@ -73,11 +74,11 @@ impl Table {
 fn note_in(
     alloc: Global,
     rows: &mut Vec<Row>,
-    end: Vec<u8>,
+    end: Outcome,
     faults: u32,
     events: &[Event],
 ) -> Result<(), AllocError>
-    ensures noted { OnOk result (map as_end rows.new.items ≡ noted_in (record { end = end.items; faults = faults; events = events.now }) (map as_end rows.old.items)) }
+    ensures noted { OnOk result (map as_end rows.new.items ≡ noted_in (record { end = end; faults = faults; events = events.now }) (map as_end rows.old.items)) }
     ensures stays { OnErr result (rows.new.items ≡ rows.old.items) }
 {
     match place_of(rows, &end) {
@@ -90,11 +91,11 @@ fn note_in(
 }
 
 // Where the first row of the end stands.
-fn place_of(rows: &[Row], end: &[u8]) -> Option<usize>
+fn place_of(rows: &[Row], end: &Outcome) -> Option<usize>
     ensures { result ≡ place_from end.now 0 rows.now }
 {
     for (place, row) in rows.iter().enumerate() {
-        if row.end.as_slice() == end {
+        if row.end.is_same(end) {
             return Some(place);
         }
     }

@@ -11,8 +11,9 @@ use crate::row::Row;
 use crate::sequential::Sequential;
 use crate::table::Table;
 use itoa::Buffer;
+use mr_script::Expectation;
 use mr_script_writer::put_comments;
-use std::alloc::AllocError;
+use std::alloc::{AllocError, Global};
 
 /// What was found: the table of the runs that were made, how many faults a run has at most, and whether these are all.
 #[derive(Clone, Copy, Debug)]
@@ -25,31 +26,38 @@ pub struct Found<'a> {
 /// The ends that came, those of the fewest faults first; or of those that meet a goal the best. It fails where there is no memory.
 pub fn put_found(
     out: &mut Vec<u8>,
+    alloc: Global,
     found: &Found<'_>,
     sequential: &Sequential,
-    goal: Option<&str>,
+    goal: Option<&[Expectation]>,
 ) -> Result<(), AllocError>
     ensures { OnOk result (out.new.items ≡ out.old.items ++ explored_text sequential.now (option_map (λ g. g.now) goal.entry) (as_found found.now)) }
 {
     match goal {
-        Some(goal) => put_best(out, found, sequential, goal.as_bytes()),
-        None => put_all(out, found, sequential),
+        Some(goal) => put_best(out, alloc, found, sequential, goal),
+        None => put_all(out, alloc, found, sequential),
     }
 }
 
 // All ends, those of the fewest faults first.
-fn put_all(out: &mut Vec<u8>, found: &Found<'_>, sequential: &Sequential) -> Result<(), AllocError>
+fn put_all(
+    out: &mut Vec<u8>,
+    alloc: Global,
+    found: &Found<'_>,
+    sequential: &Sequential,
+) -> Result<(), AllocError>
     ensures { OnOk result (out.new.items ≡ out.old.items ++ all_text sequential.now (as_found found.now)) }
 {
     put_runs(out, found)?;
     put_count(out, b", ", found.table.rows().len() as u64, b" end")?;
     out.extend_from_slice(b"\n")?;
-    put_by_faults(out, found.table, found.faults, sequential)
+    put_by_faults(out, alloc, found.table, found.faults, sequential)
 }
 
 // The ends whose scripts have at most `faults` faults, those with fewer first.
 fn put_by_faults(
     out: &mut Vec<u8>,
+    alloc: Global,
     table: &Table,
     faults: u32,
     sequential: &Sequential,
@@ -57,7 +65,7 @@ fn put_by_faults(
     ensures { OnOk result (out.new.items ≡ out.old.items ++ flat_map (ends_text sequential.now table.now.ends) (range_with_len 0 (faults + 1))) }
 {
     for number in 0..u64::from(faults) + 1 {
-        put_ends(out, table, number, sequential)?;
+        put_ends(out, alloc, table, number, sequential)?;
     }
     Ok(())
 }
@@ -65,6 +73,7 @@ fn put_by_faults(
 // The ends whose scripts have just this many faults.
 fn put_ends(
     out: &mut Vec<u8>,
+    alloc: Global,
     table: &Table,
     faults: u64,
     sequential: &Sequential,
@@ -72,7 +81,7 @@ fn put_ends(
     ensures { OnOk result (out.new.items ≡ out.old.items ++ ends_text sequential.now table.now.ends faults) }
 {
     for row in table.rows() {
-        put_if(out, row, faults, sequential)?;
+        put_if(out, alloc, row, faults, sequential)?;
     }
     Ok(())
 }
@@ -80,6 +89,7 @@ fn put_ends(
 // An end, if its script has just this many faults.
 fn put_if(
     out: &mut Vec<u8>,
+    alloc: Global,
     row: &Row,
     faults: u64,
     sequential: &Sequential,
@@ -90,32 +100,34 @@ fn put_if(
         return Ok(());
     }
     out.extend_from_slice(b"\n")?;
-    put_end(out, row, sequential)
+    put_end(out, alloc, row, sequential)
 }
 
 // The best end that meets a goal, or `none`.
 fn put_best(
     out: &mut Vec<u8>,
+    alloc: Global,
     found: &Found<'_>,
     sequential: &Sequential,
-    goal: &[u8],
+    goal: &[Expectation],
 ) -> Result<(), AllocError>
     ensures { OnOk result (out.new.items ≡ out.old.items ++ found_text sequential.now goal.now (as_found found.now)) }
 {
     put_runs(out, found)?;
     out.extend_from_slice(b"\n")?;
-    put_best_end(out, best_of(found.table, goal), sequential)
+    put_best_end(out, alloc, best_of(found.table, goal), sequential)
 }
 
 fn put_best_end(
     out: &mut Vec<u8>,
+    alloc: Global,
     best: Option<&Row>,
     sequential: &Sequential,
 ) -> Result<(), AllocError>
     ensures { OnOk result (out.new.items ≡ out.old.items ++ best_text sequential.now (option_map (λ row. as_end row.now) best.entry)) }
 {
     match best {
-        Some(row) => put_end(out, row, sequential),
+        Some(row) => put_end(out, alloc, row, sequential),
         None => out.extend_from_slice(b"none\n"),
     }
 }
@@ -139,11 +151,17 @@ fn put_if_not_all(out: &mut Vec<u8>, whole: bool) -> Result<(), AllocError>
 }
 
 // One end.
-fn put_end(out: &mut Vec<u8>, row: &Row, sequential: &Sequential) -> Result<(), AllocError>
+fn put_end(
+    out: &mut Vec<u8>,
+    alloc: Global,
+    row: &Row,
+    sequential: &Sequential,
+) -> Result<(), AllocError>
     ensures { OnOk result (out.new.items ≡ out.old.items ++ end_text sequential.now (as_end row.now)) }
 {
+    let text = row.end.text(alloc)?;
     put_shortest(out, row)?;
-    put_comments(out, &row.end)?;
+    put_comments(out, &text)?;
     put_sequential(out, sequential.is_of(&row.end))?;
     out.extend_from_slice(&row.script)
 }

@@ -5,8 +5,8 @@ use Rattle.mr_script.specs.declared.event_name.EventName.{EventName}
 use Rattle.mr_world.specs.Limits.{within}
 use Rattle.mr_play.specs.declared.calm.Coming.{Coming}
 use Rattle.mr_play.specs.declared.calm.Coming.TheVariants as coming
-use Rattle.mr_sim_commands.specs.declared.fault.SimFault.{SimFault}
-use Rattle.mr_sim_commands.specs.declared.fault.SimFault.TheVariants as fault
+use Rattle.mr_play.specs.declared.fault.PlayerFault.{PlayerFault}
+use Rattle.mr_play.specs.declared.fault.PlayerFault.TheVariants as fault
 use Rattle.mr_play.specs.declared.player.Player.{Player}
 use Rattle.mr_sim_commands.specs.declared.job.submission.JobKind.{JobKind}
 use Rattle.mr_play.specs.EventNames.{stops_at}
@@ -21,20 +21,9 @@ names_are p k (coming.Launch t) = refl
 names_are p k (coming.Step c n) = refl
 names_are p k (coming.Compute c) = refl
 
-pub full_then : (f : SimFault) (P Q : Type 0) → (P → Q) → FullWhere f P → FullWhere f Q
+pub full_then : (f : PlayerFault) (P Q : Type 0) → (P → Q) → FullWhere f P → FullWhere f Q
 full_then fault.NoMemory P Q go h = tt
 full_then fault.Full P Q go h = go h
-full_then fault.Read P Q go h = h
-full_then fault.Write P Q go h = h
-full_then fault.TooLong P Q go h = h
-full_then (fault.BadCommand n) P Q go h = h
-full_then (fault.BadRecord n) P Q go h = h
-full_then (fault.Job e) P Q go h = h
-full_then fault.Refused P Q go h = h
-full_then fault.JobFailed P Q go h = h
-full_then fault.TurnsSpent P Q go h = h
-full_then fault.JournalMismatch P Q go h = h
-full_then fault.Thread P Q go h = h
 
 module _ (old : Player) (k : ℕ) (stop : Option EventName) (on : is_through old.world.config (cluster_in old) k ≡ false) where
   abbrev mid : Player
@@ -58,12 +47,12 @@ module _ (old : Player) (k : ℕ) (stop : Option EventName) (on : is_through old
   same_calm new most same = ap (λ (j : JobKind). calms (job_as j) old.world.config (within old.world.config) k stop most (state_in new)) (sym same.job)
       ∙ ap (λ (cfg : Config). calms (job_as new.job) cfg (within cfg) k stop most (state_in new)) (sym same.config)
 
-  pub calmed_once : (m new : Player) (c : Coming) (r : Result Bool SimFault) → m ≡ mid →
+  pub calmed_once : (m new : Player) (c : Coming) (r : Result Bool PlayerFault) → m ≡ mid →
       (is_through m.world.config (cluster_in m) k ≡ false → Some (next_in m k c) ≡ next_of (job_as m.job) m.world.config (within m.world.config) (cluster_in m) k m.stepped m.cursor) →
       stops_at stop (names_of c) ≡ false → MakesNext m (next_in m k c) r new → CalmsOnce old k stop r new
   calmed_once m new c r e is more h = by r (goes c (subst (λ (m : Player). is_through m.world.config (cluster_in m) k ≡ false → Some (next_in m k c) ≡ next_of (job_as m.job) m.world.config (within m.world.config) (cluster_in m) k m.stepped m.cursor) e is on) more)
       (subst (λ (m : Player). MakesNext m (next_in m k c) r new) e h) where
-        by : (r : Result Bool SimFault) → ((most : ℕ) → calm_of old k stop (suc most) ≡ made_then mid (next_in mid k c) (calms (job_as old.job) old.world.config (within old.world.config) k stop most)) →
+        by : (r : Result Bool PlayerFault) → ((most : ℕ) → calm_of old k stop (suc most) ≡ made_then mid (next_in mid k c) (calms (job_as old.job) old.world.config (within old.world.config) k stop most)) →
             MakesNext mid (next_in mid k c) r new → CalmsOnce old k stop r new
         by (Ok true) go h = (record { job = h.0.job; config = h.0.config; noted = h.0.noted }, λ most. go most ∙ h.1 (calms (job_as old.job) old.world.config (within old.world.config) k stop most) ∙ same_calm new most h.0)
         by (Ok false) go h = (record { job = h.0.job; config = h.0.config; noted = h.0.noted }, λ most. go most ∙ h.1 (calms (job_as old.job) old.world.config (within old.world.config) k stop most))
@@ -100,7 +89,7 @@ module _ (begin now new : Player) (k : ℕ) (stop : Option EventName) (total mad
   pub ended : made < total → CalmsOnce now k stop (Ok false) new → Reaches begin (calm_of begin k stop total) new
   ended few h = let r = rest few in record { same = both h.0; state = all_is few r.0 r.1 ∙ h.1 r.0 }
 
-  pub failed : made < total → (f : SimFault) → CalmsOnce now k stop (Err f) new → FullWhere f (calm_of begin k stop total ≡ None)
+  pub failed : made < total → (f : PlayerFault) → CalmsOnce now k stop (Err f) new → FullWhere f (calm_of begin k stop total ≡ None)
   failed few f h = let r = rest few in full_then f _ _ (λ all. all_is few r.0 r.1 ∙ all r.0) h
 
   pub all_made : total ≤ made → Reaches begin (calm_of begin k stop total) now

@@ -6,7 +6,7 @@ use Rattle.std.specs.Option.{option_and_then}
 use Rattle.mr_world_model.specs.Packets.{Config}
 use Rattle.mr_script.specs.declared.command.Command.{Command}
 use Rattle.mr_world.specs.Limits.{within}
-use Rattle.mr_sim_commands.specs.declared.fault.SimFault.{SimFault}
+use Rattle.mr_play.specs.declared.fault.PlayerFault.{PlayerFault}
 use Rattle.mr_play.specs.declared.player.Player.{Player}
 use Rattle.mr_sim_commands.specs.declared.job.submission.JobKind.{JobKind}
 use Rattle.mr_play.specs.Text.{job_as}
@@ -18,13 +18,13 @@ use Rattle.mr_play.proofs.Calmly.{full_then}
 use Rattle.mr_play.proofs.Playing.{noted_then, played_then}
 
 -- what a `?` answers where a call has failed
-pub failed_goes : {A : Type 0} (old new : Player) (said : Option Played) (f : SimFault) (r : Result A SimFault) → FullWhere f (said ≡ None) → IsErrAnd r (λ g. g ≡ f) → Goes old said r new
+pub failed_goes : {A : Type 0} (old new : Player) (said : Option Played) (f : PlayerFault) (r : Result A PlayerFault) → FullWhere f (said ≡ None) → IsErrAnd r (λ g. g ≡ f) → Goes old said r new
 failed_goes {A} old new said f r h g = let z = err_from_is_err_and r g in
-    subst (λ (y : Result A SimFault). Goes old said y new) (sym z.1) (subst (λ h. FullWhere h (said ≡ None)) (sym z.2) h)
+    subst (λ (y : Result A PlayerFault). Goes old said y new) (sym z.1) (subst (λ h. FullWhere h (said ≡ None)) (sym z.2) h)
 
-failed_noting : {A : Type 0} (old new : Player) (said : Option Played) (more : List Stretch) (f : SimFault) (r : Result A SimFault) → FullWhere f (said ≡ None) → IsErrAnd r (λ g. g ≡ f) → GoesNoting old said more r new
+failed_noting : {A : Type 0} (old new : Player) (said : Option Played) (more : List Stretch) (f : PlayerFault) (r : Result A PlayerFault) → FullWhere f (said ≡ None) → IsErrAnd r (λ g. g ≡ f) → GoesNoting old said more r new
 failed_noting {A} old new said more f r h g = let z = err_from_is_err_and r g in
-    subst (λ (y : Result A SimFault). GoesNoting old said more y new) (sym z.1) (subst (λ h. FullWhere h (said ≡ None)) (sym z.2) h)
+    subst (λ (y : Result A PlayerFault). GoesNoting old said more y new) (sym z.1) (subst (λ h. FullWhere h (said ≡ None)) (sym z.2) h)
 
 -- what commands make of a player, and one
 abbrev pub played_by : Player → List (ℕ × Command) → Option Played
@@ -68,6 +68,6 @@ module _ (old mid new : Player) (cs : List (ℕ × Command)) (x : ℕ × Command
         ∙ ap (λ xs. old.stretches.items ++ xs) (sym (noted_is g.state));
   }
 
-  pub one_failed : {A : Type 0} (all ds : List (ℕ × Command)) (f : SimFault) (r : Result A SimFault) → all ≡ cs ++ x ∷ ds → FullWhere f (obeyed_by mid x ≡ None) → IsErrAnd r (λ g. g ≡ f) → GoesNoting old (played_by old all) (noted_by old all) r new
+  pub one_failed : {A : Type 0} (all ds : List (ℕ × Command)) (f : PlayerFault) (r : Result A PlayerFault) → all ≡ cs ++ x ∷ ds → FullWhere f (obeyed_by mid x ≡ None) → IsErrAnd r (λ g. g ≡ f) → GoesNoting old (played_by old all) (noted_by old all) r new
   one_failed all ds f r is g e = failed_noting old new (played_by old all) (noted_by old all) f r
       (full_then f _ _ (λ none. ap (played_by old) is ∙ then_is ds ∙ ap (option_and_then (played (job_as old.job) old.world.config (within old.world.config) ds)) none) g) e

@@ -3,8 +3,8 @@ use Rattle.std.proofs.Common.{◌≡◌, ℕ, List, Result, IfErr, IsErrAnd, sym
 use Rattle.std.proofs.lemmas.Result.{err_from_is_err_and}
 use Rattle.mr_script.specs.declared.command.Command.{Command}
 use Rattle.mr_world.specs.Limits.{within}
-use Rattle.mr_sim_commands.specs.declared.fault.SimFault.{SimFault}
-use Rattle.mr_sim_commands.specs.declared.fault.SimFault.TheVariants as fault
+use Rattle.mr_play.specs.declared.fault.PlayerFault.{PlayerFault}
+use Rattle.mr_play.specs.declared.fault.PlayerFault.TheVariants as fault
 use Rattle.mr_play.specs.declared.player.Player.{Player}
 use Rattle.mr_sim_commands.specs.declared.job.submission.Submission.{Submission}
 use Rattle.mr_play.specs.Sources.{stretches}
@@ -30,24 +30,13 @@ noted-from-begin job cs p kind config state =
     ∙ ap (λ c. stretches (job_as job.job) c (within c) cs (state_in p)) config
     ∙ ap (stretches (job_as job.job) (config_of job) (within (config_of job)) cs) state
 
-full-weaker : {P Q : Type 0} (f : SimFault) → (P → Q) → FullWhere f P → FullWhere f Q
+full-weaker : {P Q : Type 0} (f : PlayerFault) → (P → Q) → FullWhere f P → FullWhere f Q
 full-weaker fault.NoMemory g h = tt
-full-weaker fault.Read g h = absurd h
-full-weaker fault.Write g h = absurd h
-full-weaker fault.TooLong g h = absurd h
-full-weaker (fault.BadCommand n) g h = absurd h
-full-weaker (fault.BadRecord n) g h = absurd h
-full-weaker (fault.Job e) g h = absurd h
-full-weaker fault.Refused g h = absurd h
-full-weaker fault.JobFailed g h = absurd h
-full-weaker fault.TurnsSpent g h = absurd h
-full-weaker fault.JournalMismatch g h = absurd h
-full-weaker fault.Thread g h = absurd h
 full-weaker fault.Full g h = g h
 
 -- the exit of a `?` answers the fault
-exit : {A : Type 0} (P : SimFault → Type 0) (r : Result A SimFault) (f : SimFault) → IsErrAnd r (λ e. e ≡ f) → P f → IfErr r P
+exit : {A : Type 0} (P : PlayerFault → Type 0) (r : Result A PlayerFault) (f : PlayerFault) → IsErrAnd r (λ e. e ≡ f) → P f → IfErr r P
 exit P r f g h = let z = err_from_is_err_and r g in subst (λ x. IfErr x P) (sym z.1) (subst P (sym z.2) h)
 
-pub full-exit : {A P Q : Type 0} (r : Result A SimFault) (f : SimFault) → IsErrAnd r (λ e. e ≡ f) → (P → Q) → FullWhere f P → IfErr r (λ e. FullWhere e Q)
+pub full-exit : {A P Q : Type 0} (r : Result A PlayerFault) (f : PlayerFault) → IsErrAnd r (λ e. e ≡ f) → (P → Q) → FullWhere f P → IfErr r (λ e. FullWhere e Q)
 full-exit {P = P} {Q = Q} r f g to h = exit (λ e. FullWhere e Q) r f g (full-weaker f to h)

@@ -1,5 +1,5 @@
 -- What is shown beside what is printed.
-use Rattle.std.proofs.Common.{◌≡◌, ℕ, suc, Bool, List, ◌++◌, Result, Ok, Err, IfOk, refl, sym, ap, subst, ◌∙◌, append_assoc}
+use Rattle.std.proofs.Common.{◌≡◌, ℕ, suc, Bool, List, ◌++◌, None, Ok, refl, sym, ap, subst, ◌∙◌, append_assoc}
 use Rattle.mr_history.specs.Reading.{records_of}
 use Rattle.mr_script.specs.declared.command.Command.{Command}
 use Rattle.mr_script.specs.Script.{AreCommands}
@@ -9,11 +9,12 @@ use Rattle.mr_world.specs.Limits.{within}
 use Rattle.mr_play.specs.declared.shown.Shown.{Shown}
 use Rattle.mr_play.specs.declared.player.Player.{Player}
 use Rattle.mr_sim_commands.specs.declared.job.submission.Submission.{Submission}
-use Rattle.mr_sim_commands.specs.declared.fault.SimFault.{SimFault}
+use Rattle.mr_play.specs.declared.fault.PlayerFault.{PlayerFault}
+use Rattle.mr_play.specs.declared.fault.PlayerFault.TheVariants as fault
 use Rattle.mr_sim_commands.specs.job.Text.{submission_of}
-use Rattle.mr_play.specs.Text.{job_line, script_lines, IsAsExpected}
+use Rattle.mr_play.specs.Text.{job_line, script_lines, played_of, IsAsExpected, PlayFails}
 use Rattle.mr_play.specs.WorldText.{world_text}
-use Rattle.mr_play.specs.Players.{state_in}
+use Rattle.mr_play.specs.Players.{state_in, sim_fault, FullWhere}
 use Rattle.mr_play.specs.inner.PlaySteps.{HasPlayed}
 use Rattle.mr_play.specs.Played.{Played}
 use Rattle.mr_play.proofs.Playing.{one_end}
@@ -48,10 +49,11 @@ printed input job commands p said read h = record {
   noted = h.noted;
 }
 
-pub all-printed : (input : List ℕ) (job : Submission) (commands : List (ℕ × Command)) (r : Result Player SimFault) → submission_of (job_line input) ≡ Ok job → AreCommands job.id 2 (script_lines input) commands → IfOk r (HasPlayed job commands)
-    → IfOk r (HasPrinted input)
-all-printed input job commands (Ok p) said read h = printed input job commands p said read h
-all-printed input job commands (Err f) said read h = tt
+-- why a player that could not be played is told
+pub full_fails : (input : List ℕ) (job : Submission) (commands : List (ℕ × Command)) (f : PlayerFault) → submission_of (job_line input) ≡ Ok job → AreCommands job.id 2 (script_lines input) commands
+    → FullWhere f (played_of within job commands ≡ None) → PlayFails within input (sim_fault f)
+full_fails input job commands fault.NoMemory said read h = tt
+full_fails input job commands fault.Full said read h = record { job = job; said = said; commands = commands; read = read; full = h }
 
 pub draws : (input : List ℕ) (p : Player) → HasPrinted input p → Draws within input
 draws input p is = (text_in p, is.prints)

@@ -9,7 +9,7 @@ use Rattle.mr_world_model.specs.World.{World}
 use Rattle.mr_world_model.specs.Claims.{winner}
 use Rattle.mr_world_model.specs.Results.{outcome, visible}
 use Rattle.mr_play.specs.WorldText.{line_of_marker, line_of_outcome, line_of_winner, marker_line, outcome_line, visible_text, winner_line, world_text}
-use Rattle.mr_play.specs.inner.PlaySteps.{winners_text}
+use Rattle.mr_script_writer.specs.Results.{winners_text}
 
 winners-are : (found : ℕ → Option Attempt) (a n : ℕ) → winners_text a (map found (range_with_len a n)) ≡ flat_map (λ r. line_of_winner r (found r)) (range_with_len a n)
 winners-are found a zero = refl

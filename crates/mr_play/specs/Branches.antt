@@ -4,8 +4,7 @@ use Rattle.mr_packet.specs.declared.packet.ContainerId.{ContainerId}
 use Rattle.mr_world_model.specs.World.{Event}
 use Rattle.mr_world_model.specs.Effect.{not_now}
 use Rattle.mr_world.specs.Limits.{within}
-use Rattle.mr_sim_commands.specs.declared.fault.SimFault.{SimFault}
-use Rattle.mr_sim_commands.specs.declared.fault.SimFault.TheVariants as fault
+use Rattle.std.specs.declared.alloc.AllocError.{AllocError}
 use Rattle.mr_play.specs.declared.player.Player.{Player}
 use Rattle.mr_play.specs.Text.{job_as}
 use Rattle.mr_play.specs.Played.{Played, stepped_by, taken}
@@ -24,8 +23,8 @@ told_by p e =
     then taken (job_as p.job) p.world.config (within p.world.config) e (stepped_by (job_as p.job) p.world.config (within p.world.config) e p.stepped) (state_in p)
     else None
 
--- what is tried is done where it can be; nothing is said of the player where it can't
-abbrev pub Tries : Player → Option Played → Result Bool SimFault → Player → Type 0
+-- what is tried is done where it can be; nothing is said of the player where it can't, or where there was no memory
+abbrev pub Tries : Player → Option Played → Result Bool AllocError → Player → Type 0
 Tries old said (Ok true) new = SameJob old new × (said ≡ Some (state_in new))
 Tries old said (Ok false) new = said ≡ None
-Tries old said (Err f) new = f ≡ fault.NoMemory
+Tries old said (Err f) new = Unit {0}

@@ -17,7 +17,9 @@ use Rattle.mr_world.specs.Limits.{within}
 use Rattle.mr_play.specs.declared.calm.Coming.{Coming}
 use Rattle.mr_play.specs.declared.calm.Coming.TheVariants as coming
 use Rattle.mr_sim_commands.specs.declared.fault.SimFault.{SimFault}
-use Rattle.mr_sim_commands.specs.declared.fault.SimFault.TheVariants as fault
+use Rattle.mr_sim_commands.specs.declared.fault.SimFault.TheVariants as sim
+use Rattle.mr_play.specs.declared.fault.PlayerFault.{PlayerFault}
+use Rattle.mr_play.specs.declared.fault.PlayerFault.TheVariants as fault
 use Rattle.mr_play.specs.declared.player.Player.{Player}
 use Rattle.mr_play.specs.declared.sources.Stretch.{Stretch}
 use Rattle.mr_play.specs.Text.{job_as}
@@ -43,13 +45,17 @@ pub record Reaches (old : Player) (said : Option Played) (new : Player) : Type 0
   pub state : said ≡ Some (state_in new)
 
 -- an allocation failure, or that a limit is passed, where it is
-abbrev pub FullWhere : SimFault → Type 0 → Type 0
+abbrev pub FullWhere : PlayerFault → Type 0 → Type 0
 FullWhere fault.NoMemory full = Unit {0}
 FullWhere fault.Full full = full
-FullWhere _ full = ⊥
+
+-- the same, as a fault of a subcommand
+abbrev pub sim_fault : PlayerFault → SimFault
+sim_fault fault.NoMemory = sim.NoMemory
+sim_fault fault.Full = sim.Full
 
 -- a player went as far as is said; nothing is said where a limit is passed
-abbrev pub Goes : {A : Type 0} → Player → Option Played → Result A SimFault → Player → Type 0
+abbrev pub Goes : {A : Type 0} → Player → Option Played → Result A PlayerFault → Player → Type 0
 Goes old said (Ok a) new = Reaches old said new
 Goes old said (Err f) new = FullWhere f (said ≡ None)
 
@@ -61,20 +67,20 @@ pub record Notes (old : Player) (said : Option Played) (more : List Stretch) (ne
   pub noted : new.stretches.items ≡ old.stretches.items ++ more
 
 -- a player went as far as is said and noted this; nothing is said where a limit is passed
-abbrev pub GoesNoting : {A : Type 0} → Player → Option Played → List Stretch → Result A SimFault → Player → Type 0
+abbrev pub GoesNoting : {A : Type 0} → Player → Option Played → List Stretch → Result A PlayerFault → Player → Type 0
 GoesNoting old said more (Ok a) new = Notes old said more new
 GoesNoting old said more (Err f) new = FullWhere f (said ≡ None)
 
 -- ---- events
 
 -- an event was taken; or it is not permitted, for this reason, and nothing has changed
-abbrev pub Applies : Player → Event → Option ContainerId → Result (Option Why) SimFault → Player → Type 0
+abbrev pub Applies : Player → Event → Option ContainerId → Result (Option Why) PlayerFault → Player → Type 0
 Applies old e last (Ok None) new = (not_now old.world.config (cluster_in old) e ≡ None) × Reaches old (taken (job_as old.job) old.world.config (within old.world.config) e last (state_in old)) new
 Applies old e last (Ok (Some why)) new = (not_now old.world.config (cluster_in old) e ≡ Some why) × (new ≡ old)
 Applies old e last (Err f) new = FullWhere f ((not_now old.world.config (cluster_in old) e ≡ None) × (taken (job_as old.job) old.world.config (within old.world.config) e last (state_in old) ≡ None))
 
 -- the event that is said; no event is said where its work is too much
-abbrev pub IsEvent : Option Event → Result Event SimFault → Type 0
+abbrev pub IsEvent : Option Event → Result Event PlayerFault → Type 0
 IsEvent said (Ok e) = said ≡ Some e
 IsEvent said (Err f) = FullWhere f (said ≡ None)
 
@@ -117,13 +123,13 @@ made_then p next more =
 abbrev pub happened_then : Player → Event → Option ContainerId → (Played → Option Played) → Option Played
 happened_then p e last more = calmed (job_as p.job) p.world.config (within p.world.config) more e last (state_in p) (not_now p.world.config (cluster_in p) e)
 
-abbrev pub HappensAs : Player → Event → Option ContainerId → Result Bool SimFault → Player → Type 0
+abbrev pub HappensAs : Player → Event → Option ContainerId → Result Bool PlayerFault → Player → Type 0
 HappensAs old e last (Ok true) new = SameJob old new × ((more : Played → Option Played) → happened_then old e last more ≡ more (state_in new))
 HappensAs old e last (Ok false) new = SameJob old new × ((more : Played → Option Played) → happened_then old e last more ≡ Some (state_in new))
 HappensAs old e last (Err f) new = FullWhere f ((more : Played → Option Played) → happened_then old e last more ≡ None)
 
 -- The event of a calm was made, and the calm goes on; or it was not permitted, and the calm has ended.
-abbrev pub MakesNext : Player → Next → Result Bool SimFault → Player → Type 0
+abbrev pub MakesNext : Player → Next → Result Bool PlayerFault → Player → Type 0
 MakesNext old next (Ok true) new = SameJob old new × ((more : Played → Option Played) → made_then old next more ≡ more (state_in new))
 MakesNext old next (Ok false) new = SameJob old new × ((more : Played → Option Played) → made_then old next more ≡ Some (state_in new))
 MakesNext old next (Err f) new = FullWhere f ((more : Played → Option Played) → made_then old next more ≡ None)
@@ -133,7 +139,7 @@ abbrev pub calm_of : Player → ℕ → Option EventName → ℕ → Option Play
 calm_of p k stop most = calms (job_as p.job) p.world.config (within p.world.config) k stop most (state_in p)
 
 -- A calm of one event more goes on from where it is; or it has ended.
-abbrev pub CalmsOnce : Player → ℕ → Option EventName → Result Bool SimFault → Player → Type 0
+abbrev pub CalmsOnce : Player → ℕ → Option EventName → Result Bool PlayerFault → Player → Type 0
 CalmsOnce old k stop (Ok true) new = SameJob old new × ((most : ℕ) → calm_of old k stop (suc most) ≡ calm_of new k stop most)
 CalmsOnce old k stop (Ok false) new = SameJob old new × ((most : ℕ) → calm_of old k stop (suc most) ≡ Some (state_in new))
 CalmsOnce old k stop (Err f) new = FullWhere f ((most : ℕ) → calm_of old k stop (suc most) ≡ None)

@@ -1,8 +1,8 @@
--- What `play` prints of a cluster (our own profile; the part files' names are Hadoop's).
-use Rattle.std.specs.Prelude.{ℕ, Bool, List, [], ◌∷◌, ◌++◌, map, Option, codes, decimal}
+-- What `play` prints of a cluster (our own profile; the part files' names are Hadoop's). Its lines are those of mr_script_writer.
+use Rattle.std.specs.Prelude.{ℕ, List, ◌++◌, map, Option}
 use Rattle.std.specs.List.{flat_map, range_with_len}
 use Rattle.mr_ids.specs.Attempt.{Attempt}
-use Rattle.mr_script.specs.Expected.{winner_word, marker_word, outcome_word}
+pub use Rattle.mr_script_writer.specs.Results.{line_of_winner, line_of_marker, line_of_outcome}
 use Rattle.mr_world_model.specs.Ids.{Name, marker, reduce_of}
 use Rattle.mr_world_model.specs.Content.{entry_at, is_file}
 use Rattle.mr_world_model.specs.Packets.{Config}
@@ -11,10 +11,7 @@ use Rattle.mr_world_model.specs.Claims.{winner}
 use Rattle.mr_world_model.specs.Results.{outcome, visible}
 use Rattle.mr_sim_commands.specs.seq.PartFiles.{file_text}
 
--- a line for a reduce: its winner, if it has one
-abbrev pub line_of_winner : ℕ → Option Attempt → List ℕ
-line_of_winner r found = codes "r " ++ decimal r ++ 32 ∷ winner_word found ++ 10 ∷ []
-
+-- the line of a reduce's winner
 abbrev pub winner_line : Config → World → ℕ → List ℕ
 winner_line cfg w r = line_of_winner r (winner w (reduce_of cfg.job r))
 
@@ -22,14 +19,8 @@ winner_line cfg w r = line_of_winner r (winner w (reduce_of cfg.job r))
 abbrev pub won_in : Config → World → List (Option Attempt)
 won_in cfg w = map (λ r. winner w (reduce_of cfg.job r)) (range_with_len 0 cfg.reduces)
 
-abbrev pub line_of_marker : Bool → List ℕ
-line_of_marker there = codes "marker " ++ marker_word there ++ 10 ∷ []
-
 abbrev pub marker_line : World → List ℕ
 marker_line w = line_of_marker (is_file (entry_at w.content marker))
-
-abbrev pub line_of_outcome : Option Bool → List ℕ
-line_of_outcome told = codes "outcome " ++ outcome_word told ++ 10 ∷ []
 
 abbrev pub outcome_line : World → List ℕ
 outcome_line w = line_of_outcome (outcome w)

@@ -1,28 +1,27 @@
 //! Calms: what happens by itself, without a fault, until a master is through.
-ghost use Rattle.std.specs.Prelude.{◌≡◌, ◌<◌, ◌%◌, ◌||◌, ℕ, false, Some, None, IfOk, IfErr, is_some, length};
+ghost use Rattle.std.specs.Prelude.{◌≡◌, ◌<◌, ◌%◌, ◌||◌, ℕ, false, Some, None, IfOk, is_some, length};
 ghost use Rattle.std.specs.List.{slice_get};
 ghost use Rattle.std.specs.Option.{option_map};
 ghost use Rattle.mr_world_model.specs.Effect.{addressee};
 ghost use Rattle.mr_world.specs.Journal.{world_in};
 ghost use Rattle.mr_world.specs.Limits.{within};
 ghost use Rattle.mr_world.specs.Readings.{due_in};
-ghost use Rattle.mr_sim_commands.specs.declared.fault.SimFault.TheVariants.{NoMemory};
 ghost use Rattle.mr_play.specs.EventNames.{stops_at};
 ghost use Rattle.mr_play.specs.Text.{job_as};
 ghost use Rattle.mr_play.specs.Played.{cursor_at, is_dropped, is_through, most_calm, next_of, next_step};
 ghost use Rattle.mr_play.specs.Players.{calm_of, cluster_in, next_in, CalmsOnce, Goes, HappensAs, MakesNext, names_of};
 
 use crate::event_names::{duty_event, wish_event};
+use crate::fault::PlayerFault;
 use crate::memory::read;
 use crate::player::Player;
 use mr_ids::TaskId;
 use mr_master_model::{DutyName, Phase};
 use mr_packet::ContainerId;
 use mr_script::EventName;
-use mr_sim_commands::SimFault;
 use mr_world::World;
 use mr_world_events::{Event, Weather};
-use std::alloc::Global;
+use std::alloc::{AllocError, Global};
 use std::collections::BTreeSet;
 
 /// Most events of a calm.
@@ -69,7 +68,7 @@ impl Player {
         alloc: Global,
         k: u32,
         stop: Option<EventName>,
-    ) -> Result<(), SimFault>
+    ) -> Result<(), PlayerFault>
         ensures { Goes self.old (calm_of self.old k stop most_calm) result self.new }
     {
         self.calm_for(alloc, k, stop, MOST_CALM)
@@ -82,7 +81,7 @@ impl Player {
         k: u32,
         stop: Option<EventName>,
         most: u64,
-    ) -> Result<(), SimFault>
+    ) -> Result<(), PlayerFault>
         ensures { Goes self.old (calm_of self.old k stop most) result self.new }
     {
         for _ in 0..most {
@@ -99,7 +98,7 @@ impl Player {
         alloc: Global,
         k: u32,
         stop: Option<EventName>,
-    ) -> Result<bool, SimFault>
+    ) -> Result<bool, PlayerFault>
         ensures { CalmsOnce self.old k stop result self.new }
     {
         if self.is_through(k) {
@@ -134,11 +133,10 @@ impl Player {
 
     /// The first that is there of a packet at the cursor, a duty, a launch and a step, of a master that is not through.
     #[tactic(auto, using(crate::proofs::Coming::packet_is, crate::proofs::Coming::duty_is, crate::proofs::Coming::launch_is, crate::proofs::Coming::step_is))]
-    pub(crate) fn coming(&self, k: u32) -> Result<Option<Coming>, SimFault>
+    pub(crate) fn coming(&self, k: u32) -> Result<Option<Coming>, AllocError>
         ensures is { IfOk result (λ coming. is_through self.now.world.config (cluster_in self.now) k ≡ false →
             option_map (next_in self.now k) coming ≡ next_of (job_as self.now.job) self.now.world.config (within self.now.world.config) (cluster_in self.now) k self.now.stepped self.now.cursor) }
         ensures packet { IfOk result (λ coming. coming ≡ Some Coming.Deliver → self.now.cursor < length (cluster_in self.now).bag) }
-        ensures memory { IfErr result (λ fault. fault ≡ SimFault.NoMemory) }
     {
         if self.cursor < self.world.bag().len() {
             return Ok(Some(Coming::Deliver));
@@ -153,9 +151,8 @@ impl Player {
     }
 
     // What the store call that is due is for.
-    fn duty(&self, k: u32) -> Result<Option<DutyName>, SimFault>
+    fn duty(&self, k: u32) -> Result<Option<DutyName>, AllocError>
         ensures is { IfOk result (λ due. due ≡ due_in self.now.world.config (cluster_in self.now) k) }
-        ensures memory { IfErr result (λ fault. fault ≡ SimFault.NoMemory) }
     {
         Ok(read(self.world.duty(k))?)
     }
@@ -180,7 +177,7 @@ impl Player {
     }
 
     // Makes the event; whether it was permitted.
-    fn make_next(&mut self, alloc: Global, k: u32, coming: &Coming) -> Result<bool, SimFault>
+    fn make_next(&mut self, alloc: Global, k: u32, coming: &Coming) -> Result<bool, PlayerFault>
         requires { coming.now ≡ Coming.Deliver → self.old.cursor < length (cluster_in self.old).bag }
         ensures { MakesNext self.old (next_in self.old k coming.now) result self.new }
     {
@@ -203,7 +200,7 @@ impl Player {
     }
 
     // The packet at the cursor is delivered, and the cursor goes on.
-    fn deliver(&mut self) -> Result<bool, SimFault>
+    fn deliver(&mut self) -> Result<bool, PlayerFault>
         requires { self.old.cursor < length (cluster_in self.old).bag }
         ensures { (k : ℕ) → MakesNext self.old (next_in self.old k Coming.Deliver) result self.new }
     {
@@ -214,7 +211,7 @@ impl Player {
     }
 
     // A launch of the task, on the node whose number is the task's, modulo the number of nodes.
-    fn launch(&mut self, k: u32, task: &TaskId) -> Result<bool, SimFault>
+    fn launch(&mut self, k: u32, task: &TaskId) -> Result<bool, PlayerFault>
         ensures { MakesNext self.old (next_in self.old k (Coming.Launch task.now)) result self.new }
     {
         let node = self.node_of(task.number);
@@ -235,7 +232,7 @@ impl Player {
     }
 
     // The container computes.
-    fn compute(&mut self, alloc: Global, c: &ContainerId) -> Result<bool, SimFault>
+    fn compute(&mut self, alloc: Global, c: &ContainerId) -> Result<bool, PlayerFault>
         ensures { (k : ℕ) → MakesNext self.old (next_in self.old k (Coming.Compute c.now)) result self.new }
     {
         let event = self.computing(alloc, c)?;
@@ -243,7 +240,7 @@ impl Player {
     }
 
     // An event that is no container's step; whether it was permitted.
-    fn happens_alone(&mut self, event: Event) -> Result<bool, SimFault>
+    fn happens_alone(&mut self, event: Event) -> Result<bool, PlayerFault>
         ensures { HappensAs self.old event self.old.stepped result self.new }
     {
         let stepped = self.stepped;
@@ -251,7 +248,7 @@ impl Player {
     }
 
     // Makes an event; whether it was permitted.
-    fn happens(&mut self, event: Event, stepped: Option<ContainerId>) -> Result<bool, SimFault>
+    fn happens(&mut self, event: Event, stepped: Option<ContainerId>) -> Result<bool, PlayerFault>
         ensures { HappensAs self.old event stepped result self.new }
     {
         match self.apply(event, stepped)? {

@@ -1,12 +1,11 @@
 //! What is said of a calm that ended otherwise than its line asks. It goes to standard error, and no clause speaks of it.
-ghost use Rattle.std.specs.Prelude.{◌≡◌, IfErr};
+ghost use Rattle.std.specs.Prelude.{◌≡◌};
 
 use crate::calm::MOST_CALM;
 use crate::player::Player;
 use itoa::Buffer;
 use mr_master_model::Phase;
 use mr_script::{EventName, event_word};
-use mr_sim_commands::SimFault;
 use std::alloc::AllocError;
 
 /// How a calm ended.
@@ -59,9 +58,8 @@ impl Player {
         k: u32,
         stop: Option<EventName>,
         before: usize,
-    ) -> Result<(), SimFault>
-        ensures rests { self.new ≡ record self.old { notes = self.new.notes } }
-        ensures memory { IfErr result (λ fault. fault ≡ SimFault.NoMemory) }
+    ) -> Result<(), AllocError>
+        ensures { self.new ≡ record self.old { notes = self.new.notes } }
     {
         let end = self.calm_end(k, stop, before)?;
         if end.is_as_asked(stop) {
@@ -72,9 +70,12 @@ impl Player {
     }
 
     // How the calm ended. It looks for a name only where its last event was followed by such a look.
-    fn calm_end(&self, k: u32, stop: Option<EventName>, before: usize) -> Result<CalmEnd, SimFault>
-        ensures { IfErr result (λ fault. fault ≡ SimFault.NoMemory) }
-    {
+    fn calm_end(
+        &self,
+        k: u32,
+        stop: Option<EventName>,
+        before: usize,
+    ) -> Result<CalmEnd, AllocError> {
         match self.world.phase(k) {
             None if k > self.world.newest() => return Ok(CalmEnd::NeverStarted),
             None => return Ok(CalmEnd::NotAlive),

@@ -1,19 +1,17 @@
 //! What a script expects, and what is so.
-ghost use Rattle.std.specs.Prelude.{◌≡◌, ◌++◌, IfOk, IfErr, OnOk, nat_lt, if◌then◌else◌, codes};
+ghost use Rattle.std.specs.Prelude.{◌≡◌, ◌++◌, IfOk, OnOk, nat_lt, if◌then◌else◌, codes};
 ghost use Rattle.std.specs.Str.{bytes_eq};
 ghost use Rattle.mr_world_model.specs.Claims.{winner};
 ghost use Rattle.mr_world_model.specs.Ids.{reduce_of};
 ghost use Rattle.mr_script.specs.Expected.{subject_words, value_word, winner_word};
 ghost use Rattle.mr_world.specs.Journal.{world_in};
-ghost use Rattle.mr_sim_commands.specs.declared.fault.SimFault.TheVariants.{NoMemory};
 ghost use Rattle.mr_play.specs.Expectations.{unmet_line, value_in};
 
 use crate::memory::read;
-use crate::values::{put_marker, put_outcome, put_winner};
 use itoa::Buffer;
 use mr_ids::{TaskId, TaskKind};
 use mr_script::Expectation;
-use mr_sim_commands::SimFault;
+use mr_script_writer::{put_marker, put_outcome, put_winner};
 use mr_world::World;
 use std::alloc::{AllocError, Global};
 
@@ -22,9 +20,8 @@ pub fn value_of(
     alloc: Global,
     world: &World,
     expectation: &Expectation,
-) -> Result<Vec<u8>, SimFault>
-    ensures value { IfOk result (λ v. v.items ≡ value_in world.now.config (world_in world.now) expectation.now) }
-    ensures memory { IfErr result (λ fault. fault ≡ SimFault.NoMemory) }
+) -> Result<Vec<u8>, AllocError>
+    ensures { IfOk result (λ v. v.items ≡ value_in world.now.config (world_in world.now) expectation.now) }
 {
     let mut value = Vec::new(alloc);
     match expectation {
@@ -36,9 +33,8 @@ pub fn value_of(
 }
 
 // The winner of the reduce of this number, or that there is no such reduce.
-fn put_winner_of(out: &mut Vec<u8>, world: &World, reduce: u32) -> Result<(), SimFault>
-    ensures value { OnOk result (out.new.items ≡ out.old.items ++ (if nat_lt reduce world.now.config.reduces then winner_word (winner (world_in world.now) (reduce_of world.now.config.job reduce)) else codes "no reduce")) }
-    ensures memory { IfErr result (λ fault. fault ≡ SimFault.NoMemory) }
+fn put_winner_of(out: &mut Vec<u8>, world: &World, reduce: u32) -> Result<(), AllocError>
+    ensures { OnOk result (out.new.items ≡ out.old.items ++ (if nat_lt reduce world.now.config.reduces then winner_word (winner (world_in world.now) (reduce_of world.now.config.job reduce)) else codes "no reduce")) }
 {
     let config = world.config();
     if reduce >= config.reduce_count() {

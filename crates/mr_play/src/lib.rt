@@ -10,7 +10,8 @@
 //! is no such run, since an event or a work passes a limit. An allocation failure may come at any of these.
 //!
 //! **A player** (`played`): a job's world in which the script was played. Its text is what `play` prints, its world is the cluster of which it is
-//! printed, and it knows which line made which events (`stretches` of `specs/Sources`; `HasPrinted`). The crate above shows more of it.
+//! printed, and it knows which line made which events (`stretches` of `specs/Sources`; `HasPrinted`). The crate above shows more of it. Whoever takes it
+//! further is told of two faults alone (`PlayerFault`): no memory, or a limit of the world. What takes memory alone answers `AllocError`.
 //!
 //! **What stands beside the text** (`shown_text`, by `HasText`): before it what is handed in; behind it the history, where that is asked for. The history
 //! has, for each generation that was started, in order, its head line `== history K LENGTH` and all bytes that are stable in its segment, a torn end too.
@@ -34,31 +35,34 @@ mod calm_notes;
 mod event_names;
 mod expectations;
 mod faithful;
+mod fault;
 mod histories;
 mod laws;
 mod memory;
 mod player;
 mod printed;
 mod refused;
+mod setup;
 mod shown;
 mod sources;
 mod subcommand;
-mod values;
 mod works;
 mod world_text;
 
 pub use calm::MOST_CALM;
 pub use event_names::{duty_event, wish_event};
 pub use faithful::{marked_files_are_those_of_seq, scripts_are_faithful};
+pub use fault::PlayerFault;
 pub use histories::print_histories;
 pub use laws::{
     calms_are_permitted, names_are_of_duties_and_wishes, one_play_text, played_rows, scripts_go_on,
 };
 pub use memory::read;
+pub use mr_sim_commands::Printed;
 pub use mr_world;
 pub use player::Player;
-pub use printed::Printed;
+pub use setup::{Setup, setup_of};
 pub use shown::{Shown, shown_text};
 pub use sources::{Source, Stretch};
 pub use subcommand::{play, played};
-pub use world_text::{print_world, print_world_won};
+pub use world_text::{print_visible, print_world};

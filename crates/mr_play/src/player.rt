@@ -1,7 +1,6 @@
 //! A script that is played: a world, and how far the script is.
 ghost use Rattle.std.specs.Prelude.{◌≡◌, [], ◌∷◌, ◌++◌, length, Some, OnOk, IfOk, IfErr};
-ghost use Rattle.mr_sim_commands.specs.declared.fault.SimFault.TheVariants.{NoMemory};
-ghost use Rattle.mr_play.specs.Text.{config_of, job_as, played_of};
+ghost use Rattle.mr_play.specs.Text.{config_of, job_as};
 ghost use Rattle.mr_play.specs.Played.{begun, computing, expecting, losing, made, most_calm, obeyed, played, stepped_by};
 ghost use Rattle.mr_play.specs.Players.{calm_of, cluster_in, state_in, Goes, GoesNoting, IsEvent, Applies};
 ghost use Rattle.mr_play.specs.Sources.{is_calm, stretch_of, stretches};
@@ -9,13 +8,15 @@ ghost use Rattle.mr_sim_commands.specs.job.Submission.{IsWithinLimits};
 ghost use Rattle.mr_world.specs.Limits.{within};
 
 use crate::expectations::{is_expected, print_unmet, value_of};
+use crate::fault::PlayerFault;
 use crate::memory::read;
 use crate::refused::print_refused;
+use crate::setup::setup_of;
 use crate::sources::{Source, Stretch};
 use crate::works::computed;
 use mr_packet::ContainerId;
 use mr_script::{Command, EventName, Expectation};
-use mr_sim_commands::{JobKind, SimFault, Submission};
+use mr_sim_commands::{IdleKeys, JobKind, Submission};
 use mr_world::{Config, World, WorldFault};
 use mr_world_events::{Event, Why};
 use std::alloc::{AllocError, Global};
@@ -41,20 +42,22 @@ pub struct Player {
     pub stretches: Vec<Stretch>,
     /// Lines for standard error: which calms ended otherwise than the script asks.
     pub notes: Vec<u8>,
+    /// The keys of the job text that say nothing.
+    pub idle_keys: IdleKeys,
 }
 
 impl Player {
     /// The opening world of a job.
-    pub(crate) fn new(alloc: Global, submission: Submission) -> Result<Player, SimFault>
+    pub(crate) fn new(alloc: Global, submission: Submission) -> Result<Player, AllocError>
         requires { IsWithinLimits submission }
         ensures job { IfOk result (λ player. player.job ≡ submission.job) }
         ensures config { IfOk result (λ player. player.world.config ≡ config_of submission) }
         ensures state { IfOk result (λ player. state_in player ≡ begun) }
         ensures noted { IfOk result (λ player. player.stretches.items ≡ []) }
-        ensures memory { IfErr result (λ fault. fault ≡ SimFault.NoMemory) }
     {
-        let job = submission.job;
-        let world = open_world(alloc, submission)?;
+        let setup = setup_of(submission);
+        let job = setup.job;
+        let world = read(World::new(alloc, setup.config))?;
         Ok(Player {
             job,
             world,
@@ -65,6 +68,7 @@ impl Player {
             met: true,
             stretches: Vec::new(alloc),
             notes: Vec::new(alloc),
+            idle_keys: setup.idle_keys,
         })
     }
 
@@ -73,7 +77,7 @@ impl Player {
         &mut self,
         alloc: Global,
         commands: Vec<(usize, Command)>,
-    ) -> Result<(), SimFault>
+    ) -> Result<(), PlayerFault>
         ensures { GoesNoting self.old (played (job_as self.old.job) self.old.world.config (within self.old.world.config) commands.items (state_in self.old))
             (stretches (job_as self.old.job) self.old.world.config (within self.old.world.config) commands.items (state_in self.old)) result self.new }
     {
@@ -84,7 +88,7 @@ impl Player {
     }
 
     /// Plays the command of a line, and notes which events it made.
-    fn play_line(&mut self, alloc: Global, line: usize, command: Command) -> Result<(), SimFault>
+    fn play_line(&mut self, alloc: Global, line: usize, command: Command) -> Result<(), PlayerFault>
         ensures { GoesNoting self.old (obeyed (job_as self.old.job) self.old.world.config (within self.old.world.config) line command (state_in self.old))
             (stretch_of line command (length self.new.world.events) ∷ []) result self.new }
     {
@@ -98,7 +102,7 @@ impl Player {
     }
 
     /// Carries out one command.
-    fn carry_out(&mut self, alloc: Global, line: usize, command: Command) -> Result<(), SimFault>
+    fn carry_out(&mut self, alloc: Global, line: usize, command: Command) -> Result<(), PlayerFault>
         ensures { Goes self.old (obeyed (job_as self.old.job) self.old.world.config (within self.old.world.config) line command (state_in self.old)) result self.new }
     {
         match command {
@@ -117,7 +121,7 @@ impl Player {
         line: usize,
         k: u32,
         stop: Option<EventName>,
-    ) -> Result<(), SimFault>
+    ) -> Result<(), PlayerFault>
         ensures { Goes self.old (calm_of self.old k stop most_calm) result self.new }
     {
         let before = self.world.journal().len();
@@ -127,10 +131,10 @@ impl Player {
     }
 
     /// From here on no calm delivers the packet at this place of the bag.
-    pub(crate) fn lose(&mut self, packet: u64) -> Result<(), SimFault>
+    fn lose(&mut self, packet: u64) -> Result<(), PlayerFault>
         ensures { Goes self.old (Some (losing (job_as self.old.job) self.old.world.config (within self.old.world.config) packet (state_in self.old))) result self.new }
     {
-        self.dropped.insert(packet)?;
+        self.drop_packet(packet)?;
         Ok(())
     }
 
@@ -140,7 +144,7 @@ impl Player {
         alloc: Global,
         line: usize,
         expectation: &Expectation,
-    ) -> Result<(), SimFault>
+    ) -> Result<(), PlayerFault>
         ensures { Goes self.old (Some (expecting (job_as self.old.job) self.old.world.config (within self.old.world.config) line expectation.now (state_in self.old))) result self.new }
     {
         let value = value_of(alloc, &self.world, expectation)?;
@@ -163,7 +167,7 @@ impl Player {
     }
 
     /// Makes the event that a line names.
-    fn happen(&mut self, line: usize, event: Event) -> Result<(), SimFault>
+    fn happen(&mut self, line: usize, event: Event) -> Result<(), PlayerFault>
         ensures { Goes self.old (obeyed (job_as self.old.job) self.old.world.config (within self.old.world.config) line (Command.Makes event) (state_in self.old)) result self.new }
     {
         let stepped = self.stepped_by(&event);
@@ -171,7 +175,7 @@ impl Player {
     }
 
     /// The container of a line computes.
-    fn compute_at(&mut self, alloc: Global, line: usize, c: ContainerId) -> Result<(), SimFault>
+    fn compute_at(&mut self, alloc: Global, line: usize, c: ContainerId) -> Result<(), PlayerFault>
         ensures { Goes self.old (obeyed (job_as self.old.job) self.old.world.config (within self.old.world.config) line (Command.Compute c) (state_in self.old)) result self.new }
     {
         let event = self.computing(alloc, &c)?;
@@ -184,7 +188,7 @@ impl Player {
         line: usize,
         event: Event,
         stepped: Option<ContainerId>,
-    ) -> Result<(), SimFault>
+    ) -> Result<(), PlayerFault>
         ensures { Goes self.old (made (job_as self.old.job) self.old.world.config (within self.old.world.config) line event stepped (state_in self.old)) result self.new }
     {
         match self.apply(event, stepped)? {
@@ -201,7 +205,7 @@ impl Player {
         &mut self,
         event: Event,
         stepped: Option<ContainerId>,
-    ) -> Result<Option<Why>, SimFault>
+    ) -> Result<Option<Why>, PlayerFault>
         ensures { Applies self.old event stepped result self.new }
     {
         match self.world.apply(event) {
@@ -210,8 +214,8 @@ impl Player {
                 Ok(None)
             }
             Err(WorldFault::NotNow(why)) => Ok(Some(why)),
-            Err(WorldFault::Full) => Err(SimFault::Full),
-            Err(WorldFault::NoMemory) => Err(SimFault::NoMemory),
+            Err(WorldFault::Full) => Err(PlayerFault::Full),
+            Err(WorldFault::NoMemory) => Err(PlayerFault::NoMemory),
         }
     }
 
@@ -227,7 +231,7 @@ impl Player {
 
     /// What `compute` is an event of.
     #[tactic(auto, using(crate::proofs::Working::inputs_are_short))]
-    pub(crate) fn computing(&self, alloc: Global, c: &ContainerId) -> Result<Event, SimFault>
+    pub(crate) fn computing(&self, alloc: Global, c: &ContainerId) -> Result<Event, PlayerFault>
         ensures { IsEvent (computing (job_as self.now.job) self.now.world.config (within self.now.world.config) (cluster_in self.now) c.now) result }
     {
         let config = self.world.config();
@@ -241,20 +245,4 @@ fn is_calm(command: &Command) -> bool
     ensures { result ≡ is_calm command.now }
 {
     matches!(command, Command::Calm(..))
-}
-
-fn open_world(alloc: Global, submission: Submission) -> Result<World, SimFault>
-    requires { IsWithinLimits submission }
-    ensures opens { IfOk result (λ world. world ≡ record { config = config_of submission; events = [] }) }
-    ensures memory { IfErr result (λ fault. fault ≡ SimFault.NoMemory) }
-{
-    let config = Config {
-        job: submission.id,
-        splits: submission.splits,
-        reduces: submission.reduces,
-        nodes: submission.nodes,
-        limit: submission.limit,
-        v2_from: submission.v2_from,
-    };
-    Ok(read(World::new(alloc, config))?)
 }

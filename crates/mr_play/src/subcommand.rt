@@ -11,12 +11,12 @@ ghost use Rattle.mr_play.specs.inner.PlaySteps.{HasPlayed, IsUnread};
 ghost use Rattle.mr_play.specs.Shown.{HasPrinted, text_in};
 ghost use Rattle.mr_sim_commands.specs.job.Submission.{IsWithinLimits};
 
+use crate::fault::{PlayerFault, sim_fault};
 use crate::player::Player;
-use crate::printed::Printed;
 use crate::world_text::print_world;
 use mr_ids::JobId;
 use mr_script::{Command as ScriptCommand, ScriptFault, commands_of, split_once};
-use mr_sim_commands::{SimFault, Submission, read_job_text};
+use mr_sim_commands::{Printed, SimFault, Submission, read_job_text};
 use std::alloc::Global;
 
 /// The job text, which is the first line, and the script behind it.
@@ -51,7 +51,7 @@ fn player_of(
     alloc: Global,
     submission: Submission,
     commands: Vec<(usize, ScriptCommand)>,
-) -> Result<Player, SimFault>
+) -> Result<Player, PlayerFault>
     requires { IsWithinLimits submission }
     ensures played { IfOk result (HasPlayed submission commands.items) }
     ensures full { IfErr result (λ e. FullWhere e (played_of within submission commands.items ≡ None)) }
@@ -73,6 +73,7 @@ fn printed_of(player: Player) -> Result<Printed, SimFault>
         text,
         met: player.met,
         notes: player.notes,
+        idle_keys: player.idle_keys,
     })
 }
 
@@ -88,7 +89,10 @@ pub fn played(alloc: Global, input: &[u8]) -> Result<Player, SimFault>
     let (job, script) = parts_of(input);
     let submission = read_job_text(alloc, job)?;
     let commands = script_of(alloc, submission.id, script)?;
-    player_of(alloc, submission, commands)
+    match player_of(alloc, submission, commands) {
+        Ok(player) => Ok(player),
+        Err(fault) => Err(sim_fault(fault)),
+    }
 }
 
 /// What `play` prints for a job text and a script, with the faults of `played`.

@@ -10,11 +10,12 @@ ghost use Rattle.mr_play.specs.Text.{job_as};
 ghost use Rattle.mr_play.specs.Played.{computed_of};
 ghost use Rattle.mr_play.specs.Players.{IsEvent, IsShort, Works};
 
+use crate::fault::PlayerFault;
 use mr_container_work::{work_of_map, work_of_reduce};
 use mr_jobs::{LineIndex, MaxByKey, WordCount};
 use mr_mapside::WorkFault;
 use mr_packet::{Bytes, ContainerId};
-use mr_sim_commands::{JobKind, SimFault};
+use mr_sim_commands::JobKind;
 use mr_user::{Job, OpenGate};
 use mr_world::{Config, Input};
 use mr_world_events::Event;
@@ -29,7 +30,7 @@ pub fn computed(
     config: &Config,
     c: ContainerId,
     input: Option<Input<'_>>,
-) -> Result<Event, SimFault>
+) -> Result<Event, PlayerFault>
     requires short { IsShort (option_map as_input input) }
     ensures { (l : Limits) → IsEvent (computed_of (job_as job) config.now l c (option_map as_input input.entry)) result }
 {
@@ -47,8 +48,8 @@ pub fn computed(
         Err(WorkFault::User(_) | WorkFault::Gate(_) | WorkFault::Shuffle(_)) => Ok(Event::Die {
             container: c,
         }),
-        Err(WorkFault::Full) => Err(SimFault::Full),
-        Err(WorkFault::NoMemory) => Err(SimFault::NoMemory),
+        Err(WorkFault::Full) => Err(PlayerFault::Full),
+        Err(WorkFault::NoMemory) => Err(PlayerFault::NoMemory),
     }
 }
 

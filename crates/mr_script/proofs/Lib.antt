@@ -1,5 +1,5 @@
 pub mod Attempts
-pub mod Expected
+pub mod Expectations
 pub mod Lines
 pub mod Numbers
 pub mod Readings

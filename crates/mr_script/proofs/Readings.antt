@@ -18,7 +18,7 @@ use Rattle.mr_script.specs.Script.{line_of, rest_of, IsGeneration, IsContainer, 
 use Rattle.mr_script.specs.Words.{with_word, kind_word, task_words, container_word, and_words, fault_word, stop_words}
 use Rattle.mr_script.specs.Verb.{verb_of}
 use Rattle.mr_script.specs.Laws.{OneReading, ReadOrBad, OneFirstBad, CommentsAreNoCommands}
-use Rattle.mr_script.proofs.Expected.{same-expected}
+use Rattle.mr_script.proofs.Expectations.{same-expected}
 use Rattle.mr_script.proofs.Lines.{same-lines, not-both, same-first}
 use Rattle.mr_script.proofs.Words.{Lacks, after-by, none-after, some-inj, cut-same}
 use Rattle.mr_script.proofs.Numbers.{no-space, no-stop, low, container-no-space, kind-no-space}

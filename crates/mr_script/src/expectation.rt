@@ -79,7 +79,7 @@ fn winner_of(rest: &[u8]) -> Option<(u32, Option<AttemptId>)>
     Some((reduce, won))
 }
 
-/// What is expected of the reduces, of the marker, or of the outcome.
+/// What is expected of the reduces, of the marker, or of the outcome, in the words that stand behind `expect`. It takes no memory.
 pub fn expected(rest: &[u8]) -> Option<Expectation>
     ensures some { IfSome result (λ e. IsExpectation e × (rest.now ≡ expected_words e)) }
     ensures none { IfNone result ((e : Expectation) → IsExpectation e → rest.now ≡ expected_words e → ⊥) }

@@ -34,8 +34,8 @@
 //!   as (`IsLine`).
 //! - `split_once` cuts at the first byte of a kind. `number`, `long_number` and `generation` read a word exactly where
 //!   it is the decimal of a number below 2^32, below 2^64, from 1 to 1,000. `attempt` reads it exactly where it is an
-//!   attempt's name, `event_named` exactly where it is the name of an event; `event_word` is the word of a name. None of
-//!   these takes memory.
+//!   attempt's name, `event_named` exactly where it is the name of an event; `event_word` is the word of a name.
+//!   `expected` reads words exactly where they are an expectation's. None of these takes memory.
 //! - Laws, on functions that do nothing: a script has at most one reading (`one_reading`), is not both read and bad (`read_or_bad`), and
 //!   has at most one first bad line (`one_first_bad`). No command is a comment (`comments_are_no_commands`).
 //! - Only tested: that it succeeds with ample memory.
@@ -53,7 +53,7 @@ mod word;
 
 pub use command::Command;
 pub use event_name::{EventName, event_named, event_word};
-pub use expectation::Expectation;
+pub use expectation::{Expectation, expected};
 pub use laws::{comments_are_no_commands, one_first_bad, one_reading, read_or_bad};
 pub use run::commands_of;
 pub use script::{Language, ScriptFault, script_in};

@@ -1,2 +1,3 @@
+pub mod IdleKeys
 pub mod Submission
 pub mod Text

@@ -18,7 +18,7 @@
 //! the job that is submitted, or the first bad key, or that there is no JSON object. The keys are in the order `id`,
 //! `job`, `reduces`, `splits`, `nodes`, `limit`, `faults`, `v2from`. The definition is a function of the value that
 //! `serde_json`'s own definition reads the text as, key by key. A job that is read is within the limits of
-//! docs/MRSIM.md (clause `limits`).
+//! docs/MRSIM.md (clause `limits`). Which other keys the object has is told beside the job, exactly (`idle_keys`).
 //!
 //! **Parts of an output** that others print too: a file with its name and length (`print_file`), a record in words
 //! (`print_record`), and names with slashes between them (`print_names`). Each is put behind what is there already.
@@ -36,11 +36,13 @@ mod fault;
 mod history;
 mod job;
 mod laws;
+mod printed;
 mod seq;
 
 pub use committer::{committer_output, print_names};
 pub use fault::{JobTextFault, SimFault};
 pub use history::{history_output, print_record};
-pub use job::{JobKind, Submission, read_job_text};
+pub use job::{IdleKeys, JobKind, Submission, read_job_text};
 pub use laws::{comments_are_no_commands, one_first_bad, one_reading, one_seq_text, read_or_bad};
+pub use printed::Printed;
 pub use seq::{print_file, seq_output};

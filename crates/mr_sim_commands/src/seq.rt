@@ -1,5 +1,5 @@
 //! The subcommand `seq`.
-ghost use Rattle.std.specs.Prelude.{◌≡◌, ◌≤◌, length, map, IfOk, IfErr};
+ghost use Rattle.std.specs.Prelude.{◌≡◌, ◌≤◌, true, length, map, IfOk, IfErr};
 ghost use Rattle.mr_user.specs.Faults.{RefusedIf};
 ghost use Rattle.mr_sim_commands.specs.Faults.{SeqFails};
 ghost use Rattle.mr_sim_commands.specs.seq.Text.{ArePartFiles, PrintsSeq, RefusesLine};
@@ -9,6 +9,7 @@ mod part_files;
 
 use crate::fault::SimFault;
 use crate::job::{JobKind, Submission, read_job_text};
+use crate::printed::Printed;
 use crate::seq::part_files::part_files_text;
 use mr_jobs::{LineIndex, MaxByKey, WordCount};
 use mr_user::{UserFault, sequential};
@@ -35,13 +36,17 @@ fn part_files_of(alloc: Global, submission: &Submission) -> Result<Vec<Vec<u8>>,
 ///
 /// `Job` names the first bad key of the job text; `Refused`: the job refuses a line of a split. `NoMemory` may come at any text; no
 /// other fault comes.
-pub fn seq_output(alloc: Global, input: &[u8]) -> Result<Vec<u8>, SimFault>
-    ensures ok { IfOk result (λ v. PrintsSeq input.now v.items) }
+pub fn seq_output(alloc: Global, input: &[u8]) -> Result<Printed, SimFault>
+    ensures ok { IfOk result (λ v. PrintsSeq input.now v.text.items) }
+    ensures met { IfOk result (λ v. v.met ≡ true) }
     ensures fault { IfErr result (SeqFails input.now) }
 {
     let submission = read_job_text(alloc, input)?;
     match part_files_of(alloc, &submission) {
-        Ok(files) => Ok(part_files_text(alloc, &files)?),
+        Ok(files) => {
+            let text = part_files_text(alloc, &files)?;
+            Ok(Printed::plain(alloc, text, submission.idle_keys))
+        }
         Err(UserFault::Refused) => Err(SimFault::Refused),
         Err(UserFault::NoMemory) => Err(SimFault::NoMemory),
         Err(UserFault::BadWire) => unreachable!(),

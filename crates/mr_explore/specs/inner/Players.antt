@@ -12,6 +12,9 @@ use Rattle.mr_explore_faults.specs.declared.fault.Fault.{Fault}
 use Rattle.mr_explore.specs.Faults.{asks_on, befallen_by, calm, faults_at, faults_by, goes_in_vain, kept, kept_in, listed, most_events, next_event, of_crashes, of_event, of_world, onward, steps_made, told}
 use Rattle.mr_sim_commands.specs.declared.fault.SimFault.{SimFault}
 use Rattle.mr_sim_commands.specs.declared.fault.SimFault.TheVariants as fault
+use Rattle.mr_play.specs.declared.fault.PlayerFault.{PlayerFault}
+use Rattle.mr_play.specs.declared.fault.PlayerFault.TheVariants as player_fault
+use Rattle.std.specs.declared.alloc.AllocError.{AllocError}
 use Rattle.mr_explore_search.specs.declared.fault.WalkFault.{WalkFault}
 use Rattle.mr_explore_search.specs.declared.fault.WalkFault.TheVariants as walk_fault
 use Rattle.mr_explore.specs.Runs.{Exploring, newest_in, start_first}
@@ -55,15 +58,14 @@ abbrev pub length_in : Player → ℕ → ℕ
 length_in p i = steps_made (job_as p.job) p.world.config (within p.world.config) most_events (losing (job_as p.job) p.world.config (within p.world.config) i (state_in p))
 
 -- a run went on as is said
-abbrev pub GoesAs : Onward Played → Player → Result Bool SimFault → Player → Type 0
+abbrev pub GoesAs : Onward Played → Player → Result Bool PlayerFault → Player → Type 0
 GoesAs said old (Ok true) new = SameJob old new × (said ≡ Goes (state_in new))
 GoesAs said old (Ok false) new = SameJob old new × (said ≡ Ends (state_in new))
-GoesAs said old (Err fault.Full) new = said ≡ Full
-GoesAs said old (Err fault.NoMemory) new = Unit {0}
-GoesAs said old (Err _) new = ⊥
+GoesAs said old (Err player_fault.Full) new = said ≡ Full
+GoesAs said old (Err player_fault.NoMemory) new = Unit {0}
 
 -- an event more was made, or there is none
-abbrev pub StepsOnce : Player → Result Bool SimFault → Player → Type 0
+abbrev pub StepsOnce : Player → Result Bool AllocError → Player → Type 0
 StepsOnce old (Ok true) new = (most : ℕ) → steps_in old (suc most) ≡ suc (steps_in new most)
 StepsOnce old (Ok false) new = (most : ℕ) → steps_in old (suc most) ≡ 0
 StepsOnce old (Err f) new = Unit {0}

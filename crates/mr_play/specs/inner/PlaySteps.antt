@@ -1,6 +1,5 @@
 -- What the steps of `play` promise.
-use Rattle.std.specs.Prelude.{◌≡◌, ℕ, ◌+◌, List, [], ◌∷◌, ◌++◌, Option, Some}
-use Rattle.mr_ids.specs.Attempt.{Attempt}
+use Rattle.std.specs.Prelude.{◌≡◌, ℕ, List, Some}
 use Rattle.mr_ids.specs.declared.id.JobId.{JobId}
 use Rattle.mr_script.specs.declared.command.Command.{Command}
 use Rattle.mr_script.specs.Lines.{lines_of}
@@ -11,7 +10,6 @@ use Rattle.mr_sim_commands.specs.declared.fault.SimFault.TheVariants as fault
 use Rattle.mr_play.specs.declared.player.Player.{Player}
 use Rattle.mr_sim_commands.specs.declared.job.submission.Submission.{Submission}
 use Rattle.mr_play.specs.Text.{config_of, played_of, stretches_of}
-use Rattle.mr_play.specs.WorldText.{line_of_winner}
 use Rattle.mr_play.specs.Players.{state_in}
 
 -- a script is not read: its first bad line, where line 2 of the input is its first, or an allocation failure
@@ -26,10 +24,3 @@ pub record HasPlayed (job : Submission) (commands : List (ℕ × Command)) (p : 
   pub config : p.world.config ≡ config_of job
   pub comes : played_of within job commands ≡ Some (state_in p)
   pub noted : stretches_of within job commands ≡ p.stretches.items
-
--- ---- what is printed, piece by piece
-
--- the winners of the reduces from r on
-abbrev pub winners_text : ℕ → List (Option Attempt) → List ℕ
-winners_text r [] = []
-winners_text r (found ∷ more) = line_of_winner r found ++ winners_text (r + 1) more

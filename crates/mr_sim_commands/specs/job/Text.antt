@@ -19,6 +19,7 @@ use Rattle.mr_world_events.specs.declared.plan.PlanAct.{PlanAct}
 use Rattle.mr_world_events.specs.declared.plan.PlanAct.TheVariants.{Node, Master, Expire}
 use Rattle.mr_world_events.specs.declared.plan.PlanFault.{PlanFault}
 use Rattle.mr_sim_commands.specs.declared.job.submission.Submission.{Submission}
+use Rattle.mr_sim_commands.specs.job.IdleKeys.{idle_keys}
 
 -- ---- values
 
@@ -100,7 +101,7 @@ optional default f (Some d) = f d
 abbrev pub text_at : List ℕ → Data → Option (List ℕ)
 text_at key d = option_and_then as_str (get key d)
 
--- the keys in their order: the first bad one is told, and other keys are not looked at
+-- the keys in their order: the first bad one is told; other keys say nothing, and which there are is told beside the job
 unfoldable pub submission_in : Data → Result Submission JobTextFault
 submission_in d = do
   object ← required bad.Text (as_object d)
@@ -112,7 +113,7 @@ submission_in d = do
   limit ← required bad.Limit (optional 4 (number_in 1 100) (get (codes "limit") d))
   faults ← required bad.Faults (optional [] (faults_of nodes) (get (codes "faults") d))
   v2_from ← required bad.V2From (optional 1 (number_in 1 1000) (get (codes "v2from") d))
-  Ok (record { id = id; job = job; reduces = reduces; splits = splits; nodes = nodes; limit = limit; faults = faults; v2_from = v2_from })
+  Ok (record { id = id; job = job; reduces = reduces; splits = splits; nodes = nodes; limit = limit; faults = faults; v2_from = v2_from; idle_keys = idle_keys d })
 
 -- bytes that are no JSON text say no job
 unfoldable pub submission_of : List ℕ → Result Submission JobTextFault

@@ -1,4 +1,5 @@
 //! A job as it is submitted.
+use crate::job::idle_keys::IdleKeys;
 use mr_ids::JobId;
 use mr_user::Splits;
 use mr_world_events::PlanFaults;
@@ -33,4 +34,6 @@ pub struct Submission {
     pub faults: PlanFaults,
     /// From which generation on a master writes history of version 2, from 1 to 1,000.
     pub v2_from: u32,
+    /// The keys of its text that say nothing.
+    pub idle_keys: IdleKeys,
 }

@@ -6,6 +6,7 @@ ghost use Rattle.mr_sim_commands.specs.job.Text.{Gives, each, act_of, fault_of, 
 ghost use Rattle.mr_sim_commands.specs.job.Submission.{IsOfNodes, IsPlanned, IsWithinLimits};
 
 use crate::fault::{JobTextFault, SimFault};
+use crate::job::idle_keys::idle_keys_in;
 use crate::job::submission::{JobKind, Submission};
 use mr_ids::{Bytes, JobId, MAX_APP_ATTEMPTS};
 use mr_user::{MAX_REDUCES, MAX_SPLIT_LEN, MAX_SPLITS, Splits};
@@ -275,6 +276,7 @@ fn submission_in(alloc: Global, value: &Value) -> Result<Submission, SimFault>
     let limit = limit_in(value)?;
     let faults = faults_in(alloc, value, nodes)?;
     let v2_from = v2_from_in(value)?;
+    let idle_keys = idle_keys_in(alloc, value)?;
     Ok(Submission {
         id,
         job,
@@ -284,11 +286,12 @@ fn submission_in(alloc: Global, value: &Value) -> Result<Submission, SimFault>
         limit,
         faults,
         v2_from,
+        idle_keys,
     })
 }
 
 /// Reads a job text: one JSON object with the keys `id`, `job`, `reduces`, `splits`, and, where they are there, `nodes`,
-/// `limit`, `faults` and `v2from`. Other keys are not looked at.
+/// `limit`, `faults` and `v2from`. Other keys say nothing of the job, and are told beside it.
 ///
 /// `Job` names the first of these keys, in this order, that is missing or bad, or tells that there is no JSON object.
 /// Nothing else is answered but `NoMemory`, which may come at any text that is not empty.

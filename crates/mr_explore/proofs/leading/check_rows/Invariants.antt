@@ -6,4 +6,4 @@ use Rattle.mr_explore.proofs.leading.check_rows.Given as goal
 
 -- those so far lead to their ends
 abbrev pub invariant-loop-row : goal.invariant-loop-row
-invariant-loop-row l = AllByRecursion (λ (row : Row). LeadsTo l.input row.script.items row.end.items) (take l.row-index l.rows)
+invariant-loop-row l = AllByRecursion (λ (row : Row). LeadsTo l.input row.script.items row.end) (take l.row-index l.rows)

@@ -17,5 +17,5 @@ returns-clause-tells c = record {
   sequential = c.in_ok-sequential.sequential;
   of_job = c.in_ok-sequential.ensures.is;
   lead = subst (λ (t : Table). LeadToEnds c.args.input.now t.ends) c.table-table.ensures c.in_ok-check_scripts.ensures.lead;
-  is = c.in_ok-told.ensures ∙ ap (told_text c.args.form c.in_ok-sequential.sequential _) (λ i. record { table = c.table-table.ensures i; faults = c.faults.ensures i; whole = c.is_whole.ensures i });
+  is = (λ i. (c.plain.ensures.text i).items) ∙ c.in_ok-text.ensures ∙ ap (told_text c.args.form c.in_ok-sequential.sequential _) (λ i. record { table = c.table-table.ensures i; faults = c.faults.ensures i; whole = c.is_whole.ensures i });
 }

@@ -12,7 +12,7 @@ returns-in_ok-note-in-Ok-Some c =
       record { spare = e.spare; run = e.run },
       walk_made c.args.self.now c.self.inside.walk c.next_run.new.self c.in-Ok-Some.field-0 e (sym (ap (λ (x : Remaining). x.left) c.self.view_is)) c.in-Ok-Some.field-0-is c.in-Ok-Some.ensures,
       faults,
-      c.in_ok-note-in-Ok-Some.ensures.noted
+      c.in_ok-note-in-Ok-Some.ensures
           ∙ (λ i. noted (came (faults i) (record { spare = e.spare; run = e.run })) (table i)),
     )
 
