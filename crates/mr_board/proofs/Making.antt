@@ -35,33 +35,34 @@ kept-on job old new e by by' by'' n k carries is same more = (faithful-on job ol
 
 -- ---- what a call says of it
 
-abbrev seated : ℕ → List Event → Seated
-seated number made = record { number = number; made = made }
+abbrev seated : ℕ → ℕ → List Event → Seated
+seated of number made = record { board = of; number = number; made = made }
 
 -- the fields of a board and of a seat, and what contracts see of them
-module _ (w : Journal) (by : List ℕ) (n : ℕ) (made : List Event) (b : Noted) (s : Seated) (board : record { world = w; by = by } ≡ b) (seat : record { number = n; made = made } ≡ s) where
+module _ (own : ℕ) (w : Journal) (by : List ℕ) (of n : ℕ) (made : List Event) (b : Noted) (s : Seated) (board : record { number = own; world = w; by = by } ≡ b) (seat : record { board = of; number = n; made = made } ≡ s) where
   -- nothing was taken
   pub makes-none : (e : Event) (f : WorldFault) (w' : Journal) (by' : List ℕ) (made' : List Event) → IsRefused w e f → w' ≡ w → by' ≡ by → made' ≡ made
-      → Makes b s e (Err f) (record { world = w'; by = by' }) (record { number = n; made = made' })
+      → Makes b s e (Err f) (record { number = own; world = w'; by = by' }) (record { board = of; number = n; made = made' })
   makes-none e f w' by' made' refused is same-by same-made =
-      let to-board : record { world = w'; by = by' } ≡ b = (λ i. record { world = is i; by = same-by i }) ∙ board in
-      let to-seat : record { number = n; made = made' } ≡ s = (λ i. record { number = n; made = same-made i }) ∙ seat in
+      let to-board : record { number = own; world = w'; by = by' } ≡ b = (λ i. record { number = own; world = is i; by = same-by i }) ∙ board in
+      let to-seat : record { board = of; number = n; made = made' } ≡ s = (λ i. record { board = of; number = n; made = same-made i }) ∙ seat in
       ((subst (λ (x : Noted). IsRefused x.world e f) board refused, ap (λ (x : Noted). x.world) to-board), (to-board, to-seat))
 
   -- what the exit of a `?` answers
   pub makes-refused : (e : Event) (r : Result Took WorldFault) (f : WorldFault) (w' : Journal) (by' : List ℕ) (made' : List Event) → IsErrAnd r (λ g. g ≡ f) → IsRefused w e f → w' ≡ w → by' ≡ by → made' ≡ made
-      → Makes b s e r (record { world = w'; by = by' }) (record { number = n; made = made' })
+      → Makes b s e r (record { number = own; world = w'; by = by' }) (record { board = of; number = n; made = made' })
   makes-refused e r f w' by' made' g refused is same-by same-made =
       let z = err_from_is_err_and r g in
-      subst (λ (x : Result Took WorldFault). Makes b s e x (record { world = w'; by = by' }) (record { number = n; made = made' })) (sym z.1)
-      (subst (λ h. Makes b s e (Err h) (record { world = w'; by = by' }) (record { number = n; made = made' })) (sym z.2) (makes-none e f w' by' made' refused is same-by same-made))
+      subst (λ (x : Result Took WorldFault). Makes b s e x (record { number = own; world = w'; by = by' }) (record { board = of; number = n; made = made' })) (sym z.1)
+      (subst (λ h. Makes b s e (Err h) (record { number = own; world = w'; by = by' }) (record { board = of; number = n; made = made' })) (sym z.2) (makes-none e f w' by' made' refused is same-by same-made))
 
   -- the event was taken, and noted
   pub makes-one : (e copy : Event) (took : Took) (w' : Journal) (by' by'' : List ℕ) (made' made'' : List Event) → Takes w e took w' → by' ≡ by → by'' ≡ by' ++ n ∷ [] → made' ≡ made → copy ≡ e → made'' ≡ made' ++ copy ∷ []
-      → Makes b s e (Ok took) (record { world = w'; by = by'' }) (record { number = n; made = made'' })
+      → Makes b s e (Ok took) (record { number = own; world = w'; by = by'' }) (record { board = of; number = n; made = made'' })
   makes-one e copy took w' by' by'' made' made'' takes same-by more-by same-made is more-made = (
     subst (λ (x : Noted). Takes x.world e took w') board takes,
     (
+      ap (λ (x : Noted). x.number) board,
       more-by ∙ (ap (λ ks. ks ++ n ∷ []) (same-by ∙ ap (λ (x : Noted). x.by) board) ∙ ap (λ (x : Seated). b.by ++ x.number ∷ []) seat),
       noted,
     ),
@@ -70,8 +71,8 @@ module _ (w : Journal) (by : List ℕ) (n : ℕ) (made : List Event) (b : Noted)
       list : made'' ≡ made ++ e ∷ []
       list = more-made ∙ (ap (λ es. es ++ copy ∷ []) same-made ∙ ap (λ x. made ++ x ∷ []) is)
 
-      noted : seated n made'' ≡ seated s.number (s.made ++ e ∷ [])
-      noted = ap (seated n) list ∙ ap (λ (x : Seated). seated x.number (x.made ++ e ∷ [])) seat
+      noted : seated of n made'' ≡ seated s.board s.number (s.made ++ e ∷ [])
+      noted = ap (seated of n) list ∙ ap (λ (x : Seated). seated x.board x.number (x.made ++ e ∷ [])) seat
 
 -- an event that can happen is refused for want of memory alone
 pub wants-memory : (j : Journal) (e : Event) → CanHappen j e → IsRefused j e fault.NoMemory

@@ -23,13 +23,20 @@ use Rattle.mr_world.specs.Readings.{input_in}
 
 -- ---- what contracts see
 
--- a seat: its number, and the events that were made from it
+-- a seat: the number of its board, its own, and the events that were made from it
 pub record Seated : Type 0 where
+  pub board : ℕ
   pub number : ℕ
   pub made : List Event
 
--- a board: its world, and for each event of the journal the number of the seat that made it
+-- a board: its number, its world, and for each event of the journal the number of the seat that made it
 pub record Noted : Type 0 where
+  pub number : ℕ
+  pub world : Journal
+  pub by : List ℕ
+
+-- what was a board, once it is closed: its world, and for each event of the journal the number of the seat that made it
+pub record Accounted : Type 0 where
   pub world : Journal
   pub by : List ℕ
 
@@ -90,7 +97,7 @@ IsDue j d = (input_now j d.container ≡ Some d.input) × (d.reduces ≡ j.confi
 
 -- an event that is taken gets the seat's number, and is the last of the seat's list; else nothing changes
 abbrev pub Notes : {A : Type 0} → Noted → Seated → Event → Result A WorldFault → Noted → Seated → Type 0
-Notes b s e (Ok a) b' s' = (b'.by ≡ b.by ++ s.number ∷ []) × (s' ≡ record { number = s.number; made = s.made ++ e ∷ [] })
+Notes b s e (Ok a) b' s' = (b'.number ≡ b.number) × (b'.by ≡ b.by ++ s.number ∷ []) × (s' ≡ record { board = s.board; number = s.number; made = s.made ++ e ∷ [] })
 Notes b s e (Err f) b' s' = (b' ≡ b) × (s' ≡ s)
 
 -- one step from a seat: the world's own step, noted
@@ -126,9 +133,11 @@ abbrev pub Differ : List Seated → Type 0
 Differ [] = Unit {0}
 Differ (s ∷ rest) = All (λ t. t.number ≢ s.number) rest × Differ rest
 
--- their numbers differ, their lists have as many events together as the journal, and each list is the journal's events of its number, in order
-abbrev pub Account : List ℕ → List Event → List Seated → Type 0
-Account by journal seats =
-    Differ seats
+-- they are of the board of this number, their own numbers differ, their lists have as many events together as the journal, and each list is the journal's events of
+-- its number, in order
+abbrev pub Account : ℕ → List ℕ → List Event → List Seated → Type 0
+Account number by journal seats =
+    All (λ s. s.board ≡ number) seats
+    × Differ seats
     × (sum (map (λ s. length s.made) seats) ≡ length journal)
     × All (λ s. s.made ≡ made_by s.number by journal) seats

@@ -10,6 +10,7 @@ ghost use Rattle.mr_world.specs.Journal.{world_in};
 ghost use Rattle.mr_board.specs.Boards.{Account, Applies, Hands, IsDue, IsFaithfulFor, Makes, SeesSequentialFiles, Works, is_computed, why_not_due};
 
 use crate::close::{Mismatch, accounts};
+use crate::closed::Closed;
 use crate::seat::Seat;
 use crate::work::{Finished, Work, copied};
 use mr_container_work::inputs_are_short;
@@ -22,9 +23,10 @@ use std::alloc::{AllocError, Global};
 use std::marker::{Model, PhantomData};
 
 /// A world in whose journal each result is what the job's functions give, and for each event of the journal the number of the seat that made it.
-/// One thread holds it at a time; who shares it puts a lock round it.
+/// A board has a number, by which its seats are told from those of other boards. One thread holds it at a time; who shares it puts a lock round it.
 #[derive(Drop)]
 pub struct Board<J: Job> {
+    number: u64,
     world: World,
     by: Vec<u32>,
     of: PhantomData<J>,
@@ -37,28 +39,31 @@ impl<J: Job> Model for Board<J> {
 
     ghost Value = { Noted };
 
-    ghost view = { λ b. record { world = b.world; by = b.by.items } };
+    ghost view = { λ b. record { number = b.number; world = b.world; by = b.by.items } };
 
     ghost invariant = { λ b. IsFaithfulFor (computation J.Key.cmp J.Key.codec J.Value.codec J.functions) b.world × (length b.by.items ≡ length b.world.events) };
 }
 
 impl<J: Job> Board<J> {
-    /// A board over a world in which nothing has happened, and its seats, numbered from 0. It fails for want of
-    /// memory alone.
+    /// The board of this number over a world in which nothing has happened, and its seats, numbered from 0. Who has
+    /// several boards gives each a number of its own, so that none is closed with the seats of another. It fails for
+    /// want of memory alone.
     pub fn new(
         alloc: Global,
         _job: &J,
+        number: u64,
         world: World,
         seats: u32,
     ) -> Result<(Board<J>, Vec<Seat>), AllocError>
         requires empty { world.events ≡ [] }
         requires some { 0 < seats }
-        ensures board { IfOk result (λ r. (r.0.world ≡ world) × (r.0.by ≡ [])) }
+        ensures board { IfOk result (λ r. (r.0.number ≡ number) × (r.0.world ≡ world) × (r.0.by ≡ [])) }
         ensures count { IfOk result (λ r. length r.1.items ≡ seats) }
-        ensures seats { IfOk result (λ r. (i : ℕ) (s : _) → slice_get r.1.items i ≡ Some s → (s.number ≡ i) × (s.made ≡ [])) }
+        ensures seats { IfOk result (λ r. (i : ℕ) (s : _) → slice_get r.1.items i ≡ Some s → (s.board ≡ number) × (s.number ≡ i) × (s.made ≡ [])) }
     {
-        let all = seats_of(alloc, seats)?;
+        let all = seats_of(alloc, number, seats)?;
         let board = Board {
+            number,
             world,
             by: Vec::new(alloc),
             of: PhantomData,
@@ -145,23 +150,23 @@ impl<J: Job> Board<J> {
         self.make_noted(seat, event, copy)
     }
 
-    /// The world, where the seats account for its journal. They do where their numbers differ, their lists have as many events together as the journal,
-    /// and each list is the journal's events of its number, in order. Else `Mismatch`, and nothing is handed back.
-    pub fn close(self, seats: Vec<Seat>) -> Result<World, Mismatch>
-        ensures world { IfOk result (λ w. w ≡ self.world) }
-        ensures faithful { IfOk result (IsFaithfulFor (computation J.Key.cmp J.Key.codec J.Value.codec J.functions)) }
-        ensures account { IfOk result (λ _. Account self.by self.world.events seats.items) }
-        ensures mismatch { IfErr result (λ _. ¬ Account self.by self.world.events seats.items) }
+    /// The board, closed, where the seats account for its journal. They do where all are of this board, their numbers differ, their lists have as many events
+    /// together as the journal, and each list is the journal's events of its number, in order. Else `Mismatch`, and nothing is handed back.
+    pub fn close(self, seats: Vec<Seat>) -> Result<Closed<J>, Mismatch>
+        ensures closed { IfOk result (λ c. (c.world ≡ self.world) × (c.by ≡ self.by)) }
+        ensures account { IfOk result (λ _. Account self.number self.by self.world.events seats.items) }
+        ensures mismatch { IfErr result (λ _. ¬ Account self.number self.by self.world.events seats.items) }
     {
-        if !accounts(&seats, &self.by, self.world.journal()) {
+        if !accounts(&seats, self.number, &self.by, self.world.journal()) {
             return Err(Mismatch);
         }
         let Board {
+            number: _,
             world,
-            by: _,
+            by,
             of: _,
         } = self;
-        Ok(world)
+        Ok(Closed::new(world, by))
     }
 
     // Why a container is given nothing to compute.
@@ -256,14 +261,14 @@ fn is_computed(event: &Event) -> bool
     matches!(event, Event::Computed { .. })
 }
 
-// The seats of a board.
-fn seats_of(alloc: Global, seats: u32) -> Result<Vec<Seat>, AllocError>
+// The seats of the board of this number.
+fn seats_of(alloc: Global, board: u64, seats: u32) -> Result<Vec<Seat>, AllocError>
     ensures count { IfOk result (λ r. length r.items ≡ seats) }
-    ensures seats { IfOk result (λ r. (i : ℕ) (s : _) → slice_get r.items i ≡ Some s → (s.number ≡ i) × (s.made ≡ [])) }
+    ensures seats { IfOk result (λ r. (i : ℕ) (s : _) → slice_get r.items i ≡ Some s → (s.board ≡ board) × (s.number ≡ i) × (s.made ≡ [])) }
 {
     let mut all = Vec::new(alloc);
     for number in 0..seats {
-        all.push(Seat::new(alloc, number))?;
+        all.push(Seat::new(alloc, board, number))?;
     }
     Ok(all)
 }

@@ -6,15 +6,25 @@ ghost use Rattle.mr_board.specs.Boards.{Account, Differ, made_by};
 use crate::seat::Seat;
 use mr_world_events::Event;
 
-/// The seats do not account for the journal.
+/// The seats do not account for the journal, or one of them is another board's.
 #[derive(Clone, Copy, PartialEq, Eq, Debug)]
 pub struct Mismatch;
 
-/// Whether the seats account for the journal.
-pub fn accounts(seats: &[Seat], by: &[u32], journal: &[Event]) -> bool
-    ensures { IsTrue result ↔ Account by.now journal.now seats.now }
+/// Whether the seats account for the journal of the board of this number.
+pub fn accounts(seats: &[Seat], number: u64, by: &[u32], journal: &[Event]) -> bool
+    ensures { IsTrue result ↔ Account number by.now journal.now seats.now }
 {
-    differ(seats) && have(seats, journal.len()) && all_have_their_own(seats, by, journal)
+    are_of(seats, number)
+        && differ(seats)
+        && have(seats, journal.len())
+        && all_have_their_own(seats, by, journal)
+}
+
+// Whether all seats are of the board of this number.
+fn are_of(seats: &[Seat], number: u64) -> bool
+    ensures { IsTrue result ↔ All (λ s. s.board ≡ number) seats.now }
+{
+    seats.iter().all(|seat| seat.board() == number)
 }
 
 // Whether no two seats have one number.

@@ -1,5 +1,5 @@
 -- A success that was told means the marker, and then a reader sees the sequential execution's files.
-use Rattle.std.proofs.Common.{◌≡◌, ◌↔◌, ℕ, Bool, true, List, map, nat_eq, Some, IsTrue, refl, rules}
+use Rattle.std.proofs.Common.{◌≡◌, ◌↔◌, ℕ, Bool, true, List, length, map, nat_eq, Some, IsTrue, refl, rules}
 use Rattle.std.proofs.lemmas.Slice.Eq.{slice_eq-Decides}
 use Rattle.std.specs.Bool.{Decides}
 use Rattle.std.specs.Cmp.Lexicographic.{pointwise}
@@ -20,7 +20,8 @@ use Rattle.mr_board.specs.mr_world.specs.VisibleFiles.{as_pair}
 use Rattle.mr_board.specs.mr_world.specs.declared.results.VisibleFile.{VisibleFile}
 use Rattle.mr_board.specs.mr_world.proofs.Headlines.{outputs-are-bounded}
 use Rattle.mr_board.specs.Boards.{IsFaithfulFor}
-use Rattle.mr_board_report.specs.Reports.{IsReported, IsThrough}
+use Rattle.mr_board_report.specs.Reports.{IsOf, IsReported, IsThrough}
+use Rattle.mr_board_report.specs.declared.plan.Plan.{Plan}
 
 numbers-decide : (a b : ℕ) → Decides (nat_eq a b) (a ≡ b)
 numbers-decide = search (rules)
@@ -44,10 +45,12 @@ shows job j laws show range splits faithful told =
     show (job_of job) j.config (within j.config) (laws j.config splits) (outputs-are-bounded j.config) range.reduces.1 j.events faithful (marked j told)
 
 -- a report of a world that was looked at
-pub report_is : {K V : Type 0} (job : Computation K V) (config : Config) (j : Journal) (succeeded : Bool) (files : List VisibleFile) → LawsOf job → MarkedWorldsShowSequential → IsInRange j.config → AreSplits j.config.splits → IsFaithfulFor job j →
-    j.config ≡ config → IsThrough j → map as_pair files ≡ visible (world_in j) → IsTrue succeeded ↔ (outcome (world_in j) ≡ Some true) → IsReported job config succeeded files j
-report_is job config j succeeded files laws show range splits faithful same through seen told = record {
-  config_is = same;
+pub report_is : {K V : Type 0} (job : Computation K V) (plan : Plan) (j : Journal) (succeeded : Bool) (files : List VisibleFile) (by : List ℕ) → LawsOf job → MarkedWorldsShowSequential → IsInRange j.config → AreSplits j.config.splits → IsFaithfulFor job j →
+    IsOf plan j → length by ≡ length j.events → IsThrough j → map as_pair files ≡ visible (world_in j) → IsTrue succeeded ↔ (outcome (world_in j) ≡ Some true) → IsReported job plan succeeded files by j
+report_is job plan j succeeded files by laws show range splits faithful is noted through seen told = record {
+  config_is = is.0;
+  follows = is.1;
+  noted = noted;
   faithful = faithful;
   through = through;
   seen = seen;

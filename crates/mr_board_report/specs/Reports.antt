@@ -1,8 +1,7 @@
 -- What a report of a driven job says (our own profile). The files are those of the sequential execution (Dean and Ghemawat 3.3).
-use Rattle.std.specs.Prelude.{◌≡◌, Bool, true, List, map, Some, None}
+use Rattle.std.specs.Prelude.{◌≡◌, ℕ, Bool, true, List, length, map, Some, None}
 use Rattle.mr_user.specs.Computation.{Computation}
 use Rattle.mr_master_model.specs.declared.phase.Phase.TheVariants.{Stopped}
-use Rattle.mr_world_model.specs.Packets.{Config}
 use Rattle.mr_world_model.specs.Results.{outcome, visible}
 use Rattle.mr_world_files.specs.Jobs.{job_of}
 use Rattle.mr_world_files.specs.Shown.{ShowsSequential}
@@ -11,6 +10,8 @@ use Rattle.mr_board.specs.mr_world.specs.Readings.{phase_in}
 use Rattle.mr_board.specs.mr_world.specs.VisibleFiles.{as_pair}
 use Rattle.mr_board.specs.mr_world.specs.declared.results.VisibleFile.{VisibleFile}
 use Rattle.mr_board.specs.Boards.{IsFaithfulFor}
+use Rattle.mr_board_report.specs.Following.{Follows}
+use Rattle.mr_board_report.specs.declared.plan.Plan.{Plan}
 use Rattle.mr_board_report.specs.declared.fault.DriveFault.{DriveFault}
 use Rattle.mr_board_report.specs.declared.fault.DriveFault.TheVariants.{JournalMismatch, TurnsSpent, NoMemory}
 
@@ -18,9 +19,17 @@ use Rattle.mr_board_report.specs.declared.fault.DriveFault.TheVariants.{JournalM
 abbrev pub IsThrough : Journal → Type 0
 IsThrough j = outcome (world_in j) ≡ None → phase_in j.config (world_in j) (world_in j).fence ≡ Some Stopped
 
--- a report of this world, for a plan of this config
-pub record IsReported {K V : Type 0} (job : Computation K V) (config : Config) (succeeded : Bool) (files : List VisibleFile) (j : Journal) : Type 0 where
-  pub config_is : j.config ≡ config
+-- a run of a plan: of its config, and with its faults
+abbrev pub IsOf : Plan → Journal → Type 0
+IsOf plan j = (j.config ≡ plan.config) × Follows plan j
+
+-- a report of this world, whose events the seats of these numbers made, for a plan
+pub record IsReported {K V : Type 0} (job : Computation K V) (plan : Plan) (succeeded : Bool) (files : List VisibleFile) (by : List ℕ) (j : Journal) : Type 0 where
+  pub config_is : j.config ≡ plan.config
+  -- its faults are those of the plan, each at its place; behind a crash the next master starts; all else is calm
+  pub follows : Follows plan j
+  -- each event has its seat's number
+  pub noted : length by ≡ length j.events
   -- each result in its journal is what the job's functions give
   pub faithful : IsFaithfulFor job j
   pub through : IsThrough j
@@ -32,9 +41,9 @@ pub record IsReported {K V : Type 0} (job : Computation K V) (config : Config) (
   -- and then a reader sees the files of the sequential execution, and nothing else
   pub sequential : succeeded ≡ true → ShowsSequential (job_of job) j.config (world_in j)
 
--- why there is no report of this world, for a plan of this config: another config, an end that was not reached, or no memory
-abbrev pub IsUnreported : Config → Journal → DriveFault → Type 0
-IsUnreported config j JournalMismatch = j.config ≡ config → ⊥
-IsUnreported config j TurnsSpent = (j.config ≡ config) × (IsThrough j → ⊥)
-IsUnreported config j NoMemory = (j.config ≡ config) × IsThrough j
-IsUnreported config j _ = ⊥
+-- why there is no report of this world, for a plan: it is no run of the plan, its end was not reached, or there is no memory
+abbrev pub IsUnreported : Plan → Journal → DriveFault → Type 0
+IsUnreported plan j JournalMismatch = ¬ IsOf plan j
+IsUnreported plan j TurnsSpent = IsOf plan j × (IsThrough j → ⊥)
+IsUnreported plan j NoMemory = IsOf plan j × IsThrough j
+IsUnreported plan j _ = ⊥

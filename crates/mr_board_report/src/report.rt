@@ -1,12 +1,16 @@
 //! What a run that came to its end is told as.
-ghost use Rattle.std.specs.Prelude.{◌≡◌, ◌↔◌, Some, true, IfOk, IfErr, IsTrue};
+ghost use Rattle.std.specs.Prelude.{◌≡◌, ◌↔◌, Some, true, length, IfOk, IfErr, IsTrue};
 ghost use Rattle.mr_user.specs.Computation.{computation};
 ghost use Rattle.mr_world_model.specs.Results.{outcome};
 ghost use Rattle.mr_board.specs.mr_world.specs.Journal.{world_in};
 ghost use Rattle.mr_board.specs.Boards.{IsFaithfulFor};
-ghost use Rattle.mr_board_report.specs.Reports.{IsReported, IsThrough, IsUnreported};
+ghost use Rattle.mr_board_report.specs.Following.{Follows};
+ghost use Rattle.mr_board_report.specs.Reports.{IsOf, IsReported, IsThrough, IsUnreported};
 
 use crate::fault::DriveFault;
+use crate::plan::Plan;
+use crate::stage::follows;
+use mr_board::Closed;
 use mr_board::mr_world::{Config, VisibleFile, World};
 use mr_master_model::Phase;
 use mr_user::Job;
@@ -21,21 +25,35 @@ pub struct Report {
     pub files: Vec<VisibleFile>,
     /// The world, with its journal.
     pub world: World,
+    /// For each event of the journal the number of the seat that made it.
+    pub by: Vec<u32>,
 }
 
-/// The report of a closed board's world, for a plan of this config.
+/// The report of a closed board, for a plan.
 ///
-/// Refusals in order: `JournalMismatch` where the world is of another config, `TurnsSpent` where no outcome was told and
-/// the newest master is not Stopped, and `NoMemory`.
-pub fn reported<J: Job>(config: &Config, world: World) -> Result<Report, DriveFault>
+/// Refusals in order: `JournalMismatch` where the board's world is of another config, or its journal does not follow the plan's faults; `TurnsSpent` where no
+/// outcome was told and the newest master is not Stopped; and `NoMemory`.
+pub fn reported<J: Job>(plan: &Plan, closed: Closed<J>) -> Result<Report, DriveFault>
+    ensures closed { IfOk result (λ r. (r.world ≡ closed.world) × (r.by.items ≡ closed.by)) }
+    ensures report { IfOk result (λ r. IsReported (computation J.Key.cmp J.Key.codec J.Value.codec J.functions) plan.now r.succeeded r.files.items r.by.items r.world) }
+    ensures none { IfErr result (IsUnreported plan.now closed.world) }
+{
+    let (world, by) = closed.into_parts();
+    told::<J>(plan, world, by)
+}
+
+// The report of this world, whose events the seats of these numbers made.
+fn told<J: Job>(plan: &Plan, world: World, by: Vec<u32>) -> Result<Report, DriveFault>
     requires faithful { IsFaithfulFor (computation J.Key.cmp J.Key.codec J.Value.codec J.functions) world }
-    ensures report { IfOk result (λ r. (r.world ≡ world) × IsReported (computation J.Key.cmp J.Key.codec J.Value.codec J.functions) config.now r.succeeded r.files.items r.world) }
-    ensures none { IfErr result (IsUnreported config.now world) }
+    requires noted { length by.items ≡ length world.events }
+    ensures closed { IfOk result (λ r. (r.world ≡ world) × (r.by.items ≡ by.items)) }
+    ensures report { IfOk result (λ r. IsReported (computation J.Key.cmp J.Key.codec J.Value.codec J.functions) plan.now r.succeeded r.files.items r.by.items r.world) }
+    ensures none { IfErr result (IsUnreported plan.now world) }
 {
     jobs_have_their_laws::<J>();
     marked_worlds_show_sequential_files();
     world.config().ranges();
-    if !is_of(&world, config) {
+    if !is_of(&world, plan) {
         return Err(DriveFault::JournalMismatch);
     }
     if !is_through(&world) {
@@ -50,12 +68,21 @@ pub fn reported<J: Job>(config: &Config, world: World) -> Result<Report, DriveFa
         succeeded,
         files,
         world,
+        by,
     })
+}
+
+// Whether a world is of a plan's config, and its journal follows the plan's faults.
+fn is_of(world: &World, plan: &Plan) -> bool
+    ensures { IsTrue result ↔ IsOf plan.now world.now }
+{
+    is_of_config(world, &plan.config)
+        && follows(plan.config.nodes, plan.faults.as_slice(), world.journal())
 }
 
 // Whether a world is of a config.
 #[tactic(auto, using(crate::proofs::Success::same_config))]
-fn is_of(world: &World, config: &Config) -> bool
+fn is_of_config(world: &World, config: &Config) -> bool
     ensures { IsTrue result ↔ (world.now.config ≡ config.now) }
 {
     *world.config() == *config

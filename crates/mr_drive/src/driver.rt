@@ -1,20 +1,21 @@
 //! The threads: one a node, one a master that the plan can start, one for starts and faults. All that waits is here.
-ghost use Rattle.std.specs.Prelude.{IfOk};
+ghost use Rattle.std.specs.Prelude.{◌≡◌, IfOk, IfErr};
 ghost use Rattle.mr_user.specs.Computation.{computation};
 ghost use Rattle.mr_board_report.specs.Reports.{IsReported};
+ghost use Rattle.mr_drive.specs.Driving.{IsUndriven, role_of};
 
 use crate::actor::{Actor, Role};
-use crate::calls::Bells;
+use crate::condition_variables::ConditionVariables;
 use crate::fault::DriveFault;
 use crate::fault_turns::Coming;
-use crate::floor::Floor;
-use crate::plan::Plan;
+use crate::plan::masters;
+use crate::shared_state::SharedState;
 use crate::turn::Next;
 use mr_board::mr_world::World;
 use mr_board::{Board, Seat};
-use mr_board_report::{Report, reported};
+use mr_board_report::{Plan, Report, reported};
 use mr_user::{Gate, Job};
-use std::alloc::Global;
+use std::alloc::{AllocError, Global};
 use std::sync::{Mutex, Wait};
 use std::thread;
 use std::thread::Threads;
@@ -27,7 +28,7 @@ use std::thread::Threads;
 ///
 /// There is no report (`DriveFault`) where turns or the gate's looks are spent, or where no thread finds anything to
 /// do. There is none where a limit would be passed, where a thread can't be made, or where memory was refused. Last,
-/// there is none where the seats do not account for the journal.
+/// there is none where the seats do not account for the journal, or the journal does not follow the plan.
 pub fn drive<R: Threads + Wait + Sync, J: Job + Send + Sync, G: Gate + Sync>(
     rt: &R,
     alloc: Global,
@@ -39,30 +40,84 @@ pub fn drive<R: Threads + Wait + Sync, J: Job + Send + Sync, G: Gate + Sync>(
 where
     J::Key: Send + Sync,
     J::Value: Send + Sync,
-    ensures { IfOk result (λ r. IsReported (computation J.Key.cmp J.Key.codec J.Value.codec J.functions) plan.now.config r.succeeded r.files.items r.world) }
+    ensures { IfOk result (λ r. IsReported (computation J.Key.cmp J.Key.codec J.Value.codec J.functions) plan.now r.succeeded r.files.items r.by.items r.world) }
 {
     let nodes = plan.config.nodes;
-    let seats = nodes.saturating_add(plan.masters()).saturating_add(1);
+    let seats = nodes.saturating_add(masters(plan)).saturating_add(1);
     let world = match World::new(alloc, plan.config.copy()?) {
         Ok(world) => world,
         Err(fault) => return Err(DriveFault::from(fault.wants_memory())),
     };
-    let (board, all) = Board::new(alloc, job, world, seats)?;
+    let (board, all) = Board::new(alloc, job, BOARD, world, seats)?;
+    let crew = crew_of(alloc, all, nodes, turns)?;
     let coming = Coming::new(plan.faults.copy()?);
-    let floor = Mutex::new(Floor::new(alloc, board, coming, seats)?);
-    let back = run_threads(rt, alloc, job, gate, &floor, nodes, all, turns)?;
-    let (board, stop) = floor.into_inner().ends();
+    let shared = Shared {
+        state: Mutex::new(SharedState::new(alloc, board, coming, seats)?),
+        conditions: ConditionVariables::new(),
+    };
+    let back = run_threads(rt, alloc, job, gate, &shared, crew)?;
+    let Shared {
+        state,
+        conditions: _,
+    } = shared;
+    let (board, stop) = state.into_inner().ends();
+    ended(plan, board, stop, back)
+}
+
+// The number of the one board of a run.
+const BOARD: u64 = 0;
+
+// The report of a board that no thread acts on any longer, and why they stopped where that was not the end.
+fn ended<J: Job>(
+    plan: &Plan,
+    board: Board<J>,
+    stop: Option<DriveFault>,
+    back: Vec<Seat>,
+) -> Result<Report, DriveFault>
+    ensures report { IfOk result (λ r. IsReported (computation J.Key.cmp J.Key.codec J.Value.codec J.functions) plan.now r.succeeded r.files.items r.by.items r.world) }
+    ensures is { IfOk result (λ r. (r.world ≡ board.world) × (r.by.items ≡ board.by)) }
+    ensures none { IfErr result (IsUndriven plan.now board stop back.items) }
+{
     if let Some(fault) = stop {
         return Err(fault);
     }
     match board.close(back) {
-        Ok(world) => reported::<J>(&plan.config, world),
+        Ok(closed) => reported(plan, closed),
         Err(_) => Err(DriveFault::JournalMismatch),
     }
 }
 
+// What all threads of a run share: the state under its lock, and where they wait.
+#[derive(Drop)]
+struct Shared<J: Job> {
+    state: Mutex<SharedState<J>>,
+    conditions: ConditionVariables,
+}
+
+impl<J: Job> Shared<J> {
+    // Lets every thread end, for this reason.
+    fn stop<R: Wait>(&self, rt: &R, fault: DriveFault) {
+        let mut guard = self.state.lock(rt);
+        guard.stop(fault);
+        let call = guard.take_call();
+        drop(guard);
+        self.conditions.notify(call);
+    }
+}
+
+// What one thread has of its own.
+#[derive(Drop)]
+struct Worker {
+    alloc: Global,
+    actor: Actor,
+    seat: Seat,
+    turns: u64,
+}
+
 // Whom the seat of a number acts for: nodes, then faults, then masters.
-fn role_of(number: u32, nodes: u32) -> Role {
+fn role_of(number: u32, nodes: u32) -> Role
+    ensures { result ≡ role_of nodes number }
+{
     if number < nodes {
         Role::Node(number)
     } else if number == nodes {
@@ -72,35 +127,50 @@ fn role_of(number: u32, nodes: u32) -> Role {
     }
 }
 
-// A thread for each seat, and the seats that they give back.
+// A worker for each seat.
+fn crew_of(
+    alloc: Global,
+    seats: Vec<Seat>,
+    nodes: u32,
+    turns: u64,
+) -> Result<Vec<Worker>, AllocError> {
+    let mut crew = Vec::with_capacity(alloc, seats.len())?;
+    for seat in seats {
+        let actor = Actor::new(alloc, role_of(seat.number(), nodes));
+        crew.push(Worker {
+            alloc,
+            actor,
+            seat,
+            turns,
+        })?;
+    }
+    Ok(crew)
+}
+
+// A thread for each worker, and the seats that they give back.
 fn run_threads<R: Threads + Wait + Sync, J: Job + Send + Sync, G: Gate + Sync>(
     rt: &R,
     alloc: Global,
     job: &J,
     gate: &G,
-    floor: &Mutex<Floor<J>>,
-    nodes: u32,
-    seats: Vec<Seat>,
-    turns: u64,
+    shared: &Shared<J>,
+    crew: Vec<Worker>,
 ) -> Result<Vec<Seat>, DriveFault>
 where
     J::Key: Send + Sync,
     J::Value: Send + Sync,
 {
-    let bells = Bells::new();
-    let bells = &bells;
     thread::scope(thread::scope_env(), rt, |scope| {
-        let mut handles = Vec::with_capacity(alloc, seats.len())?;
-        let mut back = Vec::with_capacity(alloc, seats.len())?;
-        for seat in seats {
-            let actor = Actor::new(alloc, role_of(seat.number(), nodes));
-            match scope.spawn(move || act(rt, alloc, job, gate, floor, bells, actor, seat, turns)) {
+        let mut handles = Vec::with_capacity(alloc, crew.len())?;
+        let mut back = Vec::with_capacity(alloc, crew.len())?;
+        for worker in crew {
+            match scope.spawn(move || act(rt, job, gate, shared, worker)) {
                 Ok(handle) => {
                     if handles.push(handle).is_err() {
-                        stop_all(rt, floor, bells, DriveFault::NoMemory);
+                        shared.stop(rt, DriveFault::NoMemory);
                     }
                 }
-                Err(_) => stop_all(rt, floor, bells, DriveFault::Thread),
+                Err(_) => shared.stop(rt, DriveFault::Thread),
             }
         }
         for handle in handles {
@@ -115,33 +185,24 @@ where
 // What a thread does, until it ends or its turns are spent. It gives its seat back.
 fn act<R: Wait, J: Job, G: Gate>(
     rt: &R,
-    alloc: Global,
     job: &J,
     gate: &G,
-    floor: &Mutex<Floor<J>>,
-    bells: &Bells,
-    actor: Actor,
-    seat: Seat,
-    turns: u64,
+    shared: &Shared<J>,
+    worker: Worker,
 ) -> Seat {
-    let mut actor = actor;
-    let mut seat = seat;
+    let Worker {
+        alloc,
+        mut actor,
+        mut seat,
+        turns,
+    } = worker;
     for _ in 0..turns {
-        if !turn(rt, alloc, job, gate, floor, bells, &mut actor, &mut seat) {
+        if !turn(rt, alloc, job, gate, shared, &mut actor, &mut seat) {
             return seat;
         }
     }
-    stop_all(rt, floor, bells, DriveFault::TurnsSpent);
+    shared.stop(rt, DriveFault::TurnsSpent);
     seat
-}
-
-// Lets every thread end.
-fn stop_all<R: Wait, J: Job>(rt: &R, floor: &Mutex<Floor<J>>, bells: &Bells, fault: DriveFault) {
-    let mut guard = floor.lock(rt);
-    guard.stop(fault);
-    let call = guard.take_call();
-    drop(guard);
-    bells.ring(call);
 }
 
 // One turn; false if it was the last. It waits until there is something to do. User functions run outside the lock.
@@ -150,32 +211,36 @@ fn turn<R: Wait, J: Job, G: Gate>(
     alloc: Global,
     job: &J,
     gate: &G,
-    floor: &Mutex<Floor<J>>,
-    bells: &Bells,
+    shared: &Shared<J>,
     actor: &mut Actor,
     seat: &mut Seat,
 ) -> bool {
-    let bell = bells.of(seat.number());
+    let conditions = &shared.conditions;
+    let condition = conditions.of(seat.number());
     let mut next = Next::Goes;
-    let mut guard = bell.wait_while(rt, floor.lock(rt), |floor| {
-        let waits = floor.waits(alloc, actor, seat, &mut next);
+    let mut guard = condition.wait_while(rt, shared.state.lock(rt), |state| {
+        let waits = state.waits(alloc, actor, seat, &mut next);
         if waits {
-            bells.ring(floor.falls_asleep(seat));
+            conditions.notify(state.falls_asleep(seat));
         }
         waits
     });
     let call = guard.take_call();
     drop(guard);
-    bells.ring(call);
+    conditions.notify(call);
     match next {
         Next::Ends => false,
         Next::Computes(c, work) => {
             let done = work.run(alloc, job, gate);
-            let mut guard = bell.wait_while(rt, floor.lock(rt), |floor| floor.is_held());
+            let mut guard = condition.wait_while(
+                rt,
+                shared.state.lock(rt),
+                |state| state.is_held(),
+            );
             guard.hand_in(actor, seat, &c, done);
             let call = guard.take_call();
             drop(guard);
-            bells.ring(call);
+            conditions.notify(call);
             true
         }
         Next::Goes | Next::Waits(_) => true,

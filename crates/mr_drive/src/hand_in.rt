@@ -1,4 +1,7 @@
 //! What a work gave comes back to the board.
+ghost use Rattle.std.specs.Prelude.{◌≡◌};
+ghost use Rattle.mr_drive.specs.Driving.{stopping_work};
+
 use crate::fault::{DriveFault, stopping};
 use crate::made::made;
 use mr_board::{Board, Finished, Seat};
@@ -22,18 +25,30 @@ pub(crate) fn hand_in<J: Job>(
                 Some(fault) => Err(fault),
             },
         },
-        Err(WorkFault::User(_) | WorkFault::Shuffle(_)) => {
-            made(
-                board,
-                seat,
-                Event::Die {
-                    container: *container,
-                },
-            )?;
-            Ok(())
-        }
-        Err(WorkFault::Gate(_)) => Err(DriveFault::TurnsSpent),
-        Err(WorkFault::Full) => Err(DriveFault::Full),
-        Err(WorkFault::NoMemory) => Err(DriveFault::NoMemory),
+        Err(fault) => match stopping_work(fault) {
+            None => {
+                made(
+                    board,
+                    seat,
+                    Event::Die {
+                        container: *container,
+                    },
+                )?;
+                Ok(())
+            }
+            Some(fault) => Err(fault),
+        },
+    }
+}
+
+// What the refusal of a work means to a run: none where the job or the shuffle refused it, so that its container dies.
+fn stopping_work(fault: WorkFault) -> Option<DriveFault>
+    ensures { result ≡ stopping_work fault }
+{
+    match fault {
+        WorkFault::User(_) | WorkFault::Shuffle(_) => None,
+        WorkFault::Gate(_) => Some(DriveFault::TurnsSpent),
+        WorkFault::Full => Some(DriveFault::Full),
+        WorkFault::NoMemory => Some(DriveFault::NoMemory),
     }
 }

@@ -1,4 +1,7 @@
 //! Events that a thread makes on the board.
+ghost use Rattle.std.specs.Prelude.{Some};
+ghost use Rattle.mr_drive.specs.Driving.{HasMade};
+
 use crate::fault::{DriveFault, stopping};
 use crate::turn::Turn;
 use mr_board::{Board, Seat};
@@ -10,7 +13,9 @@ pub(crate) fn made<J: Job>(
     board: &mut Board<J>,
     seat: &mut Seat,
     event: Event,
-) -> Result<Turn, DriveFault> {
+) -> Result<Turn, DriveFault>
+    ensures { HasMade (Some event) board.old.world board.new.world }
+{
     match board.apply_as(seat, event) {
         Ok(_) => Ok(Turn::Made),
         Err(fault) => match stopping(fault) {

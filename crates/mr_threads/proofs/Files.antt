@@ -19,8 +19,8 @@ use Rattle.mr_sim_commands.specs.seq.Text.{output_of, PrintsSeq}
 use Rattle.mr_trace.specs.mr_play.specs.Text.{job_as, config_of}
 use Rattle.mr_trace.specs.mr_play.specs.WorldText.{visible_text, winner_line, marker_line, outcome_line, line_of_marker, world_text}
 use Rattle.mr_threads.specs.declared.seen.Seen.{Seen}
-use Rattle.mr_threads.specs.Runs.{IsRun, Reports}
-use Rattle.mr_threads.specs.Text.{ShowsRun, Tells, TellsFilesOfSeq}
+use Rattle.mr_threads.specs.Runs.{IsRun, Reports, plan_of}
+use Rattle.mr_threads.specs.Text.{HasSucceeded, ShowsRun, Tells, TellsFilesOfSeq}
 
 same_output : (kind : JobKind) (reduces r : ℕ) (splits : List (List ℕ)) → (job_as kind).sequential reduces r splits ≡ output_of kind reduces r splits
 unfolding job_as output_of
@@ -57,12 +57,22 @@ prints input r text reports won is =
     subst (PrintsSeq input) (sym (is ∙ ap (flat_map visible_text) reports.is.seen ∙ visible-is input reports.job reports.said (world_in r.world) s))
     (prints-seq input reports.job reports.said (world_in r.world) s)
 
+-- and then there was a run that succeeded
+pub has_succeeded : (input : List ℕ) (r : Report) → Reports input r → r.succeeded ≡ true → HasSucceeded input
+has_succeeded input r reports won = record {
+  job = reports.job;
+  said = reports.said;
+  run = r.world;
+  is = reports.is.run;
+  succeeded = reports.is.told won;
+}
+
 -- ---- what is shown of a run
 
 together : (a m t v : List ℕ) → ((a ++ m) ++ t) ++ v ≡ a ++ (m ++ (t ++ v))
 together a m t v = append_assoc (a ++ m) t v ∙ append_assoc a m (t ++ v)
 
-tells-files : (input : List ℕ) (job : Submission) (j : Journal) → submission_of input ≡ Ok job → IsRun (job_as job.job) (config_of job) j → IsMarked (world_in j) → TellsFilesOfSeq input j
+tells-files : (input : List ℕ) (job : Submission) (j : Journal) → submission_of input ≡ Ok job → IsRun (job_as job.job) (plan_of job) j → IsMarked (world_in j) → TellsFilesOfSeq input j
 unfolding world_text
 tells-files input job j said run marked =
     let w = world_in j in
@@ -78,12 +88,14 @@ tells-files input job j said run marked =
       };
     }
 
-pub shows_run : (seen : Seen) (input : List ℕ) (r : Report) (text : List ℕ) → Reports input r → Tells seen r.world text → ShowsRun seen input text
+pub shows_run : (seen : Seen) (input : List ℕ) (r : Report) (text : List ℕ) → Reports input r → Tells seen r.by.items r.world text → ShowsRun seen input text
 shows_run seen input r text reports tells = record {
   job = reports.job;
   said = reports.said;
   run = r.world;
   is = reports.is.run;
+  by = r.by.items;
+  noted = reports.is.noted;
   tells = tells;
   files = tells-files input reports.job r.world reports.said reports.is.run;
 }

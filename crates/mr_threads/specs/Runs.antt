@@ -1,22 +1,29 @@
 -- A run that threads made of a job: a list of events that came to its end, whatever the schedule was (our own profile).
-use Rattle.std.specs.Prelude.{◌≡◌, true, ℕ, List, map, Some, Ok}
+use Rattle.std.specs.Prelude.{◌≡◌, true, ℕ, List, length, map, Some, Ok}
 use Rattle.mr_world_model.specs.Claims.{IsMarked}
-use Rattle.mr_world_model.specs.Packets.{Config}
 use Rattle.mr_world_model.specs.Results.{outcome, visible}
 use Rattle.mr_world_model.specs.Sequential.{Job, IsFaithful}
 use Rattle.mr_world_files.specs.Shown.{ShowsSequential}
 use Rattle.mr_trace.specs.mr_world.specs.Journal.{Journal, world_in}
 use Rattle.mr_trace.specs.mr_world.specs.Limits.{within}
 use Rattle.mr_trace.specs.mr_world.specs.VisibleFiles.{as_pair}
+use Rattle.mr_drive.specs.mr_board_report.specs.Following.{Follows}
 use Rattle.mr_drive.specs.mr_board_report.specs.Reports.{IsThrough}
+use Rattle.mr_drive.specs.mr_board_report.specs.declared.plan.Plan.{Plan}
 use Rattle.mr_drive.specs.mr_board_report.specs.declared.report.Report.{Report}
 use Rattle.mr_sim_commands.specs.declared.job.submission.Submission.{Submission}
 use Rattle.mr_sim_commands.specs.job.Text.{submission_of}
 use Rattle.mr_trace.specs.mr_play.specs.Text.{job_as, config_of}
 
--- a run of a job: each result in it is what the job's functions give, and an outcome was told or the newest master is Stopped
-pub record IsRun (job : Job) (config : Config) (j : Journal) : Type 0 where
-  pub config_is : j.config ≡ config
+-- what is planned for the job of a job text
+abbrev pub plan_of : Submission → Plan
+plan_of job = record { config = config_of job; faults = job.faults }
+
+-- a run of a job as planned: each result in it is what the job's functions give, and an outcome was told or the newest master is Stopped
+pub record IsRun (job : Job) (plan : Plan) (j : Journal) : Type 0 where
+  pub config_is : j.config ≡ plan.config
+  -- its faults are those of the plan, each at its place; behind a crash the next master starts; all else is calm
+  pub follows : Follows plan j
   pub faithful : IsFaithful job j.config (within j.config) j.events
   pub through : IsThrough j
   -- where the success marker is, a reader sees the files of the sequential execution, and nothing else
@@ -24,8 +31,10 @@ pub record IsRun (job : Job) (config : Config) (j : Journal) : Type 0 where
 
 -- a report of a run: its files are what a reader sees. It succeeded exactly where success was told, and then with the
 -- files of the sequential execution
-pub record IsReportOf (job : Job) (config : Config) (r : Report) : Type 0 where
-  pub run : IsRun job config r.world
+pub record IsReportOf (job : Job) (plan : Plan) (r : Report) : Type 0 where
+  pub run : IsRun job plan r.world
+  -- each event has its seat's number
+  pub noted : length r.by.items ≡ length r.world.events
   pub told : r.succeeded ≡ true → outcome (world_in r.world) ≡ Some true
   pub tells : outcome (world_in r.world) ≡ Some true → r.succeeded ≡ true
   pub seen : map as_pair r.files.items ≡ visible (world_in r.world)
@@ -40,4 +49,4 @@ pub record IsRead (input : List ℕ) : Type 0 where
 pub record Reports (input : List ℕ) (r : Report) : Type 0 where
   pub job : Submission
   pub said : submission_of input ≡ Ok job
-  pub is : IsReportOf (job_as job.job) (config_of job) r
+  pub is : IsReportOf (job_as job.job) (plan_of job) r

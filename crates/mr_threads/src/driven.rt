@@ -2,16 +2,15 @@
 ghost use Rattle.std.specs.Prelude.{◌≡◌, IfOk, IfErr};
 ghost use Rattle.mr_user.specs.Computation.{computation};
 ghost use Rattle.mr_world_files.specs.Jobs.{job_of};
-ghost use Rattle.mr_sim_commands.specs.job.Submission.{IsWithinLimits};
-ghost use Rattle.mr_trace.specs.mr_play.specs.Text.{config_of, job_as};
+ghost use Rattle.mr_trace.specs.mr_play.specs.Text.{job_as};
 ghost use Rattle.mr_threads.specs.Runs.{IsReportOf, Reports};
 ghost use Rattle.mr_threads.specs.Text.{ShownFails};
-ghost use Rattle.mr_threads.specs.inner.{IsOfThreads};
+ghost use Rattle.mr_threads.specs.inner.{IsOfThreads, fault_of};
 
 use mr_drive::{DriveFault, PairGate, Plan, Report, drive};
 use mr_jobs::{LineIndex, MaxByKey, WordCount};
-use mr_sim_commands::{JobKind, SimFault, Submission, read_job_text};
-use mr_trace::mr_world::Config;
+use mr_sim_commands::{IdleKeys, JobKind, SimFault, read_job_text};
+use mr_trace::mr_play::setup_of;
 use mr_user::{Gate, Job, OpenGate};
 use mr_world_files::{jobs_have_their_laws, marked_worlds_show_sequential_files};
 use std::alloc::AllocGlobal;
@@ -28,19 +27,25 @@ pub(crate) struct Manner {
     pub(crate) hold: bool,
 }
 
-/// What came of a job text whose job threads ran.
+/// What came of a job text whose job threads ran, and the keys of the text that say nothing.
 #[tactic(auto, using(crate::proofs::Failing::bad_text, crate::proofs::Failing::no_run, crate::proofs::Reported::reports_of))]
 pub(crate) fn driven<H: AllocGlobal + Clock + Threads + Wait + Sync>(
     rt: &H,
     input: &[u8],
     manner: Manner,
-) -> Result<Report, SimFault>
-    ensures ok { IfOk result (Reports input.now) }
+) -> Result<(Report, IdleKeys), SimFault>
+    ensures ok { IfOk result (λ told. Reports input.now told.0) }
     ensures fault { IfErr result (ShownFails input.now) }
 {
-    let submission = read_job_text(rt.alloc(), input)?;
-    let kind = submission.job;
-    driven_as(rt, kind, &plan_of(submission), manner)
+    let setup = setup_of(read_job_text(rt.alloc(), input)?);
+    let plan = Plan {
+        config: setup.config,
+        faults: setup.faults,
+    };
+    match driven_as(rt, setup.job, &plan, manner) {
+        Ok(report) => Ok((report, setup.idle_keys)),
+        Err(fault) => Err(fault),
+    }
 }
 
 // Runs a plan for a job of this kind.
@@ -51,31 +56,13 @@ fn driven_as<H: AllocGlobal + Clock + Threads + Wait + Sync>(
     plan: &Plan,
     manner: Manner,
 ) -> Result<Report, SimFault>
-    ensures ok { IfOk result (IsReportOf (job_as kind) plan.now.config) }
+    ensures ok { IfOk result (IsReportOf (job_as kind) plan.now) }
     ensures fault { IfErr result IsOfThreads }
 {
     match kind {
         JobKind::WordCount => driven_by(rt, &WordCount, plan, manner),
         JobKind::MaxByKey => driven_by(rt, &MaxByKey, plan, manner),
         JobKind::LineIndex => driven_by(rt, &LineIndex, plan, manner),
-    }
-}
-
-// What is to be driven for a submission.
-fn plan_of(submission: Submission) -> Plan
-    requires { IsWithinLimits submission }
-    ensures { result.config ≡ config_of submission }
-{
-    Plan {
-        config: Config {
-            job: submission.id,
-            splits: submission.splits,
-            reduces: submission.reduces,
-            nodes: submission.nodes,
-            limit: submission.limit,
-            v2_from: submission.v2_from,
-        },
-        faults: submission.faults,
     }
 }
 
@@ -89,7 +76,7 @@ fn driven_by<H: AllocGlobal + Clock + Threads + Wait + Sync, J: Job + Send + Syn
 where
     J::Key: Send + Sync,
     J::Value: Send + Sync,
-    ensures ok { IfOk result (IsReportOf (job_of (computation J.Key.cmp J.Key.codec J.Value.codec J.functions)) plan.now.config) }
+    ensures ok { IfOk result (IsReportOf (job_of (computation J.Key.cmp J.Key.codec J.Value.codec J.functions)) plan.now) }
     ensures fault { IfErr result IsOfThreads }
 {
     if manner.hold {
@@ -115,7 +102,7 @@ fn driven_behind<
 where
     J::Key: Send + Sync,
     J::Value: Send + Sync,
-    ensures ok { IfOk result (IsReportOf (job_of (computation J.Key.cmp J.Key.codec J.Value.codec J.functions)) plan.now.config) }
+    ensures ok { IfOk result (IsReportOf (job_of (computation J.Key.cmp J.Key.codec J.Value.codec J.functions)) plan.now) }
     ensures fault { IfErr result IsOfThreads }
 {
     jobs_have_their_laws::<J>();
@@ -129,7 +116,8 @@ where
 
 // What the program calls a fault of the threads.
 fn fault_of(fault: DriveFault) -> SimFault
-    ensures { IsOfThreads result }
+    ensures is { result ≡ fault_of fault }
+    ensures of_threads { IsOfThreads result }
 {
     match fault {
         DriveFault::TurnsSpent => SimFault::TurnsSpent,

@@ -1,38 +1,39 @@
 //! What `threads` prints.
-ghost use Rattle.std.specs.Prelude.{◌≡◌, IfOk, IfErr, map};
+ghost use Rattle.std.specs.Prelude.{◌≡◌, true, IfOk, IfErr, map};
 ghost use Rattle.std.specs.List.{flat_map};
 ghost use Rattle.mr_trace.specs.mr_world.specs.VisibleFiles.{as_pair};
-ghost use Rattle.mr_sim_commands.specs.seq.Text.{PrintsSeq};
 ghost use Rattle.mr_trace.specs.mr_play.specs.WorldText.{visible_text};
-ghost use Rattle.mr_threads.specs.Text.{ShownFails, ThreadsFail};
+ghost use Rattle.mr_threads.specs.Text.{PrintsSuccess, ShownFails, ThreadsFail};
 
 use crate::driven::{Manner, driven};
-use mr_sim_commands::{SimFault, print_file, read_job_text};
+use mr_sim_commands::{Printed, SimFault, print_file, read_job_text};
 use mr_trace::mr_world::VisibleFile;
 use std::alloc::{AllocError, AllocGlobal, Global};
 use std::rt::Clock;
 use std::sync::Wait;
 use std::thread::Threads;
 
-/// What `threads` prints for a job text: the part files of the job, which threads ran. It is what `seq` prints for the text.
+/// What `threads` prints for a job text: the part files of the job, which threads ran with success. It is what `seq` prints for the text.
 ///
 /// `Job` names the first bad key of the job text. `JobFailed`: a failure was told, or the newest master stopped. `TurnsSpent`, `JournalMismatch`, `Thread` and `Full`
 /// are those of `mr_drive`. `NoMemory` may come at any text; no other fault comes.
-#[tactic(auto, using(crate::proofs::Files::prints, crate::proofs::Failing::nothing_to_print, crate::proofs::Failing::has_failed))]
+#[tactic(auto, using(crate::proofs::Files::prints, crate::proofs::Files::has_succeeded, crate::proofs::Failing::nothing_to_print, crate::proofs::Failing::has_failed))]
 pub fn threads_output<H: AllocGlobal + Clock + Threads + Wait + Sync>(
     rt: &H,
     input: &[u8],
     turns: u64,
     hold: bool,
-) -> Result<Vec<u8>, SimFault>
-    ensures ok { IfOk result (λ v. PrintsSeq input.now v.items) }
+) -> Result<Printed, SimFault>
+    ensures ok { IfOk result (λ v. PrintsSuccess input.now v.text.items) }
+    ensures met { IfOk result (λ v. v.met ≡ true) }
     ensures fault { IfErr result (ThreadsFail input.now) }
 {
-    let report = driven(rt, input, Manner { turns, hold })?;
+    let (report, idle_keys) = driven(rt, input, Manner { turns, hold })?;
     if !report.succeeded {
         return Err(SimFault::JobFailed);
     }
-    Ok(files_text(rt.alloc(), &report.files)?)
+    let text = files_text(rt.alloc(), &report.files)?;
+    Ok(Printed::plain(rt.alloc(), text, idle_keys))
 }
 
 // Files as they are printed.
@@ -62,7 +63,7 @@ fn room_for(files: &[VisibleFile]) -> usize {
 
 /// What `threads` answers where there is no handle that starts threads: what is wrong with the job text, else `Thread`.
 #[tactic(auto, using(crate::proofs::Failing::bad_text))]
-pub fn unthreaded(alloc: Global, input: &[u8]) -> Result<Vec<u8>, SimFault>
+pub fn unthreaded(alloc: Global, input: &[u8]) -> Result<Printed, SimFault>
     ensures fault { IfErr result (ShownFails input.now) }
     ensures none { IfOk result (λ _. ⊥) }
 {

@@ -8,7 +8,7 @@ ghost use Rattle.mr_trace.specs.Trace.{trace_text};
 
 use crate::driven::{Manner, driven};
 use mr_script_writer::{put_comments, put_script};
-use mr_sim_commands::SimFault;
+use mr_sim_commands::{Printed, SimFault};
 use mr_trace::mr_play::{Shown, print_histories, print_world};
 use mr_trace::mr_world::World;
 use mr_trace::{Makers, trace_of};
@@ -41,46 +41,48 @@ pub fn threads_seen<H: AllocGlobal + Clock + Threads + Wait + Sync>(
     turns: u64,
     hold: bool,
     seen: Seen,
-) -> Result<Vec<u8>, SimFault>
-    ensures ok { IfOk result (λ v. ShowsRun seen input.now v.items) }
+) -> Result<Printed, SimFault>
+    ensures ok { IfOk result (λ v. ShowsRun seen input.now v.text.items) }
+    ensures met { IfOk result (λ v. v.met ≡ true) }
     ensures fault { IfErr result (ShownFails input.now) }
 {
-    let report = driven(rt, input, Manner { turns, hold })?;
-    seen_of(rt.alloc(), &report.world, seen)
+    let (report, idle_keys) = driven(rt, input, Manner { turns, hold })?;
+    let text = seen_of(rt.alloc(), &report.world, &report.by, seen)?;
+    Ok(Printed::plain(rt.alloc(), text, idle_keys))
 }
 
 // What is shown of a world's run.
-fn seen_of(alloc: Global, world: &World, seen: Seen) -> Result<Vec<u8>, SimFault>
-    ensures text { IfOk result (λ v. Tells seen world.now v.items) }
+fn seen_of(alloc: Global, world: &World, by: &[u32], seen: Seen) -> Result<Vec<u8>, SimFault>
+    ensures text { IfOk result (λ v. Tells seen by.now world.now v.items) }
     ensures memory { IfErr result (λ e. e ≡ NoMemory) }
 {
     match seen {
-        Seen::Shown(shown) => shown_of(alloc, world, shown),
-        Seen::Drawn(part) => drawn(alloc, world, &Makers::Threads, part, &[]),
-        Seen::Json => json_of(alloc, world, &Makers::Threads, &[]),
+        Seen::Shown(shown) => shown_of(alloc, world, by, shown),
+        Seen::Drawn(part) => drawn(alloc, world, &Makers::Threads(by), part, &[]),
+        Seen::Json => json_of(alloc, world, &Makers::Threads(by), &[]),
         Seen::Script => scripted(alloc, world),
     }
 }
 
-// The trace of a world's run, with the threads that made it, where it is asked for, else nothing.
-fn before_of(alloc: Global, world: &World, shown: Shown) -> Result<Vec<u8>, SimFault>
+// The trace of a world's run, with the threads of the seats that made it, where it is asked for, else nothing.
+fn before_of(alloc: Global, world: &World, by: &[u32], shown: Shown) -> Result<Vec<u8>, SimFault>
     ensures untraced { IfOk result (λ v. shown.trace ≡ false → v.items ≡ []) }
-    ensures traced { IfOk result (λ v. shown.trace ≡ true → v.items ≡ trace_text by_threads world.now) }
+    ensures traced { IfOk result (λ v. shown.trace ≡ true → v.items ≡ trace_text (by_threads by.now) world.now) }
     ensures memory { IfErr result (λ e. e ≡ NoMemory) }
 {
     if shown.trace {
-        trace_of(alloc, world, &Makers::Threads)
+        trace_of(alloc, world, &Makers::Threads(by))
     } else {
         Ok(Vec::new(alloc))
     }
 }
 
 // What `play` prints of a world, with what is asked for before it and behind it.
-fn shown_of(alloc: Global, world: &World, shown: Shown) -> Result<Vec<u8>, SimFault>
-    ensures text { IfOk result (λ v. TellsRun shown world.now v.items) }
+fn shown_of(alloc: Global, world: &World, by: &[u32], shown: Shown) -> Result<Vec<u8>, SimFault>
+    ensures text { IfOk result (λ v. TellsRun shown by.now world.now v.items) }
     ensures memory { IfErr result (λ e. e ≡ NoMemory) }
 {
-    let mut text = before_of(alloc, world, shown)?;
+    let mut text = before_of(alloc, world, by, shown)?;
     print_world(&mut text, world)?;
     if shown.history {
         print_histories(&mut text, world)?;

@@ -21,7 +21,7 @@ line_is start text mid behind end bag more after first is added begun told ended
     ∙ append_assoc start text (put ++ 10 ∷ [])
 
 -- the line of an event, and those of the events behind it; who made it is told by either of two that agree on it
-pub one_more : (who left : Journal → Event → Maker) (j : Journal) (e : Event) (es : List Event) (out new whole : List ℕ) → left j e ≡ who j e → new ≡ out ++ line_text (happened left j e)
+pub one_more : (who left : Journal → Maker) (j : Journal) (e : Event) (es : List Event) (out new whole : List ℕ) → left j ≡ who j → new ≡ out ++ line_text (happened left j e)
     → out ++ lines_text (happened_behind who j.config j.events (e ∷ es)) ≡ whole → new ++ lines_text (happened_behind who j.config (j.events ++ e ∷ []) es) ≡ whole
 one_more who left j e es out new whole same put all =
     ap (λ l. l ++ lines_text (happened_behind who j.config (j.events ++ e ∷ []) es)) (put ∙ ap (λ m. out ++ line_text (by m)) same)

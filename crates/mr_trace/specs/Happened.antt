@@ -1,20 +1,16 @@
 -- What happened in a run, event by event, as far as a trace tells it (our own profile).
-use Rattle.std.specs.Prelude.{ℕ, List, [], ◌∷◌, ◌++◌, length, Option, Some, None, if◌then◌else◌, nat_lt, slice_get}
+use Rattle.std.specs.Prelude.{ℕ, List, [], ◌∷◌, ◌++◌, length, Option, Some, None, if◌then◌else◌, nat_eq, nat_lt, ◌-◌, slice_get}
 use Rattle.std.specs.Option.{option_and_then, option_map}
-use Rattle.mr_packet.specs.declared.packet.Address.{Address}
-use Rattle.mr_packet.specs.declared.packet.Address.TheVariants as address
 use Rattle.mr_packet.specs.declared.packet.Envelope.{Envelope}
 use Rattle.mr_world_events.specs.declared.event.Event.{Event}
 use Rattle.mr_world_events.specs.declared.event.Event.TheVariants as event
 use Rattle.mr_script.specs.declared.event_name.EventName.{EventName}
 use Rattle.mr_world_model.specs.Packets.{Config}
-use Rattle.mr_world_model.specs.Pasts.{Place}
 use Rattle.mr_world_model.specs.Sending.{sent}
-use Rattle.mr_world_model.specs.World.{World}
 use Rattle.mr_play.specs.mr_world_state.specs.declared.asked.Asked.{Asked}
 use Rattle.mr_play.specs.mr_world.specs.Asks.{asked_in}
 use Rattle.mr_play.specs.mr_world.specs.Journal.{Journal, world_in}
-use Rattle.mr_play.specs.mr_world.specs.Readings.{due_in, place_in, wish_in}
+use Rattle.mr_play.specs.mr_world.specs.Readings.{due_in, wish_in}
 use Rattle.mr_play.specs.declared.sources.Source.{Source}
 use Rattle.mr_play.specs.declared.sources.Stretch.{Stretch}
 use Rattle.mr_play.specs.EventNames.{duty_event, wish_event}
@@ -36,44 +32,25 @@ abbrev pub by_line : Option Source → Maker
 by_line None = maker.Unknown
 by_line (Some s) = maker.Line s
 
--- the thread of the node that a container runs on
-abbrev pub node_of : Option Place → Seat
-node_of None = seat.Nobody
-node_of (Some p) = seat.Node p.node
+-- the thread of the seat of this number: those of the nodes come first, then that of starts and faults, then those of the masters, by generation
+abbrev pub thread_of : ℕ → ℕ → Seat
+thread_of nodes number = if nat_lt number nodes then seat.Node number else if nat_eq number nodes then seat.Faults else seat.Master (number - nodes)
 
--- the thread of an addressee
-abbrev pub host_of : World → Address → Seat
-host_of w (address.Master k) = seat.Master k
-host_of w (address.Container c) = node_of (place_in w c)
-host_of w (address.Node n) = seat.Node n
-
-abbrev pub host_by : World → Option Envelope → Seat
-host_by w None = seat.Nobody
-host_by w (Some e) = host_of w e.to
-
--- that of a node makes what befalls the node and its containers, that of a master what the master does and hears, and one makes starts and faults
-abbrev pub seat_of : World → Event → Seat
-seat_of w (event.Start k kept) = seat.Faults
-seat_of w (event.Crash k kept) = seat.Faults
-seat_of w (event.NodeRestart n) = seat.Faults
-seat_of w (event.Expire k n) = seat.Faults
-seat_of w (event.Duty k f) = seat.Master k
-seat_of w (event.LaunchOn k t n) = seat.Master k
-seat_of w (event.Deliver i) = host_by w (slice_get w.bag i)
-seat_of w (event.ContainerStep c f) = node_of (place_in w c)
-seat_of w (event.Computed c bytes) = node_of (place_in w c)
-seat_of w (event.Die c) = node_of (place_in w c)
+abbrev pub by_seat : ℕ → Option ℕ → Maker
+by_seat nodes None = maker.Unknown
+by_seat nodes (Some number) = maker.Thread (thread_of nodes number)
 
 -- by the lines of a script, from the stretch of each
-abbrev pub by_lines : List Stretch → Journal → Event → Maker
-by_lines stretches j e = by_line (source_at stretches (length j.events))
+abbrev pub by_lines : List Stretch → Journal → Maker
+by_lines stretches j = by_line (source_at stretches (length j.events))
 
-abbrev pub by_threads : Journal → Event → Maker
-by_threads j e = maker.Thread (seat_of (world_in j) e)
+-- by threads, from the seat that was noted for each event
+abbrev pub by_threads : List ℕ → Journal → Maker
+by_threads by j = by_seat j.config.nodes (slice_get by (length j.events))
 
-abbrev pub maker_of : Makers → (Journal → Event → Maker)
+abbrev pub maker_of : Makers → (Journal → Maker)
 maker_of (Lines stretches) = by_lines stretches.now
-maker_of Threads = by_threads
+maker_of (Threads by) = by_threads by.now
 
 -- ---- one event
 
@@ -93,12 +70,12 @@ pub record Happened : Type 0 where
   pub packets : List Envelope  -- those that it added
 
 -- an event behind those of a journal, where this tells who makes an event
-abbrev pub happened : (Journal → Event → Maker) → Journal → Event → Happened
+abbrev pub happened : (Journal → Maker) → Journal → Event → Happened
 happened who j e = record {
   place = length j.events;
   event = e;
   name = name_of j e;
-  maker = who j e;
+  maker = who j;
   asked = asked_in j e;
   first = length (world_in j).bag;
   packets = sent j.config (world_in j) e;
@@ -107,10 +84,10 @@ happened who j e = record {
 -- ---- a run
 
 -- these events in turn, behind those that were before them
-abbrev pub happened_behind : (Journal → Event → Maker) → Config → List Event → List Event → List Happened
+abbrev pub happened_behind : (Journal → Maker) → Config → List Event → List Event → List Happened
 happened_behind who cfg before [] = []
 happened_behind who cfg before (e ∷ es) = happened who (record { config = cfg; events = before }) e ∷ happened_behind who cfg (before ++ e ∷ []) es
 
 -- all that happened in a run
-abbrev pub happened_in : (Journal → Event → Maker) → Journal → List Happened
+abbrev pub happened_in : (Journal → Maker) → Journal → List Happened
 happened_in who j = happened_behind who j.config [] j.events

@@ -32,7 +32,6 @@ abbrev pub seat_text : Seat → List ℕ
 seat_text seat.Faults = codes "faults"
 seat_text (seat.Master k) = codes "master " ++ decimal k
 seat_text (seat.Node n) = codes "node " ++ decimal n
-seat_text seat.Nobody = []
 
 -- the line of the script, and whether a calm of it made the event; or the thread
 abbrev pub maker_text : Maker → List ℕ
@@ -80,5 +79,5 @@ abbrev pub lines_text : List Happened → List ℕ
 lines_text all = flat_map line_text all
 
 -- the trace of a run, where this tells who makes an event
-abbrev pub trace_text : (Journal → Event → Maker) → Journal → List ℕ
+abbrev pub trace_text : (Journal → Maker) → Journal → List ℕ
 trace_text who j = lines_text (happened_in who j)

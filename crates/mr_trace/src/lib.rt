@@ -27,11 +27,11 @@ mod trace;
 mod trace_words;
 
 pub use asked::{put_call, put_call_of, put_heard};
-pub use makers::{Maker, Makers, left_at, maker_of};
+pub use makers::{Maker, Makers, left_at, maker_of, put_maker};
 pub use mr_play;
 pub use mr_play::mr_world;
 pub use packet_words::put_packet;
-pub use seats::{Seat, put_seat, put_thread};
+pub use seats::{Seat, put_thread, thread_of};
 pub use shown::play_shown;
 pub use trace::{happen, name_of, opened, trace_of};
 pub use trace_words::{put_address, put_container, put_event, put_number, put_small};

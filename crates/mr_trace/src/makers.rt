@@ -1,16 +1,14 @@
 //! Who makes the events of a run, which is told beside each.
 ghost use Rattle.std.specs.Prelude.{◌≡◌, ◌≤◌, ◌++◌, ℕ, OnOk, length};
-ghost use Rattle.mr_world_model.specs.World.{Event};
 ghost use Rattle.mr_play.specs.mr_world.specs.Journal.{Journal};
 ghost use Rattle.mr_trace.specs.Happened.{maker_of, source_at};
 ghost use Rattle.mr_trace.specs.Trace.{maker_text};
 ghost use Rattle.mr_trace.specs.declared.makers.Maker.TheVariants.{Line};
 
-use crate::seats::{Seat, put_in_brackets, seat_of};
+use crate::seats::{Seat, put_in_brackets, thread_of};
 use crate::trace_words::put_number;
 use mr_play::mr_world::World;
 use mr_play::{Source, Stretch};
-use mr_world_events::Event;
 use std::alloc::AllocError;
 
 /// Who made the events of a run, which is told beside each.
@@ -18,8 +16,9 @@ use std::alloc::AllocError;
 pub enum Makers<'a> {
     /// Lines of a script, and their calms.
     Lines(&'a [Stretch]),
-    /// Threads: one for each node, one for each master, and one for starts and faults.
-    Threads,
+    /// Threads: one for each node, one for each master, and one for starts and faults. For each event of the journal
+    /// there is the number of the seat that was noted for it.
+    Threads(&'a [u32]),
 }
 
 /// Who made one event.
@@ -29,30 +28,33 @@ pub enum Maker {
     Line(Source),
     /// A thread.
     Thread(Seat),
-    /// No line is known of.
+    /// Nobody is known of.
     Unknown,
 }
 
 /// Who makes the event that comes next in this world.
-pub fn maker_of(world: &World, event: &Event, makers: &Makers<'_>) -> Maker
-    ensures { result ≡ maker_of makers.now world.now event.now }
+pub fn maker_of(world: &World, makers: &Makers<'_>) -> Maker
+    ensures { result ≡ maker_of makers.now world.now }
 {
     match makers {
         Makers::Lines(stretches) => match source_at(stretches, world.journal().len()) {
             Some(source) => Maker::Line(source),
             None => Maker::Unknown,
         },
-        Makers::Threads => Maker::Thread(seat_of(world, event)),
+        Makers::Threads(by) => match by.get(world.journal().len()) {
+            Some(number) => Maker::Thread(thread_of(world.config().nodes, *number)),
+            None => Maker::Unknown,
+        },
     }
 }
 
 /// The same makers without the stretches that ended at this place of the journal or before it, which made none of the events from here on.
 pub fn left_at<'a>(makers: &Makers<'a>, place: usize) -> Makers<'a>
-    ensures { (j : Journal) (e : Event) → place ≤ length j.events → maker_of result j e ≡ maker_of makers.now j e }
+    ensures { (j : Journal) → place ≤ length j.events → maker_of result j ≡ maker_of makers.now j }
 {
     match makers {
         Makers::Lines(stretches) => Makers::Lines(stretches_left(stretches, place)),
-        Makers::Threads => Makers::Threads,
+        Makers::Threads(by) => Makers::Threads(by),
     }
 }
 

@@ -91,7 +91,7 @@ fn put_beginning(
     out.extend_from_slice(b": ")?;
     put_event(out, event)?;
     put_name(out, name_of(world, event)?)?;
-    put_maker(out, maker_of(world, event, makers))?;
+    put_maker(out, maker_of(world, makers))?;
     put_asked(out, b" | ", world, event)
 }
 

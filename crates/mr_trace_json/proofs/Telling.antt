@@ -98,7 +98,7 @@ one_packet vs new v place e es whole pushed is all =
 -- ---- lines
 
 -- the line of an event, and those of the events behind it; who made it is told by either of two that agree on it
-pub one_more : (who left : Journal → Event → Maker) (j : Journal) (e : Event) (es : List Event) (out new whole : List ℕ) → left j e ≡ who j e → new ≡ out ++ happened_line (happened left j e)
+pub one_more : (who left : Journal → Maker) (j : Journal) (e : Event) (es : List Event) (out new whole : List ℕ) → left j ≡ who j → new ≡ out ++ happened_line (happened left j e)
     → out ++ objects_text (happened_behind who j.config j.events (e ∷ es)) ≡ whole → new ++ objects_text (happened_behind who j.config (j.events ++ e ∷ []) es) ≡ whole
 one_more who left j e es out new whole same put all =
     ap (λ l. l ++ objects_text (happened_behind who j.config (j.events ++ e ∷ []) es)) (put ∙ ap (λ m. out ++ happened_line (by m)) same)

@@ -55,5 +55,5 @@ abbrev pub ending_line : Config → World → List ℕ → List ℕ
 ending_line cfg w told = line_of (ending_object cfg w told)
 
 -- all lines of a run, where this tells who makes an event: what happened, an object each, and last what came of it
-abbrev pub json_text : (Journal → Event → Maker) → List ℕ → Journal → List ℕ
+abbrev pub json_text : (Journal → Maker) → List ℕ → Journal → List ℕ
 json_text who told j = objects_text (happened_in who j) ++ ending_line j.config (world_in j) told

@@ -36,7 +36,7 @@ pub fn put_beginning(
     put_count(object, alloc, "place", world.journal().len() as u64)?;
     put_event(object, alloc, event)?;
     put_name(object, alloc, name_of(world, event)?)?;
-    put_maker(object, alloc, maker_of(world, event, makers))?;
+    put_maker(object, alloc, maker_of(world, makers))?;
     put_asked(object, alloc, world, event)
 }
 

@@ -10,7 +10,7 @@ use crate::rows::{Facts, event_of, facts_of, name_label, put_consequences, put_d
 use mr_packet::{Address, Envelope, Packet};
 use mr_sim_commands::SimFault;
 use mr_trace::mr_world::World;
-use mr_trace::{Makers, put_address, put_number, put_packet, put_seat};
+use mr_trace::{Makers, maker_of, put_address, put_maker, put_number, put_packet};
 use mr_trace_svg::{
     Arrow, Delivery, Drawing, End, Lane, Part, Row, Sending, Sign, Tone, container_lane, lane_of,
     master_lane,
@@ -136,8 +136,8 @@ fn add(
     let end = end_at(world, event);
     let before = facts_of(world, event)?;
     let mut row = row_of(alloc, &drawing.lanes, world, event)?;
-    if matches!(makers, Makers::Threads) {
-        put_seat(&mut row.words, world, event)?;
+    if let Makers::Threads(_) = makers {
+        put_maker(&mut row.words, maker_of(world, makers))?;
     }
     let first = world.bag().len();
     row.leftwards = arrive(drawing, event, place)?;

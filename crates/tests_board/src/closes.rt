@@ -1,6 +1,6 @@
 //! Boards that are closed, with the seats that account for their journals and with others.
 
-use crate::fixtures::{TEXT, Table, opened};
+use crate::fixtures::{TEXT, Table, numbered, opened};
 use mr_board::{Mismatch, Seat};
 use mr_world::World;
 use mr_world_events::Event;
@@ -59,8 +59,11 @@ fn job_is_run_from_two_seats(rt: HostRuntime) {
     } = table;
     let seats = listed(&rt, rt.alloc(), Some(nodes), Some(masters));
     match board.close(seats) {
-        Ok(world) => {
+        Ok(closed) => {
+            let (world, by) = closed.into_parts();
             assert!(rt; world.outcome() == Some(true));
+            assert!(rt; by.len() == world.journal().len());
+            assert!(rt; by.iter().filter(|number| **number == 1).count() == 2);
             shows_the_file(&rt, &world);
         }
         Err(Mismatch) => panic!(rt; "a mismatch"),
@@ -142,5 +145,39 @@ fn idle_seat_is_not_missed(rt: HostRuntime) {
         last: _,
     } = started(&rt, rt.alloc());
     let seats = listed(&rt, rt.alloc(), Some(masters), None);
-    assert!(rt; board.close(seats).is_ok_and(|world| world.newest() == 1));
+    assert!(rt;
+        board
+            .close(seats)
+            .is_ok_and(|closed| closed.world().newest() == 1)
+    );
+}
+
+// Two boards whose first master started, from the first seat of each: a board is closed with its own seat alone.
+#[test]
+fn seat_of_another_board(rt: HostRuntime) {
+    let Table {
+        board,
+        masters: _,
+        nodes: _,
+        next: _,
+        last: _,
+    } = started(&rt, rt.alloc());
+    let mut other = numbered(&rt, rt.alloc(), 2, b"a b a");
+    other.takes(
+        &rt,
+        Event::Start {
+            generation: 1,
+            kept: 0,
+        },
+    );
+    let Table {
+        board: _,
+        masters,
+        nodes: _,
+        next: _,
+        last: _,
+    } = other;
+    assert!(rt; masters.board() == 2);
+    let seats = listed(&rt, rt.alloc(), Some(masters), None);
+    assert!(rt; board.close(seats).is_err());
 }

@@ -1,12 +1,11 @@
 //! Jobs that threads run: gates, and works at once. Runs with faults of a plan are rows of tools/hostile.
-ghost use Rattle.mr_sim_commands.specs.job.Submission.{IsWithinLimits};
-
 use mr_drive::{DriveFault, Plan, Report, drive};
 use mr_ids::TaskKind;
 use mr_jobs::WordCount;
-use mr_sim_commands::{Submission, read_job_text};
-use mr_user::{Gate, GateFault};
-use mr_world::Config;
+use mr_play::setup_of;
+use mr_sim_commands::read_job_text;
+use mr_user::{Gate, GateFault, OpenGate};
+use mr_world_events::Event;
 use std::alloc::Global;
 use std::process::Abort;
 use std::sync::atomic::{AtomicU64, Ordering};
@@ -23,25 +22,14 @@ fn plan(rt: &impl Abort, alloc: Global, parts: &str) -> Plan {
         "{{\"id\":\"job_200707121733_0003\",\"reduces\":1,{parts}}}"
     ).expect(rt, "no memory");
     match read_job_text(alloc, text.as_bytes()) {
-        Ok(submission) => planned(submission),
+        Ok(submission) => {
+            let setup = setup_of(submission);
+            Plan {
+                config: setup.config,
+                faults: setup.faults,
+            }
+        }
         Err(fault) => panic!(rt; "{fault}"),
-    }
-}
-
-// What a submission asks for.
-fn planned(submission: Submission) -> Plan
-    requires { IsWithinLimits submission }
-{
-    Plan {
-        config: Config {
-            job: submission.id,
-            splits: submission.splits,
-            reduces: submission.reduces,
-            nodes: submission.nodes,
-            limit: submission.limit,
-            v2_from: submission.v2_from,
-        },
-        faults: submission.faults,
     }
 }
 
@@ -144,4 +132,19 @@ fn a_gate_that_refuses_ends_the_run(rt: HostRuntime) {
     let plan = plan(&rt, rt.alloc(), r#""job":"wordcount","splits":["a b a"]"#);
     let fault = drive(&rt, rt.alloc(), &WordCount, &ShutGate, &plan, TURNS).err();
     confirm!(rt; fault == Some(DriveFault::TurnsSpent), &fault);
+}
+
+// The fault of the plan is the second event, and the report tells its seat: the one behind that of the only node.
+#[test]
+fn a_report_tells_who_made_each_event(rt: HostRuntime) {
+    let plan = plan(
+        &rt,
+        rt.alloc(),
+        r#""job":"wordcount","splits":["a b a"],"faults":[{"after":1,"node":0}]"#,
+    );
+    let report = drive(&rt, rt.alloc(), &WordCount, &OpenGate, &plan, TURNS).expect(&rt, "a fault");
+    confirm!(rt; is_counted(&report));
+    confirm!(rt; report.by.len() == report.world.journal().len());
+    confirm!(rt; report.world.journal().get(1) == Some(&Event::NodeRestart { node: 0 }));
+    confirm!(rt; report.by.get(1) == Some(&1));
 }

@@ -1,5 +1,5 @@
 //! The ends of the job of one map and one reduce.
-use mr_explore::{Exploration, Form, Row, Unwatched, best_of, explored_text};
+use mr_explore::{Exploration, Form, Row, Table, Unwatched, best_of, explored_text, read_goal};
 use mr_play::play;
 use std::process::Abort;
 
@@ -31,9 +31,16 @@ fn input_of<H: AllocGlobal + Abort>(rt: &H, script: &str) -> Vec<u8> {
 // The end that is found has one fault, and its script leads to it.
 fn is_one_fault<H: AllocGlobal + Abort>(rt: &H, goal: &str) {
     let all = explored(rt, "", 1);
-    let row = best_of(all.table(), goal.as_bytes()).expect(rt, "none");
+    let row = found(rt, all.table(), goal).expect(rt, "none");
     leads(rt, row);
     drop(all);
+}
+
+// The best end that is as a goal says.
+fn found<'a, H: AllocGlobal + Abort>(rt: &H, table: &'a Table, goal: &str) -> Option<&'a Row> {
+    let read = read_goal(rt.alloc(), goal).expect(rt, "no memory");
+    let goal = read.expect(rt, "no goal");
+    best_of(table, &goal)
 }
 
 fn leads<H: AllocGlobal + Abort>(rt: &H, row: &Row) {
@@ -41,7 +48,8 @@ fn leads<H: AllocGlobal + Abort>(rt: &H, row: &Row) {
     let mut input = input_of(rt, "");
     input.extend_from_slice(&row.script).expect(rt, "no memory");
     let printed = play(rt.alloc(), &input).expect(rt, "a fault");
-    confirm!(rt; printed.text == row.end);
+    let end = row.end.text(rt.alloc()).expect(rt, "no memory");
+    confirm!(rt; printed.text == end);
 }
 
 #[test]
@@ -76,8 +84,8 @@ fn barred_before_rename_is_one_fault(rt: HostRuntime) {
 #[test]
 fn a_marker_without_a_winner_is_not_there(rt: HostRuntime) {
     let all = explored(&rt, "", 1);
-    confirm!(rt; best_of(all.table(), b"r 0 none, marker yes").is_none());
-    confirm!(rt; best_of(all.table(), b"r 0 none, marker no").is_some());
+    confirm!(rt; found(&rt, all.table(), "r 0 none, marker yes").is_none());
+    confirm!(rt; found(&rt, all.table(), "r 0 none, marker no").is_some());
 }
 
 // What is not found is told so, and how many runs were made. (Of all runs, as text and as JSON: rows of tools/hostile.)
@@ -87,15 +95,17 @@ fn runs_are_made_up_to_a_number(rt: HostRuntime) {
     some.make(rt.alloc(), 3, &Unwatched).expect(&rt, "a fault");
     confirm!(rt; some.table().runs() == 3);
     confirm!(rt; !some.is_whole());
-    let text = explored_text(
+    let read = read_goal(rt.alloc(), "marker no, marker yes").expect(&rt, "no memory");
+    let goal = read.expect(&rt, "no goal");
+    let printed = explored_text(
         rt.alloc(),
         ONE.as_bytes(),
         &some,
-        Some("marker no, marker yes"),
+        Some(goal.as_slice()),
         Form::Text,
     )
     .expect(&rt, "a fault");
-    confirm!(rt; text.as_slice() == b"# 3 runs with at most 1 fault, not all\nnone\n".as_slice());
+    confirm!(rt; printed.text.as_slice() == b"# 3 runs with at most 1 fault, not all\nnone\n".as_slice());
 }
 
 // Where just so many runs are made as there are, these are all.

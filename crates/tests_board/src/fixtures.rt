@@ -72,10 +72,18 @@ fn world(rt: &impl Abort, alloc: Global, text: &[u8]) -> World
     World::new(alloc, config).expect(rt, "no memory")
 }
 
-/// A board over a job of the words of this one split, with two seats, before its first event.
+/// The board of number 1 over a job of the words of this one split, with two seats, before its first event.
 pub fn opened(rt: &impl Abort, alloc: Global, text: &[u8]) -> Table {
+    numbered(rt, alloc, 1, text)
+}
+
+/// The same of another number.
+pub fn numbered(rt: &impl Abort, alloc: Global, number: u64, text: &[u8]) -> Table {
     let world = world(rt, alloc, text);
-    let (board, mut seats) = Board::new(alloc, &WordCount, world, 2).expect(rt, "no memory");
+    let (board, mut seats) = Board::new(alloc, &WordCount, number, world, 2).expect(
+        rt,
+        "no memory",
+    );
     let nodes = seats.pop().expect(rt, "no second seat");
     let masters = seats.pop().expect(rt, "no first seat");
     assert!(rt; masters.number() == 0 && nodes.number() == 1);
@@ -111,7 +119,7 @@ pub fn ended(rt: &impl Abort, alloc: Global) -> World {
         panic!(rt; "no memory");
     }
     match board.close(seats) {
-        Ok(world) => world,
+        Ok(closed) => closed.into_parts().0,
         Err(Mismatch) => panic!(rt; "a mismatch"),
     }
 }

@@ -1,15 +1,8 @@
-use Rattle.std.proofs.Common.{subst, refl}
-use Rattle.mr_user.specs.Computation.{computation}
-use Rattle.mr_shuffle.specs.SequentialText.{AreSplits}
-use Rattle.mr_board.specs.mr_world.specs.Ranges.{IsInRange}
-use Rattle.mr_board_report.proofs.Success.{report_is}
+use Rattle.std.proofs.Common.{subst, IfErr}
+use Rattle.mr_board.specs.mr_world.specs.Journal.{Journal}
+use Rattle.mr_board_report.specs.Reports.{IsUnreported}
 use Rattle.mr_board_report.proofs.report.reported.Goals as goal
 
-pub returns-clause-report : goal.returns-clause-report
-returns-clause-report g c = (
-  refl,
-  report_is (computation g.J.Key.Ord.cmp g.J.Key.Wire.codec g.J.Value.Wire.codec g.J.Job.functions) c.args.config.now c.args.world c.has_succeeded-succeeded.result c.in-Ok.files.items
-      c.jobs_have_their_laws.ensures c.marked_worlds_show_sequential_files.ensures
-      (subst IsInRange c.config.ensures c.ranges-2.ensures.numbers) (subst (λ cfg. AreSplits cfg.splits) c.config.ensures c.ranges-2.ensures.splits)
-      c.requires.faithful (c.is_of.ensures.0 c.if-not-is_of.false) (c.is_through.ensures.0 c.if-not-is_through.false) c.in-Ok.ensures.is c.has_succeeded-succeeded.ensures,
-)
+-- the world is the closed board's
+pub returns-clause-none : goal.returns-clause-none
+returns-clause-none g c = subst (λ (j : Journal). IfErr c.told.result (IsUnreported c.args.plan.now j)) c.into_parts-world.ensures.parts.0 c.told.ensures.none

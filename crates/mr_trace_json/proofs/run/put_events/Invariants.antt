@@ -1,5 +1,4 @@
 use Rattle.std.proofs.Common.{◌≡◌, ◌≤◌, ◌++◌, drop, length}
-use Rattle.mr_world_model.specs.World.{Event}
 use Rattle.mr_trace.specs.mr_world.specs.Journal.{Journal}
 use Rattle.mr_trace.specs.mr_world.specs.Repeating.{CanFollow}
 use Rattle.mr_trace.specs.Happened.{happened_behind, maker_of}
@@ -11,5 +10,5 @@ abbrev pub invariant-loop-event : goal.invariant-loop-event
 invariant-loop-event l = record {
   text : l.out.items ++ objects_text (happened_behind (maker_of l.makers) l.world.config l.world.events (drop l.event-index l.events)) ≡ l.initial.out.items ++ objects_text (happened_behind (maker_of l.makers) l.initial.world.config l.initial.world.events l.events);
   can : CanFollow l.world.config l.world.events (drop l.event-index l.events);
-  left : (j : Journal) (e : Event) → length l.world.events ≤ length j.events → maker_of l.left j e ≡ maker_of l.makers j e;
+  left : (j : Journal) → length l.world.events ≤ length j.events → maker_of l.left j ≡ maker_of l.makers j;
 }

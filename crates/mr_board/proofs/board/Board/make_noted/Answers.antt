@@ -16,7 +16,7 @@ invariant_of-self g c =
 
 pub returns-in_err-took-in-Ok-clause-makes : goal.returns-in_err-took-in-Ok-clause-makes
 returns-in_err-took-in-Ok-clause-makes g c =
-    makes-refused c.self.inside.world c.self.inside.by.items c.seat.inside.number c.seat.inside.made.items c.args.self.now c.args.seat.now c.self.view_is c.seat.view_is
+    makes-refused c.self.inside.number c.self.inside.world c.self.inside.by.items c.seat.inside.board c.seat.inside.number c.seat.inside.made.items c.args.self.now c.args.seat.now c.self.view_is c.seat.view_is
     c.args.event c.from_residual.result c.in_err-took-in-Ok.field-0.0 c.apply.new.self c.with_room.new.by.items c.with_room.new.made.items
     c.from_residual.ensures.1 c.in_err-took-in-Ok.ensures.applies.0 c.in_err-took-in-Ok.ensures.applies.1 c.with_room.ensures.by c.with_room.ensures.made
 
@@ -34,7 +34,7 @@ invariant_of-self-in-Ok g c =
 
 pub returns-in_ok-took-in-Ok-clause-makes : goal.returns-in_ok-took-in-Ok-clause-makes
 returns-in_ok-took-in-Ok-clause-makes g c =
-    makes-one c.self.inside.world c.self.inside.by.items c.seat.inside.number c.seat.inside.made.items c.args.self.now c.args.seat.now c.self.view_is c.seat.view_is
+    makes-one c.self.inside.number c.self.inside.world c.self.inside.by.items c.seat.inside.board c.seat.inside.number c.seat.inside.made.items c.args.self.now c.args.seat.now c.self.view_is c.seat.view_is
     c.args.event c.in-Ok.copy c.in_ok-took-in-Ok.took c.apply.new.self c.with_room.new.by.items c.push_reserved.new.self.items c.with_room.new.made.items c.push_reserved-in-Ok.new.self.items
     c.in_ok-took-in-Ok.ensures.applies c.with_room.ensures.by c.push_reserved.ensures.items c.with_room.ensures.made (c.in-Ok.ensures.event ∙ c.requires.same) c.push_reserved-in-Ok.ensures.items
 

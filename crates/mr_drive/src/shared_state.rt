@@ -1,6 +1,6 @@
-//! What lies under the lock: the board, the faults to come, and who finds nothing to do. No function here waits.
+//! What the threads share, under one lock: the board, the faults to come, and who finds nothing to do. No function here waits.
 use crate::actor::{Actor, Role};
-use crate::calls::{Call, Sleepers};
+use crate::condition_variables::{Call, Sleepers};
 use crate::fault::DriveFault;
 use crate::fault_turns::Coming;
 use crate::fetching::Fetching;
@@ -18,7 +18,7 @@ use std::alloc::{AllocError, Global};
 
 /// What the threads share.
 #[derive(Drop)]
-pub(crate) struct Floor<J: Job> {
+pub(crate) struct SharedState<J: Job> {
     board: Board<J>,
     coming: Coming,
     fetching: Fetching,
@@ -35,14 +35,14 @@ pub(crate) struct Floor<J: Job> {
     round_at: u64,
 }
 
-impl<J: Job> Floor<J> {
+impl<J: Job> SharedState<J> {
     pub(crate) fn new(
         alloc: Global,
         board: Board<J>,
         coming: Coming,
         threads: u32,
-    ) -> Result<Floor<J>, AllocError> {
-        Ok(Floor {
+    ) -> Result<SharedState<J>, AllocError> {
+        Ok(SharedState {
             board,
             coming,
             fetching: Fetching::new(),
@@ -60,7 +60,7 @@ impl<J: Job> Floor<J> {
 
     /// The board, and why the threads stopped where that was not the end.
     pub(crate) fn ends(self) -> (Board<J>, Option<DriveFault>) {
-        let Floor {
+        let SharedState {
             board,
             coming: _,
             fetching: _,

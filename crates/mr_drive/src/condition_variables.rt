@@ -3,8 +3,8 @@ use std::alloc::{AllocError, Global};
 use std::sync::Condvar;
 use std::{array, mem};
 
-// How many bells there are. Seats whose numbers are equal modulo this share one.
-const BELLS: usize = 8;
+// How many condition variables there are. Seats whose numbers are equal modulo this share one.
+const CONDITIONS: usize = 8;
 
 /// Whom what happened may give something to do, beside the thread that made it.
 #[derive(Clone, Copy, Debug, PartialEq, Eq)]
@@ -88,32 +88,32 @@ impl Sleepers {
     }
 }
 
-/// The bells on which threads sleep.
+/// The condition variables on which threads wait.
 #[derive(Drop)]
-pub(crate) struct Bells {
-    bells: [Condvar; BELLS],
+pub(crate) struct ConditionVariables {
+    all: [Condvar; CONDITIONS],
 }
 
-impl Bells {
-    pub(crate) fn new() -> Bells {
-        Bells {
-            bells: array::from_fn(|_| Condvar::new()),
+impl ConditionVariables {
+    pub(crate) fn new() -> ConditionVariables {
+        ConditionVariables {
+            all: array::from_fn(|_| Condvar::new()),
         }
     }
 
-    /// The bell of a seat.
+    /// That of a seat.
     pub(crate) fn of(&self, seat: u32) -> &Condvar {
-        &self.bells[seat as usize % BELLS]
+        &self.all[seat as usize % CONDITIONS]
     }
 
     /// Wakes who is called.
-    pub(crate) fn ring(&self, call: Call) {
+    pub(crate) fn notify(&self, call: Call) {
         match call {
             Call::Nobody => {}
             Call::Seat(seat) => self.of(seat).notify_all(),
             Call::Everyone => {
-                for bell in &self.bells {
-                    bell.notify_all();
+                for condition in &self.all {
+                    condition.notify_all();
                 }
             }
         }
