@@ -44,7 +44,7 @@ printed_or_refused_law PlayJson input text (Job e) short p h = one_play_text_law
 printed_or_refused_law History input text (Job e) short p h = h.1
 printed_or_refused_law HistoryJson input text (Job e) short p h = h.1
 printed_or_refused_law Seq input text (Job e) short p h = let y : Ok p.job ≡ Err e = sym p.said ∙ h.1 in absurd (cc)
-printed_or_refused_law (Threads turns hold) input text (Job e) short p h = let y : Ok p.job ≡ Err e = sym p.said ∙ h.1 in absurd (cc)
+printed_or_refused_law (Threads turns hold) input text (Job e) short p h = let y : Ok p.0.job ≡ Err e = sym p.0.said ∙ h.1 in absurd (cc)
 printed_or_refused_law (ThreadsSeen turns hold seen) input text (Job e) short p h = let y : Ok p.job ≡ Err e = sym p.said ∙ h.1 in absurd (cc)
 printed_or_refused_law (Explore asked progress) input text (Job e) short p h = explored_or_refused_law.not_bad_job asked input text e p h.1
 printed_or_refused_law Committer input text Refused short p h = h.1

@@ -21,7 +21,7 @@ use Rattle.mr_trace.specs.Shown.{Shows}
 use Rattle.mr_trace.specs.mr_play.specs.Text.{PrintsPlay, IsBadPlayJob, IsBadPlayLine, IsFullPlay}
 use Rattle.mr_sim_commands.specs.seq.Text.{PrintsSeq, RefusesSeq}
 use Rattle.mr_threads.specs.Runs.{IsRead}
-use Rattle.mr_threads.specs.Text.{HasFailed, ShowsRun}
+use Rattle.mr_threads.specs.Text.{HasFailed, PrintsSuccess, ShowsRun}
 
 -- ---- what is printed
 
@@ -35,7 +35,7 @@ Prints PlayJson input text = TellsPlay within input text
 Prints History input text = PrintsHistory input text
 Prints HistoryJson input text = TellsHistory input text
 Prints Seq input text = PrintsSeq input text
-Prints (Threads turns hold) input text = PrintsSeq input text
+Prints (Threads turns hold) input text = PrintsSuccess input text
 Prints (ThreadsSeen turns hold seen) input text = ShowsRun seen input text
 Prints (Explore asked progress) input text = PrintsExplored asked input text
 

@@ -1,6 +1,5 @@
 //! What the input of a subcommand is.
 use crate::subcommand::Command;
-use mr_script::split_once;
 use mr_sim_hints::Script;
 
 /// What a subcommand reads.
@@ -39,18 +38,6 @@ impl InputKind {
             InputKind::Calls => Some(Script::Committer),
             InputKind::JobAndScript => Some(Script::Play),
             InputKind::Segment | InputKind::JobText => None,
-        }
-    }
-
-    /// The job text of an input, if it has one.
-    pub(crate) fn job_text(self, input: &[u8]) -> Option<&[u8]> {
-        match self {
-            InputKind::Calls | InputKind::Segment => None,
-            InputKind::JobText => Some(input),
-            InputKind::JobAndScript => match split_once(input, b'\n') {
-                Some((job, _)) => Some(job),
-                None => Some(input),
-            },
         }
     }
 }

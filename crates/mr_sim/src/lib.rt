@@ -20,7 +20,7 @@
 //! | `play` | what came of the run of the cluster that a script and its calms make |
 //! | `play` with a trace, the history or a picture | what mr_trace, mr_play and mr_trace_picture say of that run |
 //! | `play` and `history` as lines of JSON | what mr_trace_json says of the run and of the segment |
-//! | `explore` | what mr_explore_ends and mr_explore_lines say of the ends of all runs of the input with at most as many faults as are asked for |
+//! | `explore` | what mr_explore_ends says of the ends of all runs of the input with at most as many faults as are asked for |
 //! | `threads` | what `seq` prints for the job text; what is shown of a run in its place is what mr_threads says of it |
 //!
 //! **`run_streams`, from a reader to a writer**: reads all, answers, writes all. Proved, for every reader and writer that tell
@@ -84,7 +84,8 @@ mod subcommand;
 pub use ending::{Ending, exit_status};
 pub use laws::printed_or_refused;
 pub use mr_explore::{Asked, Form};
-pub use mr_explore_ends::is_goal;
+pub use mr_explore_ends::read_goal;
+pub use mr_script::Expectation;
 pub use mr_sim_commands::{JobTextFault, SimFault};
 pub use mr_threads::Seen;
 pub use mr_trace::mr_play::Shown;

@@ -3,11 +3,8 @@ ghost use Rattle.std.specs.Prelude.{◌≡◌, IfOk, IfErr};
 ghost use Rattle.mr_sim.specs.Expected.{ending_of};
 
 use crate::ending::Ending;
-use crate::input_kind::InputKind;
-use crate::subcommand::Command;
-use mr_sim_commands::SimFault;
+use mr_sim_commands::{Printed, SimFault};
 use mr_sim_hints::put_idle_keys;
-use mr_trace::mr_play::Printed;
 use std::alloc::Global;
 use std::io;
 use std::io::Write;
@@ -48,18 +45,11 @@ impl Remarks {
 }
 
 /// What was printed, with a note for each key of its job text that says nothing.
-pub(crate) fn noted(
-    alloc: Global,
-    command: &Command<'_>,
-    input: &[u8],
-    mut printed: Printed,
-) -> Result<Printed, SimFault>
+pub(crate) fn noted(alloc: Global, mut printed: Printed) -> Result<Printed, SimFault>
     ensures text { IfOk result (λ v. v.text ≡ printed.text) }
     ensures met { IfOk result (λ v. v.met ≡ printed.met) }
     ensures memory { IfErr result (λ e. e ≡ SimFault.NoMemory) }
 {
-    if let Some(text) = InputKind::of(command).job_text(input) {
-        put_idle_keys(&mut printed.notes, alloc, text)?;
-    }
+    put_idle_keys(&mut printed.notes, alloc, printed.idle_keys.as_slice())?;
     Ok(printed)
 }

@@ -10,9 +10,8 @@ use crate::progress::OnStandardError;
 use crate::refusal::Refusal;
 use crate::remarks::{Remarks, noted};
 use crate::subcommand::{Command, answer, printed};
-use mr_sim_commands::SimFault;
+use mr_sim_commands::{Printed, SimFault};
 use mr_threads::{Seen, threads_output, threads_seen};
-use mr_trace::mr_play::Printed;
 use std::alloc::Global;
 use std::io::{Read, Write};
 use std::rt::Clock;
@@ -79,7 +78,7 @@ fn helped<H: AllocGlobal + Eprint + Clock + Threads + Wait + Sync>(
         watch: OnStandardError { rt },
     };
     match printed(rt.alloc(), &host, *command, input) {
-        Ok(printed) => Ok(noted(rt.alloc(), command, input, printed)?),
+        Ok(printed) => Ok(noted(rt.alloc(), printed)?),
         Err(fault) => Err(Refusal::of(command, input, fault)),
     }
 }

@@ -1,17 +1,16 @@
 //! The subcommands, from the bytes of their input to what they print.
 ghost use Rattle.std.specs.Prelude.{◌≡◌, ℕ, Bool, true, IfOk, IfErr};
-ghost use Rattle.mr_sim_commands.specs.seq.Text.{PrintsSeq};
 ghost use Rattle.mr_threads.specs.declared.seen.Seen.{Seen};
-ghost use Rattle.mr_threads.specs.Text.{ShownFails, ShowsRun, ThreadsFail};
+ghost use Rattle.mr_threads.specs.Text.{PrintsSuccess, ShownFails, ShowsRun, ThreadsFail};
 ghost use Rattle.mr_sim.specs.Expected.{IsMet};
 ghost use Rattle.mr_sim.specs.Printed.{Prints, RefusesText};
 
 use crate::host::Host;
 use crate::progress::Progress;
 use mr_explore::{Asked, Unwatched, Watch, explore_output};
-use mr_sim_commands::{SimFault, committer_output, history_output, seq_output};
+use mr_sim_commands::{IdleKeys, Printed, SimFault, committer_output, history_output, seq_output};
 use mr_threads::{Seen, unthreaded};
-use mr_trace::mr_play::{Printed, Shown, play};
+use mr_trace::mr_play::{Shown, play};
 use mr_trace::play_shown;
 use mr_trace_json::{history_json, play_json};
 use mr_trace_picture::play_drawn;
@@ -47,16 +46,12 @@ pub enum Command<'a> {
     Explore { asked: Asked<'a>, progress: bool },
 }
 
-// A text that is printed of an input which can expect nothing: all is as expected, and nothing is noted.
+// A text that is printed of an input which has no job text: all is as expected, and nothing is noted.
 fn plain(alloc: Global, text: Vec<u8>) -> Printed
     ensures text { result.text ≡ text }
     ensures met { result.met ≡ true }
 {
-    Printed {
-        text,
-        met: true,
-        notes: Vec::new(alloc),
-    }
+    Printed::plain(alloc, text, IdleKeys::none(alloc))
 }
 
 /// What a subcommand prints for the bytes of its input, and what is noted beside it. This is the one place that tells the subcommands apart.
@@ -68,17 +63,19 @@ pub(crate) fn printed<T, S, W: Watch>(
     input: &[u8],
 ) -> Result<Printed, SimFault>
 where
-    T: Fn(u64, bool) -> Result<Vec<u8>, SimFault>,
-    S: Fn(u64, bool, Seen) -> Result<Vec<u8>, SimFault>,
+    T: Fn(u64, bool) -> Result<Printed, SimFault>,
+    S: Fn(u64, bool, Seen) -> Result<Printed, SimFault>,
     // The host prints of threads what `threads` prints for the input.
     requires threads { (turns : ℕ) (hold : Bool) → T.pre host.now.threads turns hold }
     requires printed { (turns : ℕ) (hold : Bool) (told : _) → T.post host.now.threads turns hold told
-        → IfOk told (λ v. PrintsSeq input.now v.items) × IfErr told (ThreadsFail input.now) }
+        → IfOk told (λ v. PrintsSuccess input.now v.text.items) × IfErr told (ThreadsFail input.now) }
+    requires printed_met { (turns : ℕ) (hold : Bool) (told : _) → T.post host.now.threads turns hold told → IfOk told (λ v. v.met ≡ true) }
 
     // It shows of threads what `threads` shows for the input.
     requires seen { (turns : ℕ) (hold : Bool) (seen : Seen) → S.pre host.now.threads_seen turns hold seen }
     requires shown { (turns : ℕ) (hold : Bool) (seen : Seen) (told : _) → S.post host.now.threads_seen turns hold seen told
-        → IfOk told (λ v. ShowsRun seen input.now v.items) × IfErr told (ShownFails input.now) }
+        → IfOk told (λ v. ShowsRun seen input.now v.text.items) × IfErr told (ShownFails input.now) }
+    requires shown_met { (turns : ℕ) (hold : Bool) (seen : Seen) (told : _) → S.post host.now.threads_seen turns hold seen told → IfOk told (λ v. v.met ≡ true) }
 
     // Ok: the text is what is printed for the input.
     ensures ok { IfOk result (λ v. Prints command.entry input.now v.text.items) }
@@ -97,17 +94,15 @@ where
         Command::PlayJson => play_json(alloc, input),
         Command::History => Ok(plain(alloc, history_output(alloc, input)?)),
         Command::HistoryJson => Ok(plain(alloc, history_json(alloc, input)?)),
-        Command::Seq => Ok(plain(alloc, seq_output(alloc, input)?)),
-        Command::Threads { turns, hold } => Ok(plain(alloc, (host.threads)(turns, hold)?)),
-        Command::ThreadsSeen { turns, hold, seen } => {
-            Ok(plain(alloc, (host.threads_seen)(turns, hold, seen)?))
-        }
+        Command::Seq => seq_output(alloc, input),
+        Command::Threads { turns, hold } => (host.threads)(turns, hold),
+        Command::ThreadsSeen { turns, hold, seen } => (host.threads_seen)(turns, hold, seen),
         Command::Explore { asked, progress } => {
             let watch = Progress {
                 watch: &host.watch,
                 is_asked: progress,
             };
-            Ok(plain(alloc, explore_output(alloc, input, &asked, &watch)?))
+            explore_output(alloc, input, &asked, &watch)
         }
     }
 }

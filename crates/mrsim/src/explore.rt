@@ -2,8 +2,7 @@
 use crate::table::Word;
 use clap::ArgMatches;
 use clap::builder::ValueParser;
-use mr_sim::{Asked, Form, is_goal};
-use std::alloc::{AllocError, Global};
+use mr_sim::{Asked, Expectation, Form};
 
 /// What `explore` does, in a line.
 pub const EXPLORE: &str =
@@ -91,13 +90,16 @@ pub fn explore_words() -> &'static [Word] {
     WORDS
 }
 
-/// What `explore` is asked for.
-pub fn explore_of<'a>(words: &ArgMatches<'a>) -> mr_sim::Command<'a> {
+/// What `explore` is asked for, and the end that is sought.
+pub fn explore_of<'a>(
+    words: &ArgMatches<'_>,
+    goal: Option<&'a [Expectation]>,
+) -> mr_sim::Command<'a> {
     mr_sim::Command::Explore {
         asked: Asked {
             faults: words.get_one::<u32>(FAULTS_WORD).unwrap_or(1),
             most: words.get_one::<u64>(MOST_WORD).unwrap_or(u64::MAX),
-            goal: words.get_str(FIND_WORD),
+            goal,
             form: form_of(words),
         },
         progress: words.get_flag(PROGRESS_WORD),
@@ -112,20 +114,10 @@ fn form_of(words: &ArgMatches<'_>) -> Form {
     }
 }
 
-/// The end that is sought, if that is not one of the lines that `play` prints of an end.
-pub fn bad_goal<'a>(
-    alloc: Global,
-    command: &mr_sim::Command<'a>,
-) -> Result<Option<&'a str>, AllocError> {
-    match command {
-        mr_sim::Command::Explore { asked, .. } => bad_one(alloc, asked.goal),
-        _ => Ok(None),
-    }
-}
-
-fn bad_one<'a>(alloc: Global, goal: Option<&'a str>) -> Result<Option<&'a str>, AllocError> {
-    match goal {
-        Some(goal) if !is_goal(alloc, goal)? => Ok(Some(goal)),
-        _ => Ok(None),
+/// The end that is sought, as it was given.
+pub fn goal_word<'a>(matches: &ArgMatches<'a>) -> Option<&'a str> {
+    match matches.subcommand() {
+        Some(("explore", words)) => words.get_str(FIND_WORD),
+        _ => None,
     }
 }

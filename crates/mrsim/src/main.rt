@@ -1,7 +1,7 @@
 //! The program `mrsim`: its words by `clap`, then one run from standard input or a file to standard output.
 #![tactic(auto)]
 
-ghost use Rattle.std.specs.Prelude.{◌≡◌, ◌⊎◌, IfSome};
+ghost use Rattle.std.specs.Prelude.{◌≡◌, ◌⊎◌, IfErr};
 ghost use Rattle.std.specs.Process.{exit_status};
 ghost use Rattle.mr_sim.specs.Fault.{exit_status_of};
 
@@ -10,12 +10,13 @@ mod table;
 mod threads;
 mod words;
 
-use crate::explore::bad_goal;
+use crate::explore::goal_word;
 use crate::words::{command_line, command_of, ending_of, file_of};
-use mr_sim::{Ending, Help, Refusal, Remarks, SimFault, run};
+use clap::ArgMatches;
+use mr_sim::{Ending, Expectation, Help, Refusal, Remarks, SimFault, read_goal, run};
 use std::alloc::Global;
 use std::fs::File;
-use std::io::Write;
+use std::io::{BufReader, Write};
 use std::process::ExitCode;
 use std::{env, io};
 
@@ -92,18 +93,32 @@ fn print_words(rt: &(impl Print + Eprint), error: &clap::Error, ending: Ending) 
     }
 }
 
-// How the program ends where no end can be as the one that is sought, when it has said so. Where it cannot be said it is dropped, and
-// the exit status says it.
-fn refuse_goal(rt: &(impl AllocGlobal + Eprint), command: &mr_sim::Command<'_>) -> Option<Ending>
-    ensures { IfSome result (λ ending. (ending ≡ Ending.RefusedWords) ⊎ (ending ≡ Ending.Failed SimFault.NoMemory)) }
+// The end that is sought, if one is. Where no end can be so, the program ends, when it has said so. Where that cannot be said it is
+// dropped, and the exit status says it.
+fn goal_of(
+    rt: &(impl AllocGlobal + Eprint),
+    matches: &ArgMatches<'_>,
+) -> Result<Option<Vec<Expectation>>, Ending>
+    ensures { IfErr result (λ ending. (ending ≡ Ending.RefusedWords) ⊎ (ending ≡ Ending.Failed SimFault.NoMemory)) }
 {
-    match bad_goal(rt.alloc(), command) {
-        Ok(None) => None,
-        Ok(Some(goal)) => {
-            let _ = eprintln!(rt; "error: invalid value '{goal}' for '--find <GOAL>': {GOAL_HELP}");
-            Some(Ending::RefusedWords)
+    let Some(word) = goal_word(matches) else {
+        return Ok(None);
+    };
+    match read_goal(rt.alloc(), word) {
+        Ok(Some(goal)) => Ok(Some(goal)),
+        Ok(None) => {
+            let _ = eprintln!(rt; "error: invalid value '{word}' for '--find <GOAL>': {GOAL_HELP}");
+            Err(Ending::RefusedWords)
         }
-        Err(_) => Some(Ending::Failed(SimFault::NoMemory)),
+        Err(_) => Err(Ending::Failed(SimFault::NoMemory)),
+    }
+}
+
+// The same, lent.
+fn lent(goal: &Option<Vec<Expectation>>) -> Option<&[Expectation]> {
+    match goal {
+        Some(goal) => Some(goal.as_slice()),
+        None => None,
     }
 }
 
@@ -124,6 +139,29 @@ fn code_of_run<W: Write>(
     }
 }
 
+// Whether the program is asked for `step`.
+fn is_step(words: &[String]) -> bool {
+    match words.get(1) {
+        Some(word) => word.as_str() == "step",
+        None => false,
+    }
+}
+
+// The exit status of `mrsim step` with the words of the program, which talks over a pipe.
+fn over_pipe(rt: &HostRuntime, words: &[String]) -> u8 {
+    let alloc: Global = rt.alloc();
+    match BufReader::new(alloc, rt.stdin()) {
+        Ok(mut reader) => mr_step::run(
+            alloc,
+            words.get(2..).unwrap_or(&[]),
+            &mut reader,
+            &mut io::writer(rt),
+            &mut rt.stderr(),
+        ),
+        Err(_) => 5,
+    }
+}
+
 fn main(rt: HostRuntime) -> ExitCode {
     let alloc: Global = rt.alloc();
     let args = match env::args(&rt) {
@@ -136,6 +174,9 @@ fn main(rt: HostRuntime) -> ExitCode {
     let Ok(words): Result<Vec<String>, _> = args.collect(alloc) else {
         return code_of(&rt, Ending::Failed(SimFault::NoMemory));
     };
+    if is_step(&words) {
+        return ExitCode::from(over_pipe(&rt, &words));
+    }
     let Ok(command) = command_line(alloc) else {
         return code_of(&rt, Ending::Failed(SimFault::NoMemory));
     };
@@ -143,10 +184,11 @@ fn main(rt: HostRuntime) -> ExitCode {
         Ok(matches) => matches,
         Err(error) => return code_of(&rt, print_words(&rt, &error, ending_of(&error))),
     };
-    let (command, file) = (command_of(&matches), file_of(&matches));
-    if let Some(ending) = refuse_goal(&rt, &command) {
-        return code_of(&rt, ending);
-    }
+    let goal = match goal_of(&rt, &matches) {
+        Ok(goal) => goal,
+        Err(ending) => return code_of(&rt, ending),
+    };
+    let (command, file) = (command_of(&matches, lent(&goal)), file_of(&matches));
     let ran = match file {
         None => run(&rt, &command, &mut rt.reader(), &mut io::writer(&rt)),
         Some(name) => match File::open(&rt, name) {

@@ -8,7 +8,7 @@ use crate::threads::{THREADS, THREADS_HELP, threads_of, threads_words};
 use clap::builder::ValueParser;
 use clap::error::ErrorKind;
 use clap::{ArgMatches, Command, Error};
-use mr_sim::{Ending, Part, Shown, SimFault};
+use mr_sim::{Ending, Expectation, Part, Shown, SimFault};
 use std::alloc::{AllocError, Global};
 
 const ABOUT: &str =
@@ -357,10 +357,13 @@ pub fn command_line<'a>(alloc: Global) -> Result<Command<'a>, AllocError> {
 }
 
 /// The subcommand that the words name. Words without one are refused before.
-pub fn command_of<'a>(matches: &ArgMatches<'a>) -> mr_sim::Command<'a> {
+pub fn command_of<'a>(
+    matches: &ArgMatches<'_>,
+    goal: Option<&'a [Expectation]>,
+) -> mr_sim::Command<'a> {
     match matches.subcommand() {
         Some(("play", words)) => play_of(words),
-        Some(("explore", words)) => explore_of(words),
+        Some(("explore", words)) => explore_of(words, goal),
         Some(("threads", words)) => threads_of(words),
         Some(("history", words)) => history_of(words),
         Some(("seq", _)) => mr_sim::Command::Seq,
