@@ -1,0 +1,5 @@
+mod Openings
+mod Splits
+mod Sayable
+mod Found
+mod PathWords

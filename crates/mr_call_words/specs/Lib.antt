@@ -1,0 +1,3 @@
+-- The words of calls and answers: Words.
+pub mod Words
+pub mod inner

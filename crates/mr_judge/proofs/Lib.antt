@@ -1,0 +1,2 @@
+mod Traces
+mod Verdicts

@@ -1,0 +1,3 @@
+-- A store's trace and what is said of it: Trace.
+pub mod Trace
+pub mod inner

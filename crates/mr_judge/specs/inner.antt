@@ -1,0 +1,3 @@
+-- Words for private contracts and for proofs.
+pub mod Reading
+pub mod Verdict

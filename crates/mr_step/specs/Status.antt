@@ -1,0 +1,14 @@
+-- The exit statuses, as those of the other subcommands: 1 says no, 3 is about the input, 4 about a stream, 5 about memory.
+use Rattle.std.specs.Prelude.{ℕ, Result, Ok, Err}
+use Rattle.mr_step.specs.declared.ending.Ending.{Ending}
+use Rattle.mr_step.specs.declared.ending.Ending.TheVariants.{Finished, Refused, Cut}
+use Rattle.mr_step.specs.declared.ending.TalkFault.{TalkFault}
+use Rattle.mr_step.specs.declared.ending.TalkFault.TheVariants.{Read, Write, NoMemory}
+
+abbrev pub status_of : Result Ending TalkFault → ℕ
+status_of (Ok Finished) = 0
+status_of (Ok (Refused f)) = 1
+status_of (Ok Cut) = 3
+status_of (Err Read) = 4
+status_of (Err Write) = 4
+status_of (Err NoMemory) = 5

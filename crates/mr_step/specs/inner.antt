@@ -1,0 +1,4 @@
+-- Words for private contracts and for proofs.
+pub mod Moves
+pub mod Reading
+pub mod Said

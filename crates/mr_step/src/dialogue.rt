@@ -1,0 +1,225 @@
+//! An operation over a pipe: its next call goes out as a line, the store's answer comes in as a line.
+ghost use Rattle.std.specs.Prelude.{◌≡◌, ◌++◌, ◌∷◌, [], IfOk, OnOk, IfSome, List, ℕ, None};
+ghost use Rattle.std.specs.Io.KnownBytes.{Appends};
+ghost use Rattle.std.specs.List.{flat_map};
+ghost use Rattle.mr_commit.specs.Recovery.{next_of};
+ghost use Rattle.mr_call_words.specs.Words.{call_line, word};
+ghost use Rattle.mr_step.specs.Stream.{lines_in};
+ghost use Rattle.mr_step.specs.Talk.{Begins, Follows, HearsLine, Says, Takes, Talks, asks, commit_fault_words, no_answer, refusal};
+ghost use Rattle.mr_step.specs.Talk.Next.{GoesOn};
+ghost use Rattle.mr_step.specs.inner.Said.{Leads, next_at};
+
+use crate::ending::{Ending, TalkFault};
+use crate::stream::{next_line, send};
+use crate::wish::Moves;
+use itoa::Buffer;
+use mr_call_words::{answer_in, put_call, put_fault, put_first, put_next};
+use mr_commit::{CommitFault, StepDone};
+use mr_names::{Answer, NameFault, Op};
+use std::alloc::{AllocError, Global};
+use std::io::{BufRead, Write};
+
+/// Makes an operation over a pipe: writes its next call as a line, reads the store's answer as a line, and so on, each line flushed before
+/// the next one is read. In the end it writes `finished`, or `fault` and the fault's words. A line that is no answer changes nothing: it is told by
+/// its number (`no answer 3`), and the next line is read.
+///
+/// `Cut`: the input ended before the operation did. `Read`: a read failed. `Write`: a write or a flush failed. `NoMemory`: memory was refused, here or, by the
+/// answer `NoMemory`, in the store. After a fault what was written is a front of what would have been.
+pub fn talk<R: BufRead, W: Write>(
+    alloc: Global,
+    moves: &mut Moves,
+    reader: &mut R,
+    writer: &mut W,
+) -> Result<Ending, TalkFault>
+    ensures { IfOk result (λ ending. IfSome (R.remaining reader.old) (λ input. (said : List ℕ)
+        × Appends (W.contents writer.old) (W.contents writer.new) said × Says moves.old (lines_in input) said ending)) }
+{
+    match ask_first(alloc, moves, writer)? {
+        Some(ending) => Ok(ending),
+        None => go_on(alloc, moves, reader, writer),
+    }
+}
+
+// The first call is sent; or how the operation ended at once.
+fn ask_first<W: Write>(
+    alloc: Global,
+    moves: &mut Moves,
+    writer: &mut W,
+) -> Result<Option<Ending>, TalkFault>
+    ensures { IfOk result (λ ending. (said : List ℕ)
+        × Appends (W.contents writer.old) (W.contents writer.new) said × Begins moves.old said (next_at ending moves.new)) }
+{
+    let reply = begin(alloc, moves)?;
+    send(writer, &reply.text)?;
+    Ok(reply.ending)
+}
+
+// From the first answer on.
+#[tactic(auto, using(crate::proofs::Talking::kept_first, crate::proofs::Talking::kept_more, crate::proofs::Talking::kept_end))]
+fn go_on<R: BufRead, W: Write>(
+    alloc: Global,
+    moves: &mut Moves,
+    reader: &mut R,
+    writer: &mut W,
+) -> Result<Ending, TalkFault>
+    ensures { IfOk result (λ ending. IfSome (R.remaining reader.old) (λ input. (said : List ℕ)
+        × Appends (W.contents writer.old) (W.contents writer.new) said × Talks (GoesOn moves.old) 1 (lines_in input) said ending)) }
+{
+    for number in 1..u64::MAX {
+        if let Some(ending) = turn(alloc, moves, number, reader, writer)? {
+            return Ok(ending);
+        }
+    }
+    Err(TalkFault::Read)
+}
+
+// A line is read and heard, and what follows is sent.
+#[tactic(auto, using(crate::proofs::Talking::cut_leads, crate::proofs::Talking::turn_leads))]
+fn turn<R: BufRead, W: Write>(
+    alloc: Global,
+    moves: &mut Moves,
+    number: u64,
+    reader: &mut R,
+    writer: &mut W,
+) -> Result<Option<Ending>, TalkFault>
+    ensures { IfOk result (λ ending. Leads ending moves.old moves.new number (R.remaining reader.old) (R.remaining reader.new) (W.contents writer.old) (W.contents writer.new)) }
+{
+    let mut line = Vec::new(alloc);
+    if !next_line(reader, &mut line)? {
+        return Ok(Some(Ending::Cut));
+    }
+    let reply = hear(alloc, moves, number, &line)?;
+    send(writer, &reply.text)?;
+    Ok(reply.ending)
+}
+
+// What is said, and how the operation ended, if it has.
+#[derive(Drop)]
+struct Reply {
+    text: Vec<u8>,
+    ending: Option<Ending>,
+}
+
+// The first call; where there is none the operation is refused at once.
+fn begin(alloc: Global, moves: &mut Moves) -> Result<Reply, TalkFault>
+    ensures { IfOk result (λ reply. Begins moves.old reply.text.items (next_at reply.ending moves.new)) }
+{
+    match moves.call() {
+        Some(call) => Ok(asking(alloc, call)?),
+        None => take(alloc, moves, Ok(Answer::Done)),
+    }
+}
+
+// Line n: it is an answer, or it is none.
+#[tactic(auto, using(crate::proofs::Replies::is_answer, crate::proofs::Replies::is_none))]
+fn hear(alloc: Global, moves: &mut Moves, n: u64, line: &[u8]) -> Result<Reply, TalkFault>
+    ensures { IfOk result (λ reply. HearsLine moves.old n line.now reply.text.items (next_at reply.ending moves.new)) }
+{
+    match answer_in(alloc, line)? {
+        Some(answer) => take(alloc, moves, answer),
+        None => Ok(Reply {
+            text: no_answer(alloc, n)?,
+            ending: None,
+        }),
+    }
+}
+
+// An answer is heard.
+#[tactic(auto, using(crate::proofs::Replies::taken))]
+fn take(
+    alloc: Global,
+    moves: &mut Moves,
+    answer: Result<Answer, NameFault>,
+) -> Result<Reply, TalkFault>
+    ensures { IfOk result (λ reply. Takes moves.old answer reply.text.items (next_at reply.ending moves.new)) }
+{
+    let done = moves.took(answer);
+    follow(alloc, done, moves)
+}
+
+// What follows: the next call, or how it ended.
+fn follow(
+    alloc: Global,
+    done: Result<StepDone, CommitFault>,
+    moves: &Moves,
+) -> Result<Reply, TalkFault>
+    ensures { IfOk result (λ reply. Follows done moves.now reply.text.items (next_at reply.ending moves.now)) }
+{
+    match done {
+        Ok(StepDone::More) => Ok(asking_next(alloc, moves)?),
+        Ok(StepDone::Finished) => Ok(Reply {
+            text: Vec::from_slice(alloc, b"finished\n")?,
+            ending: Some(Ending::Finished),
+        }),
+        Err(CommitFault::NoMemory) => Err(TalkFault::NoMemory),
+        Err(fault) => Ok(Reply {
+            text: refusal(alloc, fault)?,
+            ending: Some(Ending::Refused(fault)),
+        }),
+    }
+}
+
+// The next call is asked for, if there is one.
+fn asking_next(alloc: Global, moves: &Moves) -> Result<Reply, AllocError>
+    ensures text { IfOk result (λ reply. reply.text.items ≡ asks (next_of moves.now)) }
+    ensures on { IfOk result (λ reply. reply.ending ≡ None) }
+{
+    match moves.call() {
+        Some(call) => asking(alloc, call),
+        None => Ok(Reply {
+            text: Vec::new(alloc),
+            ending: None,
+        }),
+    }
+}
+
+// A call is asked for.
+fn asking(alloc: Global, call: &Op) -> Result<Reply, AllocError>
+    ensures text { IfOk result (λ reply. reply.text.items ≡ call_line call.now ++ 10 ∷ []) }
+    ensures on { IfOk result (λ reply. reply.ending ≡ None) }
+{
+    let mut text = Vec::new(alloc);
+    put_call(&mut text, call)?;
+    text.push(b'\n')?;
+    Ok(Reply { text, ending: None })
+}
+
+// That line n is no answer.
+fn no_answer(alloc: Global, n: u64) -> Result<Vec<u8>, AllocError>
+    ensures { IfOk result (λ text. text.items ≡ no_answer n) }
+{
+    let mut buffer = Buffer::new();
+    let mut text = Vec::from_slice(alloc, b"no answer ")?;
+    text.extend_from_slice(buffer.format(n).as_bytes())?;
+    text.extend_from_slice(b"\n")?;
+    Ok(text)
+}
+
+// Why it was refused.
+fn refusal(alloc: Global, fault: CommitFault) -> Result<Vec<u8>, AllocError>
+    ensures { IfOk result (λ text. text.items ≡ refusal fault) }
+{
+    let mut text = Vec::new(alloc);
+    put_first(&mut text, b"fault")?;
+    put_fault_words(&mut text, fault)?;
+    text.extend_from_slice(b"\n")?;
+    Ok(text)
+}
+
+// The words of a fault, each behind a space.
+fn put_fault_words(out: &mut Vec<u8>, fault: CommitFault) -> Result<(), AllocError>
+    ensures { OnOk result (out.new.items ≡ out.old.items ++ flat_map (λ bytes. 32 ∷ word bytes) (commit_fault_words fault)) }
+{
+    match fault {
+        CommitFault::Names(fault) => {
+            out.extend_from_slice(b" ")?;
+            put_fault(out, fault)
+        }
+        CommitFault::OutputMissing => put_next(out, b"OutputMissing"),
+        CommitFault::WrongLength => put_next(out, b"WrongLength"),
+        CommitFault::DestinationExists => put_next(out, b"DestinationExists"),
+        CommitFault::WrongAnswer => put_next(out, b"WrongAnswer"),
+        CommitFault::Over => put_next(out, b"Over"),
+        CommitFault::NoMemory => put_next(out, b"NoMemory"),
+    }
+}
