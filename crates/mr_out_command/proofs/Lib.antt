@@ -1,2 +1,3 @@
+pub mod Alive
 pub mod Winning
 pub mod Same

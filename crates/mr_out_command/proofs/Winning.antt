@@ -49,7 +49,7 @@ no_task job rs = refl
 
 -- ---- the loop over the records
 
-left-is : (rs : List Record) (i : ℕ) (r : Record) → i < length rs → r ≡ get_or rs i r → drop i rs ≡ r ∷ drop (i + 1) rs
+pub left-is : (rs : List Record) (i : ℕ) (r : Record) → i < length rs → r ≡ get_or rs i r → drop i rs ≡ r ∷ drop (i + 1) rs
 left-is rs i r within is = drop-cons rs i r within ∙ (λ j. sym is j ∷ drop (sym (add-one i) j) rs)
 
 pub stops : (rs : List Record) (t : TaskId) (i : ℕ) (r : Record) (a : Attempt) → i < length rs → r ≡ get_or rs i r → success_of r t ≡ Some a → winner_in (drop i rs) t ≡ Some a

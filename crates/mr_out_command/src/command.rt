@@ -1,9 +1,12 @@
 //! A command of an output directory as a step machine: the call that it makes next, and what it does of the answer.
-ghost use Rattle.std.specs.Prelude.{◌≡◌, ◌||◌, OnOk, IfOk, is_some};
-ghost use Rattle.mr_out_steps.specs.Standing.{standing, winners, is_over};
+ghost use Rattle.std.specs.Prelude.{◌≡◌, ◌||◌, OnOk, IfOk, None, is_some, if◌then◌else◌};
+ghost use Rattle.mr_out_steps.specs.Standing.{standing, winners, is_over, has_winner, first_alive, has_failed_out, task_of};
 ghost use Rattle.mr_out_steps.specs.Commands.{opening, next_call, outcome_in};
-ghost use Rattle.mr_out_steps.specs.Steps.{heard, Takes, acts, turn, goes, begins, begins_with, own_work, publishes, lists, ends, links, empties, follows, noted, reads, listed, fails_now, answer_to, is_under_way};
+ghost use Rattle.mr_out_steps.specs.Steps.{heard, Takes, acts, turn, goes, begins, begins_with, own_work, publishes, lists, ends, links, empties, follows, noted, reads, listed, fails_now, answer_to, is_under_way, is_settled, starts, starts_first, starts_beside, gives_up, starts_over, only_asks, is_to_end};
 
+use crate::attempts::{
+    first_alive, first_idle, has_failed_out, has_winner, is_busy, next_attempt, task_of,
+};
 use crate::standing::{is_over, standing_of, winners};
 use mr_history::{Record, Records};
 use mr_ids::{AttemptId, JobId};
@@ -22,6 +25,7 @@ pub struct Command {
     order: Order,
     job: JobId,
     tasks: u32,
+    limit: Option<u32>,
     records: Records,
     left: LinkedList<AttemptId>,
     kept: LinkedList<AttemptId>,
@@ -36,6 +40,7 @@ impl Drop for Command {
             order: _,
             job: _,
             tasks: _,
+            limit: _,
             records: _,
             left: _,
             kept: _,
@@ -49,19 +54,21 @@ impl Model for Command {
 
     ghost Value = { Command };
 
-    ghost view = { λ c. record { order = c.order; job = c.job; tasks = c.tasks; records = c.records; left = c.left; kept = c.kept; phase = c.phase } };
+    ghost view = { λ c. record { order = c.order; job = c.job; tasks = c.tasks; limit = c.limit; records = c.records; left = c.left; kept = c.kept; phase = c.phase } };
 }
 
 impl Command {
-    /// A command that begins, in a job of so many tasks. It takes no memory.
-    pub fn new(alloc: Global, order: Order, job: JobId, tasks: u32) -> Command
-        ensures { result ≡ opening order job tasks }
+    /// A command that begins, in a job of so many tasks, which ends where one of them has failed as often as the limit,
+    /// if there is one. It takes no memory.
+    pub fn new(alloc: Global, order: Order, job: JobId, tasks: u32, limit: Option<u32>) -> Command
+        ensures { result ≡ opening order job tasks limit }
     {
         Command {
             alloc,
             order,
             job,
             tasks,
+            limit,
             records: Records::new(alloc),
             left: LinkedList::new(alloc),
             kept: LinkedList::new(alloc),
@@ -120,7 +127,6 @@ impl Command {
             }
             Turn::Begins => self.begin(),
             Turn::Notes(told) => self.note(&told),
-            Turn::Publishes => self.publish(),
             Turn::LinksNext => {
                 self.link_next();
                 Ok(())
@@ -162,9 +168,29 @@ impl Command {
         self.order
     }
 
-    // Its own work, where there is something to do.
+    // The job is ended, where a task has failed too often. Else its own work, where there is something to do.
     fn begin(&mut self) -> Result<(), AllocError>
         ensures { OnOk result (self.new ≡ begins self.old) }
+    {
+        if self.is_to_end()? {
+            self.phase = Phase::Appending(Record::JobUnsuccessful);
+            return Ok(());
+        }
+        self.work()
+    }
+
+    fn is_to_end(&self) -> Result<bool, AllocError>
+        ensures { IfOk result (λ ends. ends ≡ is_to_end self.now) }
+    {
+        if only_asks(self.order) || !has_failed_out(self.limit, self.records.as_slice()) {
+            return Ok(false);
+        }
+        let settled = self.is_settled()?;
+        Ok(!settled)
+    }
+
+    fn work(&mut self) -> Result<(), AllocError>
+        ensures { OnOk result (self.new ≡ begins_with (own_work self.old.order self.old) self.old) }
     {
         match self.order() {
             Order::Done(a) => self.begin_done(a),
@@ -175,6 +201,9 @@ impl Command {
             }
             Order::Resume => self.publish(),
             Order::Abort => self.begin_abort(),
+            Order::StartNext => self.start_next(),
+            Order::StartAt(number) => self.start_beside(number),
+            Order::StartOver(number) => self.start_over(number),
         }
     }
 
@@ -215,9 +244,92 @@ impl Command {
         Ok(())
     }
 
+    fn start_next(&mut self) -> Result<(), AllocError>
+        ensures { OnOk result (self.new ≡ begins_with (own_work Order.StartNext self.old) self.old) }
+    {
+        if is_over(self.records.as_slice()) {
+            return self.publish();
+        }
+        match first_idle(self.job, self.records.as_slice(), self.tasks) {
+            Some(number) => {
+                self.phase = self.start(number);
+                Ok(())
+            }
+            None => self.wait(),
+        }
+    }
+
+    // No task is idle.
+    fn wait(&mut self) -> Result<(), AllocError>
+        ensures { OnOk result (self.new ≡ begins_with (starts_first None self.old) self.old) }
+    {
+        if self.is_settled()? {
+            return self.publish();
+        }
+        self.phase = Phase::Over(Outcome::Busy);
+        Ok(())
+    }
+
+    fn start_beside(&mut self, number: u32) -> Result<(), AllocError>
+        ensures { OnOk result (self.new ≡ begins_with (starts_beside number self.old) self.old) }
+    {
+        if self.is_decided(number) {
+            return self.publish();
+        }
+        let task = task_of(self.job, number);
+        self.phase = if is_busy(self.records.as_slice(), &task) {
+            Phase::Over(Outcome::Busy)
+        } else {
+            self.start(number)
+        };
+        Ok(())
+    }
+
+    fn start_over(&mut self, number: u32) -> Result<(), AllocError>
+        ensures { OnOk result (self.new ≡ begins_with (starts_over number self.old) self.old) }
+    {
+        if self.is_decided(number) {
+            return self.publish();
+        }
+        self.phase = self.give_up(number);
+        Ok(())
+    }
+
+    fn give_up(&self, number: u32) -> Phase
+        ensures { result ≡ gives_up (first_alive self.now.records (task_of self.now.job number) self.now.records) number self.now }
+    {
+        let task = task_of(self.job, number);
+        match first_alive(self.records.as_slice(), &task) {
+            Some(a) => Phase::Appending(Record::AttemptFailed { attempt: a }),
+            None => self.start(number),
+        }
+    }
+
+    // Whether the job is over, or the task has a winner.
+    fn is_decided(&self, number: u32) -> bool
+        ensures { result ≡ (is_over self.now.records || has_winner self.now.records (task_of self.now.job number)) }
+    {
+        let task = task_of(self.job, number);
+        is_over(self.records.as_slice()) || has_winner(self.records.as_slice(), &task)
+    }
+
+    // How an attempt at a task is begun.
+    fn start(&self, number: u32) -> Phase
+        ensures { result ≡ starts number self.now }
+    {
+        let task = task_of(self.job, number);
+        match next_attempt(self.records.as_slice(), task) {
+            Some(a) => Phase::Appending(Record::AttemptStarted {
+                attempt: a,
+                node: 0,
+            }),
+            None => Phase::Over(Outcome::Full),
+        }
+    }
+
     // Whether the job is over, or every task has a winner.
     fn is_settled(&self) -> Result<bool, AllocError>
-        ensures { IfOk result (λ settled. settled ≡ (is_over self.now.records || is_some (winners self.now.job self.now.records self.now.tasks))) }
+        ensures { IfOk result (λ settled. settled ≡ is_settled self.now) }
     {
         if is_over(self.records.as_slice()) {
             return Ok(true);
@@ -262,6 +374,10 @@ impl Command {
         match *told {
             Record::AttemptFailed { attempt } => {
                 self.phase = Phase::DroppingClaim(attempt);
+                Ok(())
+            }
+            Record::AttemptStarted { attempt, node: _ } => {
+                self.phase = Phase::MakingFolder(attempt);
                 Ok(())
             }
             _ => self.publish(),
@@ -318,17 +434,31 @@ impl Command {
         match self.order {
             Order::Done(a) | Order::Fail(a) | Order::Ask(a) => Outcome::Stands(self.standing(a)),
             Order::Resume => Outcome::Finished,
-            Order::Abort => self.abort_answer(),
+            Order::Abort => self.end_or(Outcome::Finished),
+            Order::StartNext | Order::StartAt(_) | Order::StartOver(_) => {
+                self.end_or(Outcome::JobOver)
+            }
         }
     }
 
-    fn abort_answer(&self) -> Outcome
-        ensures { result ≡ answer_to Order.Abort self.now }
+    // This where the job is over; else every task of the order has a winner.
+    fn end_or(&self, over: Outcome) -> Outcome
+        ensures { result ≡ (if is_over self.now.records then over else Outcome.AllWon) }
     {
         if is_over(self.records.as_slice()) {
-            Outcome::Finished
+            over
         } else {
             Outcome::AllWon
         }
+    }
+}
+
+// An order that changes nothing.
+fn only_asks(order: Order) -> bool
+    ensures { result ≡ only_asks order }
+{
+    match order {
+        Order::Ask(_) => true,
+        _ => false,
     }
 }

@@ -50,7 +50,7 @@ fn unwon(job: JobId, tasks: u32, records: &[Record], a: AttemptId) -> Standing
     Standing::Unknown
 }
 
-fn has_failed(records: &[Record], a: &AttemptId) -> bool
+pub(crate) fn has_failed(records: &[Record], a: &AttemptId) -> bool
     ensures { result ≡ list_any (tells_failure a.now) records.now }
 {
     records.iter().any(|told| tells_failure(a, told))
@@ -183,7 +183,7 @@ fn is_same(a: &AttemptId, b: &AttemptId) -> bool
     a == b
 }
 
-fn is_same_task(a: &TaskId, b: &TaskId) -> bool
+pub(crate) fn is_same_task(a: &TaskId, b: &TaskId) -> bool
     ensures { result ≡ same_task a.now b.now }
 {
     a == b

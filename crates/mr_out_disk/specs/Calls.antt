@@ -7,7 +7,7 @@ use Rattle.mr_history.specs.declared.record.Record.{Record}
 use Rattle.mr_out_disk.specs.declared.place.Place.{Place}
 use Rattle.mr_out_disk.specs.declared.place.Place.TheVariants.{Kept}
 use Rattle.mr_out_disk.specs.declared.call.Call.{Call}
-use Rattle.mr_out_disk.specs.declared.call.Call.TheVariants.{ReadHistory, AppendHistory, SyncHistory, Look, ListKept, SyncFile, SyncFolder, Rename, Link, Create, Remove}
+use Rattle.mr_out_disk.specs.declared.call.Call.TheVariants.{ReadHistory, AppendHistory, SyncHistory, Look, ListKept, SyncFile, SyncFolder, Rename, Link, Create, Remove, MakeFolder}
 use Rattle.mr_out_disk.specs.declared.answer.Answer.{Answer}
 use Rattle.mr_out_disk.specs.declared.answer.Answer.TheVariants.{Says, Told, Listed}
 use Rattle.mr_out_disk.specs.declared.answer.Reply.{Reply}
@@ -25,7 +25,7 @@ made d (Rename from to) = named from None (named to (seen d from) d)
 made d (Link from to) = named to (seen d from) d
 made d (Create p) = named p (Some 0) d  -- an empty file; which one it is does not count
 made d (Remove p) = named p None d
--- the others only look
+-- the others only look, or make a folder beneath the work folder, of which nothing is told
 made d _ = d
 
 -- only a call that is answered Done was made
@@ -45,6 +45,7 @@ CanMake d (Rename from to) = seen d from ≢ None
 CanMake d (Link from to) = (seen d from ≢ None) × (seen d to ≡ None)
 CanMake d (Create p) = seen d p ≡ None
 CanMake d (Remove p) = seen d p ≢ None
+CanMake d (MakeFolder a) = Unit {0}
 -- the others are not answered so
 CanMake d _ = ⊥
 
@@ -61,6 +62,7 @@ Misses d _ = ⊥
 abbrev pub IsTaken : Disk → Call → Type 0
 IsTaken d (Link from to) = seen d to ≢ None
 IsTaken d (Create p) = seen d p ≢ None
+IsTaken d (MakeFolder a) = Unit {0}  -- which folders are there is not told
 IsTaken d _ = ⊥
 
 -- the call looks at a name, and this file is there

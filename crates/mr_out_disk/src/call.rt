@@ -1,6 +1,7 @@
 //! The calls of a disk, each of which a loop over a real file system can make.
 use crate::place::{Folder, Place};
 use mr_history::Record;
+use mr_ids::AttemptId;
 
 /// A call of a disk.
 #[derive(Clone, Copy, Debug, PartialEq, Eq)]
@@ -28,4 +29,6 @@ pub enum Call {
     Create(Place),
     /// Removes a name. Answers: `Done`, `Missing`.
     Remove(Place),
+    /// Makes the folder in which an attempt writes, beneath the work folder. Answers: `Done`, `Taken`.
+    MakeFolder(AttemptId),
 }

@@ -22,10 +22,10 @@ use Rattle.mr_out_disk.specs.Cuts.{IsFront}
 use Rattle.mr_out_steps.specs.declared.order.Outcome.{Outcome}
 use Rattle.mr_out_steps.specs.declared.order.Outcome.TheVariants as outcome
 use Rattle.mr_out_steps.specs.declared.phase.Phase.{Phase}
-use Rattle.mr_out_steps.specs.declared.phase.Phase.TheVariants.{Reading, SyncingEnd, FindingClaim, FindingWork, Claiming, SyncingFile, SyncingClaim, Appending, Committing, DroppingClaim, DroppingWork, Listing, FindingKept, Linking, Comparing, SyncingParts, Marking, SyncingMarker, Emptying, Over}
+use Rattle.mr_out_steps.specs.declared.phase.Phase.TheVariants.{Reading, SyncingEnd, FindingClaim, FindingWork, Claiming, SyncingFile, SyncingClaim, Appending, Committing, DroppingClaim, DroppingWork, Listing, FindingKept, Linking, Comparing, SyncingParts, Marking, SyncingMarker, Emptying, MakingFolder, Over}
 use Rattle.mr_out_steps.specs.Standing.{task_of}
 use Rattle.mr_out_steps.specs.Commands.{Command, call_in}
-use Rattle.mr_out_steps.specs.Steps.{turn, acts, goes, begins, publishes, follows, noted, links, empties, ends, reads, listed, fails_now, is_reading, is_listing}
+use Rattle.mr_out_steps.specs.Steps.{turn, acts, goes, begins, follows, noted, links, empties, ends, reads, listed, fails_now, is_reading, is_listing}
 use Rattle.mr_out_model.specs.Worlds.{Setting, World, handed_by}
 use Rattle.mr_out_model.specs.Runs.{IsWriters}
 use Rattle.mr_out_model.proofs.Moments.{Every, EveryOf, every-if, every-moved}
@@ -34,7 +34,7 @@ use Rattle.mr_out_model.proofs.Invariant as inv
 use Rattle.mr_out_model.proofs.Invariant.{View, view, all_records, IsFile, IsThere, Wins, PartOf, IsPart, Shown, Stand, IsStored, File, OfJob, Core, Known, Held, Durable, Opens, MayAppend, Fate, IsAmong, AreWinners, Seen, ToLink, At, Amid}
 use Rattle.mr_out_model.proofs.Records.{some-one, none-some, no-winner, one-winner, wins-own, none-all, appended_too, synced_too, core-success, core-plain, core-sync, told-success, told-plain, told-sync, stand-grows, stand-handed, handed-other, another, failure-plain, start-plain, map-plain, end-plain}
 use Rattle.mr_out_model.proofs.Names.{core-output, core-kept, core-whole, core-claim, core-empty, core-link, core-mark, stand-output, not-yet, kept_named, part_named, marker_named}
-use Rattle.mr_out_model.proofs.Turns.{ends-amid, publishes-amid, links-amid, empties-amid, begins-amid, follows-amid}
+use Rattle.mr_out_model.proofs.Turns.{ends-amid, links-amid, empties-amid, begins-amid, follows-amid}
 
 -- ---- what was there before stays
 
@@ -93,6 +93,7 @@ stays s w c p b at = same s w c (goes p c) b (record { job = b.job; tasks = b.ta
     by Marking x = x
     by SyncingMarker x = x
     by (Emptying a) x = x
+    by (MakingFolder a) x = x
     by (Over o) x = x
 
 pub fail : (s : Setting) (w : World) (c : Command) → Before s w c → Behind s w w.disk w.handed (goes (Over outcome.Failed) c)
@@ -264,8 +265,16 @@ on-dropping-work s w c a b at Done = record {
   core = b.core;
   work = λ x. every-if (IsWriters s x) (same_attempt a x) (moved None (w.disk.moments (Work x))) (w.disk.moments (Work x)) (λ e. every-moved (IsWriters s x) (w.disk.moments (Work x)) None tt (b.work x)) (λ e. b.work x);
   told = b.told;
-  amid = publishes-amid s (view w.disk) w.handed c b.core b.job b.tasks at;
+  amid = begins-amid s (view w.disk) w.handed c b.core b.job b.tasks at;
   grows = record { front = front-itself w.disk.synced; stand = λ st. st; handed = λ x y. refl; bytes = λ x g y z. refl };
 }
-on-dropping-work s w c a b at Missing = same s w c (publishes c) b (publishes-amid s (view w.disk) w.handed c b.core b.job b.tasks at)
+on-dropping-work s w c a b at Missing = same s w c (begins c) b (begins-amid s (view w.disk) w.handed c b.core b.job b.tasks at)
 on-dropping-work s w c a b at _ = fail s w c b
+
+-- ---- an attempt gets its folder
+
+pub on-making-folder : (s : Setting) (w : World) (c : Command) (a : Attempt) → Before s w c → (reply : Reply) → After s w c (MakingFolder a) (call.MakeFolder a) reply
+unfolding turn
+on-making-folder s w c a b Done = stays s w c (Over (outcome.Started a)) b tt
+on-making-folder s w c a b Taken = stays s w c (Over (outcome.Started a)) b tt
+on-making-folder s w c a b _ = fail s w c b

@@ -13,7 +13,7 @@ use Rattle.mr_out_steps.specs.declared.order.Order.TheVariants as order
 use Rattle.mr_out_steps.specs.declared.order.Outcome.{Outcome}
 use Rattle.mr_out_steps.specs.declared.order.Outcome.TheVariants as outcome
 use Rattle.mr_out_steps.specs.declared.phase.Phase.{Phase}
-use Rattle.mr_out_steps.specs.declared.phase.Phase.TheVariants.{Reading, SyncingEnd, FindingClaim, FindingWork, Claiming, SyncingFile, SyncingClaim, Appending, Committing, DroppingClaim, DroppingWork, Listing, FindingKept, Linking, Comparing, SyncingParts, Marking, SyncingMarker, Emptying, Over}
+use Rattle.mr_out_steps.specs.declared.phase.Phase.TheVariants.{Reading, SyncingEnd, FindingClaim, FindingWork, Claiming, SyncingFile, SyncingClaim, Appending, Committing, DroppingClaim, DroppingWork, Listing, FindingKept, Linking, Comparing, SyncingParts, Marking, SyncingMarker, Emptying, MakingFolder, Over}
 use Rattle.mr_out_steps.specs.Standing.{task_of, standing}
 use Rattle.mr_out_steps.specs.Commands.{Command}
 use Rattle.mr_out_model.specs.Worlds.{Setting, Telling, World}
@@ -167,11 +167,18 @@ EndingOf s v (order.Fail a) st = (v.appended ≡ []) × (standing s.job s.tasks 
 EndingOf s v (order.Ask a) st = (v.appended ≡ []) × (standing s.job s.tasks v.synced a ≡ st)
 EndingOf s v order.Resume st = Unit {0}
 EndingOf s v order.Abort st = Unit {0}
+EndingOf s v order.StartNext st = Unit {0}
+EndingOf s v (order.StartAt n) st = Unit {0}
+EndingOf s v (order.StartOver n) st = Unit {0}
 
 abbrev pub Ending : Setting → View → Order → Outcome → Type 0
 Ending s v o (outcome.Stands st) = EndingOf s v o st
 Ending s v o outcome.Finished = Unit {0}
 Ending s v o outcome.AllWon = Unit {0}
+Ending s v o (outcome.Started a) = Unit {0}
+Ending s v o outcome.Busy = Unit {0}
+Ending s v o outcome.JobOver = Unit {0}
+Ending s v o outcome.Full = Unit {0}
 Ending s v o outcome.NoFile = Unit {0}
 Ending s v o outcome.NotAFile = Unit {0}
 Ending s v o outcome.StillWritten = Unit {0}
@@ -205,6 +212,7 @@ At s v h c SyncingParts = Known v.synced v.appended c.records × ToLink s v.sync
 At s v h c Marking = Known v.synced v.appended c.records × Stand s v.synced v.part h
 At s v h c SyncingMarker = Known v.synced v.appended c.records × Stand s v.synced v.part h × IsThere v.marker.now
 At s v h c (Emptying a) = Known v.synced v.appended c.records × Stand s v.synced v.part h × Every IsThere v.marker
+At s v h c (MakingFolder a) = Unit {0}
 At s v h c (Over o) = Ending s v c.order o
 
 pub record Amid (s : Setting) (v : View) (h : Attempt → Option ℕ) (c : Command) : Type 0 where

@@ -24,7 +24,7 @@ use Rattle.mr_out_steps.specs.declared.order.Order.TheVariants as order
 use Rattle.mr_out_steps.specs.declared.order.Outcome.{Outcome}
 use Rattle.mr_out_steps.specs.declared.order.Outcome.TheVariants as outcome
 use Rattle.mr_out_steps.specs.declared.phase.Phase.{Phase}
-use Rattle.mr_out_steps.specs.declared.phase.Phase.TheVariants.{Reading, SyncingEnd, FindingClaim, FindingWork, Claiming, SyncingFile, SyncingClaim, Appending, Committing, DroppingClaim, DroppingWork, Listing, FindingKept, Linking, Comparing, SyncingParts, Marking, SyncingMarker, Emptying, Over}
+use Rattle.mr_out_steps.specs.declared.phase.Phase.TheVariants.{Reading, SyncingEnd, FindingClaim, FindingWork, Claiming, SyncingFile, SyncingClaim, Appending, Committing, DroppingClaim, DroppingWork, Listing, FindingKept, Linking, Comparing, SyncingParts, Marking, SyncingMarker, Emptying, MakingFolder, Over}
 use Rattle.mr_out_steps.specs.Standing.{standing}
 use Rattle.mr_out_steps.specs.Commands.{Command, call_in, outcome_in, opening}
 use Rattle.mr_out_steps.specs.Steps.{goes, heard, turn}
@@ -37,7 +37,7 @@ use Rattle.mr_out_model.proofs.Invariant as inv
 use Rattle.mr_out_model.proofs.Invariant.{View, view, all_records, IsFile, Wins, Stand, File, Core, Lost, Known, Held, Durable, MayAppend, Ending, At, Amid, AmidAny, Holds}
 use Rattle.mr_out_model.proofs.Records.{none-all, some-one, wins-more}
 use Rattle.mr_out_model.proofs.Cutting.{cut-view, core-cut, told-cut, stand-left, core-written, no_longer_whole, claimed, still-whole}
-use Rattle.mr_out_model.proofs.Answering.{Grows, Before, Behind, same-grows, fail, on-syncing-end, on-finding-claim, on-finding-work, on-claiming, on-syncing-file, on-syncing-claim, on-appending, on-committing, on-dropping-claim, on-dropping-work}
+use Rattle.mr_out_model.proofs.Answering.{Grows, Before, Behind, same-grows, fail, on-syncing-end, on-finding-claim, on-finding-work, on-claiming, on-syncing-file, on-syncing-claim, on-appending, on-committing, on-dropping-claim, on-dropping-work, on-making-folder}
 use Rattle.mr_out_model.proofs.Publishing.{on-finding-kept, on-linking, on-comparing, on-syncing-parts, on-marking, on-syncing-marker, on-emptying, on-listing, on-reading}
 
 pub record Onward (s : Setting) (w u : World) : Type 0 where
@@ -83,6 +83,7 @@ says s w c SyncingParts b at reply m = onward s w _ _ _ (on-syncing-parts s w (g
 says s w c Marking b at reply m = onward s w _ _ _ (on-marking s w (goes Marking c) b at reply m)
 says s w c SyncingMarker b at reply m = onward s w _ _ _ (on-syncing-marker s w (goes SyncingMarker c) b at reply)
 says s w c (Emptying a) b at reply m = onward s w _ _ _ (on-emptying s w (goes (Emptying a) c) a b at reply)
+says s w c (MakingFolder a) b at reply m = onward s w _ _ _ (on-making-folder s w (goes (MakingFolder a) c) a b reply)
 says s w c (Over o) b at reply m = absurd m
 
 tells : (s : Setting) (w : World) (c : Command) (p : Phase) → Before s w (goes p c) → At s (view w.disk) w.handed (goes p c) p → (rs : List Record) → MayAnswer w (call_in p) (Told rs) → Onward s w (answered w (goes p c) (call_in p) (Told rs))
@@ -147,6 +148,9 @@ ends-so s w (order.Ask a) (outcome.Stands st) h e = tell-one s w a st h e.0 e.1
 ends-so s w (order.Ask a) _ h e = tell-none s w h
 ends-so s w order.Resume _ h e = tell-none s w h
 ends-so s w order.Abort _ h e = tell-none s w h
+ends-so s w order.StartNext _ h e = tell-none s w h
+ends-so s w (order.StartAt n) _ h e = tell-none s w h
+ends-so s w (order.StartOver n) _ h e = tell-none s w h
 
 end-at : (s : Setting) (w : World) (c : Command) (p : Phase) → Holds s w → At s (view w.disk) w.handed c p → Onward s w (ended w c (outcome_in p))
 end-at s w c (Over o) h at = ends-so s w c.order o h at

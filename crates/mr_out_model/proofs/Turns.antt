@@ -1,7 +1,10 @@
 -- Where a command is behind its turn.
-use Rattle.std.proofs.Common.{◌≡◌, ◌⊎◌, inl, inr, ◌<◌, ◌≤◌, ℕ, zero, suc, Bool, true, false, ◌||◌, cond, is_some, List, [], ◌∷◌, ◌++◌, Option, Some, None, refl, sym, ap, subst, ◌∙◌, arith}
+use Rattle.std.proofs.Common.{◌≡◌, ◌⊎◌, inl, inr, ◌<◌, ◌≤◌, ℕ, zero, suc, Bool, true, false, not, ◌||◌, ◌&&◌, cond, nat_lt, count_by, is_some, List, [], ◌∷◌, ◌++◌, Option, Some, None, refl, sym, ap, subst, ◌∙◌, arith}
 use Rattle.std.proofs.lemmas.Bool.{cases_lt}
+use Rattle.std.specs.List.{list_any}
 use Rattle.mr_ids.specs.Attempt.{Attempt}
+use Rattle.mr_ids.specs.Same.{same_task}
+use Rattle.mr_ids.proofs.Same.{task-is}
 use Rattle.mr_ids.specs.declared.id.JobId.{JobId}
 use Rattle.mr_ids.specs.declared.id.TaskId.{TaskId}
 use Rattle.mr_history.specs.declared.record.Record.{Record}
@@ -14,10 +17,10 @@ use Rattle.mr_out_steps.specs.declared.order.Order.{Order}
 use Rattle.mr_out_steps.specs.declared.order.Order.TheVariants as order
 use Rattle.mr_out_steps.specs.declared.order.Outcome.TheVariants as outcome
 use Rattle.mr_out_steps.specs.declared.phase.Phase.{Phase}
-use Rattle.mr_out_steps.specs.declared.phase.Phase.TheVariants.{Listing, FindingClaim, Appending}
-use Rattle.mr_out_steps.specs.Standing.{task_of, standing, winners, with_winner, is_over}
+use Rattle.mr_out_steps.specs.declared.phase.Phase.TheVariants.{Listing, FindingClaim, Appending, MakingFolder, Over}
+use Rattle.mr_out_steps.specs.Standing.{task_of, tells_failure, standing, winners, with_winner, is_over, has_winner, is_alive_at, next_attempt, first_alive, first_idle}
 use Rattle.mr_out_steps.specs.Commands.{Command}
-use Rattle.mr_out_steps.specs.Steps.{answer_to, ends, lists, publishes, is_under_way, own_work, begins_with, begins, follows, noted, links, empties}
+use Rattle.mr_out_steps.specs.Steps.{answer_to, ends, lists, publishes, is_under_way, own_work, goes, begins_with, begins, is_settled, is_to_end, starts, starts_one, starts_first, starts_beside, gives_up, starts_over, follows, noted, links, empties}
 use Rattle.mr_out_model.specs.Worlds.{Setting}
 use Rattle.mr_out_model.proofs.Moments.{Every}
 use Rattle.mr_out_model.proofs.Standings.{IsOpen, is-open}
@@ -85,12 +88,19 @@ ends-amid s v h c job tasks k = record { job = job; tasks = tasks; here = by c.o
     aborted true = tt
     aborted false = tt
 
+    started : (o : Order) → Unit {0} → (b : Bool) → Ending s v o (cond b outcome.JobOver outcome.AllWon)
+    started o u true = tt
+    started o u false = tt
+
     by : (o : Order) → Ending s v o (answer_to o c)
     by (order.Done a) = (k.none, stands-so s v c a job tasks k.records)
     by (order.Fail a) = (k.none, stands-so s v c a job tasks k.records)
     by (order.Ask a) = (k.none, stands-so s v c a job tasks k.records)
     by order.Resume = tt
     by order.Abort = aborted (is_over c.records)
+    by order.StartNext = started order.StartNext tt (is_over c.records)
+    by (order.StartAt n) = started (order.StartAt n) tt (is_over c.records)
+    by (order.StartOver n) = started (order.StartOver n) tt (is_over c.records)
 
 -- ---- what is published
 
@@ -129,8 +139,34 @@ empties-amid s v h c (a ∷ rest) job tasks k st there = record { job = job; tas
 
 -- ---- its own work
 
+is-none : (o : Option Attempt) → is_some o ≡ false → o ≡ None
+is-none None e = refl
+is-none (Some a) e = absurd (cc)
+
+right-false : (x y : Bool) → (x || y) ≡ false → y ≡ false
+right-false true y e = absurd (cc)
+right-false false y e = e
+
+-- who is under way at a task attempts it
+alive-at : (rs : List Record) (t : TaskId) (qs : List Record) (a : Attempt) → first_alive rs t qs ≡ Some a → a.task ≡ t
+unfolding first_alive
+alive-at rs t [] a e = absurd (cc)
+alive-at rs t (AttemptStarted b node ∷ qs) a e = by (same_task b.task t) refl (not (list_any (tells_failure b) rs)) (alive-at rs t qs a) e
+  where
+    same : b ≡ a → same_task b.task t ≡ true → a.task ≡ t
+    same f is = ap (λ (x : Attempt). x.task) (sym f) ∙ task-is b.task t is
+
+    by : (m : Bool) → same_task b.task t ≡ m → (q : Bool) → (first_alive rs t qs ≡ Some a → a.task ≡ t) → cond (m && q) (Some b) (first_alive rs t qs) ≡ Some a → a.task ≡ t
+    by true is true go e = same (cc) is
+    by true is false go e = go e
+    by false is q go e = go e
+alive-at rs t (MapSucceeded b node incarnation ∷ qs) a e = alive-at rs t qs a e
+alive-at rs t (ReduceSucceeded b bytes ∷ qs) a e = alive-at rs t qs a e
+alive-at rs t (AttemptFailed b ∷ qs) a e = alive-at rs t qs a e
+alive-at rs t (JobUnsuccessful ∷ qs) a e = alive-at rs t qs a e
+
 pub begins-amid : (s : Setting) (v : View) (h : Attempt → Option ℕ) (c : Command) → Core s v h → c.job ≡ s.job → c.tasks ≡ s.tasks → Known v.synced v.appended c.records → Amid s v h (begins c)
-begins-amid s v h c core job tasks k = by c.order refl
+begins-amid s v h c core job tasks k = first (is_to_end c)
   where
     published : Amid s v h (publishes c)
     published = publishes-amid s v h c core job tasks k
@@ -161,12 +197,52 @@ begins-amid s v h c core job tasks k = by c.order refl
     asked : (a : Attempt) → c.order ≡ order.Ask a → Ending s v c.order (answer_to (order.Ask a) c)
     asked a e = let P : Order → Type 0 = λ o. Ending s v o (answer_to (order.Ask a) c) in subst P (sym e) (k.none, stands-so s v c a job tasks k.records)
 
+    -- an attempt is begun at a task, or there is no room for one
+    start : (o : Option Attempt) → Amid s v h (begins_with (Some (starts_one o)) c)
+    start (Some a) = record { job = job; tasks = tasks; here = (k, tt) }
+    start None = record { job = job; tasks = tasks; here = tt }
+
+    waits : (b : Bool) → Amid s v h (begins_with (cond b None (Some (Over outcome.Busy))) c)
+    waits true = published
+    waits false = record { job = job; tasks = tasks; here = tt }
+
+    first_one : (o : Option ℕ) → Amid s v h (begins_with (starts_first o c) c)
+    first_one (Some n) = start (next_attempt c.records (task_of c.job n))
+    first_one None = waits (is_settled c)
+
+    next : (b : Bool) → Amid s v h (begins_with (cond b None (starts_first (first_idle c.job c.records c.tasks) c)) c)
+    next true = published
+    next false = first_one (first_idle c.job c.records c.tasks)
+
+    two : (n : ℕ) (b : Bool) → Amid s v h (begins_with (Some (cond b (starts n c) (Over outcome.Busy))) c)
+    two n true = start (next_attempt c.records (task_of c.job n))
+    two n false = record { job = job; tasks = tasks; here = tt }
+
+    beside : (n : ℕ) (b : Bool) → Amid s v h (begins_with (cond b None (Some (cond (nat_lt (count_by (is_alive_at c.records (task_of c.job n)) c.records) 2) (starts n c) (Over outcome.Busy)))) c)
+    beside n true = published
+    beside n false = two n (nat_lt (count_by (is_alive_at c.records (task_of c.job n)) c.records) 2)
+
+    given_up : (n : ℕ) (o : Option Attempt) → winner_in v.synced (task_of c.job n) ≡ None → ((a : Attempt) → o ≡ Some a → a.task ≡ task_of c.job n) → Amid s v h (begins_with (Some (gives_up o n c)) c)
+    given_up n None none at = start (next_attempt c.records (task_of c.job n))
+    given_up n (Some a) none at = record { job = job; tasks = tasks; here = (k, λ w. no-winner (winner_in v.synced a.task) a (ap (λ (t : TaskId). winner_in v.synced t) (at a refl) ∙ none) w) }
+
+    over : (n : ℕ) (b : Bool) → (is_over c.records || has_winner c.records (task_of c.job n)) ≡ b → Amid s v h (begins_with (cond b None (Some (gives_up (first_alive c.records (task_of c.job n) c.records) n c))) c)
+    over n true e = published
+    over n false e = given_up n (first_alive c.records (task_of c.job n) c.records) (ap (λ (rs : List Record). winner_in rs (task_of c.job n)) (sym k.records) ∙ is-none (winner_in c.records (task_of c.job n)) (right-false (is_over c.records) (has_winner c.records (task_of c.job n)) e)) (λ a. alive-at c.records (task_of c.job n) c.records a)
+
     by : (o : Order) → c.order ≡ o → Amid s v h (begins_with (own_work o c) c)
     by (order.Done a) e = done a (standing c.job c.tasks c.records a) refl
     by (order.Fail a) e = fail a (standing c.job c.tasks c.records a) refl
     by (order.Ask a) e = record { job = job; tasks = tasks; here = asked a e }
     by order.Resume e = published
-    by order.Abort e = abort (is_over c.records || is_some (winners c.job c.records c.tasks))
+    by order.Abort e = abort (is_settled c)
+    by order.StartNext e = next (is_over c.records)
+    by (order.StartAt n) e = beside n (is_over c.records || has_winner c.records (task_of c.job n))
+    by (order.StartOver n) e = over n (is_over c.records || has_winner c.records (task_of c.job n)) refl
+
+    first : (b : Bool) → Amid s v h (cond b (goes (Appending JobUnsuccessful) c) (begins_with (own_work c.order c) c))
+    first true = record { job = job; tasks = tasks; here = (k, tt) }
+    first false = by c.order refl
 
 -- ---- a record is durable now
 
@@ -181,7 +257,7 @@ follows-amid s v h c r core job tasks rs one fate = by r one fate
     published q e = publishes-amid s (synced_too v) h (noted q c) core job tasks (known q e)
 
     by : (q : Record) → v.appended ≡ q ∷ [] → Fate v q → Amid s (synced_too v) h (follows q (noted q c))
-    by (AttemptStarted a node) e f = published (AttemptStarted a node) e
+    by (AttemptStarted a node) e f = record { job = job; tasks = tasks; here = tt }
     by (MapSucceeded a node incarnation) e f = published (MapSucceeded a node incarnation) e
     by (ReduceSucceeded a bytes) e f = published (ReduceSucceeded a bytes) e
     by (AttemptFailed a) e f = record { job = job; tasks = tasks; here = (known (AttemptFailed a) e, λ w. f (sym (same-winner v.synced (AttemptFailed a) a.task (failure-plain a)) ∙ (ap (λ (qs : List Record). winner_in (v.synced ++ qs) a.task) (sym e) ∙ w))) }

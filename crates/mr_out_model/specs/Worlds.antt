@@ -19,10 +19,11 @@ use Rattle.mr_out_steps.specs.declared.order.Outcome.{Outcome}
 use Rattle.mr_out_steps.specs.declared.order.Outcome.TheVariants as outcome
 use Rattle.mr_out_steps.specs.Commands.{Command}
 
--- the job, how many tasks it has, and which attempt writes a file, whoever it is
+-- the job, how many tasks it has, how many failures of one end it, and which attempt writes a file, whoever it is
 pub record Setting : Type 0 where
   pub job : JobId
   pub tasks : ℕ
+  pub limit : Option ℕ
   pub writer : ℕ → Attempt
 
 -- a command told of an attempt how it stands

@@ -11,12 +11,14 @@ use Rattle.mr_out_disk.specs.declared.call.Call.TheVariants as call
 use Rattle.mr_out_steps.specs.declared.order.Order.{Order}
 use Rattle.mr_out_steps.specs.declared.order.Outcome.{Outcome}
 use Rattle.mr_out_steps.specs.declared.phase.Phase.{Phase}
-use Rattle.mr_out_steps.specs.declared.phase.Phase.TheVariants.{Reading, SyncingEnd, FindingClaim, FindingWork, Claiming, SyncingFile, SyncingClaim, Appending, Committing, DroppingClaim, DroppingWork, Listing, FindingKept, Linking, Comparing, SyncingParts, Marking, SyncingMarker, Emptying, Over}
+use Rattle.mr_out_steps.specs.declared.phase.Phase.TheVariants.{Reading, SyncingEnd, FindingClaim, FindingWork, Claiming, SyncingFile, SyncingClaim, Appending, Committing, DroppingClaim, DroppingWork, Listing, FindingKept, Linking, Comparing, SyncingParts, Marking, SyncingMarker, Emptying, MakingFolder, Over}
 
 pub record Command : Type 0 where
   pub order : Order
   pub job : JobId
   pub tasks : ℕ
+  -- how many failures of one task end the job, if any number does
+  pub limit : Option ℕ
   -- the records of the history, from when they were read on
   pub records : List Record
   -- the winners whose files are still to be linked
@@ -25,8 +27,8 @@ pub record Command : Type 0 where
   pub kept : List Attempt
   pub phase : Phase
 
-abbrev pub opening : Order → JobId → ℕ → Command
-opening order job tasks = record { order = order; job = job; tasks = tasks; records = []; left = []; kept = []; phase = Reading }
+abbrev pub opening : Order → JobId → ℕ → Option ℕ → Command
+opening order job tasks limit = record { order = order; job = job; tasks = tasks; limit = limit; records = []; left = []; kept = []; phase = Reading }
 
 abbrev pub call_in : Phase → Option Call
 call_in Reading = Some call.ReadHistory
@@ -48,6 +50,7 @@ call_in SyncingParts = Some (call.SyncFolder folder.Output)
 call_in Marking = Some (call.Create Marker)
 call_in SyncingMarker = Some (call.SyncFolder folder.Output)
 call_in (Emptying a) = Some (call.Remove (Kept a))
+call_in (MakingFolder a) = Some (call.MakeFolder a)
 call_in (Over outcome) = None
 
 abbrev pub next_call : Command → Option Call

@@ -1,6 +1,6 @@
 -- What a command does of the answer to its call. That a log is synced before anything follows from it is what write-ahead logging asks; that the
 -- marker is made behind all files, and is made durable behind them, is the committer document's order of a job's commit. The rest is our own.
-use Rattle.std.specs.Prelude.{◌≡◌, ◌⊎◌, ℕ, ◌==◌, Bool, true, false, ◌||◌, is_some, List, [], ◌∷◌, ◌++◌, Option, Some, None, if◌then◌else◌}
+use Rattle.std.specs.Prelude.{◌≡◌, ◌⊎◌, ℕ, ◌==◌, nat_lt, Bool, true, false, not, ◌||◌, ◌&&◌, count_by, is_some, List, [], ◌∷◌, ◌++◌, Option, Some, None, if◌then◌else◌}
 use Rattle.mr_ids.specs.Attempt.{Attempt}
 use Rattle.mr_history.specs.declared.record.Record.{Record}
 use Rattle.mr_history.specs.declared.record.Record.TheVariants.{AttemptStarted, MapSucceeded, ReduceSucceeded, AttemptFailed, JobUnsuccessful}
@@ -15,10 +15,10 @@ use Rattle.mr_out_steps.specs.declared.order.Order.TheVariants as order
 use Rattle.mr_out_steps.specs.declared.order.Outcome.{Outcome}
 use Rattle.mr_out_steps.specs.declared.order.Outcome.TheVariants as outcome
 use Rattle.mr_out_steps.specs.declared.phase.Phase.{Phase}
-use Rattle.mr_out_steps.specs.declared.phase.Phase.TheVariants.{Reading, SyncingEnd, FindingClaim, FindingWork, Claiming, SyncingFile, SyncingClaim, Appending, Committing, DroppingClaim, DroppingWork, Listing, FindingKept, Linking, Comparing, SyncingParts, Marking, SyncingMarker, Emptying, Over}
+use Rattle.mr_out_steps.specs.declared.phase.Phase.TheVariants.{Reading, SyncingEnd, FindingClaim, FindingWork, Claiming, SyncingFile, SyncingClaim, Appending, Committing, DroppingClaim, DroppingWork, Listing, FindingKept, Linking, Comparing, SyncingParts, Marking, SyncingMarker, Emptying, MakingFolder, Over}
 use Rattle.mr_out_steps.specs.declared.phase.Turn.{Turn}
-use Rattle.mr_out_steps.specs.declared.phase.Turn.TheVariants.{Goes, Begins, Notes, Publishes, LinksNext, EmptiesNext}
-use Rattle.mr_out_steps.specs.Standing.{standing, winners, is_over}
+use Rattle.mr_out_steps.specs.declared.phase.Turn.TheVariants.{Goes, Begins, Notes, LinksNext, EmptiesNext}
+use Rattle.mr_out_steps.specs.Standing.{task_of, standing, winners, is_over, is_alive_at, next_attempt, first_alive, has_winner, first_idle, has_failed_out}
 use Rattle.mr_out_steps.specs.Commands.{Command}
 
 -- ---- a phase and a word: what follows. Whatever is not named ends the command as failed
@@ -101,7 +101,7 @@ turn (SyncingClaim a) reply = if_done (Goes (Appending (ReduceSucceeded a None))
 turn (Appending r) reply = if_done (Goes (Committing r)) (Goes (Over outcome.NotKnown)) reply
 turn (Committing r) reply = if_done (Notes r) (Goes (Over outcome.NotKnown)) reply
 turn (DroppingClaim a) reply = if_gone (Goes (DroppingWork a)) reply
-turn (DroppingWork a) reply = if_gone Publishes reply
+turn (DroppingWork a) reply = if_gone Begins reply
 turn Listing reply = fails
 turn (FindingKept a) reply = kept_looked a reply
 turn (Linking a file) reply = linked a file reply
@@ -110,6 +110,7 @@ turn SyncingParts reply = if_done (Goes Marking) fails reply
 turn Marking reply = if_there (Goes SyncingMarker) reply
 turn SyncingMarker reply = if_done EmptiesNext fails reply
 turn (Emptying a) reply = if_gone EmptiesNext reply
+turn (MakingFolder a) reply = if_there (Goes (Over (outcome.Started a))) reply
 turn (Over o) reply = Goes (Over o)
 
 -- ---- what a command does in its turn
@@ -124,6 +125,9 @@ answer_to (order.Fail a) c = outcome.Stands (standing c.job c.tasks c.records a)
 answer_to (order.Ask a) c = outcome.Stands (standing c.job c.tasks c.records a)
 answer_to order.Resume c = outcome.Finished
 answer_to order.Abort c = if is_over c.records then outcome.Finished else outcome.AllWon
+answer_to order.StartNext c = if is_over c.records then outcome.JobOver else outcome.AllWon
+answer_to (order.StartAt n) c = if is_over c.records then outcome.JobOver else outcome.AllWon
+answer_to (order.StartOver n) c = if is_over c.records then outcome.JobOver else outcome.AllWon
 
 abbrev pub ends : Command → Command
 ends c = goes (Over (answer_to c.order c)) c
@@ -141,24 +145,70 @@ abbrev pub is_under_way : Standing → Bool
 is_under_way UnderWay = true
 is_under_way _ = false
 
+-- the job is over, or will be published
+abbrev pub is_settled : Command → Bool
+is_settled c = is_over c.records || is_some (winners c.job c.records c.tasks)
+
+-- this attempt is begun, if there is one to begin
+abbrev pub starts_one : Option Attempt → Phase
+starts_one (Some a) = Appending (AttemptStarted a 0)
+starts_one None = Over outcome.Full
+
+-- an attempt at the task is begun
+abbrev pub starts : ℕ → Command → Phase
+starts n c = starts_one (next_attempt c.records (task_of c.job n))
+
+-- at the first task that is idle
+abbrev pub starts_first : Option ℕ → Command → Option Phase
+starts_first (Some n) c = Some (starts n c)
+starts_first None c = if is_settled c then None else Some (Over outcome.Busy)
+
+-- beside what is under way there
+abbrev pub starts_beside : ℕ → Command → Option Phase
+starts_beside n c =
+    if is_over c.records || has_winner c.records (task_of c.job n) then None
+    else Some (if nat_lt (count_by (is_alive_at c.records (task_of c.job n)) c.records) 2 then starts n c else Over outcome.Busy)
+
+-- behind what is under way there, which fails
+abbrev pub gives_up : Option Attempt → ℕ → Command → Phase
+gives_up (Some a) n c = Appending (AttemptFailed a)
+gives_up None n c = starts n c
+
+abbrev pub starts_over : ℕ → Command → Option Phase
+starts_over n c =
+    if is_over c.records || has_winner c.records (task_of c.job n) then None
+    else Some (gives_up (first_alive c.records (task_of c.job n) c.records) n c)
+
 -- its own work, where there is something to do
 abbrev pub own_work : Order → Command → Option Phase
 own_work (order.Done a) c = if is_under_way (standing c.job c.tasks c.records a) then Some (FindingClaim a) else None
 own_work (order.Fail a) c = if is_under_way (standing c.job c.tasks c.records a) then Some (Appending (AttemptFailed a)) else None
 own_work (order.Ask a) c = Some (Over (answer_to (order.Ask a) c))
 own_work order.Resume c = None
-own_work order.Abort c = if is_over c.records || is_some (winners c.job c.records c.tasks) then None else Some (Appending JobUnsuccessful)
+own_work order.Abort c = if is_settled c then None else Some (Appending JobUnsuccessful)
+own_work order.StartNext c = if is_over c.records then None else starts_first (first_idle c.job c.records c.tasks) c
+own_work (order.StartAt n) c = starts_beside n c
+own_work (order.StartOver n) c = starts_over n c
 
 abbrev pub begins_with : Option Phase → Command → Command
 begins_with None c = publishes c
 begins_with (Some phase) c = goes phase c
 
-abbrev pub begins : Command → Command
-begins c = begins_with (own_work c.order c) c
+abbrev pub only_asks : Order → Bool
+only_asks (order.Ask a) = true
+only_asks _ = false
 
--- a record is durable; a file of an attempt that failed is dropped
+-- a task has failed as often as the limit, and the job was not ended yet
+abbrev pub is_to_end : Command → Bool
+is_to_end c = not (only_asks c.order) && (has_failed_out c.limit c.records && not (is_settled c))
+
+abbrev pub begins : Command → Command
+begins c = if is_to_end c then goes (Appending JobUnsuccessful) c else begins_with (own_work c.order c) c
+
+-- a record is durable: a file of an attempt that failed is dropped, and one that starts gets its folder
 abbrev pub follows : Record → Command → Command
 follows (AttemptFailed a) c = goes (DroppingClaim a) c
+follows (AttemptStarted a node) c = goes (MakingFolder a) c
 follows r c = publishes c
 
 abbrev pub noted : Record → Command → Command
@@ -176,7 +226,6 @@ abbrev pub acts : Turn → Command → Command
 acts (Goes phase) c = goes phase c
 acts Begins c = begins c
 acts (Notes r) c = follows r (noted r c)
-acts Publishes c = publishes c
 acts LinksNext c = links c.left c
 acts EmptiesNext c = empties c.kept c
 

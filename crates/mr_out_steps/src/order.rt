@@ -15,6 +15,12 @@ pub enum Order {
     Resume,
     /// The job is ended as failed, unless it is published or will be.
     Abort,
+    /// An attempt is begun, at the first task that has no winner and none under way.
+    StartNext,
+    /// An attempt is begun at the task with this number, beside one that is under way at most.
+    StartAt(u32),
+    /// What is under way at the task with this number is given up, and an attempt is begun there.
+    StartOver(u32),
 }
 
 /// How a command ends.
@@ -24,8 +30,17 @@ pub enum Outcome {
     Stands(Standing),
     /// The order was carried out. What there is to publish is published.
     Finished,
-    /// The job cannot be ended as failed, since every task has a winner. What there is to publish is published.
+    /// There is nothing to begin, or to end as failed, since each task that the order is about has a winner. What there
+    /// is to publish is published.
     AllWon,
+    /// This attempt was begun: its start is durable, and the folder in which it writes is there.
+    Started(AttemptId),
+    /// No attempt was begun: enough are under way wherever there is no winner.
+    Busy,
+    /// No attempt was begun, since the job was ended as failed.
+    JobOver,
+    /// No attempt was begun, since the task or the job has as many as it may have.
+    Full,
     /// The attempt has no file: none where it writes it, and none that was handed in. Nothing changed.
     NoFile,
     /// What stands where the attempt writes its file is no regular file, or has another name too. Nothing changed.

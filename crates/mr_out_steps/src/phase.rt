@@ -49,6 +49,8 @@ pub enum Phase {
     SyncingMarker,
     /// This attempt's kept file is removed.
     Emptying(AttemptId),
+    /// The folder is made in which this attempt, whose start is durable, writes.
+    MakingFolder(AttemptId),
     /// The command has ended.
     Over(Outcome),
 }
@@ -58,12 +60,10 @@ pub enum Phase {
 pub enum Turn {
     /// It goes to a phase.
     Goes(Phase),
-    /// It begins its own work.
+    /// It begins its own work, or goes on with it.
     Begins,
     /// It notes a record that is durable now.
     Notes(Record),
-    /// It publishes, where every task has a winner.
-    Publishes,
     /// It links the next winner's file.
     LinksNext,
     /// It removes the next kept file.
@@ -91,6 +91,7 @@ impl Phase {
             Phase::Comparing(a, _) => Some(Call::Look(Place::Part(a.task().number))),
             Phase::SyncingParts | Phase::SyncingMarker => Some(Call::SyncFolder(Folder::Output)),
             Phase::Marking => Some(Call::Create(Place::Marker)),
+            Phase::MakingFolder(a) => Some(Call::MakeFolder(a)),
             Phase::Over(_) => None,
         }
     }
@@ -143,7 +144,7 @@ impl Phase {
             }
             Phase::Committing(told) => if_done(Turn::Notes(told), NOT_KNOWN, reply),
             Phase::DroppingClaim(a) => if_gone(Turn::Goes(Phase::DroppingWork(a)), reply),
-            Phase::DroppingWork(_) => if_gone(Turn::Publishes, reply),
+            Phase::DroppingWork(_) => if_gone(Turn::Begins, reply),
             Phase::FindingKept(a) => kept_looked(a, reply),
             Phase::Linking(a, file) => linked(a, file, reply),
             Phase::Comparing(a, file) => part_looked(a, file, reply),
@@ -151,6 +152,9 @@ impl Phase {
             Phase::Marking => if_there(Turn::Goes(Phase::SyncingMarker), reply),
             Phase::SyncingMarker => if_done(Turn::EmptiesNext, FAILS, reply),
             Phase::Emptying(_) => if_gone(Turn::EmptiesNext, reply),
+            Phase::MakingFolder(a) => {
+                if_there(Turn::Goes(Phase::Over(Outcome::Started(a))), reply)
+            }
             Phase::Over(outcome) => Turn::Goes(Phase::Over(outcome)),
         }
     }

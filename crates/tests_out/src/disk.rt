@@ -111,6 +111,7 @@ impl FakeDisk {
             Call::Link { from, to } => Answer::Says(self.link(rt, &from, &to)),
             Call::Create(place) => Answer::Says(self.create(rt, &place)),
             Call::Remove(place) => Answer::Says(self.remove(rt, &place)),
+            Call::MakeFolder(_) => Answer::Says(Reply::Done),
         }
     }
 

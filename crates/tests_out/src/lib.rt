@@ -9,6 +9,8 @@ macro_rules! confirm {
 }
 
 #[cfg(test)]
+mod attempts;
+#[cfg(test)]
 mod choices;
 #[cfg(test)]
 mod confirm;

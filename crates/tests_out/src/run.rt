@@ -34,7 +34,7 @@ fn file_of(a: &AttemptId) -> u64 {
     let task = a.task().number;
     let number = a.number();
     if task == 0 {
-        10 + u64::from(number % 2)
+        10 + u64::from(number % 8)
     } else {
         20
     }
@@ -56,6 +56,8 @@ pub struct Run {
     told: Vec<(AttemptId, Standing)>,
     /// How many stops may still come.
     stops: u32,
+    /// How many failures of one task end the job.
+    limit: Option<u32>,
 }
 
 impl Run {
@@ -76,7 +78,35 @@ impl Run {
             disk,
             told: Vec::new(alloc),
             stops: 0,
+            limit: None,
         }
+    }
+
+    /// A job of two tasks that was just begun, which so many failures of one task end.
+    pub fn fresh(alloc: Global, limit: Option<u32>) -> Run {
+        Run {
+            alloc,
+            disk: FakeDisk::new(alloc),
+            told: Vec::new(alloc),
+            stops: 0,
+            limit,
+        }
+    }
+
+    /// What a command answers that nobody stops.
+    pub fn answer(&mut self, rt: &impl Abort, order: &Order) -> Outcome {
+        let mut choices = Choices::new(self.alloc);
+        let End::Told(outcome) = self.drive(rt, order, &mut choices) else {
+            panic!(rt; "a command was stopped");
+        };
+        self.heard(rt, order, outcome)
+    }
+
+    // What a command told, once it is noted.
+    fn heard(&mut self, rt: &impl Abort, order: &Order, outcome: Outcome) -> Outcome {
+        let told = outcome;
+        self.hear(rt, order, outcome);
+        told
     }
 
     /// So many stops may come from now on.
@@ -104,7 +134,7 @@ impl Run {
 
     // The calls of a command, until it has ended or is stopped.
     fn drive(&mut self, rt: &impl Abort, order: &Order, choices: &mut Choices) -> End {
-        let mut command = Command::new(self.alloc, *order, JOB, TASKS);
+        let mut command = Command::new(self.alloc, *order, JOB, TASKS, self.limit);
         for _ in 0..100 {
             let Some(call) = command.call() else {
                 return End::Told(command.outcome().expect(rt, "no outcome"));
@@ -149,8 +179,11 @@ impl Run {
         }
     }
 
-    // What a command told is noted.
+    // What a command told is noted; an attempt that was begun writes its file.
     fn hear(&mut self, rt: &impl Abort, order: &Order, outcome: Outcome) {
+        if let Outcome::Started(a) = outcome {
+            self.disk.set(rt, &Place::Work(a), Some(file_of(&a)));
+        }
         if let Order::Done(a) = *order {
             if let Outcome::Stands(standing) = outcome {
                 self.told.push((a, standing)).expect(rt, "no memory");

@@ -72,3 +72,15 @@ fn one_that_is_beaten_is_given_up(rt: HostRuntime) {
     ];
     all(rt, rt.alloc(), &[], &orders, 1);
 }
+
+#[test]
+fn one_is_begun_over(rt: HostRuntime) {
+    let rt = &rt;
+    let orders = [
+        Order::StartOver(0),
+        Order::Done(attempt(rt, 0, 0)),
+        Order::Done(attempt(rt, 2, 0)),
+        Order::Done(attempt(rt, 0, 1)),
+    ];
+    all(rt, rt.alloc(), &[], &orders, 1);
+}

@@ -1,0 +1,122 @@
+//! A directory is made: beside its place, under a name of its own, and then renamed.
+use crate::calls::{enter, sync_folder};
+use crate::fault::{Fault, Why};
+use crate::job::Job;
+use std::fs::File;
+use std::io::Write;
+use std::{fs, io};
+
+/// Makes an output directory with its job, where nothing stands yet. Its parent is there.
+///
+/// It is made beside its place and renamed there, and all of it is durable once this has answered. Where it fails,
+/// nothing is there; a kill may leave the folder beside it.
+pub fn begin(rt: &HostRuntime, dir: &str, job: &Job) -> Result<(), Fault> {
+    let (parent, name) = split(dir);
+    if name.is_empty() {
+        return Err(Fault::refused(rt.alloc(), dir, Why::NoName));
+    }
+    enter(rt, parent)?;
+    refuse_taken(rt, name, dir)?;
+    let id = job.id;
+    let beside = format!(in rt.alloc(); ".{name}.mrout-{id}")?;
+    match make(rt, &beside, name, dir, job) {
+        Ok(()) => sync_folder(rt, "."),
+        Err(fault) => {
+            let _ = fs::remove_dir_all(rt, beside.as_str());
+            Err(fault)
+        }
+    }
+}
+
+/// The folder in which a directory stands, and its name there.
+fn split(dir: &str) -> (&str, &str) {
+    let dir = dir.trim_end_matches('/');
+    match dir.rsplit_once('/') {
+        None => (".", dir),
+        Some((parent, name)) => {
+            if parent.is_empty() {
+                ("/", name)
+            } else {
+                (parent, name)
+            }
+        }
+    }
+}
+
+fn refuse_taken(rt: &HostRuntime, name: &str, dir: &str) -> Result<(), Fault> {
+    match fs::symlink_metadata(rt, name) {
+        Ok(_) => Err(Fault::refused(rt.alloc(), dir, Why::There)),
+        Err(error) if error.kind() == io::ErrorKind::NotFound => Ok(()),
+        Err(error) => Err(Fault::of_call(rt.alloc(), "look", dir, error)),
+    }
+}
+
+fn make(rt: &HostRuntime, beside: &str, name: &str, dir: &str, job: &Job) -> Result<(), Fault> {
+    let alloc = rt.alloc();
+    let home = format!(in alloc; "{beside}/_mrout")?;
+    make_folders(rt, beside, &home)?;
+    let line = job.line(alloc)?;
+    write_file(rt, &format!(in alloc; "{home}/job")?, &line)?;
+    write_file(rt, &format!(in alloc; "{home}/history.1")?, "")?;
+    try_link(rt, &home, dir)?;
+    sync_folder(rt, &home)?;
+    sync_folder(rt, beside)?;
+    rename(rt, beside, name, dir)
+}
+
+fn make_folders(rt: &HostRuntime, beside: &str, home: &str) -> Result<(), Fault> {
+    make_folder(rt, beside)?;
+    make_folder(rt, home)?;
+    make_folder(rt, &format!(in rt.alloc(); "{home}/work")?)?;
+    make_folder(rt, &format!(in rt.alloc(); "{home}/kept")?)
+}
+
+fn make_folder(rt: &HostRuntime, path: &str) -> Result<(), Fault> {
+    match fs::create_dir(rt, path) {
+        Ok(()) => Ok(()),
+        Err(error) => Err(Fault::of_call(rt.alloc(), "create", path, error)),
+    }
+}
+
+fn write_file(rt: &HostRuntime, path: &str, text: &str) -> Result<(), Fault> {
+    match write_synced(rt, path, text) {
+        Ok(()) => Ok(()),
+        Err(error) => Err(Fault::of_call(rt.alloc(), "write", path, error)),
+    }
+}
+
+pub(crate) fn write_synced(rt: &HostRuntime, path: &str, text: &str) -> io::Result<()> {
+    let mut file = File::create_new(rt, path)?;
+    file.write_all(text.as_bytes())?;
+    file.sync_all()
+}
+
+// Whether a file may have a second name here: by that the parts are published.
+fn try_link(rt: &HostRuntime, home: &str, dir: &str) -> Result<(), Fault> {
+    let job = format!(in rt.alloc(); "{home}/job")?;
+    let link = format!(in rt.alloc(); "{home}/link")?;
+    if fs::hard_link(rt, job.as_str(), link.as_str()).is_err() {
+        return Err(Fault::refused(rt.alloc(), dir, Why::NoLinks));
+    }
+    match fs::remove_file(rt, link.as_str()) {
+        Ok(()) => Ok(()),
+        Err(error) => Err(Fault::of_call(rt.alloc(), "remove", &link, error)),
+    }
+}
+
+// A name that somebody took meanwhile is refused: a directory that is not empty is not replaced.
+fn rename(rt: &HostRuntime, beside: &str, name: &str, dir: &str) -> Result<(), Fault> {
+    refuse_taken(rt, name, dir)?;
+    match fs::rename(rt, beside, name) {
+        Ok(()) => Ok(()),
+        Err(error) => match fs::symlink_metadata(rt, name) {
+            Ok(_) => Err(Fault::refused(rt.alloc(), dir, Why::There)),
+            Err(_) => Err(Fault::of_call(rt.alloc(), "rename", dir, error)),
+        },
+    }
+}
+
+/// The name of a directory in the folder in which it stands.
+pub fn name_of(dir: &str) -> &str {
+    split(dir).1
+}

@@ -1,0 +1,82 @@
+//! Calls of the file system, each with a fault that names what was called and on which path.
+use crate::fault::{Fault, Why};
+use std::fs::{File, Metadata};
+use std::os::unix::fs::MetadataExt;
+use std::{env, fs, io};
+
+/// What stands at a path, if anything does. No link is followed.
+pub(crate) fn look(rt: &HostRuntime, path: &str) -> Result<Option<Metadata>, Fault> {
+    match fs::symlink_metadata(rt, path) {
+        Ok(found) => Ok(Some(found)),
+        Err(error) if error.kind() == io::ErrorKind::NotFound => Ok(None),
+        Err(error) => Err(Fault::of_call(rt.alloc(), "look", path, error)),
+    }
+}
+
+/// The regular file that stands at a path, if anything does.
+pub(crate) fn look_file(rt: &HostRuntime, path: &str) -> Result<Option<Metadata>, Fault> {
+    match look(rt, path)? {
+        None => Ok(None),
+        Some(found) => {
+            if found.is_file() {
+                Ok(Some(found))
+            } else {
+                Err(Fault::refused(rt.alloc(), path, Why::Foreign))
+            }
+        }
+    }
+}
+
+pub(crate) fn is_one(a: &Metadata, b: &Metadata) -> bool {
+    a.dev() == b.dev() && a.ino() == b.ino()
+}
+
+/// The file was written between two looks.
+pub(crate) fn is_changed(a: &Metadata, b: &Metadata) -> bool {
+    a.len() != b.len() || a.mtime() != b.mtime() || a.mtime_nsec() != b.mtime_nsec()
+}
+
+pub(crate) fn open(rt: &HostRuntime, path: &str) -> Result<File, Fault> {
+    match File::open(rt, path) {
+        Ok(file) => Ok(file),
+        Err(error) => Err(Fault::of_call(rt.alloc(), "open", path, error)),
+    }
+}
+
+pub(crate) fn sync(rt: &HostRuntime, file: &File, path: &str) -> Result<(), Fault> {
+    match file.sync_all() {
+        Ok(()) => Ok(()),
+        Err(error) => Err(Fault::of_call(rt.alloc(), "sync", path, error)),
+    }
+}
+
+/// Syncs a folder.
+pub(crate) fn sync_folder(rt: &HostRuntime, path: &str) -> Result<(), Fault> {
+    let folder = open(rt, path)?;
+    sync(rt, &folder, path)
+}
+
+pub(crate) fn stat(rt: &HostRuntime, file: &File, path: &str) -> Result<Metadata, Fault> {
+    match file.metadata() {
+        Ok(found) => Ok(found),
+        Err(error) => Err(Fault::of_call(rt.alloc(), "look", path, error)),
+    }
+}
+
+pub(crate) fn read(rt: &HostRuntime, path: &str) -> Result<Vec<u8>, Fault> {
+    match fs::read(rt, path) {
+        Ok(bytes) => Ok(bytes),
+        Err(error) => Err(Fault::of_call(rt.alloc(), "read", path, error)),
+    }
+}
+
+/// Goes into a directory.
+pub(crate) fn enter(rt: &HostRuntime, path: &str) -> Result<(), Fault> {
+    match env::set_current_dir(rt, path) {
+        Ok(()) => Ok(()),
+        Err(error) if error.kind() == io::ErrorKind::NotFound => {
+            Err(Fault::refused(rt.alloc(), path, Why::NoDirectory))
+        }
+        Err(error) => Err(Fault::of_call(rt.alloc(), "enter", path, error)),
+    }
+}

@@ -1,0 +1,145 @@
+//! Why a directory is refused, or a call on it failed.
+use std::alloc::{AllocError, AllocFailed, Global};
+use std::fmt::{Display, Formatter, Write};
+use std::{fmt, io};
+
+/// Why a directory is refused, or a call on it failed.
+#[derive(Debug, Drop)]
+pub enum Fault {
+    /// Memory was refused.
+    NoMemory,
+    /// This call failed on this path.
+    Call {
+        what: &'static str,
+        path: String,
+        error: io::Error,
+    },
+    /// What stands at this path is refused.
+    Refused {
+        path: String,
+        why: Why,
+    },
+    /// Others held the lock for longer than was to be waited.
+    Busy,
+}
+
+/// Why what stands at a path is refused.
+#[derive(Clone, Copy, Debug, PartialEq, Eq)]
+pub enum Why {
+    /// It has no job of `mrout`.
+    NotAJob,
+    /// Its job is told in another version, or with values out of range.
+    OtherVersion,
+    /// It was begun on another host.
+    OtherHost,
+    /// It is no name of `mrout`, or no regular file.
+    Foreign,
+    /// The line with this number is no record, and is not the end of what a command wrote.
+    Damaged(usize),
+    /// It is there already, and is no directory of `mrout`.
+    There,
+    /// It is there already, with a job of `mrout`.
+    ThereAJob,
+    /// There is no such directory.
+    NoDirectory,
+    /// It cannot end the names of part files.
+    BadSuffix,
+    /// It cannot be made there: the name has no last part.
+    NoName,
+    /// The file system gives no second name to a file.
+    NoLinks,
+    /// It is on a network disk.
+    Network,
+    /// The file is not there.
+    NoFile,
+    /// It is no regular file, or it has another name too.
+    NotAFile,
+    /// It was written while it was synced. It is claimed; say `done` again when it is closed.
+    StillWritten,
+    /// The file that an attempt handed in is gone.
+    Vanished,
+    /// It is no attempt of this job, or was not started.
+    NoAttempt,
+    /// The job has no task of this number.
+    NoTask,
+    /// Its directory was published, and its history is removed.
+    Forgotten,
+}
+
+impl Display for Why {
+    fn fmt<W: Write>(&self, f: &mut Formatter<W>) -> fmt::Result {
+        match self {
+            Why::Damaged(line) => write!(f, "line {line} is damaged"),
+            other => f.write_str(words(*other)),
+        }
+    }
+}
+
+fn words(why: Why) -> &'static str {
+    match why {
+        Why::NotAJob => "no directory of mrout",
+        Why::OtherVersion => "of another version of mrout",
+        Why::OtherHost => "of another host (see: mrout resume --here)",
+        Why::Foreign => "foreign, not made by mrout; nothing was replaced",
+        Why::Damaged(_) => "damaged",
+        Why::There => "there already, and no directory of mrout",
+        Why::ThereAJob => "there already, with a job of mrout",
+        Why::NoDirectory => "no such directory",
+        Why::BadSuffix =>
+            "no suffix: a full stop, then letters, digits, full stops, hyphens, low lines",
+        Why::NoName => "no name for a directory",
+        Why::NoLinks => "the file system has no hard links",
+        Why::Network => "on a network disk",
+        Why::NoFile => "no such file",
+        Why::NotAFile => "no regular file with one name",
+        Why::StillWritten => "still being written",
+        Why::Vanished => "the file that was handed in is gone",
+        Why::NoAttempt => "no attempt of this job",
+        Why::NoTask => "no task of this job",
+        Why::Forgotten => "its history is removed",
+    }
+}
+
+impl Display for Fault {
+    fn fmt<W: Write>(&self, f: &mut Formatter<W>) -> fmt::Result {
+        match self {
+            Fault::NoMemory => f.write_str("no memory"),
+            Fault::Call { what, path, error } => write!(f, "{path}: {what}: {error}"),
+            Fault::Refused { path, why } => write!(f, "{path}: {why}"),
+            Fault::Busy => f.write_str("busy: others hold the lock"),
+        }
+    }
+}
+
+impl From<AllocError> for Fault {
+    fn from(_error: AllocError) -> Fault {
+        Fault::NoMemory
+    }
+}
+
+impl<T: Drop> From<AllocFailed<T>> for Fault {
+    fn from(_error: AllocFailed<T>) -> Fault {
+        Fault::NoMemory
+    }
+}
+
+impl Fault {
+    /// A call that failed on a path.
+    pub fn of_call(alloc: Global, what: &'static str, path: &str, error: io::Error) -> Fault {
+        if error.kind() == io::ErrorKind::OutOfMemory {
+            return Fault::NoMemory;
+        }
+        match String::from_str(alloc, path) {
+            Ok(path) => Fault::Call { what, path, error },
+            Err(_) => Fault::NoMemory,
+        }
+    }
+
+    /// What stands at a path is refused.
+    pub fn refused(alloc: Global, path: &str, why: Why) -> Fault {
+        match String::from_str(alloc, path) {
+            Ok(path) => Fault::Refused { path, why },
+            Err(_) => Fault::NoMemory,
+        }
+    }
+}

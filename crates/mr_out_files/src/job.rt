@@ -1,0 +1,157 @@
+//! The job of an output directory: one line of JSON, which is written once.
+use crate::fault::{Fault, Why};
+use crate::layout::JOB;
+use mr_ids::JobId;
+use serde_json::Value;
+use std::alloc::{AllocError, Global};
+use std::fs;
+
+/// Most tasks of a job.
+pub const MAX_TASKS: u32 = 1000;
+
+/// Most failures of one task.
+pub const MAX_LIMIT: u32 = 100;
+
+/// Most bytes of what ends each part file's name.
+pub const MAX_SUFFIX_LEN: usize = 64;
+
+/// The job of an output directory.
+#[derive(Debug, Drop)]
+pub struct Job {
+    /// Its identifier: the milliseconds since 1970 when it was begun, and a random number below 10,000.
+    pub id: JobId,
+    /// How many tasks it has, 1 to `MAX_TASKS`.
+    pub tasks: u32,
+    /// How many failures of one task end it, 1 to `MAX_LIMIT`, if any number does.
+    pub limit: Option<u32>,
+    /// What ends each part file's name: nothing, or a full stop and more (`is_suffix`).
+    pub suffix: String,
+    /// The host on which it was begun.
+    pub host: String,
+}
+
+/// Whether a text may end the names of part files: it is empty, or begins with a full stop, and has only letters,
+/// digits, full stops, hyphens and low lines, at most `MAX_SUFFIX_LEN` of them.
+pub fn is_suffix(text: &str) -> bool {
+    let bytes = text.as_bytes();
+    let begins = bytes.is_empty() || bytes[0] == b'.';
+    begins && bytes.len() <= MAX_SUFFIX_LEN && bytes.iter().all(|byte| is_plain(*byte))
+}
+
+fn is_plain(byte: u8) -> bool {
+    byte.is_ascii_alphanumeric() || byte == b'.' || byte == b'-' || byte == b'_'
+}
+
+/// The host: its machine number, or its name where it has none, or nothing.
+pub fn host_of(rt: &HostRuntime) -> Result<String, Fault> {
+    let alloc = rt.alloc();
+    match first_line(rt, "/etc/machine-id")? {
+        Some(host) => Ok(host),
+        None => match first_line(rt, "/proc/sys/kernel/hostname")? {
+            Some(host) => Ok(host),
+            None => Ok(String::new(alloc)),
+        },
+    }
+}
+
+// The plain bytes of a file's first line, if it has any.
+fn first_line(rt: &HostRuntime, path: &str) -> Result<Option<String>, Fault> {
+    let alloc = rt.alloc();
+    let Ok(bytes) = fs::read(rt, path) else {
+        return Ok(None);
+    };
+    let mut text = String::new(alloc);
+    for byte in bytes.as_slice() {
+        if !is_plain(*byte) {
+            break;
+        }
+        text.push(char::from(*byte))?;
+    }
+    Ok(if text.is_empty() { None } else { Some(text) })
+}
+
+impl Job {
+    /// The line that tells the job.
+    pub(crate) fn line(&self, alloc: Global) -> Result<String, AllocError> {
+        let limit = match self.limit {
+            Some(limit) => format!(in alloc; "{limit}")?,
+            None => String::from_str(alloc, "null")?,
+        };
+        let (id, tasks) = (self.id, self.tasks);
+        let (suffix, host) = (self.suffix.as_str(), self.host.as_str());
+        let limit = limit.as_str();
+        format!(in alloc;
+            "{{\"version\":1,\"job\":\"{id}\",\"tasks\":{tasks},\"limit\":{limit},\"suffix\":\"{suffix}\",\"hold\":false,\"host\":\"{host}\"}}\n"
+        )
+    }
+
+    /// The job that the bytes of the file tell.
+    pub(crate) fn read(alloc: Global, bytes: &[u8]) -> Result<Job, Fault> {
+        match value_of(alloc, bytes)? {
+            Some(value) => match job_in(alloc, &value)? {
+                Some(job) => Ok(job),
+                None => Err(Fault::refused(alloc, JOB, Why::OtherVersion)),
+            },
+            None => Err(Fault::refused(alloc, JOB, Why::OtherVersion)),
+        }
+    }
+}
+
+fn value_of(alloc: Global, bytes: &[u8]) -> Result<Option<Value>, Fault> {
+    let Ok(text) = str::from_utf8(bytes) else {
+        return Ok(None);
+    };
+    match Value::from_str(alloc, text) {
+        Ok(value) => Ok(Some(value)),
+        Err(error) if error.is_memory() => Err(Fault::NoMemory),
+        Err(_) => Ok(None),
+    }
+}
+
+fn job_in(alloc: Global, value: &Value) -> Result<Option<Job>, Fault> {
+    if number_at(value, "version", 1, 1).is_none() || flag_at(value, "hold") != Some(false) {
+        return Ok(None);
+    }
+    let Some(id) = text_at(value, "job").and_then(job_named) else {
+        return Ok(None);
+    };
+    let Some(tasks) = number_at(value, "tasks", 1, MAX_TASKS) else {
+        return Ok(None);
+    };
+    let Some(suffix) = text_at(value, "suffix").filter(|text| is_suffix(text)) else {
+        return Ok(None);
+    };
+    let Some(host) = text_at(value, "host") else {
+        return Ok(None);
+    };
+    Ok(Some(Job {
+        id,
+        tasks,
+        limit: number_at(value, "limit", 1, MAX_LIMIT),
+        suffix: String::from_str(alloc, suffix)?,
+        host: String::from_str(alloc, host)?,
+    }))
+}
+
+fn job_named(text: &str) -> Option<JobId> {
+    match JobId::parse(text) {
+        Ok(job) => Some(job),
+        Err(_) => None,
+    }
+}
+
+fn text_at<'v>(value: &'v Value, key: &str) -> Option<&'v str> {
+    value.get(key).and_then(Value::as_str)
+}
+
+fn flag_at(value: &Value, key: &str) -> Option<bool> {
+    value.get(key).and_then(Value::as_bool)
+}
+
+fn number_at(value: &Value, key: &str, low: u32, high: u32) -> Option<u32> {
+    let number = value.get(key).and_then(Value::as_u64)?;
+    match u32::try_from(number) {
+        Ok(number) if low <= number && number <= high => Some(number),
+        _ => None,
+    }
+}

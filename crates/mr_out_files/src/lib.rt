@@ -1,0 +1,32 @@
+//! A job's output directory on a real disk: each call of mr_out_disk is made over `std::fs`, and answered.
+//!
+//! # What is proved
+//!
+//! That each function is safe, and returns (`lock` waits for whoever holds the lock). No contract can say what a disk
+//! holds. What mr_out_model proves speaks of answers that are honest; that each method here makes the call that it is
+//! named for, and answers what came of it, is read in the code and tested (`tools/mrout_stops`).
+//!
+//! # What there is
+//!
+//! - `begin` makes the directory beside its place and renames it there, so that it is there whole or not at all.
+//! - `Directory::open` takes the lock. `perform` makes one call.
+//! - The history is `_mrout/history.K`, in the bytes of mr_history, version 1. An end that is torn is sealed: the next
+//!   record goes into the segment K + 1.
+#![tactic(auto)]
+
+mod beginning;
+mod calls;
+mod directory;
+mod fault;
+mod job;
+mod layout;
+mod lock;
+mod segments;
+
+pub use beginning::{begin, name_of};
+pub use directory::Directory;
+pub use fault::{Fault, Why};
+pub use job::{Job, MAX_LIMIT, MAX_SUFFIX_LEN, MAX_TASKS, host_of, is_suffix};
+pub use layout::{GONE, HOME, MARKER, WORK, kept_path, part_name, path_of, work_folder, work_path};
+pub use lock::Lock;
+pub use segments::{Damage, MAX_TORN_LINES, Told, tell};

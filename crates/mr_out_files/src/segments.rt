@@ -1,0 +1,92 @@
+//! What the bytes of a segment tell, where its end may be torn.
+ghost use Rattle.std.specs.Prelude.{◌≤◌, length};
+
+use mr_history::{HistoryFault, Records, replay};
+use std::alloc::{AllocError, Global};
+
+/// Most lines of an end that may be torn: a command appends no more between two syncs.
+pub const MAX_TORN_LINES: usize = 64;
+
+/// What a segment tells.
+#[derive(Drop)]
+pub struct Told {
+    /// Its records.
+    pub records: Records,
+    /// Whether its end is torn. Then nothing more is appended to it.
+    pub is_torn: bool,
+}
+
+/// Why a segment tells nothing.
+#[derive(Clone, Copy, Debug, PartialEq, Eq)]
+pub enum Damage {
+    /// The line with this number, from 1, is no record, and too many lines stand behind it for a torn end.
+    Line(usize),
+    /// Memory was refused.
+    NoMemory,
+}
+
+impl From<AllocError> for Damage {
+    fn from(_error: AllocError) -> Damage {
+        Damage::NoMemory
+    }
+}
+
+/// The records of a segment. An end that begins with a line that is no record, and has at most `MAX_TORN_LINES` lines,
+/// is torn, and so are bytes behind the last line feed. A segment is of version 1.
+pub fn tell(alloc: Global, bytes: &[u8]) -> Result<Told, Damage> {
+    match replay(alloc, bytes) {
+        Ok(replayed) => {
+            if replayed.version != 1 {
+                return Err(Damage::Line(1));
+            }
+            Ok(Told {
+                records: replayed.records,
+                is_torn: replayed.torn > 0,
+            })
+        }
+        Err(HistoryFault::BadLine(line)) => tell_front(alloc, bytes, line),
+        Err(_) => Err(Damage::NoMemory),
+    }
+}
+
+// The records before a line that is none.
+fn tell_front(alloc: Global, bytes: &[u8], line: usize) -> Result<Told, Damage> {
+    let start = start_of(bytes, line);
+    let (front, end) = bytes.split_at(start);
+    if lines_of(end) > MAX_TORN_LINES {
+        return Err(Damage::Line(line));
+    }
+    match replay(alloc, front) {
+        Ok(replayed) => Ok(Told {
+            records: replayed.records,
+            is_torn: true,
+        }),
+        Err(HistoryFault::BadLine(line)) => Err(Damage::Line(line)),
+        Err(_) => Err(Damage::NoMemory),
+    }
+}
+
+// How many lines there are, one that has no end included.
+fn lines_of(bytes: &[u8]) -> usize {
+    let whole = bytes.iter().filter(|byte| **byte == b'\n').count();
+    match bytes.last() {
+        Some(byte) if *byte != b'\n' => whole.saturating_add(1),
+        _ => whole,
+    }
+}
+
+// Where the line with this number begins, from 1.
+fn start_of(bytes: &[u8], line: usize) -> usize
+    ensures { result ≤ length bytes.now }
+{
+    let mut left = line.saturating_sub(1);
+    for at in 0..bytes.len() {
+        if left == 0 {
+            return at;
+        }
+        if bytes[at] == b'\n' {
+            left = left.saturating_sub(1);
+        }
+    }
+    bytes.len()
+}

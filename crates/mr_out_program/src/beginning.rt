@@ -1,0 +1,108 @@
+//! The command `begin`.
+use crate::answering::Answered;
+use crate::asked::Asked;
+use mr_ids::JobId;
+use mr_out_files::{Directory, Fault, Job, Lock, Why, begin as make, host_of, is_suffix, name_of};
+use std::random::RandomSource;
+use std::time::Clock;
+
+/// Makes an output directory for a job of these words: how many tasks, how many failures of one end it, and what ends
+/// the names of part files.
+pub fn begin(
+    rt: &HostRuntime,
+    asked: &Asked<'_>,
+    words: (u32, Option<u32>, &str),
+    again: bool,
+) -> Result<Answered, Fault> {
+    let (tasks, limit, suffix) = words;
+    if !is_suffix(suffix) {
+        return Err(Fault::refused(rt.alloc(), suffix, Why::BadSuffix));
+    }
+    let job = Job {
+        id: new_id(rt)?,
+        tasks,
+        limit,
+        suffix: String::from_str(rt.alloc(), suffix)?,
+        host: host_of(rt)?,
+    };
+    match make(rt, asked.dir, &job) {
+        Ok(()) => Ok(Answered::plain(rt, 0)),
+        Err(
+            Fault::Refused {
+                path,
+                why: Why::There,
+            },
+        ) => there(rt, asked, &job, path, again),
+        Err(fault) => Err(fault),
+    }
+}
+
+// The milliseconds since 1970, and a random number below 10,000.
+fn new_id(rt: &HostRuntime) -> Result<JobId, Fault> {
+    let now = match rt.since_1970() {
+        Ok(now) => now,
+        Err(error) => return Err(Fault::of_call(rt.alloc(), "read the clock", "begin", error)),
+    };
+    let mut bytes = [0u8; 2];
+    if let Err(error) = rt.fill_bytes(&mut bytes) {
+        return Err(Fault::of_call(rt.alloc(), "draw a number", "begin", error));
+    }
+    let drawn = u32::from(u16::from_be_bytes(bytes));
+    Ok(JobId {
+        start: now
+            .as_secs()
+            .saturating_mul(1000)
+            .saturating_add(u64::from(now.subsec_millis())),
+        number: drawn % 10_000,
+    })
+}
+
+// It is there already: all is well where that was said, and it is a job of the same words.
+fn there(
+    rt: &HostRuntime,
+    asked: &Asked<'_>,
+    job: &Job,
+    path: String,
+    again: bool,
+) -> Result<Answered, Fault> {
+    let lock = Lock {
+        is_shared: true,
+        wait: asked.wait,
+    };
+    // The process stands in the folder in which the directory is.
+    match Directory::open(rt, name_of(asked.dir), lock) {
+        Ok(found) => is_there(rt, &found, job, path, again),
+        Err(fault) => Err(not_a_job(fault, path)),
+    }
+}
+
+fn is_there(
+    rt: &HostRuntime,
+    found: &Directory,
+    job: &Job,
+    path: String,
+    again: bool,
+) -> Result<Answered, Fault> {
+    if again && is_alike(&found.job, job) {
+        Ok(Answered::plain(rt, 0))
+    } else {
+        Err(Fault::Refused {
+            path,
+            why: Why::ThereAJob,
+        })
+    }
+}
+
+fn not_a_job(fault: Fault, path: String) -> Fault {
+    match fault {
+        Fault::NoMemory => Fault::NoMemory,
+        _other => Fault::Refused {
+            path,
+            why: Why::There,
+        },
+    }
+}
+
+fn is_alike(a: &Job, b: &Job) -> bool {
+    a.tasks == b.tasks && a.limit == b.limit && a.suffix == b.suffix
+}

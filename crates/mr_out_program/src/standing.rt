@@ -1,0 +1,221 @@
+//! How a job stands, by the records that are durable.
+use crate::answering::Answered;
+use mr_history::{Record, Records};
+use mr_ids::{AttemptId, TaskId, TaskKind};
+use mr_out_command::{first_alive, is_alive_at, is_over, winner, winners};
+use mr_out_disk::{Answer, Call};
+use mr_out_files::{Directory, Fault, MARKER, Why, kept_path, part_name};
+use std::fs;
+
+/// The records of the history, once they are durable.
+pub fn read_records(rt: &HostRuntime, directory: &mut Directory) -> Result<Records, Fault> {
+    let Answer::Told(records) = directory.perform(rt, Call::ReadHistory) else {
+        return Err(trouble(rt, directory));
+    };
+    match directory.perform(rt, Call::SyncHistory) {
+        Answer::Says(mr_out_disk::Reply::Done) => Ok(records),
+        _ => Err(trouble(rt, directory)),
+    }
+}
+
+fn trouble(rt: &HostRuntime, directory: &mut Directory) -> Fault {
+    match directory.trouble() {
+        Some(fault) => fault,
+        None => Fault::refused(rt.alloc(), "_mrout", Why::Foreign),
+    }
+}
+
+fn task_of(directory: &Directory, number: u32) -> TaskId {
+    TaskId {
+        job: directory.job.id,
+        kind: TaskKind::Reduce,
+        number,
+    }
+}
+
+/// The first attempt that is under way at a task that has no winner.
+pub fn first_alive_of(directory: &Directory, records: &Records, task: u32) -> Option<AttemptId> {
+    let task = task_of(directory, task);
+    let records = records.as_slice();
+    if is_over(records) || winner(records, &task).is_some() {
+        return None;
+    }
+    first_alive(records, &task)
+}
+
+fn has_marker(rt: &HostRuntime) -> bool {
+    match fs::symlink_metadata(rt, MARKER) {
+        Ok(found) => found.is_file(),
+        Err(_) => false,
+    }
+}
+
+/// Whether every task has a winner, and the marker is there.
+pub fn is_published(rt: &HostRuntime, directory: &mut Directory) -> Result<bool, Fault> {
+    let records = read_records(rt, directory)?;
+    let (id, tasks) = (directory.job.id, directory.job.tasks);
+    let all = winners(rt.alloc(), id, records.as_slice(), tasks)?;
+    Ok(all.is_some() && has_marker(rt) && !is_over(records.as_slice()))
+}
+
+/// Tells how the job stands: a line a task, and the whole.
+pub fn status(rt: &HostRuntime, directory: &mut Directory, json: bool) -> Result<Answered, Fault> {
+    let records = read_records(rt, directory)?;
+    let mut out = String::new(rt.alloc());
+    for number in 0..directory.job.tasks {
+        put_task(rt, &mut out, directory, &records, number, json)?;
+    }
+    put_whole(rt, &mut out, directory, &records, json)?;
+    Ok(Answered::told(rt, out, 0))
+}
+
+fn put_task(
+    rt: &HostRuntime,
+    out: &mut String,
+    directory: &Directory,
+    records: &Records,
+    number: u32,
+    json: bool,
+) -> Result<(), Fault> {
+    let task = task_of(directory, number);
+    match winner(records.as_slice(), &task) {
+        Some(a) => {
+            let bytes = len_of(rt, directory, a)?;
+            let line = won_line(rt, number, a, bytes, json)?;
+            out.push_str(line.as_str())?;
+            Ok(())
+        }
+        None => put_unwon(rt, out, records, &task, json),
+    }
+}
+
+fn won_line(
+    rt: &HostRuntime,
+    number: u32,
+    a: AttemptId,
+    bytes: u64,
+    json: bool,
+) -> Result<String, Fault> {
+    if json {
+        return Ok(format!(in rt.alloc();
+            "{{\"task\":{number},\"state\":\"won\",\"attempt\":\"{a}\",\"bytes\":{bytes}}}\n"
+        )?);
+    }
+    Ok(format!(in rt.alloc(); "{number} won {a} {bytes}\n")?)
+}
+
+// How many bytes a winner's file has: where it is visible, else where it is kept; 0 where it is at neither place.
+fn len_of(rt: &HostRuntime, directory: &Directory, a: AttemptId) -> Result<u64, Fault> {
+    let number = a.task().number;
+    let kept = kept_path(rt.alloc(), a)?;
+    if let Ok(found) = fs::symlink_metadata(rt, kept.as_str()) {
+        return Ok(found.len());
+    }
+    let part = part_name(rt.alloc(), &directory.job, number)?;
+    match fs::symlink_metadata(rt, part.as_str()) {
+        Ok(found) => Ok(found.len()),
+        Err(_) => Ok(0),
+    }
+}
+
+// A task that nobody has won: who is under way.
+fn put_unwon(
+    rt: &HostRuntime,
+    out: &mut String,
+    records: &Records,
+    task: &TaskId,
+    json: bool,
+) -> Result<(), Fault> {
+    let running = running_of(rt, records.as_slice(), task, json)?;
+    let number = task.number;
+    let line = if json {
+        let state = if running.is_empty() {
+            "waiting"
+        } else {
+            "running"
+        };
+        format!(in rt.alloc();
+            "{{\"task\":{number},\"state\":\"{state}\",\"attempts\":[{running}]}}\n"
+        )?
+    } else if running.is_empty() {
+        format!(in rt.alloc(); "{number} waiting\n")?
+    } else {
+        format!(in rt.alloc(); "{number} running {running}\n")?
+    };
+    out.push_str(line.as_str())?;
+    Ok(())
+}
+
+// The attempts that are under way at a task, in a line.
+fn running_of(
+    rt: &HostRuntime,
+    records: &[Record],
+    task: &TaskId,
+    json: bool,
+) -> Result<String, Fault> {
+    let mut text = String::new(rt.alloc());
+    if is_over(records) {
+        return Ok(text);
+    }
+    for told in records {
+        if let Some(a) = running_one(records, task, told) {
+            put_one(rt, &mut text, a, json)?;
+        }
+    }
+    Ok(text)
+}
+
+fn running_one(records: &[Record], task: &TaskId, told: &Record) -> Option<AttemptId> {
+    match *told {
+        Record::AttemptStarted { attempt, node: _ } if is_alive_at(records, task, told) => {
+            Some(attempt)
+        }
+        _ => None,
+    }
+}
+
+fn put_one(rt: &HostRuntime, text: &mut String, a: AttemptId, json: bool) -> Result<(), Fault> {
+    let word = if json {
+        format!(in rt.alloc(); "\"{a}\"")?
+    } else {
+        format!(in rt.alloc(); "{a}")?
+    };
+    if !text.is_empty() {
+        text.push(if json { ',' } else { ' ' })?;
+    }
+    text.push_str(word.as_str())?;
+    Ok(())
+}
+
+fn put_whole(
+    rt: &HostRuntime,
+    out: &mut String,
+    directory: &Directory,
+    records: &Records,
+    json: bool,
+) -> Result<(), Fault> {
+    let (id, tasks) = (directory.job.id, directory.job.tasks);
+    let all = winners(rt.alloc(), id, records.as_slice(), tasks)?;
+    let marker = has_marker(rt);
+    let outcome = outcome_word(is_over(records.as_slice()), all.is_some() && marker);
+    let line = if json {
+        format!(in rt.alloc();
+            "{{\"job\":\"{id}\",\"marker\":{marker},\"outcome\":\"{outcome}\"}}\n"
+        )?
+    } else {
+        let marker = if marker { "yes" } else { "no" };
+        format!(in rt.alloc(); "marker {marker}\noutcome {outcome}\n")?
+    };
+    out.push_str(line.as_str())?;
+    Ok(())
+}
+
+fn outcome_word(over: bool, published: bool) -> &'static str {
+    if over {
+        "failed"
+    } else if published {
+        "succeeded"
+    } else {
+        "none"
+    }
+}
