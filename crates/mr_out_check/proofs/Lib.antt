@@ -1,0 +1,5 @@
+pub mod Goes
+pub mod Noting
+pub mod Plain
+pub mod Inverse
+pub mod Listing

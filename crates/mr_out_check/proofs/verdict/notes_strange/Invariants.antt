@@ -1,0 +1,8 @@
+use Rattle.std.proofs.Common.{◌≡◌, drop, map, ◌++◌, Bool, not}
+use Rattle.std.specs.List.{list_any}
+use Rattle.mr_out_check.specs.Seen.{Noted, as_noted}
+use Rattle.mr_out_check.specs.Classes.{is_strange}
+use Rattle.mr_out_check.proofs.verdict.notes_strange.Given as goal
+
+abbrev pub invariant-loop-note : goal.invariant-loop-note
+invariant-loop-note l = list_any (λ (n : Noted). is_strange n.class) (map as_noted (drop l.note-index l.notes)) ≡ list_any (λ (n : Noted). is_strange n.class) (map as_noted l.notes)

@@ -1,0 +1,12 @@
+//! Laws of the answer, for whoever reasons on it without its definitions: these functions do nothing.
+ghost use Rattle.mr_out_check.specs.Laws.{YesMeansMarked, YesMeansMet};
+
+/// Whatever was listed, and whatever is told: the answer is yes only where the empty file `_SUCCESS` was listed, in the directory itself.
+pub fn yes_means_marked()
+    ensures { YesMeansMarked }
+{}
+
+/// The answer is yes only where each premise is met.
+pub fn yes_means_met()
+    ensures { YesMeansMet }
+{}

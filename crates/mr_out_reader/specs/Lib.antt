@@ -1,0 +1,2 @@
+-- A reader of a cluster's destination, who lists it: Moments.
+pub mod Moments
