@@ -4,6 +4,8 @@
 #[cfg(test)]
 mod checks;
 #[cfg(test)]
+mod judges;
+#[cfg(test)]
 mod talks;
 #[cfg(test)]
 mod words;
