@@ -8,6 +8,16 @@ import shutil
 from urllib.parse import quote_from_bytes, unquote_to_bytes
 
 
+def no_room(place):
+    """Why nothing can be made at a place, where the folder above it is at fault."""
+    parent = os.path.dirname(place)
+    if not os.path.lexists(parent):
+        return "NoParent"
+    if not os.path.isdir(parent):
+        return "NotDir"
+    return None
+
+
 class Folder:
     def __init__(self, root):
         self.root = os.fsencode(root)
@@ -34,11 +44,8 @@ class Folder:
         place = self.place(path)
         if os.path.lexists(place):
             return "Exists"
-        parent = os.path.dirname(place)
-        if not os.path.lexists(parent):
-            return "NoParent"
-        if not os.path.isdir(parent):
-            return "NotDir"
+        if why := no_room(place):
+            return why
         open(place, "xb").close()
         return "done"
 
@@ -60,11 +67,8 @@ class Folder:
             return "IntoItself"
         if os.path.lexists(target):
             return "Exists"
-        parent = os.path.dirname(target)
-        if not os.path.lexists(parent):
-            return "NoParent"
-        if not os.path.isdir(parent):
-            return "NotDir"
+        if why := no_room(target):
+            return why
         os.rename(source, target)
         return "done"
 
