@@ -1,5 +1,5 @@
 -- One record more in front, and one task more.
-use Rattle.std.proofs.Common.{◌≡◌, ◌<◌, ◌≤◌, ◌+◌, length, drop, get_or, drop-cons, ℕ, Bool, true, false, cond, List, [], ◌∷◌, Option, Some, None, refl, sym, ap, ◌∙◌, add-one}
+use Rattle.std.proofs.Common.{◌≡◌, ◌<◌, ◌≤◌, ◌+◌, ◌-◌, arith, length, drop, get_or, drop-cons, ℕ, zero, suc, Bool, true, false, cond, List, [], ◌∷◌, Option, Some, None, refl, sym, ap, ◌∙◌, add-one}
 use Rattle.std.proofs.lemmas.List.{drop_all}
 use Rattle.mr_ids.specs.Attempt.{Attempt}
 use Rattle.mr_ids.specs.Same.{same_task}
@@ -46,6 +46,25 @@ one_more job rs n = ap (λ m. winners job rs m) (add-one n)
 pub no_task : (job : JobId) (rs : List Record) → winners job rs 0 ≡ Some []
 unfolding winners
 no_task job rs = refl
+
+-- ---- tasks without a winner
+
+pub lacks_last : (job : JobId) (rs : List Record) (n last : ℕ) → n ≡ last + 1 → winner_in rs (task_of job last) ≡ None → winners job rs n ≡ None
+lacks_last job rs n last e none = ap (λ m. winners job rs m) e ∙ one_more job rs last ∙ ap (λ w. with_winner w (winners job rs last)) none
+
+lacks_one : (w : Option Attempt) → with_winner w None ≡ None
+lacks_one None = refl
+lacks_one (Some a) = refl
+
+none_behind : (job : JobId) (rs : List Record) (n k : ℕ) → winners job rs n ≡ None → winners job rs (n + k) ≡ None
+none_behind job rs n zero none = let e : n + 0 ≡ n = omega arith in ap (λ m. winners job rs m) e ∙ none
+none_behind job rs n (suc k) none =
+    let e : n + suc k ≡ (n + k) + 1 = omega arith in
+    ap (λ m. winners job rs m) e ∙ one_more job rs (n + k)
+    ∙ ap (λ all. with_winner (winner_in rs (task_of job (n + k))) all) (none_behind job rs n k none) ∙ lacks_one (winner_in rs (task_of job (n + k)))
+
+pub none_stays : (job : JobId) (rs : List Record) (n m : ℕ) → n ≤ m → winners job rs n ≡ None → winners job rs m ≡ None
+none_stays job rs n m l none = let e : m ≡ n + (m - n) = omega arith in ap (λ k. winners job rs k) e ∙ none_behind job rs n (m - n) none
 
 -- ---- the loop over the records
 

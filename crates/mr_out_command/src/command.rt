@@ -1,12 +1,13 @@
 //! A command of an output directory as a step machine: the call that it makes next, and what it does of the answer.
-ghost use Rattle.std.specs.Prelude.{◌≡◌, ◌||◌, OnOk, IfOk, None, is_some, if◌then◌else◌};
+ghost use Rattle.std.specs.Prelude.{◌≡◌, ◌||◌, OnOk, IfOk, Some, None, is_some, if◌then◌else◌};
 ghost use Rattle.mr_out_steps.specs.Standing.{standing, winners, is_over, has_winner, first_alive, has_failed_out, task_of};
 ghost use Rattle.mr_out_steps.specs.Commands.{opening, next_call, outcome_in};
-ghost use Rattle.mr_out_steps.specs.Steps.{heard, Takes, acts, turn, goes, begins, begins_with, own_work, publishes, lists, ends, links, empties, follows, noted, reads, listed, fails_now, answer_to, is_under_way, is_settled, starts, starts_first, starts_beside, gives_up, starts_over, only_asks, is_to_end};
+ghost use Rattle.mr_out_steps.specs.Steps.{heard, Takes, acts, turn, goes, begins, begins_with, own_work, publishes, lists, holds, ends, links, empties, follows, noted, reads, listed, fails_now, answer_to, answer_early, is_under_way, is_settled, starts, starts_first, starts_beside, gives_up, starts_over, only_asks, is_to_end};
 
 use crate::attempts::{
     first_alive, first_idle, has_failed_out, has_winner, is_busy, next_attempt, task_of,
 };
+use crate::orders::{only_asks, over_or, release};
 use crate::standing::{is_over, standing_of, winners};
 use mr_history::{Record, Records};
 use mr_ids::{AttemptId, JobId};
@@ -26,6 +27,7 @@ pub struct Command {
     job: JobId,
     tasks: u32,
     limit: Option<u32>,
+    hold: bool,
     records: Records,
     left: LinkedList<AttemptId>,
     kept: LinkedList<AttemptId>,
@@ -41,6 +43,7 @@ impl Drop for Command {
             job: _,
             tasks: _,
             limit: _,
+            hold: _,
             records: _,
             left: _,
             kept: _,
@@ -54,14 +57,21 @@ impl Model for Command {
 
     ghost Value = { Command };
 
-    ghost view = { λ c. record { order = c.order; job = c.job; tasks = c.tasks; limit = c.limit; records = c.records; left = c.left; kept = c.kept; phase = c.phase } };
+    ghost view = { λ c. record { order = c.order; job = c.job; tasks = c.tasks; limit = c.limit; hold = c.hold; records = c.records; left = c.left; kept = c.kept; phase = c.phase } };
 }
 
 impl Command {
     /// A command that begins, in a job of so many tasks, which ends where one of them has failed as often as the limit,
-    /// if there is one. It takes no memory.
-    pub fn new(alloc: Global, order: Order, job: JobId, tasks: u32, limit: Option<u32>) -> Command
-        ensures { result ≡ opening order job tasks limit }
+    /// if there is one. A job under `hold` is published once that is decided. It takes no memory.
+    pub fn new(
+        alloc: Global,
+        order: Order,
+        job: JobId,
+        tasks: u32,
+        limit: Option<u32>,
+        hold: bool,
+    ) -> Command
+        ensures { result ≡ opening order job tasks limit hold }
     {
         Command {
             alloc,
@@ -69,6 +79,7 @@ impl Command {
             job,
             tasks,
             limit,
+            hold,
             records: Records::new(alloc),
             left: LinkedList::new(alloc),
             kept: LinkedList::new(alloc),
@@ -127,6 +138,10 @@ impl Command {
             }
             Turn::Begins => self.begin(),
             Turn::Notes(told) => self.note(&told),
+            Turn::Holds => {
+                self.leave_held();
+                Ok(())
+            }
             Turn::LinksNext => {
                 self.link_next();
                 Ok(())
@@ -199,7 +214,7 @@ impl Command {
                 self.begin_ask(a);
                 Ok(())
             }
-            Order::Resume => self.publish(),
+            Order::Resume | Order::Publish => self.publish(),
             Order::Abort => self.begin_abort(),
             Order::StartNext => self.start_next(),
             Order::StartAt(number) => self.start_beside(number),
@@ -394,13 +409,44 @@ impl Command {
             return Ok(());
         }
         match self.winners()? {
-            None => self.end(),
-            Some(winners) => {
-                self.left = winners;
-                self.phase = Phase::Listing;
-            }
+            None => self.end_early(),
+            Some(winners) => self.release(winners),
         }
         Ok(())
+    }
+
+    // Every task has a winner: a held job waits for the decision, which an order to publish makes.
+    fn release(&mut self, winners: LinkedList<AttemptId>)
+        ensures { self.new ≡ lists (Some winners) self.old }
+    {
+        self.left = winners;
+        self.phase = release(self.hold, self.order);
+    }
+
+    // Some task has no winner.
+    fn end_early(&mut self)
+        ensures { self.new ≡ lists None self.old }
+    {
+        self.phase = Phase::Over(self.early_answer());
+    }
+
+    fn early_answer(&self) -> Outcome
+        ensures { result ≡ answer_early self.now.order self.now }
+    {
+        match self.order {
+            Order::Publish => Outcome::NotAllWon,
+            _ => self.answer(),
+        }
+    }
+
+    // Publishing a held job was not decided: the job may still be ended as failed, and nothing is published.
+    fn leave_held(&mut self)
+        ensures { self.new ≡ holds self.old.order self.old }
+    {
+        match self.order {
+            Order::Abort => self.phase = Phase::Appending(Record::JobUnsuccessful),
+            _ => self.end(),
+        }
     }
 
     fn link_next(&mut self)
@@ -434,31 +480,11 @@ impl Command {
         match self.order {
             Order::Done(a) | Order::Fail(a) | Order::Ask(a) => Outcome::Stands(self.standing(a)),
             Order::Resume => Outcome::Finished,
-            Order::Abort => self.end_or(Outcome::Finished),
+            Order::Abort => over_or(self.records.as_slice(), Outcome::Finished, Outcome::AllWon),
+            Order::Publish => over_or(self.records.as_slice(), Outcome::JobOver, Outcome::Finished),
             Order::StartNext | Order::StartAt(_) | Order::StartOver(_) => {
-                self.end_or(Outcome::JobOver)
+                over_or(self.records.as_slice(), Outcome::JobOver, Outcome::AllWon)
             }
         }
-    }
-
-    // This where the job is over; else every task of the order has a winner.
-    fn end_or(&self, over: Outcome) -> Outcome
-        ensures { result ≡ (if is_over self.now.records then over else Outcome.AllWon) }
-    {
-        if is_over(self.records.as_slice()) {
-            over
-        } else {
-            Outcome::AllWon
-        }
-    }
-}
-
-// An order that changes nothing.
-fn only_asks(order: Order) -> bool
-    ensures { result ≡ only_asks order }
-{
-    match order {
-        Order::Ask(_) => true,
-        _ => false,
     }
 }

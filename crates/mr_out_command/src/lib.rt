@@ -15,6 +15,7 @@
 
 mod attempts;
 mod command;
+mod orders;
 mod standing;
 
 pub use attempts::{first_alive, is_alive_at};

@@ -1,11 +1,12 @@
 //! What the records of a job's history tell of an attempt, and of the whole job.
-ghost use Rattle.std.specs.Prelude.{◌≡◌, IfOk, if◌then◌else◌};
+ghost use Rattle.std.specs.Prelude.{◌≡◌, true, None, IfOk, if◌then◌else◌};
 ghost use Rattle.std.specs.List.{list_any};
 ghost use Rattle.mr_history.specs.Winner.{winner_in};
 ghost use Rattle.mr_ids.specs.Same.{same_attempt, same_task};
 ghost use Rattle.mr_out_steps.specs.Standing.{tells_start, tells_failure, tells_end, is_over, is_of_job, standing, unwon, beside, task_of, winners, with_winner};
 ghost use Rattle.mr_out_command.specs.inner.Standing.{success_of};
 
+use crate::attempts::task_of;
 use mr_history::Record;
 use mr_ids::{AttemptId, JobId, TaskId, TaskKind};
 use mr_out_steps::Standing;
@@ -70,8 +71,34 @@ pub fn is_over(records: &[Record]) -> bool
 }
 
 /// The winners of the first `tasks` tasks of a job, the last task's first, where each has one.
-#[tactic(auto, using(crate::proofs::Winning::one_more, crate::proofs::Winning::no_task))]
 pub fn winners(
+    alloc: Global,
+    job: JobId,
+    records: &[Record],
+    tasks: u32,
+) -> Result<Option<LinkedList<AttemptId>>, AllocError>
+    ensures { IfOk result (λ all. all ≡ winners job records.now tasks) }
+{
+    if lacks_last(job, records, tasks) {
+        return Ok(None);
+    }
+    winners_in_turn(alloc, job, records, tasks)
+}
+
+// Whether the last task has no winner: mostly it is the last to have one, and then no other task is looked for.
+#[tactic(auto, using(crate::proofs::Winning::lacks_last))]
+fn lacks_last(job: JobId, records: &[Record], tasks: u32) -> bool
+    ensures { result ≡ true → winners job records.now tasks ≡ None }
+{
+    match tasks.checked_sub(1) {
+        Some(last) => winner(records, &task_of(job, last)).is_none(),
+        None => false,
+    }
+}
+
+// The same, one task after another, up to the first that has none.
+#[tactic(auto, using(crate::proofs::Winning::one_more, crate::proofs::Winning::no_task, crate::proofs::Winning::none_stays))]
+fn winners_in_turn(
     alloc: Global,
     job: JobId,
     records: &[Record],
@@ -81,12 +108,10 @@ pub fn winners(
 {
     let mut all = Some(LinkedList::new(alloc));
     for number in 0..tasks {
-        let task = TaskId {
-            job,
-            kind: TaskKind::Reduce,
-            number,
-        };
-        all = with_winner(winner(records, &task), all)?;
+        if all.is_none() {
+            return Ok(None);
+        }
+        all = with_winner(winner(records, &task_of(job, number)), all)?;
     }
     Ok(all)
 }

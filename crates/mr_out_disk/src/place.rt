@@ -10,6 +10,8 @@ pub enum Folder {
     Kept,
     /// The files that attempts write, by attempt.
     Work,
+    /// What the commands keep for themselves, but for the two folders above.
+    Home,
 }
 
 /// A name of an output directory.
@@ -23,4 +25,6 @@ pub enum Place {
     Kept(AttemptId),
     /// The file that an attempt writes.
     Work(AttemptId),
+    /// The decision that a held job is published.
+    Decision,
 }

@@ -1,7 +1,9 @@
 //! A directory is made: beside its place, under a name of its own, and then renamed.
-use crate::calls::{enter, sync_folder};
+use crate::calls::{enter, look, sync_folder};
 use crate::fault::{Fault, Why};
+use crate::flushed::{boot_of, note_of, write_note};
 use crate::job::Job;
+use crate::mounts::network_disk;
 use std::fs::File;
 use std::io::Write;
 use std::{fs, io};
@@ -16,10 +18,13 @@ pub fn begin(rt: &HostRuntime, dir: &str, job: &Job) -> Result<(), Fault> {
         return Err(Fault::refused(rt.alloc(), dir, Why::NoName));
     }
     enter(rt, parent)?;
-    refuse_taken(rt, name, dir)?;
+    refuse_taken(rt, name)?;
+    if let Some(kind) = network_disk(rt)? {
+        return Err(Fault::refused(rt.alloc(), name, Why::Network(kind)));
+    }
     let id = job.id;
     let beside = format!(in rt.alloc(); ".{name}.mrout-{id}")?;
-    match make(rt, &beside, name, dir, job) {
+    match make(rt, &beside, name, job) {
         Ok(()) => sync_folder(rt, "."),
         Err(fault) => {
             let _ = fs::remove_dir_all(rt, beside.as_str());
@@ -43,25 +48,27 @@ fn split(dir: &str) -> (&str, &str) {
     }
 }
 
-fn refuse_taken(rt: &HostRuntime, name: &str, dir: &str) -> Result<(), Fault> {
+fn refuse_taken(rt: &HostRuntime, name: &str) -> Result<(), Fault> {
     match fs::symlink_metadata(rt, name) {
-        Ok(_) => Err(Fault::refused(rt.alloc(), dir, Why::There)),
+        Ok(_) => Err(Fault::refused(rt.alloc(), name, Why::There)),
         Err(error) if error.kind() == io::ErrorKind::NotFound => Ok(()),
-        Err(error) => Err(Fault::of_call(rt.alloc(), "look", dir, error)),
+        Err(error) => Err(Fault::of_call(rt.alloc(), "look", name, error)),
     }
 }
 
-fn make(rt: &HostRuntime, beside: &str, name: &str, dir: &str, job: &Job) -> Result<(), Fault> {
+fn make(rt: &HostRuntime, beside: &str, name: &str, job: &Job) -> Result<(), Fault> {
     let alloc = rt.alloc();
     let home = format!(in alloc; "{beside}/_mrout")?;
     make_folders(rt, beside, &home)?;
     let line = job.line(alloc)?;
     write_file(rt, &format!(in alloc; "{home}/job")?, &line)?;
-    write_file(rt, &format!(in alloc; "{home}/history.1")?, "")?;
-    try_link(rt, &home, dir)?;
+    let history = format!(in alloc; "{home}/history.1")?;
+    write_file(rt, &history, "")?;
+    note(rt, &home, &history)?;
+    try_link(rt, &home, name)?;
     sync_folder(rt, &home)?;
     sync_folder(rt, beside)?;
-    rename(rt, beside, name, dir)
+    rename(rt, beside, name)
 }
 
 fn make_folders(rt: &HostRuntime, beside: &str, home: &str) -> Result<(), Fault> {
@@ -79,24 +86,38 @@ fn make_folder(rt: &HostRuntime, path: &str) -> Result<(), Fault> {
 }
 
 fn write_file(rt: &HostRuntime, path: &str, text: &str) -> Result<(), Fault> {
-    match write_synced(rt, path, text) {
+    match write_synced(rt, path, text.as_bytes()) {
         Ok(()) => Ok(()),
         Err(error) => Err(Fault::of_call(rt.alloc(), "write", path, error)),
     }
 }
 
-pub(crate) fn write_synced(rt: &HostRuntime, path: &str, text: &str) -> io::Result<()> {
+pub(crate) fn write_synced(rt: &HostRuntime, path: &str, bytes: &[u8]) -> io::Result<()> {
     let mut file = File::create_new(rt, path)?;
-    file.write_all(text.as_bytes())?;
+    file.write_all(bytes)?;
     file.sync_all()
 }
 
+// Notes that the empty history is durable. Where that can't be noted, the first command writes it anew.
+fn note(rt: &HostRuntime, home: &str, history: &str) -> Result<(), Fault> {
+    let (Some(boot), Some(end)) = (boot_of(rt)?, look(rt, history)?) else {
+        return Ok(());
+    };
+    let note = note_of(rt.alloc(), &boot, &end)?;
+    let _ = write_note(rt, home, &note);
+    Ok(())
+}
+
 // Whether a file may have a second name here: by that the parts are published.
-fn try_link(rt: &HostRuntime, home: &str, dir: &str) -> Result<(), Fault> {
+fn try_link(rt: &HostRuntime, home: &str, name: &str) -> Result<(), Fault> {
     let job = format!(in rt.alloc(); "{home}/job")?;
     let link = format!(in rt.alloc(); "{home}/link")?;
-    if fs::hard_link(rt, job.as_str(), link.as_str()).is_err() {
-        return Err(Fault::refused(rt.alloc(), dir, Why::NoLinks));
+    match fs::hard_link(rt, job.as_str(), link.as_str()) {
+        Ok(()) => {}
+        Err(error) if is_no_link(error.kind()) => {
+            return Err(Fault::refused(rt.alloc(), name, Why::NoLinks));
+        }
+        Err(error) => return Err(Fault::of_call(rt.alloc(), "link", &link, error)),
     }
     match fs::remove_file(rt, link.as_str()) {
         Ok(()) => Ok(()),
@@ -104,14 +125,22 @@ fn try_link(rt: &HostRuntime, home: &str, dir: &str) -> Result<(), Fault> {
     }
 }
 
+// By such a kind a file system says that it gives no file a second name.
+fn is_no_link(kind: io::ErrorKind) -> bool {
+    matches!(
+        kind,
+        io::ErrorKind::PermissionDenied | io::ErrorKind::Unsupported | io::ErrorKind::TooManyLinks
+    )
+}
+
 // A name that somebody took meanwhile is refused: a directory that is not empty is not replaced.
-fn rename(rt: &HostRuntime, beside: &str, name: &str, dir: &str) -> Result<(), Fault> {
-    refuse_taken(rt, name, dir)?;
+fn rename(rt: &HostRuntime, beside: &str, name: &str) -> Result<(), Fault> {
+    refuse_taken(rt, name)?;
     match fs::rename(rt, beside, name) {
         Ok(()) => Ok(()),
         Err(error) => match fs::symlink_metadata(rt, name) {
-            Ok(_) => Err(Fault::refused(rt.alloc(), dir, Why::There)),
-            Err(_) => Err(Fault::of_call(rt.alloc(), "rename", dir, error)),
+            Ok(_) => Err(Fault::refused(rt.alloc(), name, Why::There)),
+            Err(_) => Err(Fault::of_call(rt.alloc(), "rename", name, error)),
         },
     }
 }

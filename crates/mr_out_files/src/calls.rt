@@ -1,16 +1,25 @@
 //! Calls of the file system, each with a fault that names what was called and on which path.
 use crate::fault::{Fault, Why};
+use std::alloc::AllocError;
 use std::fs::{File, Metadata};
 use std::os::unix::fs::MetadataExt;
 use std::{env, fs, io};
+
+/// How often a folder is removed that somebody writes into meanwhile.
+const REMOVALS: u32 = 16;
 
 /// What stands at a path, if anything does. No link is followed.
 pub(crate) fn look(rt: &HostRuntime, path: &str) -> Result<Option<Metadata>, Fault> {
     match fs::symlink_metadata(rt, path) {
         Ok(found) => Ok(Some(found)),
-        Err(error) if error.kind() == io::ErrorKind::NotFound => Ok(None),
+        Err(error) if is_absent(error.kind()) => Ok(None),
         Err(error) => Err(Fault::of_call(rt.alloc(), "look", path, error)),
     }
+}
+
+// Nothing stands at a path, or its folder is none.
+fn is_absent(kind: io::ErrorKind) -> bool {
+    matches!(kind, io::ErrorKind::NotFound | io::ErrorKind::NotADirectory)
 }
 
 /// The regular file that stands at a path, if anything does.
@@ -50,8 +59,8 @@ pub(crate) fn sync(rt: &HostRuntime, file: &File, path: &str) -> Result<(), Faul
     }
 }
 
-/// Syncs a folder.
-pub(crate) fn sync_folder(rt: &HostRuntime, path: &str) -> Result<(), Fault> {
+/// Syncs a folder: which names are in it is durable once this has answered.
+pub fn sync_folder(rt: &HostRuntime, path: &str) -> Result<(), Fault> {
     let folder = open(rt, path)?;
     sync(rt, &folder, path)
 }
@@ -70,12 +79,68 @@ pub(crate) fn read(rt: &HostRuntime, path: &str) -> Result<Vec<u8>, Fault> {
     }
 }
 
+/// Removes a folder with all that it holds, or the file that stands in its place. Where somebody writes into it
+/// meanwhile, that is removed too, a few times over; then the answer is `DirectoryNotEmpty`.
+pub fn remove_folder(rt: &HostRuntime, path: &str) -> io::Result<()> {
+    for _ in 1..REMOVALS {
+        match fs::remove_dir_all(rt, path) {
+            Err(error) if error.kind() == io::ErrorKind::DirectoryNotEmpty => {}
+            Err(error) if error.kind() == io::ErrorKind::NotADirectory => {
+                return fs::remove_file(rt, path);
+            }
+            removed => return removed,
+        }
+    }
+    fs::remove_dir_all(rt, path)
+}
+
+/// Removes a folder of what attempts write. What somebody puts into it all the while is his, and stays.
+pub(crate) fn clear(rt: &HostRuntime, path: &str) -> io::Result<()> {
+    match remove_aside(rt, path) {
+        Err(error) if error.kind() == io::ErrorKind::DirectoryNotEmpty => Ok(()),
+        removed => removed,
+    }
+}
+
+// Puts a folder aside, so that who writes into it by its path no longer finds it, and removes it there. A command that
+// was killed may have left one aside.
+fn remove_aside(rt: &HostRuntime, path: &str) -> io::Result<()> {
+    let aside = format!(in rt.alloc(); "{path}.removed")?;
+    match remove_folder(rt, &aside) {
+        Err(error) if error.kind() != io::ErrorKind::NotFound => return Err(error),
+        _ => {}
+    }
+    fs::rename(rt, path, aside.as_str())?;
+    remove_folder(rt, &aside)
+}
+
+/// A path as an absolute one: that of the directory in which the process stands, where it is a full stop.
+pub fn absolute(rt: &HostRuntime, path: &str) -> Result<String, AllocError> {
+    let alloc = rt.alloc();
+    let path = path.trim_end_matches('/');
+    let Ok(here) = env::current_dir(rt) else {
+        return String::from_str(alloc, path);
+    };
+    let here = here.as_str().trim_end_matches('/');
+    let path = path.strip_prefix("./").unwrap_or(path);
+    if path == "." {
+        String::from_str(alloc, if here.is_empty() { "/" } else { here })
+    } else if path.is_empty() || path.starts_with('/') {
+        String::from_str(alloc, if path.is_empty() { "/" } else { path })
+    } else {
+        format!(in alloc; "{here}/{path}")
+    }
+}
+
 /// Goes into a directory.
 pub(crate) fn enter(rt: &HostRuntime, path: &str) -> Result<(), Fault> {
     match env::set_current_dir(rt, path) {
         Ok(()) => Ok(()),
         Err(error) if error.kind() == io::ErrorKind::NotFound => {
             Err(Fault::refused(rt.alloc(), path, Why::NoDirectory))
+        }
+        Err(error) if error.kind() == io::ErrorKind::NotADirectory => {
+            Err(Fault::refused(rt.alloc(), path, Why::NotAJob))
         }
         Err(error) => Err(Fault::of_call(rt.alloc(), "enter", path, error)),
     }

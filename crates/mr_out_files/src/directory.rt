@@ -1,25 +1,22 @@
 //! An output directory that is open: its lock is held, and calls are made on it.
 use crate::beginning::write_synced;
 use crate::calls::{
-    enter, is_changed, is_one, look, look_file, open, read, stat, sync, sync_folder,
+    clear, enter, is_changed, is_one, look, look_file, open, read, stat, sync, sync_folder,
 };
 use crate::fault::{Fault, Why};
-use crate::job::{Job, host_of};
-use crate::layout::{HOME, JOB, KEPT, WORK, kept_path, path_of, segment_path, work_folder};
+use crate::history::History;
+use crate::job::{Job, host_of, told};
+use crate::layout::{HOME, JOB, KEPT, WORK, boot_path, path_of, work_folder};
+use crate::lengths::note_lengths;
 use crate::lock::{Lock, locked};
-use crate::segments::{Damage, tell};
-use mr_history::{Record, Records, whole_line};
+use mr_history::Record;
 use mr_ids::AttemptId;
 use mr_out_disk::{Answer, Call, Folder, Place, Reply};
 use std::alloc::Global;
 use std::collections::LinkedList;
-use std::fs::{File, Metadata, OpenOptions};
-use std::io::Write;
+use std::fs::{File, Metadata};
 use std::os::unix::fs::MetadataExt;
 use std::{fs, io};
-
-/// Most segments of a history.
-const MAX_SEGMENTS: u32 = 1000;
 
 // The file that tells the job, before it has its name.
 const NEW_JOB: &str = "_mrout/job.new";
@@ -32,12 +29,7 @@ pub struct Directory {
     pub job: Job,
     // The lock is held as long as this file is open.
     lock: File,
-    // The newest segment: its number from 1, whether its end is torn, and the file once it is open.
-    newest: u32,
-    is_torn: bool,
-    history: Option<File>,
-    // Whether it may append.
-    is_writer: bool,
+    history: History,
     trouble: Option<Fault>,
 }
 
@@ -66,18 +58,15 @@ impl Directory {
     /// Goes into a directory, takes its lock, and reads its job.
     pub fn open(rt: &HostRuntime, dir: &str, lock: Lock) -> Result<Directory, Fault> {
         enter(rt, dir)?;
-        let is_writer = !lock.is_shared;
-        let lock = locked(rt, dir, lock)?;
+        let history = History::new(rt, !lock.is_shared)?;
+        let lock = locked(rt, lock)?;
         let bytes = read(rt, JOB)?;
         let job = Job::read(rt.alloc(), &bytes)?;
         Ok(Directory {
             alloc: rt.alloc(),
             job,
             lock,
-            newest: 1,
-            is_torn: false,
-            history: None,
-            is_writer,
+            history,
             trouble: None,
         })
     }
@@ -87,7 +76,9 @@ impl Directory {
         self.job.host = host_of(rt)?;
         let line = self.job.line(self.alloc)?;
         let _ = fs::remove_file(rt, NEW_JOB);
-        match write_synced(rt, NEW_JOB, &line).and_then(|_| fs::rename(rt, NEW_JOB, JOB)) {
+        match write_synced(rt, NEW_JOB, line.as_bytes()).and_then(|_| fs::rename(
+            rt, NEW_JOB, JOB,
+        )) {
             Ok(()) => sync_folder(rt, HOME),
             Err(error) => Err(Fault::of_call(self.alloc, "write", JOB, error)),
         }
@@ -95,7 +86,7 @@ impl Directory {
 
     /// Removes what attempts wrote, and says whether it is gone. Of a call that failed `trouble` tells why.
     pub fn sweep(&mut self, rt: &HostRuntime) -> bool {
-        match fs::remove_dir_all(rt, WORK) {
+        match clear(rt, WORK) {
             Ok(()) => true,
             Err(error) if error.kind() == io::ErrorKind::NotFound => true,
             Err(error) => {
@@ -144,93 +135,32 @@ impl Directory {
     // ---- the history
 
     fn read_history(&mut self, rt: &HostRuntime) -> Result<Answer, Fault> {
-        let mut records = Records::new(self.alloc);
-        for number in 1..MAX_SEGMENTS {
-            if !self.read_segment(rt, number, &mut records)? {
-                break;
-            }
-        }
-        if self.is_writer && !self.is_torn {
-            self.open_history(rt)?;
-        }
-        Ok(Answer::Told(records))
-    }
-
-    // Reads a segment, if it is there.
-    fn read_segment(
-        &mut self,
-        rt: &HostRuntime,
-        number: u32,
-        records: &mut Records,
-    ) -> Result<bool, Fault> {
-        let path = segment_path(self.alloc, number)?;
-        if look_file(rt, &path)?.is_none() {
-            return Ok(false);
-        }
-        let bytes = read(rt, &path)?;
-        match tell(self.alloc, &bytes) {
-            Ok(told) => {
-                records.extend(told.records.as_slice())?;
-                self.newest = number;
-                self.is_torn = told.is_torn;
-                Ok(true)
-            }
-            Err(Damage::Line(line)) => Err(Fault::refused(self.alloc, &path, Why::Damaged(line))),
-            Err(Damage::NoMemory) => Err(Fault::NoMemory),
-        }
-    }
-
-    // Opens the segment to which records are appended: the newest one, or the next where the end of that is torn.
-    fn open_history(&mut self, rt: &HostRuntime) -> Result<(), Fault> {
-        if self.history.is_some() {
-            return Ok(());
-        }
-        let path = segment_path(self.alloc, self.newest)?;
-        let file = if self.is_torn {
-            self.next_segment(rt)?
-        } else {
-            append_to(rt, &path)?
-        };
-        self.history = Some(file);
-        Ok(())
-    }
-
-    // Makes the next segment. Its name is durable before anything is in it.
-    fn next_segment(&mut self, rt: &HostRuntime) -> Result<File, Fault> {
-        let number = self.newest.saturating_add(1);
-        let path = segment_path(self.alloc, number)?;
-        let file = append_to(rt, &path)?;
-        sync_folder(rt, HOME)?;
-        self.newest = number;
-        self.is_torn = false;
-        Ok(file)
+        Ok(Answer::Told(self.history.read(rt)?))
     }
 
     fn append(&mut self, rt: &HostRuntime, told: &Record) -> Result<Answer, Fault> {
-        let line = whole_line(self.alloc, told)?;
-        self.open_history(rt)?;
-        let Some(file) = self.history.as_mut() else {
-            return Ok(Answer::Says(Reply::Failed));
-        };
-        match file.write_all(line.as_bytes()) {
-            Ok(()) => Ok(done()),
-            Err(error) => Err(Fault::of_call(self.alloc, "append", HOME, error)),
-        }
+        self.history.append(rt, told)?;
+        Ok(done())
     }
 
-    // Syncs the newest segment; and, where that is not the first, the folder in which a killed command may have made it.
     fn sync_history(&mut self, rt: &HostRuntime) -> Result<Answer, Fault> {
-        let path = segment_path(self.alloc, self.newest)?;
-        if let Some(file) = &self.history {
-            sync(rt, file, &path)?;
-            return Ok(done());
-        }
-        let file = open(rt, &path)?;
-        sync(rt, &file, &path)?;
-        if self.newest > 1 {
-            sync_folder(rt, HOME)?;
-        }
+        self.history.sync(rt)?;
         Ok(done())
+    }
+
+    // The file of an attempt that was begun in an earlier boot may have lost bytes when the machine stopped.
+    fn check_boot(&self, rt: &HostRuntime, place: &Place) -> Result<(), Fault> {
+        let (Place::Work(a) | Place::Kept(a)) = *place else {
+            return Ok(());
+        };
+        let note = boot_path(self.alloc, a)?;
+        match told(rt, &note)? {
+            Some(boot) if self.history.is_boot(&boot) => Ok(()),
+            _ => {
+                let name = format!(in self.alloc; "{a}")?;
+                Err(Fault::refused(self.alloc, &name, Why::EarlierBoot))
+            }
+        }
     }
 
     // ---- names
@@ -270,7 +200,25 @@ impl Directory {
         Ok(Answer::Listed(attempts))
     }
 
-    fn sync_file(&self, rt: &HostRuntime, place: &Place) -> Result<Answer, Fault> {
+    // Syncs a file that was handed in.
+    fn sync_file(&mut self, rt: &HostRuntime, place: &Place) -> Result<Answer, Fault> {
+        match self.sync_right(rt, place) {
+            Ok(answer) => Ok(answer),
+            Err(fault) => self.not_synced(fault),
+        }
+    }
+
+    // Where the sync fails, its attempt has failed (`Failed`). Of another fault `trouble` tells, and the attempt lives on.
+    fn not_synced(&mut self, fault: Fault) -> Result<Answer, Fault> {
+        if fault.is_of("sync") {
+            return Err(fault);
+        }
+        self.trouble = Some(fault);
+        Ok(Answer::Says(Reply::Odd))
+    }
+
+    fn sync_right(&self, rt: &HostRuntime, place: &Place) -> Result<Answer, Fault> {
+        self.check_boot(rt, place)?;
         let path = self.path(place)?;
         let Some(named) = look_file(rt, &path)? else {
             return Ok(Answer::Says(Reply::Missing));
@@ -299,7 +247,9 @@ impl Directory {
         }))
     }
 
+    // Claims the file of an attempt, where no power cut came since that was begun.
     fn rename(&self, rt: &HostRuntime, from: &Place, to: &Place) -> Result<Answer, Fault> {
+        self.check_boot(rt, from)?;
         let from = self.path(from)?;
         let to = self.path(to)?;
         answered(
@@ -321,9 +271,13 @@ impl Directory {
         )
     }
 
-    // Makes an empty file. One that is there already is taken; anything else there is foreign.
+    // Makes an empty file. One that is there already is taken; anything else there is foreign. Before the marker the lengths
+    // of all files are noted.
     fn create(&self, rt: &HostRuntime, place: &Place) -> Result<Answer, Fault> {
         let path = self.path(place)?;
+        if *place == Place::Marker {
+            note_lengths(rt)?;
+        }
         match File::create_new(rt, path.as_str()) {
             Ok(_) => Ok(done()),
             Err(error) if error.kind() == io::ErrorKind::AlreadyExists => {
@@ -344,17 +298,15 @@ impl Directory {
         }
     }
 
-    // Removes the folder of an attempt, with whatever else is there.
+    // Removes the folder of an attempt, with whatever else is there. What a writer puts there meanwhile is the attempt's
+    // too: it does not count any more, and goes with the work folder.
     fn remove_work(&self, rt: &HostRuntime, a: AttemptId) -> Result<Answer, Fault> {
         let path = self.path(&Place::Work(a))?;
         let there = look(rt, &path)?.is_some();
         let folder = work_folder(self.alloc, a)?;
-        let removed = answered(
-            rt,
-            "remove",
-            &folder,
-            fs::remove_dir_all(rt, folder.as_str()),
-        )?;
+        let removed = answered(rt, "remove", &folder, clear(rt, &folder))?;
+        let note = boot_path(self.alloc, a)?;
+        answered(rt, "remove", &note, fs::remove_file(rt, note.as_str()))?;
         Ok(if there {
             removed
         } else {
@@ -362,16 +314,14 @@ impl Directory {
         })
     }
 
+    // Makes the folder in which an attempt writes, and notes the boot in which that was.
     fn make_folder(&self, rt: &HostRuntime, a: AttemptId) -> Result<Answer, Fault> {
+        let note = boot_path(self.alloc, a)?;
+        if let Err(error) = fs::write(rt, note.as_str(), self.history.boot()) {
+            return Err(Fault::of_call(self.alloc, "write", &note, error));
+        }
         let path = work_folder(self.alloc, a)?;
         answered(rt, "create", &path, fs::create_dir(rt, path.as_str()))
-    }
-}
-
-fn append_to(rt: &HostRuntime, path: &str) -> Result<File, Fault> {
-    match OpenOptions::new().append(true).create(true).open(rt, path) {
-        Ok(file) => Ok(file),
-        Err(error) => Err(Fault::of_call(rt.alloc(), "open", path, error)),
     }
 }
 
@@ -380,6 +330,7 @@ fn folder_path(folder: Folder) -> &'static str {
         Folder::Output => ".",
         Folder::Kept => KEPT,
         Folder::Work => WORK,
+        Folder::Home => HOME,
     }
 }
 

@@ -1,4 +1,5 @@
 //! Why a directory is refused, or a call on it failed.
+use crate::calls::absolute;
 use std::alloc::{AllocError, AllocFailed, Global};
 use std::fmt::{Display, Formatter, Write};
 use std::{fmt, io};
@@ -21,6 +22,8 @@ pub enum Fault {
     },
     /// Others held the lock for longer than was to be waited.
     Busy,
+    /// The history has as many segments as it may have.
+    Full,
 }
 
 /// Why what stands at a path is refused.
@@ -48,8 +51,8 @@ pub enum Why {
     NoName,
     /// The file system gives no second name to a file.
     NoLinks,
-    /// It is on a network disk.
-    Network,
+    /// It is on a network disk of this kind.
+    Network(&'static str),
     /// The file is not there.
     NoFile,
     /// It is no regular file, or it has another name too.
@@ -64,12 +67,29 @@ pub enum Why {
     NoTask,
     /// Its directory was published, and its history is removed.
     Forgotten,
+    /// A sync of it failed, and it was not written anew yet.
+    NotSynced,
+    /// It was longer before.
+    Shorter,
+    /// The attempt was begun before the machine was started, or on another one: its file may have lost bytes.
+    EarlierBoot,
+}
+
+impl Why {
+    /// Whether a path is refused, and not a word.
+    pub fn is_of_path(self) -> bool {
+        !matches!(
+            self,
+            Why::BadSuffix | Why::NoAttempt | Why::NoTask | Why::EarlierBoot
+        )
+    }
 }
 
 impl Display for Why {
     fn fmt<W: Write>(&self, f: &mut Formatter<W>) -> fmt::Result {
         match self {
             Why::Damaged(line) => write!(f, "line {line} is damaged"),
+            Why::Network(kind) => write!(f, "on a network disk ({kind}); use a local one"),
             other => f.write_str(words(*other)),
         }
     }
@@ -89,7 +109,7 @@ fn words(why: Why) -> &'static str {
             "no suffix: a full stop, then letters, digits, full stops, hyphens, low lines",
         Why::NoName => "no name for a directory",
         Why::NoLinks => "the file system has no hard links",
-        Why::Network => "on a network disk",
+        Why::Network(_) => "on a network disk",
         Why::NoFile => "no such file",
         Why::NotAFile => "no regular file with one name",
         Why::StillWritten => "still being written",
@@ -97,6 +117,10 @@ fn words(why: Why) -> &'static str {
         Why::NoAttempt => "no attempt of this job",
         Why::NoTask => "no task of this job",
         Why::Forgotten => "its history is removed",
+        Why::Shorter => "shorter than what was recorded",
+        Why::NotSynced => "a sync of it failed (see: mrout resume)",
+        Why::EarlierBoot =>
+            "begun before this machine was started, so its file may have lost bytes; say fail, and begin another attempt",
     }
 }
 
@@ -107,6 +131,7 @@ impl Display for Fault {
             Fault::Call { what, path, error } => write!(f, "{path}: {what}: {error}"),
             Fault::Refused { path, why } => write!(f, "{path}: {why}"),
             Fault::Busy => f.write_str("busy: others hold the lock"),
+            Fault::Full => f.write_str("full"),
         }
     }
 }
@@ -124,6 +149,33 @@ impl<T: Drop> From<AllocFailed<T>> for Fault {
 }
 
 impl Fault {
+    /// Whether this call failed.
+    pub(crate) fn is_of(&self, call: &str) -> bool {
+        match self {
+            Fault::Call {
+                what,
+                path: _,
+                error: _,
+            } => *what == call,
+            _ => false,
+        }
+    }
+
+    /// The fault with its path told as an absolute one.
+    pub fn placed(self, rt: &HostRuntime) -> Fault {
+        match self {
+            Fault::Call { what, path, error } => match absolute(rt, &path) {
+                Ok(path) => Fault::Call { what, path, error },
+                Err(_) => Fault::NoMemory,
+            },
+            Fault::Refused { path, why } if why.is_of_path() => match absolute(rt, &path) {
+                Ok(path) => Fault::Refused { path, why },
+                Err(_) => Fault::NoMemory,
+            },
+            other => other,
+        }
+    }
+
     /// A call that failed on a path.
     pub fn of_call(alloc: Global, what: &'static str, path: &str, error: io::Error) -> Fault {
         if error.kind() == io::ErrorKind::OutOfMemory {

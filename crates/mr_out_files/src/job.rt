@@ -4,7 +4,7 @@ use crate::layout::JOB;
 use mr_ids::JobId;
 use serde_json::Value;
 use std::alloc::{AllocError, Global};
-use std::fs;
+use std::{fs, io};
 
 /// Most tasks of a job.
 pub const MAX_TASKS: u32 = 1000;
@@ -26,6 +26,8 @@ pub struct Job {
     pub limit: Option<u32>,
     /// What ends each part file's name: nothing, or a full stop and more (`is_suffix`).
     pub suffix: String,
+    /// Whether it is published only once that is decided.
+    pub hold: bool,
     /// The host on which it was begun.
     pub host: String,
 }
@@ -54,10 +56,19 @@ pub fn host_of(rt: &HostRuntime) -> Result<String, Fault> {
     }
 }
 
+/// The bytes of a file by which the system tells something, if it can be read.
+pub(crate) fn told(rt: &HostRuntime, path: &str) -> Result<Option<Vec<u8>>, Fault> {
+    match fs::read(rt, path) {
+        Ok(bytes) => Ok(Some(bytes)),
+        Err(error) if error.kind() == io::ErrorKind::OutOfMemory => Err(Fault::NoMemory),
+        Err(_) => Ok(None),
+    }
+}
+
 // The plain bytes of a file's first line, if it has any.
-fn first_line(rt: &HostRuntime, path: &str) -> Result<Option<String>, Fault> {
+pub(crate) fn first_line(rt: &HostRuntime, path: &str) -> Result<Option<String>, Fault> {
     let alloc = rt.alloc();
-    let Ok(bytes) = fs::read(rt, path) else {
+    let Some(bytes) = told(rt, path)? else {
         return Ok(None);
     };
     let mut text = String::new(alloc);
@@ -79,9 +90,9 @@ impl Job {
         };
         let (id, tasks) = (self.id, self.tasks);
         let (suffix, host) = (self.suffix.as_str(), self.host.as_str());
-        let limit = limit.as_str();
+        let (limit, hold) = (limit.as_str(), self.hold);
         format!(in alloc;
-            "{{\"version\":1,\"job\":\"{id}\",\"tasks\":{tasks},\"limit\":{limit},\"suffix\":\"{suffix}\",\"hold\":false,\"host\":\"{host}\"}}\n"
+            "{{\"version\":1,\"job\":\"{id}\",\"tasks\":{tasks},\"limit\":{limit},\"suffix\":\"{suffix}\",\"hold\":{hold},\"host\":\"{host}\"}}\n"
         )
     }
 
@@ -109,9 +120,12 @@ fn value_of(alloc: Global, bytes: &[u8]) -> Result<Option<Value>, Fault> {
 }
 
 fn job_in(alloc: Global, value: &Value) -> Result<Option<Job>, Fault> {
-    if number_at(value, "version", 1, 1).is_none() || flag_at(value, "hold") != Some(false) {
+    if number_at(value, "version", 1, 1).is_none() {
         return Ok(None);
     }
+    let Some(hold) = flag_at(value, "hold") else {
+        return Ok(None);
+    };
     let Some(id) = text_at(value, "job").and_then(job_named) else {
         return Ok(None);
     };
@@ -129,6 +143,7 @@ fn job_in(alloc: Global, value: &Value) -> Result<Option<Job>, Fault> {
         tasks,
         limit: number_at(value, "limit", 1, MAX_LIMIT),
         suffix: String::from_str(alloc, suffix)?,
+        hold,
         host: String::from_str(alloc, host)?,
     }))
 }

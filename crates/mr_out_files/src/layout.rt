@@ -19,8 +19,14 @@ pub const WORK: &str = "_mrout/work";
 /// The folder of what was handed in.
 pub const KEPT: &str = "_mrout/kept";
 
+/// The note of how long the files are that were handed in.
+pub const LENGTHS: &str = "_mrout/lengths";
+
 /// The file that tells the job.
 pub const JOB: &str = "_mrout/job";
+
+/// The decision that a held job is published.
+pub const DECISION: &str = "_mrout/publish";
 
 /// The name of a task's part file.
 pub fn part_name(alloc: Global, job: &Job, number: u32) -> Result<String, AllocError> {
@@ -35,6 +41,11 @@ pub fn kept_path(alloc: Global, a: AttemptId) -> Result<String, AllocError> {
 /// The folder in which an attempt writes.
 pub fn work_folder(alloc: Global, a: AttemptId) -> Result<String, AllocError> {
     format!(in alloc; "_mrout/work/{a}")
+}
+
+/// The note of the boot of the machine in which an attempt was begun, beside its folder.
+pub(crate) fn boot_path(alloc: Global, a: AttemptId) -> Result<String, AllocError> {
+    format!(in alloc; "_mrout/work/{a}.boot")
 }
 
 /// The file that an attempt writes.
@@ -55,5 +66,6 @@ pub fn path_of(alloc: Global, job: &Job, place: &Place) -> Result<String, AllocE
         Place::Marker => String::from_str(alloc, MARKER),
         Place::Kept(a) => kept_path(alloc, a),
         Place::Work(a) => work_path(alloc, job, a),
+        Place::Decision => String::from_str(alloc, DECISION),
     }
 }

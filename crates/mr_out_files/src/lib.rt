@@ -2,9 +2,10 @@
 //!
 //! # What is proved
 //!
-//! That each function is safe, and returns (`lock` waits for whoever holds the lock). No contract can say what a disk
-//! holds. What mr_out_model proves speaks of answers that are honest; that each method here makes the call that it is
-//! named for, and answers what came of it, is read in the code and tested (`tools/mrout_stops`).
+//! That each function is safe, and returns (`lock` waits for whoever holds the lock). `plain_front`, by which a history is
+//! read fast, gives exactly the records of the lines that it reads. No other contract can say what a disk holds. What
+//! mr_out_model proves speaks of answers that are honest; that each method here makes the call that it is named for, and
+//! answers what came of it, is read in the code and tested (`tools/mrout_stops`, `tools/mrout_rows`).
 //!
 //! # What there is
 //!
@@ -14,19 +15,31 @@
 //!   record goes into the segment K + 1.
 #![tactic(auto)]
 
+mod ahead;
 mod beginning;
 mod calls;
 mod directory;
 mod fault;
+mod flushed;
+mod history;
 mod job;
 mod layout;
+mod lengths;
+mod lines;
 mod lock;
+mod mounts;
+mod recorded;
 mod segments;
 
 pub use beginning::{begin, name_of};
+pub use calls::{absolute, remove_folder, sync_folder};
 pub use directory::Directory;
 pub use fault::{Fault, Why};
 pub use job::{Job, MAX_LIMIT, MAX_SUFFIX_LEN, MAX_TASKS, host_of, is_suffix};
-pub use layout::{GONE, HOME, MARKER, WORK, kept_path, part_name, path_of, work_folder, work_path};
+pub use layout::{
+    DECISION, GONE, HOME, MARKER, WORK, kept_path, part_name, path_of, work_folder, work_path,
+};
+pub use lengths::Length;
 pub use lock::Lock;
+pub use recorded::{Recorded, read_recorded};
 pub use segments::{Damage, MAX_TORN_LINES, Told, tell};

@@ -72,10 +72,10 @@ fn tell_wait(rt: &HostRuntime, waited: u64, is_told: bool) -> bool {
 }
 
 /// Opens the file that tells the job, and takes the lock on it. The file is still the one of that name then.
-pub(crate) fn locked(rt: &HostRuntime, dir: &str, lock: Lock) -> Result<File, Fault> {
+pub(crate) fn locked(rt: &HostRuntime, lock: Lock) -> Result<File, Fault> {
     for _ in 0..100 {
         let Some(named) = look_file(rt, JOB)? else {
-            return Err(absent(rt, dir));
+            return Err(absent(rt));
         };
         let file = open(rt, JOB)?;
         wait(rt, &file, lock)?;
@@ -88,10 +88,10 @@ pub(crate) fn locked(rt: &HostRuntime, dir: &str, lock: Lock) -> Result<File, Fa
     Err(Fault::Busy)
 }
 
-// Why there is no job.
-fn absent(rt: &HostRuntime, dir: &str) -> Fault {
+// Why there is no job in the directory in which the process stands.
+fn absent(rt: &HostRuntime) -> Fault {
     match look(rt, GONE) {
-        Ok(Some(_)) => Fault::refused(rt.alloc(), dir, Why::Forgotten),
-        _ => Fault::refused(rt.alloc(), dir, Why::NotAJob),
+        Ok(Some(_)) => Fault::refused(rt.alloc(), ".", Why::Forgotten),
+        _ => Fault::refused(rt.alloc(), ".", Why::NotAJob),
     }
 }

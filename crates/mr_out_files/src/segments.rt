@@ -1,11 +1,15 @@
 //! What the bytes of a segment tell, where its end may be torn.
 ghost use Rattle.std.specs.Prelude.{◌≤◌, length};
 
+use crate::lines::plain_front;
 use mr_history::{HistoryFault, Records, replay};
 use std::alloc::{AllocError, Global};
 
 /// Most lines of an end that may be torn: a command appends no more between two syncs.
 pub const MAX_TORN_LINES: usize = 64;
+
+/// Most segments of a history.
+pub(crate) const MAX_SEGMENTS: u32 = 1000;
 
 /// What a segment tells.
 #[derive(Drop)]
@@ -34,34 +38,49 @@ impl From<AllocError> for Damage {
 /// The records of a segment. An end that begins with a line that is no record, and has at most `MAX_TORN_LINES` lines,
 /// is torn, and so are bytes behind the last line feed. A segment is of version 1.
 pub fn tell(alloc: Global, bytes: &[u8]) -> Result<Told, Damage> {
+    tell_behind(alloc, bytes, 0)
+}
+
+/// The same of the bytes behind so many lines of records, which are not told again.
+pub(crate) fn tell_behind(alloc: Global, bytes: &[u8], lines: usize) -> Result<Told, Damage> {
+    let (mut records, rest) = plain_front(alloc, bytes)?;
+    if rest.is_empty() {
+        return Ok(Told {
+            records,
+            is_torn: false,
+        });
+    }
+    let before = lines.saturating_add(records.len());
+    let (more, is_torn) = tell_rest(alloc, rest, before)?;
+    records.extend(more.as_slice())?;
+    Ok(Told { records, is_torn })
+}
+
+// The records of what stands behind so many lines, and whether the end is torn.
+fn tell_rest(alloc: Global, bytes: &[u8], before: usize) -> Result<(Records, bool), Damage> {
     match replay(alloc, bytes) {
-        Ok(replayed) => {
-            if replayed.version != 1 {
-                return Err(Damage::Line(1));
-            }
-            Ok(Told {
-                records: replayed.records,
-                is_torn: replayed.torn > 0,
-            })
-        }
-        Err(HistoryFault::BadLine(line)) => tell_front(alloc, bytes, line),
+        Ok(replayed) if replayed.version == 1 => Ok((replayed.records, replayed.torn > 0)),
+        Ok(_) if before == 0 => Err(Damage::Line(1)),
+        Ok(_) => tell_front(alloc, bytes, 1, before),
+        Err(HistoryFault::BadLine(line)) => tell_front(alloc, bytes, line, before),
         Err(_) => Err(Damage::NoMemory),
     }
 }
 
 // The records before a line that is none.
-fn tell_front(alloc: Global, bytes: &[u8], line: usize) -> Result<Told, Damage> {
-    let start = start_of(bytes, line);
-    let (front, end) = bytes.split_at(start);
+fn tell_front(
+    alloc: Global,
+    bytes: &[u8],
+    line: usize,
+    before: usize,
+) -> Result<(Records, bool), Damage> {
+    let (front, end) = bytes.split_at(start_of(bytes, line));
     if lines_of(end) > MAX_TORN_LINES {
-        return Err(Damage::Line(line));
+        return Err(Damage::Line(before.saturating_add(line)));
     }
     match replay(alloc, front) {
-        Ok(replayed) => Ok(Told {
-            records: replayed.records,
-            is_torn: true,
-        }),
-        Err(HistoryFault::BadLine(line)) => Err(Damage::Line(line)),
+        Ok(replayed) => Ok((replayed.records, true)),
+        Err(HistoryFault::BadLine(_)) => Err(Damage::Line(before.saturating_add(line))),
         Err(_) => Err(Damage::NoMemory),
     }
 }

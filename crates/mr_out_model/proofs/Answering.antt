@@ -8,7 +8,7 @@ use Rattle.mr_history.specs.declared.record.Record.{Record}
 use Rattle.mr_history.specs.declared.record.Record.TheVariants.{AttemptStarted, MapSucceeded, ReduceSucceeded, AttemptFailed, JobUnsuccessful}
 use Rattle.mr_history.specs.Winner.{winner_in}
 use Rattle.mr_history.proofs.Winners.{winner-of}
-use Rattle.mr_out_disk.specs.declared.place.Place.TheVariants.{Part, Marker, Kept, Work}
+use Rattle.mr_out_disk.specs.declared.place.Place.TheVariants.{Part, Marker, Kept, Work, Decision}
 use Rattle.mr_out_disk.specs.declared.place.Folder.TheVariants as folder
 use Rattle.mr_out_disk.specs.declared.call.Call.{Call}
 use Rattle.mr_out_disk.specs.declared.call.Call.TheVariants as call
@@ -22,7 +22,7 @@ use Rattle.mr_out_disk.specs.Cuts.{IsFront}
 use Rattle.mr_out_steps.specs.declared.order.Outcome.{Outcome}
 use Rattle.mr_out_steps.specs.declared.order.Outcome.TheVariants as outcome
 use Rattle.mr_out_steps.specs.declared.phase.Phase.{Phase}
-use Rattle.mr_out_steps.specs.declared.phase.Phase.TheVariants.{Reading, SyncingEnd, FindingClaim, FindingWork, Claiming, SyncingFile, SyncingClaim, Appending, Committing, DroppingClaim, DroppingWork, Listing, FindingKept, Linking, Comparing, SyncingParts, Marking, SyncingMarker, Emptying, MakingFolder, Over}
+use Rattle.mr_out_steps.specs.declared.phase.Phase.TheVariants.{Reading, SyncingEnd, FindingClaim, FindingWork, Claiming, SyncingFile, SyncingClaim, Appending, Committing, DroppingClaim, DroppingWork, FindingDecision, Deciding, SyncingDecision, Listing, FindingKept, Linking, Comparing, SyncingParts, Marking, SyncingMarker, Emptying, MakingFolder, Over}
 use Rattle.mr_out_steps.specs.Standing.{task_of}
 use Rattle.mr_out_steps.specs.Commands.{Command, call_in}
 use Rattle.mr_out_steps.specs.Steps.{turn, acts, goes, begins, follows, noted, links, empties, ends, reads, listed, fails_now, is_reading, is_listing}
@@ -31,7 +31,7 @@ use Rattle.mr_out_model.specs.Runs.{IsWriters}
 use Rattle.mr_out_model.proofs.Moments.{Every, EveryOf, every-if, every-moved}
 use Rattle.mr_out_model.proofs.Standings.{IsOpen}
 use Rattle.mr_out_model.proofs.Invariant as inv
-use Rattle.mr_out_model.proofs.Invariant.{View, view, all_records, IsFile, IsThere, Wins, PartOf, IsPart, Shown, Stand, IsStored, File, OfJob, Core, Known, Held, Durable, Opens, MayAppend, Fate, IsAmong, AreWinners, Seen, ToLink, At, Amid}
+use Rattle.mr_out_model.proofs.Invariant.{View, view, all_records, IsFile, IsThere, Wins, PartOf, IsPart, Shown, Stand, IsStored, File, OfJob, Core, Known, Held, Durable, Opens, MayAppend, Fate, IsAmong, AreWinners, Seen, ToLink, At, IsOf, Amid}
 use Rattle.mr_out_model.proofs.Records.{some-one, none-some, no-winner, one-winner, wins-own, none-all, appended_too, synced_too, core-success, core-plain, core-sync, told-success, told-plain, told-sync, stand-grows, stand-handed, handed-other, another, failure-plain, start-plain, map-plain, end-plain}
 use Rattle.mr_out_model.proofs.Names.{core-output, core-kept, core-whole, core-claim, core-empty, core-link, core-mark, stand-output, not-yet, kept_named, part_named, marker_named}
 use Rattle.mr_out_model.proofs.Turns.{ends-amid, links-amid, empties-amid, begins-amid, follows-amid}
@@ -43,6 +43,7 @@ pub record Grows (s : Setting) (w : World) (d : Disk) (k : Attempt → Option �
   pub stand : Stand s w.disk.synced (view w.disk).part w.handed → Stand s d.synced (view d).part k
   pub handed : (a : Attempt) → Wins w.disk.synced a → k a ≡ w.handed a
   pub bytes : (a : Attempt) (f : ℕ) → Wins w.disk.synced a → w.handed a ≡ Some f → d.bytes f ≡ w.disk.bytes f
+  pub decision : Every IsThere (w.disk.moments Decision) → Every IsThere (d.moments Decision)
 
 pub front-itself : (rs : List Record) → IsFront rs rs
 front-itself rs = record { rest = []; is = sym (append-nil rs) }
@@ -53,8 +54,7 @@ pub record Before (s : Setting) (w : World) (c : Command) : Type 0 where
   pub core : Core s (view w.disk) w.handed
   pub work : (a : Attempt) → Every (IsWriters s a) (w.disk.moments (Work a))
   pub told : inv.Told w.disk.synced (records w.disk) w.told
-  pub job : c.job ≡ s.job
-  pub tasks : c.tasks ≡ s.tasks
+  pub fits : IsOf s c
 
 pub record Behind (s : Setting) (w : World) (d : Disk) (k : Attempt → Option ℕ) (c : Command) : Type 0 where
   pub core : Core s (view d) k
@@ -65,13 +65,13 @@ pub record Behind (s : Setting) (w : World) (d : Disk) (k : Attempt → Option �
 
 -- the disk is as it was
 pub same-grows : (s : Setting) (w : World) → Grows s w w.disk w.handed
-same-grows s w = record { front = front-itself w.disk.synced; stand = λ st. st; handed = λ a x. refl; bytes = λ a f x y. refl }
+same-grows s w = record { front = front-itself w.disk.synced; stand = λ st. st; handed = λ a x. refl; bytes = λ a f x y. refl; decision = λ e. e }
 
 pub same : (s : Setting) (w : World) (c e : Command) → Before s w c → Amid s (view w.disk) w.handed e → Behind s w w.disk w.handed e
 same s w c e b m = record { core = b.core; work = b.work; told = b.told; amid = m; grows = same-grows s w }
 
 pub stays : (s : Setting) (w : World) (c : Command) (p : Phase) → Before s w c → At s (view w.disk) w.handed c p → Behind s w w.disk w.handed (goes p c)
-stays s w c p b at = same s w c (goes p c) b (record { job = b.job; tasks = b.tasks; here = by p at })
+stays s w c p b at = same s w c (goes p c) b (record { fits = b.fits; here = by p at })
   where
     by : (q : Phase) → At s (view w.disk) w.handed c q → At s (view w.disk) w.handed (goes p c) q
     by Reading x = x
@@ -85,6 +85,9 @@ stays s w c p b at = same s w c (goes p c) b (record { job = b.job; tasks = b.ta
     by (Committing r) x = x
     by (DroppingClaim a) x = x
     by (DroppingWork a) x = x
+    by FindingDecision x = x
+    by Deciding x = x
+    by SyncingDecision x = x
     by Listing x = x
     by (FindingKept a) x = x
     by (Linking a f) x = x
@@ -116,8 +119,8 @@ on-syncing-end s w c b at Done m =
       core = core;
       work = b.work;
       told = told-sync v w.told b.told;
-      amid = begins-amid s (synced_too v) w.handed c core b.job b.tasks (record { records = at; none = refl });
-      grows = record { front = record { rest = w.disk.appended; is = refl }; stand = stand-grows s v.synced v.appended v.part w.handed b.core.of_job; handed = λ a x. refl; bytes = λ a f x y. refl };
+      amid = begins-amid s (synced_too v) w.handed c core b.fits (record { records = at; none = refl });
+      grows = record { front = record { rest = w.disk.appended; is = refl }; stand = stand-grows s v.synced v.appended v.part w.handed b.core.of_job; handed = λ a x. refl; bytes = λ a f x y. refl; decision = λ e. e };
     }
 on-syncing-end s w c b at _ m = not-known s w c b
 
@@ -149,8 +152,8 @@ on-claiming s w c a b at Done =
       core = core-claim s v w.handed a file b.core (loses s v a at.0.none at.1) (b.work a).0;
       work = λ x. every-if (IsWriters s x) (same_attempt a x) (moved None (w.disk.moments (Work x))) (w.disk.moments (Work x)) (λ e. every-moved (IsWriters s x) (w.disk.moments (Work x)) None tt (b.work x)) (λ e. b.work x);
       told = b.told;
-      amid = record { job = b.job; tasks = b.tasks; here = at };
-      grows = record { front = front-itself w.disk.synced; stand = λ st. st; handed = λ x y. refl; bytes = λ x f y z. refl };
+      amid = record { fits = b.fits; here = at };
+      grows = record { front = front-itself w.disk.synced; stand = λ st. st; handed = λ x y. refl; bytes = λ x f y z. refl; decision = λ e. e };
     }
 on-claiming s w c a b at Missing = stays s w c (Over outcome.NoFile) b tt
 on-claiming s w c a b at _ = fail s w c b
@@ -168,8 +171,8 @@ on-syncing-file s w c a b at Done m = by (seen w.disk (Kept a)) refl
       core = core-whole s (view w.disk) w.handed f b.core;
       work = b.work;
       told = b.told;
-      amid = record { job = b.job; tasks = b.tasks; here = (at.0, at.1, record { file = f; now = e; is_whole = ap (λ x. cond x true (w.disk.is_whole f)) (itself f) }) };
-      grows = record { front = front-itself w.disk.synced; stand = λ st. st; handed = λ x y. refl; bytes = λ x g y z. refl };
+      amid = record { fits = b.fits; here = (at.0, at.1, record { file = f; now = e; is_whole = ap (λ x. cond x true (w.disk.is_whole f)) (itself f) }) };
+      grows = record { front = front-itself w.disk.synced; stand = λ st. st; handed = λ x y. refl; bytes = λ x g y z. refl; decision = λ e. e };
     }
 on-syncing-file s w c a b at Grew m = stays s w c (Over outcome.StillWritten) b tt
 on-syncing-file s w c a b at Failed m = stays s w c (Appending (AttemptFailed a)) b (at.0, λ x. no-winner (winner_in w.disk.synced a.task) a at.1.unwon x)
@@ -181,8 +184,8 @@ on-syncing-claim s w c a b at Done = record {
   core = core-kept s (view w.disk) w.handed b.core;
   work = b.work;
   told = b.told;
-  amid = record { job = b.job; tasks = b.tasks; here = (at.0, (at.1, record { file = at.2.file; every = (at.2.now, tt); is_whole = at.2.is_whole })) };
-  grows = record { front = front-itself w.disk.synced; stand = λ st. st; handed = λ x y. refl; bytes = λ x g y z. refl };
+  amid = record { fits = b.fits; here = (at.0, (at.1, record { file = at.2.file; every = (at.2.now, tt); is_whole = at.2.is_whole })) };
+  grows = record { front = front-itself w.disk.synced; stand = λ st. st; handed = λ x y. refl; bytes = λ x g y z. refl; decision = λ e. e };
 }
 on-syncing-claim s w c a b at _ = fail s w c b
 
@@ -208,8 +211,8 @@ on-appending s w c r b at Done = by r at
       core = core-plain s (view w.disk) w.handed q b.core p;
       work = b.work;
       told = told-plain (view w.disk) w.told q b.told p;
-      amid = record { job = b.job; tasks = b.tasks; here = (k.records, one q k.none, fate-still w.disk q fate) };
-      grows = record { front = front-itself w.disk.synced; stand = λ st. st; handed = λ x y. refl; bytes = λ x g y z. refl };
+      amid = record { fits = b.fits; here = (k.records, one q k.none, fate-still w.disk q fate) };
+      grows = record { front = front-itself w.disk.synced; stand = λ st. st; handed = λ x y. refl; bytes = λ x g y z. refl; decision = λ e. e };
     }
 
     by : (q : Record) → At s (view w.disk) w.handed c (Appending q) → Behind s w (made w.disk (call.AppendHistory q)) (handed_by (call.AppendHistory q) (Says Done) w) (goes (Committing q) c)
@@ -220,8 +223,8 @@ on-appending s w c r b at Done = by r at
           core = core-success s v w.handed a bytes b.core x.0.none x.1.0 x.1.1;
           work = b.work;
           told = told-success s v w.told a bytes b.told x.1.0;
-          amid = record { job = b.job; tasks = b.tasks; here = (x.0.records, one (ReduceSucceeded a bytes) x.0.none, tt) };
-          grows = record { front = front-itself w.disk.synced; stand = stand-handed s v.synced v.part w.handed (handed_by (call.AppendHistory (ReduceSucceeded a bytes)) (Says Done) w) other; handed = other; bytes = λ y g z e. refl };
+          amid = record { fits = b.fits; here = (x.0.records, one (ReduceSucceeded a bytes) x.0.none, tt) };
+          grows = record { front = front-itself w.disk.synced; stand = stand-handed s v.synced v.part w.handed (handed_by (call.AppendHistory (ReduceSucceeded a bytes)) (Says Done) w) other; handed = other; bytes = λ y g z e. refl; decision = λ e. e };
         }
     by (AttemptFailed a) x = plain (AttemptFailed a) (failure-plain a) x.0 x.1
     by (AttemptStarted a node) x = plain (AttemptStarted a node) (start-plain a node) x.0 tt
@@ -238,8 +241,8 @@ on-committing s w c r b at Done =
       core = core;
       work = b.work;
       told = told-sync v w.told b.told;
-      amid = follows-amid s v w.handed c r core b.job b.tasks at.0 at.1 at.2;
-      grows = record { front = record { rest = w.disk.appended; is = refl }; stand = stand-grows s v.synced v.appended v.part w.handed b.core.of_job; handed = λ a x. refl; bytes = λ a f x y. refl };
+      amid = follows-amid s v w.handed c r core b.fits at.0 at.1 at.2;
+      grows = record { front = record { rest = w.disk.appended; is = refl }; stand = stand-grows s v.synced v.appended v.part w.handed b.core.of_job; handed = λ a x. refl; bytes = λ a f x y. refl; decision = λ e. e };
     }
 on-committing s w c r b at _ = not-known s w c b
 
@@ -253,8 +256,8 @@ on-dropping-claim s w c a b at Done =
       core = core-claim s v w.handed a None b.core (λ x. at.1 (ap (λ (rs : List Record). winner_in rs a.task) (sym (none-all v at.0.none)) ∙ x)) tt;
       work = b.work;
       told = b.told;
-      amid = record { job = b.job; tasks = b.tasks; here = at.0 };
-      grows = record { front = front-itself w.disk.synced; stand = λ st. st; handed = λ x y. refl; bytes = λ x g y z. refl };
+      amid = record { fits = b.fits; here = at.0 };
+      grows = record { front = front-itself w.disk.synced; stand = λ st. st; handed = λ x y. refl; bytes = λ x g y z. refl; decision = λ e. e };
     }
 on-dropping-claim s w c a b at Missing = stays s w c (DroppingWork a) b at.0
 on-dropping-claim s w c a b at _ = fail s w c b
@@ -265,10 +268,10 @@ on-dropping-work s w c a b at Done = record {
   core = b.core;
   work = λ x. every-if (IsWriters s x) (same_attempt a x) (moved None (w.disk.moments (Work x))) (w.disk.moments (Work x)) (λ e. every-moved (IsWriters s x) (w.disk.moments (Work x)) None tt (b.work x)) (λ e. b.work x);
   told = b.told;
-  amid = begins-amid s (view w.disk) w.handed c b.core b.job b.tasks at;
-  grows = record { front = front-itself w.disk.synced; stand = λ st. st; handed = λ x y. refl; bytes = λ x g y z. refl };
+  amid = begins-amid s (view w.disk) w.handed c b.core b.fits at;
+  grows = record { front = front-itself w.disk.synced; stand = λ st. st; handed = λ x y. refl; bytes = λ x g y z. refl; decision = λ e. e };
 }
-on-dropping-work s w c a b at Missing = same s w c (begins c) b (begins-amid s (view w.disk) w.handed c b.core b.job b.tasks at)
+on-dropping-work s w c a b at Missing = same s w c (begins c) b (begins-amid s (view w.disk) w.handed c b.core b.fits at)
 on-dropping-work s w c a b at _ = fail s w c b
 
 -- ---- an attempt gets its folder

@@ -5,14 +5,14 @@ use Rattle.mr_ids.specs.Attempt.{Attempt}
 use Rattle.mr_ids.specs.declared.id.TaskId.{TaskId}
 use Rattle.mr_history.specs.declared.record.Record.{Record}
 use Rattle.mr_history.specs.Winner.{winner_in}
-use Rattle.mr_out_disk.specs.declared.place.Place.TheVariants.{Part, Marker, Kept, Work}
+use Rattle.mr_out_disk.specs.declared.place.Place.TheVariants.{Part, Marker, Kept, Work, Decision}
 use Rattle.mr_out_disk.specs.Disk.{Moments, Disk}
 use Rattle.mr_out_disk.specs.Cuts.{IsLeft, IsFront, IsCut}
 use Rattle.mr_out_model.specs.Worlds.{Setting, Telling, IsClaimed}
 use Rattle.mr_out_model.specs.Runs.{IsWriters}
 use Rattle.mr_out_model.proofs.Moments.{Every, EveryOf, every-map, every-left}
 use Rattle.mr_out_model.proofs.Standings.{Why}
-use Rattle.mr_out_model.proofs.Invariant.{View, view, all_records, IsFile, IsThere, IfThere, Wins, PartOf, IsPart, Shown, Stand, IsStored, File, OfJob, Core, Lost, Told}
+use Rattle.mr_out_model.proofs.Invariant.{View, view, all_records, IsFile, IsThere, IfThere, Wins, PartOf, IsPart, Shown, Stand, IsReleased, IsStored, File, OfJob, Core, Lost, Told}
 use Rattle.mr_out_model.proofs.Records.{if-there-map, wins-more, no-others, part-grows, stand-grows, why-grows}
 
 -- ---- a power cut, seen at what the promises speak of
@@ -26,6 +26,7 @@ pub record IsCutView (v u : View) : Type 0 where
   pub part : (n : ℕ) → IsLeft (v.part n) (u.part n)
   pub marker : IsLeft v.marker u.marker
   pub kept : (a : Attempt) → IsLeft (v.kept a) (u.kept a)
+  pub decision : IsLeft v.decision u.decision
   pub whole : (f : ℕ) → v.whole f ≡ true → u.whole f ≡ true
 
 pub cut-view : (d e : Disk) → IsCut d e → IsCutView (view d) (view e)
@@ -38,6 +39,7 @@ cut-view d e c = record {
   part = λ n. c.names (Part n);
   marker = c.names Marker;
   kept = λ a. c.names (Kept a);
+  decision = c.names Decision;
   whole = c.whole;
 }
 
@@ -76,11 +78,16 @@ core-cut s v u h core c = record {
   files = λ a w. let x = core.files a (left-won v u c a w) in record { file = x.file; handed = x.handed; is_whole = c.whole x.file x.is_whole; writer = x.writer; stored = by a x.file x.stored };
   of_job = λ a w. core.of_job a (left-won v u c a w);
   kept = λ a. every-left (IsWriters s a) (v.kept a) (u.kept a) (c.kept a) (core.kept a);
+  released = λ n. every-map (IfThere (IsReleased s.hold v.decision)) (IfThere (IsReleased s.hold u.decision)) (u.part n) (if-there-map _ _ stays) (every-left (IfThere (IsReleased s.hold v.decision)) (v.part n) (u.part n) (c.part n) (core.released n));
+  released_mark = every-map (IfThere (IsReleased s.hold v.decision)) (IfThere (IsReleased s.hold u.decision)) u.marker (if-there-map _ _ stays) (every-left (IfThere (IsReleased s.hold v.decision)) v.marker u.marker c.marker core.released_mark);
 }
   where
     by : (a : Attempt) (f : ℕ) → IsStored f (v.kept a) (v.part a.task.number) v.marker → IsStored f (u.kept a) (u.part a.task.number) u.marker
     by a f (inl e) = inl (every-left (IsFile f) (v.kept a) (u.kept a) (c.kept a) e)
     by a f (inr p) = inr (every-left (IsFile f) (v.part a.task.number) (u.part a.task.number) (c.part a.task.number) p.0, every-left IsThere v.marker u.marker c.marker p.1)
+
+    stays : IsReleased s.hold v.decision → IsReleased s.hold u.decision
+    stays r e = every-left IsThere v.decision u.decision c.decision (r e)
 
 pub told-cut : (v u : View) (ts : List Telling) → Told v.synced (all_records v) ts → IsCutView v u → Told u.synced (all_records u) ts
 told-cut v u ts t c = record {
@@ -112,6 +119,8 @@ core-written s d h file c free = record {
   files = λ a w. let x = c.files a w in record { file = x.file; handed = x.handed; is_whole = still-whole (x.file == file) (d.is_whole x.file) (λ e. other a w (eqb-true _ _ e)) x.is_whole; writer = x.writer; stored = x.stored };
   of_job = c.of_job;
   kept = c.kept;
+  released = c.released;
+  released_mark = c.released_mark;
 }
   where
     other : (a : Attempt) (w : Wins (all_records (view d)) a) → (c.files a w).file ≡ file → ⊥

@@ -1,10 +1,11 @@
 -- What holds of a disk behind every move, and of the command that is running.
 use Rattle.std.proofs.Common.{◌≡◌, ◌≢◌, ◌⊎◌, inl, inr, ◌<◌, ℕ, Bool, true, false, List, [], ◌∷◌, ◌++◌, Option, Some, None}
 use Rattle.mr_ids.specs.Attempt.{Attempt}
+use Rattle.mr_ids.specs.declared.id.JobId.{JobId}
 use Rattle.mr_history.specs.declared.record.Record.{Record}
 use Rattle.mr_history.specs.declared.record.Record.TheVariants.{AttemptStarted, MapSucceeded, ReduceSucceeded, AttemptFailed, JobUnsuccessful}
 use Rattle.mr_history.specs.Winner.{winner_in}
-use Rattle.mr_out_disk.specs.declared.place.Place.TheVariants.{Part, Marker, Kept, Work}
+use Rattle.mr_out_disk.specs.declared.place.Place.TheVariants.{Part, Marker, Kept, Work, Decision}
 use Rattle.mr_out_disk.specs.Disk.{Moments, Disk, records}
 use Rattle.mr_out_steps.specs.declared.standing.Standing.{Standing}
 use Rattle.mr_out_steps.specs.declared.standing.Standing.TheVariants.{Won}
@@ -13,7 +14,7 @@ use Rattle.mr_out_steps.specs.declared.order.Order.TheVariants as order
 use Rattle.mr_out_steps.specs.declared.order.Outcome.{Outcome}
 use Rattle.mr_out_steps.specs.declared.order.Outcome.TheVariants as outcome
 use Rattle.mr_out_steps.specs.declared.phase.Phase.{Phase}
-use Rattle.mr_out_steps.specs.declared.phase.Phase.TheVariants.{Reading, SyncingEnd, FindingClaim, FindingWork, Claiming, SyncingFile, SyncingClaim, Appending, Committing, DroppingClaim, DroppingWork, Listing, FindingKept, Linking, Comparing, SyncingParts, Marking, SyncingMarker, Emptying, MakingFolder, Over}
+use Rattle.mr_out_steps.specs.declared.phase.Phase.TheVariants.{Reading, SyncingEnd, FindingClaim, FindingWork, Claiming, SyncingFile, SyncingClaim, Appending, Committing, DroppingClaim, DroppingWork, FindingDecision, Deciding, SyncingDecision, Listing, FindingKept, Linking, Comparing, SyncingParts, Marking, SyncingMarker, Emptying, MakingFolder, Over}
 use Rattle.mr_out_steps.specs.Standing.{task_of, standing}
 use Rattle.mr_out_steps.specs.Commands.{Command}
 use Rattle.mr_out_model.specs.Worlds.{Setting, Telling, World}
@@ -29,10 +30,11 @@ pub record View : Type 0 where
   pub part : ℕ → Moments
   pub marker : Moments
   pub kept : Attempt → Moments
+  pub decision : Moments
   pub whole : ℕ → Bool
 
 abbrev pub view : Disk → View
-view d = record { synced = d.synced; appended = d.appended; part = λ n. d.moments (Part n); marker = d.moments Marker; kept = λ a. d.moments (Kept a); whole = d.is_whole }
+view d = record { synced = d.synced; appended = d.appended; part = λ n. d.moments (Part n); marker = d.moments Marker; kept = λ a. d.moments (Kept a); decision = d.moments Decision; whole = d.is_whole }
 
 abbrev pub all_records : View → List Record
 all_records v = v.synced ++ v.appended
@@ -72,6 +74,10 @@ pub record Stand (s : Setting) (synced : List Record) (part : ℕ → Moments) (
   pub all : (n : ℕ) → n < s.tasks → (a : Attempt) × (winner_in synced (task_of s.job n) ≡ Some a)
   pub each : (a : Attempt) → Wins synced a → Shown part h a
 
+-- under hold it was decided to publish, for good
+abbrev pub IsReleased : Bool → Moments → Type 0
+IsReleased hold decision = hold ≡ true → Every IsThere decision
+
 -- where a winner's file is
 abbrev pub IsStored : ℕ → Moments → Moments → Moments → Type 0
 IsStored f kept part marker = Every (IsFile f) kept ⊎ (Every (IsFile f) part × Every IsThere marker)
@@ -93,6 +99,8 @@ pub record Core (s : Setting) (v : View) (h : Attempt → Option ℕ) : Type 0 w
   pub files : (a : Attempt) → Wins (all_records v) a → File s v.whole (v.kept a) (v.part a.task.number) v.marker h a
   pub of_job : (a : Attempt) → Wins (all_records v) a → OfJob s a
   pub kept : (a : Attempt) → Every (IsWriters s a) (v.kept a)
+  pub released : (n : ℕ) → Every (IfThere (IsReleased s.hold v.decision)) (v.part n)
+  pub released_mark : Every (IfThere (IsReleased s.hold v.decision)) v.marker
 
 -- ---- what was told
 
@@ -167,6 +175,7 @@ EndingOf s v (order.Fail a) st = (v.appended ≡ []) × (standing s.job s.tasks 
 EndingOf s v (order.Ask a) st = (v.appended ≡ []) × (standing s.job s.tasks v.synced a ≡ st)
 EndingOf s v order.Resume st = Unit {0}
 EndingOf s v order.Abort st = Unit {0}
+EndingOf s v order.Publish st = Unit {0}
 EndingOf s v order.StartNext st = Unit {0}
 EndingOf s v (order.StartAt n) st = Unit {0}
 EndingOf s v (order.StartOver n) st = Unit {0}
@@ -178,6 +187,7 @@ Ending s v o outcome.AllWon = Unit {0}
 Ending s v o (outcome.Started a) = Unit {0}
 Ending s v o outcome.Busy = Unit {0}
 Ending s v o outcome.JobOver = Unit {0}
+Ending s v o outcome.NotAllWon = Unit {0}
 Ending s v o outcome.Full = Unit {0}
 Ending s v o outcome.NoFile = Unit {0}
 Ending s v o outcome.NotAFile = Unit {0}
@@ -204,20 +214,31 @@ At s v h c (Appending r) = Known v.synced v.appended c.records × MayAppend s v 
 At s v h c (Committing r) = (c.records ≡ v.synced) × (v.appended ≡ r ∷ []) × Fate v r
 At s v h c (DroppingClaim a) = Known v.synced v.appended c.records × (Wins v.synced a → ⊥)
 At s v h c (DroppingWork a) = Known v.synced v.appended c.records
-At s v h c Listing = Known v.synced v.appended c.records × ToLink s v.synced v.part h c.left
-At s v h c (FindingKept a) = Known v.synced v.appended c.records × ToLink s v.synced v.part h (a ∷ c.left)
-At s v h c (Linking a file) = Known v.synced v.appended c.records × ToLink s v.synced v.part h (a ∷ c.left) × KeptNow v a (Some file)
-At s v h c (Comparing a file) = Known v.synced v.appended c.records × ToLink s v.synced v.part h (a ∷ c.left)
-At s v h c SyncingParts = Known v.synced v.appended c.records × ToLink s v.synced v.part h []
-At s v h c Marking = Known v.synced v.appended c.records × Stand s v.synced v.part h
+At s v h c FindingDecision = Known v.synced v.appended c.records × ToLink s v.synced v.part h c.left
+At s v h c Deciding = Known v.synced v.appended c.records × ToLink s v.synced v.part h c.left × (c.order ≡ order.Publish)
+At s v h c SyncingDecision = Known v.synced v.appended c.records × ToLink s v.synced v.part h c.left × IsThere v.decision.now
+At s v h c Listing = Known v.synced v.appended c.records × ToLink s v.synced v.part h c.left × IsReleased s.hold v.decision
+At s v h c (FindingKept a) = Known v.synced v.appended c.records × ToLink s v.synced v.part h (a ∷ c.left) × IsReleased s.hold v.decision
+At s v h c (Linking a file) = Known v.synced v.appended c.records × ToLink s v.synced v.part h (a ∷ c.left) × KeptNow v a (Some file) × IsReleased s.hold v.decision
+At s v h c (Comparing a file) = Known v.synced v.appended c.records × ToLink s v.synced v.part h (a ∷ c.left) × IsReleased s.hold v.decision
+At s v h c SyncingParts = Known v.synced v.appended c.records × ToLink s v.synced v.part h [] × IsReleased s.hold v.decision
+At s v h c Marking = Known v.synced v.appended c.records × Stand s v.synced v.part h × IsReleased s.hold v.decision
 At s v h c SyncingMarker = Known v.synced v.appended c.records × Stand s v.synced v.part h × IsThere v.marker.now
 At s v h c (Emptying a) = Known v.synced v.appended c.records × Stand s v.synced v.part h × Every IsThere v.marker
 At s v h c (MakingFolder a) = Unit {0}
 At s v h c (Over o) = Ending s v c.order o
 
+-- a command of the setting's job
+pub record Fits (s : Setting) (j : JobId) (n : ℕ) (b : Bool) : Type 0 where
+  pub job : j ≡ s.job
+  pub tasks : n ≡ s.tasks
+  pub hold : b ≡ s.hold
+
+abbrev pub IsOf : Setting → Command → Type 0
+IsOf s c = Fits s c.job c.tasks c.hold
+
 pub record Amid (s : Setting) (v : View) (h : Attempt → Option ℕ) (c : Command) : Type 0 where
-  pub job : c.job ≡ s.job
-  pub tasks : c.tasks ≡ s.tasks
+  pub fits : IsOf s c
   pub here : At s v h c c.phase
 
 abbrev pub AmidAny : Setting → View → (Attempt → Option ℕ) → Option Command → Type 0

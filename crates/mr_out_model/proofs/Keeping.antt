@@ -5,7 +5,8 @@ use Rattle.mr_ids.specs.declared.id.TaskId.{TaskId}
 use Rattle.mr_history.specs.declared.record.Record.{Record}
 use Rattle.mr_history.specs.Winner.{winner_in}
 use Rattle.mr_history.proofs.Winners.{winner-of}
-use Rattle.mr_out_disk.specs.declared.place.Place.TheVariants.{Part, Marker}
+use Rattle.mr_out_disk.specs.declared.place.Place.{Place}
+use Rattle.mr_out_disk.specs.declared.place.Place.TheVariants.{Part, Marker, Kept, Work, Decision}
 use Rattle.mr_out_disk.specs.Disk.{seen}
 use Rattle.mr_out_disk.specs.Cuts.{IsFront}
 use Rattle.mr_out_steps.specs.declared.standing.Standing.{Standing}
@@ -13,8 +14,8 @@ use Rattle.mr_out_steps.specs.declared.standing.Standing.TheVariants.{Won, Beate
 use Rattle.mr_out_steps.specs.Standing.{task_of}
 use Rattle.mr_out_model.specs.Worlds.{Setting, World, begun}
 use Rattle.mr_out_model.specs.Runs.{Move, happens, May, after, IsRun}
-use Rattle.mr_out_model.specs.Promises.{IsWinners, HasTold, HasToldLoss, Promises, DirectoryKeepsPromises, ReadersFindWinners}
-use Rattle.mr_out_model.proofs.Invariant.{view, all_records, IfThere, IsPart, PartOf, Wins, Stand, Shown, OfJob, Holds}
+use Rattle.mr_out_model.specs.Promises.{IsWinners, HasTold, HasToldLoss, IsVisible, Promises, DirectoryKeepsPromises, ReadersFindWinners}
+use Rattle.mr_out_model.proofs.Invariant.{view, all_records, IsThere, IfThere, IsReleased, IsPart, PartOf, Wins, Stand, Shown, OfJob, Holds}
 use Rattle.mr_out_model.proofs.Records.{wins-more, wins-own, some-one, none-some}
 use Rattle.mr_out_model.proofs.Answering.{Grows, same-grows}
 use Rattle.mr_out_model.proofs.Moving.{Onward, moves-on}
@@ -32,11 +33,12 @@ joined s w u v p q = record {
     stand = λ st. q.grows.stand (p.grows.stand st);
     handed = λ a x. q.grows.handed a (wins-front w.disk.synced u.disk.synced a p.grows.front x) ∙ p.grows.handed a x;
     bytes = λ a f x e. q.grows.bytes a f (wins-front w.disk.synced u.disk.synced a p.grows.front x) (p.grows.handed a x ∙ e) ∙ p.grows.bytes a f x e;
+    decision = λ e. q.grows.decision (p.grows.decision e);
   };
   told = λ a st t. q.told a st (p.told a st t);
 }
 
-still-there : (s : Setting) (w : World) → Holds s w → Onward s w w
+pub still-there : (s : Setting) (w : World) → Holds s w → Onward s w w
 still-there s w h = record { holds = h; grows = same-grows s w; told = λ a st t. t }
 
 runs-on : (s : Setting) (moves : List Move) (w : World) → Onward s w w → IsRun s w moves → Onward s w (after s w moves)
@@ -58,9 +60,9 @@ untold a (inl t) = t
 untold a (inr (inl t)) = t
 untold a (inr (inr t)) = t
 
-begun-holds : (s : Setting) (bytes : ℕ → ℕ) → Holds s (begun bytes)
+pub begun-holds : (s : Setting) (bytes : ℕ → ℕ) → Holds s (begun bytes)
 begun-holds s bytes = record {
-  core = record { parts = λ n. (tt, tt); marker = (tt, tt); files = λ a w. absurd (nobody a w); of_job = λ a w. absurd (nobody a w); kept = λ a. (tt, tt) };
+  core = record { parts = λ n. (tt, tt); marker = (tt, tt); files = λ a w. absurd (nobody a w); of_job = λ a w. absurd (nobody a w); kept = λ a. (tt, tt); released = λ n. (tt, tt); released_mark = (tt, tt) };
   work = λ a. (tt, tt);
   told = record { won = λ a t. absurd t; lost = λ a t. absurd (untold a t) };
   amid = tt;
@@ -128,6 +130,18 @@ part-same s w v h o st n = by (seen w.disk (Part n)) refl (seen v.disk (Part n))
         let q = part-there s w st n p.number in
         absurd (none-some (seen w.disk (Part n)) q.0 e q.1)
 
+-- under hold, where anything is visible it was decided to publish, for good
+pub released-at : (s : Setting) (w : World) → Holds s w → (p : Place) → IsVisible p → seen w.disk p ≢ None → IsReleased s.hold (view w.disk).decision
+released-at s w h (Part n) out e = stand-there (IsReleased s.hold (view w.disk).decision) (seen w.disk (Part n)) e (h.core.released n).0
+released-at s w h Marker out e = stand-there (IsReleased s.hold (view w.disk).decision) (seen w.disk Marker) e h.core.released_mark.0
+released-at s w h (Kept a) out e = absurd out
+released-at s w h (Work a) out e = absurd out
+released-at s w h Decision out e = absurd out
+
+pub is-there : (x : Option ℕ) → IsThere x → x ≡ None → ⊥
+is-there None i e = i
+is-there (Some f) i e = absurd (cc)
+
 lost-later : (w v : World) (a : Attempt) → ((b : Attempt) (st : Standing) → HasTold w.told b st → HasTold v.told b st) → HasToldLoss w.told a → HasToldLoss v.told a
 lost-later w v a more (inl t) = inl (more a Beaten t)
 lost-later w v a more (inr (inl t)) = inr (inl (more a GivenUp t))
@@ -140,6 +154,7 @@ promised s w v h o = record {
   marked = λ e n l. part-there s w (marked-stand s w h e) n l;
   parts_stay = λ e n. part-same s w v h o (marked-stand s w h e) n;
   bytes_stay = λ e n f is. let p = visible-is s w h n f is in o.grows.bytes p.winner f (wins-own w.disk.synced (task_of s.job n) p.winner p.recorded) p.handed;
+  held = λ x p out e. is-there (seen v.disk Decision) (o.grows.decision (released-at s w h p out e x)).0;
   won = λ a t. wins-front w.disk.synced v.disk.synced a o.grows.front (h.told.won a t);
   lost = λ a t e. (o.holds.told.lost a (lost-later w v a o.told t)).never (wins-more v.disk.synced v.disk.appended a e);
 }

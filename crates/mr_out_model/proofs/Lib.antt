@@ -9,4 +9,5 @@ pub mod Answering
 pub mod Publishing
 pub mod Moving
 pub mod Keeping
+pub mod Holding
 pub mod Fronts

@@ -7,7 +7,7 @@ use Rattle.mr_ids.proofs.Same.{same_attempt-is}
 use Rattle.mr_history.specs.declared.record.Record.{Record}
 use Rattle.mr_history.specs.declared.record.Record.TheVariants.{AttemptStarted, MapSucceeded, ReduceSucceeded, AttemptFailed, JobUnsuccessful}
 use Rattle.mr_history.specs.Winner.{winner_in}
-use Rattle.mr_out_disk.specs.declared.place.Place.TheVariants.{Part, Marker, Kept, Work}
+use Rattle.mr_out_disk.specs.declared.place.Place.TheVariants.{Part, Marker, Kept, Work, Decision}
 use Rattle.mr_out_disk.specs.declared.call.Call.{Call}
 use Rattle.mr_out_disk.specs.declared.call.Call.TheVariants as call
 use Rattle.mr_out_disk.specs.declared.answer.Answer.{Answer}
@@ -24,7 +24,7 @@ use Rattle.mr_out_steps.specs.declared.order.Order.TheVariants as order
 use Rattle.mr_out_steps.specs.declared.order.Outcome.{Outcome}
 use Rattle.mr_out_steps.specs.declared.order.Outcome.TheVariants as outcome
 use Rattle.mr_out_steps.specs.declared.phase.Phase.{Phase}
-use Rattle.mr_out_steps.specs.declared.phase.Phase.TheVariants.{Reading, SyncingEnd, FindingClaim, FindingWork, Claiming, SyncingFile, SyncingClaim, Appending, Committing, DroppingClaim, DroppingWork, Listing, FindingKept, Linking, Comparing, SyncingParts, Marking, SyncingMarker, Emptying, MakingFolder, Over}
+use Rattle.mr_out_steps.specs.declared.phase.Phase.TheVariants.{Reading, SyncingEnd, FindingClaim, FindingWork, Claiming, SyncingFile, SyncingClaim, Appending, Committing, DroppingClaim, DroppingWork, FindingDecision, Deciding, SyncingDecision, Listing, FindingKept, Linking, Comparing, SyncingParts, Marking, SyncingMarker, Emptying, MakingFolder, Over}
 use Rattle.mr_out_steps.specs.Standing.{standing}
 use Rattle.mr_out_steps.specs.Commands.{Command, call_in, outcome_in, opening}
 use Rattle.mr_out_steps.specs.Steps.{goes, heard, turn}
@@ -34,11 +34,11 @@ use Rattle.mr_out_model.specs.Promises.{HasTold, HasToldLoss}
 use Rattle.mr_out_model.proofs.Moments.{Every, every-if, every-moved, every-left}
 use Rattle.mr_out_model.proofs.Standings.{has-won, has-lost, IsLost, HasLost}
 use Rattle.mr_out_model.proofs.Invariant as inv
-use Rattle.mr_out_model.proofs.Invariant.{View, view, all_records, IsFile, Wins, Stand, File, Core, Lost, Known, Held, Durable, MayAppend, Ending, At, Amid, AmidAny, Holds}
+use Rattle.mr_out_model.proofs.Invariant.{View, view, all_records, IsFile, IsThere, Wins, Stand, File, Core, Lost, Known, Held, Durable, MayAppend, Ending, At, Amid, AmidAny, Holds}
 use Rattle.mr_out_model.proofs.Records.{none-all, some-one, wins-more}
 use Rattle.mr_out_model.proofs.Cutting.{cut-view, core-cut, told-cut, stand-left, core-written, no_longer_whole, claimed, still-whole}
 use Rattle.mr_out_model.proofs.Answering.{Grows, Before, Behind, same-grows, fail, on-syncing-end, on-finding-claim, on-finding-work, on-claiming, on-syncing-file, on-syncing-claim, on-appending, on-committing, on-dropping-claim, on-dropping-work, on-making-folder}
-use Rattle.mr_out_model.proofs.Publishing.{on-finding-kept, on-linking, on-comparing, on-syncing-parts, on-marking, on-syncing-marker, on-emptying, on-listing, on-reading}
+use Rattle.mr_out_model.proofs.Publishing.{on-finding-decision, on-deciding, on-syncing-decision, on-finding-kept, on-linking, on-comparing, on-syncing-parts, on-marking, on-syncing-marker, on-emptying, on-listing, on-reading}
 
 pub record Onward (s : Setting) (w u : World) : Type 0 where
   pub holds : Holds s u
@@ -75,6 +75,9 @@ says s w c (Appending r) b at reply m = onward s w _ _ _ (on-appending s w (goes
 says s w c (Committing r) b at reply m = onward s w _ _ _ (on-committing s w (goes (Committing r) c) r b at reply)
 says s w c (DroppingClaim a) b at reply m = onward s w _ _ _ (on-dropping-claim s w (goes (DroppingClaim a) c) a b at reply)
 says s w c (DroppingWork a) b at reply m = onward s w _ _ _ (on-dropping-work s w (goes (DroppingWork a) c) a b at reply)
+says s w c FindingDecision b at reply m = onward s w _ _ _ (on-finding-decision s w (goes FindingDecision c) b at reply m)
+says s w c Deciding b at reply m = onward s w _ _ _ (on-deciding s w (goes Deciding c) b at reply m)
+says s w c SyncingDecision b at reply m = onward s w _ _ _ (on-syncing-decision s w (goes SyncingDecision c) b at reply)
 says s w c Listing b at reply m = onward s w _ _ _ (list-word s w (goes Listing c) b reply)
 says s w c (FindingKept a) b at reply m = onward s w _ _ _ (on-finding-kept s w (goes (FindingKept a) c) a b at reply m)
 says s w c (Linking a f) b at reply m = onward s w _ _ _ (on-linking s w (goes (Linking a f) c) a f b at reply m)
@@ -100,7 +103,7 @@ answers-on s w c p b at (Told rs) m = tells s w c p b at rs m
 answers-on s w c p b at (Listed attempts) m = lists-kept s w c p b at attempts m
 
 before : (s : Setting) (w : World) (c : Command) → Holds s w → Amid s (view w.disk) w.handed c → Before s w c
-before s w c h m = record { core = h.core; work = h.work; told = h.told; job = m.job; tasks = m.tasks }
+before s w c h m = record { core = h.core; work = h.work; told = h.told; fits = m.fits }
 
 any-answer : (s : Setting) (w : World) (r : Option Command) → Holds s w → AmidAny s (view w.disk) w.handed r → (answer : Answer) → MayHear w r answer → Onward s w (answers w r answer)
 any-answer s w None h m answer may = absurd may
@@ -148,6 +151,7 @@ ends-so s w (order.Ask a) (outcome.Stands st) h e = tell-one s w a st h e.0 e.1
 ends-so s w (order.Ask a) _ h e = tell-none s w h
 ends-so s w order.Resume _ h e = tell-none s w h
 ends-so s w order.Abort _ h e = tell-none s w h
+ends-so s w order.Publish _ h e = tell-none s w h
 ends-so s w order.StartNext _ h e = tell-none s w h
 ends-so s w (order.StartAt n) _ h e = tell-none s w h
 ends-so s w (order.StartOver n) _ h e = tell-none s w h
@@ -188,7 +192,7 @@ at-written s d h c file bytes _ core free at = at
 
 amid-written : (s : Setting) (d : Disk) (h : Attempt → Option ℕ) (file bytes : ℕ) (r : Option Command) → Core s (view d) h → (IsClaimed s d file → ⊥) → AmidAny s (view d) h r → AmidAny s (view (written file bytes d)) h r
 amid-written s d h file bytes None core free m = tt
-amid-written s d h file bytes (Some c) core free m = record { job = m.job; tasks = m.tasks; here = at-written s d h c file bytes c.phase core free m.here }
+amid-written s d h file bytes (Some c) core free m = record { fits = m.fits; here = at-written s d h c file bytes c.phase core free m.here }
 
 amid-named : (s : Setting) (d : Disk) (h : Attempt → Option ℕ) (a : Attempt) (file : Option ℕ) (r : Option Command) → AmidAny s (view d) h r → AmidAny s (view (named (Work a) file d)) h r
 amid-named s d h a file None m = tt
@@ -203,7 +207,7 @@ bytes-kept false m n no-way = refl
 
 pub moves-on : (s : Setting) (w : World) (move : Move) → Holds s w → May s w move → Onward s w (happens s w move)
 unfolding happens May
-moves-on s w (Starts o) h m = record { holds = record { core = h.core; work = h.work; told = h.told; amid = record { job = refl; tasks = refl; here = tt } }; grows = same-grows s w; told = λ a st t. t }
+moves-on s w (Starts o) h m = record { holds = record { core = h.core; work = h.work; told = h.told; amid = record { fits = record { job = refl; tasks = refl; hold = refl }; here = tt } }; grows = same-grows s w; told = λ a st t. t }
 moves-on s w (Answers answer) h m = any-answer s w w.running h h.amid answer m
 moves-on s w Ends h m = any-end s w w.running h h.amid
 moves-on s w Stops h m = record { holds = record { core = h.core; work = h.work; told = h.told; amid = tt }; grows = same-grows s w; told = λ a st t. t }
@@ -214,6 +218,7 @@ moves-on s w (Writes file bytes) h m = record {
     stand = λ st. st;
     handed = λ a x. refl;
     bytes = λ a f x e. bytes-kept (f == file) bytes (w.disk.bytes f) (λ is. winners-own a f x e (eqb-true _ _ is));
+    decision = λ e. e;
   };
   told = λ a st t. t;
 }
@@ -230,14 +235,14 @@ moves-on s w (Names a file) h m = record {
     told = h.told;
     amid = amid-named s w.disk w.handed a file w.running h.amid;
   };
-  grows = record { front = (same-grows s w).front; stand = λ st. st; handed = λ x y. refl; bytes = λ x f y z. refl };
+  grows = record { front = (same-grows s w).front; stand = λ st. st; handed = λ x y. refl; bytes = λ x f y z. refl; decision = λ e. e };
   told = λ b st t. t;
 }
 moves-on s w (Cuts left) h m =
     let c = cut-view w.disk left m in
     record {
       holds = record { core = core-cut s (view w.disk) (view left) w.handed h.core c; work = λ a. every-left (IsWriters s a) (w.disk.moments (Work a)) (left.moments (Work a)) (m.names (Work a)) (h.work a); told = told-cut (view w.disk) (view left) w.told h.told c; amid = tt };
-      grows = record { front = record { rest = m.kept; is = m.synced }; stand = stand-left s (view w.disk) (view left) w.handed h.core c; handed = λ a x. refl; bytes = λ a f x e. m.bytes f (whole a f x e) };
+      grows = record { front = record { rest = m.kept; is = m.synced }; stand = stand-left s (view w.disk) (view left) w.handed h.core c; handed = λ a x. refl; bytes = λ a f x e. m.bytes f (whole a f x e); decision = λ e. every-left IsThere (w.disk.moments Decision) (left.moments Decision) (m.names Decision) e };
       told = λ a st t. t;
     }
   where

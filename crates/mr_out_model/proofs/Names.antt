@@ -12,7 +12,7 @@ use Rattle.mr_out_steps.specs.Standing.{task_of}
 use Rattle.mr_out_model.specs.Worlds.{Setting}
 use Rattle.mr_out_model.specs.Runs.{IsWriters}
 use Rattle.mr_out_model.proofs.Moments.{Every, EveryOf, every-map, every-settled, every-moved, every-if}
-use Rattle.mr_out_model.proofs.Invariant.{View, all_records, IsFile, IsThere, IfThere, Wins, PartOf, IsPart, Shown, Stand, IsStored, File, OfJob, Core}
+use Rattle.mr_out_model.proofs.Invariant.{View, all_records, IsFile, IsThere, IfThere, Wins, PartOf, IsPart, Shown, Stand, IsReleased, IsStored, File, OfJob, Core}
 use Rattle.mr_out_model.proofs.Records.{if-there-map, one-winner, none-all, some-one, none-some}
 
 -- ---- folders and files that are synced
@@ -39,6 +39,8 @@ core-output s v h c = record {
   files = λ a w. let x = c.files a w in record { file = x.file; handed = x.handed; is_whole = x.is_whole; writer = x.writer; stored = by a x.file x.stored };
   of_job = c.of_job;
   kept = c.kept;
+  released = λ n. every-settled (IfThere (IsReleased s.hold v.decision)) (v.part n) (c.released n);
+  released_mark = every-settled (IfThere (IsReleased s.hold v.decision)) v.marker c.released_mark;
 }
   where
     by : (a : Attempt) (f : ℕ) → IsStored f (v.kept a) (v.part a.task.number) v.marker → IsStored f (v.kept a) (settled (v.part a.task.number)) (settled v.marker)
@@ -52,6 +54,8 @@ core-kept s v h c = record {
   files = λ a w. let x = c.files a w in record { file = x.file; handed = x.handed; is_whole = x.is_whole; writer = x.writer; stored = by a x.file x.stored };
   of_job = c.of_job;
   kept = λ a. every-settled (IsWriters s a) (v.kept a) (c.kept a);
+  released = c.released;
+  released_mark = c.released_mark;
 }
   where
     by : (a : Attempt) (f : ℕ) → IsStored f (v.kept a) (v.part a.task.number) v.marker → IsStored f (settled (v.kept a)) (v.part a.task.number) v.marker
@@ -69,6 +73,8 @@ core-whole s v h file c = record {
   files = λ a w. let x = c.files a w in record { file = x.file; handed = x.handed; is_whole = whole-still (x.file == file) (v.whole x.file) x.is_whole; writer = x.writer; stored = x.stored };
   of_job = c.of_job;
   kept = c.kept;
+  released = c.released;
+  released_mark = c.released_mark;
 }
 
 -- ---- a kept name changes
@@ -84,6 +90,8 @@ core-claim s v h a file c loses own = record {
   files = λ b w. let x = c.files b w in record { file = x.file; handed = x.handed; is_whole = x.is_whole; writer = x.writer; stored = by b w x.file x.stored };
   of_job = c.of_job;
   kept = λ b. every-if (IsWriters s b) (same_attempt a b) (moved file (v.kept b)) (v.kept b) (λ e. every-moved (IsWriters s b) (v.kept b) file (let P : Attempt → Type 0 = λ x. IsWriters s x file in subst P (same_attempt-is a b e) own) (c.kept b)) (λ e. c.kept b);
+  released = c.released;
+  released_mark = c.released_mark;
 }
   where
     by : (b : Attempt) → Wins (all_records v) b → (f : ℕ) → IsStored f (v.kept b) (v.part b.task.number) v.marker
@@ -99,6 +107,8 @@ core-empty s v h a c none st there = record {
   files = λ b w. let x = c.files b w in record { file = x.file; handed = x.handed; is_whole = x.is_whole; writer = x.writer; stored = inr (shown b w x.file x.handed, there) };
   of_job = c.of_job;
   kept = λ b. every-if (IsWriters s b) (same_attempt a b) (moved None (v.kept b)) (v.kept b) (λ e. every-moved (IsWriters s b) (v.kept b) None tt (c.kept b)) (λ e. c.kept b);
+  released = c.released;
+  released_mark = c.released_mark;
 }
   where
     shown : (b : Attempt) → Wins (all_records v) b → (f : ℕ) → h b ≡ Some f → Every (IsFile f) (v.part b.task.number)
@@ -117,14 +127,16 @@ part_named n file v = record v { part = λ m. if n == m then moved file (v.part 
 pub not-yet : (s : Setting) (synced : List Record) (part : ℕ → Moments) (h : Attempt → Option ℕ) (a : Attempt) → Wins synced a → (part a.task.number).now ≡ None → Stand s synced part h → ⊥
 not-yet s synced part h a w none st = let x = st.each a w in none-some (part a.task.number).now x.file none x.every.0
 
-pub core-link : (s : Setting) (v : View) (h : Attempt → Option ℕ) (a : Attempt) (file : ℕ) → Core s v h → Wins v.synced a → OfJob s a → h a ≡ Some file → (v.part a.task.number).now ≡ None
+pub core-link : (s : Setting) (v : View) (h : Attempt → Option ℕ) (a : Attempt) (file : ℕ) → Core s v h → Wins v.synced a → OfJob s a → h a ≡ Some file → (v.part a.task.number).now ≡ None → IsReleased s.hold v.decision
     → Core s (part_named a.task.number (Some file) v) h
-core-link s v h a file c w own handed none = record {
+core-link s v h a file c w own handed none release = record {
   parts = λ m. every-if (IsPart s v.synced h m) (a.task.number == m) (moved (Some file) (v.part m)) (v.part m) (λ e. every-moved (IsPart s v.synced h m) (v.part m) (Some file) (made m (eqb-true _ _ e)) (c.parts m)) (λ e. c.parts m);
   marker = every-map (IfThere (Stand s v.synced v.part h)) (IfThere (Stand s v.synced (part_named a.task.number (Some file) v).part h)) v.marker (if-there-map _ _ (λ st. absurd (not-yet s v.synced v.part h a w none st))) c.marker;
   files = λ b x. let y = c.files b x in record { file = y.file; handed = y.handed; is_whole = y.is_whole; writer = y.writer; stored = by b y.file y.stored };
   of_job = c.of_job;
   kept = c.kept;
+  released = λ m. every-if (IfThere (IsReleased s.hold v.decision)) (a.task.number == m) (moved (Some file) (v.part m)) (v.part m) (λ e. every-moved (IfThere (IsReleased s.hold v.decision)) (v.part m) (Some file) release (c.released m)) (λ e. c.released m);
+  released_mark = c.released_mark;
 }
   where
     made : (m : ℕ) → a.task.number ≡ m → PartOf s v.synced h m file
@@ -143,15 +155,43 @@ core-link s v h a file c w own handed none = record {
 abbrev pub marker_named : Option ℕ → View → View
 marker_named file v = record v { marker = moved file v.marker }
 
-pub core-mark : (s : Setting) (v : View) (h : Attempt → Option ℕ) (file : ℕ) → Core s v h → Stand s v.synced v.part h → Core s (marker_named (Some file) v) h
-core-mark s v h file c st = record {
+pub core-mark : (s : Setting) (v : View) (h : Attempt → Option ℕ) (file : ℕ) → Core s v h → Stand s v.synced v.part h → IsReleased s.hold v.decision → Core s (marker_named (Some file) v) h
+core-mark s v h file c st release = record {
   parts = c.parts;
   marker = every-moved (IfThere (Stand s v.synced v.part h)) v.marker (Some file) st c.marker;
   files = λ a w. let x = c.files a w in record { file = x.file; handed = x.handed; is_whole = x.is_whole; writer = x.writer; stored = by a x.file x.stored };
   of_job = c.of_job;
   kept = c.kept;
+  released = c.released;
+  released_mark = every-moved (IfThere (IsReleased s.hold v.decision)) v.marker (Some file) release c.released_mark;
 }
   where
     by : (a : Attempt) (f : ℕ) → IsStored f (v.kept a) (v.part a.task.number) v.marker → IsStored f (v.kept a) (v.part a.task.number) (moved (Some file) v.marker)
     by a f (inl e) = inl e
     by a f (inr p) = inr (p.0, every-moved IsThere v.marker (Some file) tt p.1)
+
+-- ---- the decision is made, and made durable
+
+abbrev pub decision_named : Option ℕ → View → View
+decision_named file v = record v { decision = moved file v.decision }
+
+abbrev pub home_synced : View → View
+home_synced v = record v { decision = settled v.decision }
+
+-- a decision that is made takes none back
+core-decision : (s : Setting) (v : View) (h : Attempt → Option ℕ) (decision : Moments) → (Every IsThere v.decision → Every IsThere decision) → Core s v h → Core s (record v { decision = decision }) h
+core-decision s v h decision stays c = record {
+  parts = c.parts;
+  marker = c.marker;
+  files = c.files;
+  of_job = c.of_job;
+  kept = c.kept;
+  released = λ n. every-map (IfThere (IsReleased s.hold v.decision)) (IfThere (IsReleased s.hold decision)) (v.part n) (if-there-map _ _ (λ r e. stays (r e))) (c.released n);
+  released_mark = every-map (IfThere (IsReleased s.hold v.decision)) (IfThere (IsReleased s.hold decision)) v.marker (if-there-map _ _ (λ r e. stays (r e))) c.released_mark;
+}
+
+pub core-decide : (s : Setting) (v : View) (h : Attempt → Option ℕ) (file : ℕ) → Core s v h → Core s (decision_named (Some file) v) h
+core-decide s v h file c = core-decision s v h (moved (Some file) v.decision) (λ e. every-moved IsThere v.decision (Some file) tt e) c
+
+pub core-home : (s : Setting) (v : View) (h : Attempt → Option ℕ) → Core s v h → Core s (home_synced v) h
+core-home s v h c = core-decision s v h (settled v.decision) (λ e. every-settled IsThere v.decision e) c

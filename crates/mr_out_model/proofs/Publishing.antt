@@ -8,7 +8,7 @@ use Rattle.mr_history.specs.declared.record.Record.{Record}
 use Rattle.mr_history.specs.declared.record.Record.TheVariants.{AttemptStarted, MapSucceeded, ReduceSucceeded, AttemptFailed, JobUnsuccessful}
 use Rattle.mr_history.specs.Winner.{winner_in}
 use Rattle.mr_history.proofs.Winners.{winner-of}
-use Rattle.mr_out_disk.specs.declared.place.Place.TheVariants.{Part, Marker, Kept, Work}
+use Rattle.mr_out_disk.specs.declared.place.Place.TheVariants.{Part, Marker, Kept, Work, Decision}
 use Rattle.mr_out_disk.specs.declared.place.Folder.TheVariants as folder
 use Rattle.mr_out_disk.specs.declared.call.Call.{Call}
 use Rattle.mr_out_disk.specs.declared.call.Call.TheVariants as call
@@ -22,25 +22,62 @@ use Rattle.mr_out_disk.specs.Cuts.{IsFront}
 use Rattle.mr_out_steps.specs.declared.order.Outcome.{Outcome}
 use Rattle.mr_out_steps.specs.declared.order.Outcome.TheVariants as outcome
 use Rattle.mr_out_steps.specs.declared.phase.Phase.{Phase}
-use Rattle.mr_out_steps.specs.declared.phase.Phase.TheVariants.{Reading, SyncingEnd, FindingClaim, FindingWork, Claiming, SyncingFile, SyncingClaim, Appending, Committing, DroppingClaim, DroppingWork, Listing, FindingKept, Linking, Comparing, SyncingParts, Marking, SyncingMarker, Emptying, Over}
+use Rattle.mr_out_steps.specs.declared.phase.Phase.TheVariants.{Reading, SyncingEnd, FindingClaim, FindingWork, Claiming, SyncingFile, SyncingClaim, Appending, Committing, DroppingClaim, DroppingWork, FindingDecision, Deciding, SyncingDecision, Listing, FindingKept, Linking, Comparing, SyncingParts, Marking, SyncingMarker, Emptying, Over}
 use Rattle.mr_out_steps.specs.declared.phase.Turn.TheVariants.{Goes, LinksNext}
 use Rattle.mr_out_steps.specs.Standing.{task_of}
 use Rattle.mr_out_steps.specs.Commands.{Command, call_in}
-use Rattle.mr_out_steps.specs.Steps.{turn, acts, compared, goes, begins, publishes, follows, noted, links, empties, ends, reads, listed, fails_now, is_reading, is_listing}
+use Rattle.mr_out_steps.specs.Steps.{turn, acts, compared, goes, begins, holds, follows, noted, links, empties, ends, reads, listed, fails_now, is_reading, is_listing}
 use Rattle.mr_out_model.specs.Worlds.{Setting, World, handed_by}
 use Rattle.mr_out_model.specs.Runs.{IsWriters}
-use Rattle.mr_out_model.proofs.Moments.{Every, EveryOf, every-if, every-moved}
+use Rattle.mr_out_model.proofs.Moments.{Every, EveryOf, every-if, every-moved, every-settled}
 use Rattle.mr_out_model.proofs.Standings.{IsOpen}
 use Rattle.mr_out_model.proofs.Invariant as inv
-use Rattle.mr_out_model.proofs.Invariant.{View, view, all_records, IsFile, IsThere, Wins, PartOf, IsPart, Shown, Stand, IsStored, File, OfJob, Core, Known, Held, Durable, Opens, MayAppend, Fate, IsAmong, AreWinners, Seen, ToLink, At, Amid}
+use Rattle.mr_out_model.proofs.Invariant.{View, view, all_records, IsFile, IsThere, Wins, PartOf, IsPart, Shown, Stand, IsStored, File, OfJob, Core, Known, Held, Durable, Opens, MayAppend, Fate, IsAmong, AreWinners, Seen, ToLink, At, Amid, IsReleased}
 use Rattle.mr_out_model.proofs.Records.{some-one, none-some, no-winner, one-winner, wins-own, none-all, appended_too, synced_too, core-success, core-plain, core-sync, told-success, told-plain, told-sync, stand-grows, stand-handed, handed-other, another, failure-plain, start-plain, map-plain, end-plain}
-use Rattle.mr_out_model.proofs.Names.{core-output, core-kept, core-whole, core-claim, core-empty, core-link, core-mark, output_synced, stand-output, not-yet, kept_named, part_named, marker_named}
-use Rattle.mr_out_model.proofs.Turns.{ends-amid, publishes-amid, links-amid, empties-amid, begins-amid, follows-amid}
+use Rattle.mr_out_model.proofs.Names.{core-output, core-kept, core-whole, core-claim, core-empty, core-link, core-mark, core-decide, core-home, output_synced, stand-output, not-yet, kept_named, part_named, marker_named}
+use Rattle.mr_out_model.proofs.Turns.{ends-amid, holds-amid, links-amid, empties-amid, begins-amid, follows-amid}
 use Rattle.mr_out_model.proofs.Answering.{Grows, Before, Behind, front-itself, same, stays, fail, After, itself}
+
+there-now : (x : Option ℕ) → (x ≡ None → ⊥) → IsThere x
+there-now None no-way = no-way refl
+there-now (Some f) no-way = tt
+
+-- ---- the decision
+
+pub on-finding-decision : (s : Setting) (w : World) (c : Command) → Before s w c → At s (view w.disk) w.handed c FindingDecision → (reply : Reply) → MaySay w.disk (call.Look Decision) reply → After s w c FindingDecision (call.Look Decision) reply
+unfolding turn
+on-finding-decision s w c b at (Found f) m = stays s w c SyncingDecision b (at.0, at.1, subst IsThere (sym m) tt)
+on-finding-decision s w c b at Missing m = same s w c (holds c.order c) b (holds-amid s (view w.disk) w.handed c c.order b.fits at.0)
+on-finding-decision s w c b at _ m = fail s w c b
+
+pub on-deciding : (s : Setting) (w : World) (c : Command) → Before s w c → At s (view w.disk) w.handed c Deciding → (reply : Reply) → MaySay w.disk (call.Create Decision) reply → After s w c Deciding (call.Create Decision) reply
+unfolding turn
+on-deciding s w c b at Done m = record {
+  core = core-decide s (view w.disk) w.handed 0 b.core;
+  work = b.work;
+  told = b.told;
+  amid = record { fits = b.fits; here = (at.0, at.1, tt) };
+  grows = record { front = front-itself w.disk.synced; stand = λ st. st; handed = λ x y. refl; bytes = λ x g y z. refl; decision = λ e. every-moved IsThere (w.disk.moments Decision) (Some 0) tt e };
+}
+on-deciding s w c b at Taken m = stays s w c SyncingDecision b (at.0, at.1, there-now (seen w.disk Decision) m)
+on-deciding s w c b at _ m = fail s w c b
+
+pub on-syncing-decision : (s : Setting) (w : World) (c : Command) → Before s w c → At s (view w.disk) w.handed c SyncingDecision → (reply : Reply) → After s w c SyncingDecision (call.SyncFolder folder.Home) reply
+unfolding turn
+on-syncing-decision s w c b at Done = record {
+  core = core-home s (view w.disk) w.handed b.core;
+  work = b.work;
+  told = b.told;
+  amid = record { fits = b.fits; here = (at.0, at.1, λ held. (at.2, tt)) };
+  grows = record { front = front-itself w.disk.synced; stand = λ st. st; handed = λ x y. refl; bytes = λ x g y z. refl; decision = λ e. every-settled IsThere (w.disk.moments Decision) e };
+}
+on-syncing-decision s w c b at _ = fail s w c b
+
+-- ---- the winners' files
 
 pub on-finding-kept : (s : Setting) (w : World) (c : Command) (a : Attempt) → Before s w c → At s (view w.disk) w.handed c (FindingKept a) → (reply : Reply) → MaySay w.disk (call.Look (Kept a)) reply → After s w c (FindingKept a) (call.Look (Kept a)) reply
 unfolding turn
-on-finding-kept s w c a b at (Found f) m = stays s w c (Linking a f) b (at.0, at.1, m)
+on-finding-kept s w c a b at (Found f) m = stays s w c (Linking a f) b (at.0, at.1, m, at.2)
 on-finding-kept s w c a b at Missing m = stays s w c (Comparing a None) b at
 on-finding-kept s w c a b at _ m = fail s w c b
 
@@ -97,13 +134,13 @@ on-linking s w c a f b at Done m =
 
     linked : Behind s w (named (Part a.task.number) (Some f) w.disk) w.handed (links c.left c)
     linked = record {
-      core = core-link s (view w.disk) w.handed a f b.core wins own handed m.1;
+      core = core-link s (view w.disk) w.handed a f b.core wins own handed m.1 at.3;
       work = b.work;
       told = b.told;
-      amid = links-amid s (part_named a.task.number (Some f) (view w.disk)) w.handed c c.left b.job b.tasks at.0 (linked-one s w.disk.synced (view w.disk).part w.handed a f c.left m.1 handed at.1);
-      grows = record { front = front-itself w.disk.synced; stand = λ st. absurd (not-yet s w.disk.synced (view w.disk).part w.handed a wins m.1 st); handed = λ x y. refl; bytes = λ x g y z. refl };
+      amid = links-amid s (part_named a.task.number (Some f) (view w.disk)) w.handed c c.left b.fits at.0 (linked-one s w.disk.synced (view w.disk).part w.handed a f c.left m.1 handed at.1) at.3;
+      grows = record { front = front-itself w.disk.synced; stand = λ st. absurd (not-yet s w.disk.synced (view w.disk).part w.handed a wins m.1 st); handed = λ x y. refl; bytes = λ x g y z. refl; decision = λ e. e };
     }
-on-linking s w c a f b at Taken m = stays s w c (Comparing a (Some f)) b (at.0, at.1)
+on-linking s w c a f b at Taken m = stays s w c (Comparing a (Some f)) b (at.0, at.1, at.3)
 on-linking s w c a f b at _ m = fail s w c b
 
 -- ---- the visible name was there
@@ -136,7 +173,7 @@ on-comparing s w c a file b at (Found g) m = by file
     handed = seen-own s (view w.disk) w.handed a g b.core at.1.are.0 (first-wins s (view w.disk) w.handed a c.left b.core at.0.none at.1) m
 
     next : Behind s w w.disk w.handed (links c.left c)
-    next = same s w c (links c.left c) b (links-amid s (view w.disk) w.handed c c.left b.job b.tasks at.0 (compared-one s w.disk.synced (view w.disk).part w.handed a g c.left handed m at.1))
+    next = same s w c (links c.left c) b (links-amid s (view w.disk) w.handed c c.left b.fits at.0 (compared-one s w.disk.synced (view w.disk).part w.handed a g c.left handed m at.1) at.2)
 
     test : (x : Bool) → Behind s w w.disk w.handed (acts (cond x LinksNext (Goes (Over (outcome.Foreign a)))) c)
     test true = next
@@ -164,23 +201,19 @@ on-syncing-parts s w c b at Done = record {
   core = core-output s (view w.disk) w.handed b.core;
   work = b.work;
   told = b.told;
-  amid = record { job = b.job; tasks = b.tasks; here = (at.0, standing-now s w.disk.synced (view w.disk).part w.handed at.1) };
-  grows = record { front = front-itself w.disk.synced; stand = stand-output s (view w.disk) w.handed; handed = λ x y. refl; bytes = λ x g y z. refl };
+  amid = record { fits = b.fits; here = (at.0, standing-now s w.disk.synced (view w.disk).part w.handed at.1, at.2) };
+  grows = record { front = front-itself w.disk.synced; stand = stand-output s (view w.disk) w.handed; handed = λ x y. refl; bytes = λ x g y z. refl; decision = λ e. e };
 }
 on-syncing-parts s w c b at _ = fail s w c b
-
-there-now : (x : Option ℕ) → (x ≡ None → ⊥) → IsThere x
-there-now None no-way = no-way refl
-there-now (Some f) no-way = tt
 
 pub on-marking : (s : Setting) (w : World) (c : Command) → Before s w c → At s (view w.disk) w.handed c Marking → (reply : Reply) → MaySay w.disk (call.Create Marker) reply → After s w c Marking (call.Create Marker) reply
 unfolding turn
 on-marking s w c b at Done m = record {
-  core = core-mark s (view w.disk) w.handed 0 b.core at.1;
+  core = core-mark s (view w.disk) w.handed 0 b.core at.1 at.2;
   work = b.work;
   told = b.told;
-  amid = record { job = b.job; tasks = b.tasks; here = (at.0, at.1, tt) };
-  grows = record { front = front-itself w.disk.synced; stand = λ st. st; handed = λ x y. refl; bytes = λ x g y z. refl };
+  amid = record { fits = b.fits; here = (at.0, at.1, tt) };
+  grows = record { front = front-itself w.disk.synced; stand = λ st. st; handed = λ x y. refl; bytes = λ x g y z. refl; decision = λ e. e };
 }
 on-marking s w c b at Taken m = stays s w c SyncingMarker b (at.0, at.1, there-now (seen w.disk Marker) m)
 on-marking s w c b at _ m = fail s w c b
@@ -191,8 +224,8 @@ on-syncing-marker s w c b at Done = record {
   core = core-output s (view w.disk) w.handed b.core;
   work = b.work;
   told = b.told;
-  amid = empties-amid s (output_synced (view w.disk)) w.handed c c.kept b.job b.tasks at.0 (stand-output s (view w.disk) w.handed at.1) (at.2, tt);
-  grows = record { front = front-itself w.disk.synced; stand = stand-output s (view w.disk) w.handed; handed = λ x y. refl; bytes = λ x g y z. refl };
+  amid = empties-amid s (output_synced (view w.disk)) w.handed c c.kept b.fits at.0 (stand-output s (view w.disk) w.handed at.1) (at.2, tt);
+  grows = record { front = front-itself w.disk.synced; stand = stand-output s (view w.disk) w.handed; handed = λ x y. refl; bytes = λ x g y z. refl; decision = λ e. e };
 }
 on-syncing-marker s w c b at _ = fail s w c b
 
@@ -202,19 +235,19 @@ on-emptying s w c a b at Done = record {
   core = core-empty s (view w.disk) w.handed a b.core at.0.none at.1 at.2;
   work = b.work;
   told = b.told;
-  amid = empties-amid s (kept_named a None (view w.disk)) w.handed c c.kept b.job b.tasks at.0 at.1 at.2;
-  grows = record { front = front-itself w.disk.synced; stand = λ st. st; handed = λ x y. refl; bytes = λ x g y z. refl };
+  amid = empties-amid s (kept_named a None (view w.disk)) w.handed c c.kept b.fits at.0 at.1 at.2;
+  grows = record { front = front-itself w.disk.synced; stand = λ st. st; handed = λ x y. refl; bytes = λ x g y z. refl; decision = λ e. e };
 }
-on-emptying s w c a b at Missing = same s w c (empties c.kept c) b (empties-amid s (view w.disk) w.handed c c.kept b.job b.tasks at.0 at.1 at.2)
+on-emptying s w c a b at Missing = same s w c (empties c.kept c) b (empties-amid s (view w.disk) w.handed c c.kept b.fits at.0 at.1 at.2)
 on-emptying s w c a b at _ = fail s w c b
 
 -- ---- lists
 
 pub on-listing : (s : Setting) (w : World) (c : Command) (attempts : List Attempt) → Before s w c → At s (view w.disk) w.handed c Listing → Behind s w w.disk w.handed (listed attempts c)
-on-listing s w c [] b at = same s w c (ends c) b (ends-amid s (view w.disk) w.handed c b.job b.tasks at.0)
+on-listing s w c [] b at = same s w c (ends c) b (ends-amid s (view w.disk) w.handed c b.fits at.0)
 on-listing s w c (a ∷ rest) b at =
     let e : Command = record c { kept = a ∷ rest } in
-    same s w c (links c.left e) b (links-amid s (view w.disk) w.handed e c.left b.job b.tasks at.0 at.1)
+    same s w c (links c.left e) b (links-amid s (view w.disk) w.handed e c.left b.fits at.0 at.1 at.2)
 
 pub on-reading : (s : Setting) (w : World) (c : Command) (rs : List Record) → Before s w c → rs ≡ records w.disk → Behind s w w.disk w.handed (reads rs c)
-on-reading s w c rs b e = same s w c (reads rs c) b (record { job = b.job; tasks = b.tasks; here = e })
+on-reading s w c rs b e = same s w c (reads rs c) b (record { fits = b.fits; here = e })

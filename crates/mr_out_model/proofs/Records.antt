@@ -147,6 +147,8 @@ core-success s v h a bytes c none opens durable = record {
   files = λ b w. file b (before-or-now v a bytes b w);
   of_job = λ b w. own b (before-or-now v a bytes b w);
   kept = c.kept;
+  released = c.released;
+  released_mark = c.released_mark;
 }
   where
     k : Attempt → Option ℕ
@@ -191,6 +193,8 @@ core-plain s v h r c plain = record {
   files = λ a w. c.files a (sym (plain-all v r a.task plain) ∙ w);
   of_job = λ a w. c.of_job a (sym (plain-all v r a.task plain) ∙ w);
   kept = c.kept;
+  released = c.released;
+  released_mark = c.released_mark;
 }
 
 -- ---- what was appended is made durable
@@ -223,6 +227,8 @@ core-sync s v h c = record {
   files = λ a w. c.files a (was a w);
   of_job = λ a w. c.of_job a (was a w);
   kept = c.kept;
+  released = c.released;
+  released_mark = c.released_mark;
 }
   where
     was : (a : Attempt) → Wins (all_records (synced_too v)) a → Wins (all_records v) a

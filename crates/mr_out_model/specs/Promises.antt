@@ -3,14 +3,16 @@
 use Rattle.std.specs.Prelude.{◌≡◌, ◌≢◌, ◌⊎◌, ◌<◌, ℕ, true, List, [], ◌∷◌, Some, None}
 use Rattle.mr_ids.specs.Attempt.{Attempt}
 use Rattle.mr_history.specs.Winner.{winner_in}
-use Rattle.mr_out_disk.specs.declared.place.Place.TheVariants.{Part, Marker}
+use Rattle.mr_out_disk.specs.declared.place.Place.{Place}
+use Rattle.mr_out_disk.specs.declared.place.Place.TheVariants.{Part, Marker, Decision}
 use Rattle.mr_out_disk.specs.Disk.{seen}
 use Rattle.mr_out_disk.specs.Cuts.{IsFront}
 use Rattle.mr_out_steps.specs.declared.standing.Standing.{Standing}
 use Rattle.mr_out_steps.specs.declared.standing.Standing.TheVariants.{Won, Beaten, GivenUp, JobOver}
+use Rattle.mr_out_steps.specs.declared.order.Order.TheVariants as order
 use Rattle.mr_out_steps.specs.Standing.{task_of}
 use Rattle.mr_out_model.specs.Worlds.{Setting, Telling, World, begun}
-use Rattle.mr_out_model.specs.Runs.{Move, after, IsRun}
+use Rattle.mr_out_model.specs.Runs.{Move, Starts, Answers, Ends, Stops, Writes, Names, Cuts, after, IsRun}
 
 -- The file is the very one that the recorded winner of the task handed in, all of it durable.
 pub record IsWinners (s : Setting) (w : World) (n f : ℕ) : Type 0 where
@@ -29,6 +31,12 @@ HasTold (t ∷ ts) a standing = ((t.attempt ≡ a) × (t.standing ≡ standing))
 abbrev pub HasToldLoss : List Telling → Attempt → Type 0
 HasToldLoss ts a = HasTold ts a Beaten ⊎ (HasTold ts a GivenUp ⊎ HasTold ts a JobOver)
 
+-- a name of which a reader hears
+abbrev pub IsVisible : Place → Type 0
+IsVisible (Part n) = Unit {0}
+IsVisible Marker = Unit {0}
+IsVisible _ = ⊥
+
 -- What holds of a world w, and of any later one v.
 pub record Promises (s : Setting) (w v : World) : Type 0 where
   -- durable records are a front of all later ones
@@ -40,6 +48,8 @@ pub record Promises (s : Setting) (w v : World) : Type 0 where
   -- and then no part differs later, nor what is in it
   pub parts_stay : seen w.disk Marker ≢ None → (n : ℕ) → seen v.disk (Part n) ≡ seen w.disk (Part n)
   pub bytes_stay : seen w.disk Marker ≢ None → (n f : ℕ) → seen w.disk (Part n) ≡ Some f → v.disk.bytes f ≡ w.disk.bytes f
+  -- under hold, where anything is visible it was decided to publish, and no power cut takes that back
+  pub held : s.hold ≡ true → (p : Place) → IsVisible p → seen w.disk p ≢ None → seen v.disk Decision ≢ None
   -- of whom a command said that it won, it is the recorded winner from then on
   pub won : (a : Attempt) → HasTold w.told a Won → winner_in v.disk.synced a.task ≡ Some a
   -- and of whom one said that it lost, it never is
@@ -49,6 +59,24 @@ pub record Promises (s : Setting) (w v : World) : Type 0 where
 abbrev pub DirectoryKeepsPromises : Type 0
 DirectoryKeepsPromises = (s : Setting) (bytes : ℕ → ℕ) (moves more : List Move) → IsRun s (begun bytes) moves → IsRun s (after s (begun bytes) moves) more
     → Promises s (after s (begun bytes) moves) (after s (after s (begun bytes) moves) more)
+
+-- ---- a held job
+
+abbrev pub IsPublication : Move → Type 0
+IsPublication (Starts o) = o ≡ order.Publish
+IsPublication _ = ⊥
+
+-- no command is told to publish
+unfoldable pub NobodyPublishes : List Move → Type 0
+NobodyPublishes [] = Unit {0}
+NobodyPublishes (move ∷ moves) = (IsPublication move → ⊥) × NobodyPublishes moves
+
+-- Under hold nothing is visible where no command was told to publish.
+abbrev pub HeldJobsWait : Type 0
+HeldJobsWait = (s : Setting) (bytes : ℕ → ℕ) (moves : List Move) → s.hold ≡ true → IsRun s (begun bytes) moves → NobodyPublishes moves
+    → (p : Place) → IsVisible p → seen (after s (begun bytes) moves).disk p ≡ None
+
+-- ---- readers
 
 -- What a reader finds of a task: one file, its winner's, with the bytes that it had when the marker was seen.
 pub record Reads (s : Setting) (w v : World) (n : ℕ) : Type 0 where

@@ -50,7 +50,7 @@ abbrev pub written : ℕ → ℕ → Disk → Disk
 written file bytes d = record d { bytes = λ f. if f == file then bytes else d.bytes f; is_whole = λ f. if f == file then false else d.is_whole f }
 
 unfoldable pub happens : Setting → World → Move → World
-happens s w (Starts order) = record w { running = Some (opening order s.job s.tasks s.limit) }
+happens s w (Starts order) = record w { running = Some (opening order s.job s.tasks s.limit s.hold) }
 happens s w (Answers answer) = answers w w.running answer
 happens s w Ends = ends_with w w.running
 happens s w Stops = record w { running = None }

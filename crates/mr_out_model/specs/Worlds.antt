@@ -1,5 +1,5 @@
 -- An output directory in use: its disk, the command that holds the lock, and what commands told. Our own.
-use Rattle.std.specs.Prelude.{◌≡◌, ◌⊎◌, ℕ, false, List, [], ◌∷◌, Option, Some, None, if◌then◌else◌}
+use Rattle.std.specs.Prelude.{◌≡◌, ◌⊎◌, ℕ, Bool, false, List, [], ◌∷◌, Option, Some, None, if◌then◌else◌}
 use Rattle.mr_ids.specs.Attempt.{Attempt}
 use Rattle.mr_ids.specs.Same.{same_attempt}
 use Rattle.mr_ids.specs.declared.id.JobId.{JobId}
@@ -19,11 +19,13 @@ use Rattle.mr_out_steps.specs.declared.order.Outcome.{Outcome}
 use Rattle.mr_out_steps.specs.declared.order.Outcome.TheVariants as outcome
 use Rattle.mr_out_steps.specs.Commands.{Command}
 
--- the job, how many tasks it has, how many failures of one end it, and which attempt writes a file, whoever it is
+-- the job, how many tasks it has, how many failures of one end it, whether it is published only once that is decided, and which attempt writes a file,
+-- whoever it is
 pub record Setting : Type 0 where
   pub job : JobId
   pub tasks : ℕ
   pub limit : Option ℕ
+  pub hold : Bool
   pub writer : ℕ → Attempt
 
 -- a command told of an attempt how it stands

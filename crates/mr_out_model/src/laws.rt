@@ -1,11 +1,17 @@
 //! Laws of an output directory: these functions do nothing.
 ghost use Rattle.mr_out_model.specs.Fronts.{SegmentsKeepFronts};
-ghost use Rattle.mr_out_model.specs.Promises.{DirectoryKeepsPromises, ReadersFindWinners};
+ghost use Rattle.mr_out_model.specs.Promises.{DirectoryKeepsPromises, HeldJobsWait, ReadersFindWinners};
 
 /// Whatever is visible is what the recorded winner of its task handed in. Where the marker is there, each task's part
-/// is, and none of them differs later. What a command told of an attempt holds from then on.
+/// is, and none of them differs later. What a command told of an attempt holds from then on. Under `hold` nothing is
+/// visible before it was decided to publish, durably.
 pub fn directory_keeps_promises()
     ensures { DirectoryKeepsPromises }
+{}
+
+/// Under `hold` nothing is visible as long as no command was told to publish.
+pub fn held_jobs_wait()
+    ensures { HeldJobsWait }
 {}
 
 /// A reader who saw the marker, and then lists and reads, at whatever moments, finds one file of each task: its winner's,

@@ -6,6 +6,8 @@
 //! A move is a command that is given the lock, an honest answer to its call, its end, its end by a kill behind any of
 //! its calls, what others do beneath the work folder with files that are not claimed, or a power cut.
 //!
+//! `held_jobs_wait`: of any such run under `hold` in which no command is told to publish: nothing is visible.
+//!
 //! `readers_find_winners`: a reader who saw the marker and then lists and reads, at whatever moments, finds one file of
 //! each task, its winner's, and its bytes stay.
 //!
@@ -15,4 +17,6 @@
 
 mod laws;
 
-pub use laws::{directory_keeps_promises, readers_find_winners, segments_keep_fronts};
+pub use laws::{
+    directory_keeps_promises, held_jobs_wait, readers_find_winners, segments_keep_fronts,
+};

@@ -4,7 +4,7 @@ use crate::attempts::{attempt, attempt_all, done, fail_all, fail_one, fail_task}
 use crate::beginning::begin;
 use crate::ending::settle;
 use crate::standing::{is_published, status};
-use mr_out_files::{Directory, Fault, GONE, HOME, Lock, Why, host_of};
+use mr_out_files::{Directory, Fault, GONE, HOME, Lock, Why, host_of, remove_folder, sync_folder};
 use mr_out_steps::{Order, Outcome};
 use std::{fs, io};
 
@@ -50,11 +50,11 @@ impl Answered {
 pub fn answer(rt: &HostRuntime, asked: &Asked<'_>) -> Answered {
     match carried(rt, asked) {
         Ok(answered) => answered,
-        Err(fault) => refused(rt, &fault),
+        Err(fault) => refused(rt, &fault.placed(rt)),
     }
 }
 
-// A fault as a line of standard error, with its status.
+// A fault as a line of standard error, with its status. Its path is absolute.
 fn refused(rt: &HostRuntime, fault: &Fault) -> Answered {
     let status = status_of(fault);
     match format!(in rt.alloc(); "mrout: {fault}\n") {
@@ -77,6 +77,7 @@ fn status_of(fault: &Fault) -> u8 {
         } => 4,
         Fault::Refused { path: _, why: _ } => 3,
         Fault::Busy => 75,
+        Fault::Full => 7,
     }
 }
 
@@ -86,14 +87,16 @@ fn carried(rt: &HostRuntime, asked: &Asked<'_>) -> Result<Answered, Fault> {
             tasks,
             limit,
             suffix,
+            hold,
             again,
-        } => begin(rt, asked, (tasks, limit, suffix), again),
+        } => begin(rt, asked, (tasks, limit, suffix, hold), again),
         Command::Attempt { task, over } => attempt(rt, &mut open(rt, asked)?, task, over),
         Command::AttemptAll => attempt_all(rt, &mut open(rt, asked)?),
         Command::Done { attempt } => done(rt, &mut open(rt, asked)?, attempt),
         Command::Fail(Failing::One(attempt)) => fail_one(rt, &mut open(rt, asked)?, attempt),
         Command::Fail(Failing::Task(task)) => fail_task(rt, &mut open(rt, asked)?, task),
         Command::Fail(Failing::All) => fail_all(rt, &mut open(rt, asked)?),
+        Command::Publish => publish(rt, &mut open(rt, asked)?),
         Command::Abort => abort(rt, &mut open(rt, asked)?),
         Command::Resume { here } => resume(rt, asked, here),
         Command::Forget => forget(rt, asked),
@@ -106,7 +109,7 @@ fn open(rt: &HostRuntime, asked: &Asked<'_>) -> Result<Directory, Fault> {
     let directory = open_any(rt, asked, false)?;
     let host = host_of(rt)?;
     if directory.job.host != host {
-        return Err(Fault::refused(rt.alloc(), asked.dir, Why::OtherHost));
+        return Err(Fault::refused(rt.alloc(), ".", Why::OtherHost));
     }
     Ok(directory)
 }
@@ -122,6 +125,22 @@ fn open_any(rt: &HostRuntime, asked: &Asked<'_>, is_shared: bool) -> Result<Dire
         wait: asked.wait.map(|seconds| seconds.saturating_mul(1000)),
     };
     Directory::open(rt, asked.dir, lock)
+}
+
+fn publish(rt: &HostRuntime, directory: &mut Directory) -> Result<Answered, Fault> {
+    match settle(rt, directory, Order::Publish)? {
+        Outcome::Finished => Ok(Answered::plain(rt, 0)),
+        Outcome::JobOver => unpublished(rt, "mrout: the job was ended as failed\n"),
+        _ => unpublished(rt, "mrout: not all are won\n"),
+    }
+}
+
+fn unpublished(rt: &HostRuntime, why: &str) -> Result<Answered, Fault> {
+    Ok(Answered {
+        output: String::new(rt.alloc()),
+        message: String::from_str(rt.alloc(), why)?,
+        status: 1,
+    })
 }
 
 fn abort(rt: &HostRuntime, directory: &mut Directory) -> Result<Answered, Fault> {
@@ -176,8 +195,10 @@ fn forget_published(rt: &HostRuntime, directory: &mut Directory) -> Result<Answe
     }
 }
 
+// Removes what was forgotten, once it is durable that it has its other name: else a power cut could bring back a part of it.
 fn remove_gone(rt: &HostRuntime) -> Result<Answered, Fault> {
-    match fs::remove_dir_all(rt, GONE) {
+    sync_folder(rt, ".")?;
+    match remove_folder(rt, GONE) {
         Ok(()) => Ok(Answered::plain(rt, 0)),
         Err(error) if error.kind() == io::ErrorKind::NotFound => Ok(Answered::plain(rt, 0)),
         Err(error) => Err(Fault::of_call(rt.alloc(), "remove", GONE, error)),

@@ -19,6 +19,8 @@ pub enum Command<'w> {
         tasks: u32,
         limit: Option<u32>,
         suffix: &'w str,
+        /// It is published only by the command to publish.
+        hold: bool,
         /// All is well where it is there, with a job of the same words.
         again: bool,
     },
@@ -36,6 +38,8 @@ pub enum Command<'w> {
     },
     /// Attempts have failed, or are given up.
     Fail(Failing<'w>),
+    /// A held job is published, if each task is won.
+    Publish,
     /// The job is ended as failed.
     Abort,
     /// What a killed command left is finished.

@@ -2,19 +2,21 @@
 use crate::answering::Answered;
 use crate::asked::Asked;
 use mr_ids::JobId;
-use mr_out_files::{Directory, Fault, Job, Lock, Why, begin as make, host_of, is_suffix, name_of};
+use mr_out_files::{
+    Directory, Fault, Job, Lock, Why, absolute, begin as make, host_of, is_suffix, name_of,
+};
 use std::random::RandomSource;
 use std::time::Clock;
 
-/// Makes an output directory for a job of these words: how many tasks, how many failures of one end it, and what ends
-/// the names of part files.
+/// Makes an output directory for a job of these words: how many tasks, how many failures of one end it, what ends the
+/// names of part files, and whether it is held.
 pub fn begin(
     rt: &HostRuntime,
     asked: &Asked<'_>,
-    words: (u32, Option<u32>, &str),
+    words: (u32, Option<u32>, &str, bool),
     again: bool,
 ) -> Result<Answered, Fault> {
-    let (tasks, limit, suffix) = words;
+    let (tasks, limit, suffix, hold) = words;
     if !is_suffix(suffix) {
         return Err(Fault::refused(rt.alloc(), suffix, Why::BadSuffix));
     }
@@ -23,6 +25,7 @@ pub fn begin(
         tasks,
         limit,
         suffix: String::from_str(rt.alloc(), suffix)?,
+        hold,
         host: host_of(rt)?,
     };
     match make(rt, asked.dir, &job) {
@@ -32,7 +35,7 @@ pub fn begin(
                 path,
                 why: Why::There,
             },
-        ) => there(rt, asked, &job, path, again),
+        ) => there(rt, asked, &job, absolute(rt, &path)?, again),
         Err(fault) => Err(fault),
     }
 }
@@ -41,11 +44,11 @@ pub fn begin(
 fn new_id(rt: &HostRuntime) -> Result<JobId, Fault> {
     let now = match rt.since_1970() {
         Ok(now) => now,
-        Err(error) => return Err(Fault::of_call(rt.alloc(), "read the clock", "begin", error)),
+        Err(error) => return Err(Fault::of_call(rt.alloc(), "read the clock", ".", error)),
     };
     let mut bytes = [0u8; 2];
     if let Err(error) = rt.fill_bytes(&mut bytes) {
-        return Err(Fault::of_call(rt.alloc(), "draw a number", "begin", error));
+        return Err(Fault::of_call(rt.alloc(), "draw a number", ".", error));
     }
     let drawn = u32::from(u16::from_be_bytes(bytes));
     Ok(JobId {
@@ -104,5 +107,5 @@ fn not_a_job(fault: Fault, path: String) -> Fault {
 }
 
 fn is_alike(a: &Job, b: &Job) -> bool {
-    a.tasks == b.tasks && a.limit == b.limit && a.suffix == b.suffix
+    a.tasks == b.tasks && a.limit == b.limit && a.suffix == b.suffix && a.hold == b.hold
 }

@@ -7,8 +7,9 @@ use mr_out_steps::{Order, Outcome};
 /// Makes the calls of a command until it has ended. What attempts wrote is removed once the job is published for good,
 /// which is once the marker is durable.
 pub fn carry_out(rt: &HostRuntime, directory: &mut Directory, order: Order) -> Outcome {
-    let (id, tasks, limit) = (directory.job.id, directory.job.tasks, directory.job.limit);
-    let mut command = Command::new(rt.alloc(), order, id, tasks, limit);
+    let (id, tasks) = (directory.job.id, directory.job.tasks);
+    let (limit, hold) = (directory.job.limit, directory.job.hold);
+    let mut command = Command::new(rt.alloc(), order, id, tasks, limit, hold);
     let mut is_marked = false;
     for _ in 0..u64::MAX {
         let Some(call) = command.call() else {

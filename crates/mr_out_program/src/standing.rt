@@ -3,8 +3,8 @@ use crate::answering::Answered;
 use mr_history::{Record, Records};
 use mr_ids::{AttemptId, TaskId, TaskKind};
 use mr_out_command::{first_alive, is_alive_at, is_over, winner, winners};
-use mr_out_disk::{Answer, Call};
-use mr_out_files::{Directory, Fault, MARKER, Why, kept_path, part_name};
+use mr_out_disk::{Answer, Call, Folder, Reply};
+use mr_out_files::{DECISION, Directory, Fault, MARKER, Why, kept_path, part_name};
 use std::fs;
 
 /// The records of the history, once they are durable.
@@ -13,7 +13,7 @@ pub fn read_records(rt: &HostRuntime, directory: &mut Directory) -> Result<Recor
         return Err(trouble(rt, directory));
     };
     match directory.perform(rt, Call::SyncHistory) {
-        Answer::Says(mr_out_disk::Reply::Done) => Ok(records),
+        Answer::Says(Reply::Done) => Ok(records),
         _ => Err(trouble(rt, directory)),
     }
 }
@@ -44,7 +44,11 @@ pub fn first_alive_of(directory: &Directory, records: &Records, task: u32) -> Op
 }
 
 fn has_marker(rt: &HostRuntime) -> bool {
-    match fs::symlink_metadata(rt, MARKER) {
+    has_file(rt, MARKER)
+}
+
+fn has_file(rt: &HostRuntime, path: &str) -> bool {
+    match fs::symlink_metadata(rt, path) {
         Ok(found) => found.is_file(),
         Err(_) => false,
     }
@@ -190,7 +194,7 @@ fn put_one(rt: &HostRuntime, text: &mut String, a: AttemptId, json: bool) -> Res
 fn put_whole(
     rt: &HostRuntime,
     out: &mut String,
-    directory: &Directory,
+    directory: &mut Directory,
     records: &Records,
     json: bool,
 ) -> Result<(), Fault> {
@@ -199,15 +203,43 @@ fn put_whole(
     let marker = has_marker(rt);
     let outcome = outcome_word(is_over(records.as_slice()), all.is_some() && marker);
     let line = if json {
+        let (hold, publish) = (directory.job.hold, is_decided(rt, directory)?);
         format!(in rt.alloc();
-            "{{\"job\":\"{id}\",\"marker\":{marker},\"outcome\":\"{outcome}\"}}\n"
+            "{{\"job\":\"{id}\",\"hold\":{hold},\"publish\":{publish},\"marker\":{marker},\"outcome\":\"{outcome}\"}}\n"
         )?
     } else {
-        let marker = if marker { "yes" } else { "no" };
+        let is_decided = is_decided(rt, directory)?;
+        put_hold(out, directory.job.hold, is_decided)?;
+        let marker = yes_or_no(marker);
         format!(in rt.alloc(); "marker {marker}\noutcome {outcome}\n")?
     };
     out.push_str(line.as_str())?;
     Ok(())
+}
+
+// Whether it was decided to publish, durably.
+fn is_decided(rt: &HostRuntime, directory: &mut Directory) -> Result<bool, Fault> {
+    if !has_file(rt, DECISION) {
+        return Ok(false);
+    }
+    match directory.perform(rt, Call::SyncFolder(Folder::Home)) {
+        Answer::Says(Reply::Done) => Ok(true),
+        _ => Err(trouble(rt, directory)),
+    }
+}
+
+// Of a job that is held, whether it was decided to publish it.
+fn put_hold(out: &mut String, hold: bool, is_decided: bool) -> Result<(), Fault> {
+    if hold {
+        out.push_str("publish ")?;
+        out.push_str(yes_or_no(is_decided))?;
+        out.push('\n')?;
+    }
+    Ok(())
+}
+
+fn yes_or_no(is_so: bool) -> &'static str {
+    if is_so { "yes" } else { "no" }
 }
 
 fn outcome_word(over: bool, published: bool) -> &'static str {

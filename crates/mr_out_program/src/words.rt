@@ -13,6 +13,8 @@ const DONE: &str = "The attempt has written and closed its file: prints `won`, o
 
 const FAIL: &str = "The attempt failed, or is given up";
 
+const PUBLISH: &str = "Publishes what `begin --hold` holds back, if each task is won";
+
 const ABORT: &str = "Ends the job as failed";
 
 const RESUME: &str = "Finishes what a killed command left";
@@ -22,7 +24,7 @@ const FORGET: &str = "Removes what mrout keeps in a published DIR";
 const STATUS: &str = "Tells how the job stands; changes nothing";
 
 const NAMES: &[&str] = &[
-    "begin", "attempt", "done", "fail", "abort", "resume", "forget", "status",
+    "begin", "attempt", "done", "fail", "publish", "abort", "resume", "forget", "status",
 ];
 
 const OF_TASK: &[&str] = &["task"];
@@ -41,6 +43,7 @@ fn about<'a>(name: &str) -> &'a str {
         "attempt" => ATTEMPT,
         "done" => DONE,
         "fail" => FAIL,
+        "publish" => PUBLISH,
         "abort" => ABORT,
         "resume" => RESUME,
         "forget" => FORGET,
@@ -102,12 +105,21 @@ fn put_begin(alloc: Global, args: &mut Vec<Arg<'_>>) -> Result<(), AllocError> {
         "suffix",
         "What ends the name of each part file, as .csv.gz",
     ))?;
+    args.push(hold_word(alloc))?;
     args.push(flag(
         alloc,
         "again",
         "All is well where DIR is a job of the same words",
     ))?;
     Ok(())
+}
+
+fn hold_word<'a>(alloc: Global) -> Arg<'a> {
+    flag(
+        alloc,
+        "hold",
+        "The job is published by `mrout publish` alone",
+    )
 }
 
 fn put_attempt(alloc: Global, args: &mut Vec<Arg<'_>>) -> Result<(), AllocError> {
@@ -221,6 +233,7 @@ fn command_of<'a>(name: &str, words: &ArgMatches<'a>) -> Option<Command<'a>> {
             attempt: words.get_str("ATTEMPT").unwrap_or(""),
         }),
         "fail" => Some(Command::Fail(failing_of(words))),
+        "publish" => Some(Command::Publish),
         "abort" => Some(Command::Abort),
         "resume" => Some(Command::Resume {
             here: words.get_flag("here"),
@@ -238,6 +251,7 @@ fn begin_of<'a>(words: &ArgMatches<'a>) -> Command<'a> {
         tasks: words.get_one::<u32>("tasks").unwrap_or(1),
         limit: words.get_one::<u32>("limit"),
         suffix: words.get_str("suffix").unwrap_or(""),
+        hold: words.get_flag("hold"),
         again: words.get_flag("again"),
     }
 }

@@ -1,5 +1,6 @@
 -- What a command does of the answer to its call. That a log is synced before anything follows from it is what write-ahead logging asks; that the
--- marker is made behind all files, and is made durable behind them, is the committer document's order of a job's commit. The rest is our own.
+-- marker is made behind all files, and is made durable behind them, is the committer document's order of a job's commit. That a decision comes before
+-- anything is visible is Hadoop's COMMIT_STARTED; here a held job alone has one. The rest is our own.
 use Rattle.std.specs.Prelude.{◌≡◌, ◌⊎◌, ℕ, ◌==◌, nat_lt, Bool, true, false, not, ◌||◌, ◌&&◌, count_by, is_some, List, [], ◌∷◌, ◌++◌, Option, Some, None, if◌then◌else◌}
 use Rattle.mr_ids.specs.Attempt.{Attempt}
 use Rattle.mr_history.specs.declared.record.Record.{Record}
@@ -15,9 +16,9 @@ use Rattle.mr_out_steps.specs.declared.order.Order.TheVariants as order
 use Rattle.mr_out_steps.specs.declared.order.Outcome.{Outcome}
 use Rattle.mr_out_steps.specs.declared.order.Outcome.TheVariants as outcome
 use Rattle.mr_out_steps.specs.declared.phase.Phase.{Phase}
-use Rattle.mr_out_steps.specs.declared.phase.Phase.TheVariants.{Reading, SyncingEnd, FindingClaim, FindingWork, Claiming, SyncingFile, SyncingClaim, Appending, Committing, DroppingClaim, DroppingWork, Listing, FindingKept, Linking, Comparing, SyncingParts, Marking, SyncingMarker, Emptying, MakingFolder, Over}
+use Rattle.mr_out_steps.specs.declared.phase.Phase.TheVariants.{Reading, SyncingEnd, FindingClaim, FindingWork, Claiming, SyncingFile, SyncingClaim, Appending, Committing, DroppingClaim, DroppingWork, FindingDecision, Deciding, SyncingDecision, Listing, FindingKept, Linking, Comparing, SyncingParts, Marking, SyncingMarker, Emptying, MakingFolder, Over}
 use Rattle.mr_out_steps.specs.declared.phase.Turn.{Turn}
-use Rattle.mr_out_steps.specs.declared.phase.Turn.TheVariants.{Goes, Begins, Notes, LinksNext, EmptiesNext}
+use Rattle.mr_out_steps.specs.declared.phase.Turn.TheVariants.{Goes, Begins, Notes, Holds, LinksNext, EmptiesNext}
 use Rattle.mr_out_steps.specs.Standing.{task_of, standing, winners, is_over, is_alive_at, next_attempt, first_alive, has_winner, first_idle, has_failed_out}
 use Rattle.mr_out_steps.specs.Commands.{Command}
 
@@ -67,6 +68,12 @@ claim_synced a Grew = Goes (Over outcome.StillWritten)
 claim_synced a Failed = Goes (Appending (AttemptFailed a))
 claim_synced a _ = fails
 
+-- was it decided to publish the held job? A decision that is found is made durable before anything follows from it
+abbrev pub decision_looked : Reply → Turn
+decision_looked (Found file) = Goes SyncingDecision
+decision_looked Missing = Holds
+decision_looked _ = fails
+
 -- is this winner's file kept?
 abbrev pub kept_looked : Attempt → Reply → Turn
 kept_looked a (Found file) = Goes (Linking a file)
@@ -102,6 +109,9 @@ turn (Appending r) reply = if_done (Goes (Committing r)) (Goes (Over outcome.Not
 turn (Committing r) reply = if_done (Notes r) (Goes (Over outcome.NotKnown)) reply
 turn (DroppingClaim a) reply = if_gone (Goes (DroppingWork a)) reply
 turn (DroppingWork a) reply = if_gone Begins reply
+turn FindingDecision reply = decision_looked reply
+turn Deciding reply = if_there (Goes SyncingDecision) reply
+turn SyncingDecision reply = if_done (Goes Listing) fails reply
 turn Listing reply = fails
 turn (FindingKept a) reply = kept_looked a reply
 turn (Linking a file) reply = linked a file reply
@@ -125,6 +135,7 @@ answer_to (order.Fail a) c = outcome.Stands (standing c.job c.tasks c.records a)
 answer_to (order.Ask a) c = outcome.Stands (standing c.job c.tasks c.records a)
 answer_to order.Resume c = outcome.Finished
 answer_to order.Abort c = if is_over c.records then outcome.Finished else outcome.AllWon
+answer_to order.Publish c = if is_over c.records then outcome.JobOver else outcome.Finished
 answer_to order.StartNext c = if is_over c.records then outcome.JobOver else outcome.AllWon
 answer_to (order.StartAt n) c = if is_over c.records then outcome.JobOver else outcome.AllWon
 answer_to (order.StartOver n) c = if is_over c.records then outcome.JobOver else outcome.AllWon
@@ -132,10 +143,28 @@ answer_to (order.StartOver n) c = if is_over c.records then outcome.JobOver else
 abbrev pub ends : Command → Command
 ends c = goes (Over (answer_to c.order c)) c
 
+-- where some task has no winner, there is nothing to publish
+abbrev pub answer_early : Order → Command → Outcome
+answer_early order.Publish c = outcome.NotAllWon
+answer_early o c = answer_to o c
+
+-- a held job is published once that is decided, which an order to publish does
+abbrev pub decides : Order → Phase
+decides order.Publish = Deciding
+decides o = FindingDecision
+
+abbrev pub releases : Bool → Order → Phase
+releases hold o = if hold then decides o else Listing
+
 -- where every task has a winner, their files are to be linked
 abbrev pub lists : Option (List Attempt) → Command → Command
-lists None c = ends c
-lists (Some ws) c = record c { left = ws; phase = Listing }
+lists None c = goes (Over (answer_early c.order c)) c
+lists (Some ws) c = record c { left = ws; phase = releases c.hold c.order }
+
+-- under hold, publishing was not decided: the job may still be ended as failed, and nothing is published
+abbrev pub holds : Order → Command → Command
+holds order.Abort c = goes (Appending JobUnsuccessful) c
+holds o c = ends c
 
 -- a job that is over is not published
 unfoldable pub publishes : Command → Command
@@ -186,6 +215,7 @@ own_work (order.Fail a) c = if is_under_way (standing c.job c.tasks c.records a)
 own_work (order.Ask a) c = Some (Over (answer_to (order.Ask a) c))
 own_work order.Resume c = None
 own_work order.Abort c = if is_settled c then None else Some (Appending JobUnsuccessful)
+own_work order.Publish c = None
 own_work order.StartNext c = if is_over c.records then None else starts_first (first_idle c.job c.records c.tasks) c
 own_work (order.StartAt n) c = starts_beside n c
 own_work (order.StartOver n) c = starts_over n c
@@ -226,6 +256,7 @@ abbrev pub acts : Turn → Command → Command
 acts (Goes phase) c = goes phase c
 acts Begins c = begins c
 acts (Notes r) c = follows r (noted r c)
+acts Holds c = holds c.order c
 acts LinksNext c = links c.left c
 acts EmptiesNext c = empties c.kept c
 

@@ -15,6 +15,8 @@ pub enum Order {
     Resume,
     /// The job is ended as failed, unless it is published or will be.
     Abort,
+    /// A held job is published, if all of its tasks are won.
+    Publish,
     /// An attempt is begun, at the first task that has no winner and none under way.
     StartNext,
     /// An attempt is begun at the task with this number, beside one that is under way at most.
@@ -37,8 +39,10 @@ pub enum Outcome {
     Started(AttemptId),
     /// No attempt was begun: enough are under way wherever there is no winner.
     Busy,
-    /// No attempt was begun, since the job was ended as failed.
+    /// No attempt was begun, or nothing is published, since the job was ended as failed.
     JobOver,
+    /// Nothing is published, since some task has no winner.
+    NotAllWon,
     /// No attempt was begun, since the task or the job has as many as it may have.
     Full,
     /// The attempt has no file: none where it writes it, and none that was handed in. Nothing changed.

@@ -1,7 +1,7 @@
 //! Where a command is: which call it makes next, and what follows from a word.
 ghost use Rattle.std.specs.Prelude.{◌≡◌, Option};
 ghost use Rattle.mr_out_steps.specs.Commands.{call_in, outcome_in};
-ghost use Rattle.mr_out_steps.specs.Steps.{turn, is_reading, is_listing, if_done, if_gone, if_there, claim_looked, work_looked, claimed, claim_synced, kept_looked, linked, part_looked, compared};
+ghost use Rattle.mr_out_steps.specs.Steps.{turn, is_reading, is_listing, if_done, if_gone, if_there, claim_looked, work_looked, claimed, claim_synced, decision_looked, kept_looked, linked, part_looked, compared};
 
 use crate::order::Outcome;
 use mr_history::Record;
@@ -33,7 +33,13 @@ pub enum Phase {
     DroppingClaim(AttemptId),
     /// The file that a failed attempt wrote is removed.
     DroppingWork(AttemptId),
-    /// Every task has a winner. Is anything kept?
+    /// Every task of a held job has a winner. Was it decided to publish it?
+    FindingDecision,
+    /// It is decided to publish a held job.
+    Deciding,
+    /// The decision is made durable, before anything is visible.
+    SyncingDecision,
+    /// Every task has a winner, and the job is published. Is anything kept?
     Listing,
     /// Is this winner's file kept?
     FindingKept(AttemptId),
@@ -64,6 +70,8 @@ pub enum Turn {
     Begins,
     /// It notes a record that is durable now.
     Notes(Record),
+    /// It leaves a held job unpublished, of which that was not decided.
+    Holds,
     /// It links the next winner's file.
     LinksNext,
     /// It removes the next kept file.
@@ -86,6 +94,9 @@ impl Phase {
             Phase::Appending(told) => Some(Call::AppendHistory(told)),
             Phase::DroppingClaim(a) | Phase::Emptying(a) => Some(Call::Remove(Place::Kept(a))),
             Phase::DroppingWork(a) => Some(Call::Remove(Place::Work(a))),
+            Phase::FindingDecision => Some(Call::Look(Place::Decision)),
+            Phase::Deciding => Some(Call::Create(Place::Decision)),
+            Phase::SyncingDecision => Some(Call::SyncFolder(Folder::Home)),
             Phase::Listing => Some(Call::ListKept),
             Phase::Linking(a, _) => Some(publication(a)),
             Phase::Comparing(a, _) => Some(Call::Look(Place::Part(a.task().number))),
@@ -145,6 +156,9 @@ impl Phase {
             Phase::Committing(told) => if_done(Turn::Notes(told), NOT_KNOWN, reply),
             Phase::DroppingClaim(a) => if_gone(Turn::Goes(Phase::DroppingWork(a)), reply),
             Phase::DroppingWork(_) => if_gone(Turn::Begins, reply),
+            Phase::FindingDecision => decision_looked(reply),
+            Phase::Deciding => if_there(Turn::Goes(Phase::SyncingDecision), reply),
+            Phase::SyncingDecision => if_done(Turn::Goes(Phase::Listing), FAILS, reply),
             Phase::FindingKept(a) => kept_looked(a, reply),
             Phase::Linking(a, file) => linked(a, file, reply),
             Phase::Comparing(a, file) => part_looked(a, file, reply),
@@ -263,6 +277,17 @@ fn claim_synced(a: AttemptId, reply: Reply) -> Turn
         Reply::Done => Turn::Goes(Phase::SyncingClaim(a)),
         Reply::Grew => Turn::Goes(Phase::Over(Outcome::StillWritten)),
         Reply::Failed => Turn::Goes(Phase::Appending(Record::AttemptFailed { attempt: a })),
+        _ => FAILS,
+    }
+}
+
+// A decision that was found may be a killed command's: it is made durable before anything follows from it.
+fn decision_looked(reply: Reply) -> Turn
+    ensures { result ≡ decision_looked reply }
+{
+    match reply {
+        Reply::Found(_) => Turn::Goes(Phase::SyncingDecision),
+        Reply::Missing => Turn::Holds,
         _ => FAILS,
     }
 }

@@ -28,6 +28,7 @@ fn folder_of(place: &Place) -> Folder {
         Place::Part(_) | Place::Marker => Folder::Output,
         Place::Kept(_) => Folder::Kept,
         Place::Work(_) => Folder::Work,
+        Place::Decision => Folder::Home,
     }
 }
 

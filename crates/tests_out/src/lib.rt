@@ -17,6 +17,8 @@ mod confirm;
 #[cfg(test)]
 mod disk;
 #[cfg(test)]
+mod held;
+#[cfg(test)]
 mod run;
 #[cfg(test)]
 mod stops;

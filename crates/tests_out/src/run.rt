@@ -58,6 +58,10 @@ pub struct Run {
     stops: u32,
     /// How many failures of one task end the job.
     limit: Option<u32>,
+    /// Whether it is published only once that is decided.
+    hold: bool,
+    /// Whether a command was told to publish.
+    is_released: bool,
 }
 
 impl Run {
@@ -79,7 +83,14 @@ impl Run {
             told: Vec::new(alloc),
             stops: 0,
             limit: None,
+            hold: false,
+            is_released: false,
         }
+    }
+
+    /// From now on the job is held.
+    pub fn hold(&mut self) {
+        self.hold = true;
     }
 
     /// A job of two tasks that was just begun, which so many failures of one task end.
@@ -90,6 +101,8 @@ impl Run {
             told: Vec::new(alloc),
             stops: 0,
             limit,
+            hold: false,
+            is_released: false,
         }
     }
 
@@ -134,7 +147,8 @@ impl Run {
 
     // The calls of a command, until it has ended or is stopped.
     fn drive(&mut self, rt: &impl Abort, order: &Order, choices: &mut Choices) -> End {
-        let mut command = Command::new(self.alloc, *order, JOB, TASKS, self.limit);
+        self.is_released = self.is_released || *order == Order::Publish;
+        let mut command = Command::new(self.alloc, *order, JOB, TASKS, self.limit, self.hold);
         for _ in 0..100 {
             let Some(call) = command.call() else {
                 return End::Told(command.outcome().expect(rt, "no outcome"));
@@ -197,13 +211,19 @@ impl Run {
         self.judge(rt);
     }
 
+    /// Whether the success marker is there.
+    pub fn is_marked(&self) -> bool {
+        self.disk.seen(&Place::Marker).is_some()
+    }
+
     /// The end: nothing is left to do, and what was told is still so.
     pub fn end(&mut self, rt: &impl Abort, choices: &mut Choices) {
         self.stops = 0;
         self.say(rt, &Order::Resume, choices);
         let won = winner(self.disk.synced(), &task(0)).is_some()
             && winner(self.disk.synced(), &task(1)).is_some();
-        confirm!(rt; self.disk.seen(&Place::Marker).is_some() == won);
+        let due = won && (!self.hold || self.disk.seen(&Place::Decision).is_some());
+        confirm!(rt; self.disk.seen(&Place::Marker).is_some() == due);
     }
 
     // What a reader may see, and what was told.
@@ -211,10 +231,18 @@ impl Run {
         let first = self.part(rt, 0);
         let second = self.part(rt, 1);
         confirm!(rt; self.disk.seen(&Place::Marker).is_none() || (first && second));
+        self.judge_held(rt, first || second);
         for told in &self.told {
             let (a, standing) = *told;
             self.judge_told(rt, &a, standing);
         }
+    }
+
+    // Under hold, whatever is visible comes behind the decision, which comes behind a command that was told to publish.
+    fn judge_held(&self, rt: &impl Abort, is_any_visible: bool) {
+        let is_decided = self.disk.seen(&Place::Decision).is_some();
+        confirm!(rt; !is_decided || self.is_released);
+        confirm!(rt; !self.hold || !is_any_visible || is_decided);
     }
 
     fn judge_told(&self, rt: &impl Abort, a: &AttemptId, standing: Standing) {

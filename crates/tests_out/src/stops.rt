@@ -10,20 +10,45 @@ use std::process::Abort;
 fn all(rt: &impl Abort, alloc: Global, first: &[Order], orders: &[Order], stops: u32) {
     let mut choices = Choices::new(alloc);
     for _ in 0..10_000_000 {
-        let mut run = Run::new(rt, alloc);
-        for order in first {
-            run.say(rt, order, &mut choices);
-        }
-        run.allow(stops);
-        for order in orders {
-            run.say(rt, order, &mut choices);
-        }
-        run.end(rt, &mut choices);
+        let run = Run::new(rt, alloc);
+        one(rt, run, &mut choices, (first, orders), stops);
         if !choices.advance(rt) {
             return;
         }
     }
     panic!(rt; "too many runs")
+}
+
+// The same of a job that is held.
+fn all_held(rt: &impl Abort, alloc: Global, first: &[Order], orders: &[Order], stops: u32) {
+    let mut choices = Choices::new(alloc);
+    for _ in 0..10_000_000 {
+        let mut run = Run::new(rt, alloc);
+        run.hold();
+        one(rt, run, &mut choices, (first, orders), stops);
+        if !choices.advance(rt) {
+            return;
+        }
+    }
+    panic!(rt; "too many runs")
+}
+
+fn one(
+    rt: &impl Abort,
+    mut run: Run,
+    choices: &mut Choices,
+    orders: (&[Order], &[Order]),
+    stops: u32,
+) {
+    let (first, orders) = orders;
+    for order in first {
+        run.say(rt, order, choices);
+    }
+    run.allow(stops);
+    for order in orders {
+        run.say(rt, order, choices);
+    }
+    run.end(rt, choices);
 }
 
 #[test]
@@ -83,4 +108,38 @@ fn one_is_begun_over(rt: HostRuntime) {
         Order::Done(attempt(rt, 0, 1)),
     ];
     all(rt, rt.alloc(), &[], &orders, 1);
+}
+
+#[test]
+fn a_held_job_is_published(rt: HostRuntime) {
+    let rt = &rt;
+    let first = [Order::Done(attempt(rt, 0, 0))];
+    let orders = [
+        Order::Publish,
+        Order::Done(attempt(rt, 0, 1)),
+        Order::Publish,
+    ];
+    all_held(rt, rt.alloc(), &first, &orders, 1);
+}
+
+#[test]
+fn a_held_job_is_ended(rt: HostRuntime) {
+    let rt = &rt;
+    let first = [
+        Order::Done(attempt(rt, 0, 0)),
+        Order::Done(attempt(rt, 0, 1)),
+    ];
+    let orders = [Order::Abort, Order::Publish, Order::Resume];
+    all_held(rt, rt.alloc(), &first, &orders, 1);
+}
+
+#[test]
+fn a_held_job_is_ended_too_late(rt: HostRuntime) {
+    let rt = &rt;
+    let first = [
+        Order::Done(attempt(rt, 0, 0)),
+        Order::Done(attempt(rt, 0, 1)),
+    ];
+    let orders = [Order::Publish, Order::Abort, Order::Resume];
+    all_held(rt, rt.alloc(), &first, &orders, 1);
 }

@@ -1,0 +1,259 @@
+//! The history of an output directory on the disk: its segments, and whether its end is durable.
+use crate::ahead::{Ahead, read_ahead, read_behind};
+use crate::beginning::write_synced;
+use crate::calls::{look, look_file, open, read, stat, sync, sync_folder};
+use crate::fault::{Fault, Why};
+use crate::flushed::{Noted, boot_of, note_of, note_of_failure, read_note, write_note};
+use crate::layout::{HOME, segment_path};
+use crate::segments::{Damage, Told, tell_behind};
+use mr_history::{Record, Records, whole_line};
+use std::alloc::Global;
+use std::fs;
+use std::fs::{File, Metadata, OpenOptions};
+use std::io::Write;
+
+/// Most segments of a history.
+const MAX_SEGMENTS: u32 = 1000;
+
+// A segment that is written anew, before it has its name.
+const NEW_SEGMENT: &str = "_mrout/history.new";
+
+/// The segments of an output directory whose lock is held.
+#[derive(Drop)]
+pub(crate) struct History {
+    alloc: Global,
+    // Whether it may be written.
+    is_writer: bool,
+    // The number of this boot of the machine, where the system tells one.
+    boot: Option<String>,
+    // What was read before the lock was held.
+    ahead: Vec<Ahead>,
+    // The newest segment: its number from 1, whether its end is torn, and the file once a record was appended.
+    newest: u32,
+    is_torn: bool,
+    file: Option<File>,
+    // Whether all of it is durable.
+    is_flushed: bool,
+}
+
+impl History {
+    /// The history of the directory in which the process stands, read ahead. The lock need not be held yet.
+    pub(crate) fn new(rt: &HostRuntime, is_writer: bool) -> Result<History, Fault> {
+        Ok(History {
+            alloc: rt.alloc(),
+            is_writer,
+            boot: boot_of(rt)?,
+            ahead: read_ahead(rt, MAX_SEGMENTS)?,
+            newest: 1,
+            is_torn: false,
+            file: None,
+            is_flushed: false,
+        })
+    }
+
+    /// Whether this is the number of this boot. Where the system tells none, any is.
+    pub(crate) fn is_boot(&self, told: &[u8]) -> bool {
+        match &self.boot {
+            Some(boot) => boot.as_bytes() == told,
+            None => true,
+        }
+    }
+
+    /// The number of this boot, or nothing where the system tells none.
+    pub(crate) fn boot(&self) -> &str {
+        match &self.boot {
+            Some(boot) => boot.as_str(),
+            None => "",
+        }
+    }
+
+    /// The records of all segments.
+    pub(crate) fn read(&mut self, rt: &HostRuntime) -> Result<Records, Fault> {
+        let mut records = Records::new(self.alloc);
+        for number in 1..=MAX_SEGMENTS {
+            if !self.read_segment(rt, number, &mut records)? {
+                break;
+            }
+        }
+        self.is_flushed = self.is_flushed || self.is_covered(rt)?;
+        Ok(records)
+    }
+
+    // Reads a segment, if it is there. The first one is.
+    fn read_segment(
+        &mut self,
+        rt: &HostRuntime,
+        number: u32,
+        records: &mut Records,
+    ) -> Result<bool, Fault> {
+        let path = segment_path(self.alloc, number)?;
+        let Some(found) = look_file(rt, &path)? else {
+            if number == 1 {
+                return Err(Fault::refused(self.alloc, &path, Why::NoFile));
+            }
+            return Ok(false);
+        };
+        let told = self.told_by(rt, number, &path, &found, records)?;
+        records.extend(told.records.as_slice())?;
+        self.newest = number;
+        self.is_torn = told.is_torn;
+        Ok(true)
+    }
+
+    // What a segment tells, behind the records that were read ahead, which are added.
+    fn told_by(
+        &self,
+        rt: &HostRuntime,
+        number: u32,
+        path: &str,
+        found: &Metadata,
+        records: &mut Records,
+    ) -> Result<Told, Fault> {
+        let (bytes, lines) = match self.ahead.get(number.saturating_sub(1) as usize) {
+            Some(ahead) if ahead.is_of(found) => {
+                records.extend(ahead.records.as_slice())?;
+                let bytes = read_behind(rt, path, ahead.len, found.len())?;
+                (bytes, ahead.records.len())
+            }
+            _ => (read(rt, path)?, 0),
+        };
+        match tell_behind(self.alloc, &bytes, lines) {
+            Ok(told) => Ok(told),
+            Err(Damage::Line(line)) => Err(Fault::refused(self.alloc, path, Why::Damaged(line))),
+            Err(Damage::NoMemory) => Err(Fault::NoMemory),
+        }
+    }
+
+    // Whether the note tells that the end that was found is durable. In one boot that end is not behind the note's.
+    fn is_covered(&self, rt: &HostRuntime) -> Result<bool, Fault> {
+        let path = segment_path(self.alloc, self.newest)?;
+        let (Some(boot), Some(end)) = (&self.boot, look(rt, &path)?) else {
+            return Ok(false);
+        };
+        match read_note(rt, &note_of(self.alloc, boot, &end)?)? {
+            Noted::Durable => Ok(true),
+            Noted::Longer => Err(Fault::refused(self.alloc, &path, Why::Shorter)),
+            Noted::Nothing => Ok(false),
+        }
+    }
+
+    /// Appends the line of a record.
+    pub(crate) fn append(&mut self, rt: &HostRuntime, told: &Record) -> Result<(), Fault> {
+        let line = whole_line(self.alloc, told)?;
+        let mut file = match self.file.take() {
+            Some(file) => file,
+            None => self.open_end(rt)?,
+        };
+        self.is_flushed = false;
+        let written = file.write_all(line.as_bytes());
+        self.file = Some(file);
+        match written {
+            Ok(()) => Ok(()),
+            Err(error) => Err(Fault::of_call(self.alloc, "append", HOME, error)),
+        }
+    }
+
+    // Opens the segment to which records are appended: the newest one, or the next where the end of that is torn. The
+    // name of the next one is durable before anything is in it.
+    fn open_end(&mut self, rt: &HostRuntime) -> Result<File, Fault> {
+        if !self.is_torn {
+            let path = segment_path(self.alloc, self.newest)?;
+            return append_to(rt, &path);
+        }
+        if self.newest >= MAX_SEGMENTS {
+            return Err(Fault::Full);
+        }
+        let number = self.newest.saturating_add(1);
+        let path = segment_path(self.alloc, number)?;
+        let file = append_to(rt, &path)?;
+        sync_folder(rt, HOME)?;
+        self.newest = number;
+        self.is_torn = false;
+        Ok(file)
+    }
+
+    /// Makes all of it durable, if it is not known to be.
+    pub(crate) fn sync(&mut self, rt: &HostRuntime) -> Result<(), Fault> {
+        if self.is_flushed {
+            return Ok(());
+        }
+        match self.flush(rt) {
+            Ok(end) => {
+                self.is_flushed = true;
+                self.note(rt, &end)
+            }
+            Err(fault) => {
+                self.note_failure(rt, &fault);
+                Err(fault)
+            }
+        }
+    }
+
+    // What was appended is synced. An end that was found, and that no note tells, may be one of which a sync failed; of
+    // such a one the next sync may answer that all is well, and not mean it. So it is written anew.
+    fn flush(&self, rt: &HostRuntime) -> Result<Metadata, Fault> {
+        let path = segment_path(self.alloc, self.newest)?;
+        if let Some(file) = &self.file {
+            sync(rt, file, &path)?;
+            return stat(rt, file, &path);
+        }
+        if self.is_writer && self.boot.is_some() {
+            return self.renew(rt, &path);
+        }
+        self.sync_found(rt, &path)
+    }
+
+    // The bytes of the newest segment are written into another file, which is given its name once it is durable.
+    fn renew(&self, rt: &HostRuntime, path: &str) -> Result<Metadata, Fault> {
+        let bytes = read(rt, path)?;
+        let _ = fs::remove_file(rt, NEW_SEGMENT);
+        if let Err(error) = write_synced(rt, NEW_SEGMENT, &bytes) {
+            return Err(Fault::of_call(self.alloc, "write anew", path, error));
+        }
+        match fs::rename(rt, NEW_SEGMENT, path) {
+            Ok(()) => sync_folder(rt, HOME)?,
+            Err(error) => return Err(Fault::of_call(self.alloc, "rename", path, error)),
+        }
+        let file = open(rt, path)?;
+        stat(rt, &file, path)
+    }
+
+    // One who only reads syncs the end that is found; and, where that is not in the first segment, the folder in which a
+    // killed command may have made it.
+    fn sync_found(&self, rt: &HostRuntime, path: &str) -> Result<Metadata, Fault> {
+        if read_note(rt, &note_of_failure(self.alloc, self.boot())?)? == Noted::Durable {
+            return Err(Fault::refused(self.alloc, path, Why::NotSynced));
+        }
+        let file = open(rt, path)?;
+        sync(rt, &file, path)?;
+        if self.newest > 1 {
+            sync_folder(rt, HOME)?;
+        }
+        stat(rt, &file, path)
+    }
+
+    // The end is durable. Where that can't be noted, the next command writes it anew.
+    fn note(&self, rt: &HostRuntime, end: &Metadata) -> Result<(), Fault> {
+        if let (true, Some(boot)) = (self.is_writer, &self.boot) {
+            let _ = write_note(rt, HOME, &note_of(self.alloc, boot, end)?);
+        }
+        Ok(())
+    }
+
+    // Where a sync failed, one who only reads may not tell what stands there.
+    fn note_failure(&self, rt: &HostRuntime, fault: &Fault) {
+        if !self.is_writer || !fault.is_of("sync") {
+            return;
+        }
+        if let Ok(note) = note_of_failure(self.alloc, self.boot()) {
+            let _ = write_note(rt, HOME, &note);
+        }
+    }
+}
+
+fn append_to(rt: &HostRuntime, path: &str) -> Result<File, Fault> {
+    match OpenOptions::new().append(true).create(true).open(rt, path) {
+        Ok(file) => Ok(file),
+        Err(error) => Err(Fault::of_call(rt.alloc(), "open", path, error)),
+    }
+}
