@@ -13,11 +13,13 @@ use Rattle.mr_out_check.specs.declared.class.Class.TheVariants.{Marker, MarkerWi
 
 -- ---- part files
 
--- a number of five digits, or of six with no zero in front
+-- a number of five digits, or of six or seven with no zero in front
 abbrev pub number_in : List ℕ → Option ℕ
 number_in (a ∷ b ∷ c ∷ d ∷ e ∷ []) = Some (((((a - 48) * 10 + (b - 48)) * 10 + (c - 48)) * 10 + (d - 48)) * 10 + (e - 48))
 number_in (f ∷ a ∷ b ∷ c ∷ d ∷ e ∷ []) =
     if f == 48 then None else Some ((((((f - 48) * 10 + (a - 48)) * 10 + (b - 48)) * 10 + (c - 48)) * 10 + (d - 48)) * 10 + (e - 48))
+number_in (g ∷ f ∷ a ∷ b ∷ c ∷ d ∷ e ∷ []) =
+    if g == 48 then None else Some (((((((g - 48) * 10 + (f - 48)) * 10 + (a - 48)) * 10 + (b - 48)) * 10 + (c - 48)) * 10 + (d - 48)) * 10 + (e - 48))
 number_in _ = None
 
 abbrev pub digits_number : List ℕ → Option ℕ

@@ -44,7 +44,8 @@ fn note_value(alloc: Global, note: &Note) -> Result<Value, AllocError>
     Ok(into_value(object))
 }
 
-fn note_values(alloc: Global, notes: &[Note]) -> Result<Vec<Value>, AllocError>
+/// What came, an object of JSON for each class. It fails where there is no memory.
+pub fn note_values(alloc: Global, notes: &[Note]) -> Result<Vec<Value>, AllocError>
     ensures { IfOk result (λ all. map view all.items ≡ map note_object (map as_noted notes.now)) }
 {
     let mut values = Vec::new(alloc);

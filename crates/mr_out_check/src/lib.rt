@@ -32,13 +32,14 @@ mod words;
 
 pub use class::Class;
 pub use classes::class_of;
-pub use json::put_json;
+pub use json::{note_values, put_json};
 pub use laws::{yes_means_marked, yes_means_met};
 pub use part::part_of;
 pub use premise::{PREMISES, Premise, Standing};
 pub use reading::{CheckFault, Looked, look};
-pub use report::{put_line, put_report};
+pub use report::{put_line, put_notes, put_report, put_shown};
 pub use seen::{Note, Seen, Times};
 pub use shape::{Shape, put_answer};
 pub use told::{Store, Told};
 pub use verdict::{Answer, judge, standing};
+pub use words::answer_word;

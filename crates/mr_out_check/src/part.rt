@@ -15,7 +15,7 @@ fn digit(byte: u8) -> u32
     u32::from(byte).saturating_sub(48)
 }
 
-// The number of five digits, or of six with no zero in front.
+// The number of five digits, or of six or seven with no zero in front.
 fn number_in(digits: &[u8]) -> Option<u32>
     ensures { result ≡ number_in digits.now }
 {
@@ -29,6 +29,19 @@ fn number_in(digits: &[u8]) -> Option<u32>
             }
             Some(
                 ((((digit(*f) * 10 + digit(*a)) * 10 + digit(*b)) * 10 + digit(*c)) * 10
+                    + digit(*d))
+                    * 10
+                    + digit(*e),
+            )
+        }
+        [g, f, a, b, c, d, e] => {
+            if *g == b'0' {
+                return None;
+            }
+            Some(
+                (((((digit(*g) * 10 + digit(*f)) * 10 + digit(*a)) * 10 + digit(*b)) * 10
+                    + digit(*c))
+                    * 10
                     + digit(*d))
                     * 10
                     + digit(*e),
@@ -59,7 +72,7 @@ pub(crate) fn part_behind(front: &[u8], name: &[u8]) -> Option<u32>
     }
 }
 
-/// The number of a name of this class, where it is a part file: from 0 to 999,999.
+/// The number of a name of this class, where it is a part file: from 0 to 9,999,999.
 pub fn part_of(class: Class, name: &[u8]) -> Option<u32>
     ensures { result ≡ part_of class name.now }
 {

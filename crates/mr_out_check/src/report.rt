@@ -20,8 +20,8 @@ fn shown_byte(byte: u8) -> u8
     if byte < 32 || byte == 127 { b'?' } else { byte }
 }
 
-// A name, its control bytes shown as question marks.
-pub(crate) fn put_shown(out: &mut Vec<u8>, name: &[u8]) -> Result<(), AllocError>
+/// A name, its control bytes shown as question marks. It fails where there is no memory.
+pub fn put_shown(out: &mut Vec<u8>, name: &[u8]) -> Result<(), AllocError>
     ensures { OnOk result (out.new.items ≡ out.old.items ++ shown name.now) }
 {
     for byte in name {
@@ -123,7 +123,8 @@ fn put_note(out: &mut Vec<u8>, note: &Note) -> Result<(), AllocError>
     out.extend_from_slice(b"\n")
 }
 
-fn put_notes(out: &mut Vec<u8>, notes: &[Note]) -> Result<(), AllocError>
+/// What came, a line for each class. It fails where there is no memory.
+pub fn put_notes(out: &mut Vec<u8>, notes: &[Note]) -> Result<(), AllocError>
     ensures { OnOk result (out.new.items ≡ out.old.items ++ flat_map note_line (map as_noted notes.now)) }
 {
     for note in notes {

@@ -6,7 +6,8 @@ use crate::class::Class;
 use crate::premise::Premise;
 use crate::verdict::Answer;
 
-pub(crate) fn answer_word(answer: Answer) -> &'static str
+/// The word for an answer.
+pub fn answer_word(answer: Answer) -> &'static str
     ensures { result.now ≡ answer_word answer }
 {
     match answer {

@@ -121,11 +121,21 @@ dated_sight kind size line =
 abbrev pub sized_sight : Option Kind → List ℕ → Option Sight
 sized_sight kind line = if is_number (word line) then dated_sight kind (word line) (rest line) else None
 
+-- what it lists, or else the other
+abbrev pub or_sight : Option Sight → Option Sight → Option Sight
+or_sight None other = other
+or_sight (Some x) other = Some x
+
+-- the size and what follows it, behind the first blank behind which they stand: an owner and a group may have blanks in them
+abbrev pub sized_behind : Option Kind → List ℕ → Option Sight
+sized_behind kind [] = None
+sized_behind kind (b ∷ line) = if b == 32 then or_sight (sized_sight kind line) (sized_behind kind line) else sized_behind kind line
+
 -- the replication, the owner, the group, and what follows them
 abbrev pub owned_sight : Option Kind → List ℕ → Option Sight
 owned_sight kind line =
-    if is_replication (word line) && has_word (rest line) && has_word (rest (rest line))
-    then sized_sight kind (rest (rest (rest line)))
+    if is_replication (word line) && has_word (rest line)
+    then sized_behind kind (unspaced (rest (rest line)))
     else None
 
 abbrev pub hdfs_sight : List ℕ → Option Sight

@@ -27,7 +27,7 @@ pub fn behind(line: &[u8], at: u8) -> &[u8]
 }
 
 // Without the blanks in front.
-fn unspaced(line: &[u8]) -> &[u8]
+pub(crate) fn unspaced(line: &[u8]) -> &[u8]
     ensures { result.now ≡ unspaced line.now }
 {
     let mut at = 0;

@@ -1,11 +1,12 @@
 //! A line of `hdfs dfs -ls -R`.
-ghost use Rattle.std.specs.Prelude.{◌≡◌};
+ghost use Rattle.std.specs.Prelude.{◌≡◌, ◌<◌, length};
 ghost use Rattle.std.specs.List.{list_all};
 ghost use Rattle.std.specs.Option.{option_map};
-ghost use Rattle.mr_out_listing.specs.Lines.{are_modes, as_sight, dated_sight, has_word, hdfs_sight, is_count, is_date, is_mode, is_replication, is_time, kind_of_mode, kind_of_permissions, owned_sight, sized_sight};
+ghost use Rattle.mr_out_listing.specs.Lines.{are_modes, as_sight, dated_sight, has_word, hdfs_sight, is_count, is_date, is_mode, is_replication, is_time, kind_of_mode, kind_of_permissions, owned_sight, sized_behind, sized_sight};
+ghost use Rattle.mr_out_listing.specs.inner.Blanks.{sized_at};
 
 use crate::entry::{Entry, Kind};
-use crate::fields::{before, behind, has_digits, is_number, is_zero, rest, word};
+use crate::fields::{before, behind, has_digits, is_number, is_zero, rest, unspaced, word};
 
 fn is_mode(letter: u8) -> bool
     ensures { result ≡ is_mode letter }
@@ -106,14 +107,38 @@ fn sized_entry(kind: Option<Kind>, line: &[u8]) -> Option<Entry<'_>>
     dated_entry(kind, size, rest(line))
 }
 
-// The replication, the owner, the group, and what follows them.
+// The size and what follows it, behind the first blank behind which they stand.
+fn sized_behind(kind: Option<Kind>, line: &[u8]) -> Option<Entry<'_>>
+    ensures { option_map as_sight result ≡ sized_behind kind line.now }
+{
+    for at in 0..line.len() {
+        let entry = sized_at(kind, line, at);
+        if entry.is_some() {
+            return entry;
+        }
+    }
+    None
+}
+
+// The same behind the byte at this place, if it is a blank.
+fn sized_at(kind: Option<Kind>, line: &[u8], at: usize) -> Option<Entry<'_>>
+    requires { at < length line.now }
+    ensures { option_map as_sight result ≡ sized_at kind line.now at }
+{
+    if line[at] == b' ' {
+        sized_entry(kind, &line[at + 1..])
+    } else {
+        None
+    }
+}
+
+// The replication, the owner, the group, and what follows them. The owner and the group may have blanks in them.
 fn owned_entry(kind: Option<Kind>, line: &[u8]) -> Option<Entry<'_>>
     ensures { option_map as_sight result ≡ owned_sight kind line.now }
 {
     let owner = rest(line);
-    let group = rest(owner);
-    if is_replication(word(line)) && has_word(owner) && has_word(group) {
-        sized_entry(kind, rest(group))
+    if is_replication(word(line)) && has_word(owner) {
+        sized_behind(kind, unspaced(rest(owner)))
     } else {
         None
     }

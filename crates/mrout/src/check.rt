@@ -1,10 +1,12 @@
 //! The command `check`: may these directories be read?
 use crate::ending::Ending;
 use crate::request::Request;
-use crate::walk::look_at;
-use mr_out_check::{Answer, CheckFault, Looked, Seen, Told, look, put_answer};
+use crate::walk::{Marker, Walked, list, look_at_marker};
+use crate::winners::put_winners;
+use mr_out_check::{Answer, CheckFault, Looked, Told, look, put_answer};
+use mr_out_files::{Fault, read_recorded};
 use mr_out_listing::Format;
-use std::alloc::Global;
+use std::alloc::{AllocError, Global};
 use std::fs::File;
 use std::io::{self, BufReader, Read, Write};
 use std::rt::Files;
@@ -48,21 +50,16 @@ fn dir_of(top: &[u8]) -> &[u8] {
     }
 }
 
-// Prints the answer of a directory.
+// Writes the text of an answer, and hands the answer on; nothing where there was no memory for it.
 fn print_answer<W: Write>(
     out: &mut W,
-    alloc: Global,
-    request: &Request,
-    dir: &[u8],
-    seen: &Seen,
-    told: &Told,
+    text: &[u8],
+    answer: Result<Answer, AllocError>,
 ) -> Result<Answer, Option<io::Error>> {
-    let mut text = Vec::new(alloc);
-    let answer = match put_answer(&mut text, alloc, request.shape, dir, seen, told) {
-        Ok(answer) => answer,
-        Err(_) => return Err(None),
+    let Ok(answer) = answer else {
+        return Err(None);
     };
-    match write_out(out, &text) {
+    match write_out(out, text) {
         Ok(()) => Ok(answer),
         Err(error) => Err(Some(error)),
     }
@@ -130,54 +127,78 @@ fn check_listing<R: Files + Input + Print + Eprint>(
         Err(ending) => return ending,
     };
     let dir = dir_of(&looked.top);
-    match print_answer(
-        &mut io::writer(rt),
-        alloc,
-        request,
-        dir,
-        &looked.seen,
-        &request.told,
-    ) {
+    let mut text = Vec::new(alloc);
+    let (shape, told) = (request.shape, &request.told);
+    let answer = put_answer(&mut text, alloc, shape, dir, &looked.seen, told);
+    match print_answer(&mut io::writer(rt), &text, answer) {
         Ok(answer) => Ending::Answered(answer),
         Err(error) => ending_of_print(rt, error),
     }
 }
 
-// The answer of a directory of this machine.
-fn check_dir<R: Files + AllocGlobal + Print + Eprint + Clone + Drop>(
-    rt: &R,
-    request: &Request,
-    dir: &str,
-) -> Ending {
+// The answer of a directory of this machine: the marker is looked at, then the history is read, and then the directory is listed.
+fn check_dir(rt: &HostRuntime, request: &Request, dir: &str) -> Ending {
     let alloc = rt.alloc();
-    let walked = match look_at(rt, alloc, dir) {
+    let marker = match look_at_marker(rt, alloc, dir) {
+        Ok(marker) => marker,
+        Err(error) => return ending_of_error(rt, dir, &error),
+    };
+    let recorded = match read_recorded(rt, dir) {
+        Ok(recorded) => recorded,
+        Err(fault) => return ending_of_history(rt, dir, &fault),
+    };
+    let walked = match list(rt, alloc, dir, recorded.is_some()) {
         Ok(walked) => walked,
         Err(error) => return ending_of_error(rt, dir, &error),
     };
+    let mut text = Vec::new(alloc);
+    let answer = match &recorded {
+        Some(recorded) => put_winners(&mut text, alloc, request, dir, marker, recorded, &walked),
+        None => put_looked(&mut text, alloc, request, dir, marker, &walked),
+    };
+    match print_answer(&mut io::writer(rt), &text, answer) {
+        Ok(answer) => Ending::Answered(answer),
+        Err(error) => ending_of_print(rt, error),
+    }
+}
+
+// The answer of a directory that is none of `mrout`.
+fn put_looked(
+    text: &mut Vec<u8>,
+    alloc: Global,
+    request: &Request,
+    dir: &str,
+    marker: Marker,
+    walked: &Walked,
+) -> Result<Answer, AllocError> {
     let told = Told {
-        listed_after_marker: walked.marker_first,
+        listed_after_marker: marker != Marker::Missing,
         ..request.told
     };
-    match print_answer(
-        &mut io::writer(rt),
+    put_answer(
+        text,
         alloc,
-        request,
+        request.shape,
         dir.as_bytes(),
         &walked.seen,
         &told,
-    ) {
-        Ok(answer) => Ending::Answered(answer),
-        Err(error) => ending_of_print(rt, error),
+    )
+}
+
+fn ending_of_history(rt: &impl Eprint, dir: &str, fault: &Fault) -> Ending {
+    if matches!(fault, Fault::NoMemory) {
+        return Ending::NoMemory;
+    }
+    let _ = eprintln!(rt; "mrout: {dir}: {fault}");
+    match fault {
+        Fault::Refused { path: _, why: _ } => Ending::RefusedInput,
+        _ => Ending::CallFailed,
     }
 }
 
 /// May these directories be read, or the one that is listed? Prints the answer of each, and ends with the worst of them.
 /// The names are those of the directories, or that of the file with the listing, if it is not standard input.
-pub fn run_check<R: Files + AllocGlobal + Input + Print + Eprint + Clone + Drop>(
-    rt: &R,
-    request: &Request,
-    names: &[&str],
-) -> Ending {
+pub fn run_check(rt: &HostRuntime, request: &Request, names: &[&str]) -> Ending {
     if let Some(format) = request.listing {
         return check_listing(rt, rt.alloc(), request, names, format);
     }

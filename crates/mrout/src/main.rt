@@ -6,6 +6,7 @@ mod directory;
 mod ending;
 mod request;
 mod walk;
+mod winners;
 mod words;
 
 use crate::check::run_check;

@@ -1,18 +1,30 @@
 //! A directory of this machine, as it is listed.
 use mr_out_check::Seen;
 use mr_out_listing::{Entry, Kind};
+use mr_out_winners::{Look, Name};
 use std::alloc::Global;
 use std::fs::{self, DirEntry, Metadata, ReadDir};
 use std::io;
 use std::rt::Files;
+
+/// What stands at the marker's name.
+#[derive(Clone, Copy, Debug, PartialEq, Eq)]
+pub enum Marker {
+    /// No regular file.
+    Missing,
+    /// An empty file.
+    Empty,
+    /// A file with bytes.
+    Filled,
+}
 
 /// What was seen of a directory.
 #[derive(Drop)]
 pub struct Walked {
     /// What was listed.
     pub seen: Seen,
-    /// Whether the marker was there before the directory was listed.
-    pub marker_first: bool,
+    /// The names in the directory itself, if they were asked for.
+    pub names: Vec<Name>,
 }
 
 // A directory that is walked: what was seen, and which folders are left, each by its name with a slash behind it.
@@ -20,6 +32,8 @@ pub struct Walked {
 struct Walk {
     seen: Seen,
     folders: Vec<String>,
+    names: Vec<Name>,
+    with_names: bool,
 }
 
 fn kind_of(metadata: &Metadata) -> Kind {
@@ -32,6 +46,21 @@ fn kind_of(metadata: &Metadata) -> Kind {
     Kind::Other
 }
 
+fn put_name(
+    alloc: Global,
+    names: &mut Vec<Name>,
+    name: &[u8],
+    metadata: &Metadata,
+) -> io::Result<()> {
+    let look = Look {
+        kind: kind_of(metadata),
+        len: metadata.len(),
+    };
+    let name = Vec::from_slice(alloc, name)?;
+    names.push(Name { name, look })?;
+    Ok(())
+}
+
 // What is listed in a folder.
 fn walk_entry<R: Files + AllocGlobal + Clone + Drop>(
     alloc: Global,
@@ -40,6 +69,7 @@ fn walk_entry<R: Files + AllocGlobal + Clone + Drop>(
     entry: &DirEntry<R, Global>,
 ) -> io::Result<Walk> {
     let metadata = entry.metadata()?;
+    let with_names = walk.with_names;
     let kind = kind_of(&metadata);
     let name = format!(in alloc; "{folder}{}", entry.file_name())?;
     let listed = Entry {
@@ -48,11 +78,20 @@ fn walk_entry<R: Files + AllocGlobal + Clone + Drop>(
         path: name.as_bytes(),
     };
     let seen = walk.seen.with(alloc, &listed)?;
+    let mut names = walk.names;
+    if with_names && folder.is_empty() {
+        put_name(alloc, &mut names, name.as_bytes(), &metadata)?;
+    }
     let mut folders = walk.folders;
     if kind == Kind::Directory && name.as_str() != "_mrout" {
         folders.push(format!(in alloc; "{name}/")?)?;
     }
-    Ok(Walk { seen, folders })
+    Ok(Walk {
+        seen,
+        folders,
+        names,
+        with_names,
+    })
 }
 
 // All that is listed in a folder.
@@ -69,28 +108,40 @@ fn walk_folder<R: Files + AllocGlobal + Clone + Drop>(
     Ok(walk)
 }
 
-// Whether the marker is there.
-fn has_marker(rt: &impl Files, alloc: Global, dir: &str) -> io::Result<bool> {
+fn marker_of(metadata: &Metadata) -> Marker {
+    if !metadata.is_file() {
+        Marker::Missing
+    } else if metadata.len() == 0 {
+        Marker::Empty
+    } else {
+        Marker::Filled
+    }
+}
+
+/// What stands at the marker's name.
+pub fn look_at_marker(rt: &impl Files, alloc: Global, dir: &str) -> io::Result<Marker> {
     let marker = format!(in alloc; "{dir}/_SUCCESS")?;
     match fs::symlink_metadata(rt, marker.as_str()) {
-        Ok(metadata) => Ok(metadata.is_file()),
-        Err(error) if error.kind() == io::ErrorKind::NotFound => Ok(false),
+        Ok(metadata) => Ok(marker_of(&metadata)),
+        Err(error) if error.kind() == io::ErrorKind::NotFound => Ok(Marker::Missing),
         Err(error) => Err(error),
     }
 }
 
-/// Looks whether the marker is there, and then lists the directory and all beneath it, but for what stands in `_mrout`.
-pub fn look_at<R: Files + AllocGlobal + Clone + Drop>(
+/// Lists a directory and all beneath it, but for what stands in `_mrout`. With its names, if they are asked for.
+pub fn list<R: Files + AllocGlobal + Clone + Drop>(
     rt: &R,
     alloc: Global,
     dir: &str,
+    with_names: bool,
 ) -> io::Result<Walked> {
-    let marker_first = has_marker(rt, alloc, dir)?;
     let mut folders = Vec::new(alloc);
     folders.push(String::new(alloc))?;
     let mut walk = Walk {
         seen: Seen::new(alloc),
         folders,
+        names: Vec::new(alloc),
+        with_names,
     };
     for _ in 0..u64::MAX {
         let Some(folder) = walk.folders.pop() else {
@@ -102,6 +153,6 @@ pub fn look_at<R: Files + AllocGlobal + Clone + Drop>(
     }
     Ok(Walked {
         seen: walk.seen,
-        marker_first,
+        names: walk.names,
     })
 }

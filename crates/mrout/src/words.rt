@@ -39,10 +39,14 @@ Other listings are not read. Prints `yes: DIR`, `no: DIR: WHY` or `it depends: D
 what was seen, and each premise that is not met, with the word that settles it. Of several directories a line each, and
 the status of the worst. What is not told stays open, and then the answer is never yes. The rule is that of the
 committer of Hadoop MapReduce, algorithm version 1. What other engines make is told as what it is.
+Of a DIR of mrout its history decides: `yes: DIR` where marker, history and files agree, else `no: DIR: WHY`. Lengths of
+files are compared, their bytes are not. Read permission is enough, no lock is waited for, and nothing is changed.
+Memory: a byte for each number of a part file up to the highest, 9,999,999 at most, and a line.
 
 Examples:
   hdfs dfs -ls -R /out | mrout check --listing hdfs --store hdfs --tasks 8 --listed-after-marker
-  mrout check out --tasks 8 --app-attempts 1 --task-attempts 1 --algorithm 1 --store local && next-job out";
+  mrout check out --tasks 8 --app-attempts 1 --task-attempts 1 --algorithm 1 --store local && next-job out
+  mrout check results/2026-11-* --json";
 
 const LISTING: &str = "listing";
 
@@ -65,7 +69,7 @@ const QUIET: &str = "quiet";
 /// The name of the words that are directories, or the file with a listing.
 pub const NAMES: &str = "DIR";
 
-const MOST_TASKS: u64 = 1_000_000;
+const MOST_TASKS: u64 = 10_000_000;
 
 // A word with a value behind it.
 fn value<'a>(

@@ -1,0 +1,2 @@
+-- What only the proofs of this crate speak of: Blanks.
+pub mod Blanks

@@ -1,0 +1,3 @@
+pub mod Tasking
+pub mod Plain
+pub mod Inverse
