@@ -1,2 +1,4 @@
+mod Commands
+mod Objects
 mod Traces
 mod Verdicts

@@ -1,3 +1,4 @@
--- A store's trace and what is said of it: Trace.
+-- A store's trace and its verdict (Trace), and how that is said (Said).
 pub mod Trace
+pub mod Said
 pub mod inner

@@ -1,5 +1,5 @@
 -- A store's trace, and its judgement by the namespace's definition. The lines are our own format, in the words of a trace of `mrsim`; what an answer has to be is mr_names' `call_of`.
-use Rattle.std.specs.Prelude.{◌≡◌, ◌≢◌, ◌⊎◌, ℕ, List, [], ◌∷◌, ◌++◌, All, Option, Some, None, codes, decimal}
+use Rattle.std.specs.Prelude.{◌≡◌, ◌≢◌, ◌⊎◌, ℕ, List, [], ◌∷◌, ◌++◌, Option, Some, None, Result, Ok, Err, codes, decimal}
 use Rattle.mr_ids.specs.Attempt.{Attempt}
 use Rattle.mr_ids.specs.Text.{IsAttempt}
 use Rattle.mr_names.specs.declared.op.Caller.{Caller}
@@ -14,6 +14,8 @@ use Rattle.mr_judge.specs.declared.fault.JudgeFault.{JudgeFault}
 use Rattle.mr_judge.specs.declared.fault.JudgeFault.TheVariants as fault
 use Rattle.mr_judge.specs.declared.line.Told.{Told}
 use Rattle.mr_judge.specs.declared.line.Told.TheVariants.{Raised, Called}
+use Rattle.mr_judge.specs.declared.verdict.Verdict.{Verdict}
+use Rattle.mr_judge.specs.declared.verdict.Verdict.TheVariants.{Right, Wrong}
 
 -- who makes a call beside its master: an attempt, or none
 abbrev pub who_word : Option Attempt → List ℕ
@@ -38,28 +40,26 @@ IsLine line told = IsTold told × (line ≡ told_line told)
 
 -- ---- the judgement
 
--- what is said of a trace: each answer is right, or an answer of this line is not, and the right one
-abbrev pub right : List ℕ
-right = codes "right\n"
+-- each answer is right, or the first one that is not is told: the number of its line, the words that it has, and those that it should have
+abbrev pub Judges : State → List (ℕ × Told) → Verdict → Type 0
+Judges s [] verdict = verdict ≡ Right
+Judges s ((n, Raised k) ∷ rest) verdict = Judges (raised s k) rest verdict
+Judges s ((n, Called caller call answer) ∷ rest) verdict =
+    ((answer ≡ answer_line (call_of s caller call).0) × Judges (call_of s caller call).1 rest verdict)
+    ⊎ ((answer ≢ answer_line (call_of s caller call).0) × (verdict ≡ Wrong n answer (answer_line (call_of s caller call).0)))
 
-abbrev pub wrong : ℕ → List ℕ → List ℕ
-wrong n answer = codes "line " ++ decimal n ++ codes ": expected " ++ answer ++ 10 ∷ []
-
-abbrev pub Judges : State → List (ℕ × Told) → List ℕ → Type 0
-Judges s [] said = said ≡ right
-Judges s ((n, Raised k) ∷ rest) said = Judges (raised s k) rest said
-Judges s ((n, Called caller call answer) ∷ rest) said =
-    ((answer ≡ answer_line (call_of s caller call).0) × Judges (call_of s caller call).1 rest said)
-    ⊎ ((answer ≢ answer_line (call_of s caller call).0) × (said ≡ wrong n (answer_line (call_of s caller call).0)))
-
--- a trace whose lines are all such, and what is said of it
-abbrev pub JudgesText : List ℕ → List ℕ → Type 0
-JudgesText input said = (all : List (ℕ × Told)) × AreLines IsLine 1 (lines_of input) all × Judges opening all said
+-- a trace whose lines are all such, and its verdict
+abbrev pub JudgesText : List ℕ → Verdict → Type 0
+JudgesText input verdict = (all : List (ℕ × Told)) × AreLines IsLine 1 (lines_of input) all × Judges opening all verdict
 
 -- the first line that is no line of a trace; there may be an allocation failure at any input
 abbrev pub JudgeFails : List ℕ → JudgeFault → Type 0
 JudgeFails input (fault.BadLine n) = IsFirstNoLine IsLine 1 (lines_of input) n
 JudgeFails input fault.NoMemory = Unit {0}
+
+abbrev pub JudgedAs : List ℕ → Result Verdict JudgeFault → Type 0
+JudgedAs input (Ok verdict) = JudgesText input verdict
+JudgedAs input (Err e) = JudgeFails input e
 
 abbrev pub judge_fault : ScriptFault → JudgeFault
 judge_fault (script.BadCommand n) = fault.BadLine n

@@ -1,24 +1,24 @@
 //! The judgement of a store's trace.
-ghost use Rattle.std.specs.Prelude.{◌≡◌, IfOk, IfErr, IsOkUnless, OnOk, option_map};
+ghost use Rattle.std.specs.Prelude.{◌≡◌, IfOk, IfErr, IsOkUnless, OnOk};
 ghost use Rattle.mr_names.specs.Calls.{call_of, opening};
 ghost use Rattle.mr_call_words.specs.Words.{answer_line};
-ghost use Rattle.mr_judge.specs.Trace.{JudgeFails, Judges, JudgesText, wrong};
+ghost use Rattle.mr_judge.specs.Trace.{JudgeFails, Judges, JudgesText};
 ghost use Rattle.mr_judge.specs.inner.Verdict.{JudgesCall, JudgesOne};
 
 use crate::fault::JudgeFault;
 use crate::line::{Told, trace_of};
-use itoa::Buffer;
+use crate::verdict::Verdict;
 use mr_call_words::put_answer;
 use mr_ids::Bytes;
 use mr_names::{Caller, NameFault, Namespace, Op};
-use std::alloc::{AllocError, Global};
+use std::alloc::Global;
 
-/// What is said of a store's trace, one call on a line: `right`, or the first line with a wrong answer and the right one.
+/// The verdict of a store's trace, one call on a line: each answer is right, or the first that is not is told.
 ///
 /// A line is `GENERATION ATTEMPT CALL: ANSWER`, with `none` for the attempt of a master, or `raise GENERATION`; calls and answers are those of `mr_call_words`. The
 /// namespace is empty at first. A line that is empty or begins with `#` says nothing. `BadLine`: the first line that is none of these. `NoMemory` may come at any input.
-pub fn judged(alloc: Global, input: &[u8]) -> Result<Vec<u8>, JudgeFault>
-    ensures ok { IfOk result (λ said. JudgesText input.now said.items) }
+pub fn judged(alloc: Global, input: &[u8]) -> Result<Verdict, JudgeFault>
+    ensures ok { IfOk result (λ verdict. JudgesText input.now verdict) }
     ensures bad { IfErr result (λ e. JudgeFails input.now e) }
 {
     let trace = trace_of(alloc, input)?;
@@ -37,32 +37,32 @@ fn opening(alloc: Global) -> Result<Namespace, JudgeFault>
     }
 }
 
-// What is said of these lines.
+// The verdict of these lines.
 #[tactic(auto, using(crate::proofs::Verdicts::judge_more, crate::proofs::Verdicts::judge_end))]
 fn judge_all(
     alloc: Global,
     names: &mut Namespace,
     trace: &[(usize, Told)],
-) -> Result<Vec<u8>, JudgeFault>
-    ensures says { IfOk result (λ said. Judges names.old trace.now said.items) }
+) -> Result<Verdict, JudgeFault>
+    ensures says { IfOk result (λ verdict. Judges names.old trace.now verdict) }
     ensures memory { IsOkUnless result JudgeFault.NoMemory }
 {
     for (line, told) in trace {
-        if let Some(said) = judge_one(alloc, names, *line, told)? {
-            return Ok(said);
+        if let Some(verdict) = judge_one(alloc, names, *line, told)? {
+            return Ok(verdict);
         }
     }
-    Ok(Vec::from_slice(alloc, b"right\n")?)
+    Ok(Verdict::Right)
 }
 
-// What is said of one line, if its answer is wrong; else the call is made.
+// The verdict of one line, if its answer is wrong; else the call is made.
 fn judge_one(
     alloc: Global,
     names: &mut Namespace,
     line: usize,
     told: &Told,
-) -> Result<Option<Vec<u8>>, JudgeFault>
-    ensures says { IfOk result (λ verdict. JudgesOne names.old line told.now (option_map (λ said. said.items) verdict) names.new) }
+) -> Result<Option<Verdict>, JudgeFault>
+    ensures says { IfOk result (λ verdict. JudgesOne names.old line told.now verdict names.new) }
     ensures memory { IsOkUnless result JudgeFault.NoMemory }
 {
     match told {
@@ -78,7 +78,7 @@ fn judge_one(
     }
 }
 
-// What is said of a call, if its answer is wrong.
+// The verdict of a call, if its answer is wrong.
 fn judge_call(
     alloc: Global,
     names: &mut Namespace,
@@ -86,15 +86,21 @@ fn judge_call(
     caller: &Caller,
     call: &Op,
     answer: &Bytes,
-) -> Result<Option<Vec<u8>>, JudgeFault>
-    ensures says { IfOk result (λ verdict. JudgesCall names.old line caller.now call.now answer.now (option_map (λ said. said.items) verdict) names.new) }
+) -> Result<Option<Verdict>, JudgeFault>
+    ensures says { IfOk result (λ verdict. JudgesCall names.old line caller.now call.now answer.now verdict names.new) }
     ensures memory { IsOkUnless result JudgeFault.NoMemory }
 {
-    let right = right_answer(alloc, names, caller, call)?;
-    if right.as_slice() == answer.as_slice() {
+    let expected = right_answer(alloc, names, caller, call)?;
+    if expected.as_slice() == answer.as_slice() {
         Ok(None)
     } else {
-        Ok(Some(wrong(alloc, line, &right)?))
+        let answered = Bytes::from_slice(alloc, answer.as_slice())?;
+        let expected = Bytes::from_slice(alloc, &expected)?;
+        Ok(Some(Verdict::Wrong {
+            line,
+            answered,
+            expected,
+        }))
     }
 }
 
@@ -116,17 +122,4 @@ fn right_answer(
     let mut words = Vec::new(alloc);
     put_answer(&mut words, &answer)?;
     Ok(words)
-}
-
-// That the answer of a line is wrong, and the right one.
-fn wrong(alloc: Global, line: usize, right: &[u8]) -> Result<Vec<u8>, AllocError>
-    ensures { IfOk result (λ said. said.items ≡ wrong line right.now) }
-{
-    let mut buffer = Buffer::new();
-    let mut said = Vec::from_slice(alloc, b"line ")?;
-    said.extend_from_slice(buffer.format(line).as_bytes())?;
-    said.extend_from_slice(b": expected ")?;
-    said.extend_from_slice(right)?;
-    said.extend_from_slice(b"\n")?;
-    Ok(said)
 }

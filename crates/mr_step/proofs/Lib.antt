@@ -1,3 +1,2 @@
-mod Lines
 mod Replies
 mod Talking

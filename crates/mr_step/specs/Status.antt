@@ -2,13 +2,11 @@
 use Rattle.std.specs.Prelude.{ℕ, Result, Ok, Err}
 use Rattle.mr_step.specs.declared.ending.Ending.{Ending}
 use Rattle.mr_step.specs.declared.ending.Ending.TheVariants.{Finished, Refused, Cut}
-use Rattle.mr_step.specs.declared.ending.TalkFault.{TalkFault}
-use Rattle.mr_step.specs.declared.ending.TalkFault.TheVariants.{Read, Write, NoMemory}
+use Rattle.mr_pipe.specs.declared.fault.PipeFault.{PipeFault}
+use Rattle.mr_pipe.specs.Status as pipe
 
-abbrev pub status_of : Result Ending TalkFault → ℕ
+abbrev pub status_of : Result Ending PipeFault → ℕ
 status_of (Ok Finished) = 0
 status_of (Ok (Refused f)) = 1
 status_of (Ok Cut) = 3
-status_of (Err Read) = 4
-status_of (Err Write) = 4
-status_of (Err NoMemory) = 5
+status_of (Err f) = pipe.status_of f

@@ -1,4 +1,3 @@
 -- Words for private contracts and for proofs.
 pub mod Moves
-pub mod Reading
 pub mod Said

@@ -1,5 +1,5 @@
-//! An operation of the output committer over a pipe, for drivers in any language: its next store call goes out as a line, the store's answer comes
-//! in as a line. `mrsim step`. What the store is does not matter here; the lines are those of `mr_call_words`.
+//! An operation of the output committer over a pipe: its next store call out, the store's answer in. `mrsim step`, for drivers in any language. What the store is does not
+//! matter here; the lines are those of `mr_call_words`, or their objects.
 //!
 //! # What is proved
 //!
@@ -17,12 +17,11 @@
 mod command;
 mod dialogue;
 mod ending;
-mod stream;
 mod wish;
 mod words;
 
 pub use command::{run, status_of};
 pub use dialogue::talk;
-pub use ending::{Ending, TalkFault};
+pub use ending::Ending;
 pub use wish::{Moves, Wish};
-pub use words::{Asked, HELP, asked_of};
+pub use words::Asked;

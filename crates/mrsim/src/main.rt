@@ -6,17 +6,19 @@ ghost use Rattle.std.specs.Process.{exit_status};
 ghost use Rattle.mr_sim.specs.Fault.{exit_status_of};
 
 mod explore;
+mod pipe;
 mod table;
 mod threads;
 mod words;
 
 use crate::explore::goal_word;
+use crate::pipe::served;
 use crate::words::{command_line, command_of, ending_of, file_of};
 use clap::ArgMatches;
 use mr_sim::{Ending, Expectation, Help, Refusal, Remarks, SimFault, read_goal, run};
 use std::alloc::Global;
 use std::fs::File;
-use std::io::{BufReader, Write};
+use std::io::Write;
 use std::process::ExitCode;
 use std::{env, io};
 
@@ -139,29 +141,6 @@ fn code_of_run<W: Write>(
     }
 }
 
-// Whether the program is asked for `step`.
-fn is_step(words: &[String]) -> bool {
-    match words.get(1) {
-        Some(word) => word.as_str() == "step",
-        None => false,
-    }
-}
-
-// The exit status of `mrsim step` with the words of the program, which talks over a pipe.
-fn over_pipe(rt: &HostRuntime, words: &[String]) -> u8 {
-    let alloc: Global = rt.alloc();
-    match BufReader::new(alloc, rt.stdin()) {
-        Ok(mut reader) => mr_step::run(
-            alloc,
-            words.get(2..).unwrap_or(&[]),
-            &mut reader,
-            &mut io::writer(rt),
-            &mut rt.stderr(),
-        ),
-        Err(_) => 5,
-    }
-}
-
 fn main(rt: HostRuntime) -> ExitCode {
     let alloc: Global = rt.alloc();
     let args = match env::args(&rt) {
@@ -174,9 +153,6 @@ fn main(rt: HostRuntime) -> ExitCode {
     let Ok(words): Result<Vec<String>, _> = args.collect(alloc) else {
         return code_of(&rt, Ending::Failed(SimFault::NoMemory));
     };
-    if is_step(&words) {
-        return ExitCode::from(over_pipe(&rt, &words));
-    }
     let Ok(command) = command_line(alloc) else {
         return code_of(&rt, Ending::Failed(SimFault::NoMemory));
     };
@@ -184,6 +160,9 @@ fn main(rt: HostRuntime) -> ExitCode {
         Ok(matches) => matches,
         Err(error) => return code_of(&rt, print_words(&rt, &error, ending_of(&error))),
     };
+    if let Some(status) = served(&rt, &matches) {
+        return ExitCode::from(status);
+    }
     let goal = match goal_of(&rt, &matches) {
         Ok(goal) => goal,
         Err(ending) => return code_of(&rt, ending),

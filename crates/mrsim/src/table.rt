@@ -63,17 +63,48 @@ impl Word {
     }
 }
 
-/// The arguments of a subcommand that has these words: they, and the file to be read, which may be left out.
-pub fn args_of<'a>(alloc: Global, words: &[Word]) -> Result<Vec<Arg<'a>>, AllocError> {
+/// What stands behind the words, with no hyphens.
+#[derive(Clone, Copy)]
+pub struct Place {
+    /// What help calls it.
+    pub name: &'static str,
+    /// What help says of it.
+    pub help: &'static str,
+    /// Whether it has to be there.
+    pub is_required: bool,
+    /// Whether several may stand there.
+    pub is_many: bool,
+}
+
+impl Place {
+    /// The file to be read, which may be left out.
+    pub const INPUT: Place = Place {
+        name: FILE,
+        help: FILE_HELP,
+        is_required: false,
+        is_many: false,
+    };
+
+    // The place as clap takes it.
+    fn to_arg<'a>(&self, alloc: Global) -> Arg<'a> {
+        let arg = Arg::new(alloc, self.name)
+            .action(ArgAction::Set)
+            .help(self.help)
+            .required(self.is_required);
+        if self.is_many { arg.num_args(1..) } else { arg }
+    }
+}
+
+/// The arguments of a subcommand that has these words, and this behind them.
+pub fn args_of<'a>(
+    alloc: Global,
+    words: &[Word],
+    place: &Place,
+) -> Result<Vec<Arg<'a>>, AllocError> {
     let mut args = Vec::new(alloc);
     for word in words {
         args.push(word.to_arg(alloc)?)?;
     }
-    args.push(file_arg(alloc))?;
+    args.push(place.to_arg(alloc))?;
     Ok(args)
-}
-
-// The file to be read.
-fn file_arg<'a>(alloc: Global) -> Arg<'a> {
-    Arg::new(alloc, FILE).action(ArgAction::Set).help(FILE_HELP)
 }

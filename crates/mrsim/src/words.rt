@@ -3,7 +3,11 @@ ghost use Rattle.std.specs.Prelude.{◌≡◌, ◌≢◌};
 ghost use Rattle.clap.specs.Words.{kind_of};
 
 use crate::explore::{EXPLORE, EXPLORE_HELP, explore_of, explore_words};
-use crate::table::{FILE, Word, args_of};
+use crate::pipe::{
+    JUDGE, JUDGE_HELP, RECOVERY, RECOVERY_HELP, SEGMENTS, STEP, STEP_HELP, STEP_PLACE, TASK,
+    TASK_HELP, TASK_OF, judge_words, recovery_words, step_words, task_words,
+};
+use crate::table::{FILE, Place, Word, args_of};
 use crate::threads::{THREADS, THREADS_HELP, threads_of, threads_words};
 use clap::builder::ValueParser;
 use clap::error::ErrorKind;
@@ -18,11 +22,11 @@ const ABOUT: &str =
 const VERSION: &str = "0.1.0, built of proved crates";
 
 const STATUSES: &str = "\
-Each subcommand reads standard input, or FILE, to its end, and then writes standard output.
+Each subcommand but `step` and `task` reads standard input, or FILE, to its end, and then writes standard output.
 
 Statuses:
   0  done
-  1  `mrsim: job failed`
+  1  `mrsim: job failed`; `step`: a fault; `judge`: a wrong answer
   2  the command line was refused
   3  the input was refused: `mrsim: line N: bad command`, `mrsim: history: bad line N`,
      `mrsim: job: KEY`, `mrsim: refused`, `mrsim: input too long`; or `mrsim: not as expected`,
@@ -260,6 +264,10 @@ enum Subcommand {
     Threads,
     History,
     Seq,
+    Step,
+    Task,
+    Judge,
+    Recovery,
 }
 
 impl Subcommand {
@@ -271,6 +279,10 @@ impl Subcommand {
         Subcommand::Threads,
         Subcommand::History,
         Subcommand::Seq,
+        Subcommand::Step,
+        Subcommand::Task,
+        Subcommand::Judge,
+        Subcommand::Recovery,
     ];
 
     fn name<'a>(self) -> &'a str {
@@ -281,6 +293,10 @@ impl Subcommand {
             Subcommand::Threads => "threads",
             Subcommand::History => "history",
             Subcommand::Seq => "seq",
+            Subcommand::Step => "step",
+            Subcommand::Task => "task",
+            Subcommand::Judge => "judge",
+            Subcommand::Recovery => "recovery",
         }
     }
 
@@ -293,6 +309,10 @@ impl Subcommand {
             Subcommand::Threads => THREADS,
             Subcommand::History => HISTORY,
             Subcommand::Seq => SEQ,
+            Subcommand::Step => STEP,
+            Subcommand::Task => TASK,
+            Subcommand::Judge => JUDGE,
+            Subcommand::Recovery => RECOVERY,
         }
     }
 
@@ -305,6 +325,10 @@ impl Subcommand {
             Subcommand::Threads => THREADS_HELP,
             Subcommand::History => HISTORY_HELP,
             Subcommand::Seq => SEQ_HELP,
+            Subcommand::Step => STEP_HELP,
+            Subcommand::Task => TASK_HELP,
+            Subcommand::Judge => JUDGE_HELP,
+            Subcommand::Recovery => RECOVERY_HELP,
         }
     }
 
@@ -315,12 +339,26 @@ impl Subcommand {
             Subcommand::Explore => explore_words(),
             Subcommand::Threads => threads_words(),
             Subcommand::History => history_words(),
+            Subcommand::Step => step_words(),
+            Subcommand::Task => task_words(),
+            Subcommand::Judge => judge_words(),
+            Subcommand::Recovery => recovery_words(),
+        }
+    }
+
+    // What stands behind them.
+    fn place(self) -> Place {
+        match self {
+            Subcommand::Step => STEP_PLACE,
+            Subcommand::Task => TASK_OF,
+            Subcommand::Recovery => SEGMENTS,
+            _ => Place::INPUT,
         }
     }
 
     // Its command line.
     fn to_command<'a>(self, alloc: Global) -> Result<Command<'a>, AllocError> {
-        let args = args_of(alloc, self.words())?;
+        let args = args_of(alloc, self.words(), &self.place())?;
         Command::new(alloc, self.name())
             .about(self.about())
             .after_help(self.help())

@@ -1,7 +1,8 @@
-use Rattle.std.proofs.Common.{ℕ, List, drop}
+use Rattle.std.proofs.Common.{drop}
+use Rattle.mr_judge.specs.declared.verdict.Verdict.{Verdict}
 use Rattle.mr_judge.specs.Trace.{Judges}
 use Rattle.mr_judge.proofs.judge.judge_all.Given as goal
 
--- what is said of the lines that are left is said of all
+-- the verdict of the lines that are left is that of all
 abbrev pub invariant-loop-line : goal.invariant-loop-line
-invariant-loop-line l = (said : List ℕ) → Judges l.names (drop l.line-index l.trace) said → Judges l.fn.names l.trace said
+invariant-loop-line l = (verdict : Verdict) → Judges l.names (drop l.line-index l.trace) verdict → Judges l.fn.names l.trace verdict

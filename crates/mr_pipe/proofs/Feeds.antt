@@ -2,8 +2,8 @@
 use Rattle.std.proofs.Common.{◌≡◌, ◌≢◌, ℕ, Bool, true, false, List, [], ◌∷◌, ◌++◌, ◌==◌, cond, Option, Some, None, refl, sym, ap, ◌∙◌, arith}
 use Rattle.std.proofs.lemmas.Bool.Decides.{nat_tests}
 use Rattle.std.specs.Io.BufRead.{take_through, drop_through}
-use Rattle.mr_step.specs.Stream.{lines_in, onto_line}
-use Rattle.mr_step.specs.inner.Reading.{GivesLine, IsFirst, TakesFeed}
+use Rattle.mr_pipe.specs.Stream.{GivesLine, IsFirst, lines_in, onto_line}
+use Rattle.mr_pipe.specs.inner.Reading.{TakesFeed}
 
 none_left : (line : List ℕ) → [] ≡ line ++ 10 ∷ [] → ⊥
 none_left [] e = cc

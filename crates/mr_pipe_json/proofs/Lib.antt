@@ -1,0 +1,3 @@
+mod Joins
+mod Objects
+mod Tells

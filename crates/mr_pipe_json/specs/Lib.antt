@@ -1,0 +1,3 @@
+-- The lines of a pipe as objects: Form.
+pub mod Form
+pub mod inner

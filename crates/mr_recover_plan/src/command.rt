@@ -1,0 +1,77 @@
+//! `mrsim recovery`: what it writes, and its status.
+ghost use Rattle.std.specs.Prelude.{◌≡◌, IfOk};
+ghost use Rattle.std.specs.Io.KnownBytes.{Appends};
+ghost use Rattle.mr_recover_plan.specs.Plans.{PlannedAs};
+ghost use Rattle.mr_recover_plan.specs.Said.{said_of};
+
+use crate::fault::PlanFault;
+use crate::plan::planned;
+use crate::said::{said_of, status_of};
+use itoa::Buffer;
+use mr_ids::Bytes;
+use mr_pipe::{Form, PipeFault, say, send};
+use mr_recover::{Recovery, Staging};
+use std::alloc::Global;
+use std::io;
+use std::io::Write;
+
+/// Finds the plan for these segments, the oldest first, and writes it. Where a line is none, or there was no memory, nothing is written.
+///
+/// `Write`: a write or a flush failed. `NoMemory`: memory was refused once there was a plan.
+#[tactic(auto, using(crate::proofs::Commands::planned_as))]
+pub fn recover<W: Write>(
+    alloc: Global,
+    form: Form,
+    segments: &[Bytes],
+    staging: Staging,
+    writer: &mut W,
+) -> Result<Result<Recovery, PlanFault>, PipeFault>
+    ensures plan { IfOk result (λ planned. PlannedAs segments.now staging planned) }
+    ensures said { IfOk result (λ planned. Appends (W.contents writer.old) (W.contents writer.new) (said_of form planned)) }
+{
+    let planned = planned(alloc, segments, staging);
+    let text = said_of(alloc, form, &planned)?;
+    send(writer, &text)?;
+    Ok(planned)
+}
+
+/// Runs `mrsim recovery`, and answers its exit status: 0 where there is a plan, 3 where a line is none, 4 if a stream failed, 5 if there was no memory.
+pub fn run<W: Write, E: Write>(
+    alloc: Global,
+    form: Form,
+    segments: &[Bytes],
+    staging: Staging,
+    writer: &mut W,
+    errors: &mut E,
+) -> u8 {
+    match recover(alloc, form, segments, staging, writer) {
+        Ok(planned) => {
+            say_fault(errors, &planned);
+            status_of(&planned)
+        }
+        Err(fault) => {
+            say(errors, fault);
+            mr_pipe::status_of(fault)
+        }
+    }
+}
+
+// Says why there is no plan. Where it cannot be written it is dropped, and the status says it.
+fn say_fault<E: Write>(errors: &mut E, planned: &Result<Recovery, PlanFault>) {
+    match planned {
+        Ok(_) => {}
+        Err(PlanFault::BadLine { segment, line }) => {
+            let _ = say_line(errors, *segment, *line);
+        }
+        Err(PlanFault::NoMemory) => say(errors, PipeFault::NoMemory),
+    }
+}
+
+fn say_line<E: Write>(errors: &mut E, segment: usize, line: usize) -> io::Result<()> {
+    let mut buffer = Buffer::new();
+    errors.write_all(b"mrsim: segment ")?;
+    errors.write_all(buffer.format(segment).as_bytes())?;
+    errors.write_all(b": bad line ")?;
+    errors.write_all(buffer.format(line).as_bytes())?;
+    errors.write_all(b"\n")
+}

@@ -1,0 +1,59 @@
+//! The plan for some segments.
+ghost use Rattle.std.specs.Prelude.{◌≡◌, ◌++◌, IfOk, IfErr, OnOk, None};
+ghost use Rattle.mr_history.specs.Reading.{bad_line, records_of};
+ghost use Rattle.mr_recover_plan.specs.Plans.{AreWhole, PlanFails, Plans, records_in};
+ghost use Rattle.mr_recover_plan.specs.inner.Segments.{FailsAt};
+
+use crate::fault::PlanFault;
+use mr_history::{HistoryFault, Records, replay};
+use mr_ids::Bytes;
+use mr_recover::{Recovery, Staging};
+use std::alloc::Global;
+
+/// What a master does that starts behind the masters of these segments, the oldest first, where the staging folder has these marks.
+///
+/// `BadLine`: the first whole line that is no record, of the first segment that has one. `NoMemory` may come at any segments.
+#[tactic(auto, using(crate::proofs::Histories::plans))]
+pub fn planned(alloc: Global, segments: &[Bytes], staging: Staging) -> Result<Recovery, PlanFault>
+    ensures ok { IfOk result (λ plan. Plans segments.now staging plan) }
+    ensures bad { IfErr result (PlanFails segments.now) }
+{
+    let records = records_in(alloc, segments)?;
+    Ok(Recovery::plan(alloc, records.as_slice(), staging)?)
+}
+
+// The records of all segments, one after the other.
+#[tactic(auto, using(crate::proofs::Histories::none_read, crate::proofs::Histories::one_more, crate::proofs::Histories::fails, crate::proofs::Histories::all_read, crate::proofs::Histories::all_whole))]
+fn records_in(alloc: Global, segments: &[Bytes]) -> Result<Records, PlanFault>
+    ensures whole { IfOk result (λ _. AreWhole segments.now) }
+    ensures ok { IfOk result (λ records. records ≡ records_in segments.now) }
+    ensures bad { IfErr result (PlanFails segments.now) }
+{
+    let mut records = Records::new(alloc);
+    let mut before = 0;
+    for bytes in segments {
+        put_records(alloc, &mut records, before + 1, bytes.as_slice())?;
+        before += 1;
+    }
+    Ok(records)
+}
+
+// Puts the records of a segment behind those that are there.
+fn put_records(
+    alloc: Global,
+    records: &mut Records,
+    segment: usize,
+    bytes: &[u8],
+) -> Result<(), PlanFault>
+    ensures whole { OnOk result (bad_line bytes.now ≡ None) }
+    ensures ok { OnOk result (records.new ≡ records.old ++ records_of bytes.now) }
+    ensures bad { IfErr result (FailsAt segment bytes.now) }
+{
+    match replay(alloc, bytes) {
+        Ok(replayed) => Ok(records.extend(replayed.records.as_slice())?),
+        Err(HistoryFault::BadLine(line)) => Err(PlanFault::BadLine { segment, line }),
+        Err(HistoryFault::NoMemory) => Err(PlanFault::NoMemory),
+        Err(HistoryFault::Superseded(_) | HistoryFault::Sealed | HistoryFault::Full) =>
+            unreachable!(),
+    }
+}

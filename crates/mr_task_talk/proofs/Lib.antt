@@ -1,0 +1,4 @@
+mod Heard
+mod Lines
+mod Talking
+mod Verbs
