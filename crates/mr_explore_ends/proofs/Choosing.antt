@@ -1,11 +1,13 @@
 -- Rows that are looked at in turn, and numbers in turn.
-use Rattle.std.proofs.Common.{◌≡◌, ◌<◌, ◌+◌, ℕ, zero, suc, List, ◌∷◌, ◌++◌, append_assoc, append-nil, length, map, drop, Option, if◌then◌else◌, get_or, drop-cons, sym, ap, ◌∙◌, arith}
-use Rattle.std.specs.List.{flat_map, range_with_len}
+use Rattle.std.proofs.Common.{◌≡◌, ◌<◌, ◌+◌, ℕ, zero, suc, Bool, List, ◌∷◌, ◌++◌, append_assoc, append-nil, length, map, drop, Option, if◌then◌else◌, get_or, drop-cons, sym, ap, ◌∙◌, arith}
+use Rattle.std.specs.List.{flat_map, list_all, range_with_len}
+use Rattle.std.proofs.lemmas.List.Folds.{list_all-map}
 use Rattle.mr_script.specs.declared.expectation.Expectation.{Expectation}
 use Rattle.mr_explore_ends.specs.declared.row.Row.{Row}
 use Rattle.mr_explore_ends.specs.Rows.{as_end}
 use Rattle.mr_explore_ends.specs.Table.{End}
 use Rattle.mr_explore_ends.specs.Goals.{best_from, better, meets}
+use Rattle.mr_explore_ends.specs.Text.{Sequential, is_sequential_if_marked, marked_are_sequential}
 
 -- the row at this place is looked at next
 next_row : (rows : List Row) (i : ℕ) (row : Row) → i < length rows → row ≡ get_or rows i row → map as_end (drop i rows) ≡ as_end row ∷ map as_end (drop (i + 1) rows)
@@ -47,3 +49,8 @@ three_parts out first second third one two three a b c = two_parts out second th
 
 pub four_parts : (out first second third fourth one two three four : List ℕ) → first ≡ out ++ one → second ≡ first ++ two → third ≡ second ++ three → fourth ≡ third ++ four → fourth ≡ out ++ (((one ++ two) ++ three) ++ four)
 four_parts out first second third fourth one two three four a b c d = two_parts out third fourth ((one ++ two) ++ three) four (three_parts out first second third one two three a b c) d
+
+-- ---- each row in its turn, as the end that it tells of
+
+pub all_marked : (s : Sequential) (rows : List Row) (ends : List End) (b : Bool) → map as_end rows ≡ ends → b ≡ list_all (λ row. is_sequential_if_marked s (as_end row)) rows → b ≡ marked_are_sequential s ends
+all_marked s rows ends b are is = is ∙ (sym (list_all-map (is_sequential_if_marked s) as_end rows) ∙ ap (list_all (is_sequential_if_marked s)) are)

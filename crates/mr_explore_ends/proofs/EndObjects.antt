@@ -26,8 +26,8 @@ plain_end s e =
 pub end_is_plain : (v : Value) (s : Sequential) (e : End) → view v ≡ end_object s e → has_float (view v) ≡ false
 end_is_plain v s e is = ap has_float is ∙ plain_end s e
 
-pub runs_are_plain : (v : Value) (f : Found) → view v ≡ object_of (runs_members f) → has_float (view v) ≡ false
-runs_are_plain v f is = ap has_float is ∙ plain_object (runs_members f) refl
+pub runs_are_plain : (v : Value) (s : Sequential) (f : Found) → view v ≡ object_of (runs_members s f) → has_float (view v) ≡ false
+runs_are_plain v s f is = ap has_float is ∙ plain_object (runs_members s f) refl
 
 -- its members were put in two parts
 pub end_is : (s : Sequential) (e : End) (v : Data) (mid all : Members) → mid ≡ with_all (read_members s e.end) no_members → all ≡ with_all (shortest_members e) mid → v ≡ object all → v ≡ end_object s e

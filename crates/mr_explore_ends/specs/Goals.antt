@@ -1,7 +1,11 @@
 -- Ends that are sought (our own profile).
-use Rattle.std.specs.Prelude.{◌≡◌, ℕ, Bool, List, [], ◌∷◌, ◌++◌, ◌==◌, cond, if◌then◌else◌, Option, Some, None}
-use Rattle.std.specs.List.{list_all}
+use Rattle.std.specs.Prelude.{◌≡◌, ℕ, Bool, false, not, ◌&&◌, List, [], ◌∷◌, ◌++◌, ◌==◌, cond, if◌then◌else◌, Option, Some, None}
+use Rattle.std.specs.List.{list_all, list_any}
+use Rattle.std.specs.Option.{option_eq}
+use Rattle.std.proofs.Math.Bool.{beq}
+use Rattle.mr_ids.specs.Same.{same_attempt}
 use Rattle.mr_script.specs.declared.expectation.Expectation.{Expectation}
+use Rattle.mr_script.specs.declared.expectation.Expectation.TheVariants as expected
 use Rattle.mr_script.specs.Expected.{IsExpectation, expected_words}
 use Rattle.mr_script.specs.Lines.{onto_line}
 use Rattle.mr_explore_ends.specs.Outcomes.{Outcome, is_so}
@@ -10,6 +14,17 @@ use Rattle.mr_explore_ends.specs.Table.{End, is_shorter}
 -- the end is as each line of the goal says
 abbrev pub meets : List Expectation → Outcome → Bool
 meets goal end = list_all (is_so end) goal
+
+-- both tell of the same, and differ
+abbrev pub is_against : Expectation → Expectation → Bool
+is_against (expected.Winner r won) (expected.Winner s other) = (r == s) && not (option_eq same_attempt won other)
+is_against (expected.Marker there) (expected.Marker other) = not (beq there other)
+is_against (expected.Outcome told) (expected.Outcome other) = not (option_eq beq told other)
+is_against _ _ = false
+
+-- two lines of the goal can't be so at once
+abbrev pub is_contrary : List Expectation → Bool
+is_contrary goal = list_any (λ e. list_any (is_against e) goal) goal
 
 -- ---- the best of them
 

@@ -7,7 +7,7 @@ use Rattle.mr_script.specs.Expected.{outcome_word, winner_word}
 use Rattle.mr_explore_ends.specs.Outcomes.{Outcome}
 use Rattle.mr_explore_ends.specs.Table.{End}
 use Rattle.mr_explore_ends.specs.Goals.{best_of}
-use Rattle.mr_explore_ends.specs.Text.{Found, Sequential, is_sequential}
+use Rattle.mr_explore_ends.specs.Text.{Found, Sequential, is_sequential, marked_are_sequential}
 use Rattle.serde_json.specs.Data.{Data, boolean, null}
 use Rattle.mr_sim_json.specs.Members.{Member, count, line_of, list, object_of, text}
 
@@ -38,12 +38,12 @@ end_object s e = object_of (read_members s e.end ++ shortest_members e)
 abbrev pub end_line : Sequential → End → List ℕ
 end_line s e = line_of (end_object s e)
 
--- how many runs were made, with how many faults at most, whether these are all, and how many ends came
-abbrev pub runs_members : Found → List Member
-runs_members f = (codes "runs", count f.table.runs) ∷ (codes "faults", count f.faults) ∷ (codes "all", boolean f.whole) ∷ (codes "ends", count (length f.table.ends)) ∷ []
+-- how many runs were made, with how many faults at most, whether these are all, how many ends came, and whether the files are right where the marker is
+abbrev pub runs_members : Sequential → Found → List Member
+runs_members s f = (codes "runs", count f.table.runs) ∷ (codes "faults", count f.faults) ∷ (codes "all", boolean f.whole) ∷ (codes "ends", count (length f.table.ends)) ∷ (codes "sequential", boolean (marked_are_sequential s f.table.ends)) ∷ []
 
-abbrev pub runs_line : Found → List ℕ
-runs_line f = line_of (object_of (runs_members f))
+abbrev pub runs_line : Sequential → Found → List ℕ
+runs_line s f = line_of (object_of (runs_members s f))
 
 -- ---- lines
 
@@ -63,4 +63,4 @@ chosen_lines s None f = flat_map (lines_by s f.table.ends) (range_with_len 0 (f.
 chosen_lines s (Some goal) f = best_line s (best_of goal f.table.ends)
 
 abbrev pub ends_json : Sequential → Option (List Expectation) → Found → List ℕ
-ends_json s goal f = chosen_lines s goal f ++ runs_line f
+ends_json s goal f = chosen_lines s goal f ++ runs_line s f

@@ -1,6 +1,6 @@
 -- What is printed of the ends that runs came to (our own profile). All but the scripts stands in comments, so that each part of it, behind the job text, is an input of `play`.
-use Rattle.std.specs.Prelude.{ℕ, ◌+◌, Bool, true, false, List, [], ◌∷◌, ◌++◌, ◌==◌, length, codes, decimal, Option, Some, None, if◌then◌else◌}
-use Rattle.std.specs.List.{flat_map, range_with_len}
+use Rattle.std.specs.Prelude.{ℕ, ◌+◌, Bool, true, false, not, ◌||◌, List, [], ◌∷◌, ◌++◌, ◌==◌, length, codes, decimal, Option, Some, None, if◌then◌else◌}
+use Rattle.std.specs.List.{flat_map, list_all, range_with_len}
 use Rattle.std.specs.Str.{bytes_eq}
 use Rattle.mr_script.specs.declared.expectation.Expectation.{Expectation}
 use Rattle.mr_script_writer.specs.Repeating.{commented}
@@ -20,6 +20,14 @@ are_files (Some said) files = bytes_eq files said
 
 abbrev pub is_sequential : Sequential → Outcome → Bool
 is_sequential s end = are_files s.files end.files
+
+-- where the marker is, the files are those of the sequential execution
+abbrev pub is_sequential_if_marked : Sequential → End → Bool
+is_sequential_if_marked s e = not e.end.marker || is_sequential s e.end
+
+-- so it is of each end
+abbrev pub marked_are_sequential : Sequential → List End → Bool
+marked_are_sequential s ends = list_all (is_sequential_if_marked s) ends
 
 -- ---- the text
 
@@ -41,18 +49,21 @@ if_not_all false = codes ", not all"
 abbrev pub runs_text : Found → List ℕ
 runs_text f = counting (codes "# ") f.table.runs (codes " run") ++ counting (codes " with at most ") f.faults (codes " fault") ++ if_not_all f.whole
 
-abbrev pub sequential_line : Bool → List ℕ
-sequential_line true = codes "# sequential yes\n"
-sequential_line false = codes "# sequential no\n"
+-- whether a reader sees no file, just those of the sequential execution, or others
+abbrev pub seen_line : Sequential → Outcome → List ℕ
+seen_line s end =
+    if length end.files == 0 then codes "# files none\n"
+    else if is_sequential s end then codes "# files those of seq\n"
+    else codes "# files not those of seq\n"
 
 -- how many runs came to an end, and how many faults and events the first shortest of them has
 abbrev pub shortest_line : End → List ℕ
 shortest_line e =
     counting (codes "# ") e.runs (codes " run") ++ counting (codes "; the first shortest has ") e.faults (codes " fault") ++ counting (codes " and ") e.events (codes " event") ++ 10 ∷ []
 
--- an end: that line, what is printed of it, whether its files are those of the sequential execution, and the script
+-- an end: that line, what is printed of it, what its files are, and the script
 abbrev pub end_text : Sequential → End → List ℕ
-end_text s e = shortest_line e ++ commented (outcome_text e.end) ++ sequential_line (is_sequential s e.end) ++ e.script
+end_text s e = shortest_line e ++ commented (outcome_text e.end) ++ seen_line s e.end ++ e.script
 
 -- an end behind an empty line, if its script has just this many faults
 abbrev pub text_if : Sequential → ℕ → End → List ℕ
@@ -61,10 +72,14 @@ text_if s faults e = if e.faults == faults then 10 ∷ end_text s e else []
 abbrev pub ends_text : Sequential → List End → ℕ → List ℕ
 ends_text s ends faults = flat_map (text_if s faults) ends
 
--- all ends, those of the fewest faults first
+abbrev pub marked_line : Bool → List ℕ
+marked_line true = codes "# with the marker the files are those of seq: yes\n"
+marked_line false = codes "# with the marker the files are those of seq: no\n"
+
+-- how many runs and ends there are, whether the files are right where the marker is, and all ends, those of the fewest faults first
 abbrev pub all_text : Sequential → Found → List ℕ
 all_text s f =
-    runs_text f ++ counting (codes ", ") (length f.table.ends) (codes " end") ++ 10 ∷ flat_map (ends_text s f.table.ends) (range_with_len 0 (f.faults + 1))
+    runs_text f ++ counting (codes ", ") (length f.table.ends) (codes " end") ++ 10 ∷ marked_line (marked_are_sequential s f.table.ends) ++ flat_map (ends_text s f.table.ends) (range_with_len 0 (f.faults + 1))
 
 -- the best end that meets a goal, or `none`
 abbrev pub best_text : Sequential → Option End → List ℕ

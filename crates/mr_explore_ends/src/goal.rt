@@ -1,9 +1,9 @@
 //! Ends that are sought.
 ghost use Rattle.std.specs.Prelude.{◌≡◌, IfOk, IfSome, IfNone};
-ghost use Rattle.std.specs.List.{slice_get};
+ghost use Rattle.std.specs.List.{list_any, slice_get};
 ghost use Rattle.std.specs.Option.{option_eq};
 ghost use Rattle.mr_ids.specs.Same.{same_attempt};
-ghost use Rattle.mr_explore_ends.specs.Goals.{IsGoal, IsNoGoal, meets, without_blank};
+ghost use Rattle.mr_explore_ends.specs.Goals.{IsGoal, IsNoGoal, is_against, is_contrary, meets, without_blank};
 ghost use Rattle.mr_explore_ends.specs.Outcomes.{has_winner, is_so};
 
 use crate::outcome::{Outcome, are_flags, are_told};
@@ -43,6 +43,34 @@ fn is_winner(a: &Option<AttemptId>, b: &Option<AttemptId>) -> bool
     ensures { result ≡ option_eq same_attempt a.now b.now }
 {
     *a == *b
+}
+
+/// Whether two lines of a goal can't be so at once: they tell of the same, and differ. No end meets such a goal.
+pub fn is_contrary(goal: &[Expectation]) -> bool
+    ensures { result ≡ is_contrary goal.now }
+{
+    goal.iter().any(|line| has_against(goal, line))
+}
+
+// Whether a line of the goal is against this one.
+fn has_against(goal: &[Expectation], line: &Expectation) -> bool
+    ensures { result ≡ list_any (is_against line.now) goal.now }
+{
+    goal.iter().any(|other| is_against(line, other))
+}
+
+// Whether both tell of the same, and differ.
+fn is_against(line: &Expectation, other: &Expectation) -> bool
+    ensures { result ≡ is_against line.now other.now }
+{
+    match (line, other) {
+        (Expectation::Winner(reduce, won), Expectation::Winner(same, winner)) => {
+            reduce == same && !is_winner(won, winner)
+        }
+        (Expectation::Marker(there), Expectation::Marker(marker)) => !are_flags(*there, *marker),
+        (Expectation::Outcome(told), Expectation::Outcome(outcome)) => !are_told(*told, *outcome),
+        _ => false,
+    }
 }
 
 fn without_blank(line: &[u8]) -> &[u8]

@@ -12,7 +12,7 @@ ghost use Rattle.serde_json.specs.View.{members_view, view};
 use crate::best::best_of;
 use crate::outcome::Outcome;
 use crate::row::Row;
-use crate::sequential::Sequential;
+use crate::sequential::{Sequential, marked_are_sequential};
 use crate::table::Table;
 use crate::text::Found;
 use mr_ids::AttemptId;
@@ -35,7 +35,7 @@ pub fn put_ends(
     ensures { OnOk result (out.new.items ≡ out.old.items ++ ends_json sequential.now (option_map (λ g. g.now) goal.entry) (as_found found.now)) }
 {
     put_chosen(out, alloc, found, sequential, goal)?;
-    put_runs(out, alloc, found)
+    put_runs(out, alloc, found, sequential)
 }
 
 // All ends, or the best that meets the goal.
@@ -216,20 +216,31 @@ fn outcome_word(alloc: Global, outcome: Option<bool>) -> Result<Vec<u8>, AllocEr
 
 // How many runs were made.
 #[tactic(auto, using(crate::proofs::EndObjects::runs_are_plain))]
-fn put_runs(out: &mut Vec<u8>, alloc: Global, found: &Found<'_>) -> Result<(), AllocError>
-    ensures { OnOk result (out.new.items ≡ out.old.items ++ runs_line (as_found found.now)) }
+fn put_runs(
+    out: &mut Vec<u8>,
+    alloc: Global,
+    found: &Found<'_>,
+    sequential: &Sequential,
+) -> Result<(), AllocError>
+    ensures { OnOk result (out.new.items ≡ out.old.items ++ runs_line sequential.now (as_found found.now)) }
 {
-    let value = runs_value(alloc, found)?;
+    let value = runs_value(alloc, found, sequential)?;
     put_line(out, alloc, &value)
 }
 
-fn runs_value(alloc: Global, found: &Found<'_>) -> Result<Value, AllocError>
-    ensures { IfOk result (λ v. view v ≡ object_of (runs_members (as_found found.now))) }
+fn runs_value(
+    alloc: Global,
+    found: &Found<'_>,
+    sequential: &Sequential,
+) -> Result<Value, AllocError>
+    ensures { IfOk result (λ v. view v ≡ object_of (runs_members sequential.now (as_found found.now))) }
 {
     let mut object = Object::new(alloc);
     put_count(&mut object, alloc, "runs", found.table.runs())?;
     put_count(&mut object, alloc, "faults", u64::from(found.faults))?;
     put_flag(&mut object, alloc, "all", found.whole)?;
     put_count(&mut object, alloc, "ends", found.table.rows().len() as u64)?;
+    let sequential = marked_are_sequential(found.table, sequential);
+    put_flag(&mut object, alloc, "sequential", sequential)?;
     Ok(into_value(object))
 }

@@ -28,7 +28,7 @@ mod table;
 mod text;
 
 pub use best::best_of;
-pub use goal::{meets, read_goal};
+pub use goal::{is_contrary, meets, read_goal};
 pub use json_lines::put_ends;
 pub use outcome::Outcome;
 pub use row::Row;

@@ -1,9 +1,13 @@
 //! The files of the sequential execution.
 ghost use Rattle.std.specs.Prelude.{◌≡◌};
+ghost use Rattle.std.specs.List.{list_all};
 ghost use Rattle.std.specs.Option.{option_map};
-ghost use Rattle.mr_explore_ends.specs.Text.{is_sequential};
+ghost use Rattle.mr_explore_ends.specs.Rows.{as_end};
+ghost use Rattle.mr_explore_ends.specs.Text.{is_sequential, is_sequential_if_marked, marked_are_sequential};
 
 use crate::outcome::Outcome;
+use crate::row::Row;
+use crate::table::Table;
 use std::marker::Model;
 
 /// What `seq` prints of a job, if it prints anything.
@@ -38,4 +42,26 @@ impl Sequential {
             None => false,
         }
     }
+}
+
+/// Whether wherever the marker is, the files are those of the sequential execution.
+pub fn marked_are_sequential(table: &Table, sequential: &Sequential) -> bool
+    ensures { result ≡ marked_are_sequential sequential.now table.now.ends }
+{
+    rows_are_sequential(table.rows(), sequential)
+}
+
+// The same, of rows.
+fn rows_are_sequential(rows: &[Row], sequential: &Sequential) -> bool
+    ensures { result ≡ list_all (λ row. is_sequential_if_marked sequential.now (as_end row)) rows.now }
+{
+    rows.iter()
+        .all(|row| is_sequential_if_marked(sequential, row))
+}
+
+// Whether the marker is not there, or the files are those of the sequential execution.
+fn is_sequential_if_marked(sequential: &Sequential, row: &Row) -> bool
+    ensures { result ≡ is_sequential_if_marked sequential.now (as_end row.now) }
+{
+    !row.end.marker() || sequential.is_of(&row.end)
 }

@@ -4,11 +4,12 @@ ghost use Rattle.std.specs.List.{flat_map, range_with_len};
 ghost use Rattle.std.specs.Option.{option_map};
 ghost use Rattle.mr_explore_ends.specs.Founds.{as_found};
 ghost use Rattle.mr_explore_ends.specs.Rows.{as_end};
-ghost use Rattle.mr_explore_ends.specs.Text.{all_text, best_text, counting, end_text, ends_text, explored_text, found_text, if_not_all, runs_text, sequential_line, shortest_line, text_if};
+ghost use Rattle.mr_explore_ends.specs.Text.{all_text, best_text, counting, end_text, ends_text, explored_text, found_text, if_not_all, marked_line, runs_text, seen_line, shortest_line, text_if};
 
 use crate::best::best_of;
+use crate::outcome::Outcome;
 use crate::row::Row;
-use crate::sequential::Sequential;
+use crate::sequential::{Sequential, marked_are_sequential};
 use crate::table::Table;
 use itoa::Buffer;
 use mr_script::Expectation;
@@ -51,7 +52,19 @@ fn put_all(
     put_runs(out, found)?;
     put_count(out, b", ", found.table.rows().len() as u64, b" end")?;
     out.extend_from_slice(b"\n")?;
+    put_marked(out, marked_are_sequential(found.table, sequential))?;
     put_by_faults(out, alloc, found.table, found.faults, sequential)
+}
+
+// Whether the files are right where the marker is.
+fn put_marked(out: &mut Vec<u8>, are_sequential: bool) -> Result<(), AllocError>
+    ensures { OnOk result (out.new.items ≡ out.old.items ++ marked_line are_sequential) }
+{
+    if are_sequential {
+        out.extend_from_slice(b"# with the marker the files are those of seq: yes\n")
+    } else {
+        out.extend_from_slice(b"# with the marker the files are those of seq: no\n")
+    }
 }
 
 // The ends whose scripts have at most `faults` faults, those with fewer first.
@@ -162,7 +175,7 @@ fn put_end(
     let text = row.end.text(alloc)?;
     put_shortest(out, row)?;
     put_comments(out, &text)?;
-    put_sequential(out, sequential.is_of(&row.end))?;
+    put_seen(out, &row.end, sequential)?;
     out.extend_from_slice(&row.script)
 }
 
@@ -181,14 +194,16 @@ fn put_shortest(out: &mut Vec<u8>, row: &Row) -> Result<(), AllocError>
     out.extend_from_slice(b"\n")
 }
 
-// Whether a reader sees just the files of the sequential execution.
-fn put_sequential(out: &mut Vec<u8>, is_sequential: bool) -> Result<(), AllocError>
-    ensures { OnOk result (out.new.items ≡ out.old.items ++ sequential_line is_sequential) }
+// Whether a reader sees no file, just those of the sequential execution, or others.
+fn put_seen(out: &mut Vec<u8>, end: &Outcome, sequential: &Sequential) -> Result<(), AllocError>
+    ensures { OnOk result (out.new.items ≡ out.old.items ++ seen_line sequential.now end.now) }
 {
-    if is_sequential {
-        out.extend_from_slice(b"# sequential yes\n")
+    if end.files().is_empty() {
+        out.extend_from_slice(b"# files none\n")
+    } else if sequential.is_of(end) {
+        out.extend_from_slice(b"# files those of seq\n")
     } else {
-        out.extend_from_slice(b"# sequential no\n")
+        out.extend_from_slice(b"# files not those of seq\n")
     }
 }
 

@@ -28,7 +28,7 @@ use Rattle.mr_world.specs.declared.limits.TheConstants.{MAX_EVENTS}
 use Rattle.mr_world.specs.Readings.{input_in, living, next_living}
 use Rattle.mr_play.specs.EventNames.{stops_at}
 use Rattle.mr_play.specs.Expectations.{is_met, unmet_line, value_in}
-use Rattle.mr_play.specs.Played.{Played, Next, begun, world, result_of, computed_of, computing, stepping, next_packet, next_duty, next_launch, next_step, next_of, taken, unless_refused, made, calmed, calmed_by, calms, is_through, cursor_at, stepped_by, most_calm, losing, expecting, obeyed, played}
+use Rattle.mr_play.specs.Played.{Played, Next, begun, world, result_of, computed_of, computing, stepping, next_packet, next_duty, next_launch, next_step, next_of, taken, unless_refused, made, calmed, calmed_by, calms, is_through, cursor_at, stepped_by, stop_of, most_of, losing, expecting, obeyed, played}
 use Rattle.mr_play.specs.Text.{job_as, config_of, played_of}
 use Rattle.mr_play.specs.Faithful.{ScriptsAreFaithful}
 
@@ -244,7 +244,7 @@ module _ (job : Job) (cfg : Config) (within : Limits) where
   obeyed_honest : (id : JobId) (line : ℕ) (c : Command) → IsCommand id c → Keeps (obeyed job cfg within line c)
   obeyed_honest id line (command.Makes e) i s t h q = made_honest line e (stepped_by job cfg within e s.stepped) s t h (told_good s.events id e i) q
   obeyed_honest id line (command.Compute c) i s t h q = if_there _ (computing job cfg within (world job cfg within s) c) t (λ e is q. made_honest line e (Some c) s t h (computing_good s.events c e is) q) q
-  obeyed_honest id line (command.Calm k stop) i s t h q = calms_honest k stop most_calm s t h q
+  obeyed_honest id line (command.Calm k until) i s t h q = calms_honest k (stop_of until) (most_of until) s t h q
   obeyed_honest id line (command.Drop place) i s t h q = subst Honest (some_is (losing job cfg within place s) t q) h
   obeyed_honest id line (command.Expect e) i s t h q = subst Honest (some_is (expecting job cfg within line e s) t q) (expecting_honest line e s h)
 

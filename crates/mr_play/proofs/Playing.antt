@@ -25,7 +25,7 @@ use Rattle.mr_world.specs.declared.limits.TheConstants.{MAX_EVENTS}
 use Rattle.mr_sim_commands.specs.declared.job.submission.Submission.{Submission}
 use Rattle.mr_play.specs.EventNames.{duty_event, wish_event, stops_at}
 use Rattle.mr_play.specs.Expectations.{is_met, unmet_line, value_in}
-use Rattle.mr_play.specs.Played.{Played, Next, world, computing, taken, unless_refused, made, calmed, calmed_by, calms, is_through, cursor_at, next_of, stepped_by, most_calm, losing, expecting, obeyed, played}
+use Rattle.mr_play.specs.Played.{Played, Next, world, computing, taken, unless_refused, made, calmed, calmed_by, calms, is_through, cursor_at, next_of, stepped_by, stop_of, most_of, losing, expecting, obeyed, played}
 use Rattle.mr_play.specs.Sources.{noted, stretch_of, stretches}
 use Rattle.mr_script.specs.Lines.{after}
 use Rattle.mr_script.specs.Script.{AreCommands, IsFirstBad}
@@ -198,7 +198,7 @@ module _ (job : Job) (cfg : Config) (within : Limits) where
   unfolding Grows
   obeyed_longer line (command.Makes e) s t h = made_longer line e (stepped_by job cfg within e s.stepped) s t h
   obeyed_longer line (command.Compute c) s t h = if_there _ (computing job cfg within (world job cfg within s) c) s t (λ e h. made_longer line e (Some c) s t h) h
-  obeyed_longer line (command.Calm k stop) s t h = calms_longer k stop most_calm s t h
+  obeyed_longer line (command.Calm k until) s t h = calms_longer k (stop_of until) (most_of until) s t h
   obeyed_longer line (command.Drop place) s t h = lost_longer place s t (longer_same (losing job cfg within place s) t h)
   obeyed_longer line (command.Expect e) s t h = longer_trans s (expecting job cfg within line e s) t (expecting_longer line e s) (longer_same (expecting job cfg within line e s) t h)
 

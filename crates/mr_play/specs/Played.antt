@@ -22,6 +22,8 @@ use Rattle.mr_world.specs.declared.limits.TheConstants.{MAX_EVENTS}
 use Rattle.mr_world.specs.Readings.{input_in, living, next_living, wish_by}
 use Rattle.mr_script.specs.declared.command.Command.{Command}
 use Rattle.mr_script.specs.declared.command.Command.TheVariants as command
+use Rattle.mr_script.specs.declared.command.Until.{Until}
+use Rattle.mr_script.specs.declared.command.Until.TheVariants.{Most, Before, Through}
 use Rattle.mr_script.specs.declared.expectation.Expectation.{Expectation}
 use Rattle.mr_script.specs.declared.event_name.EventName.{EventName}
 use Rattle.mr_script.specs.declared.event_name.EventName.TheVariants as name
@@ -102,9 +104,21 @@ has_ended _ = false
 abbrev pub is_through : Config → World → ℕ → Bool
 is_through cfg w k = not (w.is_master k) || has_ended (seen_by cfg w k).phase
 
--- more than this a calm does not make
+-- more than this a calm does not make, if it is not to go through
 unfoldable pub most_calm : ℕ
 most_calm = 10000
+
+-- before which event a calm stops, if it is told one
+abbrev pub stop_of : Until → Option EventName
+stop_of Most = None
+stop_of (Before n) = Some n
+stop_of Through = None
+
+-- How many events it makes at most. One that goes through makes as many as a journal holds, so it ends by its own rules, or at that limit.
+unfoldable pub most_of : Until → ℕ
+most_of Most = most_calm
+most_of (Before n) = most_calm
+most_of Through = MAX_EVENTS
 
 module _ (job : Job) (cfg : Config) (within : Limits) where
   -- the definition's bytes of a container's input; its death where a user function or the shuffle refuses; no event
@@ -193,7 +207,7 @@ module _ (job : Job) (cfg : Config) (within : Limits) where
   abbrev pub obeyed : ℕ → Command → Played → Option Played
   obeyed line (command.Makes e) s = made line e (stepped_by e s.stepped) s
   obeyed line (command.Compute c) s = option_and_then (λ e. made line e (Some c) s) (computing (world s) c)
-  obeyed line (command.Calm k stop) s = calms k stop most_calm s
+  obeyed line (command.Calm k until) s = calms k (stop_of until) (most_of until) s
   obeyed line (command.Drop place) s = Some (losing place s)
   obeyed line (command.Expect e) s = Some (expecting line e s)
 

@@ -4,6 +4,7 @@ use Rattle.mr_ids.specs.declared.id.TaskKind.TheVariants.{Map}
 use Rattle.mr_world_events.specs.declared.why.Why.TheVariants.{WrongGeneration, NoMaster, NotRunning, NoPacket, NoDuty}
 use Rattle.mr_script.specs.declared.command.Command.{Command}
 use Rattle.mr_script.specs.declared.command.Command.TheVariants as command
+use Rattle.mr_script.specs.declared.command.Until.TheVariants.{Most, Before, Through}
 use Rattle.mr_script.specs.declared.event_name.EventName.TheVariants as name
 use Rattle.mr_world_model.specs.Packets.{Config}
 use Rattle.mr_world_model.specs.World.{Event, Start, Crash, Duty, LaunchOn, Deliver, Calm, Unavailable}
@@ -32,8 +33,9 @@ pub record PlayedRows : Type 0 where
       (Start 1 0 ∷ Crash 1 0 ∷ [])
       (refused_line 3 WrongGeneration ++ refused_line 4 NoMaster ++ refused_line 5 NotRunning ++ refused_line 6 NoPacket ++ refused_line 8 NoMaster)
   -- a calm stops before the event that it is told
-  pub stops : LeadTo ((2, command.Makes (Start 1 0)) ∷ (3, command.Calm 1 (Some name.Marks)) ∷ []) (Start 1 0 ∷ []) []
-  -- a calm of a master that is not there makes nothing, and so does a calm of a master that has stopped
-  pub absent : LeadTo ((2, command.Calm 1 None) ∷ []) [] []
-  pub stopped : LeadTo ((2, command.Makes (Start 1 0)) ∷ (3, command.Makes (Duty 1 Unavailable)) ∷ (4, command.Calm 1 None) ∷ (6, command.Makes (Duty 1 Calm)) ∷ [])
+  pub stops : LeadTo ((2, command.Makes (Start 1 0)) ∷ (3, command.Calm 1 (Before name.Marks)) ∷ []) (Start 1 0 ∷ []) []
+  -- a calm of a master that is not there makes nothing, also one that goes through, and so does a calm of a master that has stopped
+  pub absent : LeadTo ((2, command.Calm 1 Most) ∷ []) [] []
+  pub absent_through : LeadTo ((2, command.Calm 1 Through) ∷ []) [] []
+  pub stopped : LeadTo ((2, command.Makes (Start 1 0)) ∷ (3, command.Makes (Duty 1 Unavailable)) ∷ (4, command.Calm 1 Most) ∷ (6, command.Makes (Duty 1 Calm)) ∷ [])
       (Start 1 0 ∷ Duty 1 Unavailable ∷ []) (refused_line 6 NoDuty)

@@ -9,7 +9,7 @@ use Rattle.mr_play.specs.declared.sources.Stretch.{Stretch}
 use Rattle.mr_play.specs.Played.{Played, obeyed}
 
 abbrev pub is_calm : Command → Bool
-is_calm (command.Calm k stop) = true
+is_calm (command.Calm k until) = true
 is_calm _ = false
 
 -- the events of a line end where `end` events had happened

@@ -8,7 +8,7 @@ ghost use Rattle.mr_world.specs.Limits.{within};
 ghost use Rattle.mr_world.specs.Readings.{due_in};
 ghost use Rattle.mr_play.specs.EventNames.{stops_at};
 ghost use Rattle.mr_play.specs.Text.{job_as};
-ghost use Rattle.mr_play.specs.Played.{cursor_at, is_dropped, is_through, most_calm, next_of, next_step};
+ghost use Rattle.mr_play.specs.Played.{cursor_at, is_dropped, is_through, most_of, next_of, next_step, stop_of};
 ghost use Rattle.mr_play.specs.Players.{calm_of, cluster_in, next_in, CalmsOnce, Goes, HappensAs, MakesNext, names_of};
 
 use crate::event_names::{duty_event, wish_event};
@@ -18,14 +18,35 @@ use crate::player::Player;
 use mr_ids::TaskId;
 use mr_master_model::{DutyName, Phase};
 use mr_packet::ContainerId;
-use mr_script::EventName;
-use mr_world::World;
+use mr_script::{EventName, Until};
+use mr_world::{MAX_EVENTS, World};
 use mr_world_events::{Event, Weather};
 use std::alloc::{AllocError, Global};
 use std::collections::BTreeSet;
 
-/// Most events of a calm.
+/// Most events of a calm that is not to go through.
 pub const MOST_CALM: u64 = 10_000;
+
+/// Before which event a calm stops, if it is told one.
+pub(crate) fn stop_of(until: Until) -> Option<EventName>
+    ensures { result ≡ stop_of until }
+{
+    match until {
+        Until::Before(name) => Some(name),
+        Until::Most | Until::Through => None,
+    }
+}
+
+/// How many events a calm makes at most. One that goes through makes as many as a journal holds.
+#[tactic(auto, unfolding(crate::specs::Played::most_of, crate::specs::Played::most_calm))]
+pub(crate) fn most_of(until: Until) -> u64
+    ensures { result ≡ most_of until }
+{
+    match until {
+        Until::Most | Until::Before(_) => MOST_CALM,
+        Until::Through => MAX_EVENTS as u64,
+    }
+}
 
 /// What a calm makes next.
 #[derive(Clone, Copy, Debug, PartialEq, Eq)]
@@ -61,20 +82,14 @@ impl Coming {
 }
 
 impl Player {
-    /// Makes events until master `k` is Ended, Stopped or not alive, nothing is left to do, an event of the name `stop` would be
-    /// next, or 10,000 were made.
-    pub(crate) fn calm(
-        &mut self,
-        alloc: Global,
-        k: u32,
-        stop: Option<EventName>,
-    ) -> Result<(), PlayerFault>
-        ensures { Goes self.old (calm_of self.old k stop most_calm) result self.new }
+    /// Makes events until master `k` is Ended, Stopped or not alive, nothing is left to do, or it is as far as the line says.
+    pub(crate) fn calm(&mut self, alloc: Global, k: u32, until: Until) -> Result<(), PlayerFault>
+        ensures { Goes self.old (calm_of self.old k (stop_of until) (most_of until)) result self.new }
     {
-        self.calm_for(alloc, k, stop, MOST_CALM)
+        self.calm_for(alloc, k, stop_of(until), most_of(until))
     }
 
-    /// The same, where at most `most` events are made. A calm goes on where the last one was.
+    /// The same, where an event of the name `stop` is not made, and at most `most` events are. A calm goes on where the last one was.
     pub fn calm_for(
         &mut self,
         alloc: Global,

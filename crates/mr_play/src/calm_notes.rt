@@ -1,11 +1,11 @@
 //! What is said of a calm that ended otherwise than its line asks. It goes to standard error, and no clause speaks of it.
 ghost use Rattle.std.specs.Prelude.{◌≡◌};
 
-use crate::calm::MOST_CALM;
+use crate::calm::{most_of, stop_of};
 use crate::player::Player;
 use itoa::Buffer;
 use mr_master_model::Phase;
-use mr_script::{EventName, event_word};
+use mr_script::{Until, event_word};
 use std::alloc::AllocError;
 
 /// How a calm ended.
@@ -29,11 +29,13 @@ enum CalmEnd {
 
 impl CalmEnd {
     // Whether it is as the line asks: where a name was told, before it; else of a master that was there, and not cut off.
-    fn is_as_asked(self, stop: Option<EventName>) -> bool {
+    fn is_as_asked(self, until: Until) -> bool {
         match self {
             CalmEnd::BeforeName => true,
             CalmEnd::NeverStarted | CalmEnd::Most => false,
-            CalmEnd::Ended | CalmEnd::Stopped | CalmEnd::NotAlive | CalmEnd::Idle => stop.is_none(),
+            CalmEnd::Ended | CalmEnd::Stopped | CalmEnd::NotAlive | CalmEnd::Idle => {
+                stop_of(until).is_none()
+            }
         }
     }
 
@@ -56,26 +58,21 @@ impl Player {
         &mut self,
         line: usize,
         k: u32,
-        stop: Option<EventName>,
+        until: Until,
         before: usize,
     ) -> Result<(), AllocError>
         ensures { self.new ≡ record self.old { notes = self.new.notes } }
     {
-        let end = self.calm_end(k, stop, before)?;
-        if end.is_as_asked(stop) {
+        let end = self.calm_end(k, until, before)?;
+        if end.is_as_asked(until) {
             return Ok(());
         }
-        put_note(&mut self.notes, line, k, stop, end)?;
+        put_note(&mut self.notes, line, k, until, end)?;
         Ok(())
     }
 
     // How the calm ended. It looks for a name only where its last event was followed by such a look.
-    fn calm_end(
-        &self,
-        k: u32,
-        stop: Option<EventName>,
-        before: usize,
-    ) -> Result<CalmEnd, AllocError> {
+    fn calm_end(&self, k: u32, until: Until, before: usize) -> Result<CalmEnd, AllocError> {
         match self.world.phase(k) {
             None if k > self.world.newest() => return Ok(CalmEnd::NeverStarted),
             None => return Ok(CalmEnd::NotAlive),
@@ -84,11 +81,11 @@ impl Player {
             Some(_) => {}
         }
         let made = self.world.journal().len().saturating_sub(before);
-        if made >= MOST_CALM as usize {
+        if made as u64 >= most_of(until) {
             return Ok(CalmEnd::Most);
         }
         match self.coming(k)? {
-            Some(coming) if coming.stops_at(stop) => Ok(CalmEnd::BeforeName),
+            Some(coming) if coming.stops_at(stop_of(until)) => Ok(CalmEnd::BeforeName),
             _ => Ok(CalmEnd::Idle),
         }
     }
@@ -99,26 +96,39 @@ fn put_note(
     out: &mut Vec<u8>,
     line: usize,
     k: u32,
-    stop: Option<EventName>,
+    until: Until,
     end: CalmEnd,
 ) -> Result<(), AllocError> {
     let mut buffer = Buffer::new();
     out.extend_from_slice(b"mrsim: line ")?;
     out.extend_from_slice(buffer.format(line).as_bytes())?;
     out.extend_from_slice(b": calm ended")?;
-    if let Some(name) = stop {
+    if let Some(name) = stop_of(until) {
         out.extend_from_slice(b" without ")?;
         out.extend_from_slice(event_word(name))?;
     }
     out.extend_from_slice(b": ")?;
     end.put(out, k)?;
+    if end == CalmEnd::Most && until == Until::Most {
+        put_master_word(out, b"; calm ", k, b" all makes more")?;
+    }
     out.extend_from_slice(b"\n")
 }
 
 fn put_master(out: &mut Vec<u8>, k: u32, did: &[u8]) -> Result<(), AllocError> {
-    let mut buffer = Buffer::new();
-    out.extend_from_slice(b"master ")?;
-    out.extend_from_slice(buffer.format(k).as_bytes())?;
-    out.extend_from_slice(b" ")?;
+    put_master_word(out, b"master ", k, b" ")?;
     out.extend_from_slice(did)
+}
+
+// A master's generation between words.
+fn put_master_word(
+    out: &mut Vec<u8>,
+    before: &[u8],
+    k: u32,
+    behind: &[u8],
+) -> Result<(), AllocError> {
+    let mut buffer = Buffer::new();
+    out.extend_from_slice(before)?;
+    out.extend_from_slice(buffer.format(k).as_bytes())?;
+    out.extend_from_slice(behind)
 }

@@ -1,7 +1,7 @@
 //! A script that is played: a world, and how far the script is.
 ghost use Rattle.std.specs.Prelude.{◌≡◌, [], ◌∷◌, ◌++◌, length, Some, OnOk, IfOk, IfErr};
 ghost use Rattle.mr_play.specs.Text.{config_of, job_as};
-ghost use Rattle.mr_play.specs.Played.{begun, computing, expecting, losing, made, most_calm, obeyed, played, stepped_by};
+ghost use Rattle.mr_play.specs.Played.{begun, computing, expecting, losing, made, most_of, obeyed, played, stepped_by, stop_of};
 ghost use Rattle.mr_play.specs.Players.{calm_of, cluster_in, state_in, Goes, GoesNoting, IsEvent, Applies};
 ghost use Rattle.mr_play.specs.Sources.{is_calm, stretch_of, stretches};
 ghost use Rattle.mr_sim_commands.specs.job.Submission.{IsWithinLimits};
@@ -15,7 +15,7 @@ use crate::setup::setup_of;
 use crate::sources::{Source, Stretch};
 use crate::works::computed;
 use mr_packet::ContainerId;
-use mr_script::{Command, EventName, Expectation};
+use mr_script::{Command, Expectation, Until};
 use mr_sim_commands::{IdleKeys, JobKind, Submission};
 use mr_world::{Config, World, WorldFault};
 use mr_world_events::{Event, Why};
@@ -108,7 +108,7 @@ impl Player {
         match command {
             Command::Makes(event) => self.happen(line, event),
             Command::Compute(c) => self.compute_at(alloc, line, c),
-            Command::Calm(k, stop) => self.calm_at(alloc, line, k, stop),
+            Command::Calm(k, until) => self.calm_at(alloc, line, k, until),
             Command::Drop(packet) => self.lose(packet),
             Command::Expect(expectation) => self.expect(alloc, line, &expectation),
         }
@@ -120,13 +120,13 @@ impl Player {
         alloc: Global,
         line: usize,
         k: u32,
-        stop: Option<EventName>,
+        until: Until,
     ) -> Result<(), PlayerFault>
-        ensures { Goes self.old (calm_of self.old k stop most_calm) result self.new }
+        ensures { Goes self.old (calm_of self.old k (stop_of until) (most_of until)) result self.new }
     {
         let before = self.world.journal().len();
-        self.calm(alloc, k, stop)?;
-        self.note_calm(line, k, stop, before)?;
+        self.calm(alloc, k, until)?;
+        self.note_calm(line, k, until, before)?;
         Ok(())
     }
 

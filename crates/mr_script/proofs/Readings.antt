@@ -11,11 +11,13 @@ use Rattle.mr_world_events.specs.declared.event.Weather.TheVariants.{Calm, Unava
 use Rattle.mr_world_events.specs.declared.event.Event.TheVariants as event
 use Rattle.mr_script.specs.declared.command.Command.{Command}
 use Rattle.mr_script.specs.declared.command.Command.TheVariants as command
+use Rattle.mr_script.specs.declared.command.Until.{Until}
+use Rattle.mr_script.specs.declared.command.Until.TheVariants.{Most, Before, Through}
 use Rattle.mr_script.specs.declared.event_name.EventName.{EventName}
 use Rattle.mr_script.specs.Lines.{before, after, is_comment, lines_of}
 use Rattle.mr_script.specs.Names.{name_text}
 use Rattle.mr_script.specs.Script.{line_of, rest_of, IsGeneration, IsContainer, IsTaskOf, IsCommand, IsLine}
-use Rattle.mr_script.specs.Words.{with_word, kind_word, task_words, container_word, and_words, fault_word, stop_words}
+use Rattle.mr_script.specs.Words.{with_word, kind_word, task_words, container_word, and_words, fault_word, name_words, until_words}
 use Rattle.mr_script.specs.Verb.{verb_of}
 use Rattle.mr_script.specs.Laws.{OneReading, ReadOrBad, OneFirstBad, CommentsAreNoCommands}
 use Rattle.mr_script.proofs.Expectations.{same-expected}
@@ -61,13 +63,21 @@ fault-same Unanswered Calm e = absurd (cc)
 fault-same Unavailable Unanswered e = absurd (cc)
 fault-same Unanswered Unavailable e = absurd (cc)
 
-stop-same : (s t : Option EventName) → stop_words s ≡ stop_words t → s ≡ t
-stop-same None None e = refl
-stop-same None (Some n) e = absurd (cc)
-stop-same (Some m) None e = absurd (cc)
-stop-same (Some m) (Some n) e =
-    let p = some-inj (with_word (codes "before") (name_text m)) (with_word (codes "before") (name_text n)) e in
-    ap Some (name_text-injective m n (some-inj (name_text m) (name_text n) (ap (after 32) p)))
+before-is-not-all : (n : EventName) → name_words n ≡ codes "all" → ⊥
+before-is-not-all n e = let clash : ◌≡◌ {A = ℕ} 98 97 = ap (λ w. slice_index w 0) e in absurd (omega (arith, clash))
+
+until-same : (s t : Until) → until_words s ≡ until_words t → s ≡ t
+until-same Most Most e = refl
+until-same Most (Before n) e = absurd (cc)
+until-same Most Through e = absurd (cc)
+until-same (Before m) Most e = absurd (cc)
+until-same (Before m) (Before n) e =
+    let p = some-inj (name_words m) (name_words n) e in
+    ap Before (name_text-injective m n (some-inj (name_text m) (name_text n) (ap (after 32) p)))
+until-same (Before m) Through e = absurd (before-is-not-all m (some-inj (name_words m) (codes "all") e))
+until-same Through Most e = absurd (cc)
+until-same Through (Before n) e = absurd (before-is-not-all n (some-inj (name_words n) (codes "all") (sym e)))
+until-same Through Through e = refl
 
 kind-same : (k l : TaskKind) → kind_word k ≡ kind_word l → k ≡ l
 kind-same Map Map e = refl
@@ -125,8 +135,8 @@ same-parts job (command.Makes (event.Die a)) (command.Makes (event.Die b)) g h v
 same-parts job (command.Makes (event.NodeRestart a)) (command.Makes (event.NodeRestart b)) g h v e = ap (λ x. command.Makes (event.NodeRestart x)) (small-same a b g h e)
 same-parts job (command.Compute a) (command.Compute b) g h v e = ap command.Compute (container-same a b g h e)
 same-parts job (command.Calm k s) (command.Calm m t) g h v e =
-    let p = ands-same (decimal k) (decimal m) (stop_words s) (stop_words t) (no-space k (low k g)) (no-space m (low m h)) e in
-    ap₂ command.Calm (generation-same k m g h p.front) (stop-same s t p.rest)
+    let p = ands-same (decimal k) (decimal m) (until_words s) (until_words t) (no-space k (low k g)) (no-space m (low m h)) e in
+    ap₂ command.Calm (generation-same k m g h p.front) (until-same s t p.rest)
 same-parts job (command.Drop a) (command.Drop b) g h v e = ap command.Drop (decimal_injective a b g h e)
 same-parts job (command.Expect a) (command.Expect b) g h v e = ap command.Expect (same-expected a b g h e)
 same-parts job (command.Makes (event.Computed c bytes)) d g h v e = absurd g
@@ -146,7 +156,7 @@ after-line job (command.Makes (event.Die c)) h = refl
 after-line job (command.Makes (event.NodeRestart n)) h = refl
 after-line job (command.Makes (event.Expire k n)) h = refl
 after-line job (command.Compute c) h = refl
-after-line job (command.Calm k stop) h = refl
+after-line job (command.Calm k until) h = refl
 after-line job (command.Drop i) h = refl
 after-line job (command.Expect e) h = refl
 
@@ -180,7 +190,7 @@ no-comment (command.Makes (event.Die c)) = refl
 no-comment (command.Makes (event.NodeRestart n)) = refl
 no-comment (command.Makes (event.Expire k n)) = refl
 no-comment (command.Compute c) = refl
-no-comment (command.Calm k stop) = refl
+no-comment (command.Calm k until) = refl
 no-comment (command.Drop i) = refl
 no-comment (command.Expect e) = refl
 

@@ -27,7 +27,7 @@ spelled job (command.Makes (event.Die c)) h = record { verb = verb.Die; is = ref
 spelled job (command.Makes (event.NodeRestart n)) h = record { verb = verb.Restart; is = refl; first = refl }
 spelled job (command.Makes (event.Expire k n)) h = record { verb = verb.Expire; is = refl; first = refl }
 spelled job (command.Compute c) h = record { verb = verb.Compute; is = refl; first = refl }
-spelled job (command.Calm k stop) h = record { verb = verb.Calm; is = refl; first = refl }
+spelled job (command.Calm k until) h = record { verb = verb.Calm; is = refl; first = refl }
 spelled job (command.Drop i) h = record { verb = verb.Drop; is = refl; first = refl }
 spelled job (command.Expect e) h = record { verb = verb.Expect; is = refl; first = refl }
 

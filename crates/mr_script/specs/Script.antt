@@ -10,7 +10,7 @@ use Rattle.mr_script.specs.declared.line.Verb.{Verb}
 use Rattle.mr_script.specs.Expected.{expected_words, IsExpectation}
 use Rattle.mr_script.specs.Lines.{IsNoLine, AreLines, IsFirstNoLine}
 use Rattle.mr_script.specs.Verb.{text_of, verb_of}
-use Rattle.mr_script.specs.Words.{with_word, task_words, container_word, and_words, fault_word, stop_words}
+use Rattle.mr_script.specs.Words.{with_word, task_words, container_word, and_words, fault_word, until_words}
 
 -- ---- commands
 
@@ -27,7 +27,7 @@ rest_of (command.Makes (event.Die c)) = container_word c
 rest_of (command.Makes (event.NodeRestart n)) = decimal n
 rest_of (command.Makes (event.Expire k n)) = with_word (decimal k) (decimal n)
 rest_of (command.Compute c) = container_word c
-rest_of (command.Calm k stop) = and_words (decimal k) (stop_words stop)
+rest_of (command.Calm k until) = and_words (decimal k) (until_words until)
 rest_of (command.Drop i) = decimal i
 rest_of (command.Expect e) = expected_words e
 
@@ -63,7 +63,7 @@ IsCommand job (command.Makes (event.Die c)) = IsContainer c
 IsCommand job (command.Makes (event.NodeRestart n)) = n < 2 ^ 32
 IsCommand job (command.Makes (event.Expire k n)) = IsGeneration k × (n < 2 ^ 32)
 IsCommand job (command.Compute c) = IsContainer c
-IsCommand job (command.Calm k stop) = IsGeneration k
+IsCommand job (command.Calm k until) = IsGeneration k
 IsCommand job (command.Drop i) = i < 2 ^ 64
 IsCommand job (command.Expect e) = IsExpectation e
 

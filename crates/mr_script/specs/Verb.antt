@@ -34,7 +34,7 @@ verb_of (command.Makes (event.Die c)) = Some verb.Die
 verb_of (command.Makes (event.NodeRestart n)) = Some verb.Restart
 verb_of (command.Makes (event.Expire k n)) = Some verb.Expire
 verb_of (command.Compute c) = Some verb.Compute
-verb_of (command.Calm k stop) = Some verb.Calm
+verb_of (command.Calm k until) = Some verb.Calm
 verb_of (command.Drop i) = Some verb.Drop
 verb_of (command.Expect e) = Some verb.Expect
 

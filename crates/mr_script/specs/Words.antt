@@ -8,6 +8,8 @@ use Rattle.mr_ids.specs.declared.id.TaskKind.TheVariants.{Map, Reduce}
 use Rattle.mr_packet.specs.declared.packet.ContainerId.{ContainerId}
 use Rattle.mr_world_events.specs.declared.event.Weather.{Weather}
 use Rattle.mr_world_events.specs.declared.event.Weather.TheVariants.{Calm, Unavailable, Unanswered}
+use Rattle.mr_script.specs.declared.command.Until.{Until}
+use Rattle.mr_script.specs.declared.command.Until.TheVariants.{Most, Before, Through}
 use Rattle.mr_script.specs.declared.event_name.EventName.{EventName}
 use Rattle.mr_script.specs.Names.{name_text}
 
@@ -35,10 +37,15 @@ fault_word Calm = None
 fault_word Unavailable = Some (codes "unavailable")
 fault_word Unanswered = Some (codes "unanswered")
 
--- where a calm stops, if it is told
-abbrev pub stop_words : Option EventName → Option (List ℕ)
-stop_words None = None
-stop_words (Some n) = Some (with_word (codes "before") (name_text n))
+-- before which event a calm stops
+abbrev pub name_words : EventName → List ℕ
+name_words n = with_word (codes "before") (name_text n)
+
+-- how far a calm goes, if it is told
+abbrev pub until_words : Until → Option (List ℕ)
+until_words Most = None
+until_words (Before n) = Some (name_words n)
+until_words Through = Some (codes "all")
 
 abbrev pub task_words : TaskId → List ℕ → List ℕ
 task_words t rest = with_word (kind_word t.kind) (with_word (decimal t.number) rest)

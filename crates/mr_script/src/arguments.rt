@@ -4,10 +4,12 @@ ghost use Rattle.mr_ids.specs.declared.id.TaskId as task;
 ghost use Rattle.mr_ids.specs.declared.id.TaskKind as kind;
 ghost use Rattle.mr_packet.specs.declared.packet.ContainerId as container;
 ghost use Rattle.mr_world_events.specs.declared.event.Weather as weather;
+ghost use Rattle.mr_script.specs.declared.command.Until as extent;
 ghost use Rattle.mr_script.specs.declared.event_name.EventName as name;
 ghost use Rattle.mr_script.specs.Script.{IsGeneration, IsContainer, IsTaskOf};
-ghost use Rattle.mr_script.specs.Words.{with_word, kind_word, task_words, container_word, and_words, fault_word, stop_words};
+ghost use Rattle.mr_script.specs.Words.{with_word, kind_word, task_words, container_word, and_words, fault_word, name_words, until_words};
 
+use crate::command::Until;
 use crate::event_name::{EventName, event_named};
 use crate::word::{container, generation, long_number, number, split_once};
 use mr_ids::{AppAttempt, JobId, TaskId, TaskKind};
@@ -163,8 +165,8 @@ pub fn stepping(rest: &[u8]) -> Option<(ContainerId, Weather)>
 
 /// Before which event a calm stops.
 fn stop(words: &[u8]) -> Option<EventName>
-    ensures some { IfSome result (λ n. stop_words (Some n) ≡ Some words.now) }
-    ensures none { IfNone result ((n : name.EventName) → stop_words (Some n) ≡ Some words.now → ⊥) }
+    ensures some { IfSome result (λ n. words.now ≡ name_words n) }
+    ensures none { IfNone result ((n : name.EventName) → words.now ≡ name_words n → ⊥) }
 {
     let Some((word, more)) = split_once(words, b' ') else {
         return None;
@@ -175,22 +177,36 @@ fn stop(words: &[u8]) -> Option<EventName>
     event_named(more)
 }
 
-/// A generation, and before which event a calm stops, if it is told.
-pub fn calming(rest: &[u8]) -> Option<(AppAttempt, Option<EventName>)>
-    ensures some { IfSome result (λ p. IsGeneration p.0 × (rest.now ≡ and_words (decimal p.0) (stop_words p.1))) }
-    ensures none { IfNone result ((k : ℕ) (s : Option name.EventName) → IsGeneration k → rest.now ≡ and_words (decimal k) (stop_words s) → ⊥) }
+/// How far a calm goes, where more stands behind its generation.
+fn until(words: &[u8]) -> Option<Until>
+    ensures some { IfSome result (λ u. until_words u ≡ Some words.now) }
+    ensures none { IfNone result ((u : extent.Until) → until_words u ≡ Some words.now → ⊥) }
+{
+    if words == b"all".as_slice() {
+        return Some(Until::Through);
+    }
+    match stop(words) {
+        Some(name) => Some(Until::Before(name)),
+        None => None,
+    }
+}
+
+/// A generation, and how far a calm goes.
+pub fn calming(rest: &[u8]) -> Option<(AppAttempt, Until)>
+    ensures some { IfSome result (λ p. IsGeneration p.0 × (rest.now ≡ and_words (decimal p.0) (until_words p.1))) }
+    ensures none { IfNone result ((k : ℕ) (u : extent.Until) → IsGeneration k → rest.now ≡ and_words (decimal k) (until_words u) → ⊥) }
 {
     let Some((word, more)) = split_once(rest, b' ') else {
         let Some(k) = generation(rest) else {
             return None;
         };
-        return Some((k, None));
+        return Some((k, Until::Most));
     };
     let Some(k) = generation(word) else {
         return None;
     };
-    let Some(name) = stop(more) else {
+    let Some(until) = until(more) else {
         return None;
     };
-    Some((k, Some(name)))
+    Some((k, until))
 }

@@ -12,7 +12,7 @@
 //! | `die C` | container C ends before it is done |
 //! | `restart N` | node N restarts |
 //! | `expire K N` | master K gives node N up |
-//! | `calm K [before NAME]` | events happen without a fault until master K is through, or until one of that name would be next |
+//! | `calm K`, `calm K all`, `calm K before NAME` | events happen without a fault until master K is through: at most 10,000, or all, or up to where one of that name would be next |
 //! | `drop I` | the packet at place I of the bag is passed over by every later calm, whether it was sent before or is sent later |
 //! | `expect r T ATTEMPT`, `expect r T none` | this attempt is expected to be the winner of reduce T, or none |
 //! | `expect marker yes`, `expect marker no` | the success marker is expected to be there, or not |
@@ -51,7 +51,7 @@ mod run;
 mod script;
 mod word;
 
-pub use command::Command;
+pub use command::{Command, Until};
 pub use event_name::{EventName, event_named, event_word};
 pub use expectation::{Expectation, expected};
 pub use laws::{comments_are_no_commands, one_first_bad, one_reading, read_or_bad};

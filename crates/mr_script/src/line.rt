@@ -108,7 +108,7 @@ fn of_master(job: JobId, verb: Verb, rest: &[u8]) -> Option<Command>
             None => None,
         },
         Verb::Calm => match calming(rest) {
-            Some((k, stop)) => Some(Command::Calm(k.number(), stop)),
+            Some((k, until)) => Some(Command::Calm(k.number(), until)),
             None => None,
         },
         _ => None,

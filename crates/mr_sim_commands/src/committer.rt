@@ -11,18 +11,17 @@ mod reply;
 mod scene;
 mod script;
 
-use crate::committer::command::ScriptCommand;
-use crate::committer::listing::print_listing;
 use crate::committer::reply::print_reply;
 use crate::committer::scene::Scene;
-use crate::committer::script::script_of;
 use crate::fault::SimFault;
-pub use listing::print_names;
+pub use command::ScriptCommand;
+pub use listing::{print_listing, print_names};
 use mr_commit::CommitFault;
 use mr_ids::AppAttempt;
 use mr_names::{Caller, Namespace};
 use mr_paths::{Layout, Name, Path};
 use mr_script::ScriptFault;
+pub use script::committer_script;
 use std::alloc::{AllocError, Global};
 
 /// The layout of a script's job, whose destination is `/out`.
@@ -106,7 +105,7 @@ pub fn committer_output(alloc: Global, input: &[u8]) -> Result<Vec<u8>, SimFault
     ensures ok { IfOk result (λ v. PrintsCommitter input.now v.items) }
     ensures fault { IfErr result (CommitterFails input.now) }
 {
-    match script_of(alloc, input) {
+    match committer_script(alloc, input) {
         Ok(commands) => text_of(alloc, &commands),
         Err(ScriptFault::NoMemory) => Err(SimFault::NoMemory),
         Err(ScriptFault::BadCommand(line)) => Err(SimFault::BadCommand(line)),

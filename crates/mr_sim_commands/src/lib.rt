@@ -7,7 +7,7 @@
 //!
 //! - **`committer_output`**: where it answers Ok, the bytes are what the commands of the script print, by the
 //!   committer effect, and then the listing of what they leave (`PrintsCommitter`). Else it tells the first line that
-//!   is no command, or there was no memory (`CommitterFails`);
+//!   is no command, or there was no memory (`CommitterFails`). `committer_script` gives the commands alone;
 //! - **`history_output`**: the records of a segment's whole lines and the number of torn bytes (`PrintsHistory`); else the first bad
 //!   line, or no memory (`HistoryFails`);
 //! - **`seq_output`**: the sequential execution of the job that the text submits. For each reduce, by rising name, it
@@ -21,7 +21,8 @@
 //! docs/MRSIM.md (clause `limits`). Which other keys the object has is told beside the job, exactly (`idle_keys`).
 //!
 //! **Parts of an output** that others print too: a file with its name and length (`print_file`), a record in words
-//! (`print_record`), and names with slashes between them (`print_names`). Each is put behind what is there already.
+//! (`print_record`), names with slashes between them (`print_names`), and what a namespace holds (`print_listing`). Each is put behind
+//! what is there already.
 //!
 //! Laws, each on a function of its own. A script has at most one reading (`one_reading`), is not both read and bad
 //! (`read_or_bad`), and has at most one first bad line (`one_first_bad`). None of its commands is a comment
@@ -39,7 +40,9 @@ mod laws;
 mod printed;
 mod seq;
 
-pub use committer::{committer_output, print_names};
+pub use committer::{
+    ScriptCommand, committer_output, committer_script, print_listing, print_names,
+};
 pub use fault::{JobTextFault, SimFault};
 pub use history::{history_output, print_record};
 pub use job::{IdleKeys, JobKind, Submission, read_job_text};

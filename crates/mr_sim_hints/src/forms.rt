@@ -12,6 +12,9 @@ pub enum Script {
     Play,
 }
 
+/// Most forms of a command.
+pub const MOST_FORMS: usize = 5;
+
 // The forms of each command, with a stroke between those of one command. A word in capitals stands for others, as `takes` has them.
 const COMMITTER: [&str; 13] = [
     "as K",
@@ -40,10 +43,16 @@ const PLAY: [&str; 13] = [
     "die C",
     "restart N",
     "expire K N",
-    "calm K|calm K before NAME",
+    "calm K|calm K all|calm K before NAME",
     "drop I",
     "expect r T A|expect r T none|expect marker yes|expect marker no|expect outcome WORD",
 ];
+
+// What a calm may stop before.
+const NAMES: &str =
+    "NAME is launch, step, a master's call (marks, read, setup, recover, bar, append, flush, started, merge, \
+    cleanup, marker, success, fail, abort) or a container's (compute, where, fetch, lost, mkdirs, create, write, close, needs, \
+    pending, poll, look, clear, rename, report, abort, failed)";
 
 impl Script {
     /// The forms of each of its commands.
@@ -67,6 +76,31 @@ impl Script {
             "NAME" => event_named(word).is_some(),
             "WORD" => is_one_of(&["succeeded", "failed", "none"], word),
             _ => word == part.as_bytes(),
+        }
+    }
+
+    /// What a word of a form stands for, where it is in capitals.
+    pub(crate) fn meaning(&self, part: &str) -> Option<&'static str> {
+        match part {
+            "K" => Some("K is a generation of the master, 1 to 1000 with no zero in front"),
+            "KEPT" => Some("KEPT is how many bytes stay, a whole number below 2^64"),
+            "I" => Some("I is a packet's place in the bag, a whole number below 2^64"),
+            "N" => Some("N is a node's number, from 0"),
+            "B" => Some("B is a file's length, a whole number below 2^32"),
+            "T" => Some(self.task_meaning()),
+            "A" => Some("A is an attempt, as attempt_200707121733_0003_r_000000_0"),
+            "C" => Some("C is a container, as 1.0: its master, a full stop, its number"),
+            "FAULT" => Some("FAULT is unavailable or unanswered"),
+            "NAME" => Some(NAMES),
+            "WORD" => Some("WORD is succeeded, failed or none"),
+            _ => None,
+        }
+    }
+
+    fn task_meaning(&self) -> &'static str {
+        match self {
+            Script::Committer => "T is a task, as task_200707121733_0003_r_000000",
+            Script::Play => "T is a task's number, from 0",
         }
     }
 

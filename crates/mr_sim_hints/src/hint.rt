@@ -2,7 +2,7 @@
 ghost use Rattle.std.specs.Prelude.{◌≡◌};
 ghost use Rattle.mr_sim_hints.specs.Places.{place_of};
 
-use crate::forms::{Script, verb_of};
+use crate::forms::{MOST_FORMS, Script, verb_of};
 use std::fmt;
 
 /// What is wrong with a line. Words are counted from 1.
@@ -18,8 +18,12 @@ pub enum Trouble {
     Missing(usize),
     /// This word is one too many.
     TooMany(usize),
+    /// This word begins a comment, where none may stand.
+    Comment(usize),
     /// This word is empty, since there is a space before or behind it that should not be there.
     Empty(usize),
+    /// This word has a tab.
+    Tab(usize),
 }
 
 impl Trouble {
@@ -32,7 +36,9 @@ impl Trouble {
             Trouble::Bad(word)
             | Trouble::Missing(word)
             | Trouble::TooMany(word)
-            | Trouble::Empty(word) => *word,
+            | Trouble::Comment(word)
+            | Trouble::Empty(word)
+            | Trouble::Tab(word) => *word,
         }
     }
 }
@@ -45,7 +51,14 @@ impl fmt::Display for Trouble {
             Trouble::Bad(word) => write!(f, "word {word} does not fit"),
             Trouble::Missing(word) => write!(f, "word {word} is missing"),
             Trouble::TooMany(word) => write!(f, "word {word} is one too many"),
+            Trouble::Comment(word) => {
+                write!(
+                    f,
+                    "word {word} begins with #, but a comment is a line of its own"
+                )
+            }
             Trouble::Empty(word) => write!(f, "word {word} is empty, by a space too many"),
+            Trouble::Tab(word) => write!(f, "word {word} has a tab, where a space parts words"),
         }
     }
 }
@@ -55,8 +68,29 @@ impl fmt::Display for Trouble {
 pub struct Hint {
     pub trouble: Trouble,
     script: Script,
-    // The forms of its command, where its first word begins one.
-    forms: Option<&'static str>,
+    // What was expected, where its first word begins a command.
+    expected: Option<Expected>,
+}
+
+// What was expected in a line.
+#[derive(Clone, Copy, Debug, PartialEq, Eq)]
+struct Expected {
+    // The forms of its command.
+    forms: &'static str,
+    // With which of them, in their order, the line goes furthest.
+    fitting: [bool; MOST_FORMS],
+    // What the word stands for at which it goes wrong.
+    meaning: Option<&'static str>,
+}
+
+impl Expected {
+    // Whether the line goes furthest with the form of this number.
+    fn fits(&self, number: usize) -> bool {
+        match self.fitting.get(number) {
+            Some(fits) => *fits,
+            None => false,
+        }
+    }
 }
 
 impl fmt::Display for Hint {
@@ -66,8 +100,8 @@ impl fmt::Display for Hint {
             return write!(f, "{trouble}");
         }
         write!(f, "{trouble}: expected ")?;
-        match self.forms {
-            Some(forms) => put_forms(f, forms),
+        match &self.expected {
+            Some(expected) => put_expected(f, expected),
             None => put_verbs(f, self.script.commands()),
         }
     }
@@ -86,17 +120,22 @@ fn put_verbs<W: fmt::Write>(f: &mut fmt::Formatter<W>, commands: &[&str]) -> fmt
     f.write_str(" or # ..")
 }
 
-// The forms of a command.
-fn put_forms<W: fmt::Write>(f: &mut fmt::Formatter<W>, forms: &str) -> fmt::Result {
+// The forms that fit, and what the word stands for that is to be changed.
+fn put_expected<W: fmt::Write>(f: &mut fmt::Formatter<W>, expected: &Expected) -> fmt::Result {
     let mut is_first = true;
-    for form in forms.split('|') {
-        if !is_first {
-            f.write_str(", or ")?;
+    for (number, form) in expected.forms.split('|').enumerate() {
+        if expected.fits(number) {
+            if !is_first {
+                f.write_str(", or ")?;
+            }
+            f.write_str(form)?;
+            is_first = false;
         }
-        f.write_str(form)?;
-        is_first = false;
     }
-    Ok(())
+    match expected.meaning {
+        Some(meaning) => write!(f, "; {meaning}"),
+        None => Ok(()),
+    }
 }
 
 /// What is to be told of a line of a script that is no command; nothing where each of its words fits.
@@ -104,7 +143,11 @@ pub fn hint_of(script: Script, line: &[u8]) -> Option<Hint> {
     let forms = forms_for(&script, line);
     let trouble = match forms {
         Some(forms) => trouble_among(&script, forms, line)?,
-        None => at_first_word(line),
+        None => at_word(first_word(line), Trouble::NoCommand),
+    };
+    let expected = match forms {
+        Some(forms) => Some(expected_at(&script, forms, line, trouble.place())),
+        None => None,
     };
     Some(Hint {
         trouble: if line.ends_with(b"\r") {
@@ -113,35 +156,27 @@ pub fn hint_of(script: Script, line: &[u8]) -> Option<Hint> {
             trouble
         },
         script,
-        forms,
+        expected,
     })
 }
 
-// What is wrong with a line whose first word begins no command.
-fn at_first_word(line: &[u8]) -> Trouble {
-    if line.starts_with(b" ") {
-        Trouble::Empty(1)
-    } else {
-        Trouble::NoCommand
+// The first word of a line.
+fn first_word(line: &[u8]) -> &[u8] {
+    match line.split(|byte| *byte == b' ').next() {
+        Some(word) => word,
+        None => line,
     }
 }
 
 // The forms of the command that the line's first word begins.
 fn forms_for(script: &Script, line: &[u8]) -> Option<&'static str> {
+    let word = first_word(line);
     for forms in script.commands() {
-        if begins_with(line, verb_of(forms)) {
+        if word == verb_of(forms).as_bytes() {
             return Some(*forms);
         }
     }
     None
-}
-
-// Whether the line's first word is this one.
-fn begins_with(line: &[u8], verb: &str) -> bool {
-    match line.split(|byte| *byte == b' ').next() {
-        Some(word) => word == verb.as_bytes(),
-        None => false,
-    }
 }
 
 // What is wrong with the line, by the last of the forms with which it goes furthest; nothing where one of them takes it all.
@@ -154,6 +189,39 @@ fn trouble_among(script: &Script, forms: &str, line: &[u8]) -> Option<Trouble> {
         }
     }
     Some(furthest)
+}
+
+// The forms with which the line goes as far as to the word at this place.
+fn expected_at(script: &Script, forms: &'static str, line: &[u8], place: usize) -> Expected {
+    let mut fitting = [false; MOST_FORMS];
+    let mut meaning = None;
+    for (number, form) in forms.split('|').enumerate() {
+        let fits = goes_to(script, form, line, place);
+        if fits && meaning.is_none() {
+            meaning = meaning_at(script, form, place);
+        }
+        if let Some(flag) = fitting.get_mut(number) {
+            *flag = fits;
+        }
+    }
+    Expected {
+        forms,
+        fitting,
+        meaning,
+    }
+}
+
+// Whether the line goes wrong at this place, where its command has this form alone.
+fn goes_to(script: &Script, form: &str, line: &[u8], place: usize) -> bool {
+    match trouble_with(script, form, line) {
+        Some(trouble) => trouble.place() == place,
+        None => false,
+    }
+}
+
+// What the word of a form at this place stands for.
+fn meaning_at(script: &Script, form: &str, place: usize) -> Option<&'static str> {
+    script.meaning(form.split(' ').nth(place.saturating_sub(1))?)
 }
 
 // What is wrong with the line, where its command has this form alone; nothing where the form takes it all.
@@ -178,10 +246,14 @@ fn trouble_with(script: &Script, form: &str, line: &[u8]) -> Option<Trouble> {
     }
 }
 
-// The trouble with a word, which is told otherwise where the word is empty.
+// The trouble with a word, which is told otherwise where the word is empty, has a tab, or begins a comment behind a command.
 fn at_word(word: &[u8], trouble: Trouble) -> Trouble {
     if word.is_empty() {
         Trouble::Empty(trouble.place())
+    } else if word.starts_with(b"#") && matches!(trouble, Trouble::TooMany(_)) {
+        Trouble::Comment(trouble.place())
+    } else if word.contains(&b'\t') {
+        Trouble::Tab(trouble.place())
     } else {
         trouble
     }

@@ -23,8 +23,11 @@ impl Language for CommitterCalls {
     }
 }
 
-/// The commands of a script, each with the number of its line.
-pub fn script_of(alloc: Global, bytes: &[u8]) -> Result<Vec<(usize, ScriptCommand)>, ScriptFault>
+/// The commands of a script of committer calls, each with the number of its line.
+pub fn committer_script(
+    alloc: Global,
+    bytes: &[u8],
+) -> Result<Vec<(usize, ScriptCommand)>, ScriptFault>
     ensures ok { IfOk result (λ v. AreCommands 1 (lines_of bytes.now) v.items) }
     ensures bad { IfErr result (IsScriptFault IsLine 1 bytes.now) }
 {
