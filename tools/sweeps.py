@@ -12,6 +12,9 @@ another way, so that what is printed is what is swept:
   start behind it, and keep none or all of the history's tail. With pairs, in each of these runs a second store call is so too, each
   one behind the first in turn.
 
+The calm behind a cut begins behind the last packet that the events of the cut delivered; and once more, in a run of its own, with the
+first packet of all, so that each packet of the cut comes a second time.
+
 The first four have to come to what their cuts say. Of the last, each run that is marked has the files of the job, and one that is not
 has none but those, whole. All nodes are told one winner of a reduce, which is the one that is recorded at the end, and a winner, a
 marker and what is marked stay from where the second call fails.
@@ -129,6 +132,12 @@ def cut(events, length):
     return [it.text() for it in events[:length]]
 
 
+def both_calms(first):
+    """What stands before the calm behind these events: that each packet up to the last one that they delivered is passed over, or nothing."""
+    last = max((int(it.who) for it in first if it.kind == "deliver"), default=-1)
+    return ([f"drop {n}" for n in range(last + 1)], [])
+
+
 def is_played(played, winners, marker, outcome, files):
     return played.told() == (dict(enumerate(winners)), marker, outcome) and (marker == "no" or played.files == files)
 
@@ -146,7 +155,8 @@ def job_cut(sweep):
             else:
                 wanted = ([A.format(0, 0)], "no" if length <= marker else "yes", "succeeded" if length > success else "failed", ONE)
             for way in ([f"crash 1 {kept}", "start 2 0", "calm 2"], [f"start 2 {kept}", "duty 1", "calm 2"]):
-                sweep.wants([*cut(events, length), *way], lambda it: is_played(it, *wanted))
+                for passed in both_calms(first):
+                    sweep.wants([*cut(events, length), *passed, *way], lambda it: is_played(it, *wanted))
 
 
 def recovery_cut(sweep):
@@ -155,7 +165,8 @@ def recovery_cut(sweep):
     for length in sweep.mine(range(begin + 1, len(events) + 1)):
         for kept in range(segment(events[:length], 2)[2] + 1):
             way = [f"crash 2 {kept}", "start 3 0", "calm 3"]
-            sweep.wants([*cut(events, length), *way], lambda it: is_played(it, [A.format(0, 0), A.format(1, 0)], "yes", "succeeded", TWO))
+            for passed in both_calms(events[:length]):
+                sweep.wants([*cut(events, length), *passed, *way], lambda it: is_played(it, [A.format(0, 0), A.format(1, 0)], "yes", "succeeded", TWO))
 
 
 def failing_job_cut(sweep):
@@ -172,7 +183,8 @@ def failing_job_cut(sweep):
             else:
                 wanted = ([A.format(0, 0), A.format(1, 1000)], "yes", "succeeded", TWO)
             is_right = lambda it: is_played(it, *wanted) and (it.marker == "yes" or not it.files)
-            sweep.wants([*cut(events, length), f"crash 1 {kept}", "start 2 0", "calm 2"], is_right)
+            for passed in both_calms(first):
+                sweep.wants([*cut(events, length), *passed, f"crash 1 {kept}", "start 2 0", "calm 2"], is_right)
 
 
 def expiry(sweep):
@@ -180,7 +192,8 @@ def expiry(sweep):
     for lines in (["start 1 0", "calm 1"], other):
         events = sweep.play(lines).events
         for length in sweep.mine(range(1, len(events))):
-            sweep.wants([*cut(events, length), "expire 1 0", "calm 1"], lambda it: it.marker == "yes" and it.files == ONE)
+            for passed in both_calms(events[:length]):
+                sweep.wants([*cut(events, length), *passed, "expire 1 0", "calm 1"], lambda it: it.marker == "yes" and it.files == ONE)
 
 
 def kept_promise(played, files, before=None):

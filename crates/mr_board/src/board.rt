@@ -1,10 +1,11 @@
 //! The board: a world, with a note of who made each of its events.
-ghost use Rattle.std.specs.Prelude.{◌≡◌, ◌↔◌, ℕ, ◌<◌, [], length, IfOk, IfErr, IsTrue, OnOk, Some, slice_get, vec_capacity, vec_len};
+ghost use Rattle.std.specs.Prelude.{◌≡◌, ◌↔◌, ℕ, ◌<◌, [], length, IfOk, IfErr, IsTrue, OnErr, OnOk, Some, slice_get, vec_capacity, vec_len};
 ghost use Rattle.mr_user.specs.Computation.{computation};
 ghost use Rattle.mr_world_files.specs.Jobs.{job_of};
 ghost use Rattle.mr_world_model.specs.Sequential.{CarriesDefinition};
 ghost use Rattle.mr_world_model.specs.World.{Compute};
 ghost use Rattle.mr_world.specs.Applying.{IsRefused};
+ghost use Rattle.mr_world.specs.mr_world_state.specs.declared.fault.WorldFault.TheVariants.{Full};
 ghost use Rattle.mr_world.specs.Headline.{HeadlineHolds};
 ghost use Rattle.mr_world.specs.Journal.{world_in};
 ghost use Rattle.mr_board.specs.Boards.{Account, Applies, Hands, IsDue, IsFaithfulFor, Makes, SeesSequentialFiles, Works, is_computed, why_not_due};
@@ -141,6 +142,8 @@ impl<J: Job> Board<J> {
     /// Refusals are those of `computed_as`, in its order. Nothing has changed then; the work is dropped.
     pub fn hand_in_as(&mut self, seat: &mut Seat, done: Finished<J>) -> Result<Took, WorldFault>
         ensures hands { Hands self.old seat.old done result self.new seat.new }
+        ensures unchanged { OnErr result (self.new ≡ self.old) }
+        ensures full { IfErr result (λ fault. fault ≡ Full → IsRefused self.old.world (Compute done.container done.bytes) Full) }
         ensures headline { HeadlineHolds self.old.world self.new.world }
     {
         if !self.is_due(&done) {
@@ -167,6 +170,20 @@ impl<J: Job> Board<J> {
             of: _,
         } = self;
         Ok(Closed::new(world, by))
+    }
+
+    /// Its world, whose journal is faithful. The seats are not asked, so nobody knows who made its events.
+    pub fn into_world(self) -> World
+        ensures world { result ≡ self.world }
+        ensures faithful { IsFaithfulFor (computation J.Key.cmp J.Key.codec J.Value.codec J.functions) self.world }
+    {
+        let Board {
+            number: _,
+            world,
+            by: _,
+            of: _,
+        } = self;
+        world
     }
 
     // Why a container is given nothing to compute.

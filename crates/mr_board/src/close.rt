@@ -5,9 +5,11 @@ ghost use Rattle.mr_board.specs.Boards.{Account, Differ, made_by};
 
 use crate::seat::Seat;
 use mr_world_events::Event;
+use thiserror::Error;
 
 /// The seats do not account for the journal, or one of them is another board's.
-#[derive(Clone, Copy, PartialEq, Eq, Debug)]
+#[derive(Clone, Copy, PartialEq, Eq, Debug, Error)]
+#[error("mismatch")]
 pub struct Mismatch;
 
 /// Whether the seats account for the journal of the board of this number.

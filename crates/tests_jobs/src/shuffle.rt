@@ -214,6 +214,7 @@ fn put_item(
 ) {
     match item {
         Some(Ok((key, values))) => put_group(rt, alloc, seen, &key, &values),
+        Some(Err(ShuffleFault::NoMemory)) => panic!(rt; "no memory"),
         Some(Err(fault)) => {
             put_shown(rt, alloc, seen, &fault);
             put(rt, seen, b"|")

@@ -3,9 +3,10 @@
 use crate::masters::{MAP, REDUCE, attempt, due};
 use crate::sent::{is_failure, is_kill};
 use mr_history::{HistoryFault, Record, Records};
+use mr_ids::Bytes;
 use mr_master::MasterMachine;
 use mr_master_model::{DutyName, Phase, StoreAnswer};
-use mr_names::{Answer, Entries, NameFault};
+use mr_names::{Answer, Entries, Kind, NameFault};
 use mr_packet::Envelope;
 use std::alloc::Global;
 use std::process::Abort;
@@ -17,6 +18,12 @@ pub enum Said {
     Done,
     /// Nothing is at the path.
     Absent,
+    /// A directory is at the path.
+    There,
+    /// The file has two bytes.
+    TwoBytes,
+    /// The file has three bytes.
+    ThreeBytes,
     /// There is nothing to list.
     Nothing,
     /// Nothing is at the path, where something has to be.
@@ -39,6 +46,8 @@ pub enum Said {
     JobFailed,
     /// It has one: the first attempt at the reduce succeeded. How long its part file is was not told.
     ReduceSucceeded,
+    /// The same, and the part file has three bytes.
+    ReduceOfThreeBytes,
     /// It has two: attempt 0 of the map succeeded on node 0, and then attempt 1 on node 1.
     MapsSucceeded,
     /// The call was not applied, or its answer was lost.
@@ -121,6 +130,9 @@ fn answer(rt: &impl Abort, alloc: Global, said: Said) -> StoreAnswer {
     match said {
         Said::Done => StoreAnswer::Names(Ok(Answer::Done)),
         Said::Absent => StoreAnswer::Names(Ok(Answer::Found(None))),
+        Said::There => StoreAnswer::Names(Ok(Answer::Found(Some(Kind::Dir)))),
+        Said::TwoBytes => contents(rt, alloc, b"ab"),
+        Said::ThreeBytes => contents(rt, alloc, b"abc"),
         Said::Nothing => StoreAnswer::Names(Ok(Answer::Listed(Entries::new(alloc)))),
         Said::Missing => StoreAnswer::Names(Err(NameFault::Missing)),
         Said::Exists => StoreAnswer::Names(Err(NameFault::Exists)),
@@ -131,9 +143,17 @@ fn answer(rt: &impl Abort, alloc: Global, said: Said) -> StoreAnswer {
         Said::BadLine => StoreAnswer::Unread(HistoryFault::BadLine(1)),
         Said::Fault => StoreAnswer::Fault,
         Said::NoRecord => StoreAnswer::Told(Records::new(alloc)),
-        Said::JobFailed | Said::ReduceSucceeded => StoreAnswer::Told(records(rt, alloc, said, 1)),
+        Said::JobFailed | Said::ReduceSucceeded | Said::ReduceOfThreeBytes => {
+            StoreAnswer::Told(records(rt, alloc, said, 1))
+        }
         Said::MapsSucceeded => StoreAnswer::Told(records(rt, alloc, said, 2)),
     }
+}
+
+// What is in a file.
+fn contents(rt: &impl Abort, alloc: Global, bytes: &[u8]) -> StoreAnswer {
+    let bytes = Bytes::from_slice(alloc, bytes).expect(rt, "no memory");
+    StoreAnswer::Names(Ok(Answer::Contents(bytes)))
 }
 
 // So many records that tell this.
@@ -153,6 +173,10 @@ fn record(rt: &impl Abort, said: Said, number: u32) -> Record {
         Said::ReduceSucceeded => Record::ReduceSucceeded {
             attempt: attempt(rt, REDUCE, number),
             bytes: None,
+        },
+        Said::ReduceOfThreeBytes => Record::ReduceSucceeded {
+            attempt: attempt(rt, REDUCE, number),
+            bytes: Some(3),
         },
         Said::MapsSucceeded => Record::MapSucceeded {
             attempt: attempt(rt, MAP, number),

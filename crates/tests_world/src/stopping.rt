@@ -1,7 +1,7 @@
 //! What makes a master Stopped, and what else ends its job.
 
 use crate::answers::{Said, Then, answers};
-use crate::masters::{REDUCE, given_up, launched, master, running};
+use crate::masters::{REDUCE, due, given_up, launched, master, running};
 use crate::sent::{is_ack, is_launch, is_yes};
 use crate::told::{Told, heard};
 use mr_master::MasterMachine;
@@ -50,6 +50,25 @@ fn missing_output_stops_the_recovery(rt: HostRuntime) {
         (DutyName::Recover, Said::Absent, Then::Stops),
     ];
     answers(rt, rt.alloc(), &mut master, rows);
+}
+
+// The same, where the part file of the winner is there: it has to be as long as was recorded.
+#[test]
+fn wrong_length_stops_the_recovery(rt: HostRuntime) {
+    let rt = &rt;
+    let mut master = master(rt, rt.alloc(), 2, 0, 2);
+    let rows = &[
+        (DutyName::Marks, Said::Absent, Then::Silent),
+        (DutyName::Marks, Said::Absent, Then::Silent),
+        (DutyName::Marks, Said::Absent, Then::Silent),
+        (DutyName::Read, Said::ReduceOfThreeBytes, Then::Silent),
+        (DutyName::Setup, Said::Done, Then::Silent),
+        (DutyName::Recover, Said::There, Then::Silent),
+        (DutyName::Recover, Said::TwoBytes, Then::WouldStop),
+        (DutyName::Recover, Said::ThreeBytes, Then::Silent),
+    ];
+    answers(rt, rt.alloc(), &mut master, rows);
+    confirm!(rt; due(rt, &master) == Some(DutyName::Recover));
 }
 
 // What an earlier master recorded as failed is aborted at once; a fault there stops the master.
