@@ -75,7 +75,8 @@ fn make_folders(rt: &HostRuntime, beside: &str, home: &str) -> Result<(), Fault>
     make_folder(rt, beside)?;
     make_folder(rt, home)?;
     make_folder(rt, &format!(in rt.alloc(); "{home}/work")?)?;
-    make_folder(rt, &format!(in rt.alloc(); "{home}/kept")?)
+    make_folder(rt, &format!(in rt.alloc(); "{home}/kept")?)?;
+    make_folder(rt, &format!(in rt.alloc(); "{home}/removed")?)
 }
 
 fn make_folder(rt: &HostRuntime, path: &str) -> Result<(), Fault> {

@@ -1,7 +1,7 @@
 //! An output directory that is open: its lock is held, and calls are made on it.
 use crate::beginning::write_synced;
 use crate::calls::{
-    clear, enter, is_changed, is_one, look, look_file, open, read, stat, sync, sync_folder,
+    enter, is_changed, is_one, look, look_file, open, read, stat, sync, sync_folder,
 };
 use crate::fault::{Fault, Why};
 use crate::history::History;
@@ -9,6 +9,7 @@ use crate::job::{Job, host_of, told};
 use crate::layout::{HOME, JOB, KEPT, WORK, boot_path, path_of, work_folder};
 use crate::lengths::note_lengths;
 use crate::lock::{Lock, locked};
+use crate::removal::clear;
 use mr_history::Record;
 use mr_ids::AttemptId;
 use mr_out_disk::{Answer, Call, Folder, Place, Reply};

@@ -29,10 +29,11 @@ mod lines;
 mod lock;
 mod mounts;
 mod recorded;
+mod removal;
 mod segments;
 
 pub use beginning::{begin, name_of};
-pub use calls::{absolute, remove_folder, sync_folder};
+pub use calls::{absolute, sync_folder};
 pub use directory::Directory;
 pub use fault::{Fault, Why};
 pub use job::{Job, MAX_LIMIT, MAX_SUFFIX_LEN, MAX_TASKS, host_of, is_suffix};
@@ -42,4 +43,5 @@ pub use layout::{
 pub use lengths::Length;
 pub use lock::Lock;
 pub use recorded::{Recorded, read_recorded};
+pub use removal::remove_folder;
 pub use segments::{Damage, MAX_TORN_LINES, Told, tell};
