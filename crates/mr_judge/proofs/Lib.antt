@@ -2,3 +2,4 @@ mod Commands
 mod Objects
 mod Traces
 mod Verdicts
+mod Programs

@@ -1,6 +1,7 @@
 //! `mrsim judge`: its streams and its status.
 ghost use Rattle.std.specs.Prelude.{◌≡◌, IfOk, IfSome};
 ghost use Rattle.std.specs.Io.KnownBytes.{Appends};
+ghost use Rattle.mr_judge.specs.Program.{Runs};
 ghost use Rattle.mr_judge.specs.Said.{said_of};
 ghost use Rattle.mr_judge.specs.Trace.{JudgedAs};
 
@@ -35,32 +36,34 @@ pub fn judge_input<R: Read, W: Write>(
 
 /// Runs `mrsim judge`, and answers its exit status: 0 where each answer is right, 1 where one is wrong, 3 where a line is none, 4 if a stream failed, 5
 /// if there was no memory.
+#[tactic(auto, using(crate::proofs::Programs::is_judged, crate::proofs::Programs::failed))]
 pub fn run<R: Read, W: Write, E: Write>(
     alloc: Global,
     form: Form,
     reader: &mut R,
     writer: &mut W,
     errors: &mut E,
-) -> u8 {
+) -> u8
+    ensures { Runs form (R.remaining reader.old) (W.contents writer.old) (W.contents writer.new) result }
+{
     match judge_input(alloc, form, reader, writer) {
         Ok(judged) => {
-            say_fault(errors, &judged);
+            // Where it cannot be written it is dropped, and the status says it; below too.
+            let _ = say_fault(errors, &judged);
             status_of(&judged)
         }
         Err(fault) => {
-            say(errors, fault);
+            let _ = say(errors, fault);
             mr_pipe::status_of(fault)
         }
     }
 }
 
-// Says why there is no verdict. Where it cannot be written it is dropped, and the status says it.
-fn say_fault<E: Write>(errors: &mut E, judged: &Result<Verdict, JudgeFault>) {
+// Says why there is no verdict.
+fn say_fault<E: Write>(errors: &mut E, judged: &Result<Verdict, JudgeFault>) -> io::Result<()> {
     match judged {
-        Ok(_) => {}
-        Err(JudgeFault::BadLine(line)) => {
-            let _ = say_line(errors, *line);
-        }
+        Ok(_) => Ok(()),
+        Err(JudgeFault::BadLine(line)) => say_line(errors, *line),
         Err(JudgeFault::NoMemory) => say(errors, PipeFault::NoMemory),
     }
 }

@@ -1,9 +1,11 @@
 //! How a stream or the memory fails.
 ghost use Rattle.mr_pipe.specs.declared.fault.PipeFault.TheVariants.{NoMemory};
-ghost use Rattle.mr_pipe.specs.Status.{status_of};
-ghost use Rattle.std.specs.Prelude.{◌≡◌};
+ghost use Rattle.mr_pipe.specs.Status.{fault_line, status_of};
+ghost use Rattle.std.specs.Prelude.{◌≡◌, OnOk};
+ghost use Rattle.std.specs.Io.KnownBytes.{Appends};
 
 use std::alloc::AllocError;
+use std::io;
 use std::io::Write;
 use thiserror::Error;
 
@@ -39,12 +41,13 @@ pub fn status_of(fault: PipeFault) -> u8
     }
 }
 
-/// Says what failed, on a line of its own. Where it cannot be written it is dropped, and the status says it.
-pub fn say<E: Write>(errors: &mut E, fault: PipeFault) {
-    let text: &[u8] = match fault {
-        PipeFault::Read => b"mrsim: read\n",
-        PipeFault::Write => b"mrsim: write\n",
-        PipeFault::NoMemory => b"mrsim: no memory\n",
-    };
-    let _ = errors.write_all(text);
+/// Says what failed, on a line of its own. Its error is that of the write: whoever has no other stream drops it, and the exit status says what failed.
+pub fn say<E: Write>(errors: &mut E, fault: PipeFault) -> io::Result<()>
+    ensures { OnOk result (Appends (E.contents errors.old) (E.contents errors.new) (fault_line fault)) }
+{
+    match fault {
+        PipeFault::Read => errors.write_all(b"mrsim: read\n"),
+        PipeFault::Write => errors.write_all(b"mrsim: write\n"),
+        PipeFault::NoMemory => errors.write_all(b"mrsim: no memory\n"),
+    }
 }

@@ -1,3 +1,4 @@
 mod Commands
 mod Objects
 mod Histories
+mod Programs

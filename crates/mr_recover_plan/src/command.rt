@@ -2,6 +2,7 @@
 ghost use Rattle.std.specs.Prelude.{◌≡◌, IfOk};
 ghost use Rattle.std.specs.Io.KnownBytes.{Appends};
 ghost use Rattle.mr_recover_plan.specs.Plans.{PlannedAs};
+ghost use Rattle.mr_recover_plan.specs.Program.{Runs};
 ghost use Rattle.mr_recover_plan.specs.Said.{said_of};
 
 use crate::fault::PlanFault;
@@ -36,6 +37,7 @@ pub fn recover<W: Write>(
 }
 
 /// Runs `mrsim recovery`, and answers its exit status: 0 where there is a plan, 3 where a line is none, 4 if a stream failed, 5 if there was no memory.
+#[tactic(auto, using(crate::proofs::Programs::is_planned, crate::proofs::Programs::failed))]
 pub fn run<W: Write, E: Write>(
     alloc: Global,
     form: Form,
@@ -43,26 +45,27 @@ pub fn run<W: Write, E: Write>(
     staging: Staging,
     writer: &mut W,
     errors: &mut E,
-) -> u8 {
+) -> u8
+    ensures { Runs form segments.now staging (W.contents writer.old) (W.contents writer.new) result }
+{
     match recover(alloc, form, segments, staging, writer) {
         Ok(planned) => {
-            say_fault(errors, &planned);
+            // Where it cannot be written it is dropped, and the status says it; below too.
+            let _ = say_fault(errors, &planned);
             status_of(&planned)
         }
         Err(fault) => {
-            say(errors, fault);
+            let _ = say(errors, fault);
             mr_pipe::status_of(fault)
         }
     }
 }
 
-// Says why there is no plan. Where it cannot be written it is dropped, and the status says it.
-fn say_fault<E: Write>(errors: &mut E, planned: &Result<Recovery, PlanFault>) {
+// Says why there is no plan.
+fn say_fault<E: Write>(errors: &mut E, planned: &Result<Recovery, PlanFault>) -> io::Result<()> {
     match planned {
-        Ok(_) => {}
-        Err(PlanFault::BadLine { segment, line }) => {
-            let _ = say_line(errors, *segment, *line);
-        }
+        Ok(_) => Ok(()),
+        Err(PlanFault::BadLine { segment, line }) => say_line(errors, *segment, *line),
         Err(PlanFault::NoMemory) => say(errors, PipeFault::NoMemory),
     }
 }

@@ -6,7 +6,8 @@
 //! - **`planned`**: for every list of segments, the plan is that of the definition (`Plans`): the segments' records, in their order, are those that a master reads
 //!   (`records_of` of `mr_history`), and the plan is `IsPlan` of `mr_recover` for them and the marks. `BadLine` is the first line that is none, of the first
 //!   segment that has one.
-//! - **`recover`, bytes to bytes**: what is written is what is said of that plan (`said_of`); nothing where there is none. `status_of` is the table of statuses.
+//! - **`recover`, bytes to bytes**: what is written is what is said of that plan (`said_of`); nothing where there is none.
+//! - **`run`**, which the program calls: its status is that of the plan (`Runs`). `status_of` is the table of statuses.
 //!
 //! Only tested: that these succeed with ample memory, and what stands on standard error.
 #![tactic(auto)]

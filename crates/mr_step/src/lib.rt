@@ -8,7 +8,7 @@
 //!   answer is told by its number and changes nothing. `Finished` and `Refused` come only from the table; `Cut` only where the lines ended before.
 //!   Text behind the last line feed is no line (`lines_in`).
 //! - **`Moves::new`** is the table of the operation that is asked for (`table`), `call` and `took` are `mr_commit`'s.
-//! - `status_of` is the table of statuses.
+//! - **`run`**, which the program calls: its status is that of how the talk ended (`Runs`). `status_of` is the table of statuses.
 //!
 //! Only tested: the words of the command line, that each line is flushed before the next one is read, what stands on standard error, and what is
 //! written before a stream or the memory fails.

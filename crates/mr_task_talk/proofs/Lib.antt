@@ -2,3 +2,4 @@ mod Heard
 mod Lines
 mod Talking
 mod Verbs
+mod Programs

@@ -3,6 +3,7 @@ ghost use Rattle.std.specs.Prelude.{◌≡◌, ◌++◌, [], IfOk, OnOk, IfSome,
 ghost use Rattle.std.specs.Io.KnownBytes.{Appends};
 ghost use Rattle.mr_pipe.specs.Stream.{lines_in};
 ghost use Rattle.mr_pipe_json.specs.Form.{said_as, told_as};
+ghost use Rattle.mr_task_talk.specs.Program.{Runs};
 ghost use Rattle.mr_task_talk.specs.Talk.{ReadsTold, Talks};
 ghost use Rattle.mr_task_talk.specs.inner.Turns.{HearsLine, TalksFor, Turns};
 
@@ -18,6 +19,7 @@ use std::io::{BufRead, Write};
 
 /// Runs `mrsim task` of a task under the master of a generation, and answers its exit status: 0 at the end of the input, 4 if a stream failed, 5 if
 /// there was no memory.
+#[tactic(auto, using(crate::proofs::Programs::to_the_end, crate::proofs::Programs::failed))]
 pub fn run<R: BufRead, W: Write, E: Write>(
     alloc: Global,
     task: TaskId,
@@ -26,11 +28,14 @@ pub fn run<R: BufRead, W: Write, E: Write>(
     reader: &mut R,
     writer: &mut W,
     errors: &mut E,
-) -> u8 {
+) -> u8
+    ensures { Runs form task app (R.remaining reader.old) (W.contents writer.old) (W.contents writer.new) result }
+{
     match talk(alloc, task, app, form, reader, writer) {
         Ok(()) => 0,
         Err(fault) => {
-            say(errors, fault);
+            // Where it cannot be written it is dropped, and the status says it.
+            let _ = say(errors, fault);
             status_of(fault)
         }
     }

@@ -13,6 +13,7 @@
 //! - **`talk`, bytes to bytes**: for every input, what is written is exactly what the definition says (`Talks`): to each line its answer, which is read off the calls
 //!   that the task got before it (`answer`, by the readings of `mr_task`). A line that is none of these is told by its number (`no line 3`), and
 //!   changes nothing. Text behind the last line feed is no line. At the end of the input the talk is over.
+//! - **`run`**, which the program calls: its status is that of how the talk ended (`Runs`).
 //! - **`line_in`** reads a line exactly where it is one (`IsLine`).
 //!
 //! Only tested: that each answer is flushed before the next line is read, what stands on standard error, and what is written before a stream or the

@@ -239,7 +239,8 @@ fn refuse(rt: &HostRuntime, word: &str, name: &str, why: &str) -> u8 {
 
 // The status of a lack of memory, when it is said.
 fn no_memory(rt: &HostRuntime) -> u8 {
-    say(&mut rt.stderr(), PipeFault::NoMemory);
+    // Where it cannot be written it is dropped, and the status says it.
+    let _ = say(&mut rt.stderr(), PipeFault::NoMemory);
     5
 }
 
@@ -386,7 +387,7 @@ fn bytes_of(rt: &HostRuntime, name: &str) -> Result<Vec<u8>, PipeFault> {
 // The status of a file that is not read, when it is said. Of standard input no name is told, nor of a lack of memory.
 fn unread(rt: &HostRuntime, name: &str, fault: PipeFault) -> u8 {
     if name == "-" || fault == PipeFault::NoMemory {
-        say(&mut rt.stderr(), fault);
+        let _ = say(&mut rt.stderr(), fault);
     } else {
         let _ = eprintln!(rt; "mrsim: {fault}: {name}");
     }
