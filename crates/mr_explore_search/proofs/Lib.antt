@@ -1,3 +1,4 @@
 mod Coming
 mod Finishing
+mod Passes
 mod Turning

@@ -12,7 +12,7 @@ fn explored<H: AllocGlobal + Abort>(rt: &H, script: &str, faults: u32) -> Explor
         rt, "a fault",
     );
     exploration
-        .make(rt.alloc(), u64::MAX, &Unwatched)
+        .make(rt.alloc(), u64::MAX, None, &Unwatched)
         .expect(rt, "a fault");
     exploration
 }
@@ -92,7 +92,7 @@ fn a_marker_without_a_winner_is_not_there(rt: HostRuntime) {
 #[test]
 fn runs_are_made_up_to_a_number(rt: HostRuntime) {
     let mut some = Exploration::new(rt.alloc(), ONE.as_bytes(), 1).expect(&rt, "a fault");
-    some.make(rt.alloc(), 3, &Unwatched).expect(&rt, "a fault");
+    some.make(rt.alloc(), 3, None, &Unwatched).expect(&rt, "a fault");
     confirm!(rt; some.table().runs() == 3);
     confirm!(rt; !some.is_whole());
     let read = read_goal(rt.alloc(), "marker no, marker yes").expect(&rt, "no memory");
@@ -113,18 +113,18 @@ fn runs_are_made_up_to_a_number(rt: HostRuntime) {
 fn the_last_run_makes_them_all(rt: HostRuntime) {
     let mut one = Exploration::new(rt.alloc(), ONE.as_bytes(), 0).expect(&rt, "a fault");
     confirm!(rt; !one.is_whole());
-    one.make(rt.alloc(), 1, &Unwatched).expect(&rt, "a fault");
+    one.make(rt.alloc(), 1, None, &Unwatched).expect(&rt, "a fault");
     confirm!(rt; one.is_whole());
 }
 
-// Of the smallest job, behind its whole run: no fault; packets 0, 1, 3, 5 and 6 once more; the master crashes or is superseded; the node restarts.
+// Of the smallest job, behind its whole run: no fault; packets 0, 1, 3, 5 and 6 once more; the master crashes, with the next start or without, or is superseded; the node restarts.
 #[test]
-fn nine_runs_are_counted_by_hand(rt: HostRuntime) {
+fn ten_runs_are_counted_by_hand(rt: HostRuntime) {
     let input =
         b"{\"id\":\"job_200707121733_0003\",\"job\":\"wordcount\",\"reduces\":1,\"splits\":[]}\nstart 1 0\ncalm 1\n";
     let mut all = Exploration::new(rt.alloc(), input, 1).expect(&rt, "a fault");
-    all.make(rt.alloc(), u64::MAX, &Unwatched)
+    all.make(rt.alloc(), u64::MAX, None, &Unwatched)
         .expect(&rt, "a fault");
-    confirm!(rt; all.table().runs() == 9);
+    confirm!(rt; all.table().runs() == 10);
     confirm!(rt; all.table().rows().len() == 1);
 }
