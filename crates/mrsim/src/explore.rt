@@ -19,12 +19,12 @@ and one of these is one fault, at each place, before each event and behind the l
   more, or none; each time nothing of what it did not flush stays, or all up to the end of one of its records
   a container ends; a node restarts; the newest master gives a node up
   the newest master launches an attempt of a task on a node, other than the one that it launches next anyway
-Behind a fault the run goes on as the calm of the newest master. Writes how many runs there are, and each end that came of them,
-those that need fewer faults first: how many runs have it, what `play` prints of it, whether the files that a reader sees are
-those of `seq`, and of the scripts that lead to it with the fewest faults the first shortest one. Behind the job text it is an
-input of `play`: each script was played before it is shown.
+No other fault comes while a packet is late. Behind a fault the run goes on as the calm of the newest master.
+Writes how many runs there are, and each end that came of them, those that need fewer faults first: how many runs have it, what
+`play` prints of it, whether the files that a reader sees are those of `seq`, and of the scripts that lead to it with the fewest
+faults the first shortest one. Behind the job text it is an input of `play`: each script was played before it is shown.
 
-Example:
+Example, where one.job is a job text alone, and its line has an end:
   mrsim explore --find \"marker yes, outcome failed\" one.job > script
   cat one.job script | mrsim play --diagram > end.svg
 As JSON, which ends have the marker:

@@ -1,5 +1,5 @@
 //! Jobs that threads run: gates, and works at once. Runs with faults of a plan are rows of tools/hostile.
-use mr_drive::{DriveFault, Plan, Report, drive};
+use mr_drive::{DriveFault, Plan, Report, Unreported, drive};
 use mr_ids::TaskKind;
 use mr_jobs::WordCount;
 use mr_play::setup_of;
@@ -30,6 +30,13 @@ fn plan(rt: &impl Abort, alloc: Global, parts: &str) -> Plan {
             }
         }
         Err(fault) => panic!(rt; "{fault}"),
+    }
+}
+
+fn fault_of(driven: Result<Report, Unreported>) -> Option<DriveFault> {
+    match driven {
+        Ok(_report) => None,
+        Err(unreported) => Some(unreported.fault),
     }
 }
 
@@ -87,7 +94,9 @@ fn four_map_works_at_once(rt: HostRuntime) {
         rt.alloc(),
         r#""job":"wordcount","splits":["a","b","a",""],"nodes":4"#,
     );
-    let report = drive(&rt, rt.alloc(), &WordCount, &gate, &four, TURNS).expect(&rt, "a fault");
+    let report = drive(&rt, rt.alloc(), &WordCount, &gate, &four, TURNS)
+        .ok()
+        .expect(&rt, "a fault");
     confirm!(rt; is_counted(&report));
     confirm!(rt; gate.maps.load(Ordering::SeqCst) == 4);
     confirm!(rt; gate.reduces.load(Ordering::SeqCst) == 1);
@@ -97,7 +106,7 @@ fn four_map_works_at_once(rt: HostRuntime) {
         rt.alloc(),
         r#""job":"wordcount","splits":["a","b","a",""],"nodes":3"#,
     );
-    let fault = drive(&rt, rt.alloc(), &WordCount, &gate, &three, TURNS).err();
+    let fault = fault_of(drive(&rt, rt.alloc(), &WordCount, &gate, &three, TURNS));
     confirm!(rt; fault == Some(DriveFault::TurnsSpent), &fault);
 }
 
@@ -110,7 +119,9 @@ fn four_reduce_works_at_once(rt: HostRuntime) {
         rt.alloc(),
         r#""job":"wordcount","splits":["a","b","a",""],"nodes":4,"reduces":4"#,
     );
-    let report = drive(&rt, rt.alloc(), &WordCount, &gate, &four, TURNS).expect(&rt, "a fault");
+    let report = drive(&rt, rt.alloc(), &WordCount, &gate, &four, TURNS)
+        .ok()
+        .expect(&rt, "a fault");
     confirm!(rt; report.succeeded);
     confirm!(rt; report.files.len() == 4);
     confirm!(rt; gate.maps.load(Ordering::SeqCst) == 4);
@@ -130,7 +141,7 @@ impl Gate for ShutGate {
 #[test]
 fn a_gate_that_refuses_ends_the_run(rt: HostRuntime) {
     let plan = plan(&rt, rt.alloc(), r#""job":"wordcount","splits":["a b a"]"#);
-    let fault = drive(&rt, rt.alloc(), &WordCount, &ShutGate, &plan, TURNS).err();
+    let fault = fault_of(drive(&rt, rt.alloc(), &WordCount, &ShutGate, &plan, TURNS));
     confirm!(rt; fault == Some(DriveFault::TurnsSpent), &fault);
 }
 
@@ -142,7 +153,9 @@ fn a_report_tells_who_made_each_event(rt: HostRuntime) {
         rt.alloc(),
         r#""job":"wordcount","splits":["a b a"],"faults":[{"after":1,"node":0}]"#,
     );
-    let report = drive(&rt, rt.alloc(), &WordCount, &OpenGate, &plan, TURNS).expect(&rt, "a fault");
+    let report = drive(&rt, rt.alloc(), &WordCount, &OpenGate, &plan, TURNS)
+        .ok()
+        .expect(&rt, "a fault");
     confirm!(rt; is_counted(&report));
     confirm!(rt; report.by.len() == report.world.journal().len());
     confirm!(rt; report.world.journal().get(1) == Some(&Event::NodeRestart { node: 0 }));
