@@ -1,5 +1,5 @@
 -- The faults of each subcommand are faults of the text.
-use Rattle.std.proofs.Common.{ℕ, Bool, List, Result, Ok, Err, IfErr}
+use Rattle.std.proofs.Common.{ℕ, Bool, List, Option, Result, Ok, Err, IfErr}
 use Rattle.mr_trace.specs.mr_world.specs.Limits.{within}
 use Rattle.mr_sim_commands.specs.declared.fault.SimFault.{SimFault}
 use Rattle.mr_sim_commands.specs.declared.fault.SimFault.TheVariants.{NoMemory, Read, Write, TooLong, BadCommand, BadRecord, Job, Refused, Full, JobFailed, TurnsSpent, JournalMismatch, Thread}
@@ -7,12 +7,12 @@ use Rattle.mr_sim_commands.specs.Faults.{CommitterFails, HistoryFails, SeqFails}
 use Rattle.mr_trace_svg.specs.declared.part.Part.{Part}
 use Rattle.mr_trace.specs.mr_play.specs.declared.shown.Shown.{Shown}
 use Rattle.mr_trace.specs.mr_play.specs.Text.{PlayFails}
-use Rattle.mr_sim.specs.declared.subcommand.Command.TheVariants.{Committer, Play, PlayShown, PlayDrawn, PlayJson, History, HistoryJson, Seq, Threads, ThreadsSeen, Explore}
+use Rattle.mr_sim.specs.declared.subcommand.Command.TheVariants.{Committer, Play, PlayShown, PlayDrawn, PlayJson, PlayTree, History, HistoryJson, Seq, Threads, ThreadsSeen, Explore}
 use Rattle.mr_explore.specs.declared.asked.Asked.{Asked}
-use Rattle.mr_explore.specs.Explored.{ExploredFails}
 use Rattle.mr_threads.specs.declared.seen.Seen.{Seen}
 use Rattle.mr_threads.specs.Text.{ShownFails, ThreadsFail}
 use Rattle.mr_threads.proofs.Failing.{nothing_to_print}
+use Rattle.mr_sim.specs.Goals.{SoughtFails}
 use Rattle.mr_sim.specs.Printed.{RefusesText}
 
 pub committer_fails : {A : Type 0} (input : List ℕ) (r : Result A SimFault) → IfErr r (CommitterFails input) → IfErr r (RefusesText Committer input)
@@ -111,7 +111,7 @@ seq_fails input (Err TurnsSpent) h = h
 seq_fails input (Err JournalMismatch) h = h
 seq_fails input (Err Thread) h = h
 
-pub threads_fails : {A : Type 0} (turns : ℕ) (hold : Bool) (input : List ℕ) (r : Result A SimFault) → IfErr r (ThreadsFail input) → IfErr r (RefusesText (Threads turns hold) input)
+pub threads_fails : {A : Type 0} (turns : Option ℕ) (hold : Bool) (input : List ℕ) (r : Result A SimFault) → IfErr r (ThreadsFail input) → IfErr r (RefusesText (Threads turns hold) input)
 threads_fails turns hold input (Ok x) h = h
 threads_fails turns hold input (Err NoMemory) h = h
 threads_fails turns hold input (Err Read) h = h
@@ -132,7 +132,7 @@ pub unthreaded_fails : {A : Type 0} (input : List ℕ) (r : Result A SimFault) �
 unthreaded_fails input (Ok x) h = h
 unthreaded_fails input (Err e) h = nothing_to_print input e h
 
-pub seen_fails : {A : Type 0} (turns : ℕ) (hold : Bool) (seen : Seen) (input : List ℕ) (r : Result A SimFault) → IfErr r (ShownFails input) → IfErr r (RefusesText (ThreadsSeen turns hold seen) input)
+pub seen_fails : {A : Type 0} (turns : Option ℕ) (hold : Bool) (seen : Seen) (input : List ℕ) (r : Result A SimFault) → IfErr r (ShownFails input) → IfErr r (RefusesText (ThreadsSeen turns hold seen) input)
 seen_fails turns hold seen input (Ok x) h = h
 seen_fails turns hold seen input (Err NoMemory) h = h
 seen_fails turns hold seen input (Err Read) h = h
@@ -164,6 +164,22 @@ json_fails input (Err TurnsSpent) h = h
 json_fails input (Err JournalMismatch) h = h
 json_fails input (Err Thread) h = h
 
+pub tree_fails : {A : Type 0} (input : List ℕ) (r : Result A SimFault) → IfErr r (PlayFails within input) → IfErr r (RefusesText PlayTree input)
+tree_fails input (Ok x) h = h
+tree_fails input (Err NoMemory) h = h
+tree_fails input (Err Read) h = h
+tree_fails input (Err Write) h = h
+tree_fails input (Err TooLong) h = h
+tree_fails input (Err (BadCommand n)) h = h
+tree_fails input (Err (BadRecord n)) h = h
+tree_fails input (Err (Job e)) h = h
+tree_fails input (Err Refused) h = h
+tree_fails input (Err Full) h = h
+tree_fails input (Err JobFailed) h = h
+tree_fails input (Err TurnsSpent) h = h
+tree_fails input (Err JournalMismatch) h = h
+tree_fails input (Err Thread) h = h
+
 pub history_json_fails : {A : Type 0} (input : List ℕ) (r : Result A SimFault) → IfErr r (HistoryFails input) → IfErr r (RefusesText HistoryJson input)
 history_json_fails input (Ok x) h = h
 history_json_fails input (Err NoMemory) h = h
@@ -180,7 +196,7 @@ history_json_fails input (Err TurnsSpent) h = h
 history_json_fails input (Err JournalMismatch) h = h
 history_json_fails input (Err Thread) h = h
 
-pub explore_fails : {A : Type 0} (asked : Asked) (progress : Bool) (input : List ℕ) (r : Result A SimFault) → IfErr r (ExploredFails asked input) → IfErr r (RefusesText (Explore asked progress) input)
+pub explore_fails : {A : Type 0} (asked : Asked) (progress : Bool) (input : List ℕ) (r : Result A SimFault) → IfErr r (SoughtFails asked input) → IfErr r (RefusesText (Explore asked progress) input)
 explore_fails asked progress input (Ok x) h = h
 explore_fails asked progress input (Err NoMemory) h = h
 explore_fails asked progress input (Err Read) h = h

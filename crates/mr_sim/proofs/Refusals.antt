@@ -1,13 +1,14 @@
 -- No input is both printed and refused.
 use Rattle.std.proofs.Common.{◌≡◌, Some, None, Ok, Err, sym, ◌∙◌, arith}
 use Rattle.mr_sim_commands.specs.declared.fault.SimFault.TheVariants.{NoMemory, Read, Write, TooLong, BadCommand, BadRecord, Job, Refused, Full, JobFailed, TurnsSpent, JournalMismatch, Thread}
-use Rattle.mr_sim.specs.declared.subcommand.Command.TheVariants.{Committer, Play, PlayShown, PlayDrawn, PlayJson, History, HistoryJson, Seq, Threads, ThreadsSeen, Explore}
+use Rattle.mr_sim.specs.declared.subcommand.Command.TheVariants.{Committer, Play, PlayShown, PlayDrawn, PlayJson, PlayTree, History, HistoryJson, Seq, Threads, ThreadsSeen, Explore}
 use Rattle.mr_sim.specs.Laws.{PrintedOrRefused}
 use Rattle.mr_trace.specs.mr_world.specs.Limits as limits
 use Rattle.mr_sim_commands.proofs.Readings.{read_or_bad_law}
 use Rattle.mr_sim_commands.proofs.Reduces.{seq_not_both}
 use Rattle.mr_explore.proofs.Refused.{explored_or_refused_law}
 use Rattle.mr_trace.specs.mr_play.proofs.Playing.{one_play_text_law}
+use Rattle.mr_sim.proofs.Sought.{not_both}
 
 pub printed_or_refused_law : PrintedOrRefused
 printed_or_refused_law command input text NoMemory short p h = tt
@@ -19,17 +20,19 @@ printed_or_refused_law Play input text (BadCommand n) short p h = one_play_text_
 printed_or_refused_law (PlayShown shown) input text (BadCommand n) short p h = one_play_text_law.not_bad_line limits.within input p.printed n p.prints h.1
 printed_or_refused_law (PlayDrawn part) input text (BadCommand n) short p h = one_play_text_law.not_bad_line limits.within input p.0 n p.1 h.1
 printed_or_refused_law PlayJson input text (BadCommand n) short p h = one_play_text_law.not_bad_line limits.within input p.printed n p.prints h.1
+printed_or_refused_law PlayTree input text (BadCommand n) short p h = one_play_text_law.not_bad_line limits.within input p.printed n p.prints h.1
 printed_or_refused_law History input text (BadCommand n) short p h = h.1
 printed_or_refused_law HistoryJson input text (BadCommand n) short p h = h.1
 printed_or_refused_law Seq input text (BadCommand n) short p h = h.1
 printed_or_refused_law (Threads turns hold) input text (BadCommand n) short p h = h.1
 printed_or_refused_law (ThreadsSeen turns hold seen) input text (BadCommand n) short p h = h.1
-printed_or_refused_law (Explore asked progress) input text (BadCommand n) short p h = explored_or_refused_law.not_bad_line asked input text n p h.1
+printed_or_refused_law (Explore asked progress) input text (BadCommand n) short p h = explored_or_refused_law.not_bad_line asked input text n p.1 h.1
 printed_or_refused_law Committer input text (BadRecord n) short p h = h.1
 printed_or_refused_law Play input text (BadRecord n) short p h = h.1
 printed_or_refused_law (PlayShown shown) input text (BadRecord n) short p h = h.1
 printed_or_refused_law (PlayDrawn part) input text (BadRecord n) short p h = h.1
 printed_or_refused_law PlayJson input text (BadRecord n) short p h = h.1
+printed_or_refused_law PlayTree input text (BadRecord n) short p h = h.1
 printed_or_refused_law History input text (BadRecord n) short p h = let y : Some n ≡ None = sym h.1 ∙ p.good in absurd (cc)
 printed_or_refused_law HistoryJson input text (BadRecord n) short p h = let y : Some n ≡ None = sym h.1 ∙ p.good in absurd (cc)
 printed_or_refused_law Seq input text (BadRecord n) short p h = h.1
@@ -41,39 +44,43 @@ printed_or_refused_law Play input text (Job e) short p h = one_play_text_law.not
 printed_or_refused_law (PlayShown shown) input text (Job e) short p h = one_play_text_law.not_bad_job limits.within input p.printed e p.prints h.1
 printed_or_refused_law (PlayDrawn part) input text (Job e) short p h = one_play_text_law.not_bad_job limits.within input p.0 e p.1 h.1
 printed_or_refused_law PlayJson input text (Job e) short p h = one_play_text_law.not_bad_job limits.within input p.printed e p.prints h.1
+printed_or_refused_law PlayTree input text (Job e) short p h = one_play_text_law.not_bad_job limits.within input p.printed e p.prints h.1
 printed_or_refused_law History input text (Job e) short p h = h.1
 printed_or_refused_law HistoryJson input text (Job e) short p h = h.1
 printed_or_refused_law Seq input text (Job e) short p h = let y : Ok p.job ≡ Err e = sym p.said ∙ h.1 in absurd (cc)
 printed_or_refused_law (Threads turns hold) input text (Job e) short p h = let y : Ok p.0.job ≡ Err e = sym p.0.said ∙ h.1 in absurd (cc)
 printed_or_refused_law (ThreadsSeen turns hold seen) input text (Job e) short p h = let y : Ok p.job ≡ Err e = sym p.said ∙ h.1 in absurd (cc)
-printed_or_refused_law (Explore asked progress) input text (Job e) short p h = explored_or_refused_law.not_bad_job asked input text e p h.1
+printed_or_refused_law (Explore asked progress) input text (Job e) short p h = explored_or_refused_law.not_bad_job asked input text e p.1 h.1
 printed_or_refused_law Committer input text Refused short p h = h.1
 printed_or_refused_law Play input text Refused short p h = h.1
 printed_or_refused_law (PlayShown shown) input text Refused short p h = h.1
 printed_or_refused_law (PlayDrawn part) input text Refused short p h = h.1
 printed_or_refused_law PlayJson input text Refused short p h = h.1
+printed_or_refused_law PlayTree input text Refused short p h = h.1
 printed_or_refused_law History input text Refused short p h = h.1
 printed_or_refused_law HistoryJson input text Refused short p h = h.1
 printed_or_refused_law Seq input text Refused short p h = seq_not_both input text p h.1
 printed_or_refused_law (Threads turns hold) input text Refused short p h = h.1
 printed_or_refused_law (ThreadsSeen turns hold seen) input text Refused short p h = h.1
-printed_or_refused_law (Explore asked progress) input text Refused short p h = h.1
+printed_or_refused_law (Explore asked progress) input text Refused short p h = not_both asked input p.0 h.1
 printed_or_refused_law Committer input text Full short p h = h.1
 printed_or_refused_law Play input text Full short p h = one_play_text_law.not_full limits.within input text p h.1
 printed_or_refused_law (PlayShown shown) input text Full short p h = one_play_text_law.not_full limits.within input p.printed p.prints h.1
 printed_or_refused_law (PlayDrawn part) input text Full short p h = one_play_text_law.not_full limits.within input p.0 p.1 h.1
 printed_or_refused_law PlayJson input text Full short p h = one_play_text_law.not_full limits.within input p.printed p.prints h.1
+printed_or_refused_law PlayTree input text Full short p h = one_play_text_law.not_full limits.within input p.printed p.prints h.1
 printed_or_refused_law History input text Full short p h = h.1
 printed_or_refused_law HistoryJson input text Full short p h = h.1
 printed_or_refused_law Seq input text Full short p h = h.1
 printed_or_refused_law (Threads turns hold) input text Full short p h = tt
 printed_or_refused_law (ThreadsSeen turns hold seen) input text Full short p h = tt
-printed_or_refused_law (Explore asked progress) input text Full short p h = explored_or_refused_law.not_full asked input text p h.1
+printed_or_refused_law (Explore asked progress) input text Full short p h = explored_or_refused_law.not_full asked input text p.1 h.1
 printed_or_refused_law Committer input text JobFailed short p h = h.1
 printed_or_refused_law Play input text JobFailed short p h = h.1
 printed_or_refused_law (PlayShown shown) input text JobFailed short p h = h.1
 printed_or_refused_law (PlayDrawn part) input text JobFailed short p h = h.1
 printed_or_refused_law PlayJson input text JobFailed short p h = h.1
+printed_or_refused_law PlayTree input text JobFailed short p h = h.1
 printed_or_refused_law History input text JobFailed short p h = h.1
 printed_or_refused_law HistoryJson input text JobFailed short p h = h.1
 printed_or_refused_law Seq input text JobFailed short p h = h.1
@@ -85,6 +92,7 @@ printed_or_refused_law Play input text TurnsSpent short p h = h.1
 printed_or_refused_law (PlayShown shown) input text TurnsSpent short p h = h.1
 printed_or_refused_law (PlayDrawn part) input text TurnsSpent short p h = h.1
 printed_or_refused_law PlayJson input text TurnsSpent short p h = h.1
+printed_or_refused_law PlayTree input text TurnsSpent short p h = h.1
 printed_or_refused_law History input text TurnsSpent short p h = h.1
 printed_or_refused_law HistoryJson input text TurnsSpent short p h = h.1
 printed_or_refused_law Seq input text TurnsSpent short p h = h.1
@@ -96,6 +104,7 @@ printed_or_refused_law Play input text JournalMismatch short p h = h.1
 printed_or_refused_law (PlayShown shown) input text JournalMismatch short p h = h.1
 printed_or_refused_law (PlayDrawn part) input text JournalMismatch short p h = h.1
 printed_or_refused_law PlayJson input text JournalMismatch short p h = h.1
+printed_or_refused_law PlayTree input text JournalMismatch short p h = h.1
 printed_or_refused_law History input text JournalMismatch short p h = h.1
 printed_or_refused_law HistoryJson input text JournalMismatch short p h = h.1
 printed_or_refused_law Seq input text JournalMismatch short p h = h.1
@@ -107,6 +116,7 @@ printed_or_refused_law Play input text Thread short p h = h.1
 printed_or_refused_law (PlayShown shown) input text Thread short p h = h.1
 printed_or_refused_law (PlayDrawn part) input text Thread short p h = h.1
 printed_or_refused_law PlayJson input text Thread short p h = h.1
+printed_or_refused_law PlayTree input text Thread short p h = h.1
 printed_or_refused_law History input text Thread short p h = h.1
 printed_or_refused_law HistoryJson input text Thread short p h = h.1
 printed_or_refused_law Seq input text Thread short p h = h.1

@@ -1,5 +1,5 @@
 -- What a subcommand prints for its input, and which faults it answers: a case for each subcommand, whose words stand in its folder. Our own profile.
-use Rattle.std.specs.Prelude.{◌≡◌, ◌<◌, ◌≤◌, ◌^◌, Option, Some, ℕ, List, Err, length}
+use Rattle.std.specs.Prelude.{◌≡◌, ◌<◌, ◌≤◌, ◌^◌, Option, Some, ℕ, List, Err, false, length}
 use Rattle.std.specs.Io.KnownBytes.{Appends}
 use Rattle.mr_history.specs.Reading.{bad_line}
 use Rattle.mr_script.specs.Lines.{lines_of}
@@ -8,12 +8,12 @@ use Rattle.mr_sim_commands.specs.declared.fault.JobTextFault.{JobTextFault}
 use Rattle.mr_sim_commands.specs.declared.fault.SimFault.{SimFault}
 use Rattle.mr_sim_commands.specs.declared.fault.SimFault.TheVariants.{NoMemory, Read, Write, TooLong, BadCommand, BadRecord, Job, Refused, Full, JobFailed, TurnsSpent, JournalMismatch, Thread}
 use Rattle.mr_sim.specs.declared.subcommand.Command.{Command}
-use Rattle.mr_sim.specs.declared.subcommand.Command.TheVariants.{Committer, Play, PlayShown, PlayDrawn, PlayJson, History, HistoryJson, Seq, Threads, ThreadsSeen, Explore}
+use Rattle.mr_sim.specs.declared.subcommand.Command.TheVariants.{Committer, Play, PlayShown, PlayDrawn, PlayJson, PlayTree, History, HistoryJson, Seq, Threads, ThreadsSeen, Explore}
 use Rattle.mr_sim_commands.specs.committer.Script.{IsFirstBad}
 use Rattle.mr_sim_commands.specs.committer.Text.{PrintsCommitter}
 use Rattle.mr_sim_commands.specs.history.Text.{PrintsHistory}
 use Rattle.mr_sim_commands.specs.job.Text.{submission_of}
-use Rattle.mr_explore.specs.Explored.{IsFullExplored, PrintsExplored}
+use Rattle.mr_explore.specs.Explored.{IsFullExplored}
 use Rattle.mr_trace_json.specs.Plays.{TellsPlay}
 use Rattle.mr_trace_json.specs.Segments.{TellsHistory}
 use Rattle.mr_trace.specs.mr_play.specs.Shown.{Draws}
@@ -22,6 +22,8 @@ use Rattle.mr_trace.specs.mr_play.specs.Text.{PrintsPlay, IsBadPlayJob, IsBadPla
 use Rattle.mr_sim_commands.specs.seq.Text.{PrintsSeq, RefusesSeq}
 use Rattle.mr_threads.specs.Runs.{IsRead}
 use Rattle.mr_threads.specs.Text.{HasFailed, PrintsSuccess, ShowsRun}
+use Rattle.mr_sim.specs.Goals.{Names, PrintsSought}
+use Rattle.mr_sim.specs.Trees.{ListsPlay}
 
 -- ---- what is printed
 
@@ -32,12 +34,13 @@ Prints Play input text = PrintsPlay within input text
 Prints (PlayShown shown) input text = Shows within shown input text
 Prints (PlayDrawn part) input text = Draws within input
 Prints PlayJson input text = TellsPlay within input text
+Prints PlayTree input text = ListsPlay within input text
 Prints History input text = PrintsHistory input text
 Prints HistoryJson input text = TellsHistory input text
 Prints Seq input text = PrintsSeq input text
 Prints (Threads turns hold) input text = PrintsSuccess input text
 Prints (ThreadsSeen turns hold seen) input text = ShowsRun seen input text
-Prints (Explore asked progress) input text = PrintsExplored asked input text
+Prints (Explore asked progress) input text = PrintsSought asked input text
 
 -- ---- what is refused
 
@@ -48,6 +51,7 @@ IsBadLine Play input n = IsBadPlayLine input n
 IsBadLine (PlayShown shown) input n = IsBadPlayLine input n
 IsBadLine (PlayDrawn part) input n = IsBadPlayLine input n
 IsBadLine PlayJson input n = IsBadPlayLine input n
+IsBadLine PlayTree input n = IsBadPlayLine input n
 IsBadLine History input n = ⊥
 IsBadLine HistoryJson input n = ⊥
 IsBadLine Seq input n = ⊥
@@ -62,6 +66,7 @@ IsBadRecord Play input n = ⊥
 IsBadRecord (PlayShown shown) input n = ⊥
 IsBadRecord (PlayDrawn part) input n = ⊥
 IsBadRecord PlayJson input n = ⊥
+IsBadRecord PlayTree input n = ⊥
 IsBadRecord History input n = bad_line input ≡ Some n
 IsBadRecord HistoryJson input n = bad_line input ≡ Some n
 IsBadRecord Seq input n = ⊥
@@ -76,6 +81,7 @@ IsBadJob Play input e = IsBadPlayJob input e
 IsBadJob (PlayShown shown) input e = IsBadPlayJob input e
 IsBadJob (PlayDrawn part) input e = IsBadPlayJob input e
 IsBadJob PlayJson input e = IsBadPlayJob input e
+IsBadJob PlayTree input e = IsBadPlayJob input e
 IsBadJob History input e = ⊥
 IsBadJob HistoryJson input e = ⊥
 IsBadJob Seq input e = submission_of input ≡ Err e
@@ -83,19 +89,20 @@ IsBadJob (Threads turns hold) input e = submission_of input ≡ Err e
 IsBadJob (ThreadsSeen turns hold seen) input e = submission_of input ≡ Err e
 IsBadJob (Explore asked progress) input e = IsBadPlayJob input e
 
--- the job of a job text refuses a line of a split
+-- the job of a job text refuses a line of a split; or it does not have a reduce that the goal names
 abbrev pub IsRefused : Command → List ℕ → Type 0
 IsRefused Committer input = ⊥
 IsRefused Play input = ⊥
 IsRefused (PlayShown shown) input = ⊥
 IsRefused (PlayDrawn part) input = ⊥
 IsRefused PlayJson input = ⊥
+IsRefused PlayTree input = ⊥
 IsRefused History input = ⊥
 IsRefused HistoryJson input = ⊥
 IsRefused Seq input = RefusesSeq input
 IsRefused (Threads turns hold) input = ⊥
 IsRefused (ThreadsSeen turns hold seen) input = ⊥
-IsRefused (Explore asked progress) input = ⊥
+IsRefused (Explore asked progress) input = Names asked input false
 
 -- an event of a run, or a work, passes a limit
 abbrev pub IsFull : Command → List ℕ → Type 0
@@ -104,6 +111,7 @@ IsFull Play input = IsFullPlay within input
 IsFull (PlayShown shown) input = IsFullPlay within input
 IsFull (PlayDrawn part) input = IsFullPlay within input
 IsFull PlayJson input = IsFullPlay within input
+IsFull PlayTree input = IsFullPlay within input
 IsFull History input = ⊥
 IsFull HistoryJson input = ⊥
 IsFull Seq input = ⊥

@@ -28,6 +28,7 @@ impl InputKind {
             | Command::PlayShown(_)
             | Command::PlayDrawn(_)
             | Command::PlayJson
+            | Command::PlayTree
             | Command::Explore { .. } => InputKind::JobAndScript,
         }
     }

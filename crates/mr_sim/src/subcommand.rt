@@ -1,13 +1,15 @@
 //! The subcommands, from the bytes of their input to what they print.
-ghost use Rattle.std.specs.Prelude.{◌≡◌, ℕ, Bool, true, IfOk, IfErr};
+ghost use Rattle.std.specs.Prelude.{◌≡◌, ℕ, Bool, true, Option, IfOk, IfErr};
 ghost use Rattle.mr_threads.specs.declared.seen.Seen.{Seen};
 ghost use Rattle.mr_threads.specs.Text.{PrintsSuccess, ShownFails, ShowsRun, ThreadsFail};
 ghost use Rattle.mr_sim.specs.Expected.{IsMet};
 ghost use Rattle.mr_sim.specs.Printed.{Prints, RefusesText};
 
+use crate::goal::explored;
 use crate::host::Host;
 use crate::progress::Progress;
-use mr_explore::{Asked, Unwatched, Watch, explore_output};
+use crate::tree::play_tree;
+use mr_explore::{Asked, Unwatched, Watch};
 use mr_sim_commands::{IdleKeys, Printed, SimFault, committer_output, history_output, seq_output};
 use mr_threads::{Seen, unthreaded};
 use mr_trace::mr_play::{Shown, play};
@@ -30,17 +32,19 @@ pub enum Command<'a> {
     PlayDrawn(Part),
     /// The same, and prints lines of JSON: each event, and what came of the run.
     PlayJson,
+    /// The same, and prints all that the namespace holds at the end.
+    PlayTree,
     /// Prints the records of one segment of a job history, and how many bytes after the last whole line were dropped.
     History,
     /// The same as lines of JSON.
     HistoryJson,
     /// Runs the job of a job text sequentially, and prints its part files.
     Seq,
-    /// Runs the job of a job text by threads, with the faults that it plans, and prints its part files. Each thread has at most `turns` turns; the first map
-    /// work is held until the second has begun, where `hold` asks for it.
-    Threads { turns: u64, hold: bool },
+    /// Runs the job of a job text by threads, with the faults that it plans, and prints its part files. Each thread has at most `turns` turns, or as many
+    /// as follow from the job's size; the first map work is held until the second has begun, where `hold` asks for it.
+    Threads { turns: Option<u64>, hold: bool },
     /// The same, and shows the run that happened in place of the part files.
-    ThreadsSeen { turns: u64, hold: bool, seen: Seen },
+    ThreadsSeen { turns: Option<u64>, hold: bool, seen: Seen },
     /// Makes every run of a job text and a script with at most as many faults as are asked for, and tells the ends that they come to. `progress` tells on
     /// standard error how far it is.
     Explore { asked: Asked<'a>, progress: bool },
@@ -55,7 +59,7 @@ fn plain(alloc: Global, text: Vec<u8>) -> Printed
 }
 
 /// What a subcommand prints for the bytes of its input, and what is noted beside it. This is the one place that tells the subcommands apart.
-#[tactic(auto, using(crate::proofs::Failing::committer_fails, crate::proofs::Failing::history_fails, crate::proofs::Failing::play_fails, crate::proofs::Failing::shown_fails, crate::proofs::Failing::drawn_fails, crate::proofs::Failing::json_fails, crate::proofs::Failing::history_json_fails, crate::proofs::Failing::seq_fails, crate::proofs::Failing::threads_fails, crate::proofs::Failing::seen_fails, crate::proofs::Failing::explore_fails))]
+#[tactic(auto, using(crate::proofs::Failing::committer_fails, crate::proofs::Failing::history_fails, crate::proofs::Failing::play_fails, crate::proofs::Failing::shown_fails, crate::proofs::Failing::drawn_fails, crate::proofs::Failing::json_fails, crate::proofs::Failing::tree_fails, crate::proofs::Failing::history_json_fails, crate::proofs::Failing::seq_fails, crate::proofs::Failing::threads_fails, crate::proofs::Failing::seen_fails, crate::proofs::Failing::explore_fails))]
 pub(crate) fn printed<T, S, W: Watch>(
     alloc: Global,
     host: &Host<T, S, W>,
@@ -63,19 +67,19 @@ pub(crate) fn printed<T, S, W: Watch>(
     input: &[u8],
 ) -> Result<Printed, SimFault>
 where
-    T: Fn(u64, bool) -> Result<Printed, SimFault>,
-    S: Fn(u64, bool, Seen) -> Result<Printed, SimFault>,
+    T: Fn(Option<u64>, bool) -> Result<Printed, SimFault>,
+    S: Fn(Option<u64>, bool, Seen) -> Result<Printed, SimFault>,
     // The host prints of threads what `threads` prints for the input.
-    requires threads { (turns : ℕ) (hold : Bool) → T.pre host.now.threads turns hold }
-    requires printed { (turns : ℕ) (hold : Bool) (told : _) → T.post host.now.threads turns hold told
+    requires threads { (turns : Option ℕ) (hold : Bool) → T.pre host.now.threads turns hold }
+    requires printed { (turns : Option ℕ) (hold : Bool) (told : _) → T.post host.now.threads turns hold told
         → IfOk told (λ v. PrintsSuccess input.now v.text.items) × IfErr told (ThreadsFail input.now) }
-    requires printed_met { (turns : ℕ) (hold : Bool) (told : _) → T.post host.now.threads turns hold told → IfOk told (λ v. v.met ≡ true) }
+    requires printed_met { (turns : Option ℕ) (hold : Bool) (told : _) → T.post host.now.threads turns hold told → IfOk told (λ v. v.met ≡ true) }
 
     // It shows of threads what `threads` shows for the input.
-    requires seen { (turns : ℕ) (hold : Bool) (seen : Seen) → S.pre host.now.threads_seen turns hold seen }
-    requires shown { (turns : ℕ) (hold : Bool) (seen : Seen) (told : _) → S.post host.now.threads_seen turns hold seen told
+    requires seen { (turns : Option ℕ) (hold : Bool) (seen : Seen) → S.pre host.now.threads_seen turns hold seen }
+    requires shown { (turns : Option ℕ) (hold : Bool) (seen : Seen) (told : _) → S.post host.now.threads_seen turns hold seen told
         → IfOk told (λ v. ShowsRun seen input.now v.text.items) × IfErr told (ShownFails input.now) }
-    requires shown_met { (turns : ℕ) (hold : Bool) (seen : Seen) (told : _) → S.post host.now.threads_seen turns hold seen told → IfOk told (λ v. v.met ≡ true) }
+    requires shown_met { (turns : Option ℕ) (hold : Bool) (seen : Seen) (told : _) → S.post host.now.threads_seen turns hold seen told → IfOk told (λ v. v.met ≡ true) }
 
     // Ok: the text is what is printed for the input.
     ensures ok { IfOk result (λ v. Prints command.entry input.now v.text.items) }
@@ -92,6 +96,7 @@ where
         Command::PlayShown(shown) => play_shown(alloc, input, shown),
         Command::PlayDrawn(part) => play_drawn(alloc, input, part),
         Command::PlayJson => play_json(alloc, input),
+        Command::PlayTree => play_tree(alloc, input),
         Command::History => Ok(plain(alloc, history_output(alloc, input)?)),
         Command::HistoryJson => Ok(plain(alloc, history_json(alloc, input)?)),
         Command::Seq => seq_output(alloc, input),
@@ -102,7 +107,7 @@ where
                 watch: &host.watch,
                 is_asked: progress,
             };
-            explore_output(alloc, input, &asked, &watch)
+            explored(alloc, input, &asked, &watch)
         }
     }
 }
@@ -119,8 +124,8 @@ pub fn answer(alloc: Global, command: Command<'_>, input: &[u8]) -> Result<Vec<u
     ensures fault { IfErr result (RefusesText command.entry input.now) }
 {
     let host = Host {
-        threads: |_turns: u64, _hold: bool| unthreaded(alloc, input),
-        threads_seen: |_turns: u64, _hold: bool, _seen: Seen| unthreaded(alloc, input),
+        threads: |_turns: Option<u64>, _hold: bool| unthreaded(alloc, input),
+        threads_seen: |_turns: Option<u64>, _hold: bool, _seen: Seen| unthreaded(alloc, input),
         watch: Unwatched,
     };
     Ok(printed(alloc, &host, command, input)?.text)

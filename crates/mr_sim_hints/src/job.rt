@@ -1,19 +1,16 @@
 //! What is wrong with a job text that is refused: where the JSON breaks off, which key is missing, which split or fault is bad, and
 //! which line a job refuses.
+use crate::near::is_near;
 use arrayvec::ArrayString;
 use mr_jobs::MaxByKey;
 use mr_sim_commands::{JobKind, JobTextFault, read_job_text};
-use mr_user::{Job, MAX_SPLIT_LEN};
+use mr_user::{Job, MAX_SPLIT_LEN, UserFault};
 use serde_json::Value;
 use std::alloc::{AllocError, Global};
 use std::fmt;
-use strsim::levenshtein;
 
 /// A key of a job text that is nearly spelled as one of a job. Longer ones are near to none.
 pub type Near = ArrayString<16>;
-
-// With so many letters added, left out or changed a key is still near, if these are at most a half of them.
-const MOST_EDITS: usize = 2;
 
 // Most faults of a plan.
 const MOST_FAULTS: usize = 100;
@@ -120,10 +117,8 @@ fn missing(alloc: Global, value: &Value, key: &str) -> Result<JobTrouble, AllocE
         return Ok(JobTrouble::Bad);
     };
     for name in members.keys() {
-        if let Ok(near) = ArrayString::<16>::from(name.as_str()) {
-            let lower = name.as_str().to_ascii_lowercase(alloc)?;
-            let edits = levenshtein(alloc, lower.as_str(), key)?;
-            if edits <= MOST_EDITS && edits <= key.len() / 2 {
+        if is_near(alloc, name.as_str(), key)? {
+            if let Ok(near) = ArrayString::<16>::from(name.as_str()) {
                 return Ok(JobTrouble::Misspelt(near));
             }
         }
@@ -285,7 +280,7 @@ pub fn refused_line(alloc: Global, text: &[u8]) -> Option<RefusedLine> {
     }
     for (split, bytes) in submission.splits.as_slice().iter().enumerate() {
         for (place, line) in bytes.as_slice().split(|byte| *byte == b'\n').enumerate() {
-            if is_refused(alloc, line) {
+            if is_refused(alloc, line)? {
                 return Some(RefusedLine {
                     split,
                     line: place.saturating_add(1),
@@ -296,6 +291,14 @@ pub fn refused_line(alloc: Global, text: &[u8]) -> Option<RefusedLine> {
     None
 }
 
-fn is_refused(alloc: Global, line: &[u8]) -> bool {
-    line.len() <= MAX_SPLIT_LEN && MaxByKey.map(alloc, 0, 0, line).is_err()
+// Whether the job refuses it; nothing where there is no memory to find out.
+fn is_refused(alloc: Global, line: &[u8]) -> Option<bool> {
+    if line.len() > MAX_SPLIT_LEN {
+        return Some(false);
+    }
+    match MaxByKey.map(alloc, 0, 0, line) {
+        Ok(_) => Some(false),
+        Err(UserFault::Refused) => Some(true),
+        Err(_) => None,
+    }
 }

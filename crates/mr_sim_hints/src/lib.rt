@@ -7,9 +7,9 @@
 //!
 //! A job text that is refused is read once more (`JobHint::of`): where it breaks off, which key is missing though one is there that is
 //! nearly spelled so, which split or fault is bad. `refused_line` finds the line that a job refuses. Where there is no memory for
-//! that, less is told.
+//! that, less is told. A `RecordHint` tells what is wrong with a line of a segment, and takes none.
 //!
-//! Keys of a job text that no job has are ignored, and told in a line each (`put_idle_keys`).
+//! Keys of a job text that no job has are ignored, and told in a line each (`put_idle_keys`), with the key that may be meant.
 //!
 //! # What is proved
 //!
@@ -21,8 +21,11 @@ mod forms;
 mod hint;
 mod idle_keys;
 mod job;
+mod near;
+mod record;
 
 pub use forms::Script;
 pub use hint::{Hint, Trouble, hint_of};
 pub use idle_keys::put_idle_keys;
 pub use job::{FaultTrouble, JobHint, JobTrouble, RefusedLine, refused_line};
+pub use record::RecordHint;

@@ -1,5 +1,6 @@
 //! The subcommands that serve a program in another language: `step`, `task`, `judge` and `recovery`.
 use crate::table::{FILE, Place, Word};
+use crate::unread::why_unread;
 use clap::ArgMatches;
 use clap::builder::ValueParser;
 use mr_ids::{AppAttempt, Bytes, TaskId};
@@ -383,12 +384,15 @@ fn bytes_of(rt: &HostRuntime, name: &str) -> Result<Vec<u8>, PipeFault> {
     }
 }
 
-// The status of a file that is not read, when it is said. Of standard input no name is told, nor of a lack of memory.
+// The status of a file that is not read, when it is said, with why. Of standard input no name is told, nor of a lack of memory.
 fn unread(rt: &HostRuntime, name: &str, fault: PipeFault) -> u8 {
     if name == "-" || fault == PipeFault::NoMemory {
         say(&mut rt.stderr(), fault);
     } else {
         let _ = eprintln!(rt; "mrsim: {fault}: {name}");
+        if let Some(why) = why_unread(rt, name) {
+            let _ = eprintln!(rt; "  {why}");
+        }
     }
     mr_pipe::status_of(fault)
 }

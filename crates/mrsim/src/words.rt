@@ -104,16 +104,20 @@ Reads a job text (see `seq`) from the first line of standard input, and a script
   die C                      container C ends before it is done
   restart N                  node N restarts
   expire K N                 master K gives node N up
-  calm K [before NAME]       all goes on without a fault until master K is through, or until an event of that name is next
+  calm K [before NAME]       all goes on without a fault until master K is through, or until an event of that name is next,
+                             for at most 10000 events; calm K all: for as many as it takes
   drop I                     the packet at place I of the bag is lost: no calm delivers it
   expect r T A, .. none      reduce T is to have the attempt A for its winner now, or none
   expect marker yes, .. no   the success marker is to be there now, or not
   expect outcome WORD        the outcome is to be `succeeded`, `failed` or `none` now
   # ..                       is a comment
 C is a container: its master, a full stop and its number, as 1.0. FAULT is `unavailable` (the call is not made) or
-`unanswered` (its answer is lost). Writes a line for each event that is refused and each `expect` that is not met, then each
-reduce's winner, whether the marker is there, the outcome, and the files that a reader of the destination sees. Standard error
-tells a calm that ended otherwise than its line asks, and last `mrsim: not as expected` where an `expect` was not met.
+`unanswered` (its answer is lost). NAME is launch, step, a master's call (marks, read, setup, recover, bar, append, flush,
+started, merge, cleanup, marker, success, fail, abort) or a container's (compute, where, fetch, lost, mkdirs, create, write,
+close, needs, pending, poll, look, clear, rename, report, abort, failed).
+Writes a line for each event that is refused and each `expect` that is not met, then each reduce's winner, whether the marker
+is there, the outcome, and the files that a reader of the destination sees. Standard error tells a calm that ended otherwise
+than its line asks, and last `mrsim: not as expected` where an `expect` was not met.
 
 Example:
   {\"id\":\"job_200707121733_0003\",\"job\":\"wordcount\",\"reduces\":1,\"splits\":[\"a b a\"]}
@@ -167,6 +171,9 @@ pub const DRAWN: &str = "Prints a picture of the run (SVG) in place of the rest"
 pub const JSON_SHOWN: &str =
     "Prints lines of JSON in place of the rest: each event, then what came of the run";
 
+const TREE: &str =
+    "Prints all that the namespace holds at the end, as `committer` lists it, in place of the rest";
+
 const HISTORY_JSON: &str = "Prints lines of JSON in place of the rest";
 
 /// What `--trace` shows.
@@ -179,6 +186,13 @@ pub const FIRST_DRAWN: &str =
 /// What `--rows` is.
 pub const MOST_DRAWN: &str =
     "With --diagram: how many events are drawn, 1 to 10000 (400 if it is not told)";
+
+/// What `--fold` does.
+pub const FOLDED: &str =
+    "With --diagram: events of fetches that follow one another share a row, which tells how many they are";
+
+/// Whether fetches share a row.
+pub const FOLD_WORD: &str = "fold";
 
 /// From which event on a picture is drawn.
 pub const FROM_WORD: &str = "from";
@@ -194,13 +208,20 @@ pub const FROM_BOUNDS: ValueParser<'static> = ValueParser::Unsigned(0, u64::MAX)
 /// Which numbers `--rows` takes.
 pub const ROWS_BOUNDS: ValueParser<'static> = ValueParser::Unsigned(1, 10_000);
 
-// `--from` and `--rows` stand beside `--diagram` alone. `clap` does not ask for that where `--diagram` is itself ruled out, so what rules
+// `--fold`, `--from` and `--rows` stand beside `--diagram` alone. `clap` does not ask for that where `--diagram` is itself ruled out, so what rules
 // it out is named at them too.
 const PLAY_WORDS: &[Word] = &[
     Word {
         name: DIAGRAM_WORD,
         help: DRAWN,
         rules_out: &["history", "trace"],
+        ..Word::FLAG
+    },
+    Word {
+        name: FOLD_WORD,
+        help: FOLDED,
+        rules_out: &["history", "trace"],
+        needs: &[DIAGRAM_WORD],
         ..Word::FLAG
     },
     Word {
@@ -235,6 +256,12 @@ const PLAY_WORDS: &[Word] = &[
     Word {
         name: "trace",
         help: TRACE_SHOWN,
+        ..Word::FLAG
+    },
+    Word {
+        name: "tree",
+        help: TREE,
+        rules_out: &["diagram", "history", "json", "trace"],
         ..Word::FLAG
     },
 ];
@@ -380,6 +407,7 @@ pub fn part_of(words: &ArgMatches<'_>) -> Part {
     Part {
         from: words.get_one::<u64>(FROM_WORD).unwrap_or(Part::FIRST.from),
         rows: words.get_one::<u64>(ROWS_WORD).unwrap_or(Part::FIRST.rows),
+        fold: words.get_flag(FOLD_WORD),
     }
 }
 
@@ -461,6 +489,9 @@ fn play_of<'a>(words: &ArgMatches<'_>) -> mr_sim::Command<'a> {
     }
     if words.get_flag("json") {
         return mr_sim::Command::PlayJson;
+    }
+    if words.get_flag("tree") {
+        return mr_sim::Command::PlayTree;
     }
     let shown = shown_of(words);
     if shown.trace || shown.history {
