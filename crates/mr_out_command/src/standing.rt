@@ -1,10 +1,10 @@
 //! What the records of a job's history tell of an attempt, and of the whole job.
-ghost use Rattle.std.specs.Prelude.{◌≡◌, true, None, IfOk, if◌then◌else◌};
+ghost use Rattle.std.specs.Prelude.{◌≡◌, true, None, IfOk, OnOk, if◌then◌else◌};
 ghost use Rattle.std.specs.List.{list_any};
 ghost use Rattle.mr_history.specs.Winner.{winner_in};
 ghost use Rattle.mr_ids.specs.Same.{same_attempt, same_task};
 ghost use Rattle.mr_out_steps.specs.Standing.{tells_start, tells_failure, tells_end, is_over, is_of_job, standing, unwon, beside, task_of, winners, with_winner};
-ghost use Rattle.mr_out_command.specs.inner.Standing.{success_of};
+ghost use Rattle.mr_out_command.specs.inner.Standing.{success_of, SameWinners, with_success};
 
 use crate::attempts::task_of;
 use mr_history::Record;
@@ -82,7 +82,47 @@ pub fn winners(
     if lacks_last(job, records, tasks) {
         return Ok(None);
     }
-    winners_in_turn(alloc, job, records, tasks)
+    let successes = successes(alloc, records)?;
+    winners_by(alloc, job, records, &successes, tasks)
+}
+
+// The same by the successes alone.
+#[tactic(auto, using(crate::proofs::Successes::same_winners))]
+fn winners_by(
+    alloc: Global,
+    job: JobId,
+    records: &[Record],
+    successes: &[Record],
+    tasks: u32,
+) -> Result<Option<LinkedList<AttemptId>>, AllocError>
+    requires { SameWinners successes.now records.now }
+    ensures { IfOk result (λ all. all ≡ winners job records.now tasks) }
+{
+    winners_in_turn(alloc, job, successes, tasks)
+}
+
+/// The records that tell a success. By them each task has the winner that it has by all.
+#[tactic(auto, using(crate::proofs::Successes::goes, crate::proofs::Successes::at_end))]
+pub fn successes(alloc: Global, records: &[Record]) -> Result<Vec<Record>, AllocError>
+    ensures { IfOk result (λ kept. SameWinners kept records.now) }
+{
+    let mut kept = Vec::new(alloc);
+    for told in records {
+        keep_success(&mut kept, told)?;
+    }
+    Ok(kept)
+}
+
+fn keep_success(kept: &mut Vec<Record>, told: &Record) -> Result<(), AllocError>
+    ensures { OnOk result (kept.new ≡ with_success kept.old told.now) }
+{
+    match *told {
+        Record::ReduceSucceeded { attempt, bytes } => {
+            kept.push(Record::ReduceSucceeded { attempt, bytes })?;
+            Ok(())
+        }
+        _ => Ok(()),
+    }
 }
 
 // Whether the last task has no winner: mostly it is the last to have one, and then no other task is looked for.

@@ -5,9 +5,6 @@ use std::fs::{File, Metadata};
 use std::os::unix::fs::MetadataExt;
 use std::{env, fs, io};
 
-/// How often a folder is removed that somebody writes into meanwhile.
-const REMOVALS: u32 = 16;
-
 /// What stands at a path, if anything does. No link is followed.
 pub(crate) fn look(rt: &HostRuntime, path: &str) -> Result<Option<Metadata>, Fault> {
     match fs::symlink_metadata(rt, path) {
@@ -77,41 +74,6 @@ pub(crate) fn read(rt: &HostRuntime, path: &str) -> Result<Vec<u8>, Fault> {
         Ok(bytes) => Ok(bytes),
         Err(error) => Err(Fault::of_call(rt.alloc(), "read", path, error)),
     }
-}
-
-/// Removes a folder with all that it holds, or the file that stands in its place. Where somebody writes into it
-/// meanwhile, that is removed too, a few times over; then the answer is `DirectoryNotEmpty`.
-pub fn remove_folder(rt: &HostRuntime, path: &str) -> io::Result<()> {
-    for _ in 1..REMOVALS {
-        match fs::remove_dir_all(rt, path) {
-            Err(error) if error.kind() == io::ErrorKind::DirectoryNotEmpty => {}
-            Err(error) if error.kind() == io::ErrorKind::NotADirectory => {
-                return fs::remove_file(rt, path);
-            }
-            removed => return removed,
-        }
-    }
-    fs::remove_dir_all(rt, path)
-}
-
-/// Removes a folder of what attempts write. What somebody puts into it all the while is his, and stays.
-pub(crate) fn clear(rt: &HostRuntime, path: &str) -> io::Result<()> {
-    match remove_aside(rt, path) {
-        Err(error) if error.kind() == io::ErrorKind::DirectoryNotEmpty => Ok(()),
-        removed => removed,
-    }
-}
-
-// Puts a folder aside, so that who writes into it by its path no longer finds it, and removes it there. A command that
-// was killed may have left one aside.
-fn remove_aside(rt: &HostRuntime, path: &str) -> io::Result<()> {
-    let aside = format!(in rt.alloc(); "{path}.removed")?;
-    match remove_folder(rt, &aside) {
-        Err(error) if error.kind() != io::ErrorKind::NotFound => return Err(error),
-        _ => {}
-    }
-    fs::rename(rt, path, aside.as_str())?;
-    remove_folder(rt, &aside)
 }
 
 /// A path as an absolute one: that of the directory in which the process stands, where it is a full stop.

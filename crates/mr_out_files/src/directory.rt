@@ -1,14 +1,15 @@
 //! An output directory that is open: its lock is held, and calls are made on it.
 use crate::beginning::write_synced;
 use crate::calls::{
-    clear, enter, is_changed, is_one, look, look_file, open, read, stat, sync, sync_folder,
+    enter, is_changed, is_one, look, look_file, open, read, stat, sync, sync_folder,
 };
 use crate::fault::{Fault, Why};
 use crate::history::History;
 use crate::job::{Job, host_of, told};
-use crate::layout::{HOME, JOB, KEPT, WORK, boot_path, path_of, work_folder};
+use crate::layout::{GONE, HOME, JOB, KEPT, WORK, boot_path, path_of, work_folder};
 use crate::lengths::note_lengths;
 use crate::lock::{Lock, locked};
+use crate::removal::clear;
 use mr_history::Record;
 use mr_ids::AttemptId;
 use mr_out_disk::{Answer, Call, Folder, Place, Reply};
@@ -291,6 +292,7 @@ impl Directory {
     fn remove(&self, rt: &HostRuntime, place: &Place) -> Result<Answer, Fault> {
         match *place {
             Place::Work(a) => self.remove_work(rt, a),
+            Place::Home => answered(rt, "rename", HOME, fs::rename(rt, HOME, GONE)),
             _ => {
                 let path = self.path(place)?;
                 answered(rt, "remove", &path, fs::remove_file(rt, path.as_str()))

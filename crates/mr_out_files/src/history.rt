@@ -5,7 +5,7 @@ use crate::calls::{look, look_file, open, read, stat, sync, sync_folder};
 use crate::fault::{Fault, Why};
 use crate::flushed::{Noted, boot_of, note_of, note_of_failure, read_note, write_note};
 use crate::layout::{HOME, segment_path};
-use crate::segments::{Damage, Told, tell_behind};
+use crate::segments::{Damage, Told, refuse_gap, tell_behind};
 use mr_history::{Record, Records, whole_line};
 use std::alloc::Global;
 use std::fs;
@@ -72,6 +72,7 @@ impl History {
         let mut records = Records::new(self.alloc);
         for number in 1..=MAX_SEGMENTS {
             if !self.read_segment(rt, number, &mut records)? {
+                refuse_gap(rt, HOME, number)?;
                 break;
             }
         }

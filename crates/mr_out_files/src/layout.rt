@@ -16,6 +16,9 @@ pub const MARKER: &str = "_SUCCESS";
 /// The folder of what attempts write.
 pub const WORK: &str = "_mrout/work";
 
+/// The folder of what is being removed.
+pub(crate) const REMOVED: &str = "_mrout/removed";
+
 /// The folder of what was handed in.
 pub const KEPT: &str = "_mrout/kept";
 
@@ -59,6 +62,22 @@ pub fn segment_path(alloc: Global, number: u32) -> Result<String, AllocError> {
     format!(in alloc; "_mrout/history.{number}")
 }
 
+/// The number of the segment with this name in the folder `_mrout`, if it is one's.
+pub(crate) fn segment_named(alloc: Global, name: &str) -> Result<Option<u32>, AllocError> {
+    let Some(digits) = name.strip_prefix("history.") else {
+        return Ok(None);
+    };
+    let Ok(number) = digits.parse::<u32>() else {
+        return Ok(None);
+    };
+    let own = format!(in alloc; "history.{number}")?;
+    Ok(if own.as_str() == name {
+        Some(number)
+    } else {
+        None
+    })
+}
+
 /// The path of a name.
 pub fn path_of(alloc: Global, job: &Job, place: &Place) -> Result<String, AllocError> {
     match *place {
@@ -67,5 +86,6 @@ pub fn path_of(alloc: Global, job: &Job, place: &Place) -> Result<String, AllocE
         Place::Kept(a) => kept_path(alloc, a),
         Place::Work(a) => work_path(alloc, job, a),
         Place::Decision => String::from_str(alloc, DECISION),
+        Place::Home => String::from_str(alloc, HOME),
     }
 }

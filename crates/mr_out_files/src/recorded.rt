@@ -4,7 +4,7 @@ use crate::fault::{Fault, Why};
 use crate::job::Job;
 use crate::layout::{HOME, JOB, LENGTHS, segment_path};
 use crate::lengths::{Length, lengths_of};
-use crate::segments::{Damage, MAX_SEGMENTS, tell};
+use crate::segments::{Damage, MAX_SEGMENTS, refuse_gap, tell};
 use mr_history::Records;
 use std::{fs, io};
 
@@ -55,6 +55,8 @@ fn records_in(rt: &HostRuntime, dir: &str) -> Result<Records, Fault> {
     let mut records = Records::new(rt.alloc());
     for number in 1..MAX_SEGMENTS {
         if !read_segment(rt, dir, number, &mut records)? {
+            let home = format!(in rt.alloc(); "{dir}/{HOME}")?;
+            refuse_gap(rt, &home, number)?;
             break;
         }
     }

@@ -1,9 +1,12 @@
 //! What the bytes of a segment tell, where its end may be torn.
 ghost use Rattle.std.specs.Prelude.{◌≤◌, length};
 
+use crate::fault::{Fault, Why};
+use crate::layout::{HOME, segment_named, segment_path};
 use crate::lines::plain_front;
 use mr_history::{HistoryFault, Records, replay};
 use std::alloc::{AllocError, Global};
+use std::fs;
 
 /// Most lines of an end that may be torn: a command appends no more between two syncs.
 pub const MAX_TORN_LINES: usize = 64;
@@ -54,6 +57,32 @@ pub(crate) fn tell_behind(alloc: Global, bytes: &[u8], lines: usize) -> Result<T
     let (more, is_torn) = tell_rest(alloc, rest, before)?;
     records.extend(more.as_slice())?;
     Ok(Told { records, is_torn })
+}
+
+/// Refuses a history of which this segment is missing and a later one is there, in this folder of `mrout`.
+pub(crate) fn refuse_gap(rt: &HostRuntime, home: &str, missing: u32) -> Result<(), Fault> {
+    let entries = match fs::read_dir(rt, home) {
+        Ok(entries) => entries,
+        Err(error) => return Err(Fault::of_call(rt.alloc(), "list", HOME, error)),
+    };
+    for entry in entries {
+        match entry {
+            Ok(entry) => refuse_behind(rt, entry.file_name(), missing)?,
+            Err(error) => return Err(Fault::of_call(rt.alloc(), "list", HOME, error)),
+        }
+    }
+    Ok(())
+}
+
+// Refuses the name of a segment behind the one that is missing.
+fn refuse_behind(rt: &HostRuntime, name: &str, missing: u32) -> Result<(), Fault> {
+    match segment_named(rt.alloc(), name)? {
+        Some(number) if number > missing => {
+            let path = segment_path(rt.alloc(), missing)?;
+            Err(Fault::refused(rt.alloc(), &path, Why::NoFile))
+        }
+        _ => Ok(()),
+    }
 }
 
 // The records of what stands behind so many lines, and whether the end is torn.

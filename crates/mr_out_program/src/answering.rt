@@ -3,10 +3,10 @@ use crate::asked::{Asked, Command, Failing};
 use crate::attempts::{attempt, attempt_all, done, fail_all, fail_one, fail_task};
 use crate::beginning::begin;
 use crate::ending::settle;
-use crate::standing::{is_published, status};
-use mr_out_files::{Directory, Fault, GONE, HOME, Lock, Why, host_of, remove_folder, sync_folder};
+use crate::standing::status;
+use mr_out_files::{Directory, Fault, GONE, Lock, Why, host_of, remove_folder, sync_folder};
 use mr_out_steps::{Order, Outcome};
-use std::{fs, io};
+use std::io;
 
 /// What is printed, and the exit status.
 #[derive(Drop)]
@@ -170,7 +170,8 @@ fn finish(rt: &HostRuntime, dir: &str, wait: Option<u64>) -> Result<Answered, Fa
     Ok(Answered::plain(rt, 0))
 }
 
-// Removes the history of a published directory. What a killed one left is removed too.
+// Removes the history of a published directory. What a killed one left is removed too, once it is durable that it has its
+// other name: else a power cut could bring back a part of it.
 fn forget(rt: &HostRuntime, asked: &Asked<'_>) -> Result<Answered, Fault> {
     match open(rt, asked) {
         Ok(mut directory) => forget_published(rt, &mut directory),
@@ -179,25 +180,22 @@ fn forget(rt: &HostRuntime, asked: &Asked<'_>) -> Result<Answered, Fault> {
                 path: _,
                 why: Why::Forgotten,
             },
-        ) => remove_gone(rt),
+        ) => {
+            sync_folder(rt, ".")?;
+            remove_gone(rt)
+        }
         Err(fault) => Err(fault),
     }
 }
 
 fn forget_published(rt: &HostRuntime, directory: &mut Directory) -> Result<Answered, Fault> {
-    settle(rt, directory, Order::Resume)?;
-    if !is_published(rt, directory)? {
-        return Ok(Answered::plain(rt, 1));
-    }
-    match fs::rename(rt, HOME, GONE) {
-        Ok(()) => remove_gone(rt),
-        Err(error) => Err(Fault::of_call(rt.alloc(), "rename", HOME, error)),
+    match settle(rt, directory, Order::Forget)? {
+        Outcome::Finished => remove_gone(rt),
+        _ => Ok(Answered::plain(rt, 1)),
     }
 }
 
-// Removes what was forgotten, once it is durable that it has its other name: else a power cut could bring back a part of it.
 fn remove_gone(rt: &HostRuntime) -> Result<Answered, Fault> {
-    sync_folder(rt, ".")?;
     match remove_folder(rt, GONE) {
         Ok(()) => Ok(Answered::plain(rt, 0)),
         Err(error) if error.kind() == io::ErrorKind::NotFound => Ok(Answered::plain(rt, 0)),

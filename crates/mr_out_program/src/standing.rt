@@ -2,7 +2,7 @@
 use crate::answering::Answered;
 use mr_history::{Record, Records};
 use mr_ids::{AttemptId, TaskId, TaskKind};
-use mr_out_command::{first_alive, is_alive_at, is_over, winner, winners};
+use mr_out_command::{first_alive, is_alive_at, is_over, successes, winner, winners};
 use mr_out_disk::{Answer, Call, Folder, Reply};
 use mr_out_files::{DECISION, Directory, Fault, MARKER, Why, kept_path, part_name};
 use std::fs;
@@ -54,20 +54,20 @@ fn has_file(rt: &HostRuntime, path: &str) -> bool {
     }
 }
 
-/// Whether every task has a winner, and the marker is there.
-pub fn is_published(rt: &HostRuntime, directory: &mut Directory) -> Result<bool, Fault> {
-    let records = read_records(rt, directory)?;
-    let (id, tasks) = (directory.job.id, directory.job.tasks);
-    let all = winners(rt.alloc(), id, records.as_slice(), tasks)?;
-    Ok(all.is_some() && has_marker(rt) && !is_over(records.as_slice()))
-}
-
 /// Tells how the job stands: a line a task, and the whole.
 pub fn status(rt: &HostRuntime, directory: &mut Directory, json: bool) -> Result<Answered, Fault> {
     let records = read_records(rt, directory)?;
+    let successes = successes(rt.alloc(), records.as_slice())?;
     let mut out = String::new(rt.alloc());
     for number in 0..directory.job.tasks {
-        put_task(rt, &mut out, directory, &records, number, json)?;
+        put_task(
+            rt,
+            &mut out,
+            directory,
+            (&records, &successes),
+            number,
+            json,
+        )?;
     }
     put_whole(rt, &mut out, directory, &records, json)?;
     Ok(Answered::told(rt, out, 0))
@@ -77,12 +77,13 @@ fn put_task(
     rt: &HostRuntime,
     out: &mut String,
     directory: &Directory,
-    records: &Records,
+    told: (&Records, &[Record]),
     number: u32,
     json: bool,
 ) -> Result<(), Fault> {
+    let (records, successes) = told;
     let task = task_of(directory, number);
-    match winner(records.as_slice(), &task) {
+    match winner(successes, &task) {
         Some(a) => {
             let bytes = len_of(rt, directory, a)?;
             let line = won_line(rt, number, a, bytes, json)?;

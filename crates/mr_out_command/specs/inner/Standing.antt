@@ -1,9 +1,10 @@
 -- One record of a winner, or of an attempt that is under way.
-use Rattle.std.specs.Prelude.{List, Option, Some, None, if◌then◌else◌}
+use Rattle.std.specs.Prelude.{◌≡◌, List, [], ◌∷◌, ◌++◌, Option, Some, None, if◌then◌else◌}
 use Rattle.mr_ids.specs.Attempt.{Attempt}
 use Rattle.mr_ids.specs.Same.{same_task}
 use Rattle.mr_ids.specs.declared.id.TaskId.{TaskId}
 use Rattle.mr_history.specs.declared.record.Record.{Record}
+use Rattle.mr_history.specs.Winner.{winner_in}
 use Rattle.mr_out_steps.specs.Standing.{is_alive_at}
 use Rattle.mr_history.specs.declared.record.Record.TheVariants.{AttemptStarted, MapSucceeded, ReduceSucceeded, AttemptFailed, JobUnsuccessful}
 
@@ -16,3 +17,12 @@ success_of _ t = None
 abbrev pub alive_of : List Record → TaskId → Record → Option Attempt
 alive_of rs t (AttemptStarted a node) = if is_alive_at rs t (AttemptStarted a node) then Some a else None
 alive_of rs t _ = None
+
+-- by both records each task has the same winner
+abbrev pub SameWinners : List Record → List Record → Type 0
+SameWinners qs rs = (t : TaskId) → winner_in qs t ≡ winner_in rs t
+
+-- a record that tells a success is kept
+abbrev pub with_success : List Record → Record → List Record
+with_success qs (ReduceSucceeded a bytes) = qs ++ ReduceSucceeded a bytes ∷ []
+with_success qs _ = qs
