@@ -1,5 +1,6 @@
 -- Ends that runs came to. Outcomes is what a run comes to, Table what is known of all, Rows and Founds are how these are
--- told, and Goals which are sought. Text and JsonLines are what is printed, and inner has words for private contracts.
+-- told, Files what a reader sees, and Goals which are sought. Text and JsonLines are what is printed, and inner has words for private contracts.
+pub mod Files
 pub mod Founds
 pub mod Goals
 pub mod JsonLines

@@ -1,25 +1,14 @@
 -- What is printed of the ends that runs came to (our own profile). All but the scripts stands in comments, so that each part of it, behind the job text, is an input of `play`.
 use Rattle.std.specs.Prelude.{ℕ, ◌+◌, Bool, true, false, not, ◌||◌, List, [], ◌∷◌, ◌++◌, ◌==◌, length, codes, decimal, Option, Some, None, if◌then◌else◌}
 use Rattle.std.specs.List.{flat_map, list_all, range_with_len}
-use Rattle.std.specs.Str.{bytes_eq}
-use Rattle.mr_script.specs.declared.expectation.Expectation.{Expectation}
+use Rattle.mr_explore_ends.specs.declared.goal.Sought.{Sought}
 use Rattle.mr_script_writer.specs.Repeating.{commented}
 use Rattle.mr_explore_ends.specs.Outcomes.{Outcome, outcome_text}
+pub use Rattle.mr_explore_ends.specs.Files.{Sequential, are_files, is_sequential}
 use Rattle.mr_explore_ends.specs.Table.{End, Table}
 use Rattle.mr_explore_ends.specs.Goals.{best_of}
 
 -- ---- whether the files of an end are those of the sequential execution
-
--- what `seq` prints of the job, if it prints anything
-pub record Sequential : Type 0 where
-  pub files : Option (List ℕ)
-
-abbrev pub are_files : Option (List ℕ) → List ℕ → Bool
-are_files None files = false
-are_files (Some said) files = bytes_eq files said
-
-abbrev pub is_sequential : Sequential → Outcome → Bool
-is_sequential s end = are_files s.files end.files
 
 -- where the marker is, the files are those of the sequential execution
 abbrev pub is_sequential_if_marked : Sequential → End → Bool
@@ -86,10 +75,10 @@ abbrev pub best_text : Sequential → Option End → List ℕ
 best_text s None = codes "none\n"
 best_text s (Some e) = end_text s e
 
-abbrev pub found_text : Sequential → List Expectation → Found → List ℕ
-found_text s goal f = runs_text f ++ 10 ∷ best_text s (best_of goal f.table.ends)
+abbrev pub found_text : Sequential → List Sought → Found → List ℕ
+found_text s goal f = runs_text f ++ 10 ∷ best_text s (best_of s goal f.table.ends)
 
 -- what is printed, of all ends or of the best that meets a goal
-abbrev pub explored_text : Sequential → Option (List Expectation) → Found → List ℕ
+abbrev pub explored_text : Sequential → Option (List Sought) → Found → List ℕ
 explored_text s None f = all_text s f
 explored_text s (Some goal) f = found_text s goal f

@@ -6,3 +6,6 @@ pub mod Promise
 pub mod Prefix
 pub mod Two
 pub mod Told_twice
+pub mod Rivals
+pub mod Given_up
+pub mod Lost_file

@@ -264,6 +264,18 @@ r17 : Reached m17
 unfolding duty_of next_seen told phase_told seen heard winners_of winner_in length_in newest_maps named_in wish container.seen container.next_seen container.after_packet container.same_attempt container.wish_called computed wished_op wished_packet generation_name attempt_name task_name part_name layout.part task_eq to_all
 r17 = calls r16 (Exist (task_attempt 1 Small.a0)) refl refl refl refl refl refl
 
+-- so far it was told yes, and has looked
+abbrev pub k17 : Small.Small
+k17 = record k13 {
+  seen = record opening { phase = Running; launched = launch ∷ []; asked = Small.a0 ∷ []; due = AttemptStarted Small.a0 0 ∷ [] };
+  bag = to_node 0 (Launch Small.c0 Small.a0 1) ∷ to_app 1 (Pending Small.a0) ∷ to_container Small.c0 (Answer Small.a0 true) ∷ [];
+  past = Called (Exist (task_attempt 1 Small.a0)) (as_heard (Found (Some kinds.Dir))) ∷ Got (Answer Small.a0 true) ∷ Sent (Pending Small.a0) ∷ past13;
+}
+
+pub s17 : Reached k17
+unfolding duty_of next_seen told phase_told seen heard winners_of winner_in length_in newest_maps named_in wish container.seen container.next_seen container.after_packet container.same_attempt container.wish_called computed wished_op wished_packet generation_name attempt_name task_name part_name layout.part task_eq to_all
+s17 = r17
+
 abbrev m18 : Small.Small
 m18 = Small.called_by m17 (Delete (committed 1 Small.t0))
 

@@ -118,7 +118,7 @@ asked_one m op = record m {
 abbrev unfenced : Kind → World → World
 unfenced kd w = record w { fence = 1; barred = if kd.bars then w.barred else [] }
 
-weak-taken : (kd : Kind) (w : World) (e : Event) → not_now small w e ≡ None → weak_happens kd small free w e ≡ effect_as small w e (answered_as kd w (caller_in w e))
+pub weak-taken : (kd : Kind) (w : World) (e : Event) → not_now small w e ≡ None → weak_happens kd small free w e ≡ effect_as small w e (answered_as kd w (caller_in w e))
 unfolding weak_happens weak_effect
 weak-taken kd w e n = rw n refl
 

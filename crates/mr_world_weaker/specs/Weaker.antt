@@ -1,9 +1,10 @@
 -- What still holds of a cluster whose namespace lacks the fence, or the bars, or both. Our own.
-use Rattle.std.specs.Prelude.{◌≡◌, true, false, List, ◌++◌, Some}
-use Rattle.mr_world_model.specs.Ids.{Attempt, TaskId}
+use Rattle.std.specs.Prelude.{◌≡◌, true, false, List, ◌++◌, Some, None}
+use Rattle.mr_world_model.specs.Ids.{Attempt, TaskId, part}
+use Rattle.mr_world_model.specs.Content.{entry_at}
 use Rattle.mr_world_model.specs.Packets.{Config}
 use Rattle.mr_world_model.specs.World.{World, Event, opening_world}
-use Rattle.mr_world_model.specs.Claims.{Limits, world_of, winner, IsToldOutcome, IsToldWon, IsMarked, IsComplete, LooksTheSame}
+use Rattle.mr_world_model.specs.Claims.{Limits, world_of, winner, IsReduce, IsToldOutcome, IsToldWon, IsMarked, IsComplete, LooksTheSame}
 use Rattle.mr_world_model.specs.Sequential.{Job, JobLaws, BoundsOutputs, IsFaithful, SeesSequential}
 use Rattle.mr_world_weaker.specs.Lacking.{Kind, NobodySlips, AreBorne, AllEndFirst, weak_world_of}
 
@@ -47,3 +48,16 @@ pub record ToldTwice (kd : Kind) (cfg : Config) (within : Limits) : Type 0 where
 -- so it is with some job, where limits refuse nothing, over each namespace without a fence
 abbrev pub TheFenceIsNeeded : Type 0
 TheFenceIsNeeded = (kd : Kind) (within : Limits) → kd.fence ≡ false → ((w : World) (e : Event) → within w e ≡ true) → (cfg : Config) × ToldTwice kd cfg within
+
+-- Nor does it here: the marker is there, and success was told, and a reduce has no file.
+pub record MarkedWithoutFile (kd : Kind) (cfg : Config) (within : Limits) : Type 0 where
+  pub events : List Event
+  pub marked : IsMarked (weak_world_of kd cfg within events)
+  pub succeeded : IsToldOutcome (weak_world_of kd cfg within events) true
+  pub task : TaskId
+  pub reduce : IsReduce cfg task
+  pub missing : entry_at (weak_world_of kd cfg within events).content (part task) ≡ None
+
+-- so it is with some job, where limits refuse nothing, over each namespace without bars
+abbrev pub TheBarsAreNeeded : Type 0
+TheBarsAreNeeded = (kd : Kind) (within : Limits) → kd.bars ≡ false → ((w : World) (e : Event) → within w e ≡ true) → (cfg : Config) × MarkedWithoutFile kd cfg within

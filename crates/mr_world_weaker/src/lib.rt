@@ -16,6 +16,7 @@
 //!   (`the_promise_holds_where_all_end_first`).
 //! - **The fence is needed** (`the_fence_is_needed`). Without it some job is told to have failed, with no marker there; and then its marker is made, and it
 //!   is told to have succeeded.
+//! - **The bars are needed** (`the_bars_are_needed`). Without them some job has its marker, and is told to have succeeded, and a reduce has no file.
 //!
 //! Nothing else is claimed of other events. What more goes wrong there is shown by runs: `tools/weaker` plays them.
 #![tactic(auto)]
@@ -24,7 +25,7 @@ ghost use Rattle.mr_world_model.specs.Claims.{Limits};
 ghost use Rattle.mr_world_model.specs.Packets.{Config};
 ghost use Rattle.mr_world_model.specs.World.{opening_world};
 ghost use Rattle.mr_world_weaker.specs.Lacking.{AllEndFirst, AreBorne, Kind, NobodySlips};
-ghost use Rattle.mr_world_weaker.specs.Weaker.{NobodySlipsOverTheseEvents, NobodySlipsWhoEndsFirst, OnlyWhoSlipsMatters, PromiseHolds, TheFenceIsNeeded};
+ghost use Rattle.mr_world_weaker.specs.Weaker.{NobodySlipsOverTheseEvents, NobodySlipsWhoEndsFirst, OnlyWhoSlipsMatters, PromiseHolds, TheBarsAreNeeded, TheFenceIsNeeded};
 
 /// Where nobody slips through, the world after a list of events is the cluster's.
 pub fn only_who_slips_through_matters()
@@ -59,4 +60,9 @@ pub fn the_promise_holds_where_all_end_first()
 /// Without a fence the promise does not hold: some job is told to have failed, with no marker there; and then its marker is made, and success is told.
 pub fn the_fence_is_needed()
     ensures needed { TheFenceIsNeeded }
+{}
+
+/// Without bars the promise does not hold: some job has its marker, and is told to have succeeded, and a reduce has no file.
+pub fn the_bars_are_needed()
+    ensures needed { TheBarsAreNeeded }
 {}

@@ -1,5 +1,7 @@
 //! The ends of the job of one map and one reduce.
-use mr_explore::{Exploration, Form, Row, Table, Unwatched, best_of, explored_text, read_goal};
+use mr_explore::{
+    Exploration, Form, Row, Sequential, Table, Unwatched, best_of, explored_text, read_goal,
+};
 use mr_play::play;
 use std::process::Abort;
 
@@ -40,7 +42,7 @@ fn is_one_fault<H: AllocGlobal + Abort>(rt: &H, goal: &str) {
 fn found<'a, H: AllocGlobal + Abort>(rt: &H, table: &'a Table, goal: &str) -> Option<&'a Row> {
     let read = read_goal(rt.alloc(), goal).expect(rt, "no memory");
     let goal = read.expect(rt, "no goal");
-    best_of(table, &goal)
+    best_of(table, &Sequential::new(None), &goal)
 }
 
 fn leads<H: AllocGlobal + Abort>(rt: &H, row: &Row) {
