@@ -3,6 +3,9 @@
 tools/vectors makes the test vectors with it, and tools/judged makes stores of it that are wrong in one duty each.
 """
 
+# The most entries, without the root (MAX_ENTRIES of mr_names).
+MAX_ENTRIES = 65536
+
 
 class Names:
     """The content is by path: None for a directory, the words of its bytes for a file."""
@@ -38,11 +41,16 @@ class Names:
             return "NoParent"
         return "NotDir" if self.held[above] is not None else None
 
+    def is_full(self, more):
+        return len(self.held) - 1 + more > MAX_ENTRIES
+
     def mkdirs(self, path):
         names = path.strip("/").split("/")
         down = ["/" + "/".join(names[: n + 1]) for n in range(len(names))]
         if any(self.held.get(p) is not None for p in down):
             return "NotDir"
+        if self.is_full(sum(p not in self.held for p in down)):
+            return "Full"
         for p in down:
             self.held.setdefault(p, None)
         return "done"
@@ -50,7 +58,7 @@ class Names:
     def create(self, path, closed=None):
         if path in self.held:
             return "Exists"
-        why = self.no_room(path)
+        why = self.no_room(path) or ("Full" if self.is_full(1) else None)
         if not why:
             self.held[path] = ""
             if closed:

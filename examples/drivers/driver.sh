@@ -1,8 +1,8 @@
 #!/bin/sh
 # A job over a real folder, committed by `mrsim step`: 20 reduce tasks, a second attempt, and a crash of the driver.
 #
-# driver.sh MRSIM            crashes the driver before each store call in turn, and recovers; says how many runs there were. With EVERY=7 in the
-#                            environment only before each seventh call, which takes a seventh of the time
+# driver.sh MRSIM            crashes the driver before each store call in turn, and recovers; says how many runs there were. With FIRST=1 EVERY=2 in
+#                            the environment before each second call, beginning with call 1, which takes half the time
 # driver.sh MRSIM FOLDER     runs the job once, in this folder
 #
 # Needs a POSIX shell with mkfifo. Its names have no byte that is written %XX. The folder is of one driver at a time.
@@ -58,8 +58,6 @@ call() {
 
 # Makes an operation of the committer, call by call. Status 0: finished; 1: refused, and `fault` says why; 9: the driver is gone, before store call number $crash.
 step() {
-    rm -f "$work/answers" "$work/calls"
-    mkfifo "$work/answers" "$work/calls"
     "$mrsim" step "$@" --generation "$generation" < "$work/answers" > "$work/calls" 2> /dev/null &
     exec 3> "$work/answers" 4< "$work/calls"
     told=8
@@ -83,6 +81,9 @@ step() {
     return $told
 }
 
+# The number of a task in its name: six digits.
+digits() { if [ "$1" -lt 10 ]; then digits=00000$1; else digits=0000$1; fi; }
+
 # An attempt writes its part file. Who writes it doesn't matter here.
 write() {
     folder=$root/out/_temporary/$generation/_temporary/attempt_${job}_r_$1_$2
@@ -97,18 +98,18 @@ run() {
     step setup-job || return
     n=0
     while [ $n -lt $tasks ]; do
-        name=$(printf %06d $n)
-        step recover-task "task_${job}_r_$name"
+        digits $n
+        step recover-task "task_${job}_r_$digits"
         case $? in
             0) n=$((n + 1)); continue ;;
             1) [ "$fault" = OutputMissing ] || return 1 ;;
             *) return 9 ;;
         esac
-        write "$name" $first
+        write "$digits" $first
         # a second attempt at one task, which has to yield
-        if [ $n = 7 ]; then write "$name" $((first + 1)); fi
-        step commit-task "attempt_${job}_r_${name}_$first" || return
-        if [ $n = 7 ]; then step abort-task "attempt_${job}_r_${name}_$((first + 1))" || return; fi
+        if [ $n = 7 ]; then write "$digits" $((first + 1)); fi
+        step commit-task "attempt_${job}_r_${digits}_$first" || return
+        if [ $n = 7 ]; then step abort-task "attempt_${job}_r_${digits}_$((first + 1))" || return; fi
         n=$((n + 1))
     done
     step commit-job
@@ -116,28 +117,33 @@ run() {
 
 # Whether the marker and each task's file are there, whole, and nothing else.
 is_right() {
-    [ "$(ls "$root/out" | wc -l)" -eq $((tasks + 1)) ] && [ -e "$root/out/_SUCCESS" ] || return 1
+    set -- "$root"/out/*
+    [ $# -eq $((tasks + 1)) ] && [ -e "$root/out/_SUCCESS" ] && [ ! -s "$root/out/_SUCCESS" ] || return 1
     n=0
     while [ $n -lt $tasks ]; do
-        [ "$(cat "$root/out/part-r-$(printf %05d $n)")" = "the output of task $(printf %06d $n)" ] || return 1
+        digits $n
+        # one line, and no other one behind it
+        { read -r line && ! read -r more; } < "$root/out/part-r-${digits#0}" || return 1
+        [ "$line" = "the output of task $digits" ] && [ -z "$more" ] || return 1
         n=$((n + 1))
     done
 }
 
 work=$(mktemp -d)
 trap 'rm -rf "$work"' EXIT
+mkfifo "$work/answers" "$work/calls"
 if [ $# -eq 2 ]; then
     root=$2
     run 1 none
     exit
 fi
 root=$work/root
-runs=0 call=0 crashed=yes
+runs=0 call=${FIRST:-0} crashed=yes
 while [ $crashed = yes ]; do
     rm -rf "$root"
     mkdir "$root"
     crashed=no
-    run 1 $call
+    run 1 "$call"
     told=$?
     if [ $told = 9 ]; then
         crashed=yes

@@ -7,7 +7,7 @@ for path in sorted(glob.glob(os.path.join(os.path.dirname(__file__), "*.jsonl"))
         steps = [step for step in vector["steps"] if "call" in step]
         answers = "".join(step["answer"] + "\n" for step in steps)
         command = [*sys.argv[1:], *vector["operation"], "--generation", str(vector["generation"])]
-        told = subprocess.run(command, input=answers, stdout=subprocess.PIPE, text=True).stdout.splitlines()
-        if told != [step["call"] for step in steps] + [vector["end"]]:
+        told = subprocess.run(command, input=answers, capture_output=True, text=True).stdout.splitlines()
+        if told != [step["call"] for step in steps] + ([vector["end"]] if vector["end"] else []):
             sys.exit(f"{path}: {vector['name']}: {told}")
 print("try.py: each vector passed")
