@@ -13,3 +13,4 @@ pub mod Publishing
 pub mod Succeeding
 pub mod Alone
 pub mod Final
+pub mod Winners
