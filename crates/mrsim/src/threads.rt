@@ -1,8 +1,8 @@
 //! The words of `threads`.
 use crate::table::Word;
 use crate::words::{
-    DRAWN, FIRST_DRAWN, FROM_BOUNDS, FROM_WORD, HISTORY_SHOWN, JSON_SHOWN, MOST_DRAWN, ROWS_BOUNDS,
-    ROWS_WORD, TRACE_SHOWN, part_of, shown_of,
+    DRAWN, FIRST_DRAWN, FOLD_WORD, FOLDED, FROM_BOUNDS, FROM_WORD, HISTORY_SHOWN, JSON_SHOWN,
+    MOST_DRAWN, ROWS_BOUNDS, ROWS_WORD, TRACE_SHOWN, part_of, shown_of,
 };
 use clap::ArgMatches;
 use clap::builder::ValueParser;
@@ -23,7 +23,7 @@ thread finds anything to do. What it shows of a run differs from one time to the
 
   --trace     each event with the thread that made it, then what `play` writes of the run
   --history   what `play` writes of the run, then each master's history
-  --diagram   a picture of the run, of its first 400 events or of those that --from and --rows tell
+  --diagram   a picture of the run, of its first 400 events or of those that --from and --rows tell (--fold: fewer rows)
   --json      lines of JSON: each event with the thread that made it, then what came of the run
   --script    the script by which `play` repeats the run, then what `play` writes of it, as comments
 With these a run whose job failed is shown too, with status 0.
@@ -71,6 +71,13 @@ const WORDS: &[Word] = &[
         name: "diagram",
         help: DRAWN,
         rules_out: &["history", "trace", "script"],
+        ..Word::FLAG
+    },
+    Word {
+        name: FOLD_WORD,
+        help: FOLDED,
+        rules_out: &["history", "trace", "script"],
+        needs: &["diagram"],
         ..Word::FLAG
     },
     Word {

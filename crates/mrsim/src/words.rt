@@ -180,6 +180,13 @@ pub const FIRST_DRAWN: &str =
 pub const MOST_DRAWN: &str =
     "With --diagram: how many events are drawn, 1 to 10000 (400 if it is not told)";
 
+/// What `--fold` does.
+pub const FOLDED: &str =
+    "With --diagram: draws events of fetches that follow one another in one row, with their number";
+
+/// Whether fetches share a row.
+pub const FOLD_WORD: &str = "fold";
+
 /// From which event on a picture is drawn.
 pub const FROM_WORD: &str = "from";
 
@@ -194,13 +201,20 @@ pub const FROM_BOUNDS: ValueParser<'static> = ValueParser::Unsigned(0, u64::MAX)
 /// Which numbers `--rows` takes.
 pub const ROWS_BOUNDS: ValueParser<'static> = ValueParser::Unsigned(1, 10_000);
 
-// `--from` and `--rows` stand beside `--diagram` alone. `clap` does not ask for that where `--diagram` is itself ruled out, so what rules
+// `--fold`, `--from` and `--rows` stand beside `--diagram` alone. `clap` does not ask for that where `--diagram` is itself ruled out, so what rules
 // it out is named at them too.
 const PLAY_WORDS: &[Word] = &[
     Word {
         name: DIAGRAM_WORD,
         help: DRAWN,
         rules_out: &["history", "trace"],
+        ..Word::FLAG
+    },
+    Word {
+        name: FOLD_WORD,
+        help: FOLDED,
+        rules_out: &["history", "trace"],
+        needs: &[DIAGRAM_WORD],
         ..Word::FLAG
     },
     Word {
@@ -380,6 +394,7 @@ pub fn part_of(words: &ArgMatches<'_>) -> Part {
     Part {
         from: words.get_one::<u64>(FROM_WORD).unwrap_or(Part::FIRST.from),
         rows: words.get_one::<u64>(ROWS_WORD).unwrap_or(Part::FIRST.rows),
+        fold: words.get_flag(FOLD_WORD),
     }
 }
 
