@@ -71,15 +71,15 @@ fn helped<H: AllocGlobal + Eprint + Clock + Threads + Wait + Sync>(
     ensures fault { IfErr result (λ e. RefusesText command.now input.now e.fault) }
 {
     let host = Host {
-        threads: |turns: u64, hold: bool| threads_output(rt, input, turns, hold),
-        threads_seen: |turns: u64, hold: bool, seen: Seen| threads_seen(
+        threads: |turns: Option<u64>, hold: bool| threads_output(rt, input, turns, hold),
+        threads_seen: |turns: Option<u64>, hold: bool, seen: Seen| threads_seen(
             rt, input, turns, hold, seen,
         ),
         watch: OnStandardError { rt },
     };
     match printed(rt.alloc(), &host, *command, input) {
         Ok(printed) => Ok(noted(rt.alloc(), printed)?),
-        Err(fault) => Err(Refusal::of(command, input, fault)),
+        Err(fault) => Err(Refusal::of(rt.alloc(), command, input, fault)),
     }
 }
 

@@ -26,6 +26,7 @@
 #![tactic(auto)]
 
 mod driven;
+mod manner;
 mod output;
 mod seen;
 

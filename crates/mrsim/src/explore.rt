@@ -6,7 +6,7 @@ use mr_sim::{Asked, Expectation, Form};
 
 /// What `explore` does, in a line.
 pub const EXPLORE: &str =
-    "Makes every run of a job with at most N faults, and shows which ends come of them";
+    "Makes every run of a job with at most N faults, and shows which ends they come to";
 
 /// What the help of `explore` says behind its words.
 pub const EXPLORE_HELP: &str = "\
@@ -30,14 +30,14 @@ Example, where one.job is a job text alone, and its line has an end:
 As JSON, which ends have the marker:
   mrsim explore --json one.job | grep '\"marker\":true'";
 
-const FAULTS: &str = "How many faults a run has at most, 0 to 4 (1 if it is not told)";
+const FAULTS: &str = "How many faults a run has at most, 0 to 4 (default 1)";
 
 const FIND: &str =
     "Shows one end alone, which has these lines, as \"marker yes, outcome failed\"; else `none`";
 
-const MOST: &str = "Makes at most N runs, and shows what came of them (all if it is not told)";
+const MOST: &str = "Makes at most RUNS runs, and shows what came of them (default: all)";
 
-const PROGRESS: &str = "Tells on standard error how many runs were made, every 100000 runs";
+const PROGRESS: &str = "Says on standard error how many runs were made, every 100000 runs";
 
 const JSON_SHOWN: &str =
     "Prints lines of JSON in place of the rest: each end, then how many runs were made";
