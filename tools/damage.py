@@ -12,7 +12,7 @@ BAD_COMMAND = rb"mrsim: line ([1-9][0-9]*): bad command"
 FULL = rb"mrsim: full"
 UNMET = b"mrsim: not as expected\n"
 # behind these a line tells what was expected
-HELPED = re.compile(rb"mrsim: (line [0-9]+: bad command|job: [a-z0-9]+|history: bad line [0-9]+)\n")
+HELPED = re.compile(rb"mrsim: (line [0-9]+: bad command|job: [a-z0-9]+|history: bad line [0-9]+|refused|full)\n")
 TROUBLE = re.compile(rb"  (the line ends with a carriage return|word [1-9][0-9]* (is no command|does not fit|is missing|is one too many|is empty, by a space too many|has a tab, where a space parts words|begins with #, but a comment is a line of its own): expected [ -~]+)\n")
 ENDED = rb"(master [1-9][0-9]* (never started|told the outcome|has stopped|is not alive)|it made 10000 events|nothing is left to do)"
 # what may be said behind a text of `play`

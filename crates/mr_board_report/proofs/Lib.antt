@@ -1,1 +1,5 @@
+mod Came
+mod Deciding
+mod Running
 mod Success
+mod Untold

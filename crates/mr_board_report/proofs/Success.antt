@@ -4,6 +4,8 @@ use Rattle.std.proofs.lemmas.Slice.Eq.{slice_eq-Decides}
 use Rattle.std.specs.Bool.{Decides}
 use Rattle.std.specs.Cmp.Lexicographic.{pointwise}
 use Rattle.mr_user.specs.Computation.{Computation}
+use Rattle.mr_world_events.specs.contracts.plan.PlanFaultPartialEq.TheImpl as planned
+use Rattle.mr_world_events.specs.declared.plan.PlanFault.{PlanFault}
 use Rattle.mr_shuffle.specs.SequentialText.{AreSplits}
 use Rattle.mr_world_model.specs.Claims.{IsMarked}
 use Rattle.mr_world_model.specs.Packets.{Config}
@@ -20,21 +22,29 @@ use Rattle.mr_board.specs.mr_world.specs.VisibleFiles.{as_pair}
 use Rattle.mr_board.specs.mr_world.specs.declared.results.VisibleFile.{VisibleFile}
 use Rattle.mr_board.specs.mr_world.proofs.Headlines.{outputs-are-bounded}
 use Rattle.mr_board.specs.Boards.{IsFaithfulFor}
-use Rattle.mr_board_report.specs.Reports.{IsOf, IsReported, IsThrough}
+use Rattle.mr_board_report.specs.Following.{Follows}
+use Rattle.mr_board_report.specs.Reports.{IsReported, IsThrough}
 use Rattle.mr_board_report.specs.declared.plan.Plan.{Plan}
 
-numbers-decide : (a b : ℕ) → Decides (nat_eq a b) (a ≡ b)
+pub numbers-decide : (a b : ℕ) → Decides (nat_eq a b) (a ≡ b)
 numbers-decide = search (rules)
 
-texts-decide : (a b : List ℕ) → Decides (pointwise nat_eq a b) (a ≡ b)
+pub texts-decide : (a b : List ℕ) → Decides (pointwise nat_eq a b) (a ≡ b)
 texts-decide a b = slice_eq-Decides numbers-decide a b _ refl
 
-splits-decide : (a b : List (List ℕ)) → Decides (pointwise (pointwise nat_eq) a b) (a ≡ b)
+pub splits-decide : (a b : List (List ℕ)) → Decides (pointwise (pointwise nat_eq) a b) (a ≡ b)
 splits-decide a b = slice_eq-Decides texts-decide a b _ refl
 
 -- `==` of two configs holds exactly where they are equal
 pub same_config : (a b : Config) → Decides (compared.eq-value.it a b) (a ≡ b)
 same_config = search (rules, splits-decide)
+
+-- and of the faults of plans
+fault-decides : (a b : PlanFault) → Decides (planned.eq-value.it a b) (a ≡ b)
+fault-decides = search (rules)
+
+pub same_faults : (a b : List PlanFault) → Decides (pointwise planned.eq-value.it a b) (a ≡ b)
+same_faults a b = slice_eq-Decides fault-decides a b _ refl
 
 pub marked : (j : Journal) → outcome (world_in j) ≡ Some true → IsMarked (world_in j)
 marked j told = (outcomes_agree j.config (within j.config)).marked j.events ((results_stay j.config (within j.config)).outcome_told j.events true told)
@@ -46,10 +56,10 @@ shows job j laws show range splits faithful told =
 
 -- a report of a world that was looked at
 pub report_is : {K V : Type 0} (job : Computation K V) (plan : Plan) (j : Journal) (succeeded : Bool) (files : List VisibleFile) (by : List ℕ) → LawsOf job → MarkedWorldsShowSequential → IsInRange j.config → AreSplits j.config.splits → IsFaithfulFor job j →
-    IsOf plan j → length by ≡ length j.events → IsThrough j → map as_pair files ≡ visible (world_in j) → IsTrue succeeded ↔ (outcome (world_in j) ≡ Some true) → IsReported job plan succeeded files by j
-report_is job plan j succeeded files by laws show range splits faithful is noted through seen told = record {
-  config_is = is.0;
-  follows = is.1;
+    j.config ≡ plan.config → Follows plan j → length by ≡ length j.events → IsThrough j → map as_pair files ≡ visible (world_in j) → IsTrue succeeded ↔ (outcome (world_in j) ≡ Some true) → IsReported job plan succeeded files by j
+report_is job plan j succeeded files by laws show range splits faithful same follows noted through seen told = record {
+  config_is = same;
+  follows = follows;
   noted = noted;
   faithful = faithful;
   through = through;

@@ -1,98 +1,74 @@
--- Whether a run follows the plan of its faults (our own profile). A fault comes as soon as there are as many events as it says, before all else, and in the plan's order.
--- Behind a crash the next master starts at once, and keeps nothing of the unflushed history. What is not permitted when it comes is dropped. All else is calm.
-use Rattle.std.specs.Prelude.{◌≡◌, ℕ, ◌+◌, Bool, true, false, ◌&&◌, not, nat_eq, nat_lt, List, [], ◌∷◌, Option, Some, None, if◌then◌else◌}
+-- Whether a run follows the plan of its faults (our own profile). A fault comes as soon as there are as many events as it says, before all else, and in the plan's order: it is
+-- made, or the world refuses it. Behind a crash the next master starts at once, and keeps nothing of the unflushed history. All else is calm.
+use Rattle.std.specs.Prelude.{◌≡◌, ℕ, ◌+◌, Bool, true, false, ◌&&◌, not, nat_eq, nat_lt, List, [], ◌∷◌, ◌++◌, length, slice_get, Option, Some, None, if◌then◌else◌}
 use Rattle.mr_world_events.specs.declared.event.Event.{Event}
 use Rattle.mr_world_events.specs.declared.event.Event.TheVariants as event
 use Rattle.mr_world_events.specs.declared.plan.PlanAct.{PlanAct}
 use Rattle.mr_world_events.specs.declared.plan.PlanAct.TheVariants as act
 use Rattle.mr_world_events.specs.declared.plan.PlanFault.{PlanFault}
-use Rattle.mr_world_model.specs.Effect.{is_calm}
-use Rattle.mr_board.specs.mr_world.specs.Journal.{Journal}
+use Rattle.mr_world_events.specs.declared.why.Why.{Why}
+use Rattle.mr_world_model.specs.Effect.{is_calm, not_now}
+use Rattle.mr_world_model.specs.Packets.{Config}
+use Rattle.mr_world_model.specs.World.{World}
+use Rattle.mr_board.specs.mr_world.specs.Journal.{Journal, world_in}
 use Rattle.mr_board_report.specs.declared.plan.Plan.{Plan}
-use Rattle.mr_board_report.specs.declared.stage.Stage.{Stage}
 
--- ---- how far a run is
+-- ---- what is due
 
--- no event yet, and no master
-abbrev pub opening : Stage
-opening = record { events = 0; newest = 0; crashed = false }
+-- the newest master crashed, and none started behind it
+abbrev pub has_crashed : World → Bool
+has_crashed w = nat_lt 0 w.fence && not (w.is_master w.fence)
 
--- behind an event
-abbrev pub behind : Stage → Event → Stage
-behind s (event.Start k kept) = record { events = s.events + 1; newest = k; crashed = false }
-behind s (event.Crash k kept) = record { events = s.events + 1; newest = s.newest; crashed = true }
-behind s (event.Duty k w) = record { events = s.events + 1; newest = s.newest; crashed = s.crashed }
-behind s (event.LaunchOn k t n) = record { events = s.events + 1; newest = s.newest; crashed = s.crashed }
-behind s (event.Deliver i) = record { events = s.events + 1; newest = s.newest; crashed = s.crashed }
-behind s (event.ContainerStep c w) = record { events = s.events + 1; newest = s.newest; crashed = s.crashed }
-behind s (event.Computed c bytes) = record { events = s.events + 1; newest = s.newest; crashed = s.crashed }
-behind s (event.Die c) = record { events = s.events + 1; newest = s.newest; crashed = s.crashed }
-behind s (event.NodeRestart n) = record { events = s.events + 1; newest = s.newest; crashed = s.crashed }
-behind s (event.Expire k n) = record { events = s.events + 1; newest = s.newest; crashed = s.crashed }
+-- this fault, where it is due after this many events
+abbrev pub due_after : ℕ → Option PlanFault → Option PlanFault
+due_after events None = None
+due_after events (Some f) = if nat_lt events f.after then None else Some f
 
--- ---- what an event is there
+-- where this many faults of a plan came: the next one, if it is due
+abbrev pub due : List PlanFault → ℕ → Journal → Option PlanFault
+due faults came j = due_after (length j.events) (slice_get faults came)
 
--- the start of the next master, which keeps nothing
-abbrev pub starts_next : ℕ → Event → Bool
-starts_next newest (event.Start k kept) = nat_eq k (newest + 1) && nat_eq kept 0
-starts_next newest _ = false
+-- ---- events
 
 -- what a fault does, where the newest master is of this generation
-abbrev pub does : ℕ → PlanAct → Event → Bool
-does newest (act.Node node) (event.NodeRestart n) = nat_eq n node
-does newest (act.Node node) _ = false
-does newest (act.Master kept) (event.Crash k bytes) = nat_eq k newest && nat_eq bytes kept
-does newest (act.Master kept) _ = false
-does newest (act.Expire node) (event.Expire k n) = nat_eq k newest && nat_eq n node
-does newest (act.Expire node) _ = false
+abbrev pub event_of : ℕ → PlanAct → Event
+event_of newest (act.Node node) = event.NodeRestart node
+event_of newest (act.Master kept) = event.Crash newest kept
+event_of newest (act.Expire node) = event.Expire newest node
 
--- what comes by itself: the first start, and all that is calm
-abbrev pub comes_by_itself : ℕ → Event → Bool
-comes_by_itself newest (event.Start k kept) = nat_eq newest 0 && starts_next newest (event.Start k kept)
-comes_by_itself newest (event.Crash k kept) = false
-comes_by_itself newest (event.Duty k w) = is_calm w
-comes_by_itself newest (event.LaunchOn k t n) = true
-comes_by_itself newest (event.Deliver i) = true
-comes_by_itself newest (event.ContainerStep c w) = is_calm w
-comes_by_itself newest (event.Computed c bytes) = true
-comes_by_itself newest (event.Die c) = true
-comes_by_itself newest (event.NodeRestart n) = false
-comes_by_itself newest (event.Expire k n) = false
+-- what comes by itself: the start of the first master, and all that is calm
+abbrev pub comes_by_itself : Event → Bool
+comes_by_itself (event.Start k kept) = nat_eq k 1 && nat_eq kept 0
+comes_by_itself (event.Crash k kept) = false
+comes_by_itself (event.Duty k w) = is_calm w
+comes_by_itself (event.LaunchOn k t n) = true
+comes_by_itself (event.Deliver i) = true
+comes_by_itself (event.ContainerStep c w) = is_calm w
+comes_by_itself (event.Computed c bytes) = true
+comes_by_itself (event.Die c) = true
+comes_by_itself (event.NodeRestart n) = false
+comes_by_itself (event.Expire k n) = false
 
--- whether a fault may be one that is not permitted: there is no such node, or no master; of an expiry it is not told
-abbrev pub may_be_dropped : ℕ → ℕ → PlanAct → Bool
-may_be_dropped nodes newest (act.Node node) = not (nat_lt node nodes)
-may_be_dropped nodes newest (act.Master kept) = nat_eq newest 0
-may_be_dropped nodes newest (act.Expire node) = true
+abbrev pub with_event : Journal → Event → Journal
+with_event j e = record { config = j.config; events = j.events ++ e ∷ [] }
 
 -- ---- a run and its plan
 
--- the faults that are still to come behind an event; none where it is not as planned
-abbrev pub left_where : Bool → List PlanFault → Option (List PlanFault)
-left_where planned faults = if planned then Some faults else None
+-- how a journal comes about under a plan, and how many of its faults came: they were made, or the world refused them
+pub data Planned (faults : List PlanFault) : ℕ → Journal → Type 0 where
+  -- nothing has happened yet
+  Opens : (config : Config) → Planned faults 0 (record { config = config; events = [] })
+  -- while nothing is due, what comes by itself
+  Went : (came : ℕ) (j : Journal) (e : Event) → Planned faults came j → has_crashed (world_in j) ≡ false → due faults came j ≡ None → comes_by_itself e ≡ true → Planned faults came (with_event j e)
+  -- behind a crash the next master starts before all else, and keeps nothing
+  Started : (came : ℕ) (j : Journal) → Planned faults came j → has_crashed (world_in j) ≡ true → Planned faults came (with_event j (event.Start ((world_in j).fence + 1) 0))
+  -- the fault that is due is made
+  Made : (came : ℕ) (j : Journal) (f : PlanFault) → Planned faults came j → has_crashed (world_in j) ≡ false → due faults came j ≡ Some f →
+      Planned faults (came + 1) (with_event j (event_of (world_in j).fence f.act))
+  -- or the world refuses it: it is not permitted there
+  Refused : (came : ℕ) (j : Journal) (f : PlanFault) (why : Why) → Planned faults came j → has_crashed (world_in j) ≡ false → due faults came j ≡ Some f →
+      not_now j.config (world_in j) (event_of (world_in j).fence f.act) ≡ Some why → Planned faults (came + 1) j
 
--- where no start is due. The first fault that is due is what happens, or was dropped; where none is due, the event comes by itself
-abbrev pub left_by : ℕ → Stage → Event → List PlanFault → Option (List PlanFault)
-left_by nodes s e [] = left_where (comes_by_itself s.newest e) []
-left_by nodes s e (f ∷ faults) =
-    if nat_lt s.events f.after
-    then left_where (comes_by_itself s.newest e) (f ∷ faults)
-    else if does s.newest f.act e
-    then Some faults
-    else if may_be_dropped nodes s.newest f.act
-    then left_by nodes s e faults
-    else None
-
--- behind a crash the next master starts before all else
-abbrev pub left_behind : ℕ → Stage → Event → List PlanFault → Option (List PlanFault)
-left_behind nodes s e faults = if s.crashed then left_where (starts_next s.newest e) faults else left_by nodes s e faults
-
--- each event in turn. Faults that did not come until the end are dropped
-abbrev pub goes_on : ℕ → Stage → Option (List PlanFault) → List Event → Bool
-goes_on nodes s None es = false
-goes_on nodes s (Some faults) [] = true
-goes_on nodes s (Some faults) (e ∷ es) = goes_on nodes (behind s e) (left_behind nodes s e faults) es
-
--- all events of a run
+-- a run follows a plan. Faults that did not come until its end are dropped
 abbrev pub Follows : Plan → Journal → Type 0
-Follows plan j = goes_on plan.config.nodes opening (Some plan.faults) j.events ≡ true
+Follows plan j = (came : ℕ) × Planned plan.faults came j

@@ -9,8 +9,9 @@ use Rattle.mr_board.specs.mr_world.specs.Journal.{Journal, world_in}
 use Rattle.mr_board.specs.mr_world.specs.Readings.{phase_in}
 use Rattle.mr_board.specs.mr_world.specs.VisibleFiles.{as_pair}
 use Rattle.mr_board.specs.mr_world.specs.declared.results.VisibleFile.{VisibleFile}
-use Rattle.mr_board.specs.Boards.{IsFaithfulFor}
+use Rattle.mr_board.specs.Boards.{Account, IsFaithfulFor, Seated}
 use Rattle.mr_board_report.specs.Following.{Follows}
+use Rattle.mr_board_report.specs.Runs.{Running}
 use Rattle.mr_board_report.specs.declared.plan.Plan.{Plan}
 use Rattle.mr_board_report.specs.declared.fault.DriveFault.{DriveFault}
 use Rattle.mr_board_report.specs.declared.fault.DriveFault.TheVariants.{JournalMismatch, TurnsSpent, NoMemory}
@@ -19,14 +20,18 @@ use Rattle.mr_board_report.specs.declared.fault.DriveFault.TheVariants.{JournalM
 abbrev pub IsThrough : Journal → Type 0
 IsThrough j = outcome (world_in j) ≡ None → phase_in j.config (world_in j) (world_in j).fence ≡ Some Stopped
 
--- a run of a plan: of its config, and with its faults
-abbrev pub IsOf : Plan → Journal → Type 0
-IsOf plan j = (j.config ≡ plan.config) × Follows plan j
+-- a run is of a plan: of its config, and with its faults
+abbrev pub IsOf : Plan → Running → Type 0
+IsOf plan r = (r.world.config ≡ plan.config) × (r.faults ≡ plan.faults)
+
+-- these seats account for its journal
+abbrev pub IsAccounted : Running → List Seated → Type 0
+IsAccounted r seats = Account r.number r.by r.world.events seats
 
 -- a report of this world, whose events the seats of these numbers made, for a plan
 pub record IsReported {K V : Type 0} (job : Computation K V) (plan : Plan) (succeeded : Bool) (files : List VisibleFile) (by : List ℕ) (j : Journal) : Type 0 where
   pub config_is : j.config ≡ plan.config
-  -- its faults are those of the plan, each at its place; behind a crash the next master starts; all else is calm
+  -- until its end each fault of the plan was made as soon as it was due, or the world refused it; behind a crash the next master starts; all else is calm
   pub follows : Follows plan j
   -- each event has its seat's number
   pub noted : length by ≡ length j.events
@@ -41,9 +46,15 @@ pub record IsReported {K V : Type 0} (job : Computation K V) (plan : Plan) (succ
   -- and then a reader sees the files of the sequential execution, and nothing else
   pub sequential : succeeded ≡ true → ShowsSequential (job_of job) j.config (world_in j)
 
--- why there is no report of this world, for a plan: it is no run of the plan, its end was not reached, or there is no memory
-abbrev pub IsUnreported : Plan → Journal → DriveFault → Type 0
-IsUnreported plan j JournalMismatch = ¬ IsOf plan j
-IsUnreported plan j TurnsSpent = IsOf plan j × (IsThrough j → ⊥)
-IsUnreported plan j NoMemory = IsOf plan j × IsThrough j
-IsUnreported plan j _ = ⊥
+-- why there is no report of a run that these seats made, for a plan: it is another plan's, or they do not account for it; its end was not reached; or there is no memory
+abbrev pub IsUnreported : Plan → Running → List Seated → DriveFault → Type 0
+IsUnreported plan r seats JournalMismatch = ¬ (IsOf plan r × IsAccounted r seats)
+IsUnreported plan r seats TurnsSpent = IsOf plan r × IsAccounted r seats × (IsThrough r.world → ⊥)
+IsUnreported plan r seats NoMemory = IsOf plan r × IsAccounted r seats × IsThrough r.world
+IsUnreported plan r seats _ = ⊥
+
+-- the same of the world of one that is the plan's, and accounted for
+abbrev pub IsUntold : Journal → DriveFault → Type 0
+IsUntold j TurnsSpent = IsThrough j → ⊥
+IsUntold j NoMemory = IsThrough j
+IsUntold j _ = ⊥

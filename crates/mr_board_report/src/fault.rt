@@ -11,7 +11,7 @@ pub enum DriveFault {
     /// A thread made all its turns, no thread found anything to do, or a gate let no work pass.
     #[error("turns spent")]
     TurnsSpent,
-    /// The seats do not account for the journal, or it is no run of the plan.
+    /// An event was tried that is not planned, the seats do not account for the journal, or the run is of another plan.
     #[error("journal mismatch")]
     JournalMismatch,
     /// A thread could not be made.

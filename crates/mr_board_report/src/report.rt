@@ -5,13 +5,13 @@ ghost use Rattle.mr_world_model.specs.Results.{outcome};
 ghost use Rattle.mr_board.specs.mr_world.specs.Journal.{world_in};
 ghost use Rattle.mr_board.specs.Boards.{IsFaithfulFor};
 ghost use Rattle.mr_board_report.specs.Following.{Follows};
-ghost use Rattle.mr_board_report.specs.Reports.{IsOf, IsReported, IsThrough, IsUnreported};
+ghost use Rattle.mr_board_report.specs.Reports.{IsAccounted, IsReported, IsThrough, IsUnreported, IsUntold};
 
 use crate::fault::DriveFault;
 use crate::plan::Plan;
-use crate::stage::follows;
-use mr_board::Closed;
-use mr_board::mr_world::{Config, VisibleFile, World};
+use crate::run::Run;
+use mr_board::Seat;
+use mr_board::mr_world::{VisibleFile, World};
 use mr_master_model::Phase;
 use mr_user::Job;
 use mr_world_files::{jobs_have_their_laws, marked_worlds_show_sequential_files};
@@ -29,33 +29,40 @@ pub struct Report {
     pub by: Vec<u32>,
 }
 
-/// The report of a closed board, for a plan.
+/// The report of a run that is over, for its plan, where these seats made it.
 ///
-/// Refusals in order: `JournalMismatch` where the board's world is of another config, or its journal does not follow the plan's faults; `TurnsSpent` where no
-/// outcome was told and the newest master is not Stopped; and `NoMemory`.
-pub fn reported<J: Job>(plan: &Plan, closed: Closed<J>) -> Result<Report, DriveFault>
-    ensures closed { IfOk result (λ r. (r.world ≡ closed.world) × (r.by.items ≡ closed.by)) }
+/// Refusals in order: `JournalMismatch` where the run is of another plan, or the seats do not account for its journal;
+/// `TurnsSpent` where no outcome was told and the newest master is not Stopped; and `NoMemory`.
+pub fn reported<J: Job>(plan: &Plan, run: Run<J>, seats: Vec<Seat>) -> Result<Report, DriveFault>
+    ensures closed { IfOk result (λ r. (r.world ≡ run.world) × (r.by.items ≡ run.by) × IsAccounted run seats.items) }
     ensures report { IfOk result (λ r. IsReported (computation J.Key.cmp J.Key.codec J.Value.codec J.functions) plan.now r.succeeded r.files.items r.by.items r.world) }
-    ensures none { IfErr result (IsUnreported plan.now closed.world) }
+    ensures none { IfErr result (IsUnreported plan.now run seats.items) }
 {
-    let (world, by) = closed.into_parts();
-    told::<J>(plan, world, by)
+    if !run.is_of(plan) {
+        return Err(DriveFault::JournalMismatch);
+    }
+    match run.close(seats) {
+        Ok(closed) => {
+            let (world, by) = closed.into_parts();
+            told::<J>(plan, world, by)
+        }
+        Err(_) => Err(DriveFault::JournalMismatch),
+    }
 }
 
 // The report of this world, whose events the seats of these numbers made.
 fn told<J: Job>(plan: &Plan, world: World, by: Vec<u32>) -> Result<Report, DriveFault>
     requires faithful { IsFaithfulFor (computation J.Key.cmp J.Key.codec J.Value.codec J.functions) world }
+    requires same { world.config ≡ plan.now.config }
+    requires planned { Follows plan.now world }
     requires noted { length by.items ≡ length world.events }
     ensures closed { IfOk result (λ r. (r.world ≡ world) × (r.by.items ≡ by.items)) }
     ensures report { IfOk result (λ r. IsReported (computation J.Key.cmp J.Key.codec J.Value.codec J.functions) plan.now r.succeeded r.files.items r.by.items r.world) }
-    ensures none { IfErr result (IsUnreported plan.now world) }
+    ensures none { IfErr result (IsUntold world) }
 {
     jobs_have_their_laws::<J>();
     marked_worlds_show_sequential_files();
     world.config().ranges();
-    if !is_of(&world, plan) {
-        return Err(DriveFault::JournalMismatch);
-    }
     if !is_through(&world) {
         return Err(DriveFault::TurnsSpent);
     }
@@ -70,22 +77,6 @@ fn told<J: Job>(plan: &Plan, world: World, by: Vec<u32>) -> Result<Report, Drive
         world,
         by,
     })
-}
-
-// Whether a world is of a plan's config, and its journal follows the plan's faults.
-fn is_of(world: &World, plan: &Plan) -> bool
-    ensures { IsTrue result ↔ IsOf plan.now world.now }
-{
-    is_of_config(world, &plan.config)
-        && follows(plan.config.nodes, plan.faults.as_slice(), world.journal())
-}
-
-// Whether a world is of a config.
-#[tactic(auto, using(crate::proofs::Success::same_config))]
-fn is_of_config(world: &World, config: &Config) -> bool
-    ensures { IsTrue result ↔ (world.now.config ≡ config.now) }
-{
-    *world.config() == *config
 }
 
 // Whether success was told.

@@ -1,19 +1,18 @@
 //! The threads: one a node, one a master that the plan can start, one for starts and faults. All that waits is here.
 ghost use Rattle.std.specs.Prelude.{◌≡◌, IfOk, IfErr};
 ghost use Rattle.mr_user.specs.Computation.{computation};
-ghost use Rattle.mr_board_report.specs.Reports.{IsReported};
+ghost use Rattle.mr_board_report.specs.Reports.{IsAccounted, IsReported};
 ghost use Rattle.mr_drive.specs.Driving.{IsUndriven, role_of};
 
 use crate::actor::{Actor, Role};
 use crate::condition_variables::ConditionVariables;
 use crate::fault::DriveFault;
-use crate::fault_turns::Coming;
 use crate::plan::masters;
 use crate::shared_state::SharedState;
 use crate::turn::Next;
 use mr_board::mr_world::World;
 use mr_board::{Board, Seat};
-use mr_board_report::{Plan, Report, reported};
+use mr_board_report::{Plan, Report, Run, reported};
 use mr_user::{Gate, Job};
 use std::alloc::{AllocError, Global};
 use std::sync::{Mutex, Wait};
@@ -28,7 +27,7 @@ use std::thread::Threads;
 ///
 /// There is no report (`DriveFault`) where turns or the gate's looks are spent, or where no thread finds anything to
 /// do. There is none where a limit would be passed, where a thread can't be made, or where memory was refused. Last,
-/// there is none where the seats do not account for the journal, or the journal does not follow the plan.
+/// there is none where the seats do not account for the journal, or a thread tried an event that was not planned.
 pub fn drive<R: Threads + Wait + Sync, J: Job + Send + Sync, G: Gate + Sync>(
     rt: &R,
     alloc: Global,
@@ -50,9 +49,10 @@ where
     };
     let (board, all) = Board::new(alloc, job, BOARD, world, seats)?;
     let crew = crew_of(alloc, all, nodes, turns)?;
-    let coming = Coming::new(plan.faults.copy()?);
+    let faults = plan.faults.copy()?;
+    let run = Run::new(board, faults);
     let shared = Shared {
-        state: Mutex::new(SharedState::new(alloc, board, coming, seats)?),
+        state: Mutex::new(SharedState::new(alloc, run, seats)?),
         conditions: ConditionVariables::new(),
     };
     let back = run_threads(rt, alloc, job, gate, &shared, crew)?;
@@ -60,31 +60,28 @@ where
         state,
         conditions: _,
     } = shared;
-    let (board, stop) = state.into_inner().ends();
-    ended(plan, board, stop, back)
+    let (run, stop) = state.into_inner().ends();
+    ended(plan, run, stop, back)
 }
 
 // The number of the one board of a run.
 const BOARD: u64 = 0;
 
-// The report of a board that no thread acts on any longer, and why they stopped where that was not the end.
+// The report of a run that no thread acts on any longer, and why they stopped where that was not the end.
 fn ended<J: Job>(
     plan: &Plan,
-    board: Board<J>,
+    run: Run<J>,
     stop: Option<DriveFault>,
     back: Vec<Seat>,
 ) -> Result<Report, DriveFault>
     ensures report { IfOk result (λ r. IsReported (computation J.Key.cmp J.Key.codec J.Value.codec J.functions) plan.now r.succeeded r.files.items r.by.items r.world) }
-    ensures is { IfOk result (λ r. (r.world ≡ board.world) × (r.by.items ≡ board.by)) }
-    ensures none { IfErr result (IsUndriven plan.now board stop back.items) }
+    ensures is { IfOk result (λ r. (r.world ≡ run.world) × (r.by.items ≡ run.by) × IsAccounted run back.items) }
+    ensures none { IfErr result (IsUndriven plan.now run stop back.items) }
 {
     if let Some(fault) = stop {
         return Err(fault);
     }
-    match board.close(back) {
-        Ok(closed) => reported(plan, closed),
-        Err(_) => Err(DriveFault::JournalMismatch),
-    }
+    reported(plan, run, back)
 }
 
 // What all threads of a run share: the state under its lock, and where they wait.

@@ -1,10 +1,10 @@
-//! What a work gave comes back to the board.
+//! What a work gave comes back to the run.
 ghost use Rattle.std.specs.Prelude.{◌≡◌};
 ghost use Rattle.mr_drive.specs.Driving.{stopping_work};
 
-use crate::fault::{DriveFault, stopping};
-use crate::made::made;
-use mr_board::{Board, Finished, Seat};
+use crate::fault::DriveFault;
+use mr_board::{Finished, Seat};
+use mr_board_report::Run;
 use mr_mapside::WorkFault;
 use mr_packet::ContainerId;
 use mr_user::Job;
@@ -12,23 +12,19 @@ use mr_world_events::Event;
 
 /// The bytes are handed in. A container whose work was refused by the job or by the shuffle dies. What is not permitted any more is dropped.
 pub(crate) fn hand_in<J: Job>(
-    board: &mut Board<J>,
+    run: &mut Run<J>,
     seat: &mut Seat,
     container: &ContainerId,
     done: Result<Finished<J>, WorkFault>,
 ) -> Result<(), DriveFault> {
     match done {
-        Ok(done) => match board.hand_in_as(seat, done) {
-            Ok(_) => Ok(()),
-            Err(fault) => match stopping(fault) {
-                None => Ok(()),
-                Some(fault) => Err(fault),
-            },
-        },
+        Ok(done) => {
+            run.hand_in(seat, done)?;
+            Ok(())
+        }
         Err(fault) => match stopping_work(fault) {
             None => {
-                made(
-                    board,
+                run.make(
                     seat,
                     Event::Die {
                         container: *container,

@@ -4,27 +4,28 @@ use crate::fault::DriveFault;
 use crate::fetching::Fetching;
 use crate::made::made;
 use crate::turn::Turn;
+use mr_board::Seat;
 use mr_board::mr_world::World;
-use mr_board::{Board, Seat};
+use mr_board_report::Run;
 use mr_user::Job;
 use mr_world_events::{Event, Weather};
 
 /// At most one event of the master of generation `k`: a packet for it, else its store call, else its launch.
 pub(crate) fn master_turn<J: Job>(
-    board: &mut Board<J>,
+    run: &mut Run<J>,
     fetching: &mut Fetching,
     seat: &mut Seat,
     actor: &mut Actor,
     k: u32,
 ) -> Result<Turn, DriveFault> {
-    if let Some(place) = actor.next_packet(board.world()) {
+    if let Some(place) = actor.next_packet(run.world()) {
         let packet = place as u64;
-        return made(board, seat, Event::Deliver { packet });
+        return made(run, seat, Event::Deliver { packet });
     }
-    match next_of_master(board.world(), k)? {
+    match next_of_master(run.world(), k)? {
         Some(event) => {
             let launches = matches!(event, Event::LaunchOn { .. });
-            let turn = made(board, seat, event)?;
+            let turn = made(run, seat, event)?;
             if launches && matches!(turn, Turn::Made) {
                 fetching.launched();
             }

@@ -1,15 +1,16 @@
-//! What the threads share, under one lock: the board, the faults to come, and who finds nothing to do. No function here waits.
+//! What the threads share, under one lock: the run, and who finds nothing to do. No function here waits.
 use crate::actor::{Actor, Role};
 use crate::condition_variables::{Call, Sleepers};
 use crate::fault::DriveFault;
-use crate::fault_turns::Coming;
 use crate::fetching::Fetching;
 use crate::hand_in::hand_in;
+use crate::made::turn_of;
 use crate::master_turns::master_turn;
 use crate::node_turns::node_turn;
 use crate::turn::{Next, Turn};
 use mr_board::mr_world::World;
-use mr_board::{Board, Finished, Seat};
+use mr_board::{Finished, Seat};
+use mr_board_report::Run;
 use mr_mapside::WorkFault;
 use mr_master_model::Phase;
 use mr_packet::{Address, ContainerId, Packet};
@@ -19,8 +20,7 @@ use std::alloc::{AllocError, Global};
 /// What the threads share.
 #[derive(Drop)]
 pub(crate) struct SharedState<J: Job> {
-    board: Board<J>,
-    coming: Coming,
+    run: Run<J>,
     fetching: Fetching,
     stop: Option<DriveFault>,
     // Whether an outcome was told, or the newest master is Stopped, and how many packets were looked at for that.
@@ -38,13 +38,11 @@ pub(crate) struct SharedState<J: Job> {
 impl<J: Job> SharedState<J> {
     pub(crate) fn new(
         alloc: Global,
-        board: Board<J>,
-        coming: Coming,
+        run: Run<J>,
         threads: u32,
     ) -> Result<SharedState<J>, AllocError> {
         Ok(SharedState {
-            board,
-            coming,
+            run,
             fetching: Fetching::new(),
             stop: None,
             over: false,
@@ -58,11 +56,10 @@ impl<J: Job> SharedState<J> {
         })
     }
 
-    /// The board, and why the threads stopped where that was not the end.
-    pub(crate) fn ends(self) -> (Board<J>, Option<DriveFault>) {
+    /// The run, and why the threads stopped where that was not the end.
+    pub(crate) fn ends(self) -> (Run<J>, Option<DriveFault>) {
         let SharedState {
-            board,
-            coming: _,
+            run,
             fetching: _,
             stop,
             over: _,
@@ -74,7 +71,7 @@ impl<J: Job> SharedState<J> {
             round: _,
             round_at: _,
         } = self;
-        (board, stop)
+        (run, stop)
     }
 
     fn has_ended(&self) -> bool {
@@ -82,7 +79,7 @@ impl<J: Job> SharedState<J> {
     }
 
     fn is_due(&self) -> bool {
-        self.coming.is_due(self.board.world().journal().len())
+        self.run.is_held()
     }
 
     /// Whether a fault is due, so that what a work gave has to wait.
@@ -118,7 +115,7 @@ impl<J: Job> SharedState<J> {
 
     // Looks at the packets that are new, and at the newest master. Whom a packet is for is called.
     fn look(&mut self) {
-        let world = self.board.world();
+        let world = self.run.world();
         for place in self.looked..world.bag().len() {
             if let Some(envelope) = world.bag().get(place) {
                 self.over = self.over || matches!(&envelope.body, Packet::Outcome { .. });
@@ -128,7 +125,7 @@ impl<J: Job> SharedState<J> {
         self.looked = world.bag().len();
         self.over = self.over || world.phase(world.newest()) == Some(Phase::Stopped);
         if self.is_due() {
-            let faults = seat_of(Role::Faults, self.board.world());
+            let faults = seat_of(Role::Faults, self.run.world());
             self.sleepers.call(Call::Seat(faults));
         }
     }
@@ -214,11 +211,11 @@ impl<J: Job> SharedState<J> {
     ) -> Result<Turn, DriveFault> {
         match actor.role {
             Role::Node(n) => {
-                actor.begin(self.board.world(), n, self.round)?;
-                node_turn(alloc, &mut self.board, &mut self.fetching, seat, actor)
+                actor.begin(self.run.world(), n, self.round)?;
+                node_turn(alloc, &mut self.run, &mut self.fetching, seat, actor)
             }
-            Role::Master(k) => master_turn(&mut self.board, &mut self.fetching, seat, actor, k),
-            Role::Faults => self.coming.turn(&mut self.board, seat),
+            Role::Master(k) => master_turn(&mut self.run, &mut self.fetching, seat, actor, k),
+            Role::Faults => turn_of(self.run.make_due(seat)),
         }
     }
 
@@ -234,7 +231,7 @@ impl<J: Job> SharedState<J> {
             return;
         }
         self.changed();
-        if let Err(fault) = hand_in(&mut self.board, seat, c, done) {
+        if let Err(fault) = hand_in(&mut self.run, seat, c, done) {
             self.stop(fault);
         }
         if actor.is_ready(c).is_err() {

@@ -1,15 +1,17 @@
 -- An input has one run at most, and nothing is printed of one that is refused.
-use Rattle.std.proofs.Common.{◌≡◌, ◌⊎◌, ◌<◌, ℕ, List, [], ◌∷◌, ◌++◌, map, length, Some, None, Result, Ok, inl, inr, sym, ap, subst, ◌∙◌, arith}
+use Rattle.std.proofs.Common.{◌≡◌, ◌⊎◌, ◌<◌, ℕ, Bool, true, false, ◌||◌, List, [], ◌∷◌, ◌++◌, map, length, Option, Some, None, Result, Ok, inl, inr, refl, sym, ap, subst, ◌∙◌, arith}
+use Rattle.std.specs.List.{list_any}
 use Rattle.std.specs.Option.{option_map}
+use Rattle.mr_script.specs.declared.expectation.Expectation.{Expectation}
 use Rattle.mr_sim_commands.specs.declared.fault.JobTextFault.{JobTextFault}
 use Rattle.mr_sim_commands.specs.declared.job.submission.Submission.{Submission}
 use Rattle.mr_play.specs.mr_world.specs.Limits.{within}
 use Rattle.mr_play.specs.Text.{config_of}
 use Rattle.mr_play.proofs.Playing.{one_end, one_play_text_law}
-use Rattle.mr_explore_search.specs.Runs.{Found, PassesLimit}
+use Rattle.mr_explore_search.specs.Runs.{Found, Run, PassesLimit}
 use Rattle.mr_explore.specs.declared.asked.Asked.{Asked}
-use Rattle.mr_explore.specs.Explored.{IsFullExplored, PrintsExplored}
-use Rattle.mr_explore.specs.Exploring.{IsFullBehind, MadeRun, as_found}
+use Rattle.mr_explore.specs.Explored.{IsFullExplored, PrintsExplored, goal_of}
+use Rattle.mr_explore.specs.Exploring.{IsFoundLast, IsFullBehind, MadeRun, NoneMeets, as_found, meets_goal}
 use Rattle.mr_explore.specs.Laws.{ExploredOrRefused}
 use Rattle.mr_explore.specs.Runs.{CannotStart, Exploring, IsLeftBy, IsRunOf, StartsFrom, newest_in, runs_with, start_first, with}
 
@@ -41,6 +43,15 @@ one_run_law input a b x y = one_start x.before a b x.starts (subst (λ (e : Expl
 tail_is : {A : Type 0} (x y : A) (xs ys : List A) → x ∷ xs ≡ y ∷ ys → xs ≡ ys
 tail_is x y xs ys e = cc
 
+run_is : (m k : MadeRun) → as_found m ≡ as_found k → m ≡ k
+run_is m k e = ap made_of e where
+  made_of : Found Exploring → MadeRun
+  made_of (Run n s) = record { faults = n; run = s }
+  made_of PassesLimit = m
+
+head_is : (m k : MadeRun) (xs ys : List (Found Exploring)) → as_found m ∷ xs ≡ as_found k ∷ ys → m ≡ k
+head_is m k xs ys e = run_is m k (cc)
+
 apart_all : (made more : List MadeRun) (rest : List (Found Exploring)) → map as_found made ++ [] ≡ map as_found more ++ PassesLimit ∷ rest → ⊥
 apart_all [] [] rest e = cc
 apart_all [] (k ∷ more) rest e = cc
@@ -52,9 +63,31 @@ apart_most [] more left rest few e = omega (arith, few)
 apart_most (m ∷ made) [] left rest few e = cc
 apart_most (m ∷ made) (k ∷ more) left rest few e = apart_most made more left rest (omega (arith, few)) (tail_is (as_found m) (as_found k) _ _ e)
 
-apart : (n : ℕ) (made : List MadeRun) (left all : List (Found Exploring)) → all ≡ map as_found made ++ left → (length made ≡ n) ⊎ (left ≡ []) → IsFullBehind n all → ⊥
-apart n made left all are (inl many) full = let few = full.few in apart_most made full.made left full.rest (omega (arith, few, many)) (sym are ∙ full.is)
-apart n made left all are (inr none) full = apart_all made full.made full.rest (ap (λ xs. map as_found made ++ xs) (sym none) ∙ (sym are ∙ full.is))
+-- where one of the first runs meets the goal, and none before the limit does, the limit comes before it
+some_meets : (goal : Option (List Expectation)) (made : List MadeRun) (m : MadeRun) → meets_goal goal m ≡ true → list_any (meets_goal goal) (made ++ m ∷ []) ≡ true
+some_meets goal [] m e = ap (λ b. b || false) e
+some_meets goal (k ∷ made) m e = by (meets_goal goal k) (some_meets goal made m e) where
+  by : (b : Bool) → list_any (meets_goal goal) (made ++ m ∷ []) ≡ true → (b || list_any (meets_goal goal) (made ++ m ∷ [])) ≡ true
+  by true h = refl
+  by false h = h
+
+apart_found : (goal : Option (List Expectation)) (made more : List MadeRun) (left rest : List (Found Exploring)) → list_any (meets_goal goal) made ≡ true → NoneMeets goal more → map as_found made ++ left ≡ map as_found more ++ PassesLimit ∷ rest → ⊥
+apart_found goal [] more left rest some none e = cc
+apart_found goal (m ∷ made) [] left rest some none e = cc
+apart_found goal (m ∷ made) (k ∷ more) left rest some none e = by (meets_goal goal m) (meets_goal goal k) (ap (meets_goal goal) (head_is m k _ _ e)) some none (λ s n. apart_found goal made more left rest s n (tail_is (as_found m) (as_found k) _ _ e)) where
+  by : (a b : Bool) → a ≡ b → (a || list_any (meets_goal goal) made) ≡ true → (b || list_any (meets_goal goal) more) ≡ false → (list_any (meets_goal goal) made ≡ true → NoneMeets goal more → ⊥) → ⊥
+  by true true e s n next = cc
+  by true false e s n next = cc
+  by false true e s n next = cc
+  by false false e s n next = next s n
+
+apart : (most : ℕ) (goal : Option (List Expectation)) (made : List MadeRun) (left all : List (Found Exploring)) → all ≡ map as_found made ++ left → IsFoundLast goal made ⊎ (NoneMeets goal made × ((length made ≡ most) ⊎ (left ≡ []))) → IsFullBehind most goal all → ⊥
+apart most goal made left all are (inl last) full =
+    apart_found goal made full.made left full.rest (ap (list_any (meets_goal goal)) last.are ∙ some_meets goal last.before last.last last.meets) full.none (sym are ∙ full.is)
+apart most goal made left all are (inr k) full = by k.1 where
+  by : (length made ≡ most) ⊎ (left ≡ []) → ⊥
+  by (inl many) = let few = full.few in apart_most made full.made left full.rest (omega (arith, few, many)) (sym are ∙ full.is)
+  by (inr none) = apart_all made full.made full.rest (ap (λ xs. map as_found made ++ xs) (sym none) ∙ (sym are ∙ full.is))
 
 not_none : (x : Exploring) → None ≡ Some x → ⊥
 not_none x e = cc
@@ -70,8 +103,8 @@ not_full_law : (asked : Asked) (input text : List ℕ) → PrintsExplored asked 
 not_full_law asked input text p (inl f) = one_play_text_law.not_full within input p.is_run.left.text p.is_run.left.prints f
 not_full_law asked input text p (inr (inl c)) = not_started input p.run p.is_run c
 not_full_law asked input text p (inr (inr w)) =
-    apart asked.most p.made p.rest (runs_with asked.faults p.run) p.are p.count.1
-    (subst (λ (e : Exploring). IsFullBehind asked.most (runs_with asked.faults e)) (one_run_law input w.run p.run w.is_run p.is_run) w.full)
+    apart asked.most (goal_of asked) p.made p.rest (runs_with asked.faults p.run) p.are p.count.1
+    (subst (λ (e : Exploring). IsFullBehind asked.most (goal_of asked) (runs_with asked.faults e)) (one_run_law input w.run p.run w.is_run p.is_run) w.full)
 
 pub explored_or_refused_law : ExploredOrRefused
 explored_or_refused_law = record {

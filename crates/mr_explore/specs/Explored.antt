@@ -12,7 +12,7 @@ use Rattle.mr_explore_ends.specs.Table.{table_of}
 use Rattle.mr_explore_ends.specs.Text.{Found}
 use Rattle.mr_explore.specs.declared.asked.Asked.{Asked}
 use Rattle.mr_explore.specs.Ends.{TellsEnds}
-use Rattle.mr_explore.specs.Exploring.{AreMost, IsFullBehind, MadeRun, as_found, came}
+use Rattle.mr_explore.specs.Exploring.{AreEnough, IsFullBehind, MadeRun, as_found, came}
 use Rattle.mr_explore.specs.Runs.{CannotStart, Exploring, IsRunOf, runs_with}
 
 abbrev pub goal_of : Asked → Option (List Expectation)
@@ -20,24 +20,24 @@ goal_of asked = option_map (λ g. g.now) asked.goal
 
 -- what was found of these runs, where those are left
 abbrev pub found_in : ℕ → List MadeRun → List (walk.Found Exploring) → Found
-found_in faults made rest = record { table = table_of (map (came faults) made); faults = faults; whole = no_more rest }
+found_in faults made rest = record { table = table_of (map came made); faults = faults; whole = no_more rest }
 
--- Of all runs of the input with at most as many faults as are asked for, the first `asked.most` were made, or all.
--- This is printed of their ends.
+-- Of all runs of the input with at most as many faults as are asked for, the first `asked.most` were made, or all, or those
+-- up to the first that came to the end that is sought. This is printed of their ends.
 pub record PrintsExplored (asked : Asked) (input text : List ℕ) : Type 0 where
   pub run : Exploring
   pub is_run : IsRunOf input run
   pub made : List MadeRun
   pub rest : List (walk.Found Exploring)
   pub are : runs_with asked.faults run ≡ map as_found made ++ rest
-  pub count : AreMost asked.most made rest
+  pub count : AreEnough asked.most (goal_of asked) made rest
   pub tells : TellsEnds input asked.form (goal_of asked) (found_in asked.faults made rest) text
 
 -- one of the first runs, of as many as are asked for, would pass a limit
 pub record WouldPass (asked : Asked) (input : List ℕ) : Type 0 where
   pub run : Exploring
   pub is_run : IsRunOf input run
-  pub full : IsFullBehind asked.most (runs_with asked.faults run)
+  pub full : IsFullBehind asked.most (goal_of asked) (runs_with asked.faults run)
 
 -- a limit is passed by the script, by the start of the first master, or by a run
 abbrev pub IsFullExplored : Asked → List ℕ → Type 0

@@ -1,6 +1,6 @@
 -- What an exploration promises.
-use Rattle.std.specs.Prelude.{◌≡◌, ◌≤◌, ◌<◌, ◌⊎◌, ◌-◌, ℕ, Bool, true, false, List, [], ◌∷◌, ◌++◌, length, map, Result, Ok, Err}
-use Rattle.std.specs.List.{flat_map}
+use Rattle.std.specs.Prelude.{◌≡◌, ◌≤◌, ◌<◌, ◌⊎◌, ℕ, Bool, true, false, List, [], ◌∷◌, ◌++◌, length, map, Option, Some, None, Result, Ok, Err}
+use Rattle.std.specs.List.{flat_map, list_any}
 use Rattle.mr_sim_commands.specs.declared.fault.SimFault.{SimFault}
 use Rattle.mr_sim_commands.specs.declared.fault.SimFault.TheVariants as fault
 use Rattle.mr_play.specs.mr_world.specs.Journal.{Journal, world_in}
@@ -14,6 +14,8 @@ use Rattle.mr_world_model.specs.World.{World}
 use Rattle.mr_world_model.specs.Results.{outcome, visible}
 use Rattle.mr_explore_search.specs.Runs.{Found, Run, PassesLimit}
 use Rattle.mr_explore_search.specs.Taking.{no_more}
+use Rattle.mr_script.specs.declared.expectation.Expectation.{Expectation}
+use Rattle.mr_explore_ends.specs.Goals.{meets}
 use Rattle.mr_explore_ends.specs.Outcomes.{Outcome}
 use Rattle.mr_explore_ends.specs.Table.{Came, Table, all_noted, empty}
 use Rattle.mr_explore_ends.specs.Text as ends
@@ -21,13 +23,13 @@ use Rattle.mr_explore.specs.Runs.{CannotStart, Exploring, IsRunOf, runs_with}
 
 -- ---- runs that were made
 
--- a run at its end, and how many faults more it might have had
+-- a run at its end, and how many faults it has
 pub record MadeRun : Type 0 where
-  pub spare : ℕ
+  pub faults : ℕ
   pub run : Exploring
 
 abbrev pub as_found : MadeRun → Found Exploring
-as_found m = Run m.spare m.run
+as_found m = Run m.faults m.run
 
 abbrev pub journal_of : Exploring → Journal
 journal_of e = record { config = e.config; events = e.played.events }
@@ -36,9 +38,30 @@ journal_of e = record { config = e.config; events = e.played.events }
 abbrev pub outcome_of : Config → World → Outcome
 outcome_of cfg w = record { winners = won_in cfg w; marker = is_file (entry_at w.content marker); outcome = outcome w; files = flat_map visible_text (visible w) }
 
--- what a table knows of it, where a run has at most `faults` faults
-abbrev pub came : ℕ → MadeRun → Came
-came faults m = record { end = outcome_of m.run.config (world_in (journal_of m.run)); faults = faults - m.spare; events = m.run.played.events }
+-- what a table knows of it
+abbrev pub came : MadeRun → Came
+came m = record { end = outcome_of m.run.config (world_in (journal_of m.run)); faults = m.faults; events = m.run.played.events }
+
+-- ---- the end that is sought
+
+-- the end is as is sought, if one is
+abbrev pub is_sought : Option (List Expectation) → Outcome → Bool
+is_sought None end = false
+is_sought (Some goal) end = meets goal end
+
+abbrev pub meets_goal : Option (List Expectation) → MadeRun → Bool
+meets_goal goal m = is_sought goal (came m).end
+
+abbrev pub NoneMeets : Option (List Expectation) → List MadeRun → Type 0
+NoneMeets goal made = list_any (meets_goal goal) made ≡ false
+
+-- the last of these runs is the first that came to such an end
+pub record IsFoundLast (goal : Option (List Expectation)) (made : List MadeRun) : Type 0 where
+  pub before : List MadeRun
+  pub last : MadeRun
+  pub are : made ≡ before ++ last ∷ []
+  pub none : NoneMeets goal before
+  pub meets : meets_goal goal last ≡ true
 
 -- ---- what is left
 
@@ -62,40 +85,47 @@ ExploreFails input fault.JournalMismatch = Unit {0}
 ExploreFails input fault.Full = IsFullPlay within input ⊎ CannotStart input
 ExploreFails input f = PlayFails within input f
 
--- of these runs fewer than `most` come first, and behind them one that would pass a limit
-pub record IsFullBehind (most : ℕ) (left : List (Found Exploring)) : Type 0 where
+-- of these runs fewer than `most` come first, none of which came to the end that is sought, and behind them one that would pass a limit
+pub record IsFullBehind (most : ℕ) (goal : Option (List Expectation)) (left : List (Found Exploring)) : Type 0 where
   pub made : List MadeRun
+  pub none : NoneMeets goal made
   pub rest : List (Found Exploring)
   pub is : left ≡ map as_found made ++ PassesLimit ∷ rest
   pub few : length made < most
 
-abbrev pub Fails : ℕ → Remaining → SimFault → Type 0
-Fails most x fault.NoMemory = Unit {0}
-Fails most x fault.JournalMismatch = Unit {0}
-Fails most x fault.Full = IsFullBehind most x.left
-Fails most x _ = ⊥
+abbrev pub Fails : ℕ → Option (List Expectation) → Remaining → SimFault → Type 0
+Fails most goal x fault.NoMemory = Unit {0}
+Fails most goal x fault.JournalMismatch = Unit {0}
+Fails most goal x fault.Full = IsFullBehind most goal x.left
+Fails most goal x _ = ⊥
 
--- the first run that was left was made, and noted; or no run was left
-abbrev pub MakesOne : Remaining → Result Bool SimFault → Remaining → Type 0
-MakesOne old (Ok true) new = (m : MadeRun) × (old.left ≡ as_found m ∷ new.left) × (new.faults ≡ old.faults) × (new.table ≡ all_noted (came old.faults m ∷ []) old.table)
-MakesOne old (Ok false) new = (old.left ≡ []) × (new ≡ old)
-MakesOne old (Err f) new = Fails 1 old f
+-- the first run that was left was made, and noted
+pub record MadeOne (old : Remaining) (m : MadeRun) (new : Remaining) : Type 0 where
+  pub is : old.left ≡ as_found m ∷ new.left
+  pub faults : new.faults ≡ old.faults
+  pub table : new.table ≡ all_noted (came m ∷ []) old.table
 
--- `most` runs were made; or fewer were made, and then no run is left
-abbrev pub AreMost : ℕ → List MadeRun → List (Found Exploring) → Type 0
-AreMost most made rest = (length made ≤ most) × ((length made ≡ most) ⊎ (rest ≡ []))
+-- the first run that was left was made, and more may be made; or no run was left, or it came to the end that is sought
+abbrev pub MakesOne : Option (List Expectation) → Remaining → Result Bool SimFault → Remaining → Type 0
+MakesOne goal old (Ok true) new = (m : MadeRun) × MadeOne old m new × (meets_goal goal m ≡ false)
+MakesOne goal old (Ok false) new = ((old.left ≡ []) × (new ≡ old)) ⊎ ((m : MadeRun) × MadeOne old m new × (meets_goal goal m ≡ true))
+MakesOne goal old (Err f) new = Fails 1 goal old f
 
--- the first `most` of the runs that were left were made, or all, in their order, and noted in the table
-pub record Made (most : ℕ) (old new : Remaining) : Type 0 where
+-- Where an end is sought, no run is made behind the first that came to it. Else `most` runs were made; or fewer were made, and then no run is left.
+abbrev pub AreEnough : ℕ → Option (List Expectation) → List MadeRun → List (Found Exploring) → Type 0
+AreEnough most goal made rest = (length made ≤ most) × (IsFoundLast goal made ⊎ (NoneMeets goal made × ((length made ≡ most) ⊎ (rest ≡ []))))
+
+-- the first of the runs that were left were made, in their order, and noted in the table
+pub record Made (most : ℕ) (goal : Option (List Expectation)) (old new : Remaining) : Type 0 where
   pub made : List MadeRun
   pub are : old.left ≡ map as_found made ++ new.left
-  pub count : AreMost most made new.left
+  pub count : AreEnough most goal made new.left
   pub faults : new.faults ≡ old.faults
-  pub table : new.table ≡ all_noted (map (came old.faults) made) old.table
+  pub table : new.table ≡ all_noted (map came made) old.table
 
-abbrev pub Makes : ℕ → Remaining → Result (Unit {0}) SimFault → Remaining → Type 0
-Makes most old (Ok done) new = Made most old new
-Makes most old (Err f) new = Fails most old f
+abbrev pub Makes : ℕ → Option (List Expectation) → Remaining → Result (Unit {0}) SimFault → Remaining → Type 0
+Makes most goal old (Ok done) new = Made most goal old new
+Makes most goal old (Err f) new = Fails most goal old f
 
 -- what was found so far
 abbrev pub found_of : Remaining → ends.Found

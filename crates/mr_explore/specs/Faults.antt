@@ -1,6 +1,6 @@
 -- What one fault is, and where it may befall a run (our own profile). Without a fault a run goes on as a calm of the
 -- newest master does, unless in vain.
-use Rattle.std.specs.Prelude.{ℕ, zero, suc, ◌&&◌, Bool, false, nat_lt, List, [], ◌∷◌, ◌++◌, drop, length, map, slice_get, Option, Some, None, is_none, if◌then◌else◌}
+use Rattle.std.specs.Prelude.{ℕ, suc, ◌&&◌, Bool, false, nat_lt, List, [], ◌∷◌, ◌++◌, drop, length, map, slice_get, Option, Some, None, is_none, if◌then◌else◌}
 use Rattle.std.specs.List.{flat_map, range_with_len}
 use Rattle.std.specs.Option.{option_and_then}
 use Rattle.mr_world_events.specs.declared.event.Weather.TheVariants.{Calm, Unavailable, Unanswered}
@@ -18,7 +18,7 @@ use Rattle.mr_play.specs.Played.{Played, calms, losing, stepped_by, taken, world
 use Rattle.mr_explore_search.specs.Steps.{Onward, Goes, Ends, Full}
 use Rattle.mr_explore_faults.specs.declared.fault.Fault.{Fault}
 use Rattle.mr_explore_faults.specs.declared.fault.Fault.TheVariants as fault
-use Rattle.mr_explore_faults.specs.Kinds.{ends_from, of_delivered, of_kept, of_node, of_packet, of_tasks}
+use Rattle.mr_explore_faults.specs.Kinds.{ends_from, of_delivered, of_kept, of_node, of_tasks}
 use Rattle.mr_explore_faults.specs.Next.{without_next}
 use Rattle.mr_explore.specs.Vain.{all_wait, ask_behind, most_ahead}
 
@@ -35,9 +35,12 @@ abbrev pub onward_by : Played → Option Played → Onward Played
 onward_by s None = Full
 onward_by s (Some t) = if nat_lt (length s.events) (length t.events) then Goes t else Ends t
 
-abbrev pub counted : (Played → ℕ) → Onward Played → ℕ
-counted more (Goes t) = suc (more t)
-counted more _ = 0
+-- a store call that comes next may fail, and a packet that comes next may be passed over
+abbrev pub of_event : Option Event → List Fault
+of_event (Some (Duty k weather)) = fault.Duty Unavailable ∷ fault.Duty Unanswered ∷ []
+of_event (Some (ContainerStep c weather)) = fault.Step c Unavailable ∷ fault.Step c Unanswered ∷ []
+of_event (Some (Deliver i)) = fault.Lost i ∷ []
+of_event _ = []
 
 module _ (job : Job) (cfg : Config) (within : Limits) where
   abbrev pub newest : Played → ℕ
@@ -67,24 +70,26 @@ module _ (job : Job) (cfg : Config) (within : Limits) where
   abbrev pub onward : Played → Onward Played
   onward s = if goes_in_vain s then Ends s else onward_by s (calm 1 s)
 
-  -- how many events it makes, of at most `most`; none is made where a limit is passed
-  abbrev pub steps_made : ℕ → Played → ℕ
-  steps_made zero s = 0
-  steps_made (suc most) s = counted (steps_made most) (onward s)
-
   -- an event happens, as that of a line; none where it is not permitted or passes a limit
   abbrev pub told : Event → Played → Option Played
   told e s = if is_none (not_now cfg (world job cfg within s) e) then taken job cfg within e (stepped_by job cfg within e s.stepped) s else None
 
-  -- ---- what a fault does, where master k is the newest; none where it can't befall the run
+  -- ---- what a fault does, or what it put off, where master k is the newest; none where it can't befall the run
+
+  -- the next master starts, if the newest one is not alive; one that is alive has so many bytes that it did not flush
+  abbrev pub starts_next : ℕ → Option ℕ → Played → Option Played
+  starts_next k None s = told (Start (suc k) 0) s
+  starts_next k (Some unflushed) s = None
 
   abbrev pub befallen_by : ℕ → Fault → Played → Option Played
   befallen_by k (fault.Duty weather) s = told (Duty k weather) s
   befallen_by k (fault.Step c weather) s = told (ContainerStep c weather) s
   befallen_by k (fault.Lost i) s = Some (losing job cfg within i s)
-  befallen_by k (fault.Late i events) s = option_and_then (told (Deliver i)) (calm events (losing job cfg within i s))
+  befallen_by k (fault.Late i) s = told (Deliver i) s
   befallen_by k (fault.Again i) s = told (Deliver i) s
   befallen_by k (fault.Crash kept) s = option_and_then (told (Start (suc k) 0)) (told (Crash k kept) s)
+  befallen_by k (fault.Halt kept) s = told (Crash k kept) s
+  befallen_by k fault.Next s = starts_next k (unflushed_in (world job cfg within s) k) s
   befallen_by k (fault.Superseded kept) s = told (Start (suc k) kept) s
   befallen_by k (fault.SupersededLate kept) s = option_and_then (told (Duty k Calm)) (told (Start (suc k) kept) s)
   befallen_by k (fault.Death c) s = told (Die c) s
@@ -104,12 +109,6 @@ module _ (job : Job) (cfg : Config) (within : Limits) where
 
   abbrev pub next_event : Played → Option Event
   next_event s = last_of (length s.events) (onward s)
-
-  abbrev pub of_event : Option Event → Played → List Fault
-  of_event (Some (Duty k weather)) s = fault.Duty Unavailable ∷ fault.Duty Unanswered ∷ []
-  of_event (Some (ContainerStep c weather)) s = fault.Step c Unavailable ∷ fault.Step c Unanswered ∷ []
-  of_event (Some (Deliver i)) s = of_packet i (steps_made most_events (losing job cfg within i s))
-  of_event _ s = []
 
   abbrev pub stable_in : ℕ → Played → List ℕ
   stable_in k s = stable_bytes (history_of cfg s.events) k
@@ -139,7 +138,7 @@ module _ (job : Job) (cfg : Config) (within : Limits) where
   of_crashes s = of_kept 0 ++ flat_map of_kept (kept s)
 
   abbrev pub listed : Option Event → Played → List Fault
-  listed next s = of_event next s ++ of_world s ++ of_crashes s
+  listed next s = of_event next ++ of_world s ++ of_crashes s
 
   -- All that may be tried. What it makes next anyway is no fault. What can't befall the run there is no fault.
   abbrev pub faults_by : Option Event → Played → List Fault

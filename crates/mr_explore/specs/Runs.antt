@@ -11,6 +11,7 @@ use Rattle.mr_play.specs.Text.{PrintsPlay, config_of, job_as}
 use Rattle.mr_explore_search.specs.Steps.{Onward, Goes, Ends, Full, Steps}
 use Rattle.mr_explore_search.specs.Runs.{Found, runs}
 use Rattle.mr_explore_faults.specs.declared.fault.Fault.{Fault}
+use Rattle.mr_explore_faults.specs.Kinds as kinds
 use Rattle.mr_explore.specs.Faults.{befallen, faults_at, most_events, newest, onward, told}
 
 -- a run of a job's cluster, as far as it is
@@ -35,6 +36,7 @@ explored = record {
   onward = λ e. onward_with e (onward (job_as e.job) e.config (within e.config) e.played);
   faults = λ e. faults_at (job_as e.job) e.config (within e.config) e.played;
   befallen = λ f e. option_map (with e) (befallen (job_as e.job) e.config (within e.config) f e.played);
+  later = kinds.later;
 }
 
 -- what the first master's start makes

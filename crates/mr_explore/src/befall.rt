@@ -1,4 +1,4 @@
-//! A fault befalls a run.
+//! A fault befalls a run, or what an earlier one put off comes.
 ghost use Rattle.std.specs.Prelude.{◌≡◌, suc, false, None, IfOk};
 ghost use Rattle.mr_world_model.specs.World.{Start};
 ghost use Rattle.mr_play.specs.mr_world.specs.Journal.{world_in};
@@ -8,13 +8,13 @@ ghost use Rattle.mr_explore_faults.specs.declared.fault.Fault.TheVariants as fau
 ghost use Rattle.mr_explore.specs.inner.Players.{befallen_in, told_in};
 
 use mr_explore_faults::Fault;
+use mr_play::Player;
 use mr_play::mr_world::WorldFault;
-use mr_play::{Player, PlayerFault};
 use mr_world_events::{Event, Weather};
-use std::alloc::{AllocError, Global};
+use std::alloc::AllocError;
 
-/// The fault befalls the run; whether it can. It fails by an allocation failure.
-pub fn befall(alloc: Global, player: &mut Player, fault: Fault) -> Result<bool, AllocError>
+/// The fault befalls the run, or what one put off comes; whether it can. It fails by an allocation failure.
+pub fn befall(player: &mut Player, fault: Fault) -> Result<bool, AllocError>
     ensures { Tries player.old (befallen_in player.old (world_in player.old.world).fence fault) result player.new }
 {
     let k = player.world.newest();
@@ -28,9 +28,14 @@ pub fn befall(alloc: Global, player: &mut Player, fault: Fault) -> Result<bool, 
             player.drop_packet(packet)?;
             Ok(true)
         }
-        Fault::Late(packet, events) => deliver_late(alloc, player, packet, events),
+        Fault::Late(packet) => player.tell(Event::Deliver { packet }),
         Fault::Again(packet) => player.tell(Event::Deliver { packet }),
         Fault::Crash(kept) => crash(player, k, kept),
+        Fault::Halt(kept) => player.tell(Event::Crash {
+            generation: k,
+            kept,
+        }),
+        Fault::Next => start_next(player, k),
         Fault::Superseded(kept) => start(player, k, kept),
         Fault::SupersededLate(kept) => supersede_late(player, k, kept),
         Fault::Death(container) => player.tell(Event::Die { container }),
@@ -55,6 +60,8 @@ pub fn may_befall(player: &Player, fault: &Fault) -> Result<bool, AllocError>
 {
     let k = player.world.newest();
     match *fault {
+        Fault::Late(packet) => may_happen(player, &Event::Deliver { packet }),
+        Fault::Next => Ok(may_start_next(player, k)),
         Fault::Again(packet) => may_happen(player, &Event::Deliver { packet }),
         Fault::Expiry(node) => may_happen(
             player,
@@ -75,6 +82,16 @@ pub fn may_befall(player: &Player, fault: &Fault) -> Result<bool, AllocError>
     }
 }
 
+// Whether `k` is not alive, so that the next master may start.
+fn may_start_next(player: &Player, k: u32) -> bool
+    ensures { result ≡ false → befallen_in player.now k fault.Next ≡ None }
+{
+    match player.world.unflushed(k) {
+        Some(_) => false,
+        None => true,
+    }
+}
+
 // Whether the event is permitted now, and passes no limit.
 fn may_happen(player: &Player, event: &Event) -> Result<bool, AllocError>
     ensures { IfOk result (λ may. may ≡ false → told_in player.now event.now (state_in player.now) ≡ None) }
@@ -84,24 +101,6 @@ fn may_happen(player: &Player, event: &Event) -> Result<bool, AllocError>
         Err(WorldFault::NoMemory) => Err(AllocError),
         Err(WorldFault::NotNow(_)) => Ok(false),
         Err(WorldFault::Full) => Ok(false),
-    }
-}
-
-// The packet is held back while the calm makes `events` events, and then delivered.
-fn deliver_late(
-    alloc: Global,
-    player: &mut Player,
-    packet: u64,
-    events: u64,
-) -> Result<bool, AllocError>
-    ensures { Tries player.old (befallen_in player.old (world_in player.old.world).fence (fault.Late packet events)) result player.new }
-{
-    player.drop_packet(packet)?;
-    let newest = player.world.newest();
-    match player.calm_for(alloc, newest, None, events) {
-        Ok(()) => player.tell(Event::Deliver { packet }),
-        Err(PlayerFault::Full) => Ok(false),
-        Err(PlayerFault::NoMemory) => Err(AllocError),
     }
 }
 
@@ -117,6 +116,16 @@ fn crash(player: &mut Player, k: u32, kept: u64) -> Result<bool, AllocError>
         start(player, k, 0)
     } else {
         Ok(false)
+    }
+}
+
+// The next master starts, if `k` is not alive.
+fn start_next(player: &mut Player, k: u32) -> Result<bool, AllocError>
+    ensures { Tries player.old (befallen_in player.old k fault.Next) result player.new }
+{
+    match player.world.unflushed(k) {
+        Some(_) => Ok(false),
+        None => start(player, k, 0),
     }
 }
 

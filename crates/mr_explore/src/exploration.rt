@@ -1,16 +1,18 @@
 //! An exploration: runs are made, one after the other, and what comes of them is noted.
 ghost use Rattle.std.specs.Prelude.{◌≡◌, IfOk, IfErr, OnOk};
+ghost use Rattle.std.specs.Option.{option_map};
 ghost use Rattle.mr_explore_ends.specs.Table.{noted};
 ghost use Rattle.mr_explore_search.specs.Taking.{no_more};
-ghost use Rattle.mr_explore.specs.Exploring.{Begins, ExploreFails, Makes, MakesOne, came};
+ghost use Rattle.mr_explore.specs.Exploring.{Begins, ExploreFails, Makes, MakesOne, came, is_sought, meets_goal};
 ghost use Rattle.mr_explore.specs.inner.Players.{fault_of};
 
 use crate::explored::Explored;
 use crate::watch::Watch;
 use crate::winners::Winners;
-use mr_explore_ends::Table;
+use mr_explore_ends::{Outcome, Table, meets};
 use mr_explore_search::{Ended, Walk, WalkFault};
 use mr_play::mr_world::MAX_EVENTS;
+use mr_script::Expectation;
 use mr_sim_commands::SimFault;
 use std::alloc::{AllocError, Global};
 use std::marker::Model;
@@ -55,14 +57,20 @@ impl Exploration {
         }
     }
 
-    /// Makes at most `runs` runs more, and notes their ends. Every 100,000 runs it tells how far it is.
+    /// Makes at most `runs` runs more, and notes their ends. Where an end is sought, no run is made behind the first that came to it. Every 100,000 runs it tells how far it is.
     ///
     /// Refusals: `Full` where a run would pass a limit of the world, or an allocation failure.
-    pub fn make<W: Watch>(&mut self, alloc: Global, runs: u64, watch: &W) -> Result<(), SimFault>
-        ensures { Makes runs self.old result self.new }
+    pub fn make<W: Watch>(
+        &mut self,
+        alloc: Global,
+        runs: u64,
+        goal: Option<&[Expectation]>,
+        watch: &W,
+    ) -> Result<(), SimFault>
+        ensures { Makes runs (option_map (λ g. g.now) goal.entry) self.old result self.new }
     {
         for _ in 0..runs {
-            if !self.make_one(alloc)? {
+            if !self.make_one(alloc, goal)? {
                 return Ok(());
             }
             self.tell(watch);
@@ -70,20 +78,14 @@ impl Exploration {
         Ok(())
     }
 
-    // Makes a run more, and notes its end; whether there was one.
-    fn make_one(&mut self, alloc: Global) -> Result<bool, SimFault>
-        ensures { MakesOne self.old result self.new }
+    // Makes a run more, and notes its end; whether there was one that came to no end that is sought.
+    fn make_one(&mut self, alloc: Global, goal: Option<&[Expectation]>) -> Result<bool, SimFault>
+        ensures { MakesOne (option_map (λ g. g.now) goal.entry) self.old result self.new }
     {
         match self.walk.next_run(alloc) {
             Ok(Some(ended)) => {
-                note(
-                    alloc,
-                    &mut self.table,
-                    &mut self.winners,
-                    &ended,
-                    self.faults,
-                )?;
-                Ok(true)
+                let met = note(alloc, &mut self.table, &mut self.winners, &ended, goal)?;
+                Ok(!met)
             }
             Ok(None) => Ok(false),
             Err(fault) => Err(sim_fault(fault)),
@@ -119,21 +121,32 @@ impl Exploration {
     }
 }
 
-// A run came to its end. `faults` is how many faults a run has at most.
+// A run came to its end; whether that is one that is sought.
 fn note(
     alloc: Global,
     table: &mut Table,
     winners: &mut Winners,
     ended: &Ended<Explored>,
-    faults: u32,
-) -> Result<(), AllocError>
-    ensures { OnOk result (table.new ≡ noted (came faults (record { spare = ended.now.spare; run = ended.now.run })) table.old) }
+    goal: Option<&[Expectation]>,
+) -> Result<bool, AllocError>
+    ensures noted { OnOk result (table.new ≡ noted (came (record { faults = ended.now.faults; run = ended.now.run })) table.old) }
+    ensures met { IfOk result (λ met. met ≡ meets_goal (option_map (λ g. g.now) goal.entry) (record { faults = ended.now.faults; run = ended.now.run })) }
 {
     let world = ended.run.world();
     let end = winners.outcome_of(alloc, world)?;
-    let faults = faults.saturating_sub(ended.spare);
-    table.note(alloc, end, faults, world.journal())?;
-    Ok(())
+    let met = is_sought(goal, &end);
+    table.note(alloc, end, ended.faults, world.journal())?;
+    Ok(met)
+}
+
+// Whether an end is one that is sought.
+fn is_sought(goal: Option<&[Expectation]>, end: &Outcome) -> bool
+    ensures { result ≡ is_sought (option_map (λ g. g.now) goal.entry) end.now }
+{
+    match goal {
+        Some(goal) => meets(goal, end),
+        None => false,
+    }
 }
 
 // The fault of a walk, as that of an exploration.

@@ -10,7 +10,7 @@ ghost use Rattle.mr_explore.specs.inner.Players.{CannotBegin, view_of};
 use crate::befall::{befall, may_befall};
 use crate::faults_at::faults_at;
 use crate::going;
-use mr_explore_faults::Fault;
+use mr_explore_faults::{Fault, later};
 use mr_explore_search::{Run, WalkFault};
 use mr_play::mr_world::World;
 use mr_play::{Player, PlayerFault, played};
@@ -88,8 +88,12 @@ impl Run for Explored {
         }
     }
 
-    fn befall(&mut self, alloc: Global, fault: Fault) -> Result<bool, WalkFault> {
-        match befall(alloc, &mut self.player, fault) {
+    fn later(&self, fault: &Fault) -> Option<Fault> {
+        later(fault)
+    }
+
+    fn befall(&mut self, _alloc: Global, fault: Fault) -> Result<bool, WalkFault> {
+        match befall(&mut self.player, fault) {
             Ok(befell) => Ok(befell),
             Err(_) => Err(WalkFault::NoMemory),
         }

@@ -4,14 +4,14 @@ ghost use Rattle.std.specs.List.{flat_map};
 ghost use Rattle.mr_explore_faults.specs.Kinds.{of_kept};
 ghost use Rattle.mr_play.specs.mr_world.specs.Histories.{stable_bytes};
 ghost use Rattle.mr_play.specs.mr_world.specs.Journal.{history_in, world_in};
-ghost use Rattle.mr_explore.specs.Faults.{ends_behind};
-ghost use Rattle.mr_explore.specs.inner.Players.{faults_in, kept_after, kept_of, length_in, listed_in, next_in, of_crashes_in, of_event_in, of_world_in};
+ghost use Rattle.mr_explore.specs.Faults.{ends_behind, of_event};
+ghost use Rattle.mr_explore.specs.inner.Players.{faults_in, kept_after, kept_of, listed_in, next_in, of_crashes_in, of_world_in};
 
-use crate::going::{go_further, run_length};
+use crate::going::go_further;
 use crate::vain::living;
 use mr_explore_faults::{
-    Fault, add_of_bag, add_of_containers, add_of_ends, add_of_kept, add_of_nodes, add_of_packet,
-    add_of_tasks, without_next,
+    Fault, add_of_bag, add_of_containers, add_of_ends, add_of_kept, add_of_nodes, add_of_tasks,
+    without_next,
 };
 use mr_ids::TaskKind;
 use mr_play::mr_world::World;
@@ -38,7 +38,7 @@ fn listed(
     ensures { IfOk result (λ faults. faults ≡ listed_in player.now next.now) }
 {
     let mut faults = LinkedList::new(alloc);
-    add_of_event(alloc, &mut faults, player, next)?;
+    add_of_event(&mut faults, next)?;
     add_of_world(&mut faults, player)?;
     add_of_crashes(alloc, &mut faults, player)?;
     Ok(faults)
@@ -78,14 +78,9 @@ fn add_of_crashes(
     add_of_unflushed(alloc, faults, player)
 }
 
-// A store call that fails, or a packet that is lost or late.
-fn add_of_event(
-    alloc: Global,
-    faults: &mut LinkedList<Fault>,
-    player: &Player,
-    next: &Option<Event>,
-) -> Result<(), AllocError>
-    ensures { OnOk result (faults.new ≡ faults.old ++ of_event_in player.now next.now) }
+// A store call that fails, or a packet that is passed over.
+fn add_of_event(faults: &mut LinkedList<Fault>, next: &Option<Event>) -> Result<(), AllocError>
+    ensures { OnOk result (faults.new ≡ faults.old ++ of_event next.now) }
 {
     match next {
         Some(Event::Duty { .. }) => {
@@ -99,8 +94,7 @@ fn add_of_event(
             Ok(())
         }
         Some(Event::Deliver { packet }) => {
-            let events = length_without(alloc, player, *packet)?;
-            add_of_packet(faults, *packet, events)?;
+            faults.push_back(Fault::Lost(*packet))?;
             Ok(())
         }
         _ => Ok(()),
@@ -134,15 +128,6 @@ fn event_at(world: &World, place: usize) -> Result<Option<Event>, AllocError>
         Some(event) => Ok(Some(event.copy()?)),
         None => Ok(None),
     }
-}
-
-// How many events the run makes by itself without the packet.
-fn length_without(alloc: Global, player: &Player, packet: u64) -> Result<u64, AllocError>
-    ensures { IfOk result (λ events. events ≡ length_in player.now packet) }
-{
-    let mut ahead = player.fork(alloc)?;
-    ahead.drop_packet(packet)?;
-    run_length(alloc, &mut ahead)
 }
 
 // What the newest master did not flush stays up to the end of one of its records.

@@ -1,27 +1,29 @@
 //! Every run of a job with at most a given number of faults, and the shortest script to each end.
 //!
 //! A job text with a script is played, and goes on as a calm of the newest master does. Into this calm faults are
-//! put, at each place. What one fault is, and where it may befall a run, is defined in `specs/Faults` (and its kinds
-//! in mr_explore_faults). Which runs there are is defined in `specs/Runs`, and what `explore` prints in `specs/Explored`.
-//! What is told of the ends of runs is defined in `specs/Ends` and in mr_explore_ends. What a run came to is a value
-//! (`outcome_of` of `specs/Exploring`), and is written as `play` prints its cluster (`outcomes_are_printed`).
+//! put, at each place. What one puts off, as a packet that was passed over, comes at any later place. What one fault
+//! is, and where it may befall a run, is defined in `specs/Faults` (and its kinds in mr_explore_faults). Which runs
+//! there are is defined in `specs/Runs`, and what `explore` prints in `specs/Explored`. What is told of the ends of runs
+//! is defined in `specs/Ends` and in mr_explore_ends. What a run came to is a value (`outcome_of` of `specs/Exploring`),
+//! and is written as `play` prints its cluster (`outcomes_are_printed`).
 //!
 //! # What is proved
 //!
 //! - **What `explore` prints** (`explore_output`, for every input): exactly the text of the definitions
 //!   (`PrintsExplored`), byte for byte. Of all runs with at most as many faults as are asked for, the first `most`
-//!   were made, or all. The text tells of their ends. A fault is one that the input has (`ExploredFails`): the first
-//!   bad key of the job text, else the first bad line of the script, else `Full`. A limit may be passed by the
-//!   script, by the first master's start, or by one of these runs.
+//!   were made, or all, or those up to the first that came to the end that is sought. The text tells of their ends. A
+//!   fault is one that the input has (`ExploredFails`): the first bad key of the job text, else the first bad line of
+//!   the script, else `Full`. A limit may be passed by the script, by the first master's start, or by one of these runs.
 //! - **A run is one of mr_explore_search's** (`Explored`): its calm, where it has ended, what may befall it at a place, and what
 //!   then comes of it are exactly those of the definitions. It has ended where its calm has, or where it goes on in
 //!   vain (`specs/Vain`): all who live wait for their masters, and the calm's next events are their questions alone.
 //!   In these events nothing changes of what `play` prints (`asking_shows_nothing`). That nothing comes of such a run
 //!   behind them is reckoned in the README, and not proved.
 //! - **The runs that are made are exactly those of the definition, in its order, each once** (`Exploration::new`,
-//!   `make`). At first all runs are left that come of the first one by at most `faults` faults (`runs_with`, of which
-//!   mr_explore_search says that these are all). Each call of `make` takes the first of those that are left and notes their
-//!   ends. `is_whole` says whether none is left. A call returns, since it makes at most `runs` runs.
+//!   `make`). At first all runs are left that come of the first one by at most `faults` faults, those of fewer faults
+//!   first (`runs_with`, of which mr_explore_search says that these are all: `runs_are_all_that_depart`). Each call of
+//!   `make` takes the first of those that are left and notes their ends. `is_whole` says whether none is left. A call
+//!   returns, since it makes at most `runs` runs.
 //! - **The first run is the one that `play` plays**: what it computes is what the job text says, and it is as far as
 //!   the script. Where no master was started, the first one's start comes next (`IsRunOf`). An input has one such run
 //!   at most, and nothing is printed of an input that is refused (`explored_or_refused`).

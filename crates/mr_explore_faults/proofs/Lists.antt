@@ -26,7 +26,3 @@ module _ {X : Type 0} where
 
   pub one_mapped : (f : ℕ → X) (start before after : List X) (n : ℕ) → before ≡ start ++ map f (range_with_len 0 n) → after ≡ before ++ f n ∷ [] → after ≡ start ++ map f (range_with_len 0 (n + 1))
   one_mapped f start before after n h e = e ∙ (ap (λ xs. xs ++ f n ∷ []) h ∙ (append_assoc start (map f (range_with_len 0 n)) (f n ∷ []) ∙ ap (λ xs. start ++ xs) (sym (map_more f n))))
-
-  -- the same behind a first one
-  pub one_behind : (f : ℕ → X) (x : X) (start before after : List X) (n : ℕ) → before ≡ start ++ x ∷ map f (range_with_len 0 n) → after ≡ before ++ f n ∷ [] → after ≡ start ++ x ∷ map f (range_with_len 0 (n + 1))
-  one_behind f x start before after n h e = e ∙ (ap (λ xs. xs ++ f n ∷ []) h ∙ (append_assoc start (x ∷ map f (range_with_len 0 n)) (f n ∷ []) ∙ ap (λ xs. start ++ x ∷ xs) (sym (map_more f n))))

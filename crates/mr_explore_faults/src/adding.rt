@@ -2,7 +2,7 @@
 ghost use Rattle.std.specs.Prelude.{◌≡◌, ◌++◌, OnOk, map};
 ghost use Rattle.std.specs.List.{flat_map, list_any, range_with_len};
 ghost use Rattle.mr_explore_faults.specs.declared.fault.Fault.TheVariants as fault;
-ghost use Rattle.mr_explore_faults.specs.Kinds.{ends_from, is_delivery, of_attempts, of_delivered, of_kept, of_node, of_packet, of_tasks};
+ghost use Rattle.mr_explore_faults.specs.Kinds.{ends_from, is_delivery, of_attempts, of_delivered, of_kept, of_node, of_tasks};
 
 use crate::fault::Fault;
 use mr_ids::{JobId, TaskId, TaskKind};
@@ -130,22 +130,8 @@ pub fn add_of_kept(faults: &mut LinkedList<Fault>, kept: u64) -> Result<(), Allo
     ensures { OnOk result (faults.new ≡ faults.old ++ of_kept kept) }
 {
     faults.push_back(Fault::Crash(kept))?;
+    faults.push_back(Fault::Halt(kept))?;
     faults.push_back(Fault::Superseded(kept))?;
     faults.push_back(Fault::SupersededLate(kept))?;
-    Ok(())
-}
-
-/// The packet is lost, or late by 1 to `events` events.
-pub fn add_of_packet(
-    faults: &mut LinkedList<Fault>,
-    packet: u64,
-    events: u64,
-) -> Result<(), AllocFailed<Fault>>
-    ensures { OnOk result (faults.new ≡ faults.old ++ of_packet packet events) }
-{
-    faults.push_back(Fault::Lost(packet))?;
-    for number in 0..events {
-        faults.push_back(Fault::Late(packet, number + 1))?;
-    }
     Ok(())
 }

@@ -3,6 +3,8 @@
 //! # What is proved
 //!
 //! - The calls named `add_of_..` put exactly the faults of their kind behind a list, each in its place (`specs/Kinds`): none is left out.
+//! - `later` answers exactly what a fault puts off: that a packet that was passed over comes, or that the next master
+//!   starts (`later` of `specs/Kinds`).
 //! - `without_next` takes from a list exactly those that are what comes next anyway (`specs/Next`). So a run without
 //!   a fault is never told as one with a fault.
 //!
@@ -14,8 +16,7 @@ mod fault;
 mod next;
 
 pub use adding::{
-    add_of_bag, add_of_containers, add_of_ends, add_of_kept, add_of_nodes, add_of_packet,
-    add_of_tasks,
+    add_of_bag, add_of_containers, add_of_ends, add_of_kept, add_of_nodes, add_of_tasks,
 };
-pub use fault::Fault;
+pub use fault::{Fault, later};
 pub use next::without_next;

@@ -1,3 +1,5 @@
 mod Coming
 mod Finishing
+mod Looking
+mod Passes
 mod Turning

@@ -15,6 +15,8 @@ pub record Steps (S F : Type 0) : Type 0 where
   pub faults : S → List F
   -- what comes of it; none where the fault can't befall it there
   pub befallen : F → S → Option S
+  -- What a fault puts off, if it does: that may come later, once, and is no fault.
+  pub later : F → Option F
 
 -- no limit was passed: there was no memory, or a run could not be made once more
 abbrev pub IsNotFull : WalkFault → Type 0

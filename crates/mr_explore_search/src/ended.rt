@@ -4,6 +4,6 @@
 #[derive(Debug, Drop)]
 pub struct Ended<R> {
     pub run: R,
-    /// How many faults more it might have had.
-    pub spare: u32,
+    /// How many faults it has.
+    pub faults: u32,
 }

@@ -1,10 +1,12 @@
-//! Walks over every run that comes of one by at most a given number of faults.
+//! Walks over every run that comes of one by at most a given number of faults, those of fewer faults first.
 //!
 //! # What is proved
 //!
 //! Contracts see a `Walk` as the list of the runs that are left. For whatever a `Run` does, tells and is befallen by:
 //!
-//! - `Walk::new` has before it exactly the runs of the definition (`runs` of `specs/Runs`): at each place each fault, and behind a fault the same with one fault less.
+//! - `Walk::new` has before it exactly the runs of the definition (`runs` of `specs/Runs`): at each place each fault, and what an earlier one put off; first the run without a fault, then those with one, and so on.
+//! - These are all runs that depart at so many places from how the first one goes on (`runs_are_all_that_depart`). What a
+//!   fault put off may come at any later place, behind other faults too, once, or never, and is no departure.
 //! - `next_run` makes the first of those that are left, and leaves the others, so each is made once. Where it answers
 //!   no run, all were made (`Takes`).
 //! - `is_done` says whether none is left.
@@ -15,10 +17,13 @@
 //! for those calls to say.
 #![tactic(auto)]
 
+mod chances;
 mod ended;
 mod fault;
 mod laws;
 mod level;
+mod next;
+mod owed;
 mod run;
 mod stack;
 mod turn;
@@ -26,6 +31,6 @@ mod walk;
 
 pub use ended::Ended;
 pub use fault::WalkFault;
-pub use laws::runs_are_all_that_comes;
+pub use laws::runs_are_all_that_depart;
 pub use run::Run;
 pub use walk::Walk;

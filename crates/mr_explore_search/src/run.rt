@@ -8,10 +8,10 @@ use std::collections::LinkedList;
 
 /// A run that goes on by itself, and that faults may befall.
 pub trait Run: Drop {
-    /// What may befall it.
-    type Fault: Drop;
+    /// What may befall it, or come later.
+    type Fault: Copy + Drop;
 
-    /// How it goes on, what may befall it where it is, and what then comes of it.
+    /// How it goes on, what may befall it where it is, what then comes of it, and what is put off.
     ghost steps: { Steps Self Self.Fault };
 
     /// A run of its own, as far as this one.
@@ -27,6 +27,10 @@ pub trait Run: Drop {
     fn faults(&self, alloc: Global) -> Result<LinkedList<Self::Fault>, WalkFault>
         ensures is { IfOk result (λ faults. faults ≡ steps.faults self.now) }
         ensures fault { IfErr result IsNotFull };
+
+    /// What the fault puts off, if it does: it may come at any place behind the next one, once, and is no fault then.
+    fn later(&self, fault: &Self::Fault) -> Option<Self::Fault>
+        ensures { result ≡ steps.later fault.now };
 
     /// Whether the fault may be tried where it is. Where not, it can't befall it there, so no run need be forked for it.
     fn may_befall(&self, _fault: &Self::Fault) -> Result<bool, WalkFault>

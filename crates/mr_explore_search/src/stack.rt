@@ -1,6 +1,5 @@
 //! A stack: what came last is on top.
 ghost use Rattle.std.specs.Prelude.{◌≡◌, [], ◌∷◌, OnOk, IfSome, IfNone};
-ghost use Rattle.mr_explore_search.specs.Taking.{no_more};
 
 use std::alloc::{AllocFailed, Global};
 use std::marker::Model;
@@ -42,19 +41,5 @@ impl<T: Drop> Stack<T> {
         ensures none { IfNone result ((self.old ≡ []) × (self.new ≡ [])) }
     {
         self.items.pop()
-    }
-
-    /// All comes off.
-    pub fn clear(&mut self)
-        ensures { self.new ≡ [] }
-    {
-        self.items.clear();
-    }
-
-    /// Whether there is nothing.
-    pub fn is_empty(&self) -> bool
-        ensures { result ≡ no_more self.now }
-    {
-        self.items.is_empty()
     }
 }

@@ -1,8 +1,9 @@
-//! Turns of a walk: a fault is tried, or a run goes on.
-ghost use Rattle.std.specs.Prelude.{◌≡◌, ℕ, List, [], ◌∷◌, Some, IfOk, IfErr, OnOk};
+//! Turns of a walk: a departure is tried, or a run goes on.
+ghost use Rattle.std.specs.Prelude.{◌≡◌, ◌<◌, ℕ, length, slice_get, List, [], ◌∷◌, Some, IfOk, IfErr, OnOk};
 ghost use Rattle.mr_explore_search.specs.Steps.{IsNotFull};
-ghost use Rattle.mr_explore_search.specs.inner.Stack.{Finishes, Further, NextOf, Turned, opened, pushed, worth};
+ghost use Rattle.mr_explore_search.specs.inner.Stack.{Finishes, Further, NextOf, Turned, child, is_over, opened, run_if, with_fault, with_owed, worth};
 
+use crate::chances::Chances;
 use crate::ended::Ended;
 use crate::fault::WalkFault;
 use crate::level::Level;
@@ -22,61 +23,59 @@ fn faults_of<R: Run>(alloc: Global, run: &R, spare: u32) -> Result<LinkedList<R:
     run.faults(alloc)
 }
 
-/// A run comes on top, with all that is to be tried where it is.
+/// A place comes on top, with all that is to be tried there. Of what was put off the first `ripe` may come there.
 pub fn open<R: Run>(
     alloc: Global,
     levels: &mut Stack<Level<R, R::Fault>>,
     run: R,
-    spare: u32,
+    chances: Chances<R::Fault>,
+    ripe: usize,
     left: u64,
 ) -> Result<(), WalkFault>
-    ensures opens { OnOk result (levels.new ≡ opened R.steps spare left run ∷ levels.old) }
+    ensures opens { OnOk result (levels.new ≡ opened R.steps chances ripe left run ∷ levels.old) }
     ensures fault { IfErr result IsNotFull }
 {
-    let faults = faults_of(alloc, &run, spare)?;
+    let faults = faults_of(alloc, &run, chances.spare)?;
     levels.push(Level {
         run,
         faults,
-        spare,
+        late: ripe,
         left,
+        chances,
     })?;
     Ok(())
 }
 
-// What a fault made of a run comes on top, if a fault was to be spared.
-fn open_behind<R: Run>(
-    alloc: Global,
+// Nothing is tried. The level stays.
+fn leave<R: Run>(
     levels: &mut Stack<Level<R, R::Fault>>,
-    run: R,
-    spare: u32,
-    most: u64,
+    level: Level<R, R::Fault>,
 ) -> Result<(), WalkFault>
-    ensures opens { OnOk result (levels.new ≡ pushed R.steps most spare (Some run) levels.old) }
+    ensures stays { OnOk result (levels.new ≡ level ∷ levels.old) }
     ensures fault { IfErr result IsNotFull }
 {
-    if spare == 0 {
-        return Ok(());
-    }
-    open(alloc, levels, run, spare - 1, most)
+    levels.push(level)?;
+    Ok(())
 }
 
-// The fault is tried on a run that was forked off the level, which stays.
+// A departure is tried on a run that was forked off the level, which stays. Behind it there are these chances.
 fn try_on_fork<R: Run>(
     alloc: Global,
     levels: &mut Stack<Level<R, R::Fault>>,
     most: u64,
     level: Level<R, R::Fault>,
     fault: R::Fault,
+    chances: Chances<R::Fault>,
+    ripe: usize,
 ) -> Result<(), WalkFault>
-    ensures tries { OnOk result (levels.new ≡ pushed R.steps most level.spare (R.steps.befallen fault level.run) (level ∷ levels.old)) }
+    ensures tries { OnOk result (levels.new ≡ child R.steps most chances ripe (R.steps.befallen fault level.run) (level ∷ levels.old)) }
     ensures fault { IfErr result IsNotFull }
 {
     let mut run = level.run.fork(alloc)?;
     let befell = run.befall(alloc, fault)?;
-    let spare = level.spare;
     levels.push(level)?;
     if befell {
-        open_behind(alloc, levels, run, spare, most)
+        open(alloc, levels, run, chances, ripe, most)
     } else {
         Ok(())
     }
@@ -90,33 +89,109 @@ fn try_fault<R: Run>(
     level: Level<R, R::Fault>,
     fault: R::Fault,
 ) -> Result<(), WalkFault>
-    ensures tries { OnOk result (levels.new ≡ pushed R.steps most level.spare (R.steps.befallen fault level.run) (level ∷ levels.old)) }
+    ensures tries { OnOk result (levels.new ≡ with_fault R.steps most level.chances level.run fault (level ∷ levels.old)) }
     ensures fault { IfErr result IsNotFull }
 {
-    if level.run.may_befall(&fault)? {
-        try_on_fork(alloc, levels, most, level, fault)
-    } else {
-        levels.push(level)?;
-        Ok(())
+    let spare = level.chances.spare;
+    if spare == 0 {
+        return leave(levels, level);
+    }
+    let departs = level.chances.departs;
+    if departs == 0 {
+        return leave(levels, level);
+    }
+    if !level.run.may_befall(&fault)? {
+        return leave(levels, level);
+    }
+    let later = level.run.later(&fault);
+    let owed = level.chances.owed.with(alloc, later)?;
+    let ripe = level.chances.owed.len();
+    let chances = Chances {
+        owed,
+        spare: spare - 1,
+        departs: departs - 1,
+        total: level.chances.total,
+    };
+    try_on_fork(alloc, levels, most, level, fault, chances, ripe)
+}
+
+// What was put off, and stands at this place, is tried. The level stays.
+fn try_owed<R: Run>(
+    alloc: Global,
+    levels: &mut Stack<Level<R, R::Fault>>,
+    most: u64,
+    level: Level<R, R::Fault>,
+    place: usize,
+) -> Result<(), WalkFault>
+    ensures tries { OnOk result (levels.new ≡ with_owed R.steps most level.chances level.run place (slice_get level.chances.owed place) (level ∷ levels.old)) }
+    ensures fault { IfErr result IsNotFull }
+{
+    match level.chances.owed.get(place) {
+        Some(fault) => try_late(alloc, levels, most, level, place, fault),
+        None => leave(levels, level),
     }
 }
 
-// A run goes on by itself up to its end, where no fault more may befall it.
+// The same, of this fault.
+fn try_late<R: Run>(
+    alloc: Global,
+    levels: &mut Stack<Level<R, R::Fault>>,
+    most: u64,
+    level: Level<R, R::Fault>,
+    place: usize,
+    fault: R::Fault,
+) -> Result<(), WalkFault>
+    requires { place < length level.chances.owed }
+    ensures tries { OnOk result (levels.new ≡ with_owed R.steps most level.chances level.run place (Some fault) (level ∷ levels.old)) }
+    ensures fault { IfErr result IsNotFull }
+{
+    let departs = level.chances.departs;
+    if departs == 0 {
+        return leave(levels, level);
+    }
+    if !level.run.may_befall(&fault)? {
+        return leave(levels, level);
+    }
+    let owed = level.chances.owed.without(alloc, place)?;
+    let ripe = owed.len();
+    let chances = Chances {
+        owed,
+        spare: level.chances.spare,
+        departs: departs - 1,
+        total: level.chances.total,
+    };
+    try_on_fork(alloc, levels, most, level, fault, chances, ripe)
+}
+
+// A run goes on by itself up to its end, where it departs no more.
 fn finish<R: Run>(alloc: Global, level: Level<R, R::Fault>) -> Result<Ended<R>, WalkFault>
-    ensures { Finishes R.steps level.left level.run result }
+    ensures { Finishes R.steps level.chances.total level.left level.run result }
 {
     let Level {
         mut run,
         faults: _,
-        spare: _,
+        late: _,
         left,
+        chances,
     } = level;
+    let faults = chances.total;
     for _ in 0..left {
         if !run.go_on(alloc)? {
-            return Ok(Ended { run, spare: 0 });
+            return Ok(Ended { run, faults });
         }
     }
-    Ok(Ended { run, spare: 0 })
+    Ok(Ended { run, faults })
+}
+
+// The run, if it has all its faults.
+fn run_if<R: Run>(spare: u32, total: u32, run: R) -> Option<Ended<R>>
+    ensures { result ≡ run_if spare total run }
+{
+    if spare == 0 {
+        Some(Ended { run, faults: total })
+    } else {
+        None
+    }
 }
 
 // A run goes on by itself, from where all was tried.
@@ -130,34 +205,62 @@ fn go_further<R: Run>(
     let Level {
         mut run,
         faults: _,
-        spare,
+        late: _,
         left,
+        chances,
     } = level;
     if left == 0 {
-        return Ok(Some(Ended { run, spare }));
+        return Ok(run_if(chances.spare, chances.total, run));
     }
     if run.go_on(alloc)? {
-        open(alloc, levels, run, spare, left - 1)?;
+        let ripe = chances.owed.len();
+        open(alloc, levels, run, chances, ripe, left - 1)?;
         Ok(None)
     } else {
-        Ok(Some(Ended { run, spare }))
+        Ok(run_if(chances.spare, chances.total, run))
     }
 }
 
-// A level goes on, from where all was tried: up to its end, where no fault more may befall its run.
+// Whether no fault more may come, and nothing was put off.
+fn is_over<F: Copy + Drop>(chances: &Chances<F>) -> bool
+    ensures { result ≡ is_over chances.now }
+{
+    chances.spare == 0 && chances.owed.is_empty()
+}
+
+// A level goes on, from where all was tried: up to its end, where its run departs no more.
 fn go_from<R: Run>(
     alloc: Global,
     levels: &mut Stack<Level<R, R::Fault>>,
     level: Level<R, R::Fault>,
 ) -> Result<Option<Ended<R>>, WalkFault>
-    ensures { (faults : List R.Fault) → faults ≡ [] → (most : ℕ) → Turned R.steps most (record level { faults = faults } ∷ levels.old) result levels.new }
+    ensures { (faults : List R.Fault) (late : ℕ) → faults ≡ [] → late ≡ 0 → (most : ℕ) → Turned R.steps most (record level { faults = faults; late = late } ∷ levels.old) result levels.new }
 {
-    if level.spare == 0 {
+    if is_over(&level.chances) {
         let ended = finish(alloc, level)?;
         Ok(Some(ended))
     } else {
         go_further(alloc, levels, level)
     }
+}
+
+// The level that was on top makes a turn, where no fault is left to be tried.
+fn turn_late<R: Run>(
+    alloc: Global,
+    levels: &mut Stack<Level<R, R::Fault>>,
+    most: u64,
+    mut level: Level<R, R::Fault>,
+) -> Result<Option<Ended<R>>, WalkFault>
+    requires { level.faults ≡ [] }
+    ensures { Turned R.steps most (level ∷ levels.old) result levels.new }
+{
+    if level.late == 0 {
+        return go_from(alloc, levels, level);
+    }
+    let place = level.late - 1;
+    level.late = place;
+    try_owed(alloc, levels, most, level, place)?;
+    Ok(None)
 }
 
 // The level that was on top makes a turn.
@@ -174,7 +277,7 @@ fn turn<R: Run>(
             try_fault(alloc, levels, most, level, fault)?;
             Ok(None)
         }
-        None => go_from(alloc, levels, level),
+        None => turn_late(alloc, levels, most, level),
     }
 }
 

@@ -1,3 +1,4 @@
 pub mod Alive
 pub mod Winning
 pub mod Same
+pub mod Fewer

@@ -1,13 +1,15 @@
 //! The attempts at a task, as far as the records of a job's history tell.
-ghost use Rattle.std.specs.Prelude.{◌≡◌, not, ◌&&◌, ◌∷◌, nat_lt, count_by, is_some, Some, None, if◌then◌else◌};
-ghost use Rattle.std.specs.List.{list_any};
+ghost use Rattle.std.specs.Prelude.{◌≡◌, not, ◌&&◌, ◌∷◌, nat_lt, count_by, is_some, Some, None, IfOk, if◌then◌else◌};
+ghost use Rattle.std.specs.List.{filter, list_any};
 ghost use Rattle.mr_ids.specs.Same.{same_task};
 ghost use Rattle.mr_out_steps.specs.Standing.{task_of, tells_failure, starts_at, tells_any_start, next_attempt, is_alive_at, first_alive, has_winner, is_idle, or_idle, first_idle, fails_at, fails_out, has_failed_out};
+ghost use Rattle.mr_out_command.specs.Successes.{tells_success};
 ghost use Rattle.mr_out_command.specs.inner.Standing.{alive_of};
 
-use crate::standing::{has_failed, is_same_task, winner};
+use crate::standing::{has_failed, is_same_task, successes, winner};
 use mr_history::Record;
 use mr_ids::{AttemptId, JobId, TaskId, TaskKind};
+use std::alloc::{AllocError, Global};
 
 // Most attempts of a job.
 const MAX_ATTEMPTS: usize = 50_000;
@@ -80,41 +82,71 @@ pub(crate) fn has_winner(records: &[Record], task: &TaskId) -> bool
 }
 
 /// The first of the first tasks of a job that has no winner, and no attempt under way.
+pub(crate) fn first_idle(
+    alloc: Global,
+    job: JobId,
+    records: &[Record],
+    tasks: u32,
+) -> Result<Option<u32>, AllocError>
+    ensures { IfOk result (λ first. first ≡ first_idle job records.now tasks) }
+{
+    let won = successes(alloc, records)?;
+    Ok(first_idle_by(job, records, won.as_slice(), tasks))
+}
+
+// The same, where winners are looked for in the successes alone.
 #[tactic(auto, using(crate::proofs::Alive::one_task, crate::proofs::Alive::no_task))]
-pub(crate) fn first_idle(job: JobId, records: &[Record], tasks: u32) -> Option<u32>
+fn first_idle_by(job: JobId, records: &[Record], successes: &[Record], tasks: u32) -> Option<u32>
+    requires { successes.now ≡ filter tells_success records.now }
     ensures { result ≡ first_idle job records.now tasks }
 {
     let mut first = None;
     for number in 0..tasks {
-        first = or_idle(job, records, number, first);
+        first = or_idle(job, records, successes, number, first);
     }
     first
 }
 
-fn or_idle(job: JobId, records: &[Record], number: u32, first: Option<u32>) -> Option<u32>
+fn or_idle(
+    job: JobId,
+    records: &[Record],
+    successes: &[Record],
+    number: u32,
+    first: Option<u32>,
+) -> Option<u32>
+    requires { successes.now ≡ filter tells_success records.now }
     ensures { result ≡ or_idle job records.now number first }
 {
     match first {
         Some(first) => Some(first),
-        None => if_idle(job, records, number),
+        None => if_idle(job, records, successes, number),
     }
 }
 
-fn if_idle(job: JobId, records: &[Record], number: u32) -> Option<u32>
+fn if_idle(job: JobId, records: &[Record], successes: &[Record], number: u32) -> Option<u32>
+    requires { successes.now ≡ filter tells_success records.now }
     ensures { result ≡ (if is_idle records.now (task_of job number) then Some number else None) }
 {
     let task = task_of(job, number);
-    if is_idle(records, &task) {
+    if is_idle(records, successes, &task) {
         Some(number)
     } else {
         None
     }
 }
 
-fn is_idle(records: &[Record], task: &TaskId) -> bool
+fn is_idle(records: &[Record], successes: &[Record], task: &TaskId) -> bool
+    requires { successes.now ≡ filter tells_success records.now }
     ensures { result ≡ is_idle records.now task.now }
 {
-    !has_winner(records, task) && !is_any_alive(records, task)
+    !is_won(records, successes, task) && !is_any_alive(records, task)
+}
+
+fn is_won(records: &[Record], successes: &[Record], task: &TaskId) -> bool
+    requires { successes.now ≡ filter tells_success records.now }
+    ensures { result ≡ has_winner records.now task.now }
+{
+    has_winner(successes, task)
 }
 
 fn is_any_alive(records: &[Record], task: &TaskId) -> bool

@@ -2,7 +2,7 @@
 ghost use Rattle.std.specs.Prelude.{◌≡◌, ◌||◌, OnOk, IfOk, Some, None, is_some, if◌then◌else◌};
 ghost use Rattle.mr_out_steps.specs.Standing.{standing, winners, is_over, has_winner, first_alive, has_failed_out, task_of};
 ghost use Rattle.mr_out_steps.specs.Commands.{opening, next_call, outcome_in};
-ghost use Rattle.mr_out_steps.specs.Steps.{heard, Takes, acts, turn, goes, begins, begins_with, own_work, publishes, lists, holds, ends, links, empties, follows, noted, reads, listed, fails_now, answer_to, answer_early, is_under_way, is_settled, starts, starts_first, starts_beside, gives_up, starts_over, only_asks, is_to_end};
+ghost use Rattle.mr_out_steps.specs.Steps.{heard, Takes, acts, turn, goes, begins, begins_with, own_work, publishes, lists, holds, ends, links, ends_or, empties, follows, noted, reads, listed, fails_now, answer_to, answer_early, is_under_way, is_settled, starts, starts_first, starts_beside, gives_up, starts_over, only_asks, is_to_end};
 
 use crate::attempts::{
     first_alive, first_idle, has_failed_out, has_winner, is_busy, next_attempt, task_of,
@@ -170,7 +170,7 @@ impl Command {
         if !self.phase.is_listing() {
             self.phase = Phase::Over(Outcome::Failed);
         } else if attempts.is_empty() {
-            self.end();
+            self.end_or(Phase::FindingMarker);
         } else {
             self.kept = attempts;
             self.link_next();
@@ -214,7 +214,7 @@ impl Command {
                 self.begin_ask(a);
                 Ok(())
             }
-            Order::Resume | Order::Publish => self.publish(),
+            Order::Resume | Order::Publish | Order::Forget => self.publish(),
             Order::Abort => self.begin_abort(),
             Order::StartNext => self.start_next(),
             Order::StartAt(number) => self.start_beside(number),
@@ -265,7 +265,7 @@ impl Command {
         if is_over(self.records.as_slice()) {
             return self.publish();
         }
-        match first_idle(self.job, self.records.as_slice(), self.tasks) {
+        match first_idle(self.alloc, self.job, self.records.as_slice(), self.tasks)? {
             Some(number) => {
                 self.phase = self.start(number);
                 Ok(())
@@ -328,7 +328,6 @@ impl Command {
         is_over(self.records.as_slice()) || has_winner(self.records.as_slice(), &task)
     }
 
-    // How an attempt at a task is begun.
     fn start(&self, number: u32) -> Phase
         ensures { result ≡ starts number self.now }
     {
@@ -462,12 +461,21 @@ impl Command {
         ensures { self.new ≡ empties self.old.kept self.old }
     {
         match self.kept.pop_front() {
-            None => self.end(),
+            None => self.end_or(Phase::Forgetting),
             Some(a) => self.phase = Phase::Emptying(a),
         }
     }
 
-    // It ends with what its order is answered.
+    // Nothing is left to publish: who forgets the history goes on with this phase.
+    fn end_or(&mut self, phase: Phase)
+        ensures { self.new ≡ ends_or phase self.old.order self.old }
+    {
+        match self.order {
+            Order::Forget => self.phase = phase,
+            _ => self.end(),
+        }
+    }
+
     fn end(&mut self)
         ensures { self.new ≡ ends self.old }
     {
@@ -480,6 +488,7 @@ impl Command {
         match self.order {
             Order::Done(a) | Order::Fail(a) | Order::Ask(a) => Outcome::Stands(self.standing(a)),
             Order::Resume => Outcome::Finished,
+            Order::Forget => Outcome::Unpublished,
             Order::Abort => over_or(self.records.as_slice(), Outcome::Finished, Outcome::AllWon),
             Order::Publish => over_or(self.records.as_slice(), Outcome::JobOver, Outcome::Finished),
             Order::StartNext | Order::StartAt(_) | Order::StartOver(_) => {

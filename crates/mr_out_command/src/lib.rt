@@ -7,7 +7,7 @@
 //!
 //! - `Command::call`, `outcome` and `took` are exactly `next_call`, `outcome_in` and `heard` of the definitions in
 //!   mr_out_steps, a refusal of memory aside (`Takes`): then the command has ended, as one that was killed there.
-//! - `standing_of`, `winner`, `winners`, `is_over`, `first_alive` and `is_alive_at` say exactly what the records tell.
+//! - `standing_of`, `winner`, `winners`, `successes`, `is_over`, `first_alive` and `is_alive_at` say exactly what the records tell.
 //!
 //! What a run of commands keeps, whatever kills and power cuts come, is said in mr_out_model, over the same
 //! definitions.
@@ -20,4 +20,4 @@ mod standing;
 
 pub use attempts::{first_alive, is_alive_at};
 pub use command::Command;
-pub use standing::{is_over, standing_of, winner, winners};
+pub use standing::{is_over, standing_of, successes, winner, winners};

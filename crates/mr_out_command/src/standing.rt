@@ -1,13 +1,14 @@
 //! What the records of a job's history tell of an attempt, and of the whole job.
 ghost use Rattle.std.specs.Prelude.{◌≡◌, true, None, IfOk, if◌then◌else◌};
-ghost use Rattle.std.specs.List.{list_any};
+ghost use Rattle.std.specs.List.{filter, list_any};
 ghost use Rattle.mr_history.specs.Winner.{winner_in};
 ghost use Rattle.mr_ids.specs.Same.{same_attempt, same_task};
 ghost use Rattle.mr_out_steps.specs.Standing.{tells_start, tells_failure, tells_end, is_over, is_of_job, standing, unwon, beside, task_of, winners, with_winner};
+ghost use Rattle.mr_out_command.specs.Successes.{tells_success};
 ghost use Rattle.mr_out_command.specs.inner.Standing.{success_of};
 
 use crate::attempts::task_of;
-use mr_history::Record;
+use mr_history::{Record, Records};
 use mr_ids::{AttemptId, JobId, TaskId, TaskKind};
 use mr_out_steps::Standing;
 use std::alloc::{AllocError, Global};
@@ -82,7 +83,47 @@ pub fn winners(
     if lacks_last(job, records, tasks) {
         return Ok(None);
     }
-    winners_in_turn(alloc, job, records, tasks)
+    let won = successes(alloc, records)?;
+    winners_by(alloc, job, records, won.as_slice(), tasks)
+}
+
+// The same by the successes alone.
+fn winners_by(
+    alloc: Global,
+    job: JobId,
+    records: &[Record],
+    successes: &[Record],
+    tasks: u32,
+) -> Result<Option<LinkedList<AttemptId>>, AllocError>
+    requires { successes.now ≡ filter tells_success records.now }
+    ensures { IfOk result (λ all. all ≡ winners job records.now tasks) }
+{
+    winners_in_turn(alloc, job, successes, tasks)
+}
+
+/// The records that tell a success, in their order. By them each task has the winner that it has by all.
+pub fn successes(alloc: Global, records: &[Record]) -> Result<Records, AllocError>
+    ensures { IfOk result (λ kept. kept ≡ filter tells_success records.now) }
+{
+    let mut kept = Vec::new(alloc);
+    for item in records {
+        if tells_success(item) {
+            kept.push(*item)?;
+        }
+    }
+    Ok(Records::from_vec(kept))
+}
+
+fn tells_success(told: &Record) -> bool
+    ensures { result ≡ tells_success told.now }
+{
+    match *told {
+        Record::ReduceSucceeded {
+            attempt: _,
+            bytes: _,
+        } => true,
+        _ => false,
+    }
 }
 
 // Whether the last task has no winner: mostly it is the last to have one, and then no other task is looked for.

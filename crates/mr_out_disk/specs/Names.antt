@@ -3,7 +3,7 @@ use Rattle.std.specs.Prelude.{◌==◌, Bool, true, false}
 use Rattle.mr_ids.specs.Attempt.{Attempt}
 use Rattle.mr_ids.specs.Same.{same_attempt}
 use Rattle.mr_out_disk.specs.declared.place.Place.{Place}
-use Rattle.mr_out_disk.specs.declared.place.Place.TheVariants.{Part, Marker, Kept, Work, Decision}
+use Rattle.mr_out_disk.specs.declared.place.Place.TheVariants.{Part, Marker, Kept, Work, Decision, Home}
 use Rattle.mr_out_disk.specs.declared.place.Folder.{Folder}
 use Rattle.mr_out_disk.specs.declared.place.Folder.TheVariants as folder
 
@@ -14,6 +14,7 @@ same_place Marker Marker = true
 same_place (Kept a) (Kept b) = same_attempt a b
 same_place (Work a) (Work b) = same_attempt a b
 same_place Decision Decision = true
+same_place Home Home = true
 same_place p q = false
 
 abbrev pub folder_of : Place → Folder
@@ -22,6 +23,7 @@ folder_of Marker = folder.Output
 folder_of (Kept a) = folder.Kept
 folder_of (Work a) = folder.Work
 folder_of Decision = folder.Home
+folder_of Home = folder.Output
 
 abbrev pub same_folder : Folder → Folder → Bool
 same_folder folder.Output folder.Output = true

@@ -27,4 +27,7 @@ pub enum Place {
     Work(AttemptId),
     /// The decision that a held job is published.
     Decision,
+    /// The folder of what the commands keep for themselves: the history, and all that is handed in or written. It stands
+    /// in the output directory, hidden.
+    Home,
 }

@@ -3,6 +3,7 @@ use crate::calls::{enter, look, sync_folder};
 use crate::fault::{Fault, Why};
 use crate::flushed::{boot_of, note_of, write_note};
 use crate::job::Job;
+use crate::making::{Step, steps};
 use crate::mounts::network_disk;
 use std::fs::File;
 use std::io::Write;
@@ -11,7 +12,7 @@ use std::{fs, io};
 /// Makes an output directory with its job, where nothing stands yet. Its parent is there.
 ///
 /// It is made beside its place and renamed there, and all of it is durable once this has answered. Where it fails,
-/// nothing is there; a kill may leave the folder beside it.
+/// nothing is there, but where the last sync does: then it is there whole. A kill may leave the folder beside it.
 pub fn begin(rt: &HostRuntime, dir: &str, job: &Job) -> Result<(), Fault> {
     let (parent, name) = split(dir);
     if name.is_empty() {
@@ -25,7 +26,7 @@ pub fn begin(rt: &HostRuntime, dir: &str, job: &Job) -> Result<(), Fault> {
     let id = job.id;
     let beside = format!(in rt.alloc(); ".{name}.mrout-{id}")?;
     match make(rt, &beside, name, job) {
-        Ok(()) => sync_folder(rt, "."),
+        Ok(()) => Ok(()),
         Err(fault) => {
             let _ = fs::remove_dir_all(rt, beside.as_str());
             Err(fault)
@@ -57,18 +58,42 @@ fn refuse_taken(rt: &HostRuntime, name: &str) -> Result<(), Fault> {
 }
 
 fn make(rt: &HostRuntime, beside: &str, name: &str, job: &Job) -> Result<(), Fault> {
-    let alloc = rt.alloc();
-    let home = format!(in alloc; "{beside}/_mrout")?;
-    make_folders(rt, beside, &home)?;
-    let line = job.line(alloc)?;
-    write_file(rt, &format!(in alloc; "{home}/job")?, &line)?;
-    let history = format!(in alloc; "{home}/history.1")?;
+    for step in steps() {
+        make_step(rt, *step, beside, name, job)?;
+    }
+    Ok(())
+}
+
+fn make_step(
+    rt: &HostRuntime,
+    step: Step,
+    beside: &str,
+    name: &str,
+    job: &Job,
+) -> Result<(), Fault> {
+    let home = format!(in rt.alloc(); "{beside}/_mrout")?;
+    match step {
+        Step::MakeFolders => make_folders(rt, beside, &home),
+        Step::WriteJob => write_job(rt, &home, job),
+        Step::WriteHistory => write_history(rt, &home, name),
+        Step::SyncHome => sync_folder(rt, &home),
+        Step::SyncFolder => sync_folder(rt, beside),
+        Step::Rename => rename(rt, beside, name),
+        Step::SyncParent => sync_folder(rt, "."),
+    }
+}
+
+fn write_job(rt: &HostRuntime, home: &str, job: &Job) -> Result<(), Fault> {
+    let line = job.line(rt.alloc())?;
+    write_file(rt, &format!(in rt.alloc(); "{home}/job")?, &line)
+}
+
+// Writes the empty history, and tries whether its disk will do.
+fn write_history(rt: &HostRuntime, home: &str, name: &str) -> Result<(), Fault> {
+    let history = format!(in rt.alloc(); "{home}/history.1")?;
     write_file(rt, &history, "")?;
-    note(rt, &home, &history)?;
-    try_link(rt, &home, name)?;
-    sync_folder(rt, &home)?;
-    sync_folder(rt, beside)?;
-    rename(rt, beside, name)
+    note(rt, home, &history)?;
+    try_link(rt, home, name)
 }
 
 fn make_folders(rt: &HostRuntime, beside: &str, home: &str) -> Result<(), Fault> {

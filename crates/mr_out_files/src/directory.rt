@@ -3,10 +3,11 @@ use crate::beginning::write_synced;
 use crate::calls::{
     enter, is_changed, is_one, look, look_file, open, read, stat, sync, sync_folder,
 };
+use crate::early::{Early, sync_early};
 use crate::fault::{Fault, Why};
 use crate::history::History;
 use crate::job::{Job, host_of, told};
-use crate::layout::{HOME, JOB, KEPT, WORK, boot_path, path_of, work_folder};
+use crate::layout::{GONE, HOME, JOB, KEPT, WORK, boot_path, path_of, work_folder};
 use crate::lengths::note_lengths;
 use crate::lock::{Lock, locked};
 use crate::removal::clear;
@@ -31,6 +32,8 @@ pub struct Directory {
     // The lock is held as long as this file is open.
     lock: File,
     history: History,
+    // The file that is handed in, as it was synced before the lock was held.
+    early: Option<Early>,
     trouble: Option<Fault>,
 }
 
@@ -56,10 +59,17 @@ fn answered(
 }
 
 impl Directory {
-    /// Goes into a directory, takes its lock, and reads its job.
-    pub fn open(rt: &HostRuntime, dir: &str, lock: Lock) -> Result<Directory, Fault> {
+    /// Goes into a directory, takes its lock, and reads its job. Where an attempt hands in, the file that it wrote is synced
+    /// before the lock is held.
+    pub fn open(
+        rt: &HostRuntime,
+        dir: &str,
+        lock: Lock,
+        handing: Option<AttemptId>,
+    ) -> Result<Directory, Fault> {
         enter(rt, dir)?;
         let history = History::new(rt, !lock.is_shared)?;
+        let early = early_of(rt, handing)?;
         let lock = locked(rt, lock)?;
         let bytes = read(rt, JOB)?;
         let job = Job::read(rt.alloc(), &bytes)?;
@@ -68,6 +78,7 @@ impl Directory {
             job,
             lock,
             history,
+            early,
             trouble: None,
         })
     }
@@ -218,18 +229,29 @@ impl Directory {
         Ok(Answer::Says(Reply::Odd))
     }
 
-    fn sync_right(&self, rt: &HostRuntime, place: &Place) -> Result<Answer, Fault> {
+    fn sync_right(&mut self, rt: &HostRuntime, place: &Place) -> Result<Answer, Fault> {
         self.check_boot(rt, place)?;
         let path = self.path(place)?;
         let Some(named) = look_file(rt, &path)? else {
             return Ok(Answer::Says(Reply::Missing));
         };
+        if self.is_synced(&named)? {
+            return Ok(done());
+        }
         let file = open(rt, &path)?;
         let before = stat(rt, &file, &path)?;
         if !is_one(&named, &before) {
             return Ok(Answer::Says(Reply::Odd));
         }
         self.sync_still(rt, &file, &path, &before)
+    }
+
+    // Whether the file was synced before the lock was held, and is what it was.
+    fn is_synced(&mut self, named: &Metadata) -> Result<bool, Fault> {
+        match self.early.take() {
+            Some(early) => early.is_still(named),
+            None => Ok(false),
+        }
     }
 
     fn sync_still(
@@ -292,6 +314,7 @@ impl Directory {
     fn remove(&self, rt: &HostRuntime, place: &Place) -> Result<Answer, Fault> {
         match *place {
             Place::Work(a) => self.remove_work(rt, a),
+            Place::Home => answered(rt, "rename", HOME, fs::rename(rt, HOME, GONE)),
             _ => {
                 let path = self.path(place)?;
                 answered(rt, "remove", &path, fs::remove_file(rt, path.as_str()))
@@ -323,6 +346,13 @@ impl Directory {
         }
         let path = work_folder(self.alloc, a)?;
         answered(rt, "create", &path, fs::create_dir(rt, path.as_str()))
+    }
+}
+
+fn early_of(rt: &HostRuntime, handing: Option<AttemptId>) -> Result<Option<Early>, Fault> {
+    match handing {
+        Some(a) => sync_early(rt, a),
+        None => Ok(None),
     }
 }
 

@@ -1,4 +1,7 @@
 //! Why a directory is refused, or a call on it failed.
+ghost use Rattle.std.specs.Prelude.{◌≡◌};
+ghost use Rattle.mr_out_files.specs.Faults.{IsRefusal, IsFailure, is_of_path};
+
 use crate::calls::absolute;
 use std::alloc::{AllocError, AllocFailed, Global};
 use std::fmt::{Display, Formatter, Write};
@@ -77,11 +80,13 @@ pub enum Why {
 
 impl Why {
     /// Whether a path is refused, and not a word.
-    pub fn is_of_path(self) -> bool {
-        !matches!(
-            self,
-            Why::BadSuffix | Why::NoAttempt | Why::NoTask | Why::EarlierBoot
-        )
+    pub fn is_of_path(self) -> bool
+        ensures { result ≡ is_of_path self }
+    {
+        match self {
+            Why::BadSuffix | Why::NoAttempt | Why::NoTask | Why::EarlierBoot => false,
+            _ => true,
+        }
     }
 }
 
@@ -177,7 +182,9 @@ impl Fault {
     }
 
     /// A call that failed on a path.
-    pub fn of_call(alloc: Global, what: &'static str, path: &str, error: io::Error) -> Fault {
+    pub fn of_call(alloc: Global, what: &'static str, path: &str, error: io::Error) -> Fault
+        ensures { IsFailure path.now result }
+    {
         if error.kind() == io::ErrorKind::OutOfMemory {
             return Fault::NoMemory;
         }
@@ -188,7 +195,9 @@ impl Fault {
     }
 
     /// What stands at a path is refused.
-    pub fn refused(alloc: Global, path: &str, why: Why) -> Fault {
+    pub fn refused(alloc: Global, path: &str, why: Why) -> Fault
+        ensures { IsRefusal path.now why result }
+    {
         match String::from_str(alloc, path) {
             Ok(path) => Fault::Refused { path, why },
             Err(_) => Fault::NoMemory,

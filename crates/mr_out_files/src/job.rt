@@ -1,4 +1,8 @@
 //! The job of an output directory: one line of JSON, which is written once.
+ghost use Rattle.std.specs.Prelude.{◌≡◌};
+ghost use Rattle.std.specs.List.{list_all};
+ghost use Rattle.mr_out_files.specs.Layout.{is_suffix, begins_well, is_suffix_byte};
+
 use crate::fault::{Fault, Why};
 use crate::layout::JOB;
 use mr_ids::JobId;
@@ -34,13 +38,27 @@ pub struct Job {
 
 /// Whether a text may end the names of part files: it is empty, or begins with a full stop, and has only letters,
 /// digits, full stops, hyphens and low lines, at most `MAX_SUFFIX_LEN` of them.
-pub fn is_suffix(text: &str) -> bool {
-    let bytes = text.as_bytes();
-    let begins = bytes.is_empty() || bytes[0] == b'.';
-    begins && bytes.len() <= MAX_SUFFIX_LEN && bytes.iter().all(|byte| is_plain(*byte))
+pub fn is_suffix(text: &str) -> bool
+    ensures { result ≡ is_suffix text.now }
+{
+    begins_well(text.as_bytes()) && text.len() <= MAX_SUFFIX_LEN && is_all_plain(text)
 }
 
-fn is_plain(byte: u8) -> bool {
+fn begins_well(bytes: &[u8]) -> bool
+    ensures { result ≡ begins_well bytes.now }
+{
+    matches!(bytes.first(), None | Some(b'.'))
+}
+
+fn is_all_plain(text: &str) -> bool
+    ensures { result ≡ list_all is_suffix_byte text.now }
+{
+    text.bytes().all(|byte| is_plain(byte))
+}
+
+fn is_plain(byte: u8) -> bool
+    ensures { result ≡ is_suffix_byte byte }
+{
     byte.is_ascii_alphanumeric() || byte == b'.' || byte == b'-' || byte == b'_'
 }
 

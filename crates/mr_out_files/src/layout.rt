@@ -1,4 +1,9 @@
 //! Which path each name of an output directory has, from the directory itself.
+ghost use Rattle.std.specs.Prelude.{◌≡◌, ◌++◌, codes, IfOk};
+ghost use Rattle.std.specs.String.{string_bytes};
+ghost use Rattle.mr_ids.specs.Text.{attempt_text};
+ghost use Rattle.mr_out_files.specs.Layout.{part_name, kept_path, work_folder, work_path, segment_path, path_of};
+
 use crate::job::Job;
 use mr_ids::AttemptId;
 use mr_out_disk::Place;
@@ -32,17 +37,30 @@ pub const JOB: &str = "_mrout/job";
 pub const DECISION: &str = "_mrout/publish";
 
 /// The name of a task's part file.
-pub fn part_name(alloc: Global, job: &Job, number: u32) -> Result<String, AllocError> {
-    format!(in alloc; "part-r-{number:05}{}", job.suffix.as_str())
+pub fn part_name(alloc: Global, job: &Job, number: u32) -> Result<String, AllocError>
+    ensures { IfOk result (λ s. string_bytes s ≡ part_name (string_bytes job.now.suffix) number) }
+{
+    name_of_part(alloc, job.suffix.as_str(), number)
+}
+
+fn name_of_part(alloc: Global, suffix: &str, number: u32) -> Result<String, AllocError>
+    ensures { IfOk result (λ s. string_bytes s ≡ part_name suffix.now number) }
+{
+    let text = format!(in alloc; "part-r-{number:05}{suffix}")?;
+    Ok(text)
 }
 
 /// The file that an attempt handed in.
-pub fn kept_path(alloc: Global, a: AttemptId) -> Result<String, AllocError> {
+pub fn kept_path(alloc: Global, a: AttemptId) -> Result<String, AllocError>
+    ensures { IfOk result (λ s. string_bytes s ≡ kept_path a) }
+{
     format!(in alloc; "_mrout/kept/{a}")
 }
 
 /// The folder in which an attempt writes.
-pub fn work_folder(alloc: Global, a: AttemptId) -> Result<String, AllocError> {
+pub fn work_folder(alloc: Global, a: AttemptId) -> Result<String, AllocError>
+    ensures { IfOk result (λ s. string_bytes s ≡ work_folder a) }
+{
     format!(in alloc; "_mrout/work/{a}")
 }
 
@@ -52,13 +70,23 @@ pub(crate) fn boot_path(alloc: Global, a: AttemptId) -> Result<String, AllocErro
 }
 
 /// The file that an attempt writes.
-pub fn work_path(alloc: Global, job: &Job, a: AttemptId) -> Result<String, AllocError> {
-    let number = a.task().number;
-    format!(in alloc; "_mrout/work/{a}/part-r-{number:05}{}", job.suffix.as_str())
+pub fn work_path(alloc: Global, job: &Job, a: AttemptId) -> Result<String, AllocError>
+    ensures { IfOk result (λ s. string_bytes s ≡ work_path (string_bytes job.now.suffix) a) }
+{
+    let name = part_name(alloc, job, a.task().number)?;
+    path_of_work(alloc, a, &name)
+}
+
+fn path_of_work(alloc: Global, a: AttemptId, name: &str) -> Result<String, AllocError>
+    ensures { IfOk result (λ s. string_bytes s ≡ codes "_mrout/work/" ++ (attempt_text a ++ (codes "/" ++ name.now))) }
+{
+    format!(in alloc; "_mrout/work/{a}/{name}")
 }
 
 /// The segment of the history with this number, from 1.
-pub fn segment_path(alloc: Global, number: u32) -> Result<String, AllocError> {
+pub fn segment_path(alloc: Global, number: u32) -> Result<String, AllocError>
+    ensures { IfOk result (λ s. string_bytes s ≡ segment_path number) }
+{
     format!(in alloc; "_mrout/history.{number}")
 }
 
@@ -79,12 +107,15 @@ pub(crate) fn segment_named(alloc: Global, name: &str) -> Result<Option<u32>, Al
 }
 
 /// The path of a name.
-pub fn path_of(alloc: Global, job: &Job, place: &Place) -> Result<String, AllocError> {
+pub fn path_of(alloc: Global, job: &Job, place: &Place) -> Result<String, AllocError>
+    ensures { IfOk result (λ s. string_bytes s ≡ path_of (string_bytes job.now.suffix) place.now) }
+{
     match *place {
         Place::Part(number) => part_name(alloc, job, number),
         Place::Marker => String::from_str(alloc, MARKER),
         Place::Kept(a) => kept_path(alloc, a),
         Place::Work(a) => work_path(alloc, job, a),
         Place::Decision => String::from_str(alloc, DECISION),
+        Place::Home => String::from_str(alloc, HOME),
     }
 }

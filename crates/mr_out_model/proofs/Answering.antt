@@ -8,7 +8,7 @@ use Rattle.mr_history.specs.declared.record.Record.{Record}
 use Rattle.mr_history.specs.declared.record.Record.TheVariants.{AttemptStarted, MapSucceeded, ReduceSucceeded, AttemptFailed, JobUnsuccessful}
 use Rattle.mr_history.specs.Winner.{winner_in}
 use Rattle.mr_history.proofs.Winners.{winner-of}
-use Rattle.mr_out_disk.specs.declared.place.Place.TheVariants.{Part, Marker, Kept, Work, Decision}
+use Rattle.mr_out_disk.specs.declared.place.Place.TheVariants.{Part, Marker, Kept, Work, Decision, Home}
 use Rattle.mr_out_disk.specs.declared.place.Folder.TheVariants as folder
 use Rattle.mr_out_disk.specs.declared.call.Call.{Call}
 use Rattle.mr_out_disk.specs.declared.call.Call.TheVariants as call
@@ -22,7 +22,7 @@ use Rattle.mr_out_disk.specs.Cuts.{IsFront}
 use Rattle.mr_out_steps.specs.declared.order.Outcome.{Outcome}
 use Rattle.mr_out_steps.specs.declared.order.Outcome.TheVariants as outcome
 use Rattle.mr_out_steps.specs.declared.phase.Phase.{Phase}
-use Rattle.mr_out_steps.specs.declared.phase.Phase.TheVariants.{Reading, SyncingEnd, FindingClaim, FindingWork, Claiming, SyncingFile, SyncingClaim, Appending, Committing, DroppingClaim, DroppingWork, FindingDecision, Deciding, SyncingDecision, Listing, FindingKept, Linking, Comparing, SyncingParts, Marking, SyncingMarker, Emptying, MakingFolder, Over}
+use Rattle.mr_out_steps.specs.declared.phase.Phase.TheVariants.{Reading, SyncingEnd, FindingClaim, FindingWork, Claiming, SyncingFile, SyncingClaim, Appending, Committing, DroppingClaim, DroppingWork, FindingDecision, Deciding, SyncingDecision, Listing, FindingKept, Linking, Comparing, SyncingParts, Marking, SyncingMarker, Emptying, FindingMarker, Forgetting, SyncingForgotten, MakingFolder, Over}
 use Rattle.mr_out_steps.specs.Standing.{task_of}
 use Rattle.mr_out_steps.specs.Commands.{Command, call_in}
 use Rattle.mr_out_steps.specs.Steps.{turn, acts, goes, begins, follows, noted, links, empties, ends, reads, listed, fails_now, is_reading, is_listing}
@@ -31,7 +31,7 @@ use Rattle.mr_out_model.specs.Runs.{IsWriters}
 use Rattle.mr_out_model.proofs.Moments.{Every, EveryOf, every-if, every-moved}
 use Rattle.mr_out_model.proofs.Standings.{IsOpen}
 use Rattle.mr_out_model.proofs.Invariant as inv
-use Rattle.mr_out_model.proofs.Invariant.{View, view, all_records, IsFile, IsThere, Wins, PartOf, IsPart, Shown, Stand, IsStored, File, OfJob, Core, Known, Held, Durable, Opens, MayAppend, Fate, IsAmong, AreWinners, Seen, ToLink, At, IsOf, Amid}
+use Rattle.mr_out_model.proofs.Invariant.{View, view, all_records, IsFile, IsThere, IsGone, Wins, PartOf, IsPart, Shown, Stand, IsStored, File, OfJob, Core, Known, Held, Durable, Opens, MayAppend, Fate, IsAmong, AreWinners, Seen, ToLink, At, IsOf, Amid}
 use Rattle.mr_out_model.proofs.Records.{some-one, none-some, no-winner, one-winner, wins-own, none-all, appended_too, synced_too, core-success, core-plain, core-sync, told-success, told-plain, told-sync, stand-grows, stand-handed, handed-other, another, failure-plain, start-plain, map-plain, end-plain}
 use Rattle.mr_out_model.proofs.Names.{core-output, core-kept, core-whole, core-claim, core-empty, core-link, core-mark, stand-output, not-yet, kept_named, part_named, marker_named}
 use Rattle.mr_out_model.proofs.Turns.{ends-amid, links-amid, empties-amid, begins-amid, follows-amid}
@@ -44,6 +44,8 @@ pub record Grows (s : Setting) (w : World) (d : Disk) (k : Attempt → Option �
   pub handed : (a : Attempt) → Wins w.disk.synced a → k a ≡ w.handed a
   pub bytes : (a : Attempt) (f : ℕ) → Wins w.disk.synced a → w.handed a ≡ Some f → d.bytes f ≡ w.disk.bytes f
   pub decision : Every IsThere (w.disk.moments Decision) → Every IsThere (d.moments Decision)
+  pub marker : Every IsThere (w.disk.moments Marker) → Every IsThere (d.moments Marker)
+  pub home : Every IsGone (w.disk.moments Home) → Every IsGone (d.moments Home)
 
 pub front-itself : (rs : List Record) → IsFront rs rs
 front-itself rs = record { rest = []; is = sym (append-nil rs) }
@@ -65,7 +67,7 @@ pub record Behind (s : Setting) (w : World) (d : Disk) (k : Attempt → Option �
 
 -- the disk is as it was
 pub same-grows : (s : Setting) (w : World) → Grows s w w.disk w.handed
-same-grows s w = record { front = front-itself w.disk.synced; stand = λ st. st; handed = λ a x. refl; bytes = λ a f x y. refl; decision = λ e. e }
+same-grows s w = record { front = front-itself w.disk.synced; stand = λ st. st; handed = λ a x. refl; bytes = λ a f x y. refl; decision = λ e. e; marker = λ e. e; home = λ e. e }
 
 pub same : (s : Setting) (w : World) (c e : Command) → Before s w c → Amid s (view w.disk) w.handed e → Behind s w w.disk w.handed e
 same s w c e b m = record { core = b.core; work = b.work; told = b.told; amid = m; grows = same-grows s w }
@@ -96,6 +98,9 @@ stays s w c p b at = same s w c (goes p c) b (record { fits = b.fits; here = by 
     by Marking x = x
     by SyncingMarker x = x
     by (Emptying a) x = x
+    by FindingMarker x = x
+    by Forgetting x = x
+    by SyncingForgotten x = x
     by (MakingFolder a) x = x
     by (Over o) x = x
 
@@ -120,7 +125,7 @@ on-syncing-end s w c b at Done m =
       work = b.work;
       told = told-sync v w.told b.told;
       amid = begins-amid s (synced_too v) w.handed c core b.fits (record { records = at; none = refl });
-      grows = record { front = record { rest = w.disk.appended; is = refl }; stand = stand-grows s v.synced v.appended v.part w.handed b.core.of_job; handed = λ a x. refl; bytes = λ a f x y. refl; decision = λ e. e };
+      grows = record { front = record { rest = w.disk.appended; is = refl }; stand = stand-grows s v.synced v.appended v.part w.handed b.core.of_job; handed = λ a x. refl; bytes = λ a f x y. refl; decision = λ e. e; marker = λ e. e; home = λ e. e };
     }
 on-syncing-end s w c b at _ m = not-known s w c b
 
@@ -153,7 +158,7 @@ on-claiming s w c a b at Done =
       work = λ x. every-if (IsWriters s x) (same_attempt a x) (moved None (w.disk.moments (Work x))) (w.disk.moments (Work x)) (λ e. every-moved (IsWriters s x) (w.disk.moments (Work x)) None tt (b.work x)) (λ e. b.work x);
       told = b.told;
       amid = record { fits = b.fits; here = at };
-      grows = record { front = front-itself w.disk.synced; stand = λ st. st; handed = λ x y. refl; bytes = λ x f y z. refl; decision = λ e. e };
+      grows = record { front = front-itself w.disk.synced; stand = λ st. st; handed = λ x y. refl; bytes = λ x f y z. refl; decision = λ e. e; marker = λ e. e; home = λ e. e };
     }
 on-claiming s w c a b at Missing = stays s w c (Over outcome.NoFile) b tt
 on-claiming s w c a b at _ = fail s w c b
@@ -172,7 +177,7 @@ on-syncing-file s w c a b at Done m = by (seen w.disk (Kept a)) refl
       work = b.work;
       told = b.told;
       amid = record { fits = b.fits; here = (at.0, at.1, record { file = f; now = e; is_whole = ap (λ x. cond x true (w.disk.is_whole f)) (itself f) }) };
-      grows = record { front = front-itself w.disk.synced; stand = λ st. st; handed = λ x y. refl; bytes = λ x g y z. refl; decision = λ e. e };
+      grows = record { front = front-itself w.disk.synced; stand = λ st. st; handed = λ x y. refl; bytes = λ x g y z. refl; decision = λ e. e; marker = λ e. e; home = λ e. e };
     }
 on-syncing-file s w c a b at Grew m = stays s w c (Over outcome.StillWritten) b tt
 on-syncing-file s w c a b at Failed m = stays s w c (Appending (AttemptFailed a)) b (at.0, λ x. no-winner (winner_in w.disk.synced a.task) a at.1.unwon x)
@@ -185,7 +190,7 @@ on-syncing-claim s w c a b at Done = record {
   work = b.work;
   told = b.told;
   amid = record { fits = b.fits; here = (at.0, (at.1, record { file = at.2.file; every = (at.2.now, tt); is_whole = at.2.is_whole })) };
-  grows = record { front = front-itself w.disk.synced; stand = λ st. st; handed = λ x y. refl; bytes = λ x g y z. refl; decision = λ e. e };
+  grows = record { front = front-itself w.disk.synced; stand = λ st. st; handed = λ x y. refl; bytes = λ x g y z. refl; decision = λ e. e; marker = λ e. e; home = λ e. e };
 }
 on-syncing-claim s w c a b at _ = fail s w c b
 
@@ -212,7 +217,7 @@ on-appending s w c r b at Done = by r at
       work = b.work;
       told = told-plain (view w.disk) w.told q b.told p;
       amid = record { fits = b.fits; here = (k.records, one q k.none, fate-still w.disk q fate) };
-      grows = record { front = front-itself w.disk.synced; stand = λ st. st; handed = λ x y. refl; bytes = λ x g y z. refl; decision = λ e. e };
+      grows = record { front = front-itself w.disk.synced; stand = λ st. st; handed = λ x y. refl; bytes = λ x g y z. refl; decision = λ e. e; marker = λ e. e; home = λ e. e };
     }
 
     by : (q : Record) → At s (view w.disk) w.handed c (Appending q) → Behind s w (made w.disk (call.AppendHistory q)) (handed_by (call.AppendHistory q) (Says Done) w) (goes (Committing q) c)
@@ -224,7 +229,7 @@ on-appending s w c r b at Done = by r at
           work = b.work;
           told = told-success s v w.told a bytes b.told x.1.0;
           amid = record { fits = b.fits; here = (x.0.records, one (ReduceSucceeded a bytes) x.0.none, tt) };
-          grows = record { front = front-itself w.disk.synced; stand = stand-handed s v.synced v.part w.handed (handed_by (call.AppendHistory (ReduceSucceeded a bytes)) (Says Done) w) other; handed = other; bytes = λ y g z e. refl; decision = λ e. e };
+          grows = record { front = front-itself w.disk.synced; stand = stand-handed s v.synced v.part w.handed (handed_by (call.AppendHistory (ReduceSucceeded a bytes)) (Says Done) w) other; handed = other; bytes = λ y g z e. refl; decision = λ e. e; marker = λ e. e; home = λ e. e };
         }
     by (AttemptFailed a) x = plain (AttemptFailed a) (failure-plain a) x.0 x.1
     by (AttemptStarted a node) x = plain (AttemptStarted a node) (start-plain a node) x.0 tt
@@ -242,7 +247,7 @@ on-committing s w c r b at Done =
       work = b.work;
       told = told-sync v w.told b.told;
       amid = follows-amid s v w.handed c r core b.fits at.0 at.1 at.2;
-      grows = record { front = record { rest = w.disk.appended; is = refl }; stand = stand-grows s v.synced v.appended v.part w.handed b.core.of_job; handed = λ a x. refl; bytes = λ a f x y. refl; decision = λ e. e };
+      grows = record { front = record { rest = w.disk.appended; is = refl }; stand = stand-grows s v.synced v.appended v.part w.handed b.core.of_job; handed = λ a x. refl; bytes = λ a f x y. refl; decision = λ e. e; marker = λ e. e; home = λ e. e };
     }
 on-committing s w c r b at _ = not-known s w c b
 
@@ -257,7 +262,7 @@ on-dropping-claim s w c a b at Done =
       work = b.work;
       told = b.told;
       amid = record { fits = b.fits; here = at.0 };
-      grows = record { front = front-itself w.disk.synced; stand = λ st. st; handed = λ x y. refl; bytes = λ x g y z. refl; decision = λ e. e };
+      grows = record { front = front-itself w.disk.synced; stand = λ st. st; handed = λ x y. refl; bytes = λ x g y z. refl; decision = λ e. e; marker = λ e. e; home = λ e. e };
     }
 on-dropping-claim s w c a b at Missing = stays s w c (DroppingWork a) b at.0
 on-dropping-claim s w c a b at _ = fail s w c b
@@ -269,7 +274,7 @@ on-dropping-work s w c a b at Done = record {
   work = λ x. every-if (IsWriters s x) (same_attempt a x) (moved None (w.disk.moments (Work x))) (w.disk.moments (Work x)) (λ e. every-moved (IsWriters s x) (w.disk.moments (Work x)) None tt (b.work x)) (λ e. b.work x);
   told = b.told;
   amid = begins-amid s (view w.disk) w.handed c b.core b.fits at;
-  grows = record { front = front-itself w.disk.synced; stand = λ st. st; handed = λ x y. refl; bytes = λ x g y z. refl; decision = λ e. e };
+  grows = record { front = front-itself w.disk.synced; stand = λ st. st; handed = λ x y. refl; bytes = λ x g y z. refl; decision = λ e. e; marker = λ e. e; home = λ e. e };
 }
 on-dropping-work s w c a b at Missing = same s w c (begins c) b (begins-amid s (view w.disk) w.handed c b.core b.fits at)
 on-dropping-work s w c a b at _ = fail s w c b

@@ -5,15 +5,15 @@ use Rattle.mr_ids.specs.Attempt.{Attempt}
 use Rattle.mr_ids.specs.declared.id.TaskId.{TaskId}
 use Rattle.mr_history.specs.declared.record.Record.{Record}
 use Rattle.mr_history.specs.Winner.{winner_in}
-use Rattle.mr_out_disk.specs.declared.place.Place.TheVariants.{Part, Marker, Kept, Work, Decision}
+use Rattle.mr_out_disk.specs.declared.place.Place.TheVariants.{Part, Marker, Kept, Work, Decision, Home}
 use Rattle.mr_out_disk.specs.Disk.{Moments, Disk}
 use Rattle.mr_out_disk.specs.Cuts.{IsLeft, IsFront, IsCut}
 use Rattle.mr_out_model.specs.Worlds.{Setting, Telling, IsClaimed}
 use Rattle.mr_out_model.specs.Runs.{IsWriters}
 use Rattle.mr_out_model.proofs.Moments.{Every, EveryOf, every-map, every-left}
 use Rattle.mr_out_model.proofs.Standings.{Why}
-use Rattle.mr_out_model.proofs.Invariant.{View, view, all_records, IsFile, IsThere, IfThere, Wins, PartOf, IsPart, Shown, Stand, IsReleased, IsStored, File, OfJob, Core, Lost, Told}
-use Rattle.mr_out_model.proofs.Records.{if-there-map, wins-more, no-others, part-grows, stand-grows, why-grows}
+use Rattle.mr_out_model.proofs.Invariant.{View, view, all_records, IsFile, IsThere, IfThere, IfGone, Wins, PartOf, IsPart, Shown, Stand, Published, IsReleased, IsStored, File, OfJob, Core, Lost, Told}
+use Rattle.mr_out_model.proofs.Records.{if-there-map, forgotten-map, wins-more, no-others, part-grows, stand-grows, why-grows}
 
 -- ---- a power cut, seen at what the promises speak of
 
@@ -27,6 +27,7 @@ pub record IsCutView (v u : View) : Type 0 where
   pub marker : IsLeft v.marker u.marker
   pub kept : (a : Attempt) → IsLeft (v.kept a) (u.kept a)
   pub decision : IsLeft v.decision u.decision
+  pub home : IsLeft v.home u.home
   pub whole : (f : ℕ) → v.whole f ≡ true → u.whole f ≡ true
 
 pub cut-view : (d e : Disk) → IsCut d e → IsCutView (view d) (view e)
@@ -40,6 +41,7 @@ cut-view d e c = record {
   marker = c.names Marker;
   kept = λ a. c.names (Kept a);
   decision = c.names Decision;
+  home = c.names Home;
   whole = c.whole;
 }
 
@@ -80,6 +82,7 @@ core-cut s v u h core c = record {
   kept = λ a. every-left (IsWriters s a) (v.kept a) (u.kept a) (c.kept a) (core.kept a);
   released = λ n. every-map (IfThere (IsReleased s.hold v.decision)) (IfThere (IsReleased s.hold u.decision)) (u.part n) (if-there-map _ _ stays) (every-left (IfThere (IsReleased s.hold v.decision)) (v.part n) (u.part n) (c.part n) (core.released n));
   released_mark = every-map (IfThere (IsReleased s.hold v.decision)) (IfThere (IsReleased s.hold u.decision)) u.marker (if-there-map _ _ stays) (every-left (IfThere (IsReleased s.hold v.decision)) v.marker u.marker c.marker core.released_mark);
+  forgotten = forgotten-map s v.synced u.synced v.part u.part v.marker u.marker h h u.home (stand-left s v u h core c) (every-left IsThere v.marker u.marker c.marker) (every-left (IfGone (Published s v.synced v.part v.marker h)) v.home u.home c.home core.forgotten);
 }
   where
     by : (a : Attempt) (f : ℕ) → IsStored f (v.kept a) (v.part a.task.number) v.marker → IsStored f (u.kept a) (u.part a.task.number) u.marker
@@ -121,6 +124,7 @@ core-written s d h file c free = record {
   kept = c.kept;
   released = c.released;
   released_mark = c.released_mark;
+  forgotten = c.forgotten;
 }
   where
     other : (a : Attempt) (w : Wins (all_records (view d)) a) → (c.files a w).file ≡ file → ⊥

@@ -16,12 +16,12 @@ use Rattle.mr_out_steps.specs.declared.order.Order.{Order}
 use Rattle.mr_out_steps.specs.declared.order.Order.TheVariants as order
 use Rattle.mr_out_steps.specs.declared.order.Outcome.{Outcome}
 use Rattle.mr_out_steps.specs.declared.phase.Phase.{Phase}
-use Rattle.mr_out_steps.specs.declared.phase.Phase.TheVariants.{Deciding, SyncingDecision, SyncingFile, Appending}
+use Rattle.mr_out_steps.specs.declared.phase.Phase.TheVariants.{Deciding, SyncingDecision, SyncingFile, Appending, FindingMarker, Forgetting}
 use Rattle.mr_out_steps.specs.declared.phase.Turn.{Turn}
 use Rattle.mr_out_steps.specs.declared.phase.Turn.TheVariants.{Goes, Begins, Notes, Holds, LinksNext, EmptiesNext}
 use Rattle.mr_out_steps.specs.Standing.{is_over, winners}
 use Rattle.mr_out_steps.specs.Commands.{Command, call_in, outcome_in, next_call}
-use Rattle.mr_out_steps.specs.Steps.{turn, goes, acts, begins, begins_with, own_work, is_to_end, publishes, lists, ends, holds, follows, noted, links, empties, reads, listed, fails_now, is_reading, is_listing, heard}
+use Rattle.mr_out_steps.specs.Steps.{turn, goes, acts, begins, begins_with, own_work, is_to_end, publishes, lists, ends, holds, follows, noted, links, ends_or, empties, reads, listed, fails_now, is_reading, is_listing, heard}
 use Rattle.mr_out_model.specs.Worlds.{Setting, World, begun}
 use Rattle.mr_out_model.specs.Runs.{Move, Starts, Answers, Ends, Stops, Writes, Names, Cuts, answered, ended, answers, ends_with, happens, May, after, IsRun}
 use Rattle.mr_out_model.specs.Promises.{IsPublication, NobodyPublishes, IsVisible, HeldJobsWait}
@@ -65,8 +65,12 @@ links-order : (c : Command) (left : List Attempt) → (links left c).order ≡ c
 links-order c [] = refl
 links-order c (a ∷ rest) = refl
 
+or-order : (c : Command) (p : Phase) (o : Order) → (ends_or p o c).order ≡ c.order
+or-order c p order.Forget = refl
+or-order c p _ = refl
+
 empties-order : (c : Command) (kept : List Attempt) → (empties kept c).order ≡ c.order
-empties-order c [] = refl
+empties-order c [] = or-order c Forgetting c.order
 empties-order c (a ∷ rest) = refl
 
 acts-order : (c : Command) (t : Turn) → (acts t c).order ≡ c.order
@@ -87,7 +91,7 @@ heard-order c (Told rs) = by (is_reading c.phase)
 heard-order c (Listed attempts) = by (is_listing c.phase) attempts
   where
     by : (b : Bool) (xs : List Attempt) → (cond b (listed xs c) (fails_now c)).order ≡ c.order
-    by true [] = refl
+    by true [] = or-order c FindingMarker c.order
     by true (a ∷ rest) = links-order (record c { kept = a ∷ rest }) c.left
     by false xs = refl
 

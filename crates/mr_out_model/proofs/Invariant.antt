@@ -5,7 +5,7 @@ use Rattle.mr_ids.specs.declared.id.JobId.{JobId}
 use Rattle.mr_history.specs.declared.record.Record.{Record}
 use Rattle.mr_history.specs.declared.record.Record.TheVariants.{AttemptStarted, MapSucceeded, ReduceSucceeded, AttemptFailed, JobUnsuccessful}
 use Rattle.mr_history.specs.Winner.{winner_in}
-use Rattle.mr_out_disk.specs.declared.place.Place.TheVariants.{Part, Marker, Kept, Work, Decision}
+use Rattle.mr_out_disk.specs.declared.place.Place.TheVariants.{Part, Marker, Kept, Work, Decision, Home}
 use Rattle.mr_out_disk.specs.Disk.{Moments, Disk, records}
 use Rattle.mr_out_steps.specs.declared.standing.Standing.{Standing}
 use Rattle.mr_out_steps.specs.declared.standing.Standing.TheVariants.{Won}
@@ -14,7 +14,7 @@ use Rattle.mr_out_steps.specs.declared.order.Order.TheVariants as order
 use Rattle.mr_out_steps.specs.declared.order.Outcome.{Outcome}
 use Rattle.mr_out_steps.specs.declared.order.Outcome.TheVariants as outcome
 use Rattle.mr_out_steps.specs.declared.phase.Phase.{Phase}
-use Rattle.mr_out_steps.specs.declared.phase.Phase.TheVariants.{Reading, SyncingEnd, FindingClaim, FindingWork, Claiming, SyncingFile, SyncingClaim, Appending, Committing, DroppingClaim, DroppingWork, FindingDecision, Deciding, SyncingDecision, Listing, FindingKept, Linking, Comparing, SyncingParts, Marking, SyncingMarker, Emptying, MakingFolder, Over}
+use Rattle.mr_out_steps.specs.declared.phase.Phase.TheVariants.{Reading, SyncingEnd, FindingClaim, FindingWork, Claiming, SyncingFile, SyncingClaim, Appending, Committing, DroppingClaim, DroppingWork, FindingDecision, Deciding, SyncingDecision, Listing, FindingKept, Linking, Comparing, SyncingParts, Marking, SyncingMarker, Emptying, FindingMarker, Forgetting, SyncingForgotten, MakingFolder, Over}
 use Rattle.mr_out_steps.specs.Standing.{task_of, standing}
 use Rattle.mr_out_steps.specs.Commands.{Command}
 use Rattle.mr_out_model.specs.Worlds.{Setting, Telling, World}
@@ -31,10 +31,11 @@ pub record View : Type 0 where
   pub marker : Moments
   pub kept : Attempt → Moments
   pub decision : Moments
+  pub home : Moments
   pub whole : ℕ → Bool
 
 abbrev pub view : Disk → View
-view d = record { synced = d.synced; appended = d.appended; part = λ n. d.moments (Part n); marker = d.moments Marker; kept = λ a. d.moments (Kept a); decision = d.moments Decision; whole = d.is_whole }
+view d = record { synced = d.synced; appended = d.appended; part = λ n. d.moments (Part n); marker = d.moments Marker; kept = λ a. d.moments (Kept a); decision = d.moments Decision; home = d.moments Home; whole = d.is_whole }
 
 abbrev pub all_records : View → List Record
 all_records v = v.synced ++ v.appended
@@ -49,6 +50,13 @@ IsThere (Some f) = Unit {0}
 abbrev pub IfThere : Type 0 → Option ℕ → Type 0
 IfThere X None = Unit {0}
 IfThere X (Some f) = X
+
+abbrev pub IsGone : Option ℕ → Type 0
+IsGone x = x ≡ None
+
+abbrev pub IfGone : Type 0 → Option ℕ → Type 0
+IfGone X None = X
+IfGone X (Some f) = Unit {0}
 
 -- the attempt is the recorded winner of its task
 abbrev pub Wins : List Record → Attempt → Type 0
@@ -73,6 +81,11 @@ pub record Shown (part : ℕ → Moments) (h : Attempt → Option ℕ) (a : Atte
 pub record Stand (s : Setting) (synced : List Record) (part : ℕ → Moments) (h : Attempt → Option ℕ) : Type 0 where
   pub all : (n : ℕ) → n < s.tasks → (a : Attempt) × (winner_in synced (task_of s.job n) ≡ Some a)
   pub each : (a : Attempt) → Wins synced a → Shown part h a
+
+-- and so is the marker
+pub record Published (s : Setting) (synced : List Record) (part : ℕ → Moments) (marker : Moments) (h : Attempt → Option ℕ) : Type 0 where
+  pub stand : Stand s synced part h
+  pub marked : Every IsThere marker
 
 -- under hold it was decided to publish, for good
 abbrev pub IsReleased : Bool → Moments → Type 0
@@ -101,6 +114,7 @@ pub record Core (s : Setting) (v : View) (h : Attempt → Option ℕ) : Type 0 w
   pub kept : (a : Attempt) → Every (IsWriters s a) (v.kept a)
   pub released : (n : ℕ) → Every (IfThere (IsReleased s.hold v.decision)) (v.part n)
   pub released_mark : Every (IfThere (IsReleased s.hold v.decision)) v.marker
+  pub forgotten : Every (IfGone (Published s v.synced v.part v.marker h)) v.home
 
 -- ---- what was told
 
@@ -176,18 +190,25 @@ EndingOf s v (order.Ask a) st = (v.appended ≡ []) × (standing s.job s.tasks v
 EndingOf s v order.Resume st = Unit {0}
 EndingOf s v order.Abort st = Unit {0}
 EndingOf s v order.Publish st = Unit {0}
+EndingOf s v order.Forget st = Unit {0}
 EndingOf s v order.StartNext st = Unit {0}
 EndingOf s v (order.StartAt n) st = Unit {0}
 EndingOf s v (order.StartOver n) st = Unit {0}
 
+-- the history is forgotten for good
+abbrev pub FinishedOf : Moments → Order → Type 0
+FinishedOf home order.Forget = Every IsGone home
+FinishedOf home _ = Unit {0}
+
 abbrev pub Ending : Setting → View → Order → Outcome → Type 0
 Ending s v o (outcome.Stands st) = EndingOf s v o st
-Ending s v o outcome.Finished = Unit {0}
+Ending s v o outcome.Finished = FinishedOf v.home o
 Ending s v o outcome.AllWon = Unit {0}
 Ending s v o (outcome.Started a) = Unit {0}
 Ending s v o outcome.Busy = Unit {0}
 Ending s v o outcome.JobOver = Unit {0}
 Ending s v o outcome.NotAllWon = Unit {0}
+Ending s v o outcome.Unpublished = Unit {0}
 Ending s v o outcome.Full = Unit {0}
 Ending s v o outcome.NoFile = Unit {0}
 Ending s v o outcome.NotAFile = Unit {0}
@@ -225,6 +246,9 @@ At s v h c SyncingParts = Known v.synced v.appended c.records × ToLink s v.sync
 At s v h c Marking = Known v.synced v.appended c.records × Stand s v.synced v.part h × IsReleased s.hold v.decision
 At s v h c SyncingMarker = Known v.synced v.appended c.records × Stand s v.synced v.part h × IsThere v.marker.now
 At s v h c (Emptying a) = Known v.synced v.appended c.records × Stand s v.synced v.part h × Every IsThere v.marker
+At s v h c FindingMarker = Known v.synced v.appended c.records
+At s v h c Forgetting = Known v.synced v.appended c.records × Stand s v.synced v.part h × Every IsThere v.marker
+At s v h c SyncingForgotten = IsGone v.home.now
 At s v h c (MakingFolder a) = Unit {0}
 At s v h c (Over o) = Ending s v c.order o
 

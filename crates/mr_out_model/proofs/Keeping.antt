@@ -6,18 +6,24 @@ use Rattle.mr_history.specs.declared.record.Record.{Record}
 use Rattle.mr_history.specs.Winner.{winner_in}
 use Rattle.mr_history.proofs.Winners.{winner-of}
 use Rattle.mr_out_disk.specs.declared.place.Place.{Place}
-use Rattle.mr_out_disk.specs.declared.place.Place.TheVariants.{Part, Marker, Kept, Work, Decision}
+use Rattle.mr_out_disk.specs.declared.place.Place.TheVariants.{Part, Marker, Kept, Work, Decision, Home}
 use Rattle.mr_out_disk.specs.Disk.{seen}
 use Rattle.mr_out_disk.specs.Cuts.{IsFront}
 use Rattle.mr_out_steps.specs.declared.standing.Standing.{Standing}
 use Rattle.mr_out_steps.specs.declared.standing.Standing.TheVariants.{Won, Beaten, GivenUp, JobOver}
+use Rattle.mr_out_steps.specs.declared.order.Order.{Order}
+use Rattle.mr_out_steps.specs.declared.order.Order.TheVariants as order
+use Rattle.mr_out_steps.specs.declared.order.Outcome.TheVariants as outcome
+use Rattle.mr_out_steps.specs.declared.phase.Phase.{Phase}
 use Rattle.mr_out_steps.specs.Standing.{task_of}
+use Rattle.mr_out_steps.specs.Commands.{Command}
 use Rattle.mr_out_model.specs.Worlds.{Setting, World, begun}
 use Rattle.mr_out_model.specs.Runs.{Move, happens, May, after, IsRun}
-use Rattle.mr_out_model.specs.Promises.{IsWinners, HasTold, HasToldLoss, IsVisible, Promises, DirectoryKeepsPromises, ReadersFindWinners}
-use Rattle.mr_out_model.proofs.Invariant.{view, all_records, IsThere, IfThere, IsReleased, IsPart, PartOf, Wins, Stand, Shown, OfJob, Holds}
+use Rattle.mr_out_model.specs.Promises.{IsWinners, HasTold, HasToldLoss, IsVisible, Promises, DirectoryKeepsPromises, ReadersFindWinners, HasEnded, ForgottenDirectoriesStay}
+use Rattle.mr_out_model.proofs.Invariant.{view, all_records, IsThere, IfThere, IsGone, IfGone, IsReleased, IsPart, PartOf, Wins, Stand, Shown, Published, OfJob, FinishedOf, At, Amid, AmidAny, Holds}
 use Rattle.mr_out_model.proofs.Records.{wins-more, wins-own, some-one, none-some}
 use Rattle.mr_out_model.proofs.Answering.{Grows, same-grows}
+use Rattle.mr_out_model.proofs.Moments.{Every}
 use Rattle.mr_out_model.proofs.Moving.{Onward, moves-on}
 
 -- ---- runs
@@ -34,6 +40,8 @@ joined s w u v p q = record {
     handed = λ a x. q.grows.handed a (wins-front w.disk.synced u.disk.synced a p.grows.front x) ∙ p.grows.handed a x;
     bytes = λ a f x e. q.grows.bytes a f (wins-front w.disk.synced u.disk.synced a p.grows.front x) (p.grows.handed a x ∙ e) ∙ p.grows.bytes a f x e;
     decision = λ e. q.grows.decision (p.grows.decision e);
+    marker = λ e. q.grows.marker (p.grows.marker e);
+    home = λ e. q.grows.home (p.grows.home e);
   };
   told = λ a st t. q.told a st (p.told a st t);
 }
@@ -62,7 +70,7 @@ untold a (inr (inr t)) = t
 
 pub begun-holds : (s : Setting) (bytes : ℕ → ℕ) → Holds s (begun bytes)
 begun-holds s bytes = record {
-  core = record { parts = λ n. (tt, tt); marker = (tt, tt); files = λ a w. absurd (nobody a w); of_job = λ a w. absurd (nobody a w); kept = λ a. (tt, tt); released = λ n. (tt, tt); released_mark = (tt, tt) };
+  core = record { parts = λ n. (tt, tt); marker = (tt, tt); files = λ a w. absurd (nobody a w); of_job = λ a w. absurd (nobody a w); kept = λ a. (tt, tt); released = λ n. (tt, tt); released_mark = (tt, tt); forgotten = (tt, tt) };
   work = λ a. (tt, tt);
   told = record { won = λ a t. absurd t; lost = λ a t. absurd (untold a t) };
   amid = tt;
@@ -137,10 +145,15 @@ released-at s w h Marker out e = stand-there (IsReleased s.hold (view w.disk).de
 released-at s w h (Kept a) out e = absurd out
 released-at s w h (Work a) out e = absurd out
 released-at s w h Decision out e = absurd out
+released-at s w h Home out e = absurd out
 
 pub is-there : (x : Option ℕ) → IsThere x → x ≡ None → ⊥
 is-there None i e = i
 is-there (Some f) i e = absurd (cc)
+
+-- where the history is forgotten, all is published for good
+gone-published : (s : Setting) (w : World) → Holds s w → seen w.disk Home ≡ None → Published s w.disk.synced (view w.disk).part (w.disk.moments Marker) w.handed
+gone-published s w h e = let P : Option ℕ → Type 0 = λ x. IfGone (Published s w.disk.synced (view w.disk).part (w.disk.moments Marker) w.handed) x in subst P e h.core.forgotten.0
 
 lost-later : (w v : World) (a : Attempt) → ((b : Attempt) (st : Standing) → HasTold w.told b st → HasTold v.told b st) → HasToldLoss w.told a → HasToldLoss v.told a
 lost-later w v a more (inl t) = inl (more a Beaten t)
@@ -155,6 +168,7 @@ promised s w v h o = record {
   parts_stay = λ e n. part-same s w v h o (marked-stand s w h e) n;
   bytes_stay = λ e n f is. let p = visible-is s w h n f is in o.grows.bytes p.winner f (wins-own w.disk.synced (task_of s.job n) p.winner p.recorded) p.handed;
   held = λ x p out e. is-there (seen v.disk Decision) (o.grows.decision (released-at s w h p out e x)).0;
+  forgotten = λ e. is-there (seen v.disk Marker) (o.grows.marker (gone-published s w h e).marked).0;
   won = λ a t. wins-front w.disk.synced v.disk.synced a o.grows.front (h.told.won a t);
   lost = λ a t e. (o.holds.told.lost a (lost-later w v a o.told t)).never (wins-more v.disk.synced v.disk.appended a e);
 }
@@ -175,3 +189,28 @@ reads s bytes moves more r q e n l =
     let there = p.marked e n l in
     let listed : seen v.disk (Part n) ≡ Some there.0 = p.parts_stay e n ∙ there.1 in
     record { file = there.0; listed = listed; winners = visible-is s v later.holds n there.0 listed; bytes = p.bytes_stay e n there.0 there.1 }
+
+-- ---- the history is forgotten
+
+-- a command that ended so left nothing of it, for good
+gone-for-good : (s : Setting) (w : World) → Holds s w → HasEnded w order.Forget outcome.Finished → Every IsGone (w.disk.moments Home)
+gone-for-good s w h x =
+    let P : Option Command → Type 0 = λ r. AmidAny s (view w.disk) w.handed r in
+    let Q : Phase → Type 0 = λ p. At s (view w.disk) w.handed x.command p in
+    let R : Order → Type 0 = λ o. FinishedOf (w.disk.moments Home) o in
+    let amid : Amid s (view w.disk) w.handed x.command = subst P x.running h.amid in
+    subst R x.asked (subst Q x.ended amid.here)
+
+pub forgets : ForgottenDirectoriesStay
+forgets s bytes moves more r q x =
+    let w = after s (begun bytes) moves in
+    let v = after s w more in
+    let first = runs-on s moves (begun bytes) (still-there s (begun bytes) (begun-holds s bytes)) r in
+    let later = runs-on s more w (still-there s w first.holds) q in
+    let gone = gone-for-good s w first.holds x in
+    let marked = (gone-published s w first.holds gone.0).marked in
+    record {
+      home = (later.grows.home gone).0;
+      marker = is-there (seen v.disk Marker) (later.grows.marker marked).0;
+      tasks = λ n l. reads s bytes moves more r q (is-there (seen w.disk Marker) marked.0) n l;
+    }

@@ -7,7 +7,7 @@ use Rattle.mr_ids.proofs.Same.{same_attempt-is}
 use Rattle.mr_history.specs.declared.record.Record.{Record}
 use Rattle.mr_history.specs.declared.record.Record.TheVariants.{AttemptStarted, MapSucceeded, ReduceSucceeded, AttemptFailed, JobUnsuccessful}
 use Rattle.mr_history.specs.Winner.{winner_in}
-use Rattle.mr_out_disk.specs.declared.place.Place.TheVariants.{Part, Marker, Kept, Work, Decision}
+use Rattle.mr_out_disk.specs.declared.place.Place.TheVariants.{Part, Marker, Kept, Work, Decision, Home}
 use Rattle.mr_out_disk.specs.declared.call.Call.{Call}
 use Rattle.mr_out_disk.specs.declared.call.Call.TheVariants as call
 use Rattle.mr_out_disk.specs.declared.answer.Answer.{Answer}
@@ -24,7 +24,7 @@ use Rattle.mr_out_steps.specs.declared.order.Order.TheVariants as order
 use Rattle.mr_out_steps.specs.declared.order.Outcome.{Outcome}
 use Rattle.mr_out_steps.specs.declared.order.Outcome.TheVariants as outcome
 use Rattle.mr_out_steps.specs.declared.phase.Phase.{Phase}
-use Rattle.mr_out_steps.specs.declared.phase.Phase.TheVariants.{Reading, SyncingEnd, FindingClaim, FindingWork, Claiming, SyncingFile, SyncingClaim, Appending, Committing, DroppingClaim, DroppingWork, FindingDecision, Deciding, SyncingDecision, Listing, FindingKept, Linking, Comparing, SyncingParts, Marking, SyncingMarker, Emptying, MakingFolder, Over}
+use Rattle.mr_out_steps.specs.declared.phase.Phase.TheVariants.{Reading, SyncingEnd, FindingClaim, FindingWork, Claiming, SyncingFile, SyncingClaim, Appending, Committing, DroppingClaim, DroppingWork, FindingDecision, Deciding, SyncingDecision, Listing, FindingKept, Linking, Comparing, SyncingParts, Marking, SyncingMarker, Emptying, FindingMarker, Forgetting, SyncingForgotten, MakingFolder, Over}
 use Rattle.mr_out_steps.specs.Standing.{standing}
 use Rattle.mr_out_steps.specs.Commands.{Command, call_in, outcome_in, opening}
 use Rattle.mr_out_steps.specs.Steps.{goes, heard, turn}
@@ -34,11 +34,11 @@ use Rattle.mr_out_model.specs.Promises.{HasTold, HasToldLoss}
 use Rattle.mr_out_model.proofs.Moments.{Every, every-if, every-moved, every-left}
 use Rattle.mr_out_model.proofs.Standings.{has-won, has-lost, IsLost, HasLost}
 use Rattle.mr_out_model.proofs.Invariant as inv
-use Rattle.mr_out_model.proofs.Invariant.{View, view, all_records, IsFile, IsThere, Wins, Stand, File, Core, Lost, Known, Held, Durable, MayAppend, Ending, At, Amid, AmidAny, Holds}
+use Rattle.mr_out_model.proofs.Invariant.{View, view, all_records, IsFile, IsThere, IsGone, Wins, Stand, File, Core, Lost, Known, Held, Durable, MayAppend, Ending, At, Amid, AmidAny, Holds}
 use Rattle.mr_out_model.proofs.Records.{none-all, some-one, wins-more}
 use Rattle.mr_out_model.proofs.Cutting.{cut-view, core-cut, told-cut, stand-left, core-written, no_longer_whole, claimed, still-whole}
 use Rattle.mr_out_model.proofs.Answering.{Grows, Before, Behind, same-grows, fail, on-syncing-end, on-finding-claim, on-finding-work, on-claiming, on-syncing-file, on-syncing-claim, on-appending, on-committing, on-dropping-claim, on-dropping-work, on-making-folder}
-use Rattle.mr_out_model.proofs.Publishing.{on-finding-decision, on-deciding, on-syncing-decision, on-finding-kept, on-linking, on-comparing, on-syncing-parts, on-marking, on-syncing-marker, on-emptying, on-listing, on-reading}
+use Rattle.mr_out_model.proofs.Publishing.{on-finding-decision, on-deciding, on-syncing-decision, on-finding-kept, on-linking, on-comparing, on-syncing-parts, on-marking, on-syncing-marker, on-emptying, on-finding-marker, on-forgetting, on-syncing-forgotten, on-listing, on-reading}
 
 pub record Onward (s : Setting) (w u : World) : Type 0 where
   pub holds : Holds s u
@@ -86,6 +86,9 @@ says s w c SyncingParts b at reply m = onward s w _ _ _ (on-syncing-parts s w (g
 says s w c Marking b at reply m = onward s w _ _ _ (on-marking s w (goes Marking c) b at reply m)
 says s w c SyncingMarker b at reply m = onward s w _ _ _ (on-syncing-marker s w (goes SyncingMarker c) b at reply)
 says s w c (Emptying a) b at reply m = onward s w _ _ _ (on-emptying s w (goes (Emptying a) c) a b at reply)
+says s w c FindingMarker b at reply m = onward s w _ _ _ (on-finding-marker s w (goes FindingMarker c) b at reply m)
+says s w c Forgetting b at reply m = onward s w _ _ _ (on-forgetting s w (goes Forgetting c) b at reply)
+says s w c SyncingForgotten b at reply m = onward s w _ _ _ (on-syncing-forgotten s w (goes SyncingForgotten c) b at reply)
 says s w c (MakingFolder a) b at reply m = onward s w _ _ _ (on-making-folder s w (goes (MakingFolder a) c) a b reply)
 says s w c (Over o) b at reply m = absurd m
 
@@ -152,6 +155,7 @@ ends-so s w (order.Ask a) _ h e = tell-none s w h
 ends-so s w order.Resume _ h e = tell-none s w h
 ends-so s w order.Abort _ h e = tell-none s w h
 ends-so s w order.Publish _ h e = tell-none s w h
+ends-so s w order.Forget _ h e = tell-none s w h
 ends-so s w order.StartNext _ h e = tell-none s w h
 ends-so s w (order.StartAt n) _ h e = tell-none s w h
 ends-so s w (order.StartOver n) _ h e = tell-none s w h
@@ -219,6 +223,8 @@ moves-on s w (Writes file bytes) h m = record {
     handed = λ a x. refl;
     bytes = λ a f x e. bytes-kept (f == file) bytes (w.disk.bytes f) (λ is. winners-own a f x e (eqb-true _ _ is));
     decision = λ e. e;
+    marker = λ e. e;
+    home = λ e. e;
   };
   told = λ a st t. t;
 }
@@ -235,14 +241,14 @@ moves-on s w (Names a file) h m = record {
     told = h.told;
     amid = amid-named s w.disk w.handed a file w.running h.amid;
   };
-  grows = record { front = (same-grows s w).front; stand = λ st. st; handed = λ x y. refl; bytes = λ x f y z. refl; decision = λ e. e };
+  grows = record { front = (same-grows s w).front; stand = λ st. st; handed = λ x y. refl; bytes = λ x f y z. refl; decision = λ e. e; marker = λ e. e; home = λ e. e };
   told = λ b st t. t;
 }
 moves-on s w (Cuts left) h m =
     let c = cut-view w.disk left m in
     record {
       holds = record { core = core-cut s (view w.disk) (view left) w.handed h.core c; work = λ a. every-left (IsWriters s a) (w.disk.moments (Work a)) (left.moments (Work a)) (m.names (Work a)) (h.work a); told = told-cut (view w.disk) (view left) w.told h.told c; amid = tt };
-      grows = record { front = record { rest = m.kept; is = m.synced }; stand = stand-left s (view w.disk) (view left) w.handed h.core c; handed = λ a x. refl; bytes = λ a f x e. m.bytes f (whole a f x e); decision = λ e. every-left IsThere (w.disk.moments Decision) (left.moments Decision) (m.names Decision) e };
+      grows = record { front = record { rest = m.kept; is = m.synced }; stand = stand-left s (view w.disk) (view left) w.handed h.core c; handed = λ a x. refl; bytes = λ a f x e. m.bytes f (whole a f x e); decision = every-left IsThere (w.disk.moments Decision) (left.moments Decision) (m.names Decision); marker = every-left IsThere (w.disk.moments Marker) (left.moments Marker) (m.names Marker); home = every-left IsGone (w.disk.moments Home) (left.moments Home) (m.names Home) };
       told = λ a st t. t;
     }
   where

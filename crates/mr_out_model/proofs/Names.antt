@@ -12,13 +12,13 @@ use Rattle.mr_out_steps.specs.Standing.{task_of}
 use Rattle.mr_out_model.specs.Worlds.{Setting}
 use Rattle.mr_out_model.specs.Runs.{IsWriters}
 use Rattle.mr_out_model.proofs.Moments.{Every, EveryOf, every-map, every-settled, every-moved, every-if}
-use Rattle.mr_out_model.proofs.Invariant.{View, all_records, IsFile, IsThere, IfThere, Wins, PartOf, IsPart, Shown, Stand, IsReleased, IsStored, File, OfJob, Core}
-use Rattle.mr_out_model.proofs.Records.{if-there-map, one-winner, none-all, some-one, none-some}
+use Rattle.mr_out_model.proofs.Invariant.{View, all_records, IsFile, IsThere, IfThere, IfGone, Wins, PartOf, IsPart, Shown, Stand, Published, IsReleased, IsStored, File, OfJob, Core}
+use Rattle.mr_out_model.proofs.Records.{if-there-map, forgotten-map, one-winner, none-all, some-one, none-some}
 
 -- ---- folders and files that are synced
 
 abbrev pub output_synced : View → View
-output_synced v = record v { part = λ n. settled (v.part n); marker = settled v.marker }
+output_synced v = record v { part = λ n. settled (v.part n); marker = settled v.marker; home = settled v.home }
 
 abbrev pub kept_synced : View → View
 kept_synced v = record v { kept = λ a. settled (v.kept a) }
@@ -41,6 +41,7 @@ core-output s v h c = record {
   kept = c.kept;
   released = λ n. every-settled (IfThere (IsReleased s.hold v.decision)) (v.part n) (c.released n);
   released_mark = every-settled (IfThere (IsReleased s.hold v.decision)) v.marker c.released_mark;
+  forgotten = every-settled (IfGone (Published s v.synced (output_synced v).part (settled v.marker) h)) v.home (forgotten-map s v.synced v.synced v.part (output_synced v).part v.marker (settled v.marker) h h v.home (stand-output s v h) (every-settled IsThere v.marker) c.forgotten);
 }
   where
     by : (a : Attempt) (f : ℕ) → IsStored f (v.kept a) (v.part a.task.number) v.marker → IsStored f (v.kept a) (settled (v.part a.task.number)) (settled v.marker)
@@ -56,6 +57,7 @@ core-kept s v h c = record {
   kept = λ a. every-settled (IsWriters s a) (v.kept a) (c.kept a);
   released = c.released;
   released_mark = c.released_mark;
+  forgotten = c.forgotten;
 }
   where
     by : (a : Attempt) (f : ℕ) → IsStored f (v.kept a) (v.part a.task.number) v.marker → IsStored f (settled (v.kept a)) (v.part a.task.number) v.marker
@@ -75,6 +77,7 @@ core-whole s v h file c = record {
   kept = c.kept;
   released = c.released;
   released_mark = c.released_mark;
+  forgotten = c.forgotten;
 }
 
 -- ---- a kept name changes
@@ -92,6 +95,7 @@ core-claim s v h a file c loses own = record {
   kept = λ b. every-if (IsWriters s b) (same_attempt a b) (moved file (v.kept b)) (v.kept b) (λ e. every-moved (IsWriters s b) (v.kept b) file (let P : Attempt → Type 0 = λ x. IsWriters s x file in subst P (same_attempt-is a b e) own) (c.kept b)) (λ e. c.kept b);
   released = c.released;
   released_mark = c.released_mark;
+  forgotten = c.forgotten;
 }
   where
     by : (b : Attempt) → Wins (all_records v) b → (f : ℕ) → IsStored f (v.kept b) (v.part b.task.number) v.marker
@@ -109,6 +113,7 @@ core-empty s v h a c none st there = record {
   kept = λ b. every-if (IsWriters s b) (same_attempt a b) (moved None (v.kept b)) (v.kept b) (λ e. every-moved (IsWriters s b) (v.kept b) None tt (c.kept b)) (λ e. c.kept b);
   released = c.released;
   released_mark = c.released_mark;
+  forgotten = c.forgotten;
 }
   where
     shown : (b : Attempt) → Wins (all_records v) b → (f : ℕ) → h b ≡ Some f → Every (IsFile f) (v.part b.task.number)
@@ -137,6 +142,7 @@ core-link s v h a file c w own handed none release = record {
   kept = c.kept;
   released = λ m. every-if (IfThere (IsReleased s.hold v.decision)) (a.task.number == m) (moved (Some file) (v.part m)) (v.part m) (λ e. every-moved (IfThere (IsReleased s.hold v.decision)) (v.part m) (Some file) release (c.released m)) (λ e. c.released m);
   released_mark = c.released_mark;
+  forgotten = forgotten-map s v.synced v.synced v.part (part_named a.task.number (Some file) v).part v.marker v.marker h h v.home (λ st. absurd (not-yet s v.synced v.part h a w none st)) (λ e. e) c.forgotten;
 }
   where
     made : (m : ℕ) → a.task.number ≡ m → PartOf s v.synced h m file
@@ -164,6 +170,7 @@ core-mark s v h file c st release = record {
   kept = c.kept;
   released = c.released;
   released_mark = every-moved (IfThere (IsReleased s.hold v.decision)) v.marker (Some file) release c.released_mark;
+  forgotten = forgotten-map s v.synced v.synced v.part v.part v.marker (moved (Some file) v.marker) h h v.home (λ st. st) (every-moved IsThere v.marker (Some file) tt) c.forgotten;
 }
   where
     by : (a : Attempt) (f : ℕ) → IsStored f (v.kept a) (v.part a.task.number) v.marker → IsStored f (v.kept a) (v.part a.task.number) (moved (Some file) v.marker)
@@ -188,6 +195,7 @@ core-decision s v h decision stays c = record {
   kept = c.kept;
   released = λ n. every-map (IfThere (IsReleased s.hold v.decision)) (IfThere (IsReleased s.hold decision)) (v.part n) (if-there-map _ _ (λ r e. stays (r e))) (c.released n);
   released_mark = every-map (IfThere (IsReleased s.hold v.decision)) (IfThere (IsReleased s.hold decision)) v.marker (if-there-map _ _ (λ r e. stays (r e))) c.released_mark;
+  forgotten = c.forgotten;
 }
 
 pub core-decide : (s : Setting) (v : View) (h : Attempt → Option ℕ) (file : ℕ) → Core s v h → Core s (decision_named (Some file) v) h
@@ -195,3 +203,20 @@ core-decide s v h file c = core-decision s v h (moved (Some file) v.decision) (�
 
 pub core-home : (s : Setting) (v : View) (h : Attempt → Option ℕ) → Core s v h → Core s (home_synced v) h
 core-home s v h c = core-decision s v h (settled v.decision) (λ e. every-settled IsThere v.decision e) c
+
+-- ---- the history is forgotten
+
+abbrev pub home_named : Option ℕ → View → View
+home_named file v = record v { home = moved file v.home }
+
+pub core-forget : (s : Setting) (v : View) (h : Attempt → Option ℕ) → Core s v h → Stand s v.synced v.part h → Every IsThere v.marker → Core s (home_named None v) h
+core-forget s v h c st there = record {
+  parts = c.parts;
+  marker = c.marker;
+  files = c.files;
+  of_job = c.of_job;
+  kept = c.kept;
+  released = c.released;
+  released_mark = c.released_mark;
+  forgotten = every-moved (IfGone (Published s v.synced v.part v.marker h)) v.home None (record { stand = st; marked = there }) c.forgotten;
+}

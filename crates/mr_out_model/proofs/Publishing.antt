@@ -8,7 +8,7 @@ use Rattle.mr_history.specs.declared.record.Record.{Record}
 use Rattle.mr_history.specs.declared.record.Record.TheVariants.{AttemptStarted, MapSucceeded, ReduceSucceeded, AttemptFailed, JobUnsuccessful}
 use Rattle.mr_history.specs.Winner.{winner_in}
 use Rattle.mr_history.proofs.Winners.{winner-of}
-use Rattle.mr_out_disk.specs.declared.place.Place.TheVariants.{Part, Marker, Kept, Work, Decision}
+use Rattle.mr_out_disk.specs.declared.place.Place.TheVariants.{Part, Marker, Kept, Work, Decision, Home}
 use Rattle.mr_out_disk.specs.declared.place.Folder.TheVariants as folder
 use Rattle.mr_out_disk.specs.declared.call.Call.{Call}
 use Rattle.mr_out_disk.specs.declared.call.Call.TheVariants as call
@@ -19,23 +19,25 @@ use Rattle.mr_out_disk.specs.declared.answer.Reply.TheVariants.{Done, Missing, T
 use Rattle.mr_out_disk.specs.Disk.{Moments, Disk, records, seen, moved, settled, named, folder_synced, file_synced}
 use Rattle.mr_out_disk.specs.Calls.{made, effect, CanMake, MaySay, IsHonest}
 use Rattle.mr_out_disk.specs.Cuts.{IsFront}
+use Rattle.mr_out_steps.specs.declared.order.Order.{Order}
+use Rattle.mr_out_steps.specs.declared.order.Order.TheVariants as order
 use Rattle.mr_out_steps.specs.declared.order.Outcome.{Outcome}
 use Rattle.mr_out_steps.specs.declared.order.Outcome.TheVariants as outcome
 use Rattle.mr_out_steps.specs.declared.phase.Phase.{Phase}
-use Rattle.mr_out_steps.specs.declared.phase.Phase.TheVariants.{Reading, SyncingEnd, FindingClaim, FindingWork, Claiming, SyncingFile, SyncingClaim, Appending, Committing, DroppingClaim, DroppingWork, FindingDecision, Deciding, SyncingDecision, Listing, FindingKept, Linking, Comparing, SyncingParts, Marking, SyncingMarker, Emptying, Over}
+use Rattle.mr_out_steps.specs.declared.phase.Phase.TheVariants.{Reading, SyncingEnd, FindingClaim, FindingWork, Claiming, SyncingFile, SyncingClaim, Appending, Committing, DroppingClaim, DroppingWork, FindingDecision, Deciding, SyncingDecision, Listing, FindingKept, Linking, Comparing, SyncingParts, Marking, SyncingMarker, Emptying, FindingMarker, Forgetting, SyncingForgotten, Over}
 use Rattle.mr_out_steps.specs.declared.phase.Turn.TheVariants.{Goes, LinksNext}
 use Rattle.mr_out_steps.specs.Standing.{task_of}
 use Rattle.mr_out_steps.specs.Commands.{Command, call_in}
-use Rattle.mr_out_steps.specs.Steps.{turn, acts, compared, goes, begins, holds, follows, noted, links, empties, ends, reads, listed, fails_now, is_reading, is_listing}
+use Rattle.mr_out_steps.specs.Steps.{turn, acts, compared, goes, begins, holds, follows, noted, links, ends_or, empties, ends, reads, listed, fails_now, is_reading, is_listing}
 use Rattle.mr_out_model.specs.Worlds.{Setting, World, handed_by}
 use Rattle.mr_out_model.specs.Runs.{IsWriters}
 use Rattle.mr_out_model.proofs.Moments.{Every, EveryOf, every-if, every-moved, every-settled}
 use Rattle.mr_out_model.proofs.Standings.{IsOpen}
 use Rattle.mr_out_model.proofs.Invariant as inv
-use Rattle.mr_out_model.proofs.Invariant.{View, view, all_records, IsFile, IsThere, Wins, PartOf, IsPart, Shown, Stand, IsStored, File, OfJob, Core, Known, Held, Durable, Opens, MayAppend, Fate, IsAmong, AreWinners, Seen, ToLink, At, Amid, IsReleased}
+use Rattle.mr_out_model.proofs.Invariant.{View, view, all_records, IsFile, IsThere, IfThere, IsGone, Wins, PartOf, IsPart, Shown, Stand, IsStored, File, OfJob, Core, Known, Held, Durable, Opens, MayAppend, Fate, IsAmong, AreWinners, Seen, ToLink, At, Amid, IsReleased, FinishedOf}
 use Rattle.mr_out_model.proofs.Records.{some-one, none-some, no-winner, one-winner, wins-own, none-all, appended_too, synced_too, core-success, core-plain, core-sync, told-success, told-plain, told-sync, stand-grows, stand-handed, handed-other, another, failure-plain, start-plain, map-plain, end-plain}
-use Rattle.mr_out_model.proofs.Names.{core-output, core-kept, core-whole, core-claim, core-empty, core-link, core-mark, core-decide, core-home, output_synced, stand-output, not-yet, kept_named, part_named, marker_named}
-use Rattle.mr_out_model.proofs.Turns.{ends-amid, holds-amid, links-amid, empties-amid, begins-amid, follows-amid}
+use Rattle.mr_out_model.proofs.Names.{core-output, core-kept, core-whole, core-claim, core-empty, core-link, core-mark, core-decide, core-home, core-forget, output_synced, stand-output, not-yet, kept_named, part_named, marker_named}
+use Rattle.mr_out_model.proofs.Turns.{ends-amid, holds-amid, links-amid, or-amid, empties-amid, begins-amid, follows-amid}
 use Rattle.mr_out_model.proofs.Answering.{Grows, Before, Behind, front-itself, same, stays, fail, After, itself}
 
 there-now : (x : Option ℕ) → (x ≡ None → ⊥) → IsThere x
@@ -57,7 +59,7 @@ on-deciding s w c b at Done m = record {
   work = b.work;
   told = b.told;
   amid = record { fits = b.fits; here = (at.0, at.1, tt) };
-  grows = record { front = front-itself w.disk.synced; stand = λ st. st; handed = λ x y. refl; bytes = λ x g y z. refl; decision = λ e. every-moved IsThere (w.disk.moments Decision) (Some 0) tt e };
+  grows = record { front = front-itself w.disk.synced; stand = λ st. st; handed = λ x y. refl; bytes = λ x g y z. refl; decision = λ e. every-moved IsThere (w.disk.moments Decision) (Some 0) tt e; marker = λ e. e; home = λ e. e };
 }
 on-deciding s w c b at Taken m = stays s w c SyncingDecision b (at.0, at.1, there-now (seen w.disk Decision) m)
 on-deciding s w c b at _ m = fail s w c b
@@ -69,7 +71,7 @@ on-syncing-decision s w c b at Done = record {
   work = b.work;
   told = b.told;
   amid = record { fits = b.fits; here = (at.0, at.1, λ held. (at.2, tt)) };
-  grows = record { front = front-itself w.disk.synced; stand = λ st. st; handed = λ x y. refl; bytes = λ x g y z. refl; decision = λ e. every-settled IsThere (w.disk.moments Decision) e };
+  grows = record { front = front-itself w.disk.synced; stand = λ st. st; handed = λ x y. refl; bytes = λ x g y z. refl; decision = λ e. every-settled IsThere (w.disk.moments Decision) e; marker = λ e. e; home = λ e. e };
 }
 on-syncing-decision s w c b at _ = fail s w c b
 
@@ -138,7 +140,7 @@ on-linking s w c a f b at Done m =
       work = b.work;
       told = b.told;
       amid = links-amid s (part_named a.task.number (Some f) (view w.disk)) w.handed c c.left b.fits at.0 (linked-one s w.disk.synced (view w.disk).part w.handed a f c.left m.1 handed at.1) at.3;
-      grows = record { front = front-itself w.disk.synced; stand = λ st. absurd (not-yet s w.disk.synced (view w.disk).part w.handed a wins m.1 st); handed = λ x y. refl; bytes = λ x g y z. refl; decision = λ e. e };
+      grows = record { front = front-itself w.disk.synced; stand = λ st. absurd (not-yet s w.disk.synced (view w.disk).part w.handed a wins m.1 st); handed = λ x y. refl; bytes = λ x g y z. refl; decision = λ e. e; marker = λ e. e; home = λ e. e };
     }
 on-linking s w c a f b at Taken m = stays s w c (Comparing a (Some f)) b (at.0, at.1, at.3)
 on-linking s w c a f b at _ m = fail s w c b
@@ -202,7 +204,7 @@ on-syncing-parts s w c b at Done = record {
   work = b.work;
   told = b.told;
   amid = record { fits = b.fits; here = (at.0, standing-now s w.disk.synced (view w.disk).part w.handed at.1, at.2) };
-  grows = record { front = front-itself w.disk.synced; stand = stand-output s (view w.disk) w.handed; handed = λ x y. refl; bytes = λ x g y z. refl; decision = λ e. e };
+  grows = record { front = front-itself w.disk.synced; stand = stand-output s (view w.disk) w.handed; handed = λ x y. refl; bytes = λ x g y z. refl; decision = λ e. e; marker = every-settled IsThere (w.disk.moments Marker); home = every-settled IsGone (w.disk.moments Home) };
 }
 on-syncing-parts s w c b at _ = fail s w c b
 
@@ -213,7 +215,7 @@ on-marking s w c b at Done m = record {
   work = b.work;
   told = b.told;
   amid = record { fits = b.fits; here = (at.0, at.1, tt) };
-  grows = record { front = front-itself w.disk.synced; stand = λ st. st; handed = λ x y. refl; bytes = λ x g y z. refl; decision = λ e. e };
+  grows = record { front = front-itself w.disk.synced; stand = λ st. st; handed = λ x y. refl; bytes = λ x g y z. refl; decision = λ e. e; marker = every-moved IsThere (w.disk.moments Marker) (Some 0) tt; home = λ e. e };
 }
 on-marking s w c b at Taken m = stays s w c SyncingMarker b (at.0, at.1, there-now (seen w.disk Marker) m)
 on-marking s w c b at _ m = fail s w c b
@@ -225,7 +227,7 @@ on-syncing-marker s w c b at Done = record {
   work = b.work;
   told = b.told;
   amid = empties-amid s (output_synced (view w.disk)) w.handed c c.kept b.fits at.0 (stand-output s (view w.disk) w.handed at.1) (at.2, tt);
-  grows = record { front = front-itself w.disk.synced; stand = stand-output s (view w.disk) w.handed; handed = λ x y. refl; bytes = λ x g y z. refl; decision = λ e. e };
+  grows = record { front = front-itself w.disk.synced; stand = stand-output s (view w.disk) w.handed; handed = λ x y. refl; bytes = λ x g y z. refl; decision = λ e. e; marker = every-settled IsThere (w.disk.moments Marker); home = every-settled IsGone (w.disk.moments Home) };
 }
 on-syncing-marker s w c b at _ = fail s w c b
 
@@ -236,15 +238,52 @@ on-emptying s w c a b at Done = record {
   work = b.work;
   told = b.told;
   amid = empties-amid s (kept_named a None (view w.disk)) w.handed c c.kept b.fits at.0 at.1 at.2;
-  grows = record { front = front-itself w.disk.synced; stand = λ st. st; handed = λ x y. refl; bytes = λ x g y z. refl; decision = λ e. e };
+  grows = record { front = front-itself w.disk.synced; stand = λ st. st; handed = λ x y. refl; bytes = λ x g y z. refl; decision = λ e. e; marker = λ e. e; home = λ e. e };
 }
 on-emptying s w c a b at Missing = same s w c (empties c.kept c) b (empties-amid s (view w.disk) w.handed c c.kept b.fits at.0 at.1 at.2)
 on-emptying s w c a b at _ = fail s w c b
 
+-- ---- the history is forgotten
+
+pub on-finding-marker : (s : Setting) (w : World) (c : Command) → Before s w c → At s (view w.disk) w.handed c FindingMarker → (reply : Reply) → MaySay w.disk (call.Look Marker) reply → After s w c FindingMarker (call.Look Marker) reply
+unfolding turn
+on-finding-marker s w c b at (Found f) m =
+    let P : Option ℕ → Type 0 = λ x. IfThere (Stand s w.disk.synced (view w.disk).part w.handed) x in
+    stays s w c SyncingMarker b (at, subst P m b.core.marker.0, subst IsThere (sym m) tt)
+on-finding-marker s w c b at Missing m = stays s w c (Over outcome.Unpublished) b tt
+on-finding-marker s w c b at Odd m = stays s w c (Over outcome.Unpublished) b tt
+on-finding-marker s w c b at _ m = fail s w c b
+
+pub on-forgetting : (s : Setting) (w : World) (c : Command) → Before s w c → At s (view w.disk) w.handed c Forgetting → (reply : Reply) → After s w c Forgetting (call.Remove Home) reply
+unfolding turn
+on-forgetting s w c b at Done = record {
+  core = core-forget s (view w.disk) w.handed b.core at.1 at.2;
+  work = b.work;
+  told = b.told;
+  amid = record { fits = b.fits; here = refl };
+  grows = record { front = front-itself w.disk.synced; stand = λ st. st; handed = λ x y. refl; bytes = λ x g y z. refl; decision = λ e. e; marker = λ e. e; home = every-moved IsGone (w.disk.moments Home) None refl };
+}
+on-forgetting s w c b at _ = fail s w c b
+
+finished : (o : Order) (home : Moments) → Every IsGone home → FinishedOf home o
+finished order.Forget home e = e
+finished _ home e = tt
+
+pub on-syncing-forgotten : (s : Setting) (w : World) (c : Command) → Before s w c → At s (view w.disk) w.handed c SyncingForgotten → (reply : Reply) → After s w c SyncingForgotten (call.SyncFolder folder.Output) reply
+unfolding turn
+on-syncing-forgotten s w c b at Done = record {
+  core = core-output s (view w.disk) w.handed b.core;
+  work = b.work;
+  told = b.told;
+  amid = record { fits = b.fits; here = finished c.order (settled (w.disk.moments Home)) (at, tt) };
+  grows = record { front = front-itself w.disk.synced; stand = stand-output s (view w.disk) w.handed; handed = λ x y. refl; bytes = λ x g y z. refl; decision = λ e. e; marker = every-settled IsThere (w.disk.moments Marker); home = every-settled IsGone (w.disk.moments Home) };
+}
+on-syncing-forgotten s w c b at _ = fail s w c b
+
 -- ---- lists
 
 pub on-listing : (s : Setting) (w : World) (c : Command) (attempts : List Attempt) → Before s w c → At s (view w.disk) w.handed c Listing → Behind s w w.disk w.handed (listed attempts c)
-on-listing s w c [] b at = same s w c (ends c) b (ends-amid s (view w.disk) w.handed c b.fits at.0)
+on-listing s w c [] b at = same s w c (ends_or FindingMarker c.order c) b (or-amid s (view w.disk) w.handed c FindingMarker c.order b.fits at.0 at.0)
 on-listing s w c (a ∷ rest) b at =
     let e : Command = record c { kept = a ∷ rest } in
     same s w c (links c.left e) b (links-amid s (view w.disk) w.handed e c.left b.fits at.0 at.1 at.2)

@@ -18,7 +18,7 @@ use Rattle.mr_out_model.specs.Runs.{IsWriters}
 use Rattle.mr_out_model.specs.Promises.{HasTold, HasToldLoss}
 use Rattle.mr_out_model.proofs.Moments.{Every, EveryOf, every-map}
 use Rattle.mr_out_model.proofs.Standings.{IsOpen, Why}
-use Rattle.mr_out_model.proofs.Invariant.{View, all_records, IsFile, IsThere, IfThere, Wins, PartOf, IsPart, Shown, Stand, IsStored, File, OfJob, Core, Lost, Told, Durable, Opens}
+use Rattle.mr_out_model.proofs.Invariant.{View, all_records, IsFile, IsThere, IfThere, IfGone, Wins, PartOf, IsPart, Shown, Stand, Published, IsStored, File, OfJob, Core, Lost, Told, Durable, Opens}
 
 pub some-one : (m n : ℕ) → Some m ≡ Some n → m ≡ n
 some-one m n e = cc
@@ -128,6 +128,20 @@ pub if-there-map : (X Y : Type 0) → (X → Y) → (x : Option ℕ) → IfThere
 if-there-map X Y f None i = tt
 if-there-map X Y f (Some n) i = f i
 
+pub if-gone-map : (X Y : Type 0) → (X → Y) → (x : Option ℕ) → IfGone X x → IfGone Y x
+if-gone-map X Y f None i = f i
+if-gone-map X Y f (Some n) i = tt
+
+-- what stood published stands so still, at each moment in which the history was forgotten
+pub forgotten-map : (s : Setting) (rs qs : List Record) (part part_later : ℕ → Moments) (marker marker_later : Moments) (h k : Attempt → Option ℕ) (home : Moments)
+    → (Stand s rs part h → Stand s qs part_later k) → (Every IsThere marker → Every IsThere marker_later)
+    → Every (IfGone (Published s rs part marker h)) home → Every (IfGone (Published s qs part_later marker_later k)) home
+forgotten-map s rs qs part part_later marker marker_later h k home f g e =
+    every-map (IfGone (Published s rs part marker h)) (IfGone (Published s qs part_later marker_later k)) home (if-gone-map (Published s rs part marker h) (Published s qs part_later marker_later k) still) e
+  where
+    still : Published s rs part marker h → Published s qs part_later marker_later k
+    still p = record { stand = f p.stand; marked = g p.marked }
+
 pub none-all : (v : View) → v.appended ≡ [] → all_records v ≡ v.synced
 none-all v e = ap (λ (rs : List Record). v.synced ++ rs) e ∙ append-nil v.synced
 
@@ -149,6 +163,7 @@ core-success s v h a bytes c none opens durable = record {
   kept = c.kept;
   released = c.released;
   released_mark = c.released_mark;
+  forgotten = forgotten-map s v.synced v.synced v.part v.part v.marker v.marker h k v.home (stand-handed s v.synced v.part h k same) (λ e. e) c.forgotten;
 }
   where
     k : Attempt → Option ℕ
@@ -195,6 +210,7 @@ core-plain s v h r c plain = record {
   kept = c.kept;
   released = c.released;
   released_mark = c.released_mark;
+  forgotten = c.forgotten;
 }
 
 -- ---- what was appended is made durable
@@ -229,6 +245,7 @@ core-sync s v h c = record {
   kept = c.kept;
   released = c.released;
   released_mark = c.released_mark;
+  forgotten = forgotten-map s v.synced (v.synced ++ v.appended) v.part v.part v.marker v.marker h h v.home (stand-grows s v.synced v.appended v.part h c.of_job) (λ e. e) c.forgotten;
 }
   where
     was : (a : Attempt) → Wins (all_records (synced_too v)) a → Wins (all_records v) a

@@ -17,10 +17,10 @@ use Rattle.mr_out_steps.specs.declared.order.Order.{Order}
 use Rattle.mr_out_steps.specs.declared.order.Order.TheVariants as order
 use Rattle.mr_out_steps.specs.declared.order.Outcome.TheVariants as outcome
 use Rattle.mr_out_steps.specs.declared.phase.Phase.{Phase}
-use Rattle.mr_out_steps.specs.declared.phase.Phase.TheVariants.{FindingDecision, Deciding, Listing, FindingClaim, Appending, MakingFolder, Over}
+use Rattle.mr_out_steps.specs.declared.phase.Phase.TheVariants.{FindingDecision, Deciding, Listing, FindingClaim, Appending, Forgetting, MakingFolder, Over}
 use Rattle.mr_out_steps.specs.Standing.{task_of, tells_failure, standing, winners, with_winner, is_over, has_winner, is_alive_at, next_attempt, first_alive, first_idle}
 use Rattle.mr_out_steps.specs.Commands.{Command}
-use Rattle.mr_out_steps.specs.Steps.{answer_to, answer_early, ends, decides, releases, lists, holds, publishes, is_under_way, own_work, goes, begins_with, begins, is_settled, is_to_end, starts, starts_one, starts_first, starts_beside, gives_up, starts_over, follows, noted, links, empties}
+use Rattle.mr_out_steps.specs.Steps.{answer_to, answer_early, ends, decides, releases, lists, holds, publishes, is_under_way, own_work, goes, begins_with, begins, is_settled, is_to_end, starts, starts_one, starts_first, starts_beside, gives_up, starts_over, follows, noted, links, ends_or, empties}
 use Rattle.mr_out_model.specs.Worlds.{Setting}
 use Rattle.mr_out_model.proofs.Moments.{Every}
 use Rattle.mr_out_model.proofs.Standings.{IsOpen, is-open}
@@ -103,6 +103,7 @@ ending s v c fits k o = by o
     by order.Resume = tt
     by order.Abort = aborted (is_over c.records)
     by order.Publish = published (is_over c.records)
+    by order.Forget = tt
     by order.StartNext = started order.StartNext tt (is_over c.records)
     by (order.StartAt n) = started (order.StartAt n) tt (is_over c.records)
     by (order.StartOver n) = started (order.StartOver n) tt (is_over c.records)
@@ -121,6 +122,7 @@ early-amid s v h c fits k = record { fits = fits; here = by c.order }
     by order.Resume = ending s v c fits k order.Resume
     by order.Abort = ending s v c fits k order.Abort
     by order.Publish = tt
+    by order.Forget = ending s v c fits k order.Forget
     by order.StartNext = ending s v c fits k order.StartNext
     by (order.StartAt n) = ending s v c fits k (order.StartAt n)
     by (order.StartOver n) = ending s v c fits k (order.StartOver n)
@@ -177,8 +179,13 @@ pub links-amid : (s : Setting) (v : View) (h : Attempt → Option ℕ) (c : Comm
 links-amid s v h c [] fits k l release = record { fits = fits; here = (k, l, release) }
 links-amid s v h c (a ∷ rest) fits k l release = record { fits = fits; here = (k, l, release) }
 
+-- nothing is left to publish
+pub or-amid : (s : Setting) (v : View) (h : Attempt → Option ℕ) (c : Command) (p : Phase) (o : Order) → IsOf s c → Known v.synced v.appended c.records → At s v h (goes p c) p → Amid s v h (ends_or p o c)
+or-amid s v h c p order.Forget fits k at = record { fits = fits; here = at }
+or-amid s v h c p _ fits k at = ends-amid s v h c fits k
+
 pub empties-amid : (s : Setting) (v : View) (h : Attempt → Option ℕ) (c : Command) (left : List Attempt) → IsOf s c → Known v.synced v.appended c.records → Stand s v.synced v.part h → Every IsThere v.marker → Amid s v h (empties left c)
-empties-amid s v h c [] fits k st there = ends-amid s v h c fits k
+empties-amid s v h c [] fits k st there = or-amid s v h c Forgetting c.order fits k (k, st, there)
 empties-amid s v h c (a ∷ rest) fits k st there = record { fits = fits; here = (k, st, there) }
 
 -- ---- its own work
@@ -281,6 +288,7 @@ begins-amid s v h c core fits k = first (is_to_end c)
     by order.Resume e = published
     by order.Abort e = abort (is_settled c)
     by order.Publish e = published
+    by order.Forget e = published
     by order.StartNext e = next (is_over c.records)
     by (order.StartAt n) e = beside n (is_over c.records || has_winner c.records (task_of c.job n))
     by (order.StartOver n) e = over n (is_over c.records || has_winner c.records (task_of c.job n)) refl

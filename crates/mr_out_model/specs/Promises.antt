@@ -4,13 +4,18 @@ use Rattle.std.specs.Prelude.{◌≡◌, ◌≢◌, ◌⊎◌, ◌<◌, ℕ, tru
 use Rattle.mr_ids.specs.Attempt.{Attempt}
 use Rattle.mr_history.specs.Winner.{winner_in}
 use Rattle.mr_out_disk.specs.declared.place.Place.{Place}
-use Rattle.mr_out_disk.specs.declared.place.Place.TheVariants.{Part, Marker, Decision}
+use Rattle.mr_out_disk.specs.declared.place.Place.TheVariants.{Part, Marker, Decision, Home}
 use Rattle.mr_out_disk.specs.Disk.{seen}
 use Rattle.mr_out_disk.specs.Cuts.{IsFront}
 use Rattle.mr_out_steps.specs.declared.standing.Standing.{Standing}
 use Rattle.mr_out_steps.specs.declared.standing.Standing.TheVariants.{Won, Beaten, GivenUp, JobOver}
+use Rattle.mr_out_steps.specs.declared.order.Order.{Order}
 use Rattle.mr_out_steps.specs.declared.order.Order.TheVariants as order
+use Rattle.mr_out_steps.specs.declared.order.Outcome.{Outcome}
+use Rattle.mr_out_steps.specs.declared.order.Outcome.TheVariants as outcome
+use Rattle.mr_out_steps.specs.declared.phase.Phase.TheVariants.{Over}
 use Rattle.mr_out_steps.specs.Standing.{task_of}
+use Rattle.mr_out_steps.specs.Commands.{Command}
 use Rattle.mr_out_model.specs.Worlds.{Setting, Telling, World, begun}
 use Rattle.mr_out_model.specs.Runs.{Move, Starts, Answers, Ends, Stops, Writes, Names, Cuts, after, IsRun}
 
@@ -50,6 +55,8 @@ pub record Promises (s : Setting) (w v : World) : Type 0 where
   pub bytes_stay : seen w.disk Marker ≢ None → (n f : ℕ) → seen w.disk (Part n) ≡ Some f → v.disk.bytes f ≡ w.disk.bytes f
   -- under hold, where anything is visible it was decided to publish, and no power cut takes that back
   pub held : s.hold ≡ true → (p : Place) → IsVisible p → seen w.disk p ≢ None → seen v.disk Decision ≢ None
+  -- where the history is forgotten, the marker is there, and stays
+  pub forgotten : seen w.disk Home ≡ None → seen v.disk Marker ≢ None
   -- of whom a command said that it won, it is the recorded winner from then on
   pub won : (a : Attempt) → HasTold w.told a Won → winner_in v.disk.synced a.task ≡ Some a
   -- and of whom one said that it lost, it never is
@@ -89,3 +96,23 @@ pub record Reads (s : Setting) (w v : World) (n : ℕ) : Type 0 where
 abbrev pub ReadersFindWinners : Type 0
 ReadersFindWinners = (s : Setting) (bytes : ℕ → ℕ) (moves more : List Move) → IsRun s (begun bytes) moves → IsRun s (after s (begun bytes) moves) more
     → seen (after s (begun bytes) moves).disk Marker ≢ None → (n : ℕ) → n < s.tasks → Reads s (after s (begun bytes) moves) (after s (after s (begun bytes) moves) more) n
+
+-- ---- a directory whose history was forgotten
+
+-- a command with this order has ended so
+pub record HasEnded (w : World) (o : Order) (end : Outcome) : Type 0 where
+  pub command : Command
+  pub running : w.running ≡ Some command
+  pub asked : command.order ≡ o
+  pub ended : command.phase ≡ Over end
+
+-- What is left: nothing of what the commands kept for themselves, and the marker beside one file of each task, its winner's.
+pub record IsLeftAlone (s : Setting) (w v : World) : Type 0 where
+  pub home : seen v.disk Home ≡ None
+  pub marker : seen v.disk Marker ≢ None
+  pub tasks : (n : ℕ) → n < s.tasks → Reads s w v n
+
+-- Once an order to forget was carried out, that is so at every later moment, whatever power cuts come.
+abbrev pub ForgottenDirectoriesStay : Type 0
+ForgottenDirectoriesStay = (s : Setting) (bytes : ℕ → ℕ) (moves more : List Move) → IsRun s (begun bytes) moves → IsRun s (after s (begun bytes) moves) more
+    → HasEnded (after s (begun bytes) moves) order.Forget outcome.Finished → IsLeftAlone s (after s (begun bytes) moves) (after s (after s (begun bytes) moves) more)

@@ -1,10 +1,10 @@
 -- What may happen to an output directory, one move after another. Our own.
-use Rattle.std.specs.Prelude.{◌≡◌, ◌==◌, ℕ, false, List, [], ◌∷◌, ◌++◌, Option, Some, None, if◌then◌else◌}
+use Rattle.std.specs.Prelude.{◌≡◌, ◌≢◌, ◌==◌, ℕ, false, List, [], ◌∷◌, ◌++◌, Option, Some, None, if◌then◌else◌}
 use Rattle.mr_ids.specs.Attempt.{Attempt}
-use Rattle.mr_out_disk.specs.declared.place.Place.TheVariants.{Work}
+use Rattle.mr_out_disk.specs.declared.place.Place.TheVariants.{Work, Home}
 use Rattle.mr_out_disk.specs.declared.call.Call.{Call}
 use Rattle.mr_out_disk.specs.declared.answer.Answer.{Answer}
-use Rattle.mr_out_disk.specs.Disk.{Disk, named}
+use Rattle.mr_out_disk.specs.Disk.{Disk, seen, named}
 use Rattle.mr_out_disk.specs.Calls.{effect, IsHonest}
 use Rattle.mr_out_disk.specs.Cuts.{IsCut}
 use Rattle.mr_out_steps.specs.declared.order.Order.{Order}
@@ -72,9 +72,9 @@ abbrev pub IsWriters : Setting → Attempt → Option ℕ → Type 0
 IsWriters s a None = Unit {0}
 IsWriters s a (Some file) = s.writer file ≡ a
 
--- One command at a time holds the lock; others write no file that is claimed; answers and cuts are honest.
+-- One command at a time holds the lock, where the history was not forgotten; others write no file that is claimed; answers and cuts are honest.
 unfoldable pub May : Setting → World → Move → Type 0
-May s w (Starts order) = w.running ≡ None
+May s w (Starts order) = (w.running ≡ None) × (seen w.disk Home ≢ None)
 May s w (Answers answer) = MayHear w w.running answer
 May s w Ends = Unit {0}
 May s w Stops = Unit {0}

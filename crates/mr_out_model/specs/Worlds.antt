@@ -5,7 +5,8 @@ use Rattle.mr_ids.specs.Same.{same_attempt}
 use Rattle.mr_ids.specs.declared.id.JobId.{JobId}
 use Rattle.mr_history.specs.declared.record.Record.{Record}
 use Rattle.mr_history.specs.declared.record.Record.TheVariants.{ReduceSucceeded}
-use Rattle.mr_out_disk.specs.declared.place.Place.TheVariants.{Part, Kept}
+use Rattle.mr_out_disk.specs.declared.place.Place.{Place}
+use Rattle.mr_out_disk.specs.declared.place.Place.TheVariants.{Part, Kept, Home}
 use Rattle.mr_out_disk.specs.declared.call.Call.{Call}
 use Rattle.mr_out_disk.specs.declared.call.Call.TheVariants.{AppendHistory}
 use Rattle.mr_out_disk.specs.declared.answer.Answer.{Answer}
@@ -42,10 +43,15 @@ pub record World : Type 0 where
   -- what commands told, the newest first
   pub told : List Telling
 
+-- the folder of what the commands keep for themselves is there, and no other name
+abbrev pub first_at : Place → Option ℕ
+first_at Home = Some 0
+first_at p = None
+
 -- what an honest `begin` leaves: a history with no record, no name, and files of which nothing is known
 abbrev pub begun : (ℕ → ℕ) → World
 begun bytes = record {
-  disk = record { synced = []; appended = []; moments = λ p. record { now = None; before = [] }; bytes = bytes; is_whole = λ f. false };
+  disk = record { synced = []; appended = []; moments = λ p. record { now = first_at p; before = [] }; bytes = bytes; is_whole = λ f. false };
   running = None;
   handed = λ a. None;
   told = [];

@@ -11,6 +11,9 @@
 //! `readers_find_winners`: a reader who saw the marker and then lists and reads, at whatever moments, finds one file of
 //! each task, its winner's, and its bytes stay.
 //!
+//! `forgotten_directories_stay`: once the history of a published job was forgotten, what a reader finds stays, and nothing
+//! of the history comes back. Until then all of it counts: a command begins only where it is there.
+//!
 //! `segments_keep_fronts`: a power cut that keeps a front of a segment's bytes keeps a front of its records. So the
 //! history of a world is spoken of as records.
 #![tactic(auto)]
@@ -18,5 +21,6 @@
 mod laws;
 
 pub use laws::{
-    directory_keeps_promises, held_jobs_wait, readers_find_winners, segments_keep_fronts,
+    directory_keeps_promises, forgotten_directories_stay, held_jobs_wait, readers_find_winners,
+    segments_keep_fronts,
 };

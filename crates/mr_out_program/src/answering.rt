@@ -1,12 +1,18 @@
 //! A command is carried out, and what comes of it is told.
+ghost use Rattle.std.specs.Prelude.{◌≡◌, [], IfOk};
+ghost use Rattle.std.specs.String.{string_bytes};
+ghost use Rattle.mr_out_program.specs.Sayings.{text_of, message_of, status_of, fault_status};
+
 use crate::asked::{Asked, Command, Failing};
 use crate::attempts::{attempt, attempt_all, done, fail_all, fail_one, fail_task};
 use crate::beginning::begin;
 use crate::ending::settle;
-use crate::standing::{is_published, status};
-use mr_out_files::{Directory, Fault, GONE, HOME, Lock, Why, host_of, remove_folder, sync_folder};
-use mr_out_steps::{Order, Outcome};
-use std::{fs, io};
+use crate::saying::{Saying, order_saying, publish_saying};
+use crate::standing::status;
+use mr_ids::AttemptId;
+use mr_out_files::{Directory, Fault, GONE, Lock, Why, host_of, remove_folder, sync_folder};
+use mr_out_steps::Order;
+use std::io;
 
 /// What is printed, and the exit status.
 #[derive(Drop)]
@@ -21,7 +27,10 @@ pub struct Answered {
 
 impl Answered {
     /// A status with nothing to print.
-    pub(crate) fn plain(rt: &HostRuntime, status: u8) -> Answered {
+    pub(crate) fn plain(rt: &HostRuntime, status: u8) -> Answered
+        ensures prints { string_bytes result.output ≡ [] }
+        ensures ends { result.status ≡ status }
+    {
         Answered {
             output: String::new(rt.alloc()),
             message: String::new(rt.alloc()),
@@ -30,7 +39,10 @@ impl Answered {
     }
 
     /// A status with what standard output is given.
-    pub(crate) fn told(rt: &HostRuntime, output: String, status: u8) -> Answered {
+    pub(crate) fn told(rt: &HostRuntime, output: String, status: u8) -> Answered
+        ensures prints { result.output ≡ output }
+        ensures ends { result.status ≡ status }
+    {
         Answered {
             output,
             message: String::new(rt.alloc()),
@@ -38,10 +50,19 @@ impl Answered {
         }
     }
 
-    /// A word on a line, and a status.
-    pub(crate) fn word(rt: &HostRuntime, word: &str, status: u8) -> Result<Answered, Fault> {
-        let output = format!(in rt.alloc(); "{word}\n")?;
-        Ok(Answered::told(rt, output, status))
+    /// What a command says of how it ended.
+    pub(crate) fn said(rt: &HostRuntime, saying: Saying) -> Result<Answered, Fault>
+        ensures prints { IfOk result (λ a. string_bytes a.output ≡ text_of saying) }
+        ensures says { IfOk result (λ a. string_bytes a.message ≡ message_of saying) }
+        ensures ends { IfOk result (λ a. a.status ≡ status_of saying) }
+    {
+        let output = String::from_str(rt.alloc(), saying.text())?;
+        let message = String::from_str(rt.alloc(), saying.message())?;
+        Ok(Answered {
+            output,
+            message,
+            status: saying.status(),
+        })
     }
 }
 
@@ -56,7 +77,7 @@ pub fn answer(rt: &HostRuntime, asked: &Asked<'_>) -> Answered {
 
 // A fault as a line of standard error, with its status. Its path is absolute.
 fn refused(rt: &HostRuntime, fault: &Fault) -> Answered {
-    let status = status_of(fault);
+    let status = fault_status(fault);
     match format!(in rt.alloc(); "mrout: {fault}\n") {
         Ok(message) => Answered {
             output: String::new(rt.alloc()),
@@ -67,7 +88,9 @@ fn refused(rt: &HostRuntime, fault: &Fault) -> Answered {
     }
 }
 
-fn status_of(fault: &Fault) -> u8 {
+fn fault_status(fault: &Fault) -> u8
+    ensures { result ≡ fault_status fault.now }
+{
     match fault {
         Fault::NoMemory => 5,
         Fault::Call {
@@ -92,7 +115,7 @@ fn carried(rt: &HostRuntime, asked: &Asked<'_>) -> Result<Answered, Fault> {
         } => begin(rt, asked, (tasks, limit, suffix, hold), again),
         Command::Attempt { task, over } => attempt(rt, &mut open(rt, asked)?, task, over),
         Command::AttemptAll => attempt_all(rt, &mut open(rt, asked)?),
-        Command::Done { attempt } => done(rt, &mut open(rt, asked)?, attempt),
+        Command::Done { attempt } => done(rt, &mut open_done(rt, asked, attempt)?, attempt),
         Command::Fail(Failing::One(attempt)) => fail_one(rt, &mut open(rt, asked)?, attempt),
         Command::Fail(Failing::Task(task)) => fail_task(rt, &mut open(rt, asked)?, task),
         Command::Fail(Failing::All) => fail_all(rt, &mut open(rt, asked)?),
@@ -106,7 +129,23 @@ fn carried(rt: &HostRuntime, asked: &Asked<'_>) -> Result<Answered, Fault> {
 
 // The directory, with its lock for one who writes. It is of this host.
 fn open(rt: &HostRuntime, asked: &Asked<'_>) -> Result<Directory, Fault> {
-    let directory = open_any(rt, asked, false)?;
+    open_here(rt, asked, None)
+}
+
+// The same, for the attempt with this text, which hands in.
+fn open_done(rt: &HostRuntime, asked: &Asked<'_>, text: &str) -> Result<Directory, Fault> {
+    match AttemptId::parse(text) {
+        Ok(a) => open_here(rt, asked, Some(a)),
+        Err(_) => open_here(rt, asked, None),
+    }
+}
+
+fn open_here(
+    rt: &HostRuntime,
+    asked: &Asked<'_>,
+    handing: Option<AttemptId>,
+) -> Result<Directory, Fault> {
+    let directory = open_any(rt, asked, false, handing)?;
     let host = host_of(rt)?;
     if directory.job.host != host {
         return Err(Fault::refused(rt.alloc(), ".", Why::OtherHost));
@@ -116,43 +155,35 @@ fn open(rt: &HostRuntime, asked: &Asked<'_>) -> Result<Directory, Fault> {
 
 // The directory, with its lock for one who reads.
 fn open_shared(rt: &HostRuntime, asked: &Asked<'_>) -> Result<Directory, Fault> {
-    open_any(rt, asked, true)
+    open_any(rt, asked, true, None)
 }
 
-fn open_any(rt: &HostRuntime, asked: &Asked<'_>, is_shared: bool) -> Result<Directory, Fault> {
+fn open_any(
+    rt: &HostRuntime,
+    asked: &Asked<'_>,
+    is_shared: bool,
+    handing: Option<AttemptId>,
+) -> Result<Directory, Fault> {
     let lock = Lock {
         is_shared,
         wait: asked.wait.map(|seconds| seconds.saturating_mul(1000)),
     };
-    Directory::open(rt, asked.dir, lock)
+    Directory::open(rt, asked.dir, lock, handing)
 }
 
 fn publish(rt: &HostRuntime, directory: &mut Directory) -> Result<Answered, Fault> {
-    match settle(rt, directory, Order::Publish)? {
-        Outcome::Finished => Ok(Answered::plain(rt, 0)),
-        Outcome::JobOver => unpublished(rt, "mrout: the job was ended as failed\n"),
-        _ => unpublished(rt, "mrout: not all are won\n"),
-    }
-}
-
-fn unpublished(rt: &HostRuntime, why: &str) -> Result<Answered, Fault> {
-    Ok(Answered {
-        output: String::new(rt.alloc()),
-        message: String::from_str(rt.alloc(), why)?,
-        status: 1,
-    })
+    let outcome = settle(rt, directory, Order::Publish)?;
+    Answered::said(rt, publish_saying(outcome))
 }
 
 fn abort(rt: &HostRuntime, directory: &mut Directory) -> Result<Answered, Fault> {
-    match settle(rt, directory, Order::Abort)? {
-        Outcome::Finished => Ok(Answered::plain(rt, 0)),
-        _ => Ok(Answered::plain(rt, 1)),
-    }
+    let outcome = settle(rt, directory, Order::Abort)?;
+    Answered::said(rt, order_saying(outcome))
 }
 
 fn resume(rt: &HostRuntime, asked: &Asked<'_>, here: bool) -> Result<Answered, Fault> {
     if here {
-        let mut directory = open_any(rt, asked, false)?;
+        let mut directory = open_any(rt, asked, false, None)?;
         directory.move_here(rt)?;
         drop(directory);
         return finish(rt, ".", asked.wait);
@@ -170,7 +201,8 @@ fn finish(rt: &HostRuntime, dir: &str, wait: Option<u64>) -> Result<Answered, Fa
     Ok(Answered::plain(rt, 0))
 }
 
-// Removes the history of a published directory. What a killed one left is removed too.
+// Removes the history of a published directory. What a killed one left is removed too, once it is durable that it has its
+// other name: else a power cut could bring back a part of it.
 fn forget(rt: &HostRuntime, asked: &Asked<'_>) -> Result<Answered, Fault> {
     match open(rt, asked) {
         Ok(mut directory) => forget_published(rt, &mut directory),
@@ -179,25 +211,23 @@ fn forget(rt: &HostRuntime, asked: &Asked<'_>) -> Result<Answered, Fault> {
                 path: _,
                 why: Why::Forgotten,
             },
-        ) => remove_gone(rt),
+        ) => {
+            sync_folder(rt, ".")?;
+            remove_gone(rt)
+        }
         Err(fault) => Err(fault),
     }
 }
 
 fn forget_published(rt: &HostRuntime, directory: &mut Directory) -> Result<Answered, Fault> {
-    settle(rt, directory, Order::Resume)?;
-    if !is_published(rt, directory)? {
-        return Ok(Answered::plain(rt, 1));
-    }
-    match fs::rename(rt, HOME, GONE) {
-        Ok(()) => remove_gone(rt),
-        Err(error) => Err(Fault::of_call(rt.alloc(), "rename", HOME, error)),
+    let outcome = settle(rt, directory, Order::Forget)?;
+    match order_saying(outcome) {
+        Saying::Done => remove_gone(rt),
+        saying => Answered::said(rt, saying),
     }
 }
 
-// Removes what was forgotten, once it is durable that it has its other name: else a power cut could bring back a part of it.
 fn remove_gone(rt: &HostRuntime) -> Result<Answered, Fault> {
-    sync_folder(rt, ".")?;
     match remove_folder(rt, GONE) {
         Ok(()) => Ok(Answered::plain(rt, 0)),
         Err(error) if error.kind() == io::ErrorKind::NotFound => Ok(Answered::plain(rt, 0)),

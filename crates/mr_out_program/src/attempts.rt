@@ -1,10 +1,11 @@
 //! Commands about attempts: begun, done, failed.
 use crate::answering::Answered;
 use crate::ending::settle;
+use crate::saying::{Saying, attempt_saying, done_saying, fail_saying};
 use crate::standing::{first_alive_of, read_records};
 use mr_ids::AttemptId;
 use mr_out_files::{Directory, Fault, Why, work_path};
-use mr_out_steps::{Order, Outcome, Standing};
+use mr_out_steps::{Order, Outcome};
 use std::env;
 
 /// Begins an attempt, and tells where it writes.
@@ -42,19 +43,8 @@ fn begun(rt: &HostRuntime, directory: &mut Directory, order: Order) -> Result<An
             let line = started_line(rt, directory, a)?;
             Ok(Answered::told(rt, line, 0))
         }
-        Outcome::Busy => Answered::word(rt, "none busy", 75),
-        Outcome::JobOver => Answered::word(rt, "none over", 6),
-        Outcome::Full => full(rt),
-        _ => Answered::word(rt, "none all-won", 1),
+        outcome => Answered::said(rt, attempt_saying(outcome)),
     }
-}
-
-fn full(rt: &HostRuntime) -> Result<Answered, Fault> {
-    Ok(Answered {
-        output: String::new(rt.alloc()),
-        message: String::from_str(rt.alloc(), "mrout: full\n")?,
-        status: 7,
-    })
 }
 
 // The task, the attempt, and the absolute path of the file that it is to write.
@@ -95,13 +85,8 @@ fn attempt_of(rt: &HostRuntime, directory: &Directory, text: &str) -> Result<Att
 /// An attempt has written its file.
 pub fn done(rt: &HostRuntime, directory: &mut Directory, text: &str) -> Result<Answered, Fault> {
     let a = attempt_of(rt, directory, text)?;
-    match settle(rt, directory, Order::Done(a))? {
-        Outcome::Stands(Standing::Won) => Answered::word(rt, "won", 0),
-        Outcome::Stands(Standing::Beaten) => Answered::word(rt, "lost another", 1),
-        Outcome::Stands(Standing::GivenUp) => Answered::word(rt, "lost given-up", 1),
-        Outcome::Stands(Standing::JobOver) => Answered::word(rt, "lost over", 1),
-        _ => Err(Fault::refused(rt.alloc(), text, Why::NoAttempt)),
-    }
+    let outcome = settle(rt, directory, Order::Done(a))?;
+    said_or_refused(rt, done_saying(outcome), text)
 }
 
 /// An attempt failed, or is given up.
@@ -111,10 +96,19 @@ pub fn fail_one(
     text: &str,
 ) -> Result<Answered, Fault> {
     let a = attempt_of(rt, directory, text)?;
-    match settle(rt, directory, Order::Fail(a))? {
-        Outcome::Stands(Standing::GivenUp) => Ok(Answered::plain(rt, 0)),
-        Outcome::Stands(Standing::Unknown) => Err(Fault::refused(rt.alloc(), text, Why::NoAttempt)),
-        _ => Ok(Answered::plain(rt, 1)),
+    let outcome = settle(rt, directory, Order::Fail(a))?;
+    said_or_refused(rt, fail_saying(outcome), text)
+}
+
+// What is said of an attempt; one without a saying is none of this job.
+fn said_or_refused(
+    rt: &HostRuntime,
+    saying: Option<Saying>,
+    text: &str,
+) -> Result<Answered, Fault> {
+    match saying {
+        Some(saying) => Answered::said(rt, saying),
+        None => Err(Fault::refused(rt.alloc(), text, Why::NoAttempt)),
     }
 }
 

@@ -4,6 +4,7 @@ use crate::asked::Asked;
 use mr_ids::JobId;
 use mr_out_files::{
     Directory, Fault, Job, Lock, Why, absolute, begin as make, host_of, is_suffix, name_of,
+    sync_folder,
 };
 use std::random::RandomSource;
 use std::time::Clock;
@@ -72,8 +73,11 @@ fn there(
         is_shared: true,
         wait: asked.wait,
     };
-    // The process stands in the folder in which the directory is.
-    match Directory::open(rt, name_of(asked.dir), lock) {
+    // The process stands in the folder in which the directory is. Whoever began it may have been killed before it was durable.
+    if again {
+        sync_folder(rt, ".")?;
+    }
+    match Directory::open(rt, name_of(asked.dir), lock, None) {
         Ok(found) => is_there(rt, &found, job, path, again),
         Err(fault) => Err(not_a_job(fault, path)),
     }

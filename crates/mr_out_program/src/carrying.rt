@@ -18,6 +18,7 @@ pub fn carry_out(rt: &HostRuntime, directory: &mut Directory, order: Order) -> O
         let answer = directory.perform(rt, call);
         is_marked = is_marked || marks(call, &answer);
         if is_marked && call == Call::SyncFolder(Folder::Output) && is_done(&answer) {
+            is_marked = false;
             command.took(swept(rt, directory));
         } else {
             command.took(answer);

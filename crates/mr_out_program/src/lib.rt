@@ -7,9 +7,9 @@
 //!
 //! # What is proved
 //!
-//! Safety, and that each call returns but for the wait for the lock. What a command does of each answer of the disk is
-//! mr_out_command's; `carry_out` makes the call that it names, and hands it the answer. The texts and statuses are only
-//! tested.
+//! Safety, and that each call returns but for the wait for the lock; which words and which exit status stand for each
+//! outcome, and which status for each fault (`specs/Sayings.antt`). What a command does of each answer of the disk is
+//! mr_out_command's; `carry_out` makes the call that it names, and hands it the answer. Other texts are only tested.
 #![tactic(auto)]
 
 mod answering;
@@ -18,6 +18,7 @@ mod attempts;
 mod beginning;
 mod carrying;
 mod ending;
+mod saying;
 mod standing;
 mod words;
 

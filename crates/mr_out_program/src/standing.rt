@@ -1,8 +1,11 @@
 //! How a job stands, by the records that are durable.
+ghost use Rattle.std.specs.Prelude.{◌≡◌};
+ghost use Rattle.mr_out_program.specs.Sayings.{yes_or_no, outcome_word};
+
 use crate::answering::Answered;
 use mr_history::{Record, Records};
 use mr_ids::{AttemptId, TaskId, TaskKind};
-use mr_out_command::{first_alive, is_alive_at, is_over, winner, winners};
+use mr_out_command::{first_alive, is_alive_at, is_over, successes, winner, winners};
 use mr_out_disk::{Answer, Call, Folder, Reply};
 use mr_out_files::{DECISION, Directory, Fault, MARKER, Why, kept_path, part_name};
 use std::fs;
@@ -54,20 +57,20 @@ fn has_file(rt: &HostRuntime, path: &str) -> bool {
     }
 }
 
-/// Whether every task has a winner, and the marker is there.
-pub fn is_published(rt: &HostRuntime, directory: &mut Directory) -> Result<bool, Fault> {
-    let records = read_records(rt, directory)?;
-    let (id, tasks) = (directory.job.id, directory.job.tasks);
-    let all = winners(rt.alloc(), id, records.as_slice(), tasks)?;
-    Ok(all.is_some() && has_marker(rt) && !is_over(records.as_slice()))
-}
-
 /// Tells how the job stands: a line a task, and the whole.
 pub fn status(rt: &HostRuntime, directory: &mut Directory, json: bool) -> Result<Answered, Fault> {
     let records = read_records(rt, directory)?;
+    let successes = successes(rt.alloc(), records.as_slice())?;
     let mut out = String::new(rt.alloc());
     for number in 0..directory.job.tasks {
-        put_task(rt, &mut out, directory, &records, number, json)?;
+        put_task(
+            rt,
+            &mut out,
+            directory,
+            (&records, &successes),
+            number,
+            json,
+        )?;
     }
     put_whole(rt, &mut out, directory, &records, json)?;
     Ok(Answered::told(rt, out, 0))
@@ -77,12 +80,13 @@ fn put_task(
     rt: &HostRuntime,
     out: &mut String,
     directory: &Directory,
-    records: &Records,
+    told: (&Records, &Records),
     number: u32,
     json: bool,
 ) -> Result<(), Fault> {
+    let (records, successes) = told;
     let task = task_of(directory, number);
-    match winner(records.as_slice(), &task) {
+    match winner(successes.as_slice(), &task) {
         Some(a) => {
             let bytes = len_of(rt, directory, a)?;
             let line = won_line(rt, number, a, bytes, json)?;
@@ -238,11 +242,15 @@ fn put_hold(out: &mut String, hold: bool, is_decided: bool) -> Result<(), Fault>
     Ok(())
 }
 
-fn yes_or_no(is_so: bool) -> &'static str {
+fn yes_or_no(is_so: bool) -> &'static str
+    ensures { result.now ≡ yes_or_no is_so }
+{
     if is_so { "yes" } else { "no" }
 }
 
-fn outcome_word(over: bool, published: bool) -> &'static str {
+fn outcome_word(over: bool, published: bool) -> &'static str
+    ensures { result.now ≡ outcome_word over published }
+{
     if over {
         "failed"
     } else if published {

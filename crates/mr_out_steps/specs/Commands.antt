@@ -4,14 +4,14 @@ use Rattle.std.specs.Prelude.{ℕ, Bool, List, [], ◌∷◌, Option, Some, None
 use Rattle.mr_ids.specs.Attempt.{Attempt}
 use Rattle.mr_ids.specs.declared.id.JobId.{JobId}
 use Rattle.mr_history.specs.declared.record.Record.{Record}
-use Rattle.mr_out_disk.specs.declared.place.Place.TheVariants.{Part, Marker, Kept, Work, Decision}
+use Rattle.mr_out_disk.specs.declared.place.Place.TheVariants.{Part, Marker, Kept, Work, Decision, Home}
 use Rattle.mr_out_disk.specs.declared.place.Folder.TheVariants as folder
 use Rattle.mr_out_disk.specs.declared.call.Call.{Call}
 use Rattle.mr_out_disk.specs.declared.call.Call.TheVariants as call
 use Rattle.mr_out_steps.specs.declared.order.Order.{Order}
 use Rattle.mr_out_steps.specs.declared.order.Outcome.{Outcome}
 use Rattle.mr_out_steps.specs.declared.phase.Phase.{Phase}
-use Rattle.mr_out_steps.specs.declared.phase.Phase.TheVariants.{Reading, SyncingEnd, FindingClaim, FindingWork, Claiming, SyncingFile, SyncingClaim, Appending, Committing, DroppingClaim, DroppingWork, FindingDecision, Deciding, SyncingDecision, Listing, FindingKept, Linking, Comparing, SyncingParts, Marking, SyncingMarker, Emptying, MakingFolder, Over}
+use Rattle.mr_out_steps.specs.declared.phase.Phase.TheVariants.{Reading, SyncingEnd, FindingClaim, FindingWork, Claiming, SyncingFile, SyncingClaim, Appending, Committing, DroppingClaim, DroppingWork, FindingDecision, Deciding, SyncingDecision, Listing, FindingKept, Linking, Comparing, SyncingParts, Marking, SyncingMarker, Emptying, FindingMarker, Forgetting, SyncingForgotten, MakingFolder, Over}
 
 pub record Command : Type 0 where
   pub order : Order
@@ -55,6 +55,9 @@ call_in SyncingParts = Some (call.SyncFolder folder.Output)
 call_in Marking = Some (call.Create Marker)
 call_in SyncingMarker = Some (call.SyncFolder folder.Output)
 call_in (Emptying a) = Some (call.Remove (Kept a))
+call_in FindingMarker = Some (call.Look Marker)
+call_in Forgetting = Some (call.Remove Home)
+call_in SyncingForgotten = Some (call.SyncFolder folder.Output)
 call_in (MakingFolder a) = Some (call.MakeFolder a)
 call_in (Over outcome) = None
 

@@ -16,7 +16,7 @@ use Rattle.mr_out_steps.specs.declared.order.Order.TheVariants as order
 use Rattle.mr_out_steps.specs.declared.order.Outcome.{Outcome}
 use Rattle.mr_out_steps.specs.declared.order.Outcome.TheVariants as outcome
 use Rattle.mr_out_steps.specs.declared.phase.Phase.{Phase}
-use Rattle.mr_out_steps.specs.declared.phase.Phase.TheVariants.{Reading, SyncingEnd, FindingClaim, FindingWork, Claiming, SyncingFile, SyncingClaim, Appending, Committing, DroppingClaim, DroppingWork, FindingDecision, Deciding, SyncingDecision, Listing, FindingKept, Linking, Comparing, SyncingParts, Marking, SyncingMarker, Emptying, MakingFolder, Over}
+use Rattle.mr_out_steps.specs.declared.phase.Phase.TheVariants.{Reading, SyncingEnd, FindingClaim, FindingWork, Claiming, SyncingFile, SyncingClaim, Appending, Committing, DroppingClaim, DroppingWork, FindingDecision, Deciding, SyncingDecision, Listing, FindingKept, Linking, Comparing, SyncingParts, Marking, SyncingMarker, Emptying, FindingMarker, Forgetting, SyncingForgotten, MakingFolder, Over}
 use Rattle.mr_out_steps.specs.declared.phase.Turn.{Turn}
 use Rattle.mr_out_steps.specs.declared.phase.Turn.TheVariants.{Goes, Begins, Notes, Holds, LinksNext, EmptiesNext}
 use Rattle.mr_out_steps.specs.Standing.{task_of, standing, winners, is_over, is_alive_at, next_attempt, first_alive, has_winner, first_idle, has_failed_out}
@@ -74,6 +74,13 @@ decision_looked (Found file) = Goes SyncingDecision
 decision_looked Missing = Holds
 decision_looked _ = fails
 
+-- is the job published, whose history is to be forgotten? A marker that is found is made durable before that
+abbrev pub marker_looked : Reply → Turn
+marker_looked (Found file) = Goes SyncingMarker
+marker_looked Missing = Goes (Over outcome.Unpublished)
+marker_looked Odd = Goes (Over outcome.Unpublished)
+marker_looked _ = fails
+
 -- is this winner's file kept?
 abbrev pub kept_looked : Attempt → Reply → Turn
 kept_looked a (Found file) = Goes (Linking a file)
@@ -120,6 +127,9 @@ turn SyncingParts reply = if_done (Goes Marking) fails reply
 turn Marking reply = if_there (Goes SyncingMarker) reply
 turn SyncingMarker reply = if_done EmptiesNext fails reply
 turn (Emptying a) reply = if_gone EmptiesNext reply
+turn FindingMarker reply = marker_looked reply
+turn Forgetting reply = if_done (Goes SyncingForgotten) fails reply
+turn SyncingForgotten reply = if_done (Goes (Over outcome.Finished)) fails reply
 turn (MakingFolder a) reply = if_there (Goes (Over (outcome.Started a))) reply
 turn (Over o) reply = Goes (Over o)
 
@@ -136,6 +146,7 @@ answer_to (order.Ask a) c = outcome.Stands (standing c.job c.tasks c.records a)
 answer_to order.Resume c = outcome.Finished
 answer_to order.Abort c = if is_over c.records then outcome.Finished else outcome.AllWon
 answer_to order.Publish c = if is_over c.records then outcome.JobOver else outcome.Finished
+answer_to order.Forget c = outcome.Unpublished
 answer_to order.StartNext c = if is_over c.records then outcome.JobOver else outcome.AllWon
 answer_to (order.StartAt n) c = if is_over c.records then outcome.JobOver else outcome.AllWon
 answer_to (order.StartOver n) c = if is_over c.records then outcome.JobOver else outcome.AllWon
@@ -216,6 +227,7 @@ own_work (order.Ask a) c = Some (Over (answer_to (order.Ask a) c))
 own_work order.Resume c = None
 own_work order.Abort c = if is_settled c then None else Some (Appending JobUnsuccessful)
 own_work order.Publish c = None
+own_work order.Forget c = None
 own_work order.StartNext c = if is_over c.records then None else starts_first (first_idle c.job c.records c.tasks) c
 own_work (order.StartAt n) c = starts_beside n c
 own_work (order.StartOver n) c = starts_over n c
@@ -248,8 +260,13 @@ abbrev pub links : List Attempt → Command → Command
 links [] c = goes SyncingParts c
 links (a ∷ rest) c = record c { left = rest; phase = FindingKept a }
 
+-- nothing is left to publish: who forgets the history goes on with this phase
+abbrev pub ends_or : Phase → Order → Command → Command
+ends_or phase order.Forget c = goes phase c
+ends_or phase o c = ends c
+
 abbrev pub empties : List Attempt → Command → Command
-empties [] c = ends c
+empties [] c = ends_or Forgetting c.order c
 empties (a ∷ rest) c = record c { kept = rest; phase = Emptying a }
 
 abbrev pub acts : Turn → Command → Command
@@ -275,7 +292,7 @@ reads rs c = record c { records = rs; phase = SyncingEnd }
 
 -- where nothing is kept any more, the job was published before
 abbrev pub listed : List Attempt → Command → Command
-listed [] c = ends c
+listed [] c = ends_or FindingMarker c.order c
 listed (a ∷ rest) c = links c.left (record c { kept = a ∷ rest })
 
 abbrev pub fails_now : Command → Command

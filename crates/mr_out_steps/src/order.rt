@@ -17,6 +17,8 @@ pub enum Order {
     Abort,
     /// A held job is published, if all of its tasks are won.
     Publish,
+    /// The history of a published job is forgotten, with all else that the commands keep for themselves.
+    Forget,
     /// An attempt is begun, at the first task that has no winner and none under way.
     StartNext,
     /// An attempt is begun at the task with this number, beside one that is under way at most.
@@ -43,6 +45,8 @@ pub enum Outcome {
     JobOver,
     /// Nothing is published, since some task has no winner.
     NotAllWon,
+    /// Nothing is forgotten, since the job is not published.
+    Unpublished,
     /// No attempt was begun, since the task or the job has as many as it may have.
     Full,
     /// The attempt has no file: none where it writes it, and none that was handed in. Nothing changed.

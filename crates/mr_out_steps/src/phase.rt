@@ -1,7 +1,7 @@
 //! Where a command is: which call it makes next, and what follows from a word.
 ghost use Rattle.std.specs.Prelude.{◌≡◌, Option};
 ghost use Rattle.mr_out_steps.specs.Commands.{call_in, outcome_in};
-ghost use Rattle.mr_out_steps.specs.Steps.{turn, is_reading, is_listing, if_done, if_gone, if_there, claim_looked, work_looked, claimed, claim_synced, decision_looked, kept_looked, linked, part_looked, compared};
+ghost use Rattle.mr_out_steps.specs.Steps.{turn, is_reading, is_listing, if_done, if_gone, if_there, claim_looked, work_looked, claimed, claim_synced, decision_looked, marker_looked, kept_looked, linked, part_looked, compared};
 
 use crate::order::Outcome;
 use mr_history::Record;
@@ -55,6 +55,12 @@ pub enum Phase {
     SyncingMarker,
     /// This attempt's kept file is removed.
     Emptying(AttemptId),
+    /// Nothing is kept any more, and the history is to be forgotten. Is the marker there?
+    FindingMarker,
+    /// All is published for good: the history is forgotten.
+    Forgetting,
+    /// That is made durable.
+    SyncingForgotten,
     /// The folder is made in which this attempt, whose start is durable, writes.
     MakingFolder(AttemptId),
     /// The command has ended.
@@ -100,8 +106,12 @@ impl Phase {
             Phase::Listing => Some(Call::ListKept),
             Phase::Linking(a, _) => Some(publication(a)),
             Phase::Comparing(a, _) => Some(Call::Look(Place::Part(a.task().number))),
-            Phase::SyncingParts | Phase::SyncingMarker => Some(Call::SyncFolder(Folder::Output)),
+            Phase::SyncingParts | Phase::SyncingMarker | Phase::SyncingForgotten => {
+                Some(Call::SyncFolder(Folder::Output))
+            }
             Phase::Marking => Some(Call::Create(Place::Marker)),
+            Phase::FindingMarker => Some(Call::Look(Place::Marker)),
+            Phase::Forgetting => Some(Call::Remove(Place::Home)),
             Phase::MakingFolder(a) => Some(Call::MakeFolder(a)),
             Phase::Over(_) => None,
         }
@@ -166,6 +176,9 @@ impl Phase {
             Phase::Marking => if_there(Turn::Goes(Phase::SyncingMarker), reply),
             Phase::SyncingMarker => if_done(Turn::EmptiesNext, FAILS, reply),
             Phase::Emptying(_) => if_gone(Turn::EmptiesNext, reply),
+            Phase::FindingMarker => marker_looked(reply),
+            Phase::Forgetting => if_done(Turn::Goes(Phase::SyncingForgotten), FAILS, reply),
+            Phase::SyncingForgotten => if_done(FORGOTTEN, FAILS, reply),
             Phase::MakingFolder(a) => {
                 if_there(Turn::Goes(Phase::Over(Outcome::Started(a))), reply)
             }
@@ -177,6 +190,8 @@ impl Phase {
 const FAILS: Turn = Turn::Goes(Phase::Over(Outcome::Failed));
 
 const NOT_KNOWN: Turn = Turn::Goes(Phase::Over(Outcome::NotKnown));
+
+const FORGOTTEN: Turn = Turn::Goes(Phase::Over(Outcome::Finished));
 
 // The call by which a file is taken away from its writer.
 fn claim(a: AttemptId) -> Call
@@ -288,6 +303,17 @@ fn decision_looked(reply: Reply) -> Turn
     match reply {
         Reply::Found(_) => Turn::Goes(Phase::SyncingDecision),
         Reply::Missing => Turn::Holds,
+        _ => FAILS,
+    }
+}
+
+// A marker that was found may be a killed command's: it is made durable before the history is forgotten.
+fn marker_looked(reply: Reply) -> Turn
+    ensures { result ≡ marker_looked reply }
+{
+    match reply {
+        Reply::Found(_) => Turn::Goes(Phase::SyncingMarker),
+        Reply::Missing | Reply::Odd => Turn::Goes(Phase::Over(Outcome::Unpublished)),
         _ => FAILS,
     }
 }

@@ -1,5 +1,5 @@
 -- The faults of each subcommand are faults of the text.
-use Rattle.std.proofs.Common.{ℕ, Bool, List, Result, Ok, Err, IfErr}
+use Rattle.std.proofs.Common.{ℕ, Bool, List, Option, Result, Ok, Err, IfErr}
 use Rattle.mr_trace.specs.mr_world.specs.Limits.{within}
 use Rattle.mr_sim_commands.specs.declared.fault.SimFault.{SimFault}
 use Rattle.mr_sim_commands.specs.declared.fault.SimFault.TheVariants.{NoMemory, Read, Write, TooLong, BadCommand, BadRecord, Job, Refused, Full, JobFailed, TurnsSpent, JournalMismatch, Thread}
@@ -9,10 +9,10 @@ use Rattle.mr_trace.specs.mr_play.specs.declared.shown.Shown.{Shown}
 use Rattle.mr_trace.specs.mr_play.specs.Text.{PlayFails}
 use Rattle.mr_sim.specs.declared.subcommand.Command.TheVariants.{Committer, Play, PlayShown, PlayDrawn, PlayJson, History, HistoryJson, Seq, Threads, ThreadsSeen, Explore}
 use Rattle.mr_explore.specs.declared.asked.Asked.{Asked}
-use Rattle.mr_explore.specs.Explored.{ExploredFails}
 use Rattle.mr_threads.specs.declared.seen.Seen.{Seen}
 use Rattle.mr_threads.specs.Text.{ShownFails, ThreadsFail}
 use Rattle.mr_threads.proofs.Failing.{nothing_to_print}
+use Rattle.mr_sim.specs.Goals.{SoughtFails}
 use Rattle.mr_sim.specs.Printed.{RefusesText}
 
 pub committer_fails : {A : Type 0} (input : List ℕ) (r : Result A SimFault) → IfErr r (CommitterFails input) → IfErr r (RefusesText Committer input)
@@ -111,7 +111,7 @@ seq_fails input (Err TurnsSpent) h = h
 seq_fails input (Err JournalMismatch) h = h
 seq_fails input (Err Thread) h = h
 
-pub threads_fails : {A : Type 0} (turns : ℕ) (hold : Bool) (input : List ℕ) (r : Result A SimFault) → IfErr r (ThreadsFail input) → IfErr r (RefusesText (Threads turns hold) input)
+pub threads_fails : {A : Type 0} (turns : Option ℕ) (hold : Bool) (input : List ℕ) (r : Result A SimFault) → IfErr r (ThreadsFail input) → IfErr r (RefusesText (Threads turns hold) input)
 threads_fails turns hold input (Ok x) h = h
 threads_fails turns hold input (Err NoMemory) h = h
 threads_fails turns hold input (Err Read) h = h
@@ -132,7 +132,7 @@ pub unthreaded_fails : {A : Type 0} (input : List ℕ) (r : Result A SimFault) �
 unthreaded_fails input (Ok x) h = h
 unthreaded_fails input (Err e) h = nothing_to_print input e h
 
-pub seen_fails : {A : Type 0} (turns : ℕ) (hold : Bool) (seen : Seen) (input : List ℕ) (r : Result A SimFault) → IfErr r (ShownFails input) → IfErr r (RefusesText (ThreadsSeen turns hold seen) input)
+pub seen_fails : {A : Type 0} (turns : Option ℕ) (hold : Bool) (seen : Seen) (input : List ℕ) (r : Result A SimFault) → IfErr r (ShownFails input) → IfErr r (RefusesText (ThreadsSeen turns hold seen) input)
 seen_fails turns hold seen input (Ok x) h = h
 seen_fails turns hold seen input (Err NoMemory) h = h
 seen_fails turns hold seen input (Err Read) h = h
@@ -180,7 +180,7 @@ history_json_fails input (Err TurnsSpent) h = h
 history_json_fails input (Err JournalMismatch) h = h
 history_json_fails input (Err Thread) h = h
 
-pub explore_fails : {A : Type 0} (asked : Asked) (progress : Bool) (input : List ℕ) (r : Result A SimFault) → IfErr r (ExploredFails asked input) → IfErr r (RefusesText (Explore asked progress) input)
+pub explore_fails : {A : Type 0} (asked : Asked) (progress : Bool) (input : List ℕ) (r : Result A SimFault) → IfErr r (SoughtFails asked input) → IfErr r (RefusesText (Explore asked progress) input)
 explore_fails asked progress input (Ok x) h = h
 explore_fails asked progress input (Err NoMemory) h = h
 explore_fails asked progress input (Err Read) h = h

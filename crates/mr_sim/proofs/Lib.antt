@@ -1,2 +1,3 @@
 pub mod Failing
 pub mod Refusals
+pub mod Sought

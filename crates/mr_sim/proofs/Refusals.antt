@@ -8,6 +8,7 @@ use Rattle.mr_sim_commands.proofs.Readings.{read_or_bad_law}
 use Rattle.mr_sim_commands.proofs.Reduces.{seq_not_both}
 use Rattle.mr_explore.proofs.Refused.{explored_or_refused_law}
 use Rattle.mr_trace.specs.mr_play.proofs.Playing.{one_play_text_law}
+use Rattle.mr_sim.proofs.Sought.{not_both}
 
 pub printed_or_refused_law : PrintedOrRefused
 printed_or_refused_law command input text NoMemory short p h = tt
@@ -24,7 +25,7 @@ printed_or_refused_law HistoryJson input text (BadCommand n) short p h = h.1
 printed_or_refused_law Seq input text (BadCommand n) short p h = h.1
 printed_or_refused_law (Threads turns hold) input text (BadCommand n) short p h = h.1
 printed_or_refused_law (ThreadsSeen turns hold seen) input text (BadCommand n) short p h = h.1
-printed_or_refused_law (Explore asked progress) input text (BadCommand n) short p h = explored_or_refused_law.not_bad_line asked input text n p h.1
+printed_or_refused_law (Explore asked progress) input text (BadCommand n) short p h = explored_or_refused_law.not_bad_line asked input text n p.1 h.1
 printed_or_refused_law Committer input text (BadRecord n) short p h = h.1
 printed_or_refused_law Play input text (BadRecord n) short p h = h.1
 printed_or_refused_law (PlayShown shown) input text (BadRecord n) short p h = h.1
@@ -46,7 +47,7 @@ printed_or_refused_law HistoryJson input text (Job e) short p h = h.1
 printed_or_refused_law Seq input text (Job e) short p h = let y : Ok p.job ≡ Err e = sym p.said ∙ h.1 in absurd (cc)
 printed_or_refused_law (Threads turns hold) input text (Job e) short p h = let y : Ok p.0.job ≡ Err e = sym p.0.said ∙ h.1 in absurd (cc)
 printed_or_refused_law (ThreadsSeen turns hold seen) input text (Job e) short p h = let y : Ok p.job ≡ Err e = sym p.said ∙ h.1 in absurd (cc)
-printed_or_refused_law (Explore asked progress) input text (Job e) short p h = explored_or_refused_law.not_bad_job asked input text e p h.1
+printed_or_refused_law (Explore asked progress) input text (Job e) short p h = explored_or_refused_law.not_bad_job asked input text e p.1 h.1
 printed_or_refused_law Committer input text Refused short p h = h.1
 printed_or_refused_law Play input text Refused short p h = h.1
 printed_or_refused_law (PlayShown shown) input text Refused short p h = h.1
@@ -57,7 +58,7 @@ printed_or_refused_law HistoryJson input text Refused short p h = h.1
 printed_or_refused_law Seq input text Refused short p h = seq_not_both input text p h.1
 printed_or_refused_law (Threads turns hold) input text Refused short p h = h.1
 printed_or_refused_law (ThreadsSeen turns hold seen) input text Refused short p h = h.1
-printed_or_refused_law (Explore asked progress) input text Refused short p h = h.1
+printed_or_refused_law (Explore asked progress) input text Refused short p h = not_both asked input p.0 h.1
 printed_or_refused_law Committer input text Full short p h = h.1
 printed_or_refused_law Play input text Full short p h = one_play_text_law.not_full limits.within input text p h.1
 printed_or_refused_law (PlayShown shown) input text Full short p h = one_play_text_law.not_full limits.within input p.printed p.prints h.1
@@ -68,7 +69,7 @@ printed_or_refused_law HistoryJson input text Full short p h = h.1
 printed_or_refused_law Seq input text Full short p h = h.1
 printed_or_refused_law (Threads turns hold) input text Full short p h = tt
 printed_or_refused_law (ThreadsSeen turns hold seen) input text Full short p h = tt
-printed_or_refused_law (Explore asked progress) input text Full short p h = explored_or_refused_law.not_full asked input text p h.1
+printed_or_refused_law (Explore asked progress) input text Full short p h = explored_or_refused_law.not_full asked input text p.1 h.1
 printed_or_refused_law Committer input text JobFailed short p h = h.1
 printed_or_refused_law Play input text JobFailed short p h = h.1
 printed_or_refused_law (PlayShown shown) input text JobFailed short p h = h.1

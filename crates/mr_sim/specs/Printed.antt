@@ -1,5 +1,5 @@
 -- What a subcommand prints for its input, and which faults it answers: a case for each subcommand, whose words stand in its folder. Our own profile.
-use Rattle.std.specs.Prelude.{◌≡◌, ◌<◌, ◌≤◌, ◌^◌, Option, Some, ℕ, List, Err, length}
+use Rattle.std.specs.Prelude.{◌≡◌, ◌<◌, ◌≤◌, ◌^◌, Option, Some, ℕ, List, Err, false, length}
 use Rattle.std.specs.Io.KnownBytes.{Appends}
 use Rattle.mr_history.specs.Reading.{bad_line}
 use Rattle.mr_script.specs.Lines.{lines_of}
@@ -13,7 +13,7 @@ use Rattle.mr_sim_commands.specs.committer.Script.{IsFirstBad}
 use Rattle.mr_sim_commands.specs.committer.Text.{PrintsCommitter}
 use Rattle.mr_sim_commands.specs.history.Text.{PrintsHistory}
 use Rattle.mr_sim_commands.specs.job.Text.{submission_of}
-use Rattle.mr_explore.specs.Explored.{IsFullExplored, PrintsExplored}
+use Rattle.mr_explore.specs.Explored.{IsFullExplored}
 use Rattle.mr_trace_json.specs.Plays.{TellsPlay}
 use Rattle.mr_trace_json.specs.Segments.{TellsHistory}
 use Rattle.mr_trace.specs.mr_play.specs.Shown.{Draws}
@@ -22,6 +22,7 @@ use Rattle.mr_trace.specs.mr_play.specs.Text.{PrintsPlay, IsBadPlayJob, IsBadPla
 use Rattle.mr_sim_commands.specs.seq.Text.{PrintsSeq, RefusesSeq}
 use Rattle.mr_threads.specs.Runs.{IsRead}
 use Rattle.mr_threads.specs.Text.{HasFailed, PrintsSuccess, ShowsRun}
+use Rattle.mr_sim.specs.Goals.{Names, PrintsSought}
 
 -- ---- what is printed
 
@@ -37,7 +38,7 @@ Prints HistoryJson input text = TellsHistory input text
 Prints Seq input text = PrintsSeq input text
 Prints (Threads turns hold) input text = PrintsSuccess input text
 Prints (ThreadsSeen turns hold seen) input text = ShowsRun seen input text
-Prints (Explore asked progress) input text = PrintsExplored asked input text
+Prints (Explore asked progress) input text = PrintsSought asked input text
 
 -- ---- what is refused
 
@@ -83,7 +84,7 @@ IsBadJob (Threads turns hold) input e = submission_of input ≡ Err e
 IsBadJob (ThreadsSeen turns hold seen) input e = submission_of input ≡ Err e
 IsBadJob (Explore asked progress) input e = IsBadPlayJob input e
 
--- the job of a job text refuses a line of a split
+-- the job of a job text refuses a line of a split; or it does not have a reduce that the goal names
 abbrev pub IsRefused : Command → List ℕ → Type 0
 IsRefused Committer input = ⊥
 IsRefused Play input = ⊥
@@ -95,7 +96,7 @@ IsRefused HistoryJson input = ⊥
 IsRefused Seq input = RefusesSeq input
 IsRefused (Threads turns hold) input = ⊥
 IsRefused (ThreadsSeen turns hold seen) input = ⊥
-IsRefused (Explore asked progress) input = ⊥
+IsRefused (Explore asked progress) input = Names asked input false
 
 -- an event of a run, or a work, passes a limit
 abbrev pub IsFull : Command → List ℕ → Type 0

@@ -20,7 +20,7 @@
 //! | `play` | what came of the run of the cluster that a script and its calms make |
 //! | `play` with a trace, the history or a picture | what mr_trace, mr_play and mr_trace_picture say of that run |
 //! | `play` and `history` as lines of JSON | what mr_trace_json says of the run and of the segment |
-//! | `explore` | what mr_explore_ends says of the ends of all runs of the input with at most as many faults as are asked for |
+//! | `explore` | what mr_explore_ends says of the ends of all runs of the input with at most as many faults as are asked for; the job has each reduce that the goal names |
 //! | `threads` | what `seq` prints for the job text; what is shown of a run in its place is what mr_threads says of it |
 //!
 //! **`run_streams`, from a reader to a writer**: reads all, answers, writes all. Proved, for every reader and writer that tell
@@ -38,7 +38,7 @@
 //! | `BadCommand(n)` | line n is the first that is no command |
 //! | `BadRecord(n)` | whole line n is the first that is no record |
 //! | `Job(key)` | that key is the first bad one of the job text, or the text is no JSON object |
-//! | `Refused` | the job refuses a line of a split |
+//! | `Refused` | the job refuses a line of a split; of `explore`: the job does not have a reduce that the goal names |
 //! | `Full` | an event of a script, or a work, passes a limit of the world |
 //! | `Write` | there is a text to be written |
 //!
@@ -48,7 +48,7 @@
 //!
 //! `run` also tells whether all is as the input expects (clause `met`, by `IsMet`). Of a script of `play` this says whether each `expect` was met
 //! (`IsAsExpected` of mr_play); of all else it is true. The ending of the program follows from that (`Remarks::ending`). Where there is a fault it hands out
-//! beside it what was expected in place of what is bad (`Refusal`). The fault is the contract. What the help says is in no clause, and takes no memory.
+//! beside it what was expected in place of what is bad (`Refusal`). The fault is the contract. What the help says is in no clause; where there is no memory for it, less is said.
 //!
 //! Each input has at most one text, by the laws of mr_sim_commands and mr_play. No input is both printed and refused, by
 //! any subcommand (`printed_or_refused`). Where there is a text for an input of at most 2^24 bytes, the clause
@@ -71,6 +71,7 @@
 #![tactic(auto)]
 
 mod ending;
+mod goal;
 mod host;
 mod input;
 mod input_kind;
@@ -84,7 +85,7 @@ mod subcommand;
 pub use ending::{Ending, exit_status};
 pub use laws::printed_or_refused;
 pub use mr_explore::{Asked, Form};
-pub use mr_explore_ends::read_goal;
+pub use mr_explore_ends::{is_contrary, read_goal};
 pub use mr_script::Expectation;
 pub use mr_sim_commands::{JobTextFault, SimFault};
 pub use mr_threads::Seen;

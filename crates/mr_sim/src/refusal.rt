@@ -3,8 +3,9 @@ ghost use Rattle.std.specs.Prelude.{◌≡◌};
 
 use crate::input_kind::InputKind;
 use crate::subcommand::Command;
-use mr_sim_commands::{JobTextFault, SimFault};
-use mr_sim_hints::{Hint, hint_of};
+use mr_sim_commands::{JobTextFault, SimFault, read_job_text};
+use mr_sim_hints::{Hint, JobHint, RecordHint, RefusedLine, hint_of, refused_line};
+use std::alloc::Global;
 use std::fmt;
 
 /// What was expected in place of what is bad. It is written as a line, without a line feed.
@@ -12,6 +13,16 @@ use std::fmt;
 pub enum Help {
     /// In a line of a script.
     Line(Hint),
+    /// In a job text.
+    JobText(JobHint),
+    /// In a line of a split.
+    Split(RefusedLine),
+    /// In a line of a segment.
+    Record(RecordHint),
+    /// Of a goal of `explore`: how many reduces the job has, of which it names another.
+    Reduces(u32),
+    /// Of the turns of threads: how many each had, where that was told.
+    Turns(Option<u64>),
     /// Elsewhere, in these words.
     Words(&'static str),
 }
@@ -20,6 +31,15 @@ impl fmt::Display for Help {
     fn fmt<W: fmt::Write>(&self, f: &mut fmt::Formatter<W>) -> fmt::Result {
         match self {
             Help::Line(hint) => write!(f, "{hint}"),
+            Help::JobText(hint) => write!(f, "{hint}"),
+            Help::Split(line) => write!(f, "{line}"),
+            Help::Record(hint) => write!(f, "{hint}"),
+            Help::Reduces(reduces) => write!(
+                f,
+                "the goal names a reduce that is not there: the job has reduces 0 to {}",
+                reduces.saturating_sub(1)
+            ),
+            Help::Turns(turns) => put_turns(f, *turns),
             Help::Words(words) => f.write_str(words),
         }
     }
@@ -35,18 +55,34 @@ pub struct Refusal {
 }
 
 impl Refusal {
-    /// A fault of a subcommand that read this input, with the help that there is.
-    pub fn of(command: &Command<'_>, input: &[u8], fault: SimFault) -> Refusal
+    /// A fault of a subcommand that read this input, with the help that there is. Where there is no memory there may be less.
+    pub fn of(alloc: Global, command: &Command<'_>, input: &[u8], fault: SimFault) -> Refusal
         ensures { result.fault ≡ fault }
     {
         let kind = InputKind::of(command);
         let help = match fault {
             SimFault::BadCommand(line) => line_help(kind, line_at(input, line)),
-            SimFault::Job(key) => Some(Help::Words(key_help(kind, key))),
-            SimFault::BadRecord(_) => Some(Help::Words(RECORD)),
+            SimFault::BadRecord(line) => {
+                Some(Help::Record(RecordHint::of(line_at(input, line), line)))
+            }
+            SimFault::Job(key) => Some(Help::JobText(job_help(alloc, kind, input, key))),
+            SimFault::Refused => refused_help(alloc, kind, input),
+            SimFault::JobFailed => failed_help(alloc, input),
+            SimFault::Full => Some(Help::Words(FULL)),
+            SimFault::TurnsSpent => turns_help(command),
             _ => None,
         };
         Refusal { fault, help }
+    }
+}
+
+// What allows more turns, and how many there were.
+fn put_turns<W: fmt::Write>(f: &mut fmt::Formatter<W>, told: Option<u64>) -> fmt::Result {
+    match told {
+        Some(turns) => write!(f, "--turns N allows more (it was {turns})"),
+        None => f.write_str(
+            "--turns N allows more (it was 100000, and 10 for each pair of a map and a reduce)",
+        ),
     }
 }
 
@@ -54,12 +90,26 @@ impl From<SimFault> for Refusal {
     ghost from_gives = { λ fault refusal. refusal.fault ≡ fault };
 
     fn from(fault: SimFault) -> Refusal {
-        Refusal { fault, help: None }
+        Refusal {
+            fault,
+            help: stream_help(fault),
+        }
     }
 }
 
-const RECORD: &str =
-    "expected a record as compact JSON, as {\"attempt\":\"attempt_200707121733_0003_r_000000_0\",\"event\":\"reduce\"}";
+// What helps beside a fault of the streams.
+fn stream_help(fault: SimFault) -> Option<Help> {
+    match fault {
+        SimFault::TooLong => Some(Help::Words(LONG)),
+        _ => None,
+    }
+}
+
+const LONG: &str = "at most 16777216 bytes are read";
+
+const FULL: &str = "an event, or the work of a container, would pass a limit of the cluster";
+
+const FAILED: &str = "--trace shows the run, also of a job that failed";
 
 // The line of this number, from 1, or nothing.
 fn line_at(input: &[u8], line: usize) -> &[u8] {
@@ -80,30 +130,50 @@ fn line_help(kind: InputKind, line: &[u8]) -> Option<Help> {
     }
 }
 
-// What was expected at a key of a job text, or of the whole text.
-fn key_help(kind: InputKind, key: JobTextFault) -> &'static str {
-    match key {
-        JobTextFault::Text => text_help(kind),
-        JobTextFault::Id => "expected a job's name, as \"id\":\"job_200707121733_0003\"",
-        JobTextFault::Job => "expected \"job\":\"wordcount\", \"maxbykey\" or \"lineindex\"",
-        JobTextFault::Reduces => "expected a whole number from 1 to 1000, as \"reduces\":2",
-        JobTextFault::Splits =>
-            "expected a list of at most 1000 texts, as \"splits\":[\"a b\",\"a\"]",
-        JobTextFault::Nodes =>
-            "expected a whole number from 1 to 64, as \"nodes\":2, or no such key",
-        JobTextFault::Limit =>
-            "expected a whole number from 1 to 100, as \"limit\":4, or no such key",
-        JobTextFault::Faults => {
-            "expected a list of at most 100 faults, as \"faults\":[{\"after\":12,\"node\":0}], or no such key"
-        }
-        JobTextFault::V2From =>
-            "expected a whole number from 1 to 1000, as \"v2from\":1, or no such key",
+// What was expected in a job text, which is the whole input or its first line.
+fn job_help(alloc: Global, kind: InputKind, input: &[u8], fault: JobTextFault) -> JobHint {
+    match kind {
+        InputKind::JobText => JobHint::of(alloc, input, fault, false),
+        _ => JobHint::of(alloc, line_at(input, 1), fault, true),
     }
 }
 
-fn text_help(kind: InputKind) -> &'static str {
+// Which line of a split the job refuses, or which reduces it has, of which a goal names another.
+fn refused_help(alloc: Global, kind: InputKind, input: &[u8]) -> Option<Help> {
     match kind {
-        InputKind::JobText => "expected one JSON object, in UTF-8",
-        _ => "expected one JSON object, in UTF-8, all of it on line 1",
+        InputKind::JobText => split_help(alloc, input),
+        _ => goal_help(alloc, line_at(input, 1)),
+    }
+}
+
+fn goal_help(alloc: Global, text: &[u8]) -> Option<Help> {
+    match read_job_text(alloc, text) {
+        Ok(submission) => Some(Help::Reduces(submission.reduces)),
+        Err(_) => None,
+    }
+}
+
+fn split_help(alloc: Global, input: &[u8]) -> Option<Help> {
+    match refused_line(alloc, input) {
+        Some(line) => Some(Help::Split(line)),
+        None => None,
+    }
+}
+
+// Which line of a split the job of threads refuses; else how its run is shown.
+fn failed_help(alloc: Global, input: &[u8]) -> Option<Help> {
+    match refused_line(alloc, input) {
+        Some(line) => Some(Help::Split(line)),
+        None => Some(Help::Words(FAILED)),
+    }
+}
+
+// What allows threads more turns.
+fn turns_help(command: &Command<'_>) -> Option<Help> {
+    match command {
+        Command::Threads { turns, .. } | Command::ThreadsSeen { turns, .. } => {
+            Some(Help::Turns(*turns))
+        }
+        _ => None,
     }
 }

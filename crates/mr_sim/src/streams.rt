@@ -71,15 +71,15 @@ fn helped<H: AllocGlobal + Eprint + Clock + Threads + Wait + Sync>(
     ensures fault { IfErr result (λ e. RefusesText command.now input.now e.fault) }
 {
     let host = Host {
-        threads: |turns: u64, hold: bool| threads_output(rt, input, turns, hold),
-        threads_seen: |turns: u64, hold: bool, seen: Seen| threads_seen(
+        threads: |turns: Option<u64>, hold: bool| threads_output(rt, input, turns, hold),
+        threads_seen: |turns: Option<u64>, hold: bool, seen: Seen| threads_seen(
             rt, input, turns, hold, seen,
         ),
         watch: OnStandardError { rt },
     };
     match printed(rt.alloc(), &host, *command, input) {
         Ok(printed) => Ok(noted(rt.alloc(), printed)?),
-        Err(fault) => Err(Refusal::of(command, input, fault)),
+        Err(fault) => Err(Refusal::of(rt.alloc(), command, input, fault)),
     }
 }
 
@@ -109,7 +109,11 @@ pub fn run<H: AllocGlobal + Eprint + Clock + Threads + Wait + Sync, R: Read, W: 
     ensures nothing { IfErr result (λ e. e.fault ≢ SimFault.Write → Keeps (W.contents writer.old) (W.contents writer.new)) }
 {
     let input = read_input(rt.alloc(), reader)?;
-    let printed = helped(rt, command, &input)?;
+    // (not by `?`: the borrow checker does not cover how that hands a refusal on)
+    let printed = match helped(rt, command, &input) {
+        Ok(printed) => printed,
+        Err(refusal) => return Err(refusal),
+    };
     write_text(writer, &printed.text)?;
     Ok(Remarks {
         met: printed.met,

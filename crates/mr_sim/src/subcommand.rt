@@ -1,13 +1,14 @@
 //! The subcommands, from the bytes of their input to what they print.
-ghost use Rattle.std.specs.Prelude.{◌≡◌, ℕ, Bool, true, IfOk, IfErr};
+ghost use Rattle.std.specs.Prelude.{◌≡◌, ℕ, Bool, true, Option, IfOk, IfErr};
 ghost use Rattle.mr_threads.specs.declared.seen.Seen.{Seen};
 ghost use Rattle.mr_threads.specs.Text.{PrintsSuccess, ShownFails, ShowsRun, ThreadsFail};
 ghost use Rattle.mr_sim.specs.Expected.{IsMet};
 ghost use Rattle.mr_sim.specs.Printed.{Prints, RefusesText};
 
+use crate::goal::explored;
 use crate::host::Host;
 use crate::progress::Progress;
-use mr_explore::{Asked, Unwatched, Watch, explore_output};
+use mr_explore::{Asked, Unwatched, Watch};
 use mr_sim_commands::{IdleKeys, Printed, SimFault, committer_output, history_output, seq_output};
 use mr_threads::{Seen, unthreaded};
 use mr_trace::mr_play::{Shown, play};
@@ -36,14 +37,24 @@ pub enum Command<'a> {
     HistoryJson,
     /// Runs the job of a job text sequentially, and prints its part files.
     Seq,
-    /// Runs the job of a job text by threads, with the faults that it plans, and prints its part files. Each thread has at most `turns` turns; the first map
-    /// work is held until the second has begun, where `hold` asks for it.
-    Threads { turns: u64, hold: bool },
+    /// Runs the job of a job text by threads, with the faults that it plans, and prints its part files. Each thread has at most `turns` turns, or as many
+    /// as follow from the job's size; the first map work is held until the second has begun, where `hold` asks for it.
+    Threads {
+        turns: Option<u64>,
+        hold: bool,
+    },
     /// The same, and shows the run that happened in place of the part files.
-    ThreadsSeen { turns: u64, hold: bool, seen: Seen },
+    ThreadsSeen {
+        turns: Option<u64>,
+        hold: bool,
+        seen: Seen,
+    },
     /// Makes every run of a job text and a script with at most as many faults as are asked for, and tells the ends that they come to. `progress` tells on
     /// standard error how far it is.
-    Explore { asked: Asked<'a>, progress: bool },
+    Explore {
+        asked: Asked<'a>,
+        progress: bool,
+    },
 }
 
 // A text that is printed of an input which has no job text: all is as expected, and nothing is noted.
@@ -63,19 +74,19 @@ pub(crate) fn printed<T, S, W: Watch>(
     input: &[u8],
 ) -> Result<Printed, SimFault>
 where
-    T: Fn(u64, bool) -> Result<Printed, SimFault>,
-    S: Fn(u64, bool, Seen) -> Result<Printed, SimFault>,
+    T: Fn(Option<u64>, bool) -> Result<Printed, SimFault>,
+    S: Fn(Option<u64>, bool, Seen) -> Result<Printed, SimFault>,
     // The host prints of threads what `threads` prints for the input.
-    requires threads { (turns : ℕ) (hold : Bool) → T.pre host.now.threads turns hold }
-    requires printed { (turns : ℕ) (hold : Bool) (told : _) → T.post host.now.threads turns hold told
+    requires threads { (turns : Option ℕ) (hold : Bool) → T.pre host.now.threads turns hold }
+    requires printed { (turns : Option ℕ) (hold : Bool) (told : _) → T.post host.now.threads turns hold told
         → IfOk told (λ v. PrintsSuccess input.now v.text.items) × IfErr told (ThreadsFail input.now) }
-    requires printed_met { (turns : ℕ) (hold : Bool) (told : _) → T.post host.now.threads turns hold told → IfOk told (λ v. v.met ≡ true) }
+    requires printed_met { (turns : Option ℕ) (hold : Bool) (told : _) → T.post host.now.threads turns hold told → IfOk told (λ v. v.met ≡ true) }
 
     // It shows of threads what `threads` shows for the input.
-    requires seen { (turns : ℕ) (hold : Bool) (seen : Seen) → S.pre host.now.threads_seen turns hold seen }
-    requires shown { (turns : ℕ) (hold : Bool) (seen : Seen) (told : _) → S.post host.now.threads_seen turns hold seen told
+    requires seen { (turns : Option ℕ) (hold : Bool) (seen : Seen) → S.pre host.now.threads_seen turns hold seen }
+    requires shown { (turns : Option ℕ) (hold : Bool) (seen : Seen) (told : _) → S.post host.now.threads_seen turns hold seen told
         → IfOk told (λ v. ShowsRun seen input.now v.text.items) × IfErr told (ShownFails input.now) }
-    requires shown_met { (turns : ℕ) (hold : Bool) (seen : Seen) (told : _) → S.post host.now.threads_seen turns hold seen told → IfOk told (λ v. v.met ≡ true) }
+    requires shown_met { (turns : Option ℕ) (hold : Bool) (seen : Seen) (told : _) → S.post host.now.threads_seen turns hold seen told → IfOk told (λ v. v.met ≡ true) }
 
     // Ok: the text is what is printed for the input.
     ensures ok { IfOk result (λ v. Prints command.entry input.now v.text.items) }
@@ -102,7 +113,7 @@ where
                 watch: &host.watch,
                 is_asked: progress,
             };
-            explore_output(alloc, input, &asked, &watch)
+            explored(alloc, input, &asked, &watch)
         }
     }
 }
@@ -119,8 +130,8 @@ pub fn answer(alloc: Global, command: Command<'_>, input: &[u8]) -> Result<Vec<u
     ensures fault { IfErr result (RefusesText command.entry input.now) }
 {
     let host = Host {
-        threads: |_turns: u64, _hold: bool| unthreaded(alloc, input),
-        threads_seen: |_turns: u64, _hold: bool, _seen: Seen| unthreaded(alloc, input),
+        threads: |_turns: Option<u64>, _hold: bool| unthreaded(alloc, input),
+        threads_seen: |_turns: Option<u64>, _hold: bool, _seen: Seen| unthreaded(alloc, input),
         watch: Unwatched,
     };
     Ok(printed(alloc, &host, command, input)?.text)

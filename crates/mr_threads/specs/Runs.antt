@@ -22,7 +22,7 @@ plan_of job = record { config = config_of job; faults = job.faults }
 -- a run of a job as planned: each result in it is what the job's functions give, and an outcome was told or the newest master is Stopped
 pub record IsRun (job : Job) (plan : Plan) (j : Journal) : Type 0 where
   pub config_is : j.config ≡ plan.config
-  -- its faults are those of the plan, each at its place; behind a crash the next master starts; all else is calm
+  -- until its end each fault of the plan was made as soon as it was due, or the world refused it; behind a crash the next master starts; all else is calm
   pub follows : Follows plan j
   pub faithful : IsFaithful job j.config (within j.config) j.events
   pub through : IsThrough j

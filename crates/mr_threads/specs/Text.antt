@@ -88,7 +88,7 @@ pub record HasFailed (input : List ℕ) : Type 0 where
 -- ---- why nothing is printed
 
 -- The first bad key of the job text is told, else why there is no run to be shown. Then turns are spent, the seats do
--- not account for the journal or it does not follow the plan, a thread can't be made or a limit is passed. An allocation failure may come at any
+-- not account for the journal or an event was not planned, a thread can't be made or a limit is passed. An allocation failure may come at any
 -- input.
 abbrev pub ShownFails : List ℕ → SimFault → Type 0
 ShownFails input NoMemory = Unit {0}

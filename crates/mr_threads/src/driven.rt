@@ -7,6 +7,7 @@ ghost use Rattle.mr_threads.specs.Runs.{IsReportOf, Reports};
 ghost use Rattle.mr_threads.specs.Text.{ShownFails};
 ghost use Rattle.mr_threads.specs.inner.{IsOfThreads, fault_of};
 
+use crate::manner::Manner;
 use mr_drive::{DriveFault, PairGate, Plan, Report, drive};
 use mr_jobs::{LineIndex, MaxByKey, WordCount};
 use mr_sim_commands::{IdleKeys, JobKind, SimFault, read_job_text};
@@ -17,15 +18,6 @@ use std::alloc::AllocGlobal;
 use std::rt::Clock;
 use std::sync::Wait;
 use std::thread::Threads;
-
-/// How the threads are run.
-#[derive(Clone, Copy, Debug, PartialEq, Eq)]
-pub(crate) struct Manner {
-    /// How many turns each thread has at most.
-    pub(crate) turns: u64,
-    /// Whether the first map work is held until the second has begun, for at most as many looks as there are turns.
-    pub(crate) hold: bool,
-}
 
 /// What came of a job text whose job threads ran, and the keys of the text that say nothing.
 #[tactic(auto, using(crate::proofs::Failing::bad_text, crate::proofs::Failing::no_run, crate::proofs::Reported::reports_of))]
@@ -79,16 +71,11 @@ where
     ensures ok { IfOk result (IsReportOf (job_of (computation J.Key.cmp J.Key.codec J.Value.codec J.functions)) plan.now) }
     ensures fault { IfErr result IsOfThreads }
 {
+    let turns = manner.turns_of(plan);
     if manner.hold {
-        driven_behind(
-            rt,
-            job,
-            &PairGate::new(rt, manner.turns),
-            plan,
-            manner.turns,
-        )
+        driven_behind(rt, job, &PairGate::new(rt, turns), plan, turns)
     } else {
-        driven_behind(rt, job, &OpenGate, plan, manner.turns)
+        driven_behind(rt, job, &OpenGate, plan, turns)
     }
 }
 

@@ -5,7 +5,8 @@ ghost use Rattle.mr_trace.specs.mr_world.specs.VisibleFiles.{as_pair};
 ghost use Rattle.mr_trace.specs.mr_play.specs.WorldText.{visible_text};
 ghost use Rattle.mr_threads.specs.Text.{PrintsSuccess, ShownFails, ThreadsFail};
 
-use crate::driven::{Manner, driven};
+use crate::driven::driven;
+use crate::manner::Manner;
 use mr_sim_commands::{Printed, SimFault, print_file, read_job_text};
 use mr_trace::mr_world::VisibleFile;
 use std::alloc::{AllocError, AllocGlobal, Global};
@@ -21,7 +22,7 @@ use std::thread::Threads;
 pub fn threads_output<H: AllocGlobal + Clock + Threads + Wait + Sync>(
     rt: &H,
     input: &[u8],
-    turns: u64,
+    turns: Option<u64>,
     hold: bool,
 ) -> Result<Printed, SimFault>
     ensures ok { IfOk result (λ v. PrintsSuccess input.now v.text.items) }

@@ -6,7 +6,8 @@ ghost use Rattle.mr_script_writer.specs.Repeating.{commented, repeating};
 ghost use Rattle.mr_trace.specs.Happened.{by_threads};
 ghost use Rattle.mr_trace.specs.Trace.{trace_text};
 
-use crate::driven::{Manner, driven};
+use crate::driven::driven;
+use crate::manner::Manner;
 use mr_script_writer::{put_comments, put_script};
 use mr_sim_commands::{Printed, SimFault};
 use mr_trace::mr_play::{Shown, print_histories, print_world};
@@ -38,7 +39,7 @@ pub enum Seen {
 pub fn threads_seen<H: AllocGlobal + Clock + Threads + Wait + Sync>(
     rt: &H,
     input: &[u8],
-    turns: u64,
+    turns: Option<u64>,
     hold: bool,
     seen: Seen,
 ) -> Result<Printed, SimFault>

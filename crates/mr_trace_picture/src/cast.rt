@@ -1,29 +1,10 @@
-//! Who takes part in the events that are drawn. Of a long run most are over before these, and would be lanes with nothing in them.
-use crate::lanes::is_alive;
+//! Who takes part in the events that are drawn. Of a long run most others are over before these or only wait, and would be lanes with
+//! nothing in them.
 use mr_ids::AppAttempt;
 use mr_packet::{Address, Packet};
-use mr_trace::mr_play::read;
 use mr_trace::mr_world::World;
 use mr_world_events::Event;
-use std::alloc::{AllocError, Global};
-
-/// The masters and the containers that are alive in a world.
-pub fn living(alloc: Global, world: &World) -> Result<Vec<Address>, AllocError> {
-    let mut cast = Vec::new(alloc);
-    for k in 1..=world.newest() {
-        if let Some(app) = AppAttempt::new(k) {
-            let who = Address::Master(app);
-            if is_alive(world, &who) {
-                cast.push(who)?;
-            }
-        }
-    }
-    let containers = read(world.living())?;
-    for container in &containers {
-        cast.push(Address::Container(*container))?;
-    }
-    Ok(cast)
-}
+use std::alloc::AllocError;
 
 /// The one whom an event befalls joins the cast, if it is a master or a container. The world is that before the event.
 pub fn join_actor(cast: &mut Vec<Address>, world: &World, event: &Event) -> Result<(), AllocError> {
@@ -50,7 +31,7 @@ pub fn join_addressees(
     world: &World,
     first: usize,
 ) -> Result<(), AllocError> {
-    for envelope in world.bag().iter().skip(first) {
+    for envelope in world.bag().get(first..).unwrap_or(&[]) {
         push_new(cast, &envelope.to)?;
         if let Packet::Launch { container, .. } = &envelope.body {
             push_new(cast, &Address::Container(*container))?;

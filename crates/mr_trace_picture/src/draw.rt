@@ -2,11 +2,14 @@
 ghost use Rattle.std.specs.Prelude.{◌≡◌, IfErr};
 ghost use Rattle.mr_sim_commands.specs.declared.fault.SimFault.TheVariants.{NoMemory};
 
-use crate::cast::{join_actor, join_addressees, living};
+use crate::cast::{join_actor, join_addressees};
+use crate::folds::Folds;
 use crate::lanes::{end_at, lanes_of, live, live_on};
 use crate::replay::Replay;
 use crate::rest::{deliveries, left_out};
-use crate::rows::{Facts, event_of, facts_of, name_label, put_consequences, put_detail, sign_of};
+use crate::rows::{
+    Facts, event_of, facts_before, facts_behind, name_label, put_consequences, put_detail, sign_of,
+};
 use mr_packet::{Address, Envelope, Packet};
 use mr_sim_commands::SimFault;
 use mr_trace::mr_world::World;
@@ -42,36 +45,60 @@ fn shown(
 ) -> Result<Drawing, AllocError> {
     let journal = world.journal();
     let places = part.places(journal.len());
-    let mut drawing = blank(alloc, world, part, &places, ending)?;
-    let ways = deliveries(alloc, journal, world.bag().len(), &places)?;
+    let Ahead { lanes, rows } = look_ahead(alloc, world, part, &places)?;
+    let mut drawing = blank(alloc, world, part, &places, ending, lanes)?;
+    let ways = deliveries(alloc, journal, world.bag().len(), places.start, &rows)?;
     let mut replay = Replay::new(alloc, world)?;
     for place in 0..places.start {
         send_before(&mut drawing, &mut replay, &ways, place)?;
     }
     live_on(&mut drawing.lanes, replay.world());
-    for _ in places {
-        add(alloc, &mut drawing, &mut replay, &ways, makers)?;
+    for row in &rows {
+        draw_next(alloc, &mut drawing, &mut replay, &ways, makers, *row)?;
     }
     Ok(drawing)
 }
 
-// The lanes of those who take part in the events at these places of a world's journal.
-fn lanes_at(alloc: Global, world: &World, places: &Range<usize>) -> Result<Vec<Lane>, AllocError> {
+// What is found out of the events that are to be drawn, before they are.
+#[derive(Drop)]
+struct Ahead {
+    // The lanes of those who take part.
+    lanes: Vec<Lane>,
+    // The row of each event.
+    rows: Vec<usize>,
+}
+
+// What is found out of the events at these places of a world's journal.
+fn look_ahead(
+    alloc: Global,
+    world: &World,
+    part: Part,
+    places: &Range<usize>,
+) -> Result<Ahead, AllocError> {
     let mut replay = Replay::new(alloc, world)?;
     for _ in 0..places.start {
         replay.happen()?;
     }
-    let mut cast = living(alloc, replay.world())?;
+    let mut cast = Vec::new(alloc);
+    let mut folds = Folds::new(alloc, part.fold);
     for _ in places.start..places.end {
-        join_next(&mut cast, &mut replay)?;
+        join_next(&mut cast, &mut folds, &mut replay)?;
     }
-    lanes_of(alloc, replay.world(), &cast)
+    Ok(Ahead {
+        lanes: lanes_of(alloc, replay.world(), &cast)?,
+        rows: folds.rows,
+    })
 }
 
-// The next event happens, and whoever takes part in it joins the cast.
-fn join_next(cast: &mut Vec<Address>, replay: &mut Replay<'_>) -> Result<(), AllocError> {
+// The next event happens, is given its row, and whoever takes part in it joins the cast.
+fn join_next(
+    cast: &mut Vec<Address>,
+    folds: &mut Folds,
+    replay: &mut Replay<'_>,
+) -> Result<(), AllocError> {
     let first = replay.world().bag().len();
     if let Some(event) = replay.next_event() {
+        folds.add(replay.world(), event)?;
         join_actor(cast, replay.world(), event)?;
     }
     replay.happen()?;
@@ -85,15 +112,16 @@ fn blank(
     part: Part,
     places: &Range<usize>,
     ending: Vec<u8>,
+    lanes: Vec<Lane>,
 ) -> Result<Drawing, AllocError> {
     let journal = world.journal();
     let before = left_out(alloc, journal.get(..places.start).unwrap_or(&[]))?;
     let behind = left_out(alloc, journal.get(places.end..).unwrap_or(&[]))?;
-    let lanes = lanes_at(alloc, world, places)?;
     let mut job = Vec::new(alloc);
     world.config().job.write(&mut job)?;
     Ok(Drawing {
         job,
+        events: journal.len(),
         lanes,
         rows: Vec::new(alloc),
         arrows: Vec::new(alloc),
@@ -120,6 +148,22 @@ fn send_before(
     send(drawing, from, Sending::Before(place), replay.world(), ways)
 }
 
+// The next event happens, and is drawn in this row: it shares the last one, or has one of its own.
+fn draw_next(
+    alloc: Global,
+    drawing: &mut Drawing,
+    replay: &mut Replay<'_>,
+    ways: &[Delivery],
+    makers: &Makers<'_>,
+    row: usize,
+) -> Result<(), AllocError> {
+    if row < drawing.rows.len() {
+        fold(drawing, replay, ways)
+    } else {
+        add(alloc, drawing, replay, ways, makers)
+    }
+}
+
 // The next event happens, and is drawn. Each packet is delivered where its place tells.
 fn add(
     alloc: Global,
@@ -134,12 +178,12 @@ fn add(
     let world = replay.world();
     let place = drawing.rows.len();
     let end = end_at(world, event);
-    let before = facts_of(world, event)?;
     let mut row = row_of(alloc, &drawing.lanes, world, event)?;
     if let Makers::Threads(_) = makers {
         put_maker(&mut row.words, maker_of(world, makers))?;
     }
     let first = world.bag().len();
+    let before = facts_before(alloc, world, event)?;
     row.leftwards = arrive(drawing, event, place)?;
     put_sending(&mut row.detail, drawing, event)?;
     replay.happen()?;
@@ -147,15 +191,56 @@ fn add(
     live(&mut drawing.lanes, world, place, end);
     send(drawing, row.lane, Sending::At(place), world, ways)?;
     put_lost(&mut row.detail, world, ways, first)?;
-    let after = facts_of(world, event)?;
+    let after = facts_behind(alloc, world, event, &before)?;
     finish(&mut row, event, &before, &after)?;
     drawing.rows.push(row)?;
     Ok(())
 }
 
+// The next event happens, and shares the last row, since both are parts of fetches. Its packets are not drawn; those whose delivery is not
+// drawn either are told.
+fn fold(
+    drawing: &mut Drawing,
+    replay: &mut Replay<'_>,
+    ways: &[Delivery],
+) -> Result<(), AllocError> {
+    let Some(event) = replay.next_event() else {
+        return Ok(());
+    };
+    let last = drawing.rows.len().saturating_sub(1);
+    let end = end_at(replay.world(), event);
+    let first = replay.world().bag().len();
+    replay.happen()?;
+    live(&mut drawing.lanes, replay.world(), last, end);
+    send(drawing, None, Sending::At(last), replay.world(), ways)?;
+    match drawing.rows.get_mut(last) {
+        Some(row) => {
+            count_one_more(row)?;
+            put_lost(&mut row.detail, replay.world(), ways, first)
+        }
+        None => Ok(()),
+    }
+}
+
+// A row of fetches has one event more, and tells how many it has, in place of what the first one was.
+fn count_one_more(row: &mut Row) -> Result<(), AllocError> {
+    let events = row.events.saturating_add(1);
+    if row.events == 1 {
+        row.detail.clear();
+    }
+    row.events = events;
+    row.words.clear();
+    row.label.clear();
+    put_number(&mut row.words, b"", events as u64)?;
+    row.words.extend_from_slice(b" events of fetches")?;
+    row.label.extend_from_slice(b"fetches")
+}
+
 // The row of an event, as far as it can be told before the event.
 fn row_of(alloc: Global, lanes: &[Lane], world: &World, event: &Event) -> Result<Row, AllocError> {
     let mut row = Row {
+        event: world.journal().len(),
+        events: 1,
         lane: actor_of(lanes, world, event),
         other: other_of(lanes, event),
         words: event_of(alloc, world, event)?,
@@ -244,7 +329,8 @@ fn send(
     ways: &[Delivery],
 ) -> Result<(), AllocError> {
     let first = drawing.arrows.len();
-    for (place, envelope) in world.bag().iter().enumerate().skip(first) {
+    for envelope in world.bag().get(first..).unwrap_or(&[]) {
+        let place = drawing.arrows.len();
         let arrow = Arrow {
             from,
             sent,
@@ -279,8 +365,9 @@ fn put_lost(
     ways: &[Delivery],
     first: usize,
 ) -> Result<(), AllocError> {
-    for (place, envelope) in world.bag().iter().enumerate().skip(first) {
-        match delivery_of(ways, place) {
+    let packets = world.bag().get(first..).unwrap_or(&[]);
+    for (number, envelope) in packets.iter().enumerate() {
+        match delivery_of(ways, first.saturating_add(number)) {
             Delivery::Before | Delivery::At(_) => {}
             Delivery::Later => put_undrawn(out, b"delivered later to ", envelope)?,
             Delivery::Never => put_undrawn(out, b"not delivered to ", envelope)?,

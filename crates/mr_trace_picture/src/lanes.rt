@@ -114,8 +114,8 @@ pub fn live(lanes: &mut [Lane], world: &World, row: usize, end: End) {
     }
 }
 
-/// Whether somebody is alive in a world, and can still do something.
-pub fn is_alive(world: &World, who: &Address) -> bool {
+// Whether somebody is alive in a world, and can still do something.
+fn is_alive(world: &World, who: &Address) -> bool {
     match who {
         Address::Master(app) => match world.phase(app.number()) {
             Some(Phase::Ended | Phase::Stopped) | None => false,

@@ -17,6 +17,7 @@
 
 mod cast;
 mod draw;
+mod folds;
 mod lanes;
 mod picture;
 mod replay;

@@ -3,7 +3,6 @@ use itoa::Buffer;
 use mr_trace_svg::{Delivery, Rest};
 use mr_world_events::Event;
 use std::alloc::{AllocError, Global};
-use std::ops::Range;
 
 // The kinds of events, by the first word of their commands.
 const KINDS: [&[u8]; 10] = [
@@ -56,12 +55,14 @@ fn put_count(out: &mut Vec<u8>, count: u64, kind: &[u8]) -> Result<(), AllocErro
     out.extend_from_slice(kind)
 }
 
-/// Where the journal first delivers each of the first `packets` packets of the bag. The drawn part of the journal is `drawn`.
+/// Where the journal first delivers each of the first `packets` packets of the bag. The events from the place `start` of the journal on are drawn in these
+/// rows.
 pub fn deliveries(
     alloc: Global,
     journal: &[Event],
     packets: usize,
-    drawn: &Range<usize>,
+    start: usize,
+    rows: &[usize],
 ) -> Result<Vec<Delivery>, AllocError> {
     let mut first = Vec::new(alloc);
     for _ in 0..packets {
@@ -69,20 +70,20 @@ pub fn deliveries(
     }
     for (place, event) in journal.iter().enumerate() {
         if let Event::Deliver { packet: i } = event {
-            deliver(&mut first, *i as usize, delivery_at(place, drawn));
+            deliver(&mut first, *i as usize, delivery_at(place, start, rows));
         }
     }
     Ok(first)
 }
 
 // Where the event at this place of the journal delivers a packet.
-fn delivery_at(place: usize, drawn: &Range<usize>) -> Delivery {
-    if place < drawn.start {
-        Delivery::Before
-    } else if place < drawn.end {
-        Delivery::At(place - drawn.start)
-    } else {
-        Delivery::Later
+fn delivery_at(place: usize, start: usize, rows: &[usize]) -> Delivery {
+    match place.checked_sub(start) {
+        Some(number) => match rows.get(number) {
+            Some(row) => Delivery::At(*row),
+            None => Delivery::Later,
+        },
+        None => Delivery::Before,
     }
 }
 

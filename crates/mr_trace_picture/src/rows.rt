@@ -2,7 +2,7 @@
 use crate::lanes::put_short;
 use mr_ids::AttemptId;
 use mr_master_model::Phase;
-use mr_packet::Packet;
+use mr_packet::{Envelope, Packet};
 use mr_script::{EventName, event_word};
 use mr_trace::mr_play::read;
 use mr_trace::mr_world::World;
@@ -21,22 +21,86 @@ pub struct Facts {
     /// Whether the packet that is delivered permits an attempt to commit.
     permits: bool,
     marker: bool,
-    outcome: Option<bool>,
+    // How many packets there are.
+    packets: usize,
+    // The outcome that the event tells first.
+    told: Option<bool>,
+    // The winners, where the event is a flush: no other makes one.
     winners: Vec<Option<AttemptId>>,
 }
 
-/// The facts of a world, for an event.
-pub fn facts_of(world: &World, event: &Event) -> Result<Facts, AllocError> {
+impl Facts {
+    fn is_flush(&self) -> bool {
+        matches!(self.name, Some(EventName::Flush))
+    }
+}
+
+/// The facts of a world, for an event that is to happen.
+pub fn facts_before(alloc: Global, world: &World, event: &Event) -> Result<Facts, AllocError> {
+    let is_flush = matches!(name_of(world, event)?, Some(EventName::Flush));
+    facts_of(alloc, world, event, is_flush, None)
+}
+
+/// The facts of a world in which it has happened. Before it they were these.
+pub fn facts_behind(
+    alloc: Global,
+    world: &World,
+    event: &Event,
+    before: &Facts,
+) -> Result<Facts, AllocError> {
+    let told = told_from(world.bag(), before.packets);
+    facts_of(alloc, world, event, before.is_flush(), told)
+}
+
+fn facts_of(
+    alloc: Global,
+    world: &World,
+    event: &Event,
+    is_flush: bool,
+    told: Option<bool>,
+) -> Result<Facts, AllocError> {
     let marker = read(world.marker())?;
-    let winners = read(world.winners())?;
+    let winners = winners_in(alloc, world, is_flush)?;
     Ok(Facts {
         name: name_of(world, event)?,
         stopped: is_stopped(world, event),
         permits: is_permission(world, event),
         marker,
-        outcome: world.outcome(),
+        packets: world.bag().len(),
+        told,
         winners,
     })
+}
+
+// The winners, where they are asked for: the whole history is read for them.
+fn winners_in(
+    alloc: Global,
+    world: &World,
+    is_asked: bool,
+) -> Result<Vec<Option<AttemptId>>, AllocError> {
+    if is_asked {
+        read(world.winners())
+    } else {
+        Ok(Vec::new(alloc))
+    }
+}
+
+// The outcome that the packets from this place of the bag on tell, where none before them tells one.
+fn told_from(bag: &[Envelope], first: usize) -> Option<bool> {
+    let told = outcome_in(bag.get(first..).unwrap_or(&[]))?;
+    match outcome_in(bag.get(..first).unwrap_or(&[])) {
+        Some(_) => None,
+        None => Some(told),
+    }
+}
+
+fn outcome_in(packets: &[Envelope]) -> Option<bool> {
+    for envelope in packets {
+        if let Packet::Outcome { succeeded } = &envelope.body {
+            return Some(*succeeded);
+        }
+    }
+    None
 }
 
 fn is_stopped(world: &World, event: &Event) -> bool {
@@ -158,7 +222,7 @@ fn duty_sign(before: &Facts, after: &Facts) -> Sign {
         Sign::Marker
     } else if after.stopped {
         Sign::Stop
-    } else if let (None, Some(succeeded)) = (before.outcome, after.outcome) {
+    } else if let Some(succeeded) = after.told {
         if succeeded {
             Sign::Success
         } else {

@@ -71,9 +71,13 @@ pub enum Sign {
     Stop,
 }
 
-/// An event.
+/// An event, or parts of fetches that follow one another.
 #[derive(Drop)]
 pub struct Row {
+    /// The place of the event, or of the first one, in the journal.
+    pub event: usize,
+    /// How many events it shows.
+    pub events: usize,
     /// The lane of the one who acts.
     pub lane: Option<usize>,
     /// The lane of the node that is given up.
@@ -149,6 +153,8 @@ pub struct Rest {
 pub struct Drawing {
     /// The job's text.
     pub job: Vec<u8>,
+    /// How many events the run has.
+    pub events: usize,
     /// Masters, then nodes, then containers.
     pub lanes: Vec<Lane>,
     /// The events that are drawn, in order.

@@ -7,7 +7,9 @@
 //! - `picture_of` fails by nothing but an allocation failure, and sums of its places saturate. What a picture shows is tested by example, and no clause tells it.
 #![tactic(auto)]
 
+mod arrows;
 mod drawing;
+mod layout;
 mod notes;
 mod part;
 mod render;

@@ -22,7 +22,7 @@ pub fn title_of(alloc: Global, drawing: &Drawing) -> Result<Vec<u8>, AllocError>
     let mut buffer = Buffer::new();
     title.extend_from_slice(&drawing.job)?;
     title.extend_from_slice(b": a run of ")?;
-    title.extend_from_slice(buffer.format(event_count(drawing)).as_bytes())?;
+    title.extend_from_slice(buffer.format(drawing.events).as_bytes())?;
     title.extend_from_slice(b" events")?;
     let mut mark: &[u8] = b": ";
     for words in drawing.ending.split(|byte| *byte == b'\n') {
@@ -55,7 +55,7 @@ fn none_note(alloc: Global, drawing: &Drawing) -> Result<Vec<u8>, AllocError> {
     put_number(
         &mut note,
         b"no event is drawn: the run has ",
-        event_count(drawing) as u64,
+        drawing.events as u64,
     )?;
     put_number(&mut note, b" events, and none at ", drawing.part.from)?;
     note.extend_from_slice(b" or behind it (the first is 0)")?;
@@ -67,15 +67,6 @@ fn put_number(out: &mut Vec<u8>, word: &[u8], number: u64) -> Result<(), AllocEr
     let mut buffer = Buffer::new();
     out.extend_from_slice(word)?;
     out.extend_from_slice(buffer.format(number).as_bytes())
-}
-
-// How many events the run has.
-fn event_count(drawing: &Drawing) -> usize {
-    drawing
-        .before
-        .count
-        .saturating_add(drawing.rows.len())
-        .saturating_add(drawing.behind.count)
 }
 
 // How many lines tell what came of the run, with the empty one behind the last line feed.

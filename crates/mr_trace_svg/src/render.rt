@@ -1,49 +1,16 @@
 //! The picture of a drawing: where its parts stand, and how they are written.
 //! It is written as SVG, for `drawn`.
-use crate::drawing::{Arrow, Begin, Delivery, Drawing, End, Lane, Row, Sending, Sign, Tone};
+use crate::arrows::{put_arrows, put_hint};
+use crate::drawing::{Begin, Drawing, End, Lane, Row, Sign};
+use crate::layout::{LANE, MOST_LETTERS, NAMED_ROWS, Places, ROW, at, place, places_of, row_at};
 use crate::notes::{foot_lines, is_later, put_before, put_ending, title_of};
 use crate::signs::{
     put_begin, put_dead, put_earlier_key, put_given_up, put_key, put_later_key, put_over, put_sign,
 };
-use crate::svg::{Point, close, close_hint, line, noted, open, open_hint, rectangle, text};
+use crate::svg::{Point, close, close_hint, line, noted, open, rectangle, text};
 use itoa::Buffer;
 use mr_packet::Address;
 use std::alloc::{AllocError, Global};
-
-// From lane to lane, and from row to row.
-const LANE: u64 = 112;
-
-const ROW: u64 = 20;
-
-// After so many rows the names of the lanes stand once more, in a gap of this height.
-const NAMED_ROWS: usize = 40;
-
-const GAP: u64 = 40;
-
-// The narrowest picture, in which the key has room.
-const NARROWEST: u64 = 1340;
-
-// Where the first row stands, and how much lower it does where a note above it tells what is left out.
-const TOP: u64 = 152;
-
-const NOTE: u64 = 44;
-
-// Most letters of what stands behind the lanes.
-const MOST_LETTERS: usize = 200;
-
-/// Where the parts of a picture stand.
-#[derive(Clone, Copy, Debug, PartialEq, Eq)]
-struct Places {
-    /// The first row.
-    top: u64,
-    /// The first lane.
-    lanes: u64,
-    /// What stands behind the lanes.
-    details: u64,
-    /// Below the last row.
-    below: u64,
-    width: u64,
-}
 
 /// The picture of a drawing, as SVG.
 pub fn picture_of(alloc: Global, drawing: &Drawing) -> Result<Vec<u8>, AllocError> {
@@ -63,81 +30,6 @@ pub fn picture_of(alloc: Global, drawing: &Drawing) -> Result<Vec<u8>, AllocErro
     put_ending(&mut out, drawing, places.below.saturating_add(40))?;
     close(&mut out)?;
     Ok(out.into_bytes())
-}
-
-fn places_of(drawing: &Drawing) -> Places {
-    let top = if is_later(drawing) { TOP + NOTE } else { TOP };
-    let lanes = letters(longest_words(&drawing.rows)).saturating_add(134);
-    let count = drawing.lanes.len() as u64;
-    let details = lanes.saturating_add(count.saturating_mul(LANE));
-    let width = details
-        .saturating_add(letters(longest_detail(&drawing.rows)))
-        .saturating_add(20);
-    Places {
-        top,
-        lanes,
-        details,
-        below: below(top, drawing.rows.len()).saturating_add(14),
-        width: width.max(NARROWEST),
-    }
-}
-
-// How wide `count` letters are.
-fn letters(count: u64) -> u64 {
-    count.saturating_mul(61) / 10
-}
-
-fn longest_words(rows: &[Row]) -> u64 {
-    let mut most = 0;
-    for row in rows {
-        most = most.max(row.words.len() as u64);
-    }
-    most
-}
-
-fn longest_detail(rows: &[Row]) -> u64 {
-    let mut most = 0u64;
-    for row in rows {
-        let note = row.note.len() as u64;
-        let detail = row.detail.len().min(MOST_LETTERS) as u64;
-        most = most.max(note.saturating_add(detail).saturating_add(4));
-    }
-    most
-}
-
-fn row_at(places: &Places, row: usize) -> u64 {
-    height_of(places.top, row)
-}
-
-// Where a row stands, with the gaps above it, in a picture whose first row stands at `top`.
-fn height_of(top: u64, row: usize) -> u64 {
-    let gaps = (row / NAMED_ROWS) as u64;
-    (row as u64)
-        .saturating_mul(ROW)
-        .saturating_add(gaps.saturating_mul(GAP))
-        .saturating_add(top)
-}
-
-// Below the last of so many rows.
-fn below(top: u64, rows: usize) -> u64 {
-    match rows.checked_sub(1) {
-        Some(last) => height_of(top, last).saturating_add(ROW),
-        None => top,
-    }
-}
-
-// Where a row and a lane meet.
-fn place(places: &Places, lane: usize, row: usize) -> Point {
-    Point {
-        x: places
-            .lanes
-            .saturating_add((lane as u64).saturating_mul(LANE)),
-        y: row_at(places, row),
-    }
-}
-
-fn at(x: u64, y: u64) -> Point {
-    Point { x, y }
 }
 
 // The title, and what the signs mean.
@@ -229,7 +121,8 @@ fn put_life(
         Begin::Before => at(place(places, number, 0).x, upper_edge(drawing, places)),
     };
     let last = match lane.ends {
-        Some((row, _)) => place(places, number, row),
+        Some((row, End::Over)) => beneath(place(places, number, row)),
+        Some((row, End::Died)) => place(places, number, row),
         None => at(first.x, places.below.saturating_sub(16)),
     };
     line(out, class_of(&lane.who), first, last)?;
@@ -244,13 +137,18 @@ fn put_life(
         )?;
     }
     match lane.ends {
-        Some((row, End::Over)) => put_over(out, place(places, number, row)),
+        Some((_, End::Over)) => put_over(out, last),
         Some((row, End::Died)) => {
             put_cause(out, drawing, places, row, last)?;
             put_dead(out, last)
         }
         None => Ok(()),
     }
+}
+
+// Half a row beneath: a life that ends by itself leaves room for the sign of its last event.
+fn beneath(here: Point) -> Point {
+    at(here.x, here.y.saturating_add(ROW / 2))
 }
 
 // Where what began before the rows comes in: above the first one, where the run has events before it.
@@ -291,139 +189,6 @@ fn lane_in(drawing: &Drawing, row: usize) -> Option<usize> {
     }
 }
 
-// Packets, from where they were sent to where they were delivered.
-fn put_arrows(
-    out: &mut String,
-    drawing: &Drawing,
-    arrows: &[Arrow],
-    again: bool,
-    places: &Places,
-) -> Result<(), AllocError> {
-    for arrow in arrows {
-        match arrow.delivery {
-            Delivery::At(row) => put_delivered(out, drawing, arrow, row, again, places)?,
-            _ => put_packet(out, arrow, again, places)?,
-        }
-    }
-    Ok(())
-}
-
-// A packet that is delivered in a row: whoever points at it sees by which event, and what it says.
-fn put_delivered(
-    out: &mut String,
-    drawing: &Drawing,
-    arrow: &Arrow,
-    row: usize,
-    again: bool,
-    places: &Places,
-) -> Result<(), AllocError> {
-    match drawing.rows.get(row) {
-        Some(delivered) => {
-            put_hint(out, drawing, row, delivered)?;
-            put_packet(out, arrow, again, places)?;
-            close_hint(out)
-        }
-        None => put_packet(out, arrow, again, places),
-    }
-}
-
-fn put_hint(
-    out: &mut String,
-    drawing: &Drawing,
-    number: usize,
-    row: &Row,
-) -> Result<(), AllocError> {
-    let event = drawing.before.count.saturating_add(number);
-    open_hint(out, event, &row.words, &row.detail)
-}
-
-fn put_packet(
-    out: &mut String,
-    arrow: &Arrow,
-    again: bool,
-    places: &Places,
-) -> Result<(), AllocError> {
-    match arrow.sent {
-        Sending::At(row) => put_sent(out, arrow, row, again, places),
-        Sending::Before(_) => put_earlier(out, arrow, again, places),
-    }
-}
-
-// A packet that is sent in a row.
-fn put_sent(
-    out: &mut String,
-    arrow: &Arrow,
-    sent: usize,
-    again: bool,
-    places: &Places,
-) -> Result<(), AllocError> {
-    let (Some(from), Some(to)) = (arrow.from, arrow.to) else {
-        return Ok(());
-    };
-    let start = place(places, from, sent);
-    match arrow.delivery {
-        Delivery::At(row) => {
-            let class = arrow_class(arrow.tone, again);
-            put_arrow(out, class, start, place(places, to, row))
-        }
-        Delivery::Later => put_stub(out, "later", start, from < to),
-        Delivery::Never => put_stub(out, "lost", start, from < to),
-        Delivery::Before => Ok(()),
-    }
-}
-
-// A packet that was sent before the rows: a short stroke to where it is delivered, if that is in a row.
-fn put_earlier(
-    out: &mut String,
-    arrow: &Arrow,
-    again: bool,
-    places: &Places,
-) -> Result<(), AllocError> {
-    let (Some(to), Delivery::At(row)) = (arrow.to, arrow.delivery) else {
-        return Ok(());
-    };
-    let end = place(places, to, row);
-    let x = match arrow.from {
-        Some(from) if from > to => end.x.saturating_add(30),
-        _ => end.x.saturating_sub(30),
-    };
-    let class = if again { "repeat" } else { "earlier" };
-    put_arrow(out, class, at(x, end.y.saturating_sub(12)), end)
-}
-
-fn arrow_class(tone: Tone, again: bool) -> &'static str {
-    match (tone, again) {
-        (_, true) => "repeat",
-        (Tone::Plain, false) => "packet",
-        (Tone::Yes, false) => "yes",
-        (Tone::No, false) => "no",
-    }
-}
-
-// Its head stops short of the lane.
-fn put_arrow(out: &mut String, class: &str, from: Point, to: Point) -> Result<(), AllocError> {
-    let x = if from.x < to.x {
-        to.x.saturating_sub(5)
-    } else {
-        to.x.saturating_add(5)
-    };
-    line(out, class, from, at(x, to.y))
-}
-
-fn put_stub(
-    out: &mut String,
-    class: &str,
-    from: Point,
-    rightwards: bool,
-) -> Result<(), AllocError> {
-    let x = if rightwards {
-        from.x.saturating_add(30)
-    } else {
-        from.x.saturating_sub(30)
-    };
-    line(out, class, from, at(x, from.y.saturating_add(12)))
-}
-
 // The sign of each row, with what stands beside it. Whoever points at it sees the event's number and words.
 fn put_signs(out: &mut String, drawing: &Drawing, places: &Places) -> Result<(), AllocError> {
     for (number, row) in drawing.rows.iter().enumerate() {
@@ -434,7 +199,7 @@ fn put_signs(out: &mut String, drawing: &Drawing, places: &Places) -> Result<(),
                 line(out, "expiry", here, there)?;
                 put_given_up(out, there)?;
             }
-            put_hint(out, drawing, number, row)?;
+            put_hint(out, row)?;
             put_sign(out, row.sign, here)?;
             put_label(out, row, here)?;
             close_hint(out)?;
@@ -482,8 +247,12 @@ fn put_words(out: &mut String, drawing: &Drawing, places: &Places) -> Result<(),
     for (number, row) in drawing.rows.iter().enumerate() {
         let y = row_at(places, number).saturating_add(3);
         let mut buffer = Buffer::new();
-        let event = drawing.before.count.saturating_add(number);
-        text(out, "number", at(30, y), buffer.format(event).as_bytes())?;
+        text(
+            out,
+            "number",
+            at(30, y),
+            buffer.format(row.event).as_bytes(),
+        )?;
         text(out, "words", at(38, y), &row.words)?;
         put_row_detail(out, row, at(places.details, y))?;
     }

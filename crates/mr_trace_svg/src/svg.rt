@@ -17,7 +17,7 @@ text{font-family:sans-serif;font-size:11px}
 .note{font-weight:bold}
 .head{font-weight:bold;text-anchor:middle}
 .under{font-size:10px;text-anchor:middle}
-.label,.left{font-size:9px}
+.label,.left{font-size:10px}
 .head,.under,.label,.left{paint-order:stroke;stroke:#fff;stroke-width:3px;stroke-linejoin:round}
 .left{text-anchor:end}
 .rule{stroke:#eee}
@@ -134,7 +134,7 @@ pub fn text(out: &mut String, class: &str, at: Point, words: &[u8]) -> Result<()
     out.push_str("</text>\n")
 }
 
-/// The same, with bold words before them.
+/// The same, with bold words and a colon before them.
 pub fn noted(
     out: &mut String,
     at: Point,
@@ -148,10 +148,10 @@ pub fn noted(
         "<text class=\"detail\" x=\"{x}\" y=\"{y}\"><tspan class=\"note\">"
     )?;
     escape(out, note)?;
-    out.push_str(if note.is_empty() {
+    out.push_str(if note.is_empty() || words.is_empty() {
         "</tspan>"
     } else {
-        "</tspan>  "
+        "</tspan>: "
     })?;
     escape(out, words)?;
     out.push_str(more)?;

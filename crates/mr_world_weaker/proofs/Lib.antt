@@ -9,3 +9,8 @@ pub mod Told_twice
 pub mod Rivals
 pub mod Given_up
 pub mod Lost_file
+pub mod Publishing
+pub mod Succeeding
+pub mod Alone
+pub mod Final
+pub mod Winners

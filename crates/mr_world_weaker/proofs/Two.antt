@@ -116,7 +116,7 @@ asked_one m op = record m {
 }
 
 abbrev unfenced : Kind → World → World
-unfenced kd w = record w { fence = 1; barred = if kd.bars then w.barred else [] }
+unfenced kd w = record (unguarded kd w (record { app = 1; attempt = None })) { fence = 1 }
 
 pub weak-taken : (kd : Kind) (w : World) (e : Event) → not_now small w e ≡ None → weak_happens kd small free w e ≡ effect_as small w e (answered_as kd w (caller_in w e))
 unfolding weak_happens weak_effect
@@ -127,7 +127,7 @@ slips-late f low other p q = rw (p, q) refl
 
 weak-one : (kd : Kind) (w : World) → kd.fence ≡ false → w.fence ≡ 2 → not_now small w (Duty 1 Calm) ≡ None → weak_happens kd small free w (Duty 1 Calm) ≡ effect_as small w (Duty 1 Calm) (unfenced kd w)
 weak-one kd w l f n = made ∙ (ap (λ b. effect_as small w (Duty 1 Calm) (if b then unguarded kd w (record { app = 1; attempt = None }) else w)) slipped
-    ∙ ap (λ b. effect_as small w (Duty 1 Calm) (record w { fence = if b then w.fence else 1; barred = if kd.bars then w.barred else [] })) l)
+    ∙ ap (λ b. effect_as small w (Duty 1 Calm) (record (unguarded kd w (record { app = 1; attempt = None })) { fence = if b then w.fence else 1 })) l)
   where
     slipped : slips kd w (record { app = 1; attempt = None }) ≡ true
     slipped = slips-late kd.fence (nat_lt 1 w.fence) (not kd.bars && false) l (ap (λ z. nat_lt 1 z) f)

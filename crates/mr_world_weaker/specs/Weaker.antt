@@ -36,6 +36,16 @@ pub record PromiseHolds (kd : Kind) (cfg : Config) (within : Limits) (Fits : Lis
   pub sequential : (job : Job) → JobLaws job cfg → BoundsOutputs within → (es : List Event) → Fits es → IsFaithful job cfg within es →
       IsMarked (weak_world_of kd cfg within es) → SeesSequential job cfg (weak_world_of kd cfg within es)
 
+-- Whatever a namespace lacks, and whatever happens: a recorded winner never changes
+abbrev pub WinnerStaysAnyway : Type 0
+WinnerStaysAnyway = (kd : Kind) (cfg : Config) (within : Limits) (es fs : List Event) (t : TaskId) (a : Attempt) →
+    winner (weak_world_of kd cfg within es) t ≡ Some a → winner (weak_world_of kd cfg within (es ++ fs)) t ≡ Some a
+
+-- Whatever a namespace lacks, and whatever happens: where success was told the marker is there, and stays, and no later event changes what a reader sees
+abbrev pub SuccessIsFinal : Type 0
+SuccessIsFinal = (kd : Kind) (cfg : Config) (within : Limits) (es fs : List Event) → IsToldOutcome (weak_world_of kd cfg within es) true →
+    IsMarked (weak_world_of kd cfg within es) × IsMarked (weak_world_of kd cfg within (es ++ fs)) × LooksTheSame (weak_world_of kd cfg within es) (weak_world_of kd cfg within (es ++ fs))
+
 -- The promise does not hold: after some events a failure was told, and there is no marker; after some more the marker is there, and success was told.
 pub record ToldTwice (kd : Kind) (cfg : Config) (within : Limits) : Type 0 where
   pub early : List Event

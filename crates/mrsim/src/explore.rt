@@ -6,7 +6,7 @@ use mr_sim::{Asked, Expectation, Form};
 
 /// What `explore` does, in a line.
 pub const EXPLORE: &str =
-    "Makes every run of a job with at most N faults, and shows which ends come of them";
+    "Makes every run of a job with at most N faults, and shows which ends they come to";
 
 /// What the help of `explore` says behind its words.
 pub const EXPLORE_HELP: &str = "\
@@ -14,12 +14,13 @@ Reads a job text (see `seq`) from the first line of standard input, and from the
 first; where it starts no master, `start 1 0` comes next. From there on the run goes on as `calm` of the newest master does,
 and one of these is one fault, at each place, before each event and behind the last:
   a store call of a master or a container that comes next is `unavailable`, or `unanswered`
-  the packet that comes next is lost, or is late by one event or more; a packet that came once comes once more
-  the newest master crashes, and the next one starts; or the next one starts while it lives, and it makes one store call
-  more, or none; each time nothing of what it did not flush stays, or all up to the end of one of its records
+  the packet that comes next is passed over, and comes later, also behind other faults, or never; one that came comes once more
+  the newest master crashes, and the next one starts at once, or behind another fault, or never; or the next one starts while
+  it lives, and it makes one store call more, or none; each time nothing of what it did not flush stays, or all up to the
+  end of one of its records
   a container ends; a node restarts; the newest master gives a node up
   the newest master launches an attempt of a task on a node, other than the one that it launches next anyway
-No other fault comes while a packet is late. Behind a fault the run goes on as the calm of the newest master.
+Behind a fault the run goes on as the calm of the newest master. Runs of fewer faults are made first.
 Writes how many runs there are, and each end that came of them, those that need fewer faults first: how many runs have it, what
 `play` prints of it, whether the files that a reader sees are those of `seq`, and of the scripts that lead to it with the fewest
 faults the first shortest one. Behind the job text it is an input of `play`: each script was played before it is shown.
@@ -30,14 +31,14 @@ Example, where one.job is a job text alone, and its line has an end:
 As JSON, which ends have the marker:
   mrsim explore --json one.job | grep '\"marker\":true'";
 
-const FAULTS: &str = "How many faults a run has at most, 0 to 4 (1 if it is not told)";
+const FAULTS: &str = "How many faults a run has at most, 0 to 4 (default 1)";
 
 const FIND: &str =
-    "Shows one end alone, which has these lines, as \"marker yes, outcome failed\"; else `none`";
+    "Stops at the first end that has these lines, as \"marker yes, outcome failed\", and shows it; else `none`";
 
-const MOST: &str = "Makes at most N runs, and shows what came of them (all if it is not told)";
+const MOST: &str = "Makes at most RUNS runs, and shows what came of them (default: all)";
 
-const PROGRESS: &str = "Tells on standard error how many runs were made, every 100000 runs";
+const PROGRESS: &str = "Says on standard error how many runs were made, every 100000 runs";
 
 const JSON_SHOWN: &str =
     "Prints lines of JSON in place of the rest: each end, then how many runs were made";

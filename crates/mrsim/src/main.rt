@@ -9,17 +9,21 @@ mod explore;
 mod pipe;
 mod table;
 mod threads;
+mod unread;
 mod words;
 
 use crate::explore::goal_word;
 use crate::pipe::served;
+use crate::unread::{missing, why_unread};
 use crate::words::{command_line, command_of, ending_of, file_of};
 use clap::ArgMatches;
-use mr_sim::{Ending, Expectation, Help, Refusal, Remarks, SimFault, read_goal, run};
+use clap::error::ErrorKind;
+use mr_sim::{Ending, Expectation, Help, Refusal, Remarks, SimFault, is_contrary, read_goal, run};
 use std::alloc::Global;
 use std::fs::File;
 use std::io::Write;
 use std::process::ExitCode;
+use std::rt::Files;
 use std::{env, io};
 
 // What a goal of `explore` is.
@@ -38,11 +42,11 @@ fn code_of(rt: &impl Eprint, ending: Ending) -> ExitCode
 
 // The exit code of a run that has no output, when it has said why, and then what helps. The file is the one that it was to read, if not
 // standard input.
-fn code_of_refusal(rt: &impl Eprint, refusal: Refusal, file: Option<&str>) -> ExitCode
-    ensures { exit_status result ≡ exit_status_of (Ending.Failed refusal.fault) }
+fn code_of_refusal(rt: &impl Eprint, refusal: &Refusal, file: Option<&str>) -> ExitCode
+    ensures { exit_status result ≡ exit_status_of (Ending.Failed refusal.now.fault) }
 {
     if say(rt, refusal.fault, file).is_ok() {
-        say_help(rt, refusal.help);
+        say_help(rt, &refusal.help);
     }
     ExitCode::from(mr_sim::exit_status(Ending::Failed(refusal.fault)))
 }
@@ -57,7 +61,7 @@ fn say(rt: &impl Eprint, fault: SimFault, file: Option<&str>) -> io::Result<()> 
 }
 
 // Says what helps, if anything does, in a line behind the fault. Where it cannot be printed it is dropped.
-fn say_help(rt: &impl Eprint, help: Option<Help>) {
+fn say_help(rt: &impl Eprint, help: &Option<Help>) {
     if let Some(help) = help {
         let _ = eprintln!(rt; "  {help}");
     }
@@ -71,12 +75,34 @@ fn open_fault(error: &io::Error) -> SimFault {
     }
 }
 
-// Why a file could not be opened, where that is known.
-fn open_help(error: &io::Error) -> Option<Help> {
+// Why this file could not be opened, where that is known.
+fn open_help(error: &io::Error, name: &str) -> Option<Help> {
     match error.kind() {
-        io::ErrorKind::NotFound => Some(Help::Words("there is no such file")),
+        io::ErrorKind::NotFound => Some(Help::Words(missing(name))),
         io::ErrorKind::PermissionDenied => Some(Help::Words("it may not be read")),
         _ => None,
+    }
+}
+
+// What came of a run over this file; where it was not read, with why: a folder is opened, and can't be read.
+fn helped(rt: &impl Files, name: &str, ran: Result<Remarks, Refusal>) -> Result<Remarks, Refusal> {
+    match ran {
+        Ok(remarks) => Ok(remarks),
+        Err(refusal) => match refusal.fault {
+            SimFault::Read => Err(Refusal {
+                fault: SimFault::Read,
+                help: words_of(why_unread(rt, name)),
+            }),
+            _ => Err(refusal),
+        },
+    }
+}
+
+// These words as help, if there are any.
+fn words_of(words: Option<&'static str>) -> Option<Help> {
+    match words {
+        Some(words) => Some(Help::Words(words)),
+        None => None,
     }
 }
 
@@ -91,12 +117,36 @@ fn print_words(rt: &(impl Print + Eprint), error: &clap::Error, ending: Ending) 
     }
     match error.print(rt) {
         Err(_) if ending == Ending::Helped => Ending::Failed(SimFault::Write),
-        _ => ending,
+        Err(_) => ending,
+        Ok(()) => {
+            say_number(rt, error);
+            ending
+        }
     }
 }
 
-// The end that is sought, if one is. Where no end can be so, the program ends, when it has said so. Where that cannot be said it is
-// dropped, and the exit status says it.
+// What a value is to be that is refused. Only numbers have bounds.
+const NO_NUMBER: &str = "  expected a whole number, in the range that --help tells";
+
+// Says what was expected in place of a value, if one is refused: clap's own words say little. Where it cannot be printed it is dropped.
+fn say_number(rt: &impl Eprint, error: &clap::Error) {
+    if matches!(error.kind(), ErrorKind::ValueValidation) {
+        let _ = rt.eprintln(NO_NUMBER);
+    }
+}
+
+// What is wrong with a goal whose lines are each well written.
+const CONTRARY: &str = "two of its lines can't be so at once";
+
+// Refuses the goal, when it has said why. Where that cannot be said it is dropped, and the exit status says it.
+fn refuse_goal(rt: &impl Eprint, word: &str, why: &str) -> Ending
+    ensures { result ≡ Ending.RefusedWords }
+{
+    let _ = eprintln!(rt; "error: invalid value '{word}' for '--find <GOAL>': {why}");
+    Ending::RefusedWords
+}
+
+// The end that is sought, if one is. Where no end can be so, the program ends, when it has said so.
 fn goal_of(
     rt: &(impl AllocGlobal + Eprint),
     matches: &ArgMatches<'_>,
@@ -107,13 +157,24 @@ fn goal_of(
         return Ok(None);
     };
     match read_goal(rt.alloc(), word) {
-        Ok(Some(goal)) => Ok(Some(goal)),
-        Ok(None) => {
-            let _ = eprintln!(rt; "error: invalid value '{word}' for '--find <GOAL>': {GOAL_HELP}");
-            Err(Ending::RefusedWords)
-        }
+        Ok(Some(goal)) => sought(rt, word, goal),
+        Ok(None) => Err(refuse_goal(rt, word, GOAL_HELP)),
         Err(_) => Err(Ending::Failed(SimFault::NoMemory)),
     }
+}
+
+// The same of a goal whose lines are well written.
+fn sought(
+    rt: &impl Eprint,
+    word: &str,
+    goal: Vec<Expectation>,
+) -> Result<Option<Vec<Expectation>>, Ending>
+    ensures { IfErr result (λ ending. (ending ≡ Ending.RefusedWords) ⊎ (ending ≡ Ending.Failed SimFault.NoMemory)) }
+{
+    if is_contrary(&goal) {
+        return Err(refuse_goal(rt, word, CONTRARY));
+    }
+    Ok(Some(goal))
 }
 
 // The same, lent.
@@ -137,7 +198,7 @@ fn code_of_run<W: Write>(
             let _ = remarks.write(stderr);
             code_of(rt, remarks.ending())
         }
-        Err(refusal) => code_of_refusal(rt, refusal, file),
+        Err(refusal) => code_of_refusal(rt, &refusal, file),
     }
 }
 
@@ -171,10 +232,14 @@ fn main(rt: HostRuntime) -> ExitCode {
     let ran = match file {
         None => run(&rt, &command, &mut rt.reader(), &mut io::writer(&rt)),
         Some(name) => match File::open(&rt, name) {
-            Ok(mut reader) => run(&rt, &command, &mut reader, &mut io::writer(&rt)),
+            Ok(mut reader) => helped(
+                &rt,
+                name,
+                run(&rt, &command, &mut reader, &mut io::writer(&rt)),
+            ),
             Err(error) => Err(Refusal {
                 fault: open_fault(&error),
-                help: open_help(&error),
+                help: open_help(&error, name),
             }),
         },
     };

@@ -1,5 +1,6 @@
 //! The subcommands that serve a program in another language: `step`, `task`, `judge` and `recovery`.
 use crate::table::{FILE, Place, Word};
+use crate::unread::why_unread;
 use clap::ArgMatches;
 use clap::builder::ValueParser;
 use mr_ids::{AppAttempt, Bytes, TaskId};
@@ -13,7 +14,7 @@ use std::io::BufReader;
 
 /// What `step` does, in a line.
 pub const STEP: &str =
-    "Makes one operation of the output committer over a pipe: its next store call out, the store's answer in";
+    "Makes one operation of the output committer over a pipe: writes its next store call, reads the store's answer";
 
 /// What the help of `step` says behind its words.
 pub const STEP_HELP: &str = "\
@@ -25,7 +26,7 @@ Operations:
   abort-job               deletes what was temporary
   recover-task TASK [N]   takes over what an earlier generation committed of the task; with N, its part file has to have N bytes
 Writes the next store call as a line, reads the store's answer as a line from standard input, and so on. Ends with `finished`, or with
-`fault` and why (status 1). A line that is no answer is told by its number, `no answer 3`, and changes nothing. Status 3: the input ended first.
+`fault` and why (status 1). A line that is no answer changes nothing, and is named, as `no answer 3`. Status 3: the input ended first.
 
 Calls: mkdirs PATH, create PATH closed, delete PATH, rename FROM TO, list PATH, exists PATH, read PATH.
 Answers: done; entries NAME/ NAME ..; nothing, a directory, a file; bytes BYTES; or a refusal, as Missing.
@@ -40,7 +41,7 @@ and `printf '{\"answer\":\"done\"}\\n' | mrsim step --json setup-job`
 
 /// What `task` does, in a line.
 pub const TASK: &str =
-    "Tells over a pipe which attempt at a task may commit, and which one wins: what happens to them in, answers out";
+    "Decides over a pipe which attempt of a task may commit, and which one wins: reads what happens to them, writes answers";
 
 /// What the help of `task` says behind its words.
 pub const TASK_HELP: &str = "\
@@ -55,7 +56,7 @@ Reads a line, writes its answer, and so on to the end of the input:
   killed ATTEMPT      it was stopped                     noted
   lost ATTEMPT        its output is lost (of a map)      noted
 Yes is for one attempt alone: of those that asked and are not over, the one that asked first. An attempt that the task never had
-is `refused Unknown`. A line that is none of these is told by its number, `no line 3`, and changes nothing.
+is `refused Unknown`. A line that is none of these changes nothing, and is named, as `no line 3`.
 
 Example: `printf 'launch\\n' | mrsim task task_200707121733_0003_r_000000` prints
   launched attempt_200707121733_0003_r_000000_0
@@ -63,8 +64,7 @@ and `printf '{\"event\":\"launch\"}\\n' | mrsim task --json task_200707121733_00
   {\"answer\":\"launched\",\"words\":[\"attempt_200707121733_0003_r_000000_0\"]}";
 
 /// What `judge` does, in a line.
-pub const JUDGE: &str =
-    "Judges a store by the trace of its calls: tells the first answer that the namespace would not give";
+pub const JUDGE: &str = "Judges a store by the trace of its calls: shows the first wrong answer";
 
 /// What the help of `judge` says behind its words.
 pub const JUDGE_HELP: &str = "\
@@ -83,7 +83,7 @@ prints
 
 /// What `recovery` does, in a line.
 pub const RECOVERY: &str =
-    "Finds what a master that starts does with the work of those before it, from the segments of their history";
+    "Plans what a new master takes over from those before it, by the segments of their history";
 
 /// What the help of `recovery` says behind its words.
 pub const RECOVERY_HELP: &str = "\
@@ -109,7 +109,7 @@ const TASK_PLACE: &str = "TASK";
 
 const GENERATION: Word = Word {
     name: "generation",
-    help: "The generation of the master, 1 to 1000 (1 if it is not told)",
+    help: "The generation of the master, 1 to 1000 (default 1)",
     value_names: &["K"],
     bounds: ValueParser::Signed(1, 1000),
     ..Word::TEXT
@@ -131,7 +131,7 @@ const JSON_TALK: Word = Word {
 const STEP_WORDS: &[Word] = &[
     Word {
         name: "dest",
-        help: "The destination (/out if it is not told)",
+        help: "The destination (default /out)",
         value_names: &["PATH"],
         ..Word::TEXT
     },
@@ -325,15 +325,18 @@ fn judge(rt: &HostRuntime, words: &ArgMatches<'_>) -> u8 {
             &mut io::writer(rt),
             &mut rt.stderr(),
         ),
-        Some(name) => match File::open(rt, name) {
-            Ok(mut file) => mr_judge::run(
-                alloc,
-                form,
-                &mut file,
-                &mut io::writer(rt),
-                &mut rt.stderr(),
-            ),
-            Err(_) => unread(rt, name, PipeFault::Read),
+        Some(name) => match bytes_of(rt, name) {
+            Ok(bytes) => {
+                let mut trace = bytes.as_slice();
+                mr_judge::run(
+                    alloc,
+                    form,
+                    &mut trace,
+                    &mut io::writer(rt),
+                    &mut rt.stderr(),
+                )
+            }
+            Err(fault) => unread(rt, name, fault),
         },
     }
 }
@@ -384,12 +387,15 @@ fn bytes_of(rt: &HostRuntime, name: &str) -> Result<Vec<u8>, PipeFault> {
     }
 }
 
-// The status of a file that is not read, when it is said. Of standard input no name is told, nor of a lack of memory.
+// The status of a file that is not read, when it is said, with why. Of standard input no name is told, nor of a lack of memory.
 fn unread(rt: &HostRuntime, name: &str, fault: PipeFault) -> u8 {
     if name == "-" || fault == PipeFault::NoMemory {
         let _ = say(&mut rt.stderr(), fault);
     } else {
         let _ = eprintln!(rt; "mrsim: {fault}: {name}");
+        if let Some(why) = why_unread(rt, name) {
+            let _ = eprintln!(rt; "  {why}");
+        }
     }
     mr_pipe::status_of(fault)
 }

@@ -21,8 +21,6 @@ pub struct Word {
     pub value_names: &'static [&'static str],
     /// What the value may be.
     pub bounds: ValueParser<'static>,
-    /// The value where the word is left out, if help is to tell that.
-    pub defaults: &'static [&'static str],
     /// The words that it rules out.
     pub rules_out: &'static [&'static str],
     /// The words beside which alone it stands.
@@ -37,7 +35,6 @@ impl Word {
         action: ArgAction::SetTrue,
         value_names: &[],
         bounds: ValueParser::Bool,
-        defaults: &[],
         rules_out: &[],
         needs: &[],
     };
@@ -57,7 +54,6 @@ impl Word {
             .action(self.action)
             .value_names(self.value_names)
             .value_parser(self.bounds)
-            .default_values(self.defaults)
             .conflicts_with_all(self.rules_out)?
             .requires_all(self.needs)
     }

@@ -1,8 +1,8 @@
 //! The words of `threads`.
 use crate::table::Word;
 use crate::words::{
-    DRAWN, FIRST_DRAWN, FROM_BOUNDS, FROM_WORD, HISTORY_SHOWN, JSON_SHOWN, MOST_DRAWN, ROWS_BOUNDS,
-    ROWS_WORD, TRACE_SHOWN, part_of, shown_of,
+    DRAWN, FIRST_DRAWN, FOLD_WORD, FOLDED, FROM_BOUNDS, FROM_WORD, HISTORY_SHOWN, JSON_SHOWN,
+    MOST_DRAWN, ROWS_BOUNDS, ROWS_WORD, TRACE_SHOWN, part_of, shown_of,
 };
 use clap::ArgMatches;
 use clap::builder::ValueParser;
@@ -16,14 +16,14 @@ pub const THREADS: &str =
 pub const THREADS_HELP: &str = "\
 Reads a job text (see `seq`) from standard input. There is a thread for each node, one for each master that the faults can
 start, and one that starts masters and makes the faults. The faults are made in the order of their list, each as soon as there
-are E events and those before it were made or dropped, before any other event. A fault that comes to nothing is dropped, and so
-is one that did not come until the end.
-Where the job succeeded, writes what `seq` writes. Else it ends with status 1, or 6 where a thread has made N turns, or no
-thread finds anything to do. What it shows of a run differs from one time to the next, as the run does.
+are E events and those before it were made or dropped, before any other event. A fault that is not permitted then is dropped, and
+so is one that did not come until the end.
+Where the job succeeded, writes what `seq` writes. Else it ends with status 1, or 6 where a thread has made all its turns, or
+no thread finds anything to do. What it shows of a run differs from one time to the next, as the run does.
 
   --trace     each event with the thread that made it, then what `play` writes of the run
   --history   what `play` writes of the run, then each master's history
-  --diagram   a picture of the run, of its first 400 events or of those that --from and --rows tell
+  --diagram   a picture of the run, of its first 400 events or of those that --from and --rows tell (--fold: fewer rows)
   --json      lines of JSON: each event with the thread that made it, then what came of the run
   --script    the script by which `play` repeats the run, then what `play` writes of it, as comments
 With these a run whose job failed is shown too, with status 0.
@@ -40,16 +40,12 @@ has the job text on one line is run, and its run is repeated:
   cat job.json script | mrsim play";
 
 const TURNS: &str =
-    "How many turns each thread has at most, 1 to 1000000000 (100000 if it is not told)";
+    "How many turns each thread has at most, 1 to 1000000000 (default: 100000, and 10 for each pair of a map and a reduce)";
 
-const HOLD: &str = "Holds the first map's work until a second has begun, for at most N looks";
+const HOLD: &str =
+    "Holds the first map's work until a second one has begun; it looks at most --turns times";
 
 const SCRIPT_SHOWN: &str = "Prints the script by which `play` repeats the run";
-
-// How many turns a thread has where that is not told.
-const DEFAULT_TURNS: u64 = 100_000;
-
-const DEFAULT_TURNS_TEXT: &str = "100000";
 
 const TURNS_WORD: &str = "turns";
 
@@ -59,7 +55,6 @@ const WORDS: &[Word] = &[
         help: TURNS,
         value_names: &["N"],
         bounds: ValueParser::Unsigned(1, 1_000_000_000),
-        defaults: &[DEFAULT_TURNS_TEXT],
         ..Word::TEXT
     },
     Word {
@@ -71,6 +66,13 @@ const WORDS: &[Word] = &[
         name: "diagram",
         help: DRAWN,
         rules_out: &["history", "trace", "script"],
+        ..Word::FLAG
+    },
+    Word {
+        name: FOLD_WORD,
+        help: FOLDED,
+        rules_out: &["history", "trace", "script"],
+        needs: &["diagram"],
         ..Word::FLAG
     },
     Word {
@@ -122,7 +124,7 @@ pub fn threads_words() -> &'static [Word] {
 
 /// What `threads` is asked for.
 pub fn threads_of<'a>(words: &ArgMatches<'_>) -> mr_sim::Command<'a> {
-    let turns = words.get_one::<u64>(TURNS_WORD).unwrap_or(DEFAULT_TURNS);
+    let turns = words.get_one::<u64>(TURNS_WORD);
     let hold = words.get_flag("hold");
     match seen_of(words) {
         Some(seen) => mr_sim::Command::ThreadsSeen { turns, hold, seen },

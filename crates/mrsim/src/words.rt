@@ -23,6 +23,7 @@ const VERSION: &str = "0.1.0, built of proved crates";
 
 const STATUSES: &str = "\
 Each subcommand but `step` and `task` reads standard input, or FILE, to its end, and then writes standard output.
+`mrsim help play` has a first job to try, and the commands of its script.
 
 Statuses:
   0  done
@@ -35,7 +36,7 @@ Statuses:
   5  `mrsim: no memory`
   6  `mrsim: turns spent`
   7  `mrsim: full`, `mrsim: thread`, `mrsim: journal mismatch`
-Where an input is refused, a second line on standard error says what was expected, and of a bad command which word is wrong.";
+Where an input is refused, a second line on standard error mostly says where, and what was expected.";
 
 const COMMITTER: &str = "Runs a script of committer calls and lists the directory that they leave";
 
@@ -86,7 +87,7 @@ Example:
 prints
   reduce attempt_200707121733_0003_r_000000_0
   torn 0
-With --json it prints each record as it stands there, and last what is torn:
+With --json it prints each record as it is in the segment, and last how many bytes are torn:
   {\"attempt\":\"attempt_200707121733_0003_r_000000_0\",\"event\":\"reduce\"}
   {\"torn\":0,\"version\":1}";
 
@@ -104,16 +105,20 @@ Reads a job text (see `seq`) from the first line of standard input, and a script
   die C                      container C ends before it is done
   restart N                  node N restarts
   expire K N                 master K gives node N up
-  calm K [before NAME]       all goes on without a fault until master K is through, or until an event of that name is next
+  calm K [before NAME]       all goes on without a fault until master K is through, or until an event of that name is next,
+                             for at most 10000 events; calm K all: with no such bound
   drop I                     the packet at place I of the bag is lost: no calm delivers it
   expect r T A, .. none      reduce T is to have the attempt A for its winner now, or none
   expect marker yes, .. no   the success marker is to be there now, or not
   expect outcome WORD        the outcome is to be `succeeded`, `failed` or `none` now
   # ..                       is a comment
 C is a container: its master, a full stop and its number, as 1.0. FAULT is `unavailable` (the call is not made) or
-`unanswered` (its answer is lost). Writes a line for each event that is refused and each `expect` that is not met, then each
-reduce's winner, whether the marker is there, the outcome, and the files that a reader of the destination sees. Standard error
-tells a calm that ended otherwise than its line asks, and last `mrsim: not as expected` where an `expect` was not met.
+`unanswered` (its answer is lost). NAME is launch, step, a master's call (marks, read, setup, recover, bar, append, flush,
+started, merge, cleanup, marker, success, fail, abort) or a container's (compute, where, fetch, lost, mkdirs, create, write,
+close, needs, pending, poll, look, clear, rename, report, abort, failed).
+Writes a line for each event that is refused and each `expect` that is not met, then each reduce's winner, whether the marker
+is there, the outcome, and the files that a reader of the destination sees. Standard error says which calm did not end as its
+line asks, and last `mrsim: not as expected` where an `expect` was not met.
 
 Example:
   {\"id\":\"job_200707121733_0003\",\"job\":\"wordcount\",\"reduces\":1,\"splits\":[\"a b a\"]}
@@ -174,11 +179,17 @@ pub const TRACE_SHOWN: &str = "Shows each event, with the packets that it added,
 
 /// What `--from` is.
 pub const FIRST_DRAWN: &str =
-    "With --diagram: the first event that is drawn, by its place in the trace (0 if it is not told)";
+    "With --diagram: the first event that is drawn, by its place in the trace (default 0)";
 
 /// What `--rows` is.
-pub const MOST_DRAWN: &str =
-    "With --diagram: how many events are drawn, 1 to 10000 (400 if it is not told)";
+pub const MOST_DRAWN: &str = "With --diagram: how many events are drawn, 1 to 10000 (default 400)";
+
+/// What `--fold` does.
+pub const FOLDED: &str =
+    "With --diagram: draws events of fetches that follow one another in one row, with their number";
+
+/// Whether fetches share a row.
+pub const FOLD_WORD: &str = "fold";
 
 /// From which event on a picture is drawn.
 pub const FROM_WORD: &str = "from";
@@ -194,13 +205,20 @@ pub const FROM_BOUNDS: ValueParser<'static> = ValueParser::Unsigned(0, u64::MAX)
 /// Which numbers `--rows` takes.
 pub const ROWS_BOUNDS: ValueParser<'static> = ValueParser::Unsigned(1, 10_000);
 
-// `--from` and `--rows` stand beside `--diagram` alone. `clap` does not ask for that where `--diagram` is itself ruled out, so what rules
+// `--fold`, `--from` and `--rows` stand beside `--diagram` alone. `clap` does not ask for that where `--diagram` is itself ruled out, so what rules
 // it out is named at them too.
 const PLAY_WORDS: &[Word] = &[
     Word {
         name: DIAGRAM_WORD,
         help: DRAWN,
         rules_out: &["history", "trace"],
+        ..Word::FLAG
+    },
+    Word {
+        name: FOLD_WORD,
+        help: FOLDED,
+        rules_out: &["history", "trace"],
+        needs: &[DIAGRAM_WORD],
         ..Word::FLAG
     },
     Word {
@@ -380,6 +398,7 @@ pub fn part_of(words: &ArgMatches<'_>) -> Part {
     Part {
         from: words.get_one::<u64>(FROM_WORD).unwrap_or(Part::FIRST.from),
         rows: words.get_one::<u64>(ROWS_WORD).unwrap_or(Part::FIRST.rows),
+        fold: words.get_flag(FOLD_WORD),
     }
 }
 

@@ -1,13 +1,10 @@
 //! Jobs that threads run: gates, and works at once. Runs with faults of a plan are rows of tools/hostile.
-use mr_drive::{DriveFault, Plan, Report, drive};
+use crate::fixtures::plan;
+use mr_drive::{DriveFault, Report, drive};
 use mr_ids::TaskKind;
 use mr_jobs::WordCount;
-use mr_play::setup_of;
-use mr_sim_commands::read_job_text;
 use mr_user::{Gate, GateFault, OpenGate};
 use mr_world_events::Event;
-use std::alloc::Global;
-use std::process::Abort;
 use std::sync::atomic::{AtomicU64, Ordering};
 use std::thread;
 
@@ -15,23 +12,6 @@ const TURNS: u64 = 100_000;
 
 // The one file of each job of `a`, `a`, `b` here.
 const TEXT: &[u8] = b"a\t2\nb\t1\n";
-
-// The plan of a job text with these parts.
-fn plan(rt: &impl Abort, alloc: Global, parts: &str) -> Plan {
-    let text = format!(in alloc;
-        "{{\"id\":\"job_200707121733_0003\",\"reduces\":1,{parts}}}"
-    ).expect(rt, "no memory");
-    match read_job_text(alloc, text.as_bytes()) {
-        Ok(submission) => {
-            let setup = setup_of(submission);
-            Plan {
-                config: setup.config,
-                faults: setup.faults,
-            }
-        }
-        Err(fault) => panic!(rt; "{fault}"),
-    }
-}
 
 fn is_counted(report: &Report) -> bool {
     report.succeeded && report.files.len() == 1 && report.files[0].bytes.as_slice() == TEXT

@@ -1,5 +1,8 @@
 //! The ends of the job of one map and one reduce.
-use mr_explore::{Exploration, Form, Row, Table, Unwatched, best_of, explored_text, read_goal};
+use mr_explore::{
+    Exploration, Explored, Fault, Form, Row, Table, Unwatched, best_of, explored_text, read_goal,
+};
+use mr_explore_search::Run;
 use mr_play::play;
 use std::process::Abort;
 
@@ -12,7 +15,7 @@ fn explored<H: AllocGlobal + Abort>(rt: &H, script: &str, faults: u32) -> Explor
         rt, "a fault",
     );
     exploration
-        .make(rt.alloc(), u64::MAX, &Unwatched)
+        .make(rt.alloc(), u64::MAX, None, &Unwatched)
         .expect(rt, "a fault");
     exploration
 }
@@ -92,7 +95,8 @@ fn a_marker_without_a_winner_is_not_there(rt: HostRuntime) {
 #[test]
 fn runs_are_made_up_to_a_number(rt: HostRuntime) {
     let mut some = Exploration::new(rt.alloc(), ONE.as_bytes(), 1).expect(&rt, "a fault");
-    some.make(rt.alloc(), 3, &Unwatched).expect(&rt, "a fault");
+    some.make(rt.alloc(), 3, None, &Unwatched)
+        .expect(&rt, "a fault");
     confirm!(rt; some.table().runs() == 3);
     confirm!(rt; !some.is_whole());
     let read = read_goal(rt.alloc(), "marker no, marker yes").expect(&rt, "no memory");
@@ -108,23 +112,52 @@ fn runs_are_made_up_to_a_number(rt: HostRuntime) {
     confirm!(rt; printed.text.as_slice() == b"# 3 runs with at most 1 fault, not all\nnone\n".as_slice());
 }
 
+// The run without a fault is the first one. Its end is the one that is sought, so no other run is made.
+#[test]
+fn no_run_is_made_behind_the_end_that_is_sought(rt: HostRuntime) {
+    let mut some = Exploration::new(rt.alloc(), ONE.as_bytes(), 4).expect(&rt, "a fault");
+    let read = read_goal(rt.alloc(), "marker yes, outcome succeeded").expect(&rt, "no memory");
+    let goal = read.expect(&rt, "no goal");
+    some.make(rt.alloc(), u64::MAX, Some(goal.as_slice()), &Unwatched)
+        .expect(&rt, "a fault");
+    confirm!(rt; some.table().runs() == 1);
+    confirm!(rt; !some.is_whole());
+}
+
 // Where just so many runs are made as there are, these are all.
 #[test]
 fn the_last_run_makes_them_all(rt: HostRuntime) {
     let mut one = Exploration::new(rt.alloc(), ONE.as_bytes(), 0).expect(&rt, "a fault");
     confirm!(rt; !one.is_whole());
-    one.make(rt.alloc(), 1, &Unwatched).expect(&rt, "a fault");
+    one.make(rt.alloc(), 1, None, &Unwatched)
+        .expect(&rt, "a fault");
     confirm!(rt; one.is_whole());
 }
 
-// Of the smallest job, behind its whole run: no fault; packets 0, 1, 3, 5 and 6 once more; the master crashes or is superseded; the node restarts.
+// Of the smallest job, behind its whole run: no fault; packets 0, 1, 3, 5 and 6 once more; the master crashes, with the next start or without, or is superseded; the node restarts.
 #[test]
-fn nine_runs_are_counted_by_hand(rt: HostRuntime) {
+fn ten_runs_are_counted_by_hand(rt: HostRuntime) {
     let input =
         b"{\"id\":\"job_200707121733_0003\",\"job\":\"wordcount\",\"reduces\":1,\"splits\":[]}\nstart 1 0\ncalm 1\n";
     let mut all = Exploration::new(rt.alloc(), input, 1).expect(&rt, "a fault");
-    all.make(rt.alloc(), u64::MAX, &Unwatched)
+    all.make(rt.alloc(), u64::MAX, None, &Unwatched)
         .expect(&rt, "a fault");
-    confirm!(rt; all.table().runs() == 9);
+    confirm!(rt; all.table().runs() == 10);
     confirm!(rt; all.table().rows().len() == 1);
+}
+
+// That a reduce's attempt wishes to commit is packet 9, and master 1 hears it next. It is passed over, and master 2 starts while master 1 lives.
+#[test]
+fn a_packet_comes_late_behind_another_fault(rt: HostRuntime) {
+    let input = input_of(&rt, "start 1 0\ncalm 1 before pending\nstep 1.1\n");
+    let mut run = Explored::new(rt.alloc(), &input).expect(&rt, "a fault");
+    confirm!(rt; run.later(&Fault::Lost(9)) == Some(Fault::Late(9)));
+    confirm!(rt; happens(&rt, &mut run, Fault::Lost(9)));
+    confirm!(rt; happens(&rt, &mut run, Fault::Superseded(0)));
+    confirm!(rt; happens(&rt, &mut run, Fault::Late(9)));
+    drop(run);
+}
+
+fn happens<H: AllocGlobal + Abort>(rt: &H, run: &mut Explored, fault: Fault) -> bool {
+    run.befall(rt.alloc(), fault).expect(rt, "no memory")
 }

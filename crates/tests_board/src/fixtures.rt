@@ -3,9 +3,12 @@
 ghost use Rattle.std.specs.Prelude.{◌≡◌, []};
 
 use mr_board::{Board, Finished, Mismatch, Seat, Work};
+use mr_drive::Plan;
 use mr_ids::{AppAttempt, Bytes, JobId, TaskKind};
 use mr_jobs::WordCount;
 use mr_packet::ContainerId;
+use mr_play::setup_of;
+use mr_sim_commands::read_job_text;
 use mr_user::{Gate, GateFault, OpenGate};
 use mr_world::{Config, Splits, Took, World, WorldFault};
 use mr_world_events::{Event, Weather};
@@ -93,6 +96,23 @@ pub fn numbered(rt: &impl Abort, alloc: Global, number: u64, text: &[u8]) -> Tab
         nodes,
         next: 0,
         last: None,
+    }
+}
+
+/// The plan of a job text with these parts, of one reduce.
+pub fn plan(rt: &impl Abort, alloc: Global, parts: &str) -> Plan {
+    let text = format!(in alloc;
+        "{{\"id\":\"job_200707121733_0003\",\"reduces\":1,{parts}}}"
+    ).expect(rt, "no memory");
+    match read_job_text(alloc, text.as_bytes()) {
+        Ok(submission) => {
+            let setup = setup_of(submission);
+            Plan {
+                config: setup.config,
+                faults: setup.faults,
+            }
+        }
+        Err(fault) => panic!(rt; "{fault}"),
     }
 }
 

@@ -26,4 +26,6 @@ mod fixtures;
 #[cfg(test)]
 mod laws;
 #[cfg(test)]
+mod runs;
+#[cfg(test)]
 mod works;

@@ -1,4 +1,4 @@
-//! A run that counts to two, and that may be set back to its beginning where it is at one.
+//! A run that counts to two, and that may be set back to its beginning where it is at one. That puts off that it is set to one there.
 ghost use Rattle.tests_explore.specs.Counting.{counting};
 
 use mr_explore_search::{Run, WalkFault};
@@ -33,6 +33,10 @@ impl Run for Counting {
         let mut faults = LinkedList::new(alloc);
         faults.push_front(0)?;
         Ok(faults)
+    }
+
+    fn later(&self, fault: &u32) -> Option<u32> {
+        if *fault == 0 { Some(1) } else { None }
     }
 
     fn befall(&mut self, _alloc: Global, fault: u32) -> Result<bool, WalkFault> {

@@ -5,28 +5,31 @@ use mr_explore_search::Walk;
 use std::alloc::Global;
 use std::process::Abort;
 
-// How many faults more each run might have had that comes of it, in the order in which they are made.
-fn spares(rt: &impl Abort, alloc: Global, faults: u32) -> Vec<u32> {
-    let mut walk = Walk::new(alloc, Counting { at: 0 }, faults, 10).expect(rt, "no walk");
-    let mut spares = Vec::new(alloc);
-    for _ in 0..10 {
+// How many faults each run has that comes of it, in the order in which they are made.
+fn faults_of(rt: &impl Abort, alloc: Global, most: u32) -> Vec<u32> {
+    let mut walk = Walk::new(alloc, Counting { at: 0 }, most, 10).expect(rt, "no walk");
+    let mut faults = Vec::new(alloc);
+    for _ in 0..20 {
         match walk.next_run(alloc).expect(rt, "no run") {
             Some(ended) => {
                 assert!(rt; ended.run.at == 2);
-                spares.push(ended.spare).expect(rt, "no memory");
+                faults.push(ended.faults).expect(rt, "no memory");
             }
-            None => return spares,
+            None => return faults,
         }
     }
     panic!(rt; "too many runs")
 }
 
-// Without a fault there is one run. Where there may be one, it is set back at one, and then it is not. Where there may be two, it is set back once more first.
+// Without a fault there is one run. With one it is set back at one, and what that puts off comes when it is there again, or
+// never. With two that is so of each, in both orders, or one of them comes before the second fault.
 #[test]
 fn runs_with_faults(rt: HostRuntime) {
-    assert!(rt; spares(&rt, rt.alloc(), 0).as_slice() == [0].as_slice());
-    assert!(rt; spares(&rt, rt.alloc(), 1).as_slice() == [0, 1].as_slice());
-    assert!(rt; spares(&rt, rt.alloc(), 2).as_slice() == [0, 1, 2].as_slice());
+    assert!(rt; faults_of(&rt, rt.alloc(), 0).as_slice() == [0].as_slice());
+    assert!(rt; faults_of(&rt, rt.alloc(), 1).as_slice() == [0, 1, 1].as_slice());
+    assert!(rt;
+        faults_of(&rt, rt.alloc(), 2).as_slice() == [0, 1, 1, 2, 2, 2, 2, 2, 2, 2].as_slice()
+    );
 }
 
 // A run that makes at most one step by itself ends there.

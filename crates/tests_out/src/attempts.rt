@@ -5,7 +5,7 @@ use mr_out_steps::{Order, Outcome, Standing};
 #[test]
 fn attempts_are_begun_in_order(rt: HostRuntime) {
     let rt = &rt;
-    let mut run = Run::fresh(rt.alloc(), None);
+    let mut run = Run::fresh(rt, rt.alloc(), None);
     confirm!(rt; run.answer(rt, &Order::StartNext) == Outcome::Started(attempt(rt, 0, 0)));
     confirm!(rt; run.answer(rt, &Order::StartNext) == Outcome::Started(attempt(rt, 0, 1)));
     confirm!(rt; run.answer(rt, &Order::StartNext) == Outcome::Busy);
@@ -19,7 +19,7 @@ fn attempts_are_begun_in_order(rt: HostRuntime) {
 #[test]
 fn nothing_is_begun_where_all_is_won(rt: HostRuntime) {
     let rt = &rt;
-    let mut run = Run::fresh(rt.alloc(), None);
+    let mut run = Run::fresh(rt, rt.alloc(), None);
     run.answer(rt, &Order::StartNext);
     run.answer(rt, &Order::StartNext);
     let won = run.answer(rt, &Order::Done(attempt(rt, 0, 0)));
@@ -33,7 +33,7 @@ fn nothing_is_begun_where_all_is_won(rt: HostRuntime) {
 #[test]
 fn the_limit_ends_the_job(rt: HostRuntime) {
     let rt = &rt;
-    let mut run = Run::fresh(rt.alloc(), Some(2));
+    let mut run = Run::fresh(rt, rt.alloc(), Some(2));
     run.answer(rt, &Order::StartNext);
     run.answer(rt, &Order::StartNext);
     let first = run.answer(rt, &Order::Fail(attempt(rt, 0, 0)));

@@ -25,7 +25,7 @@ pub struct FakeDisk {
 
 fn folder_of(place: &Place) -> Folder {
     match *place {
-        Place::Part(_) | Place::Marker => Folder::Output,
+        Place::Part(_) | Place::Marker | Place::Home => Folder::Output,
         Place::Kept(_) => Folder::Kept,
         Place::Work(_) => Folder::Work,
         Place::Decision => Folder::Home,
@@ -39,11 +39,21 @@ fn newest(moments: &[Option<u64>]) -> Option<u64> {
     }
 }
 
+fn home(rt: &impl Abort, alloc: Global) -> Name {
+    Name {
+        place: Place::Home,
+        moments: Vec::from_array(alloc, [Some(0)]).expect(rt, "no memory"),
+    }
+}
+
 impl FakeDisk {
-    pub fn new(alloc: Global) -> FakeDisk {
+    /// What `begin` leaves: the folder of what the commands keep is there.
+    pub fn new(rt: &impl Abort, alloc: Global) -> FakeDisk {
+        let mut names = Vec::new(alloc);
+        names.push(home(rt, alloc)).expect(rt, "no memory");
         FakeDisk {
             alloc,
-            names: Vec::new(alloc),
+            names,
             synced: Vec::new(alloc),
             appended: Vec::new(alloc),
             whole: Vec::new(alloc),

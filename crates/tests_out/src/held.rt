@@ -45,6 +45,19 @@ fn it_may_be_ended_before_the_decision(rt: HostRuntime) {
 }
 
 #[test]
+fn what_is_published_is_forgotten(rt: HostRuntime) {
+    let rt = &rt;
+    let mut run = held(rt, rt.alloc());
+    run.answer(rt, &Order::Done(attempt(rt, 0, 0)));
+    confirm!(rt; run.answer(rt, &Order::Forget) == Outcome::Unpublished);
+    run.answer(rt, &Order::Done(attempt(rt, 0, 1)));
+    confirm!(rt; run.answer(rt, &Order::Forget) == Outcome::Unpublished);
+    confirm!(rt; run.answer(rt, &Order::Publish) == Outcome::Finished);
+    confirm!(rt; run.answer(rt, &Order::Forget) == Outcome::Finished);
+    confirm!(rt; run.is_forgotten() && run.is_marked());
+}
+
+#[test]
 fn what_is_not_held_needs_no_decision(rt: HostRuntime) {
     let rt = &rt;
     let mut run = Run::new(rt, rt.alloc());

@@ -67,7 +67,7 @@ pub struct Run {
 impl Run {
     /// A job of two tasks. Two attempts at the first and one at the second have written their files.
     pub fn new(rt: &impl Abort, alloc: Global) -> Run {
-        let mut disk = FakeDisk::new(alloc);
+        let mut disk = FakeDisk::new(rt, alloc);
         for &(number, of) in &[(0, 0), (1, 0), (0, 1)] {
             let a = attempt(rt, number, of);
             let started = Record::AttemptStarted {
@@ -94,10 +94,10 @@ impl Run {
     }
 
     /// A job of two tasks that was just begun, which so many failures of one task end.
-    pub fn fresh(alloc: Global, limit: Option<u32>) -> Run {
+    pub fn fresh(rt: &impl Abort, alloc: Global, limit: Option<u32>) -> Run {
         Run {
             alloc,
-            disk: FakeDisk::new(alloc),
+            disk: FakeDisk::new(rt, alloc),
             told: Vec::new(alloc),
             stops: 0,
             limit,
@@ -130,6 +130,9 @@ impl Run {
     /// A command, which is said again where it was stopped and that is chosen.
     pub fn say(&mut self, rt: &impl Abort, order: &Order, choices: &mut Choices) {
         for _ in 0..4 {
+            if self.is_forgotten() {
+                return;
+            }
             match self.drive(rt, order, choices) {
                 End::Told(outcome) => {
                     self.hear(rt, order, outcome);
@@ -211,6 +214,11 @@ impl Run {
         self.judge(rt);
     }
 
+    /// Whether the history is forgotten: no command begins.
+    pub fn is_forgotten(&self) -> bool {
+        self.disk.seen(&Place::Home).is_none()
+    }
+
     /// Whether the success marker is there.
     pub fn is_marked(&self) -> bool {
         self.disk.seen(&Place::Marker).is_some()
@@ -230,7 +238,8 @@ impl Run {
     fn judge(&self, rt: &impl Abort) {
         let first = self.part(rt, 0);
         let second = self.part(rt, 1);
-        confirm!(rt; self.disk.seen(&Place::Marker).is_none() || (first && second));
+        confirm!(rt; !self.is_marked() || (first && second));
+        confirm!(rt; !self.is_forgotten() || self.is_marked());
         self.judge_held(rt, first || second);
         for told in &self.told {
             let (a, standing) = *told;

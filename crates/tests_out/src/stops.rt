@@ -111,6 +111,19 @@ fn one_is_begun_over(rt: HostRuntime) {
 }
 
 #[test]
+fn a_job_is_forgotten(rt: HostRuntime) {
+    let rt = &rt;
+    let first = [Order::Done(attempt(rt, 0, 0))];
+    let orders = [
+        Order::Forget,
+        Order::Done(attempt(rt, 0, 1)),
+        Order::Forget,
+        Order::Resume,
+    ];
+    all(rt, rt.alloc(), &first, &orders, 1);
+}
+
+#[test]
 fn a_held_job_is_published(rt: HostRuntime) {
     let rt = &rt;
     let first = [Order::Done(attempt(rt, 0, 0))];

@@ -1,5 +1,5 @@
 //! A run over streams that fail.
-use mr_sim::{Command, Ending, SimFault, run, run_streams};
+use mr_sim::{Command, Ending, Refusal, Remarks, SimFault, run, run_streams};
 use std::io;
 use std::io::{Error, ErrorKind, Read, Write};
 use std::process::Abort;
@@ -120,16 +120,26 @@ fn each_read_fails<H: AllocGlobal + Eprint + Clock + Threads + Wait + Sync + Abo
     confirm!(rt; whole == 22, &whole);
 }
 
+// The fault of a run, if it failed.
+fn fault_of(ran: &Result<Remarks, Refusal>) -> Option<SimFault> {
+    match ran {
+        Ok(_) => None,
+        Err(refusal) => Some(refusal.fault),
+    }
+}
+
 // So is a write that fails.
 fn each_write_fails<H: AllocGlobal + Eprint + Clock + Threads + Wait + Sync + Abort>(rt: &H) {
     let mut whole = 0u32;
     for good in 0..20 {
         let mut input = HELLO;
         let mut output = FaultyWriter::new(3, good);
-        match run(rt, &Command::Committer, &mut input, &mut output) {
-            Ok(_) => whole = whole.saturating_add(1),
-            Err(refusal) => confirm!(rt; refusal.fault == SimFault::Write, &refusal),
+        let ran = run(rt, &Command::Committer, &mut input, &mut output);
+        match fault_of(&ran) {
+            None => whole = whole.saturating_add(1),
+            Some(fault) => confirm!(rt; fault == SimFault::Write, &fault),
         }
+        drop(ran);
         // What was taken is the text's beginning: nothing is lost between, nothing doubled.
         let taken = output.len.min(HELLO_TEXT.len());
         confirm!(rt; output.took(&HELLO_TEXT[..taken]));
@@ -150,9 +160,9 @@ fn failed_flush_is_answered(rt: HostRuntime) {
     let mut input = HELLO;
     let mut output = FaultyWriter::new(512, 1000);
     output.flushes = false;
-    let fault = run(&rt, &Command::Committer, &mut input, &mut output)
-        .err()
-        .map(|refusal| refusal.fault);
+    let ran = run(&rt, &Command::Committer, &mut input, &mut output);
+    let fault = fault_of(&ran);
+    drop(ran);
     confirm!(rt; fault == Some(SimFault::Write), &fault);
     confirm!(rt; output.took(HELLO_TEXT));
 }

@@ -53,11 +53,11 @@ fn answers_without_a_handle(rt: HostRuntime) {
 #[test]
 fn no_thread_without_a_handle(rt: HostRuntime) {
     let plain = Command::Threads {
-        turns: 100_000,
+        turns: None,
         hold: false,
     };
     let seen = Command::ThreadsSeen {
-        turns: 100_000,
+        turns: None,
         hold: false,
         seen: Seen::Script,
     };

@@ -1,20 +1,19 @@
 -- The definitions, of a player.
-use Rattle.std.specs.Prelude.{◌≡◌, ℕ, suc, Bool, true, false, List, Option, None, Result, Ok, Err}
+use Rattle.std.specs.Prelude.{◌≡◌, ℕ, Bool, true, false, List, Option, None, Result, Ok, Err}
 use Rattle.mr_packet.specs.declared.packet.ContainerId.{ContainerId}
 use Rattle.mr_world_model.specs.World.{Event, Crash}
 use Rattle.mr_play.specs.mr_world.specs.Limits.{within}
 use Rattle.mr_play.specs.declared.player.Player.{Player}
-use Rattle.mr_play.specs.Played.{Played, losing}
+use Rattle.mr_play.specs.Played.{Played}
 use Rattle.mr_play.specs.Text.{job_as}
 use Rattle.mr_play.specs.Players.{SameJob, state_in}
 use Rattle.mr_explore_search.specs.Steps.{Onward, Goes, Ends, Full}
 use Rattle.mr_explore_faults.specs.declared.fault.Fault.{Fault}
-use Rattle.mr_explore.specs.Faults.{asks_on, befallen_by, calm, faults_at, faults_by, goes_in_vain, kept, kept_in, listed, most_events, next_event, of_crashes, of_event, of_world, onward, steps_made, told}
+use Rattle.mr_explore.specs.Faults.{asks_on, befallen_by, calm, faults_at, faults_by, goes_in_vain, kept, kept_in, listed, next_event, of_crashes, of_world, onward, told}
 use Rattle.mr_sim_commands.specs.declared.fault.SimFault.{SimFault}
 use Rattle.mr_sim_commands.specs.declared.fault.SimFault.TheVariants as fault
 use Rattle.mr_play.specs.declared.fault.PlayerFault.{PlayerFault}
 use Rattle.mr_play.specs.declared.fault.PlayerFault.TheVariants as player_fault
-use Rattle.std.specs.declared.alloc.AllocError.{AllocError}
 use Rattle.mr_explore_search.specs.declared.fault.WalkFault.{WalkFault}
 use Rattle.mr_explore_search.specs.declared.fault.WalkFault.TheVariants as walk_fault
 use Rattle.mr_explore.specs.Runs.{Exploring, newest_in, start_first}
@@ -37,9 +36,6 @@ faults_in p = faults_at (job_as p.job) p.world.config (within p.world.config) (s
 abbrev pub next_in : Player → Option Event
 next_in p = next_event (job_as p.job) p.world.config (within p.world.config) (state_in p)
 
-abbrev pub of_event_in : Player → Option Event → List Fault
-of_event_in p e = of_event (job_as p.job) p.world.config (within p.world.config) e (state_in p)
-
 abbrev pub onward_in : Player → Onward Played
 onward_in p = onward (job_as p.job) p.world.config (within p.world.config) (state_in p)
 
@@ -50,25 +46,12 @@ vain_in p = goes_in_vain (job_as p.job) p.world.config (within p.world.config) (
 abbrev pub asks_on_in : Player → List ContainerId → Bool
 asks_on_in p cs = asks_on (job_as p.job) p.world.config (within p.world.config) cs (state_in p)
 
-abbrev pub steps_in : Player → ℕ → ℕ
-steps_in p most = steps_made (job_as p.job) p.world.config (within p.world.config) most (state_in p)
-
--- how many events it makes by itself without a packet
-abbrev pub length_in : Player → ℕ → ℕ
-length_in p i = steps_made (job_as p.job) p.world.config (within p.world.config) most_events (losing (job_as p.job) p.world.config (within p.world.config) i (state_in p))
-
 -- a run went on as is said
 abbrev pub GoesAs : Onward Played → Player → Result Bool PlayerFault → Player → Type 0
 GoesAs said old (Ok true) new = SameJob old new × (said ≡ Goes (state_in new))
 GoesAs said old (Ok false) new = SameJob old new × (said ≡ Ends (state_in new))
 GoesAs said old (Err player_fault.Full) new = said ≡ Full
 GoesAs said old (Err player_fault.NoMemory) new = Unit {0}
-
--- an event more was made, or there is none
-abbrev pub StepsOnce : Player → Result Bool AllocError → Player → Type 0
-StepsOnce old (Ok true) new = (most : ℕ) → steps_in old (suc most) ≡ suc (steps_in new most)
-StepsOnce old (Ok false) new = (most : ℕ) → steps_in old (suc most) ≡ 0
-StepsOnce old (Err f) new = Unit {0}
 
 abbrev pub kept_of : Player → List ℕ
 kept_of p = kept (job_as p.job) p.world.config (within p.world.config) (state_in p)

@@ -1,8 +1,22 @@
-use Rattle.std.proofs.Common.{subst, IfErr}
-use Rattle.mr_board.specs.mr_world.specs.Journal.{Journal}
-use Rattle.mr_board_report.specs.Reports.{IsUnreported}
+use Rattle.std.proofs.Common.{◌∙◌, subst, sym, true≢false}
+use Rattle.mr_user.specs.Computation.{computation}
+use Rattle.mr_board.specs.Boards.{IsFaithfulFor}
+use Rattle.mr_board_report.specs.Following.{Follows}
+use Rattle.mr_board_report.proofs.Untold.{follows_of, unreported}
 use Rattle.mr_board_report.proofs.report.reported.Goals as goal
 
--- the world is the closed board's
-pub returns-clause-none : goal.returns-clause-none
-returns-clause-none g c = subst (λ (j : Journal). IfErr c.told.result (IsUnreported c.args.plan.now j)) c.into_parts-world.ensures.parts.0 c.told.ensures.none
+pub told-requires-clause-faithful : goal.told-requires-clause-faithful
+told-requires-clause-faithful g c = subst (IsFaithfulFor (computation g.J.Key.Ord.cmp g.J.Key.Wire.codec g.J.Value.Wire.codec g.J.Job.functions)) (sym c.into_parts-world.ensures.parts.0) c.into_parts-world.ensures.faithful
+
+pub told-requires-clause-planned : goal.told-requires-clause-planned
+told-requires-clause-planned g c = subst (Follows c.args.plan.now) (sym (c.into_parts-world.ensures.parts.0 ∙ c.in-Ok.ensures.closed.0)) (follows_of c.args.plan.now c.args.run (c.is_of.ensures.0 c.if-not-is_of.false) c.close.ensures.planned)
+
+pub returns-in-Ok-clause-none : goal.returns-in-Ok-clause-none
+returns-in-Ok-clause-none g c =
+    unreported c.args.plan.now c.args.run c.args.seats.items _ c.told.result (c.is_of.ensures.0 c.if-not-is_of.false) c.in-Ok.ensures.account (c.into_parts-world.ensures.parts.0 ∙ c.in-Ok.ensures.closed.0) c.told.ensures.none
+
+pub returns-then-not-is_of-clause-none : goal.returns-then-not-is_of-clause-none
+returns-then-not-is_of-clause-none g c = λ both. true≢false (sym (c.is_of.ensures.1 both.0) ∙ c.if-not-is_of.true)
+
+pub returns-in-Err-clause-none : goal.returns-in-Err-clause-none
+returns-in-Err-clause-none g c = λ both. c.in-Err.ensures.mismatch both.1

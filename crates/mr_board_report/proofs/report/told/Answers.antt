@@ -1,4 +1,4 @@
-use Rattle.std.proofs.Common.{◌≡◌, ◌∙◌, Bool, true, false, subst, sym}
+use Rattle.std.proofs.Common.{subst}
 use Rattle.mr_user.specs.Computation.{computation}
 use Rattle.mr_shuffle.specs.SequentialText.{AreSplits}
 use Rattle.mr_board.specs.mr_world.specs.Ranges.{IsInRange}
@@ -10,11 +10,4 @@ returns-clause-report g c =
     report_is (computation g.J.Key.Ord.cmp g.J.Key.Wire.codec g.J.Value.Wire.codec g.J.Job.functions) c.args.plan.now c.args.world c.has_succeeded-succeeded.result c.in-Ok.files.items c.args.by.items
     c.jobs_have_their_laws.ensures c.marked_worlds_show_sequential_files.ensures
     (subst IsInRange c.config.ensures c.ranges-2.ensures.numbers) (subst (λ cfg. AreSplits cfg.splits) c.config.ensures c.ranges-2.ensures.splits)
-    c.requires.faithful (c.is_of.ensures.0 c.if-not-is_of.false) c.requires.noted (c.is_through.ensures.0 c.if-not-is_through.false) c.in-Ok.ensures.is c.has_succeeded-succeeded.ensures
-
-not-both : (b : Bool) → b ≡ true → b ≡ false → ⊥
-not-both b is isnt = cc (sym is ∙ isnt)
-
-pub returns-then-not-is_through-clause-none : goal.returns-then-not-is_through-clause-none
-returns-then-not-is_through-clause-none g c =
-    (c.is_of.ensures.0 c.if-not-is_of.false, (λ through. not-both c.is_through.result (c.is_through.ensures.1 through) c.if-not-is_through.true))
+    c.requires.faithful c.requires.same c.requires.planned c.requires.noted (c.is_through.ensures.0 c.if-not-is_through.false) c.in-Ok.ensures.is c.has_succeeded-succeeded.ensures

@@ -1,0 +1,27 @@
+-- Why a directory is refused, or a call on it failed. Our own.
+use Rattle.std.specs.Prelude.{◌≡◌, ℕ, Bool, true, false, List}
+use Rattle.std.specs.String.{string_bytes}
+use Rattle.mr_out_files.specs.declared.fault.Fault.{Fault}
+use Rattle.mr_out_files.specs.declared.fault.Fault.TheVariants as fault
+use Rattle.mr_out_files.specs.declared.fault.Why.{Why}
+use Rattle.mr_out_files.specs.declared.fault.Why.TheVariants.{BadSuffix, NoAttempt, NoTask, EarlierBoot}
+
+-- what stands at the path is refused; or there was no memory to say so
+abbrev pub IsRefusal : List ℕ → Why → Fault → Type 0
+IsRefusal path why fault.NoMemory = Unit {0}
+IsRefusal path why (fault.Refused text w) = (string_bytes text ≡ path) × (w ≡ why)
+IsRefusal path why _ = ⊥
+
+-- a call on the path failed; or there was no memory, for it or to say so
+abbrev pub IsFailure : List ℕ → Fault → Type 0
+IsFailure path fault.NoMemory = Unit {0}
+IsFailure path (fault.Call what text error) = string_bytes text ≡ path
+IsFailure path _ = ⊥
+
+-- a path is refused, and not a word of the command line
+abbrev pub is_of_path : Why → Bool
+is_of_path BadSuffix = false
+is_of_path NoAttempt = false
+is_of_path NoTask = false
+is_of_path EarlierBoot = false
+is_of_path _ = true

@@ -1,0 +1,82 @@
+//! The file of an attempt is made durable before the lock is held, so that nobody has to wait for that.
+//!
+//! It counts where the file was not changed since; then it is not synced again. Where that sync failed, the attempt has
+//! failed: another sync may answer well, and not mean it.
+use crate::calls::{is_changed, is_one, look, open, stat, sync};
+use crate::fault::Fault;
+use crate::job::{Job, told};
+use crate::layout::{JOB, work_path};
+use mr_ids::AttemptId;
+use std::fs::{File, Metadata};
+use std::os::unix::fs::MetadataExt;
+
+/// A file that was synced before the lock was held.
+#[derive(Drop)]
+pub(crate) struct Early {
+    // What it was before the sync.
+    before: Metadata,
+    synced: Result<(), Fault>,
+}
+
+impl Early {
+    /// Whether it is this file, which was not changed since. A fault: its sync failed.
+    pub(crate) fn is_still(self, found: &Metadata) -> Result<bool, Fault> {
+        let Early { before, synced } = self;
+        if !is_one(&before, found) {
+            return Ok(false);
+        }
+        synced?;
+        Ok(!is_changed(&before, found))
+    }
+}
+
+/// Syncs the file that an attempt wrote, if there is one. Any other fault but for memory is left to whoever holds the lock.
+pub(crate) fn sync_early(rt: &HostRuntime, a: AttemptId) -> Result<Option<Early>, Fault> {
+    let Some(path) = early_path(rt, a)? else {
+        return Ok(None);
+    };
+    let Some(file) = early_file(rt, &path)? else {
+        return Ok(None);
+    };
+    let Some(before) = if_made(stat(rt, &file, &path))? else {
+        return Ok(None);
+    };
+    let synced = sync(rt, &file, &path);
+    Ok(Some(Early { before, synced }))
+}
+
+// Where the attempt writes, by the job as it is told before the lock is held.
+fn early_path(rt: &HostRuntime, a: AttemptId) -> Result<Option<String>, Fault> {
+    let Some(bytes) = told(rt, JOB)? else {
+        return Ok(None);
+    };
+    match if_made(Job::read(rt.alloc(), &bytes))? {
+        Some(job) => Ok(Some(work_path(rt.alloc(), &job, a)?)),
+        None => Ok(None),
+    }
+}
+
+fn early_file(rt: &HostRuntime, path: &str) -> Result<Option<File>, Fault> {
+    if is_written(rt, path)? {
+        if_made(open(rt, path))
+    } else {
+        Ok(None)
+    }
+}
+
+// Whether a regular file with one name stands there.
+fn is_written(rt: &HostRuntime, path: &str) -> Result<bool, Fault> {
+    match look(rt, path) {
+        Ok(Some(found)) => Ok(found.is_file() && found.nlink() == 1),
+        Err(Fault::NoMemory) => Err(Fault::NoMemory),
+        _ => Ok(false),
+    }
+}
+
+fn if_made<T: Drop>(made: Result<T, Fault>) -> Result<Option<T>, Fault> {
+    match made {
+        Ok(made) => Ok(Some(made)),
+        Err(Fault::NoMemory) => Err(Fault::NoMemory),
+        Err(_) => Ok(None),
+    }
+}

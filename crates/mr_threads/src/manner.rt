@@ -1,0 +1,33 @@
+//! How the threads are run.
+use mr_drive::Plan;
+
+// How many turns each thread has at most where that is not told: so many of any job, and so many more for each map from which each reduce fetches.
+const TURNS: u64 = 100_000;
+
+const TURNS_OF_A_FETCH: u64 = 10;
+
+/// How the threads are run.
+#[derive(Clone, Copy, Debug, PartialEq, Eq)]
+pub(crate) struct Manner {
+    /// How many turns each thread has at most; where that is not told it follows from the job's size.
+    pub(crate) turns: Option<u64>,
+    /// Whether the first map work is held until the second has begun, for at most as many looks as there are turns.
+    pub(crate) hold: bool,
+}
+
+impl Manner {
+    /// How many turns each thread has at most that runs this plan.
+    pub(crate) fn turns_of(&self, plan: &Plan) -> u64 {
+        match self.turns {
+            Some(turns) => turns,
+            None => default_turns(plan.config.maps(), plan.config.reduces),
+        }
+    }
+}
+
+fn default_turns(maps: u32, reduces: u32) -> u64 {
+    u64::from(maps)
+        .saturating_mul(u64::from(reduces))
+        .saturating_mul(TURNS_OF_A_FETCH)
+        .saturating_add(TURNS)
+}
