@@ -6,7 +6,7 @@ use Rattle.mr_sim_commands.specs.declared.fault.SimFault.{SimFault}
 use Rattle.mr_sim_commands.specs.declared.fault.SimFault.TheVariants as fault
 use Rattle.mr_sim_commands.specs.seq.Text.{PrintsSeq, RefusesSeq}
 use Rattle.mr_play.specs.Text.{IsBadPlayJob, PrintsPlay, job_line}
-use Rattle.mr_script.specs.declared.expectation.Expectation.{Expectation}
+use Rattle.mr_explore_ends.specs.declared.goal.Sought.{Sought}
 use Rattle.mr_explore_ends.specs.Outcomes.{Outcome, outcome_text}
 use Rattle.mr_explore_ends.specs.Table.{End}
 use Rattle.mr_explore_ends.specs.Text.{Found, Sequential, explored_text}
@@ -32,12 +32,12 @@ abbrev pub IsSequentialOf : List ℕ → Sequential → Type 0
 IsSequentialOf input s = AreFilesOf (job_line input) s.files
 
 -- what was found in a form: all ends, or the best that meets a goal
-abbrev pub told_text : Form → Sequential → Option (List Expectation) → Found → List ℕ
+abbrev pub told_text : Form → Sequential → Option (List Sought) → Found → List ℕ
 told_text Text s goal found = explored_text s goal found
 told_text Json s goal found = ends_json s goal found
 
 -- what is printed of what was found
-pub record TellsEnds (input : List ℕ) (form : Form) (goal : Option (List Expectation)) (found : Found) (text : List ℕ) : Type 0 where
+pub record TellsEnds (input : List ℕ) (form : Form) (goal : Option (List Sought)) (found : Found) (text : List ℕ) : Type 0 where
   pub sequential : Sequential
   pub of_job : IsSequentialOf input sequential
   pub lead : LeadToEnds input found.table.ends

@@ -5,9 +5,9 @@ use Rattle.mr_sim_commands.specs.declared.fault.SimFault.{SimFault}
 use Rattle.mr_sim_commands.specs.declared.fault.SimFault.TheVariants as fault
 use Rattle.mr_play.specs.mr_world.specs.Limits.{within}
 use Rattle.mr_play.specs.Text.{IsFullPlay, PlayFails}
-use Rattle.mr_script.specs.declared.expectation.Expectation.{Expectation}
 use Rattle.mr_explore_search.specs.Runs as walk
 use Rattle.mr_explore_search.specs.Taking.{no_more}
+use Rattle.mr_explore_ends.specs.declared.goal.Sought.{Sought}
 use Rattle.mr_explore_ends.specs.Table.{table_of}
 use Rattle.mr_explore_ends.specs.Text.{Found}
 use Rattle.mr_explore.specs.declared.asked.Asked.{Asked}
@@ -15,7 +15,7 @@ use Rattle.mr_explore.specs.Ends.{TellsEnds}
 use Rattle.mr_explore.specs.Exploring.{AreMost, IsFullBehind, MadeRun, as_found, came}
 use Rattle.mr_explore.specs.Runs.{CannotStart, Exploring, IsRunOf, runs_with}
 
-abbrev pub goal_of : Asked → Option (List Expectation)
+abbrev pub goal_of : Asked → Option (List Sought)
 goal_of asked = option_map (λ g. g.now) asked.goal
 
 -- what was found of these runs, where those are left

@@ -1,6 +1,6 @@
 //! What is asked of an exploration.
 
-use mr_script::Expectation;
+use mr_explore_ends::Sought;
 
 /// How the ends are told.
 #[derive(Clone, Copy, Debug, PartialEq, Eq)]
@@ -19,6 +19,6 @@ pub struct Asked<'a> {
     /// How many runs are made at most.
     pub most: u64,
     /// What is so of the end that is sought; all ends are told where no end is sought.
-    pub goal: Option<&'a [Expectation]>,
+    pub goal: Option<&'a [Sought]>,
     pub form: Form,
 }

@@ -50,7 +50,7 @@ pub use exploration::Exploration;
 pub use explored::Explored;
 pub use laws::{asking_shows_nothing, explored_or_refused, outcomes_are_printed};
 pub use leading::check_scripts;
-pub use mr_explore_ends::{Outcome, Row, Table, best_of, read_goal};
+pub use mr_explore_ends::{Outcome, Row, Sought, Table, best_of, read_goal};
 pub use mr_explore_faults::Fault;
 pub use output::{explore_output, explored_text};
 pub use watch::{Unwatched, Watch};

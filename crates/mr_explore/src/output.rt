@@ -11,8 +11,7 @@ use crate::exploration::Exploration;
 use crate::leading::check_scripts;
 use crate::sequential::sequential_of;
 use crate::watch::Watch;
-use mr_explore_ends::{Found, Sequential, put_ends, put_found};
-use mr_script::Expectation;
+use mr_explore_ends::{Found, Sequential, Sought, put_ends, put_found};
 use mr_sim_commands::{Printed, SimFault};
 use std::alloc::{AllocError, Global};
 
@@ -44,7 +43,7 @@ pub fn explored_text(
     alloc: Global,
     input: &[u8],
     exploration: &Exploration,
-    goal: Option<&[Expectation]>,
+    goal: Option<&[Sought]>,
     form: Form,
 ) -> Result<Printed, SimFault>
     ensures tells { IfOk result (λ v. TellsEnds input.now form (option_map (λ g. g.now) goal.entry) (found_of exploration.now) v.text.items) }
@@ -68,7 +67,7 @@ fn told(
     alloc: Global,
     found: &Found<'_>,
     sequential: &Sequential,
-    goal: Option<&[Expectation]>,
+    goal: Option<&[Sought]>,
     form: Form,
 ) -> Result<Vec<u8>, AllocError>
     ensures { IfOk result (λ text. text.items ≡ told_text form sequential.now (option_map (λ g. g.now) goal.entry) (as_found found.now)) }

@@ -2,7 +2,7 @@
 use Rattle.std.proofs.Common.{◌≡◌, ◌<◌, ◌+◌, ℕ, zero, suc, Bool, List, ◌∷◌, ◌++◌, append_assoc, append-nil, length, map, drop, Option, if◌then◌else◌, get_or, drop-cons, sym, ap, ◌∙◌, arith}
 use Rattle.std.specs.List.{flat_map, list_all, range_with_len}
 use Rattle.std.proofs.lemmas.List.Folds.{list_all-map}
-use Rattle.mr_script.specs.declared.expectation.Expectation.{Expectation}
+use Rattle.mr_explore_ends.specs.declared.goal.Sought.{Sought}
 use Rattle.mr_explore_ends.specs.declared.row.Row.{Row}
 use Rattle.mr_explore_ends.specs.Rows.{as_end}
 use Rattle.mr_explore_ends.specs.Table.{End}
@@ -14,7 +14,7 @@ next_row : (rows : List Row) (i : ℕ) (row : Row) → i < length rows → row �
 next_row rows i row few is =
     ap (map as_end) (drop-cons rows i row few) ∙ (ap (λ x. as_end x ∷ map as_end (drop (suc i) rows)) (sym is) ∙ ap (λ j. as_end row ∷ map as_end (drop j rows)) (let e : suc i ≡ i + 1 = omega arith in e))
 
-pub best_goes : (goal : List Expectation) (rows : List Row) (i : ℕ) (row : Row) (best new all : Option End) → i < length rows → row ≡ get_or rows i row → new ≡ (if meets goal row.end then better best (as_end row) else best) →
+pub best_goes : (goal : List Sought) (rows : List Row) (i : ℕ) (row : Row) (best new all : Option End) → i < length rows → row ≡ get_or rows i row → new ≡ (if meets goal row.end then better best (as_end row) else best) →
     best_from goal best (map as_end (drop i rows)) ≡ all → best_from goal new (map as_end (drop (i + 1) rows)) ≡ all
 best_goes goal rows i row best new all few is chosen before = ap (λ b. best_from goal b (map as_end (drop (i + 1) rows))) chosen ∙ (sym (ap (best_from goal best) (next_row rows i row few is)) ∙ before)
 

@@ -3,7 +3,9 @@ use Rattle.std.proofs.Common.{◌≡◌, ℕ, Bool, true, false, cond, ◌==◌,
 use Rattle.mr_script.specs.declared.expectation.Expectation.{Expectation}
 use Rattle.mr_script.specs.Expected.{IsExpectation, expected_words}
 use Rattle.mr_script.specs.Lines.{before, after, onto_line}
-use Rattle.mr_explore_ends.specs.Goals.{cut_at, without_blank, AreExpected, IsExpected, IsGoal, IsNoGoal}
+use Rattle.mr_explore_ends.specs.declared.goal.Sought.{Sought}
+use Rattle.mr_explore_ends.specs.declared.goal.Sought.TheVariants as sought
+use Rattle.mr_explore_ends.specs.Goals.{cut_at, no_file_words, sought_words, without_blank, AreLines, IsGoal, IsLine, IsNoGoal, IsSought}
 
 some_is : {A : Type 0} (x y : A) → Some x ≡ Some y → x ≡ y
 some_is x y e = cc
@@ -31,15 +33,15 @@ parts_last b (x ∷ bytes) e = by (x == b) e (parts_last b bytes) where
 -- ---- a goal
 
 -- the lines of a text before `rest` are written as these are expected
-pub record IsRead (text rest : List ℕ) (goal : List Expectation) : Type 0 where
+pub record IsRead (text rest : List ℕ) (goal : List Sought) : Type 0 where
   pub front : List (List ℕ)
   pub are : cut_at 44 text ≡ front ++ cut_at 44 rest
-  pub read : AreExpected front goal
+  pub read : AreLines front goal
 
 pub none_read : (text : List ℕ) → IsRead text text []
 none_read text = record { front = []; are = refl; read = tt }
 
-one_behind : (lines : List (List ℕ)) (es : List Expectation) (line : List ℕ) (e : Expectation) → AreExpected lines es → IsExpected line e → AreExpected (lines ++ line ∷ []) (es ++ e ∷ [])
+one_behind : (lines : List (List ℕ)) (es : List Sought) (line : List ℕ) (e : Sought) → AreLines lines es → IsLine line e → AreLines (lines ++ line ∷ []) (es ++ e ∷ [])
 one_behind [] [] line e h is = (is, tt)
 one_behind (l ∷ ls) (x ∷ es) line e h is = (h.0, one_behind ls es line e h.1 is)
 one_behind [] (x ∷ es) line e h is = absurd h
@@ -50,21 +52,21 @@ pub cut_next : (rest line more : List ℕ) → before 44 rest ≡ line → after
 cut_next rest line more f e = parts_cut 44 rest more e ∙ ap (λ l. l ∷ cut_at 44 more) f
 
 -- one line more was read
-pub one_read : (text rest line more words : List ℕ) (goal new : List Expectation) (e : Expectation) → IsRead text rest goal → before 44 rest ≡ line → after 44 rest ≡ Some more → words ≡ without_blank line → IsExpectation e × (words ≡ expected_words e) → new ≡ goal ++ e ∷ [] → IsRead text more new
+pub one_read : (text rest line more words : List ℕ) (goal new : List Sought) (e : Sought) → IsRead text rest goal → before 44 rest ≡ line → after 44 rest ≡ Some more → words ≡ without_blank line → IsSought e × (words ≡ sought_words e) → new ≡ goal ++ e ∷ [] → IsRead text more new
 one_read text rest line more words goal new e h f cut blank is pushed = record {
   front = h.front ++ line ∷ [];
   are = h.are ∙ (ap (λ ls. h.front ++ ls) (cut_next rest line more f cut) ∙ sym (append_assoc h.front (line ∷ []) (cut_at 44 more)));
-  read = subst (AreExpected (h.front ++ line ∷ [])) (sym pushed) (one_behind h.front goal line e h.read (is.0, sym blank ∙ is.1));
+  read = subst (AreLines (h.front ++ line ∷ [])) (sym pushed) (one_behind h.front goal line e h.read (is.0, sym blank ∙ is.1));
 }
 
 -- the last one was read
-pub all_read : (text rest words : List ℕ) (goal new : List Expectation) (e : Expectation) → IsRead text rest goal → after 44 rest ≡ None → words ≡ without_blank rest → IsExpectation e × (words ≡ expected_words e) → new ≡ goal ++ e ∷ [] → IsGoal text new
+pub all_read : (text rest words : List ℕ) (goal new : List Sought) (e : Sought) → IsRead text rest goal → after 44 rest ≡ None → words ≡ without_blank rest → IsSought e × (words ≡ sought_words e) → new ≡ goal ++ e ∷ [] → IsGoal text new
 all_read text rest words goal new e h last blank is pushed =
-    subst (λ lines. AreExpected lines new) (sym (h.are ∙ ap (λ ls. h.front ++ ls) (parts_last 44 rest last)))
-    (subst (AreExpected (h.front ++ rest ∷ [])) (sym pushed) (one_behind h.front goal rest e h.read (is.0, sym blank ∙ is.1)))
+    subst (λ lines. AreLines lines new) (sym (h.are ∙ ap (λ ls. h.front ++ ls) (parts_last 44 rest last)))
+    (subst (AreLines (h.front ++ rest ∷ [])) (sym pushed) (one_behind h.front goal rest e h.read (is.0, sym blank ∙ is.1)))
 
 -- a line is no expectation
-pub bad_next : (text rest line more words : List ℕ) (goal : List Expectation) → IsRead text rest goal → before 44 rest ≡ line → after 44 rest ≡ Some more → words ≡ without_blank line → ((e : Expectation) → IsExpectation e → words ≡ expected_words e → ⊥) → IsNoGoal text
+pub bad_next : (text rest line more words : List ℕ) (goal : List Sought) → IsRead text rest goal → before 44 rest ≡ line → after 44 rest ≡ Some more → words ≡ without_blank line → ((e : Sought) → IsSought e → words ≡ sought_words e → ⊥) → IsNoGoal text
 bad_next text rest line more words goal h f cut blank none = record {
   before = h.front;
   line = line;
@@ -73,7 +75,7 @@ bad_next text rest line more words goal h f cut blank none = record {
   none = λ e is. none e is.0 (blank ∙ is.1);
 }
 
-pub bad_last : (text rest words : List ℕ) (goal : List Expectation) → IsRead text rest goal → after 44 rest ≡ None → words ≡ without_blank rest → ((e : Expectation) → IsExpectation e → words ≡ expected_words e → ⊥) → IsNoGoal text
+pub bad_last : (text rest words : List ℕ) (goal : List Sought) → IsRead text rest goal → after 44 rest ≡ None → words ≡ without_blank rest → ((e : Sought) → IsSought e → words ≡ sought_words e → ⊥) → IsNoGoal text
 bad_last text rest words goal h last blank none = record {
   before = h.front;
   line = rest;
@@ -81,3 +83,10 @@ bad_last text rest words goal h last blank none = record {
   are = h.are ∙ ap (λ ls. h.front ++ ls) (parts_last 44 rest last);
   none = λ e is. none e is.0 (blank ∙ is.1);
 }
+
+-- ---- a line of it
+
+-- a line that is neither `files none` nor what may be expected
+pub no_line : (line : List ℕ) → (line ≡ no_file_words → ⊥) → ((e : Expectation) → IsExpectation e → line ≡ expected_words e → ⊥) → (x : Sought) → IsSought x → line ≡ sought_words x → ⊥
+no_line line files told (sought.Told e) is words = told e is words
+no_line line files told sought.NoFile is words = files words

@@ -2,8 +2,8 @@
 use Rattle.std.specs.Prelude.{ℕ, ◌+◌, List, [], ◌∷◌, ◌++◌, ◌==◌, length, map, codes, Option, Some, None, if◌then◌else◌}
 use Rattle.std.specs.List.{flat_map, range_with_len}
 use Rattle.mr_ids.specs.Attempt.{Attempt}
-use Rattle.mr_script.specs.declared.expectation.Expectation.{Expectation}
 use Rattle.mr_script.specs.Expected.{outcome_word, winner_word}
+use Rattle.mr_explore_ends.specs.declared.goal.Sought.{Sought}
 use Rattle.mr_explore_ends.specs.Outcomes.{Outcome}
 use Rattle.mr_explore_ends.specs.Table.{End}
 use Rattle.mr_explore_ends.specs.Goals.{best_of}
@@ -58,9 +58,9 @@ best_line s None = []
 best_line s (Some e) = end_line s e
 
 -- all ends, those of the fewest faults first, or the best that meets a goal, if one does
-abbrev pub chosen_lines : Sequential → Option (List Expectation) → Found → List ℕ
+abbrev pub chosen_lines : Sequential → Option (List Sought) → Found → List ℕ
 chosen_lines s None f = flat_map (lines_by s f.table.ends) (range_with_len 0 (f.faults + 1))
 chosen_lines s (Some goal) f = best_line s (best_of goal f.table.ends)
 
-abbrev pub ends_json : Sequential → Option (List Expectation) → Found → List ℕ
+abbrev pub ends_json : Sequential → Option (List Sought) → Found → List ℕ
 ends_json s goal f = chosen_lines s goal f ++ runs_line s f

@@ -2,7 +2,7 @@
 use Rattle.std.specs.Prelude.{ℕ, ◌+◌, Bool, true, false, not, ◌||◌, List, [], ◌∷◌, ◌++◌, ◌==◌, length, codes, decimal, Option, Some, None, if◌then◌else◌}
 use Rattle.std.specs.List.{flat_map, list_all, range_with_len}
 use Rattle.std.specs.Str.{bytes_eq}
-use Rattle.mr_script.specs.declared.expectation.Expectation.{Expectation}
+use Rattle.mr_explore_ends.specs.declared.goal.Sought.{Sought}
 use Rattle.mr_script_writer.specs.Repeating.{commented}
 use Rattle.mr_explore_ends.specs.Outcomes.{Outcome, outcome_text}
 use Rattle.mr_explore_ends.specs.Table.{End, Table}
@@ -86,10 +86,10 @@ abbrev pub best_text : Sequential → Option End → List ℕ
 best_text s None = codes "none\n"
 best_text s (Some e) = end_text s e
 
-abbrev pub found_text : Sequential → List Expectation → Found → List ℕ
+abbrev pub found_text : Sequential → List Sought → Found → List ℕ
 found_text s goal f = runs_text f ++ 10 ∷ best_text s (best_of goal f.table.ends)
 
 -- what is printed, of all ends or of the best that meets a goal
-abbrev pub explored_text : Sequential → Option (List Expectation) → Found → List ℕ
+abbrev pub explored_text : Sequential → Option (List Sought) → Found → List ℕ
 explored_text s None f = all_text s f
 explored_text s (Some goal) f = found_text s goal f

@@ -10,13 +10,13 @@ ghost use Rattle.mr_sim_json.specs.Members.{object_of, text, with_all};
 ghost use Rattle.serde_json.specs.View.{members_view, view};
 
 use crate::best::best_of;
+use crate::goal::Sought;
 use crate::outcome::Outcome;
 use crate::row::Row;
 use crate::sequential::{Sequential, marked_are_sequential};
 use crate::table::Table;
 use crate::text::Found;
 use mr_ids::AttemptId;
-use mr_script::Expectation;
 use mr_script_writer::{put_outcome, put_winner};
 use mr_sim_json::{Object, into_value, put_count, put_flag, put_line, put_list, put_text};
 use serde_json::Value;
@@ -30,7 +30,7 @@ pub fn put_ends(
     alloc: Global,
     found: &Found<'_>,
     sequential: &Sequential,
-    goal: Option<&[Expectation]>,
+    goal: Option<&[Sought]>,
 ) -> Result<(), AllocError>
     ensures { OnOk result (out.new.items ≡ out.old.items ++ ends_json sequential.now (option_map (λ g. g.now) goal.entry) (as_found found.now)) }
 {
@@ -44,7 +44,7 @@ fn put_chosen(
     alloc: Global,
     found: &Found<'_>,
     sequential: &Sequential,
-    goal: Option<&[Expectation]>,
+    goal: Option<&[Sought]>,
 ) -> Result<(), AllocError>
     ensures { OnOk result (out.new.items ≡ out.old.items ++ chosen_lines sequential.now (option_map (λ g. g.now) goal.entry) (as_found found.now)) }
 {

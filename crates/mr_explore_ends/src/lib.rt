@@ -9,7 +9,7 @@
 //! - **`best_of`** answers, of the ends that are as each line of a goal says, the first of those with the fewest faults and
 //!   events. It answers none where none is.
 //! - **`read_goal`** reads a goal exactly where each of its lines is one that `play` may print, which is one that a script
-//!   may expect (`IsGoal` of `specs/Goals`). Else it answers none.
+//!   may expect, or is `files none` (`IsGoal` of `specs/Goals`). Else it answers none.
 //! - **`Outcome`** is what a run came to, as a value. `Outcome::text` writes it exactly as `play` prints it (`outcome_text`
 //!   of `specs/Outcomes`). No text that was printed is read again.
 //! - **`put_found`** writes exactly the text of the definition (`explored_text` of `specs/Text`), byte for byte: of all ends, or of the best that meets a goal.
@@ -28,7 +28,7 @@ mod table;
 mod text;
 
 pub use best::best_of;
-pub use goal::{is_contrary, meets, read_goal};
+pub use goal::{Sought, is_contrary, meets, read_goal};
 pub use json_lines::put_ends;
 pub use outcome::Outcome;
 pub use row::Row;

@@ -7,12 +7,12 @@ ghost use Rattle.mr_explore_ends.specs.Rows.{as_end};
 ghost use Rattle.mr_explore_ends.specs.Text.{all_text, best_text, counting, end_text, ends_text, explored_text, found_text, if_not_all, marked_line, runs_text, seen_line, shortest_line, text_if};
 
 use crate::best::best_of;
+use crate::goal::Sought;
 use crate::outcome::Outcome;
 use crate::row::Row;
 use crate::sequential::{Sequential, marked_are_sequential};
 use crate::table::Table;
 use itoa::Buffer;
-use mr_script::Expectation;
 use mr_script_writer::put_comments;
 use std::alloc::{AllocError, Global};
 
@@ -30,7 +30,7 @@ pub fn put_found(
     alloc: Global,
     found: &Found<'_>,
     sequential: &Sequential,
-    goal: Option<&[Expectation]>,
+    goal: Option<&[Sought]>,
 ) -> Result<(), AllocError>
     ensures { OnOk result (out.new.items ≡ out.old.items ++ explored_text sequential.now (option_map (λ g. g.now) goal.entry) (as_found found.now)) }
 {
@@ -122,7 +122,7 @@ fn put_best(
     alloc: Global,
     found: &Found<'_>,
     sequential: &Sequential,
-    goal: &[Expectation],
+    goal: &[Sought],
 ) -> Result<(), AllocError>
     ensures { OnOk result (out.new.items ≡ out.old.items ++ found_text sequential.now goal.now (as_found found.now)) }
 {

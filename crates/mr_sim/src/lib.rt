@@ -84,7 +84,7 @@ mod subcommand;
 pub use ending::{Ending, exit_status};
 pub use laws::printed_or_refused;
 pub use mr_explore::{Asked, Form};
-pub use mr_explore_ends::read_goal;
+pub use mr_explore_ends::{Sought, read_goal};
 pub use mr_script::Expectation;
 pub use mr_sim_commands::{JobTextFault, SimFault};
 pub use mr_threads::Seen;

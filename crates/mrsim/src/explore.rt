@@ -2,7 +2,7 @@
 use crate::table::Word;
 use clap::ArgMatches;
 use clap::builder::ValueParser;
-use mr_sim::{Asked, Expectation, Form};
+use mr_sim::{Asked, Form, Sought};
 
 /// What `explore` does, in a line.
 pub const EXPLORE: &str =
@@ -93,7 +93,7 @@ pub fn explore_words() -> &'static [Word] {
 /// What `explore` is asked for, and the end that is sought.
 pub fn explore_of<'a>(
     words: &ArgMatches<'_>,
-    goal: Option<&'a [Expectation]>,
+    goal: Option<&'a [Sought]>,
 ) -> mr_sim::Command<'a> {
     mr_sim::Command::Explore {
         asked: Asked {

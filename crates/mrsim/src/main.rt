@@ -15,7 +15,7 @@ use crate::explore::goal_word;
 use crate::pipe::served;
 use crate::words::{command_line, command_of, ending_of, file_of};
 use clap::ArgMatches;
-use mr_sim::{Ending, Expectation, Help, Refusal, Remarks, SimFault, read_goal, run};
+use mr_sim::{Ending, Help, Refusal, Remarks, SimFault, Sought, read_goal, run};
 use std::alloc::Global;
 use std::fs::File;
 use std::io::Write;
@@ -100,7 +100,7 @@ fn print_words(rt: &(impl Print + Eprint), error: &clap::Error, ending: Ending) 
 fn goal_of(
     rt: &(impl AllocGlobal + Eprint),
     matches: &ArgMatches<'_>,
-) -> Result<Option<Vec<Expectation>>, Ending>
+) -> Result<Option<Vec<Sought>>, Ending>
     ensures { IfErr result (λ ending. (ending ≡ Ending.RefusedWords) ⊎ (ending ≡ Ending.Failed SimFault.NoMemory)) }
 {
     let Some(word) = goal_word(matches) else {
@@ -117,7 +117,7 @@ fn goal_of(
 }
 
 // The same, lent.
-fn lent(goal: &Option<Vec<Expectation>>) -> Option<&[Expectation]> {
+fn lent(goal: &Option<Vec<Sought>>) -> Option<&[Sought]> {
     match goal {
         Some(goal) => Some(goal.as_slice()),
         None => None,

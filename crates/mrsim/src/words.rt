@@ -12,7 +12,7 @@ use crate::threads::{THREADS, THREADS_HELP, threads_of, threads_words};
 use clap::builder::ValueParser;
 use clap::error::ErrorKind;
 use clap::{ArgMatches, Command, Error};
-use mr_sim::{Ending, Expectation, Part, Shown, SimFault};
+use mr_sim::{Ending, Part, Shown, SimFault, Sought};
 use std::alloc::{AllocError, Global};
 
 const ABOUT: &str =
@@ -397,7 +397,7 @@ pub fn command_line<'a>(alloc: Global) -> Result<Command<'a>, AllocError> {
 /// The subcommand that the words name. Words without one are refused before.
 pub fn command_of<'a>(
     matches: &ArgMatches<'_>,
-    goal: Option<&'a [Expectation]>,
+    goal: Option<&'a [Sought]>,
 ) -> mr_sim::Command<'a> {
     match matches.subcommand() {
         Some(("play", words)) => play_of(words),

@@ -1,6 +1,6 @@
 //! What is answered from bytes alone, and texts that no run of the program prints.
 use mr_ids::JobId;
-use mr_sim::{Asked, Command, Expectation, Form, JobTextFault, Seen, SimFault, answer};
+use mr_sim::{Asked, Command, Expectation, Form, JobTextFault, Seen, SimFault, Sought, answer};
 use mr_sim_commands::{JobKind, read_job_text};
 use mr_world_events::{PlanAct, PlanFault};
 use std::process::Abort;
@@ -35,7 +35,10 @@ fn answers_without_a_handle(rt: HostRuntime) {
         b"setup\nset\n",
         SimFault::BadCommand(2),
     );
-    let goal = [Expectation::Marker(false), Expectation::Marker(true)];
+    let goal = [
+        Sought::Told(Expectation::Marker(false)),
+        Sought::Told(Expectation::Marker(true)),
+    ];
     let asked = Asked {
         faults: 0,
         most: u64::MAX,
