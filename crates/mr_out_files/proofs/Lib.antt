@@ -1,2 +1,3 @@
 pub mod Plain
 pub mod Begun
+pub mod Apart

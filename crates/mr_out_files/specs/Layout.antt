@@ -1,10 +1,10 @@
 -- Which path each name of an output directory has, from the directory itself. Part files and the marker have the names that Hadoop's OutputFormat and
 -- committer give them; the others are our own.
-use Rattle.std.specs.Prelude.{ℕ, Bool, true, ◌==◌, ◌||◌, ◌&&◌, nat_le, List, [], ◌∷◌, ◌++◌, length, decimal, codes}
+use Rattle.std.specs.Prelude.{◌≡◌, ℕ, Bool, true, ◌==◌, ◌||◌, ◌&&◌, nat_le, List, [], ◌∷◌, ◌++◌, length, decimal, codes}
 use Rattle.std.specs.List.{list_all}
 use Rattle.std.specs.Char.{is_ascii_alphanumeric}
 use Rattle.mr_ids.specs.Attempt.{Attempt}
-use Rattle.mr_ids.specs.Text.{numeral, attempt_text}
+use Rattle.mr_ids.specs.Text.{numeral, attempt_text, IsAttempt}
 use Rattle.mr_out_disk.specs.declared.place.Place.{Place}
 use Rattle.mr_out_disk.specs.declared.place.Place.TheVariants.{Part, Marker, Kept, Work, Decision, Home}
 
@@ -31,6 +31,15 @@ path_of suffix (Kept a) = kept_path a
 path_of suffix (Work a) = work_path suffix a
 path_of suffix Decision = codes "_mrout/publish"
 path_of suffix Home = codes "_mrout"
+
+-- an attempt's numbers are in range
+abbrev pub InRange : Place → Type 0
+InRange (Work a) = IsAttempt a
+InRange _ = Unit {0}
+
+-- No two names have one path, so that each is by itself, as in the model.
+abbrev pub PathsAreApart : Type 0
+PathsAreApart = (suffix : List ℕ) (p q : Place) → InRange p → InRange q → path_of suffix p ≡ path_of suffix q → p ≡ q
 
 -- ---- what may end the name of a part file: so it stays in the directory
 

@@ -46,7 +46,7 @@ pub use calls::{absolute, sync_folder};
 pub use directory::Directory;
 pub use fault::{Fault, Why};
 pub use job::{Job, MAX_LIMIT, MAX_SUFFIX_LEN, MAX_TASKS, host_of, is_suffix};
-pub use laws::{begun_directories_stay, directories_begin_whole};
+pub use laws::{begun_directories_stay, directories_begin_whole, paths_are_apart};
 pub use layout::{
     DECISION, GONE, HOME, MARKER, WORK, kept_path, part_name, path_of, work_folder, work_path,
 };
