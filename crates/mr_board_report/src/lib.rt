@@ -12,7 +12,8 @@
 //!   newest master is Stopped. `files` is what a reader of the destination sees. `succeeded` is whether success was
 //!   told. Where it was, the files are the job's sequential execution's, and nothing else (`IsReported`).
 //! - Where there is none, it is said why, in order: `JournalMismatch` of another plan's run or of seats that do not
-//!   account for it, `TurnsSpent` of a run that did not come to its end, `NoMemory` (`IsUnreported`).
+//!   account for it, why its threads stopped or `TurnsSpent` of a run that did not come to its end, `NoMemory`
+//!   (`IsUnreported`). The run's world is handed back, but where the seats do not account for it.
 //!
 //! Memory may be taken by `reported`, for the files.
 #![tactic(auto)]
@@ -22,9 +23,11 @@ mod laws;
 mod plan;
 mod report;
 mod run;
+mod unreported;
 
 pub use fault::DriveFault;
 pub use laws::{faults_are_made_or_refused, only_planned_faults_happen};
 pub use plan::Plan;
 pub use report::{Report, reported};
 pub use run::Run;
+pub use unreported::Unreported;

@@ -202,6 +202,19 @@ impl<J: Job> Run<J> {
         } = self;
         board.close(seats)
     }
+
+    // Its world. Its journal is as planned.
+    pub(crate) fn into_world(self) -> World
+        ensures world { result ≡ self.world }
+        ensures planned { Planned self.faults self.came self.world }
+    {
+        let Run {
+            board,
+            faults: _,
+            came: _,
+        } = self;
+        board.into_world()
+    }
 }
 
 // Whether the newest master crashed, and none started behind it.
