@@ -1,3 +1,4 @@
+mod Calls
 mod Came
 mod Deciding
 mod Running

@@ -5,7 +5,8 @@
 //! - **`Run`**: whoever makes its events, its journal is as planned (`Planned`). Each fault of the plan comes as soon as
 //!   it is due, in order, before all else: it is made, or the world refuses it. Behind a crash the next master starts
 //!   at once, and keeps nothing of what was not flushed. No store call is disturbed, and no other fault happens.
-//!   In plain words, over a whole run: `faults_are_made_or_refused`, `only_planned_faults_happen`.
+//!   In plain words, over a whole run: `faults_are_made_or_refused`, `only_planned_faults_happen`. Each call is a step of
+//!   the board with its answer, or `JournalMismatch` and nothing changed (`MakesPlanned`, `HandsIn`, `MakesDue`).
 //! - **`reported`**, for every job and plan, and every run that is over. A `Report` is of that run's world, whose journal
 //!   the seats account for. It is of the plan's config, follows the plan's faults (`Follows`), and has the seat that
 //!   was noted for each event. Each result in its journal is what the job's functions give. An outcome was told, or the
