@@ -2,6 +2,8 @@ pub mod Texts
 pub mod Widths
 pub mod Lines
 pub mod Told
+pub mod Cuts
+pub mod Endings
 pub mod Splits
 pub mod Tellings
 pub mod Replays

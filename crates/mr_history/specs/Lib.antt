@@ -8,3 +8,4 @@ pub mod Calls
 pub mod Recorded
 pub mod Winner
 pub mod Laws
+pub mod inner

@@ -87,6 +87,7 @@ mod fault;
 mod history;
 mod laws;
 mod line;
+mod reader;
 mod reading;
 mod record;
 mod segment;

@@ -1,12 +1,12 @@
 //! The bytes of a segment, read again: its version, the records of its whole lines, and how many bytes of a torn line stand behind them.
-ghost use Rattle.std.specs.Prelude.{◌≡◌, ◌≤◌, ◌++◌, ◌∷◌, IfSome, IfNone, IfOk, OnErr, length, if◌then◌else◌, nat_eq};
+ghost use Rattle.std.specs.Prelude.{◌≡◌, ◌++◌, ◌∷◌, IfSome, IfNone, if◌then◌else◌, nat_eq};
 ghost use Rattle.mr_history.specs.Line.{head, IsVersion};
-ghost use Rattle.mr_history.specs.Reading.{Replays, HasNoFeed, version_of, record_of};
+ghost use Rattle.mr_history.specs.Reading.{Replays, HasNoFeed, version_of};
 
 use crate::fault::HistoryFault;
-use crate::line::{MAX_LINE_LEN, record_of};
-use crate::record::{Record, Records};
-use std::alloc::{AllocError, Global};
+use crate::reader::record_of;
+use crate::record::Records;
+use std::alloc::Global;
 
 /// What the bytes of a segment tell.
 #[derive(Drop)]
@@ -22,8 +22,8 @@ pub struct Replayed {
 /// The version, the records of the whole lines, and how many bytes stand after the last line feed.
 ///
 /// `BadLine` answers the first whole line that is neither the line of a record of that version nor its version line at
-/// the head. Lines are numbered from 1, and the version line counts. Each line of at most `MAX_LINE_LEN` bytes is read
-/// in memory, so `NoMemory` may come before a later bad line is seen; a longer one is bad, and takes none.
+/// the head. Lines are numbered from 1, and the version line counts. The records take memory and the lines none, so
+/// `NoMemory` may come before a later bad line is seen.
 pub fn replay(alloc: Global, bytes: &[u8]) -> Result<Replayed, HistoryFault>
     ensures { Replays bytes.now result }
 {
@@ -32,7 +32,7 @@ pub fn replay(alloc: Global, bytes: &[u8]) -> Result<Replayed, HistoryFault>
     let mut records = Records::new(alloc);
     let mut rest = lines;
     while let Some((line, after)) = split_line(rest) {
-        let Some(record) = short_record(alloc, version, line)? else {
+        let Some(record) = record_of(version, line) else {
             return Err(HistoryFault::BadLine(records.len() + before + 1));
         };
         records.push(record)?;
@@ -43,18 +43,6 @@ pub fn replay(alloc: Global, bytes: &[u8]) -> Result<Replayed, HistoryFault>
         records,
         torn: rest.len(),
     })
-}
-
-// The record whose line these bytes are. A line that is longer than a record's takes no memory.
-fn short_record(alloc: Global, version: u32, line: &[u8]) -> Result<Option<Record>, AllocError>
-    ensures record { IfOk result (λ o. o ≡ record_of version line.now) }
-    ensures short { OnErr result (length line.now ≤ MAX_LINE_LEN) }
-{
-    if line.len() > MAX_LINE_LEN {
-        Ok(None)
-    } else {
-        record_of(alloc, version, line)
-    }
 }
 
 // How many lines come before the first record's.

@@ -11,6 +11,7 @@ ghost use Rattle.mr_world.specs.Readings.{due_in, phase_in, wanted_in, unflushed
 
 use mr_ids::{AppAttempt, TaskId};
 use mr_master_model::{DutyName, Phase};
+use mr_names::Namespace;
 use mr_packet::Envelope;
 use mr_world_state::mr_master::Duty;
 use mr_world_state::{Parts, WorldFault};
@@ -20,6 +21,13 @@ pub fn packets(parts: &Parts) -> &[Envelope]
     ensures { (w : World) → Standing parts.now w → result.now ≡ w.bag }
 {
     parts.bag.packets()
+}
+
+/// The namespace.
+pub fn names(parts: &Parts) -> &Namespace
+    ensures { (w : World) → Standing parts.now w → result.now.content ≡ w.content }
+{
+    &parts.names
 }
 
 /// How many masters were started: the newest is of this generation.

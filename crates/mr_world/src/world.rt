@@ -23,13 +23,14 @@ use crate::copy::copy_events;
 use crate::happen::{foresee, foresee_computed, make_room, take};
 use crate::inputs::{Input, input_of, place, wish};
 use crate::living_ones::{living, next_living};
-use crate::reading::{due, newest, packets, phase, stable, unflushed, wanted};
+use crate::reading::{due, names, newest, packets, phase, stable, unflushed, wanted};
 use crate::results::{VisibleFile, marker, outcome, visible};
 use crate::took::Took;
 use crate::winners::{recorded_winner, recorded_winners};
 use mr_container::{Place, Wish};
 use mr_ids::{AttemptId, TaskId};
 use mr_master_model::{DutyName, Phase};
+use mr_names::Namespace;
 use mr_packet::{Bytes, ContainerId, Envelope};
 use mr_world_events::{Event, Why};
 use mr_world_state::{Asked, Config, Parts, WorldFault};
@@ -179,6 +180,13 @@ impl World {
 
 // What comes of the world for those outside
 impl World {
+    /// The namespace, in which the job's output lies.
+    pub fn names(&self) -> &Namespace
+        ensures { result.now.content ≡ (world_in self.now).content }
+    {
+        names(&self.parts)
+    }
+
     /// The recorded winner of a reduce, if it has one: the attempt of its first success that is stable. Its only
     /// fault is an allocation failure.
     pub fn winner(&self, task: TaskId) -> Result<Option<AttemptId>, WorldFault>

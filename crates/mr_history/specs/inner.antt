@@ -1,0 +1,2 @@
+-- Words for private contracts.
+pub mod Ending
