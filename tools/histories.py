@@ -89,6 +89,16 @@ def losers_first(job):
     job.write("_mrout/history.1", job.read("_mrout/history.1") + line + b"\n")
 
 
+def lengths_of(job):
+    """The names that tell how long the files are that were handed in."""
+    return [f"_mrout/kept/{name}" for name in sorted(os.listdir(job.path("_mrout/kept"))) if "." in name]
+
+
+def rename_lengths(ending):
+    """The names tell something else."""
+    return lambda job: [os.rename(job.path(name), job.path(name.split(".")[0] + ending)) for name in lengths_of(job)]
+
+
 # what is done to a published directory, and the answer's words behind its name; nothing where it is yes
 ROWS = {
     "as_it_is": (lambda job: None, ""),
@@ -114,9 +124,11 @@ ROWS = {
     "history_emptied": (write("_mrout/history.1", b""), "winners"),
     "history_cut": (without_last_record, "winners"),
     "history_of_another_job": (of_another_job, "winners"),
-    "lengths_removed": (remove("_mrout/lengths"), "unmeasured"),
-    "lengths_damaged": (write("_mrout/lengths", b"\xff\xfe"), "unmeasured"),
-    "all_of_it": (lambda job: [os.remove(job.path(name)) for name in ("_SUCCESS", "part-r-00000", "_mrout/lengths")], "marker missing unmeasured"),
+    "lengths_removed": (lambda job: [os.remove(job.path(name)) for name in lengths_of(job)], "unmeasured"),
+    "lengths_of_no_number": (rename_lengths(".x"), "unmeasured"),
+    "lengths_with_a_zero_in_front": (rename_lengths(".04"), "unmeasured"),
+    "lengths_of_another_file": (rename_lengths(".5"), "lengths"),
+    "all_of_it": (lambda job: [os.remove(job.path(name)) for name in ("_SUCCESS", "part-r-00000", lengths_of(job)[1])], "marker missing unmeasured"),
 }
 
 

@@ -2,7 +2,8 @@
    name MROUT_ON alone), writes each into the file MROUT_RECORD, kills the process at the call MROUT_AT, "before" or "behind" it (MROUT_SIDE), or lets
    that call fail by the number MROUT_ERROR. A line of the record is: name, a tab, its paths (absolute) or bytes (in hexadecimal) with tabs between
    them. Refuses the request for memory of the number MROUT_REFUSE; the count of all is written into the file MROUT_REQUESTS. Where the program asks
-   the system for its mounts or its boot, it is given the file MROUT_MOUNTS or MROUT_BOOT, if one is named. */
+   the system for its mounts or its boot, it is given the file MROUT_MOUNTS or MROUT_BOOT, if one is named. Before each sync of a file the open file of
+   the number MROUT_GROWS grows by a byte. */
 #define _GNU_SOURCE
 #include <dlfcn.h>
 #include <errno.h>
@@ -157,6 +158,9 @@ ssize_t write(int fd, const void *bytes, size_t n) {
 int fsync(int fd) {
     REAL("fsync", int, int);
     char p[4096];
+    const char *grows = getenv("MROUT_GROWS");
+    begin();
+    if (grows && real_write(atoi(grows), "x", 1) != 1) abort();
     of_fd(p, sizeof p, fd);
     if (!goes("sync")) { note("unsynced", p, NULL); return -1; }
     int got = real(fd);

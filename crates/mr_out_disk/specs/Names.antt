@@ -1,6 +1,5 @@
 -- Which names are one, and which stand in a folder. Names and folders of a directory as POSIX has them; which there are is our own profile.
 use Rattle.std.specs.Prelude.{◌==◌, Bool, true, false}
-use Rattle.mr_ids.specs.Attempt.{Attempt}
 use Rattle.mr_ids.specs.Same.{same_attempt}
 use Rattle.mr_out_disk.specs.declared.place.Place.{Place}
 use Rattle.mr_out_disk.specs.declared.place.Place.TheVariants.{Part, Marker, Kept, Work, Decision, Home}

@@ -1,8 +1,8 @@
 -- Where a directory is there that was begun, it is whole.
-use Rattle.std.proofs.Common.{◌≡◌, ◌≢◌, ◌⊎◌, inl, inr, ℕ, zero, suc, Bool, true, false, List, [], ◌∷◌, Option, Some, None, refl, sym, ap, subst, ◌∙◌}
-use Rattle.mr_out_disk.specs.Disk.{Moments, moved, settled}
+use Rattle.std.proofs.Common.{◌≡◌, ◌≢◌, ◌⊎◌, inl, inr, ℕ, zero, suc, true, [], ◌∷◌, Option, Some, None, refl, sym, ap, subst, ◌∙◌}
+use Rattle.mr_out_disk.specs.Disk.{Moments}
 use Rattle.mr_out_disk.specs.Cuts.{IsOneOf, IsLeft}
-use Rattle.mr_out_files.specs.Begins.{Site, missing, nowhere, made, steps, after_first, MayBe, IsCutTo, IsWhole, DirectoriesBeginWhole, BegunDirectoriesStay}
+use Rattle.mr_out_files.specs.Begins.{Site, missing, nowhere, steps, after_first, MayBe, IsCutTo, IsWhole, DirectoriesBeginWhole, BegunDirectoriesStay}
 
 abbrev alone : Option ℕ → Moments
 alone x = record { now = x; before = [] }

@@ -1,6 +1,6 @@
 -- How a directory begins: beside its place, under a name of its own, and then renamed. That a name is durable once its folder was synced is what POSIX
 -- says of fsync, and that a rename is made whole or not at all is what it says of rename. Which steps these are is our own profile.
-use Rattle.std.specs.Prelude.{◌≡◌, ◌≢◌, ◌⊎◌, ℕ, zero, suc, Bool, true, false, List, [], ◌∷◌, Option, Some, None}
+use Rattle.std.specs.Prelude.{◌≡◌, ◌≢◌, ◌⊎◌, ℕ, zero, suc, Bool, true, false, List, [], ◌∷◌, Some, None}
 use Rattle.mr_out_disk.specs.Disk.{Moments, moved, settled}
 use Rattle.mr_out_disk.specs.Cuts.{IsLeft}
 use Rattle.mr_out_files.specs.declared.making.Step.{Step}

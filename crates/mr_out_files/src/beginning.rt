@@ -1,10 +1,7 @@
 //! A directory is made: beside its place, under a name of its own, and then renamed.
-use crate::calls::{enter, look, sync_folder};
-use crate::fault::{Fault, Why};
-use crate::flushed::{boot_of, note_of, write_note};
-use crate::job::Job;
 use crate::making::{Step, steps};
 use crate::mounts::network_disk;
+use mr_out_layout::{Fault, Job, Why, boot_of, enter, look, note_of, sync_folder, write_note};
 use std::fs::File;
 use std::io::Write;
 use std::{fs, io};

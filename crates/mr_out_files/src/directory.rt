@@ -1,19 +1,21 @@
 //! An output directory that is open: its lock is held, and calls are made on it.
+ghost use Rattle.std.specs.Prelude.{◌≡◌, [], ◌∷◌, ◌++◌, IfOk};
+ghost use Rattle.mr_out_files.specs.Made.{calls_of, Keeps};
+
 use crate::beginning::write_synced;
-use crate::calls::{
-    enter, is_changed, is_one, look, look_file, open, read, stat, sync, sync_folder,
-};
 use crate::early::{Early, sync_early};
-use crate::fault::{Fault, Why};
 use crate::history::History;
-use crate::job::{Job, host_of, told};
-use crate::layout::{GONE, HOME, JOB, KEPT, WORK, boot_path, path_of, work_folder};
-use crate::lengths::note_lengths;
+use crate::lengths::{drop_lengths, note_length};
 use crate::lock::{Lock, locked};
-use crate::removal::clear;
+use http_server::Log;
 use mr_history::Record;
 use mr_ids::AttemptId;
 use mr_out_disk::{Answer, Call, Folder, Place, Reply};
+use mr_out_layout::{
+    Fault, GONE, HOME, JOB, Job, KEPT, WORK, Why, boot_path, enter, host_of, is_changed, is_one,
+    length_named, look, look_file, open, path_of, stat, sync, sync_folder, told, work_folder,
+};
+use mr_out_removal::clear;
 use std::alloc::Global;
 use std::collections::LinkedList;
 use std::fs::{File, Metadata};
@@ -34,7 +36,13 @@ pub struct Directory {
     history: History,
     // The file that is handed in, as it was synced before the lock was held.
     early: Option<Early>,
+    // The attempt whose file was claimed since then.
+    claimed: Option<AttemptId>,
+    // The marker was made or found, and is not durable yet.
+    is_marked: bool,
     trouble: Option<Fault>,
+    // Each call with its answer, for contracts alone: it takes no memory.
+    made: Log<Call, Answer>,
 }
 
 fn done() -> Answer {
@@ -66,25 +74,30 @@ impl Directory {
         dir: &str,
         lock: Lock,
         handing: Option<AttemptId>,
-    ) -> Result<Directory, Fault> {
+    ) -> Result<Directory, Fault>
+        ensures { IfOk result (λ directory. calls_of directory ≡ []) }
+    {
         enter(rt, dir)?;
         let history = History::new(rt, !lock.is_shared)?;
         let early = early_of(rt, handing)?;
-        let lock = locked(rt, lock)?;
-        let bytes = read(rt, JOB)?;
-        let job = Job::read(rt.alloc(), &bytes)?;
+        let (lock, job) = locked(rt, lock)?;
         Ok(Directory {
             alloc: rt.alloc(),
             job,
             lock,
             history,
             early,
+            claimed: None,
+            is_marked: false,
             trouble: None,
+            made: Log::new(),
         })
     }
 
     /// The directory is of this host from now on. The lock is lost by that: it is opened anew for more.
-    pub fn move_here(&mut self, rt: &HostRuntime) -> Result<(), Fault> {
+    pub fn move_here(&mut self, rt: &HostRuntime) -> Result<(), Fault>
+        ensures { calls_of self.new ≡ calls_of self.old }
+    {
         self.job.host = host_of(rt)?;
         let line = self.job.line(self.alloc)?;
         let _ = fs::remove_file(rt, NEW_JOB);
@@ -96,25 +109,27 @@ impl Directory {
         }
     }
 
-    /// Removes what attempts wrote, and says whether it is gone. Of a call that failed `trouble` tells why.
-    pub fn sweep(&mut self, rt: &HostRuntime) -> bool {
-        match clear(rt, WORK) {
-            Ok(()) => true,
-            Err(error) if error.kind() == io::ErrorKind::NotFound => true,
-            Err(error) => {
-                self.trouble = Some(Fault::of_call(self.alloc, "remove", WORK, error));
-                false
-            }
-        }
-    }
-
     /// Why the call that failed last did, if one did. It is told once.
-    pub fn trouble(&mut self) -> Option<Fault> {
+    pub fn trouble(&mut self) -> Option<Fault>
+        ensures { Keeps self.old self.new }
+    {
         self.trouble.take()
     }
 
-    /// Makes a call, and answers what came of it. Of one that failed, `trouble` tells why.
-    pub fn perform(&mut self, rt: &HostRuntime, call: Call) -> Answer {
+    /// Makes a call, answers what came of it, and notes both. Of one that failed, `trouble` tells why. With the sync of the
+    /// directory that makes the marker durable, what attempts wrote is removed; where that fails, so does the call.
+    pub fn perform(&mut self, rt: &HostRuntime, call: Call) -> Answer
+        ensures noted { calls_of self.new ≡ calls_of self.old ++ (call, result) ∷ [] }
+        ensures job { self.new.job ≡ self.old.job }
+    {
+        let answer = self.answer(rt, call);
+        self.made = self.made.and(&call, &answer);
+        answer
+    }
+
+    fn answer(&mut self, rt: &HostRuntime, call: Call) -> Answer
+        ensures { Keeps self.old self.new }
+    {
         match self.make(rt, call) {
             Ok(answer) => answer,
             Err(fault) => {
@@ -124,7 +139,9 @@ impl Directory {
         }
     }
 
-    fn make(&mut self, rt: &HostRuntime, call: Call) -> Result<Answer, Fault> {
+    fn make(&mut self, rt: &HostRuntime, call: Call) -> Result<Answer, Fault>
+        ensures { Keeps self.old self.new }
+    {
         match call {
             Call::ReadHistory => self.read_history(rt),
             Call::AppendHistory(told) => self.append(rt, &told),
@@ -132,13 +149,10 @@ impl Directory {
             Call::Look(place) => self.look(rt, &place),
             Call::ListKept => self.list_kept(rt),
             Call::SyncFile(place) => self.sync_file(rt, &place),
-            Call::SyncFolder(folder) => {
-                sync_folder(rt, folder_path(folder))?;
-                Ok(done())
-            }
+            Call::SyncFolder(folder) => self.sync_folder(rt, folder),
             Call::Rename { from, to } => self.rename(rt, &from, &to),
             Call::Link { from, to } => self.link(rt, &from, &to),
-            Call::Create(place) => self.create(rt, &place),
+            Call::Create(place) => self.mark(rt, &place),
             Call::Remove(place) => self.remove(rt, &place),
             Call::MakeFolder(a) => self.make_folder(rt, a),
         }
@@ -146,16 +160,22 @@ impl Directory {
 
     // ---- the history
 
-    fn read_history(&mut self, rt: &HostRuntime) -> Result<Answer, Fault> {
+    fn read_history(&mut self, rt: &HostRuntime) -> Result<Answer, Fault>
+        ensures { Keeps self.old self.new }
+    {
         Ok(Answer::Told(self.history.read(rt)?))
     }
 
-    fn append(&mut self, rt: &HostRuntime, told: &Record) -> Result<Answer, Fault> {
+    fn append(&mut self, rt: &HostRuntime, told: &Record) -> Result<Answer, Fault>
+        ensures { Keeps self.old self.new }
+    {
         self.history.append(rt, told)?;
         Ok(done())
     }
 
-    fn sync_history(&mut self, rt: &HostRuntime) -> Result<Answer, Fault> {
+    fn sync_history(&mut self, rt: &HostRuntime) -> Result<Answer, Fault>
+        ensures { Keeps self.old self.new }
+    {
         self.history.sync(rt)?;
         Ok(done())
     }
@@ -205,7 +225,7 @@ impl Directory {
         };
         for entry in entries {
             match entry {
-                Ok(entry) => attempts.push_back(attempt_named(rt, entry.file_name())?)?,
+                Ok(entry) => put_kept(rt, &mut attempts, entry.file_name())?,
                 Err(error) => return Err(Fault::of_call(self.alloc, "list", KEPT, error)),
             }
         }
@@ -213,7 +233,9 @@ impl Directory {
     }
 
     // Syncs a file that was handed in.
-    fn sync_file(&mut self, rt: &HostRuntime, place: &Place) -> Result<Answer, Fault> {
+    fn sync_file(&mut self, rt: &HostRuntime, place: &Place) -> Result<Answer, Fault>
+        ensures { Keeps self.old self.new }
+    {
         match self.sync_right(rt, place) {
             Ok(answer) => Ok(answer),
             Err(fault) => self.not_synced(fault),
@@ -221,7 +243,9 @@ impl Directory {
     }
 
     // Where the sync fails, its attempt has failed (`Failed`). Of another fault `trouble` tells, and the attempt lives on.
-    fn not_synced(&mut self, fault: Fault) -> Result<Answer, Fault> {
+    fn not_synced(&mut self, fault: Fault) -> Result<Answer, Fault>
+        ensures { Keeps self.old self.new }
+    {
         if fault.is_of("sync") {
             return Err(fault);
         }
@@ -229,25 +253,40 @@ impl Directory {
         Ok(Answer::Says(Reply::Odd))
     }
 
-    fn sync_right(&mut self, rt: &HostRuntime, place: &Place) -> Result<Answer, Fault> {
+    fn sync_right(&mut self, rt: &HostRuntime, place: &Place) -> Result<Answer, Fault>
+        ensures { Keeps self.old self.new }
+    {
         self.check_boot(rt, place)?;
         let path = self.path(place)?;
         let Some(named) = look_file(rt, &path)? else {
             return Ok(Answer::Says(Reply::Missing));
         };
         if self.is_synced(&named)? {
-            return Ok(done());
+            return self.measured(rt, place, &named);
         }
         let file = open(rt, &path)?;
         let before = stat(rt, &file, &path)?;
         if !is_one(&named, &before) {
             return Ok(Answer::Says(Reply::Odd));
         }
-        self.sync_still(rt, &file, &path, &before)
+        self.sync_still(rt, place, &file, &path, &before)
+    }
+
+    // Notes how long the file is that was handed in. One that was claimed before may have another length noted.
+    fn measured(&self, rt: &HostRuntime, place: &Place, found: &Metadata) -> Result<Answer, Fault> {
+        if let Place::Kept(a) = *place {
+            if self.claimed != Some(a) {
+                drop_lengths(rt, a)?;
+            }
+            note_length(rt, a, found.len())?;
+        }
+        Ok(done())
     }
 
     // Whether the file was synced before the lock was held, and is what it was.
-    fn is_synced(&mut self, named: &Metadata) -> Result<bool, Fault> {
+    fn is_synced(&mut self, named: &Metadata) -> Result<bool, Fault>
+        ensures { Keeps self.old self.new }
+    {
         match self.early.take() {
             Some(early) => early.is_still(named),
             None => Ok(false),
@@ -257,22 +296,25 @@ impl Directory {
     fn sync_still(
         &self,
         rt: &HostRuntime,
+        place: &Place,
         file: &File,
         path: &str,
         before: &Metadata,
     ) -> Result<Answer, Fault> {
         sync(rt, file, path)?;
         let behind = stat(rt, file, path)?;
-        Ok(Answer::Says(if is_changed(before, &behind) {
-            Reply::Grew
-        } else {
-            Reply::Done
-        }))
+        if is_changed(before, &behind) {
+            return Ok(Answer::Says(Reply::Grew));
+        }
+        self.measured(rt, place, &behind)
     }
 
     // Claims the file of an attempt, where no power cut came since that was begun.
-    fn rename(&self, rt: &HostRuntime, from: &Place, to: &Place) -> Result<Answer, Fault> {
+    fn rename(&mut self, rt: &HostRuntime, from: &Place, to: &Place) -> Result<Answer, Fault>
+        ensures { Keeps self.old self.new }
+    {
         self.check_boot(rt, from)?;
+        self.claimed = kept_attempt(to).or(self.claimed);
         let from = self.path(from)?;
         let to = self.path(to)?;
         answered(
@@ -294,13 +336,38 @@ impl Directory {
         )
     }
 
-    // Makes an empty file. One that is there already is taken; anything else there is foreign. Before the marker the lengths
-    // of all files are noted.
+    // Syncs a folder. Once the marker is durable, what attempts wrote is removed: where that fails, the next command does it
+    // again.
+    fn sync_folder(&mut self, rt: &HostRuntime, folder: Folder) -> Result<Answer, Fault>
+        ensures { Keeps self.old self.new }
+    {
+        sync_folder(rt, folder_path(folder))?;
+        if self.is_marked && folder == Folder::Output {
+            return self.clear_work(rt);
+        }
+        Ok(done())
+    }
+
+    fn clear_work(&mut self, rt: &HostRuntime) -> Result<Answer, Fault>
+        ensures { Keeps self.old self.new }
+    {
+        self.is_marked = false;
+        sweep(rt)?;
+        Ok(done())
+    }
+
+    // Makes an empty file, and notes that the marker is there.
+    fn mark(&mut self, rt: &HostRuntime, place: &Place) -> Result<Answer, Fault>
+        ensures { Keeps self.old self.new }
+    {
+        let answer = self.create(rt, place)?;
+        self.is_marked = self.is_marked || *place == Place::Marker;
+        Ok(answer)
+    }
+
+    // Makes an empty file. One that is there already is taken; anything else there is foreign.
     fn create(&self, rt: &HostRuntime, place: &Place) -> Result<Answer, Fault> {
         let path = self.path(place)?;
-        if *place == Place::Marker {
-            note_lengths(rt)?;
-        }
         match File::create_new(rt, path.as_str()) {
             Ok(_) => Ok(done()),
             Err(error) if error.kind() == io::ErrorKind::AlreadyExists => {
@@ -356,6 +423,23 @@ fn early_of(rt: &HostRuntime, handing: Option<AttemptId>) -> Result<Option<Early
     }
 }
 
+// The attempt whose handed-in file has this name.
+fn kept_attempt(place: &Place) -> Option<AttemptId> {
+    match *place {
+        Place::Kept(a) => Some(a),
+        _ => None,
+    }
+}
+
+// Removes what attempts wrote.
+fn sweep(rt: &HostRuntime) -> Result<(), Fault> {
+    match clear(rt, WORK) {
+        Ok(()) => Ok(()),
+        Err(error) if error.kind() == io::ErrorKind::NotFound => Ok(()),
+        Err(error) => Err(Fault::of_call(rt.alloc(), "remove", WORK, error)),
+    }
+}
+
 fn folder_path(folder: Folder) -> &'static str {
     match folder {
         Folder::Output => ".",
@@ -373,9 +457,21 @@ fn is_right(place: &Place, found: &Metadata) -> bool {
     }
 }
 
-fn attempt_named(rt: &HostRuntime, name: &str) -> Result<AttemptId, Fault> {
+// Adds the attempt that a name tells; one that tells a length is passed over.
+fn put_kept(
+    rt: &HostRuntime,
+    attempts: &mut LinkedList<AttemptId>,
+    name: &str,
+) -> Result<(), Fault> {
     match AttemptId::parse(name) {
-        Ok(a) => Ok(a),
-        Err(_) => Err(Fault::refused(rt.alloc(), name, Why::Foreign)),
+        Ok(a) => Ok(attempts.push_back(a)?),
+        Err(_) => refuse_foreign(rt, name),
+    }
+}
+
+fn refuse_foreign(rt: &HostRuntime, name: &str) -> Result<(), Fault> {
+    match length_named(rt.alloc(), name)? {
+        Some(_) => Ok(()),
+        None => Err(Fault::refused(rt.alloc(), name, Why::Foreign)),
     }
 }

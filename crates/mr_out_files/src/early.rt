@@ -2,11 +2,8 @@
 //!
 //! It counts where the file was not changed since; then it is not synced again. Where that sync failed, the attempt has
 //! failed: another sync may answer well, and not mean it.
-use crate::calls::{is_changed, is_one, look, open, stat, sync};
-use crate::fault::Fault;
-use crate::job::{Job, told};
-use crate::layout::{JOB, work_path};
 use mr_ids::AttemptId;
+use mr_out_layout::{Fault, JOB, Job, is_changed, is_one, look, open, stat, sync, told, work_path};
 use std::fs::{File, Metadata};
 use std::os::unix::fs::MetadataExt;
 

@@ -1,19 +1,15 @@
 //! The history of an output directory on the disk: its segments, and whether its end is durable.
-use crate::ahead::{Ahead, read_ahead, read_behind};
 use crate::beginning::write_synced;
-use crate::calls::{look, look_file, open, read, stat, sync, sync_folder};
-use crate::fault::{Fault, Why};
-use crate::flushed::{Noted, boot_of, note_of, note_of_failure, read_note, write_note};
-use crate::layout::{HOME, segment_path};
-use crate::segments::{Damage, Told, refuse_gap, tell_behind};
 use mr_history::{Record, Records, whole_line};
+use mr_out_layout::{
+    Ahead, Damage, Fault, HOME, MAX_SEGMENTS, Noted, Told, Why, boot_of, look, look_file, note_of,
+    note_of_failure, open, read, read_ahead, read_behind, read_note, refuse_gap, segment_path,
+    stat, sync, sync_folder, tell_behind, write_note,
+};
 use std::alloc::Global;
 use std::fs;
 use std::fs::{File, Metadata, OpenOptions};
 use std::io::Write;
-
-/// Most segments of a history.
-const MAX_SEGMENTS: u32 = 1000;
 
 // A segment that is written anew, before it has its name.
 const NEW_SEGMENT: &str = "_mrout/history.new";
@@ -118,9 +114,12 @@ impl History {
             }
             _ => (read(rt, path)?, 0),
         };
-        match tell_behind(self.alloc, &bytes, lines) {
+        match tell_behind(self.alloc, &bytes, lines == 0) {
             Ok(told) => Ok(told),
-            Err(Damage::Line(line)) => Err(Fault::refused(self.alloc, path, Why::Damaged(line))),
+            Err(Damage::Line(line)) => {
+                let line = lines.saturating_add(line);
+                Err(Fault::refused(self.alloc, path, Why::Damaged(line)))
+            }
             Err(Damage::NoMemory) => Err(Fault::NoMemory),
         }
     }
@@ -157,16 +156,19 @@ impl History {
     // Opens the segment to which records are appended: the newest one, or the next where the end of that is torn. The
     // name of the next one is durable before anything is in it.
     fn open_end(&mut self, rt: &HostRuntime) -> Result<File, Fault> {
-        if !self.is_torn {
-            let path = segment_path(self.alloc, self.newest)?;
-            return append_to(rt, &path);
+        if self.is_torn {
+            self.open_next(rt)
+        } else {
+            append_to(rt, self.newest)
         }
+    }
+
+    fn open_next(&mut self, rt: &HostRuntime) -> Result<File, Fault> {
         if self.newest >= MAX_SEGMENTS {
             return Err(Fault::Full);
         }
         let number = self.newest.saturating_add(1);
-        let path = segment_path(self.alloc, number)?;
-        let file = append_to(rt, &path)?;
+        let file = append_to(rt, number)?;
         sync_folder(rt, HOME)?;
         self.newest = number;
         self.is_torn = false;
@@ -206,17 +208,9 @@ impl History {
 
     // The bytes of the newest segment are written into another file, which is given its name once it is durable.
     fn renew(&self, rt: &HostRuntime, path: &str) -> Result<Metadata, Fault> {
-        let bytes = read(rt, path)?;
-        let _ = fs::remove_file(rt, NEW_SEGMENT);
-        if let Err(error) = write_synced(rt, NEW_SEGMENT, &bytes) {
-            return Err(Fault::of_call(self.alloc, "write anew", path, error));
-        }
-        match fs::rename(rt, NEW_SEGMENT, path) {
-            Ok(()) => sync_folder(rt, HOME)?,
-            Err(error) => return Err(Fault::of_call(self.alloc, "rename", path, error)),
-        }
-        let file = open(rt, path)?;
-        stat(rt, &file, path)
+        copy(rt, path)?;
+        replace(rt, path)?;
+        end_of(rt, path)
     }
 
     // One who only reads syncs the end that is found; and, where that is not in the first segment, the folder in which a
@@ -225,12 +219,11 @@ impl History {
         if read_note(rt, &note_of_failure(self.alloc, self.boot())?)? == Noted::Durable {
             return Err(Fault::refused(self.alloc, path, Why::NotSynced));
         }
-        let file = open(rt, path)?;
-        sync(rt, &file, path)?;
+        sync_one(rt, path)?;
         if self.newest > 1 {
             sync_folder(rt, HOME)?;
         }
-        stat(rt, &file, path)
+        end_of(rt, path)
     }
 
     // The end is durable. Where that can't be noted, the next command writes it anew.
@@ -252,9 +245,43 @@ impl History {
     }
 }
 
-fn append_to(rt: &HostRuntime, path: &str) -> Result<File, Fault> {
-    match OpenOptions::new().append(true).create(true).open(rt, path) {
+// Copies a segment into another file, which is durable then.
+fn copy(rt: &HostRuntime, path: &str) -> Result<(), Fault> {
+    let bytes = read(rt, path)?;
+    let _ = fs::remove_file(rt, NEW_SEGMENT);
+    match write_synced(rt, NEW_SEGMENT, &bytes) {
+        Ok(()) => Ok(()),
+        Err(error) => Err(Fault::of_call(rt.alloc(), "write anew", path, error)),
+    }
+}
+
+// The copy takes the segment's name, durably.
+fn replace(rt: &HostRuntime, path: &str) -> Result<(), Fault> {
+    match fs::rename(rt, NEW_SEGMENT, path) {
+        Ok(()) => sync_folder(rt, HOME),
+        Err(error) => Err(Fault::of_call(rt.alloc(), "rename", path, error)),
+    }
+}
+
+fn sync_one(rt: &HostRuntime, path: &str) -> Result<(), Fault> {
+    let file = open(rt, path)?;
+    sync(rt, &file, path)
+}
+
+fn end_of(rt: &HostRuntime, path: &str) -> Result<Metadata, Fault> {
+    let file = open(rt, path)?;
+    stat(rt, &file, path)
+}
+
+// Opens the segment with this number, to append to it.
+fn append_to(rt: &HostRuntime, number: u32) -> Result<File, Fault> {
+    let path = segment_path(rt.alloc(), number)?;
+    let opened = OpenOptions::new()
+        .append(true)
+        .create(true)
+        .open(rt, path.as_str());
+    match opened {
         Ok(file) => Ok(file),
-        Err(error) => Err(Fault::of_call(rt.alloc(), "open", path, error)),
+        Err(error) => Err(Fault::of_call(rt.alloc(), "open", &path, error)),
     }
 }

@@ -1,7 +1,5 @@
 //! The lock of an output directory: one on the file that tells its job.
-use crate::calls::{is_one, look, look_file, open, stat};
-use crate::fault::{Fault, Why};
-use crate::layout::{GONE, JOB};
+use mr_out_layout::{Fault, GONE, JOB, Job, Why, is_one, look, look_file, open, read, stat};
 use std::fs::{File, TryLockError};
 use std::thread;
 use std::time::Duration;
@@ -71,17 +69,21 @@ fn tell_wait(rt: &HostRuntime, waited: u64, is_told: bool) -> bool {
     true
 }
 
-/// Opens the file that tells the job, and takes the lock on it. The file is still the one of that name then.
-pub(crate) fn locked(rt: &HostRuntime, lock: Lock) -> Result<File, Fault> {
+/// Opens the file that tells the job, reads it, and takes the lock on it. The file is still the one of that name then, and
+/// is never written again.
+pub(crate) fn locked(rt: &HostRuntime, lock: Lock) -> Result<(File, Job), Fault> {
     for _ in 0..100 {
         let Some(named) = look_file(rt, JOB)? else {
             return Err(absent(rt));
         };
         let file = open(rt, JOB)?;
+        let job = Job::read(rt.alloc(), &read(rt, JOB)?)?;
         wait(rt, &file, lock)?;
         let held = stat(rt, &file, JOB)?;
         match look_file(rt, JOB)? {
-            Some(still) if is_one(&held, &still) && is_one(&held, &named) => return Ok(file),
+            Some(still) if is_one(&held, &still) && is_one(&held, &named) => {
+                return Ok((file, job));
+            }
             _ => {}
         }
     }

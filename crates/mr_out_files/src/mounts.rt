@@ -1,6 +1,5 @@
 //! On which kind of disk a folder lies, by what the system tells of its mounts.
-use crate::fault::Fault;
-use crate::job::told;
+use mr_out_layout::{Fault, told};
 use std::env;
 
 // What the system tells of mounts: a line each.

@@ -81,7 +81,7 @@ acts-order c Holds = holds-order c c.order
 acts-order c LinksNext = links-order c c.left
 acts-order c EmptiesNext = empties-order c c.kept
 
-heard-order : (c : Command) (answer : Answer) → (heard c answer).order ≡ c.order
+pub heard-order : (c : Command) (answer : Answer) → (heard c answer).order ≡ c.order
 heard-order c (Says reply) = acts-order c (turn c.phase reply)
 heard-order c (Told rs) = by (is_reading c.phase)
   where

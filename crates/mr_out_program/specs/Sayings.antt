@@ -1,7 +1,7 @@
 -- What a command says of how it ended, and its exit status. Our own; the statuses are those of mrsim. 75 is EX_TEMPFAIL of sysexits.h: to be tried later.
 use Rattle.std.specs.Prelude.{ℕ, Bool, true, false, List, [], codes, Option, Some, None}
-use Rattle.mr_out_files.specs.declared.fault.Fault.{Fault}
-use Rattle.mr_out_files.specs.declared.fault.Fault.TheVariants as fault
+use Rattle.mr_out_layout.specs.declared.fault.Fault.{Fault}
+use Rattle.mr_out_layout.specs.declared.fault.Fault.TheVariants as fault
 use Rattle.mr_out_steps.specs.declared.order.Outcome.{Outcome}
 use Rattle.mr_out_steps.specs.declared.order.Outcome.TheVariants as outcome
 use Rattle.mr_out_steps.specs.declared.standing.Standing.{Standing}

@@ -1,7 +1,8 @@
 //! A command is carried out, and what comes of it is told.
-ghost use Rattle.std.specs.Prelude.{◌≡◌, [], IfOk};
+ghost use Rattle.std.specs.Prelude.{◌≡◌, [], Some, IfOk};
 ghost use Rattle.std.specs.String.{string_bytes};
-ghost use Rattle.mr_out_program.specs.Sayings.{text_of, message_of, status_of, fault_status};
+ghost use Rattle.mr_out_program.specs.Sayings.{fault_status, order_saying, publish_saying};
+ghost use Rattle.mr_out_program.specs.Carried.{CarriesAndTells, Forgets, Says, SaysIfAny};
 
 use crate::asked::{Asked, Command, Failing};
 use crate::attempts::{attempt, attempt_all, done, fail_all, fail_one, fail_task};
@@ -10,7 +11,9 @@ use crate::ending::settle;
 use crate::saying::{Saying, order_saying, publish_saying};
 use crate::standing::status;
 use mr_ids::AttemptId;
-use mr_out_files::{Directory, Fault, GONE, Lock, Why, host_of, remove_folder, sync_folder};
+use mr_out_files::{Directory, Lock};
+use mr_out_layout::{Fault, GONE, Why, host_of, sync_folder};
+use mr_out_removal::remove_folder;
 use mr_out_steps::Order;
 use std::io;
 
@@ -29,6 +32,7 @@ impl Answered {
     /// A status with nothing to print.
     pub(crate) fn plain(rt: &HostRuntime, status: u8) -> Answered
         ensures prints { string_bytes result.output ≡ [] }
+        ensures says { string_bytes result.message ≡ [] }
         ensures ends { result.status ≡ status }
     {
         Answered {
@@ -52,12 +56,14 @@ impl Answered {
 
     /// What a command says of how it ended.
     pub(crate) fn said(rt: &HostRuntime, saying: Saying) -> Result<Answered, Fault>
-        ensures prints { IfOk result (λ a. string_bytes a.output ≡ text_of saying) }
-        ensures says { IfOk result (λ a. string_bytes a.message ≡ message_of saying) }
-        ensures ends { IfOk result (λ a. a.status ≡ status_of saying) }
+        ensures { SaysIfAny (Some saying) result }
     {
-        let output = String::from_str(rt.alloc(), saying.text())?;
-        let message = String::from_str(rt.alloc(), saying.message())?;
+        let Ok(output) = String::from_str(rt.alloc(), saying.text()) else {
+            return Err(Fault::NoMemory);
+        };
+        let Ok(message) = String::from_str(rt.alloc(), saying.message()) else {
+            return Err(Fault::NoMemory);
+        };
         Ok(Answered {
             output,
             message,
@@ -145,8 +151,8 @@ fn open_here(
     asked: &Asked<'_>,
     handing: Option<AttemptId>,
 ) -> Result<Directory, Fault> {
-    let directory = open_any(rt, asked, false, handing)?;
     let host = host_of(rt)?;
+    let directory = open_any(rt, asked, false, handing)?;
     if directory.job.host != host {
         return Err(Fault::refused(rt.alloc(), ".", Why::OtherHost));
     }
@@ -171,14 +177,37 @@ fn open_any(
     Directory::open(rt, asked.dir, lock, handing)
 }
 
-fn publish(rt: &HostRuntime, directory: &mut Directory) -> Result<Answered, Fault> {
-    let outcome = settle(rt, directory, Order::Publish)?;
-    Answered::said(rt, publish_saying(outcome))
+/// A held job is published, if each task is won.
+#[tactic(auto, using(crate::proofs::Telling::tells_ok, crate::proofs::Telling::tells_err))]
+pub fn publish(rt: &HostRuntime, directory: &mut Directory) -> Result<Answered, Fault>
+    ensures { CarriesAndTells Order.Publish (λ end. Some (publish_saying end)) directory.old directory.new result }
+{
+    match settle(rt, directory, Order::Publish) {
+        Ok(end) => Answered::said(rt, publish_saying(end)),
+        Err(fault) => Err(fault),
+    }
 }
 
-fn abort(rt: &HostRuntime, directory: &mut Directory) -> Result<Answered, Fault> {
-    let outcome = settle(rt, directory, Order::Abort)?;
-    Answered::said(rt, order_saying(outcome))
+/// The job is ended as failed.
+#[tactic(auto, using(crate::proofs::Telling::tells_ok, crate::proofs::Telling::tells_err))]
+pub fn abort(rt: &HostRuntime, directory: &mut Directory) -> Result<Answered, Fault>
+    ensures { CarriesAndTells Order.Abort (λ end. Some (order_saying end)) directory.old directory.new result }
+{
+    match settle(rt, directory, Order::Abort) {
+        Ok(end) => Answered::said(rt, order_saying(end)),
+        Err(fault) => Err(fault),
+    }
+}
+
+/// What a killed command left is finished.
+#[tactic(auto, using(crate::proofs::Telling::tells_ok, crate::proofs::Telling::tells_err))]
+pub fn recover(rt: &HostRuntime, directory: &mut Directory) -> Result<Answered, Fault>
+    ensures { CarriesAndTells Order.Resume (λ end. Some Saying.Done) directory.old directory.new result }
+{
+    match settle(rt, directory, Order::Resume) {
+        Ok(_) => Answered::said(rt, Saying::Done),
+        Err(fault) => Err(fault),
+    }
 }
 
 fn resume(rt: &HostRuntime, asked: &Asked<'_>, here: bool) -> Result<Answered, Fault> {
@@ -197,8 +226,7 @@ fn finish(rt: &HostRuntime, dir: &str, wait: Option<u64>) -> Result<Answered, Fa
         wait,
         command: Command::Abort,
     };
-    settle(rt, &mut open(rt, &asked)?, Order::Resume)?;
-    Ok(Answered::plain(rt, 0))
+    recover(rt, &mut open(rt, &asked)?)
 }
 
 // Removes the history of a published directory. What a killed one left is removed too, once it is durable that it has its
@@ -219,18 +247,34 @@ fn forget(rt: &HostRuntime, asked: &Asked<'_>) -> Result<Answered, Fault> {
     }
 }
 
-fn forget_published(rt: &HostRuntime, directory: &mut Directory) -> Result<Answered, Fault> {
-    let outcome = settle(rt, directory, Order::Forget)?;
-    match order_saying(outcome) {
+/// The history of a published job is forgotten, and removed.
+#[tactic(auto, using(crate::proofs::Telling::forgets_ok, crate::proofs::Telling::forgets_err))]
+pub fn forget_published(rt: &HostRuntime, directory: &mut Directory) -> Result<Answered, Fault>
+    ensures { Forgets directory.old directory.new result }
+{
+    match settle(rt, directory, Order::Forget) {
+        Ok(end) => forgotten(rt, order_saying(end)),
+        Err(fault) => Err(fault),
+    }
+}
+
+#[tactic(auto, using(crate::proofs::Telling::said_ok))]
+fn forgotten(rt: &HostRuntime, saying: Saying) -> Result<Answered, Fault>
+    ensures { IfOk result (Says saying) }
+{
+    match saying {
         Saying::Done => remove_gone(rt),
         saying => Answered::said(rt, saying),
     }
 }
 
-fn remove_gone(rt: &HostRuntime) -> Result<Answered, Fault> {
+#[tactic(auto, using(crate::proofs::Telling::said_ok))]
+fn remove_gone(rt: &HostRuntime) -> Result<Answered, Fault>
+    ensures { IfOk result (Says Saying.Done) }
+{
     match remove_folder(rt, GONE) {
-        Ok(()) => Ok(Answered::plain(rt, 0)),
-        Err(error) if error.kind() == io::ErrorKind::NotFound => Ok(Answered::plain(rt, 0)),
+        Ok(()) => Answered::said(rt, Saying::Done),
+        Err(error) if error.kind() == io::ErrorKind::NotFound => Answered::said(rt, Saying::Done),
         Err(error) => Err(Fault::of_call(rt.alloc(), "remove", GONE, error)),
     }
 }

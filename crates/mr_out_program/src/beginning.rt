@@ -1,11 +1,14 @@
 //! The command `begin`.
+ghost use Rattle.std.specs.Prelude.{IsTrue};
+ghost use Rattle.std.specs.String.{string_bytes};
+ghost use Rattle.mr_out_layout.specs.Faults.{IsRefusal};
+ghost use Rattle.mr_out_program.specs.Asking.{IsAlike};
+
 use crate::answering::Answered;
 use crate::asked::Asked;
 use mr_ids::JobId;
-use mr_out_files::{
-    Directory, Fault, Job, Lock, Why, absolute, begin as make, host_of, is_suffix, name_of,
-    sync_folder,
-};
+use mr_out_files::{Directory, Lock, begin as make, name_of};
+use mr_out_layout::{Fault, Job, Why, absolute, host_of, is_suffix, sync_folder};
 use std::random::RandomSource;
 use std::time::Clock;
 
@@ -100,7 +103,9 @@ fn is_there(
     }
 }
 
-fn not_a_job(fault: Fault, path: String) -> Fault {
+fn not_a_job(fault: Fault, path: String) -> Fault
+    ensures { IsRefusal (string_bytes path) Why.There result }
+{
     match fault {
         Fault::NoMemory => Fault::NoMemory,
         _other => Fault::Refused {
@@ -110,6 +115,9 @@ fn not_a_job(fault: Fault, path: String) -> Fault {
     }
 }
 
-fn is_alike(a: &Job, b: &Job) -> bool {
+fn is_alike(a: &Job, b: &Job) -> bool
+    ensures yes { IsTrue result → IsAlike a.now b.now }
+    ensures no { IsAlike a.now b.now → IsTrue result }
+{
     a.tasks == b.tasks && a.limit == b.limit && a.suffix == b.suffix && a.hold == b.hold
 }

@@ -1,47 +1,39 @@
 //! A command is carried out on a real disk, call by call.
-use mr_out_command::Command;
-use mr_out_disk::{Answer, Call, Folder, Place, Reply};
+ghost use Rattle.mr_out_program.specs.Carried.{CarriesOut};
+ghost use Rattle.mr_out_program.specs.inner.Advance.{Advances};
+
 use mr_out_files::Directory;
+use mr_out_machine::Command;
 use mr_out_steps::{Order, Outcome};
 
-/// Makes the calls of a command until it has ended. What attempts wrote is removed once the job is published for good,
-/// which is once the marker is durable.
-pub fn carry_out(rt: &HostRuntime, directory: &mut Directory, order: Order) -> Outcome {
+/// Makes the calls of a command until it has ended. Just its calls are made, each once the answers before it were taken,
+/// and it ends as the step machine that took these answers.
+#[tactic(auto, using(crate::proofs::Advancing::one_made, crate::proofs::Advancing::all_made, crate::proofs::Advancing::too_many))]
+pub fn carry_out(rt: &HostRuntime, directory: &mut Directory, order: Order) -> Outcome
+    ensures { CarriesOut order directory.old directory.new result }
+{
     let (id, tasks) = (directory.job.id, directory.job.tasks);
     let (limit, hold) = (directory.job.limit, directory.job.hold);
     let mut command = Command::new(rt.alloc(), order, id, tasks, limit, hold);
-    let mut is_marked = false;
     for _ in 0..u64::MAX {
-        let Some(call) = command.call() else {
-            break;
-        };
-        let answer = directory.perform(rt, call);
-        is_marked = is_marked || marks(call, &answer);
-        if is_marked && call == Call::SyncFolder(Folder::Output) && is_done(&answer) {
-            is_marked = false;
-            command.took(swept(rt, directory));
-        } else {
-            command.took(answer);
+        if let Some(outcome) = advance(rt, directory, &mut command) {
+            return outcome;
         }
     }
-    command.outcome().unwrap_or(Outcome::Failed)
+    Outcome::Failed
 }
 
-// The marker is durable: what attempts wrote is removed. Where that fails, the next command does it again.
-fn swept(rt: &HostRuntime, directory: &mut Directory) -> Answer {
-    if directory.sweep(rt) {
-        Answer::Says(Reply::Done)
-    } else {
-        Answer::Says(Reply::Failed)
+// Makes the next call of a command, and hands it the answer. How it ended, where it has no next call.
+#[tactic(auto, using(crate::proofs::Advancing::ended_so))]
+fn advance(rt: &HostRuntime, directory: &mut Directory, command: &mut Command) -> Option<Outcome>
+    ensures { Advances command.old directory.old command.new directory.new result }
+{
+    match command.call() {
+        Some(call) => {
+            let answer = directory.perform(rt, call);
+            command.took(answer);
+            None
+        }
+        None => command.outcome(),
     }
-}
-
-// The marker is there.
-fn marks(call: Call, answer: &Answer) -> bool {
-    call == Call::Create(Place::Marker)
-        && matches!(answer, Answer::Says(Reply::Done | Reply::Taken))
-}
-
-fn is_done(answer: &Answer) -> bool {
-    matches!(answer, Answer::Says(Reply::Done))
 }

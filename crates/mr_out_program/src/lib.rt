@@ -7,9 +7,17 @@
 //!
 //! # What is proved
 //!
-//! Safety, and that each call returns but for the wait for the lock; which words and which exit status stand for each
-//! outcome, and which status for each fault (`specs/Sayings.antt`). What a command does of each answer of the disk is
-//! mr_out_command's; `carry_out` makes the call that it names, and hands it the answer. Other texts are only tested.
+//! - Safety, and that each call returns but for the wait for the lock.
+//! - `carry_out`: what is recorded of the calls of an order, with the disk's answers, is what its step machine makes
+//!   (mr_out_calls), and the order ends as the machine that took these answers.
+//! - `attempt`, `done`, `fail_one`, `publish`, `abort`, `recover`, `forget_published`, in a directory that is open: one such
+//!   order is carried out, and what is to be printed, with the exit status, is what its end is told by
+//!   (`specs/Carried.antt`, `specs/Sayings.antt`).
+//! - Which status stands for each fault.
+//! - `attempt_all`, `fail_task`, `fail_all`: such orders are carried out, one after another (`specs/Turns.antt`).
+//!
+//! That `answer` opens the directory and calls the function that the words name is read in the code; what `status` tells
+//! too. Other texts are only tested.
 #![tactic(auto)]
 
 mod answering;
@@ -22,7 +30,8 @@ mod saying;
 mod standing;
 mod words;
 
-pub use answering::{Answered, answer};
+pub use answering::{Answered, abort, answer, forget_published, publish, recover};
 pub use asked::{Asked, Command, Failing};
+pub use attempts::{attempt, attempt_all, done, fail_all, fail_one, fail_task};
 pub use carrying::carry_out;
 pub use words::{asked_of, subcommands};

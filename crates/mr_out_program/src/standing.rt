@@ -1,34 +1,54 @@
 //! How a job stands, by the records that are durable.
-ghost use Rattle.std.specs.Prelude.{◌≡◌};
+ghost use Rattle.std.specs.Prelude.{◌≡◌, IfOk};
+ghost use Rattle.std.specs.String.{string_bytes};
+ghost use Rattle.mr_out_steps.specs.Standing.{task_of};
 ghost use Rattle.mr_out_program.specs.Sayings.{yes_or_no, outcome_word};
+ghost use Rattle.mr_out_program.specs.Asking.{to_give_up, won_line};
+ghost use Rattle.mr_out_files.specs.Made.{Keeps};
+ghost use Rattle.mr_out_program.specs.Turns.{Reads, Syncs};
 
 use crate::answering::Answered;
 use mr_history::{Record, Records};
 use mr_ids::{AttemptId, TaskId, TaskKind};
-use mr_out_command::{first_alive, is_alive_at, is_over, successes, winner, winners};
 use mr_out_disk::{Answer, Call, Folder, Reply};
-use mr_out_files::{DECISION, Directory, Fault, MARKER, Why, kept_path, part_name};
+use mr_out_files::Directory;
+use mr_out_layout::{DECISION, Fault, MARKER, Why, kept_path, part_name};
+use mr_out_machine::{first_alive, is_alive_at, is_over, successes, winner, winners};
 use std::fs;
 
 /// The records of the history, once they are durable.
-pub fn read_records(rt: &HostRuntime, directory: &mut Directory) -> Result<Records, Fault> {
-    let Answer::Told(records) = directory.perform(rt, Call::ReadHistory) else {
-        return Err(trouble(rt, directory));
-    };
+#[tactic(auto, using(crate::proofs::Turning::reads_synced, crate::proofs::Turning::reads_failed))]
+pub fn read_records(rt: &HostRuntime, directory: &mut Directory) -> Result<Records, Fault>
+    ensures { Reads directory.old directory.new result }
+{
+    match directory.perform(rt, Call::ReadHistory) {
+        Answer::Told(records) => synced(rt, directory, records),
+        _ => Err(trouble(rt, directory)),
+    }
+}
+
+#[tactic(auto, using(crate::proofs::Turning::syncs_failed))]
+fn synced(rt: &HostRuntime, directory: &mut Directory, records: Records) -> Result<Records, Fault>
+    ensures { Syncs records directory.old directory.new result }
+{
     match directory.perform(rt, Call::SyncHistory) {
         Answer::Says(Reply::Done) => Ok(records),
         _ => Err(trouble(rt, directory)),
     }
 }
 
-fn trouble(rt: &HostRuntime, directory: &mut Directory) -> Fault {
+fn trouble(rt: &HostRuntime, directory: &mut Directory) -> Fault
+    ensures { Keeps directory.old directory.new }
+{
     match directory.trouble() {
         Some(fault) => fault,
         None => Fault::refused(rt.alloc(), "_mrout", Why::Foreign),
     }
 }
 
-fn task_of(directory: &Directory, number: u32) -> TaskId {
+fn task_of(directory: &Directory, number: u32) -> TaskId
+    ensures { result ≡ task_of directory.now.job.id number }
+{
     TaskId {
         job: directory.job.id,
         kind: TaskKind::Reduce,
@@ -37,7 +57,9 @@ fn task_of(directory: &Directory, number: u32) -> TaskId {
 }
 
 /// The first attempt that is under way at a task that has no winner.
-pub fn first_alive_of(directory: &Directory, records: &Records, task: u32) -> Option<AttemptId> {
+pub fn first_alive_of(directory: &Directory, records: &Records, task: u32) -> Option<AttemptId>
+    ensures { result ≡ to_give_up records.now (task_of directory.now.job.id task) }
+{
     let task = task_of(directory, task);
     let records = records.as_slice();
     if is_over(records) || winner(records, &task).is_some() {
@@ -103,7 +125,9 @@ fn won_line(
     a: AttemptId,
     bytes: u64,
     json: bool,
-) -> Result<String, Fault> {
+) -> Result<String, Fault>
+    ensures { IfOk result (λ s. string_bytes s ≡ won_line json number a bytes) }
+{
     if json {
         return Ok(format!(in rt.alloc();
             "{{\"task\":{number},\"state\":\"won\",\"attempt\":\"{a}\",\"bytes\":{bytes}}}\n"

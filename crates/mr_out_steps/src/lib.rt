@@ -12,7 +12,7 @@
 //! # What is proved
 //!
 //! `Phase::call`, `outcome` and `hears` are exactly `call_in`, `outcome_in` and `turn`: one table of phases and words.
-//! The lists behind them are those of mr_out_command.
+//! The lists behind them are those of mr_out_machine.
 #![tactic(auto)]
 
 mod order;

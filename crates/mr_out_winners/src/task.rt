@@ -5,7 +5,7 @@ ghost use Rattle.mr_out_winners.specs.Tasks.{as_part, length_of, part_at, part_n
 
 use mr_history::Record;
 use mr_ids::{AttemptId, JobId, TaskId, TaskKind};
-use mr_out_command::winner;
+use mr_out_machine::winner;
 use std::alloc::{AllocError, Global};
 
 /// How long the file is that an attempt handed in, as it was noted.

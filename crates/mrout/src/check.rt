@@ -4,7 +4,7 @@ use crate::request::Request;
 use crate::walk::{Marker, Walked, list, look_at_marker};
 use crate::winners::put_winners;
 use mr_out_check::{Answer, CheckFault, Looked, Told, look, put_answer};
-use mr_out_files::{Fault, read_recorded};
+use mr_out_layout::{Fault, read_recorded};
 use mr_out_listing::Format;
 use std::alloc::{AllocError, Global};
 use std::fs::File;

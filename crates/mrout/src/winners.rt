@@ -2,8 +2,8 @@
 use crate::request::Request;
 use crate::walk::{Marker, Walked};
 use mr_out_check::Answer;
-use mr_out_command::is_over;
-use mr_out_files::{Length, Recorded};
+use mr_out_layout::{Length, Recorded};
+use mr_out_machine::is_over;
 use mr_out_winners::{Measured, find, put_answer, tasks_of};
 use std::alloc::{AllocError, Global};
 

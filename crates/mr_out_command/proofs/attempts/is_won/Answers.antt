@@ -1,6 +1,0 @@
-use Rattle.std.proofs.Common.{◌∙◌}
-use Rattle.mr_out_command.proofs.Fewer.{same_has}
-use Rattle.mr_out_command.proofs.attempts.is_won.Goals as goal
-
-pub returns : goal.returns
-returns c = c.has_winner.ensures ∙ same_has c.args.successes.now c.args.records.now c.args.task.now c.requires

@@ -1,6 +1,0 @@
-use Rattle.std.proofs.Common.{◌∙◌}
-use Rattle.mr_out_command.proofs.Same.{task-same}
-use Rattle.mr_out_command.proofs.standing.is_same_task.Goals as goal
-
-pub returns : goal.returns
-returns c = c.eq.ensures ∙ task-same c.args.a.now c.args.b.now

@@ -1,0 +1,5 @@
+-- Layout (which path each name has), Faults, Jobs and Segments (what bytes tell). What a disk holds no contract can say.
+pub mod Layout
+pub mod Faults
+pub mod Jobs
+pub mod Segments

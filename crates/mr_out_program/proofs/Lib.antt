@@ -1,0 +1,3 @@
+pub mod Advancing
+pub mod Telling
+pub mod Turning
