@@ -1,5 +1,5 @@
--- A run of a plan goes on: it stays as planned, and what its calls say of it.
-use Rattle.std.proofs.Common.{◌≡◌, ◌⊎◌, ℕ, suc, ◌+◌, Bool, true, false, not, ◌||◌, List, [], Option, Some, None, Result, Ok, Err, OnErr, is_none, is_some, if◌then◌else◌, nat_eq, refl, sym, ap, subst, inl, inr, arith, ◌∙◌}
+-- A run of a plan goes on: it stays as planned.
+use Rattle.std.proofs.Common.{◌≡◌, ◌⊎◌, ℕ, suc, ◌+◌, Bool, true, false, not, ◌||◌, List, [], Option, Some, None, Result, Ok, Err, is_none, is_some, if◌then◌else◌, nat_eq, refl, sym, ap, subst, inl, inr, arith, ◌∙◌}
 use Rattle.mr_world_events.specs.declared.event.Event.{Event}
 use Rattle.mr_world_events.specs.declared.event.Event.TheVariants as event
 use Rattle.mr_world_events.specs.declared.plan.PlanAct.{PlanAct}
@@ -16,8 +16,7 @@ use Rattle.mr_board.specs.mr_world_state.specs.declared.fault.WorldFault.{WorldF
 use Rattle.mr_board.specs.mr_world_state.specs.declared.fault.WorldFault.TheVariants as fault
 use Rattle.mr_board.specs.Boards.{Applies, Done, Hands, IsDue, Makes, Noted, Seated, is_computed}
 use Rattle.mr_board_report.specs.Following.{Made, Opens, Planned, Refused, Started, Went, comes_by_itself, due, event_of, has_crashed, with_event}
-use Rattle.mr_board_report.specs.declared.fault.DriveFault.{DriveFault}
-use Rattle.mr_board_report.specs.Runs.{Changes, Running, is_held, told_of}
+use Rattle.mr_board_report.specs.Runs.{Running, is_held}
 use Rattle.mr_board_report.proofs.Deciding.{due-or-not}
 use Rattle.mr_board_report.proofs.Success.{numbers-decide}
 
@@ -132,59 +131,6 @@ module _ (v : Running) (b b' : Noted) (s s' : Seated) (faults : List PlanFault) 
 
   pub fault-full : (g : WorldFault) → Applies b s e (Err g) b' s' → Planned faults came b'.world
   fault-full g applies = still faults came b.world b'.world planned (makes (Err g) applies).0.1
-
--- ---- what its calls say
-
-kept-still : (b b' : Noted) (s s' : Seated) (e : Event) (f : WorldFault) → Applies b s e (Err f) b' s' → b' ≡ b
-kept-still b b' s s' e f applies = by (is_computed e) refl where
-  by : (computed : Bool) → is_computed e ≡ computed → b' ≡ b
-  by true is = (applies.1 is).1
-  by false is = (applies.0 is).1.0
-
-pub changes : (b b' : Noted) (s s' : Seated) (faults : List PlanFault) (came : ℕ) (e : Event) (r : Result Took WorldFault) → Applies b s e r b' s' → Changes (running b faults came) s.number e (told_of r) (running b' faults came)
-changes b b' s s' faults came e (Ok took) applies = by (is_computed e) refl where
-  by : (computed : Bool) → is_computed e ≡ computed → Changes (running b faults came) s.number e (told_of (Ok took)) (running b' faults came)
-  by true is = absurd (cc ((applies.1 is).0))
-  by false is =
-      let makes = applies.0 is in
-      λ i. record { number = makes.1.0 i; world = makes.0.journal i; by = makes.1.1 i; faults = faults; came = came }
-changes b b' s s' faults came e (Err (fault.NotNow why)) applies = ap (λ (x : Noted). running x faults came) (kept-still b b' s s' e (fault.NotNow why) applies)
-changes b b' s s' faults came e (Err fault.Full) applies = ap (λ (x : Noted). running x faults came) (kept-still b b' s s' e fault.Full applies)
-changes b b' s s' faults came e (Err fault.NoMemory) applies = ap (λ (x : Noted). running x faults came) (kept-still b b' s s' e fault.NoMemory applies)
-
--- a fault that is told changed nothing
-pub unchanged : {A : Type 0} (x y : A) (r : Result Took WorldFault) → OnErr r (x ≡ y) → OnErr (told_of r) (x ≡ y)
-unchanged x y (Ok took) h = tt
-unchanged x y (Err (fault.NotNow why)) h = tt
-unchanged x y (Err fault.Full) h = h
-unchanged x y (Err fault.NoMemory) h = h
-
-pub changes-nothing : (r r' : Running) (seat : ℕ) (e : Event) (told : Result Bool DriveFault) → Changes r seat e told r' → OnErr told (r' ≡ r)
-changes-nothing r r' seat e (Ok true) h = tt
-changes-nothing r r' seat e (Ok false) h = tt
-changes-nothing r r' seat e (Err f) h = h
-
--- ---- the same of what a run is seen as
-
-module _ (v : Running) (b b' : Noted) (faults : List PlanFault) (came : ℕ) (is : running b faults came ≡ v) (r : Result Took WorldFault) (told : Result Bool DriveFault) (told-is : told ≡ told_of r) where
-  pub changes_from : (s s' : Seated) (e : Event) → Applies b s e r b' s' → Changes v s.number e told (running b' faults came)
-  changes_from s s' e applies =
-      subst (λ (x : Running). Changes x s.number e told (running b' faults came)) is
-      (subst (λ (t : Result Bool DriveFault). Changes (running b faults came) s.number e t (running b' faults came)) (sym told-is) (changes b b' s s' faults came e r applies))
-
-  pub unchanged_from : OnErr r (b' ≡ b) → OnErr told (running b' faults came ≡ v)
-  unchanged_from same = subst (λ (t : Result Bool DriveFault). OnErr t (running b' faults came ≡ v)) (sym told-is) (unchanged (running b' faults came) v r (lifted r same)) where
-    lifted : (q : Result Took WorldFault) → OnErr q (b' ≡ b) → OnErr q (running b' faults came ≡ v)
-    lifted (Ok took) h = tt
-    lifted (Err f) h = ap (λ (x : Noted). running x faults came) h ∙ is
-
-pub kept-if : (b b' : Noted) (s s' : Seated) (e : Event) (r : Result Took WorldFault) → Applies b s e r b' s' → OnErr r (b' ≡ b)
-kept-if b b' s s' e (Ok took) applies = tt
-kept-if b b' s s' e (Err f) applies = kept-still b b' s s' e f applies
-
--- a fault that was refused changed nothing
-pub full-changes-nothing : (v : Running) (b b' : Noted) (s s' : Seated) (faults : List PlanFault) (came : ℕ) (e : Event) (f : WorldFault) → running b faults came ≡ v → Applies b s e (Err f) b' s' → running b' faults came ≡ v
-full-changes-nothing v b b' s s' faults came e f is applies = ap (λ (x : Noted). running x faults came) (kept-still b b' s s' e f applies) ∙ is
 
 -- what is due of a run is what is due of its parts
 pub free-of : (v : Running) (b : Noted) (faults : List PlanFault) (came : ℕ) (held : Bool) → running b faults came ≡ v → held ≡ is_held v → held ≡ false → (has_crashed (world_in b.world) || is_some (due faults came b.world)) ≡ false

@@ -1,5 +1,5 @@
 -- What a run that is as planned is, in plain words (our own profile): laws over whole runs.
-use Rattle.std.specs.Prelude.{◌≡◌, ◌⊎◌, ◌<◌, ◌≤◌, ℕ, Bool, true, nat_eq, List, [], ◌∷◌, ◌++◌, length, map, take, slice_get, Some}
+use Rattle.std.specs.Prelude.{◌≡◌, ◌⊎◌, ◌<◌, ◌≤◌, ℕ, Bool, true, nat_eq, List, [], ◌∷◌, ◌++◌, length, map, take, slice_get, Some, Err}
 use Rattle.std.specs.List.{All, flat_map}
 use Rattle.mr_world_events.specs.declared.event.Event.{Event}
 use Rattle.mr_world_events.specs.declared.event.Event.TheVariants as event
@@ -9,7 +9,10 @@ use Rattle.mr_world_events.specs.declared.plan.PlanFault.{PlanFault}
 use Rattle.mr_world_events.specs.declared.why.Why.{Why}
 use Rattle.mr_world_model.specs.Effect.{is_calm, not_now}
 use Rattle.mr_board.specs.mr_world.specs.Journal.{Journal, world_in}
+use Rattle.mr_board.specs.Boards.{Done, Seated}
 use Rattle.mr_board_report.specs.Following.{Planned, event_of}
+use Rattle.mr_board_report.specs.Runs.{HandsIn, MakesDue, MakesPlanned, Running}
+use Rattle.mr_board_report.specs.declared.fault.DriveFault.{DriveFault}
 
 -- ---- what is planned happens
 
@@ -63,3 +66,11 @@ is_quiet (event.Expire k n) = true
 abbrev pub OnlyPlannedFaultsHappen : Type 0
 OnlyPlannedFaultsHappen = (faults : List PlanFault) (came : ℕ) (j : Journal) → Planned faults came j →
     IsPartOf (flat_map acts_of j.events) (map (λ (f : PlanFault). f.act) (take came faults)) × All (λ e. is_quiet e ≡ true) j.events
+
+-- ---- what is refused
+
+-- where a call of a run is refused, the run and the seat are as before
+pub record RefusalsChangeNothing : Type 0 where
+  pub make : (r r' : Running) (s s' : Seated) (e : Event) (f : DriveFault) → MakesPlanned r s e (Err f) r' s' → (r' ≡ r) × (s' ≡ s)
+  pub hand_in : (r r' : Running) (s s' : Seated) (d : Done) (f : DriveFault) → HandsIn r s d (Err f) r' s' → (r' ≡ r) × (s' ≡ s)
+  pub make_due : (r r' : Running) (s s' : Seated) (f : DriveFault) → MakesDue r s (Err f) r' s' → (r' ≡ r) × (s' ≡ s)

@@ -1,5 +1,5 @@
 -- What a report of a driven job says (our own profile). The files are those of the sequential execution (Dean and Ghemawat 3.3).
-use Rattle.std.specs.Prelude.{◌≡◌, ℕ, Bool, true, List, length, map, Some, None}
+use Rattle.std.specs.Prelude.{◌≡◌, ◌⊎◌, ℕ, Bool, true, List, length, map, Option, Some, None}
 use Rattle.mr_user.specs.Computation.{Computation}
 use Rattle.mr_master_model.specs.declared.phase.Phase.TheVariants.{Stopped}
 use Rattle.mr_world_model.specs.Results.{outcome, visible}
@@ -46,15 +46,30 @@ pub record IsReported {K V : Type 0} (job : Computation K V) (plan : Plan) (succ
   -- and then a reader sees the files of the sequential execution, and nothing else
   pub sequential : succeeded ≡ true → ShowsSequential (job_of job) j.config (world_in j)
 
--- why there is no report of a run that these seats made, for a plan: it is another plan's, or they do not account for it; its end was not reached; or there is no memory
-abbrev pub IsUnreported : Plan → Running → List Seated → DriveFault → Type 0
-IsUnreported plan r seats JournalMismatch = ¬ (IsOf plan r × IsAccounted r seats)
-IsUnreported plan r seats TurnsSpent = IsOf plan r × IsAccounted r seats × (IsThrough r.world → ⊥)
-IsUnreported plan r seats NoMemory = IsOf plan r × IsAccounted r seats × IsThrough r.world
-IsUnreported plan r seats _ = ⊥
+-- ---- why there is none
 
--- the same of the world of one that is the plan's, and accounted for
-abbrev pub IsUntold : Journal → DriveFault → Type 0
-IsUntold j TurnsSpent = IsThrough j → ⊥
-IsUntold j NoMemory = IsThrough j
-IsUntold j _ = ⊥
+-- why a run did not come to its end: why its threads stopped, if they did before
+abbrev pub stopping_of : Option DriveFault → DriveFault
+stopping_of (Some stop) = stop
+stopping_of None = TurnsSpent
+
+-- it did not come to its end, for that reason; or it did, and there is no memory for its files
+abbrev pub IsCut : Option DriveFault → Journal → DriveFault → Type 0
+IsCut stop j f = ((f ≡ stopping_of stop) × (IsThrough j → ⊥)) ⊎ ((f ≡ NoMemory) × IsThrough j)
+
+-- Why there is no report of a run for a plan, where these seats made it and its threads stopped for this reason, if for one. Without a world: it is another plan's, or the seats do
+-- not account for it. With one, which is its own: neither, and it is cut.
+abbrev pub IsUnreported : Plan → Running → Option DriveFault → List Seated → DriveFault → Option Journal → Type 0
+IsUnreported plan r stop seats f None = (f ≡ JournalMismatch) × (¬ (IsOf plan r × IsAccounted r seats))
+IsUnreported plan r stop seats f (Some j) = (j ≡ r.world) × IsOf plan r × IsAccounted r seats × IsCut stop j f
+
+-- the same of the world of a run that is the plan's, and accounted for
+abbrev pub IsUntold : Option DriveFault → Journal → DriveFault → Option Journal → Type 0
+IsUntold stop w f None = ⊥
+IsUntold stop w f (Some j) = (j ≡ w) × IsCut stop j f
+
+-- The same, as whoever drives a plan hears it. Without a world: memory was refused before there was a run, or its seats do not account for it. With one: a run of the plan, with its
+-- faults. It did not come to its end, or memory was refused for its files.
+abbrev pub IsUndriven : Plan → DriveFault → Option Journal → Type 0
+IsUndriven plan f None = (f ≡ NoMemory) ⊎ (f ≡ JournalMismatch)
+IsUndriven plan f (Some j) = (j.config ≡ plan.config) × Follows plan j × ((IsThrough j → ⊥) ⊎ (f ≡ NoMemory))

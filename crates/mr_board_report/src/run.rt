@@ -1,11 +1,12 @@
 //! A run of a plan: a board on which the plan's faults come when they are due, and all else is calm.
-ghost use Rattle.std.specs.Prelude.{◌≡◌, ◌↔◌, ◌+◌, ◌<◌, ◌^◌, [], false, true, IfOk, IfErr, IfSome, IsTrue, OnErr, Some};
+ghost use Rattle.std.specs.Prelude.{◌≡◌, ◌↔◌, ◌+◌, ◌<◌, ◌^◌, [], false, true, IfOk, IfErr, IfSome, IsTrue, Some};
 ghost use Rattle.mr_world_model.specs.Effect.{is_calm};
 ghost use Rattle.mr_board.specs.mr_world.specs.Journal.{world_in};
-ghost use Rattle.mr_board.specs.Boards.{Account};
+ghost use Rattle.mr_board.specs.Boards.{Account, Applies};
+ghost use Rattle.mr_world_events.specs.declared.event.Event.TheVariants.{Start};
 ghost use Rattle.mr_board_report.specs.Following.{Planned, comes_by_itself, due, due_after, event_of, has_crashed};
 ghost use Rattle.mr_board_report.specs.Reports.{IsOf};
-ghost use Rattle.mr_board_report.specs.Runs.{Changes, is_held, told_of};
+ghost use Rattle.mr_board_report.specs.Runs.{Comes, HandsIn, MakesDue, MakesPlanned, Steps, board_of, is_held, next_generation, told_of};
 
 use crate::fault::DriveFault;
 use crate::plan::Plan;
@@ -65,7 +66,21 @@ impl<J: Job> Run<J> {
     pub fn is_held(&self) -> bool
         ensures { result ≡ is_held self.now }
     {
-        has_crashed(self.world()) || self.due().is_some()
+        self.has_crashed() || self.due().is_some()
+    }
+
+    // Whether the newest master crashed, and none started behind it.
+    fn has_crashed(&self) -> bool
+        ensures { result ≡ has_crashed (world_in self.now.world) }
+    {
+        has_crashed(self.world())
+    }
+
+    // The generation of the newest master.
+    fn newest(&self) -> u32
+        ensures { result ≡ (world_in self.now.world).fence }
+    {
+        self.world().newest()
     }
 
     // The fault that comes next, if it is due.
@@ -88,7 +103,7 @@ impl<J: Job> Run<J> {
     /// Refusals: `JournalMismatch` where something is due, or the event is no calm one; else `Full` or `NoMemory`, as by
     /// `Board::apply_as`. Nothing has changed then.
     pub fn make(&mut self, seat: &mut Seat, event: Event) -> Result<bool, DriveFault>
-        ensures changes { Changes self.old seat.old.number event result self.new }
+        ensures makes { MakesPlanned self.old seat.old event result self.new seat.new }
     {
         if self.is_held() {
             return Err(DriveFault::JournalMismatch);
@@ -104,7 +119,7 @@ impl<J: Job> Run<J> {
     /// Refusals: `JournalMismatch` where something is due; else `Full` or `NoMemory`, as by `Board::hand_in_as`. Nothing
     /// has changed then.
     pub fn hand_in(&mut self, seat: &mut Seat, done: Finished<J>) -> Result<bool, DriveFault>
-        ensures unchanged { OnErr result (self.new ≡ self.old) }
+        ensures hands { HandsIn self.old seat.old done result self.new seat.new }
     {
         if self.is_held() {
             return Err(DriveFault::JournalMismatch);
@@ -117,11 +132,11 @@ impl<J: Job> Run<J> {
     ///
     /// Refusals: `Full` and `NoMemory`, as by `Board::apply_as`. Nothing has changed then.
     pub fn make_due(&mut self, seat: &mut Seat) -> Result<bool, DriveFault>
-        ensures unchanged { OnErr result (self.new ≡ self.old) }
+        ensures makes { MakesDue self.old seat.old result self.new seat.new }
     {
-        let newest = self.world().newest();
-        if has_crashed(self.world()) {
-            return self.start(seat, newest.saturating_add(1));
+        let newest = self.newest();
+        if self.has_crashed() {
+            return self.start(seat, next_generation(newest));
         }
         if let Some(fault) = self.due() {
             return self.make_fault(seat, newest, fault);
@@ -141,7 +156,7 @@ impl<J: Job> Run<J> {
     // The start behind a crash; nothing of the unflushed history is kept.
     fn start(&mut self, seat: &mut Seat, generation: u32) -> Result<bool, DriveFault>
         requires crashed { has_crashed (world_in self.old.world) ≡ true }
-        ensures unchanged { OnErr result (self.new ≡ self.old) }
+        ensures steps { Steps (λ answer b. Applies (board_of self.old) seat.old (Start generation 0) answer b seat.new) self.old result self.new }
     {
         told_of(
             self.board.apply_as(
@@ -165,7 +180,7 @@ impl<J: Job> Run<J> {
         requires living { has_crashed (world_in self.old.world) ≡ false }
         requires comes { due self.old.faults self.old.came self.old.world ≡ Some fault }
         requires counts { self.old.came + 1 < 2 ^ 64 }
-        ensures unchanged { OnErr result (self.new ≡ self.old) }
+        ensures comes { Comes (λ answer b. Applies (board_of self.old) seat.old (event_of newest fault.act) answer b seat.new) self.old result self.new }
     {
         match self.board.apply_as(seat, event_of(newest, fault.act)) {
             Ok(_took) => {
@@ -211,6 +226,13 @@ fn has_crashed(world: &World) -> bool
 {
     let newest = world.newest();
     0 < newest && world.phase(newest).is_none()
+}
+
+// The generation behind this one, as far as there are numbers.
+fn next_generation(newest: u32) -> u32
+    ensures { result ≡ next_generation newest }
+{
+    newest.saturating_add(1)
 }
 
 // This fault, where it is due after this many events.

@@ -1,24 +1,13 @@
 -- What the threads of a job decide (our own profile). Private contracts cite it; what is promised of a run is the report's.
-use Rattle.std.specs.Prelude.{◌≡◌, ℕ, ◌-◌, List, Option, Some, None, if◌then◌else◌, nat_eq, nat_lt}
+use Rattle.std.specs.Prelude.{ℕ, ◌-◌, Option, Some, None, if◌then◌else◌, nat_eq, nat_lt}
 use Rattle.mr_mapside.specs.declared.fault.WorkFault.{WorkFault}
 use Rattle.mr_mapside.specs.declared.fault.WorkFault.TheVariants as work
 use Rattle.mr_board.specs.mr_world_state.specs.declared.fault.WorldFault.{WorldFault}
 use Rattle.mr_board.specs.mr_world_state.specs.declared.fault.WorldFault.TheVariants as world
 use Rattle.mr_drive.specs.mr_board_report.specs.declared.fault.DriveFault.{DriveFault}
 use Rattle.mr_drive.specs.mr_board_report.specs.declared.fault.DriveFault.TheVariants as drive
-use Rattle.mr_board.specs.Boards.{Seated}
-use Rattle.mr_drive.specs.mr_board_report.specs.Reports.{IsUnreported}
-use Rattle.mr_drive.specs.mr_board_report.specs.Runs.{Running}
-use Rattle.mr_drive.specs.mr_board_report.specs.declared.plan.Plan.{Plan}
 use Rattle.mr_drive.specs.declared.actor.Role.{Role}
 use Rattle.mr_drive.specs.declared.actor.Role.TheVariants as role
-
--- ---- why there is no report
-
--- Of a run that no thread acts on any longer, and its seats: why the threads stopped where that was not the end; else why there is no report of it.
-abbrev pub IsUndriven : Plan → Running → Option DriveFault → List Seated → DriveFault → Type 0
-IsUndriven plan r (Some stop) seats f = f ≡ stop
-IsUndriven plan r None seats f = IsUnreported plan r seats f
 
 -- ---- whom a thread acts for
 

@@ -1,8 +1,9 @@
 //! The threads: one a node, one a master that the plan can start, one for starts and faults. All that waits is here.
-ghost use Rattle.std.specs.Prelude.{◌≡◌, IfOk, IfErr};
+ghost use Rattle.std.specs.Prelude.{◌≡◌, None, IfErr, IfOk};
 ghost use Rattle.mr_user.specs.Computation.{computation};
-ghost use Rattle.mr_board_report.specs.Reports.{IsAccounted, IsReported};
-ghost use Rattle.mr_drive.specs.Driving.{IsUndriven, role_of};
+ghost use Rattle.mr_board_report.specs.Reports.{IsReported, IsUndriven};
+ghost use Rattle.mr_board_report.specs.declared.fault.DriveFault.TheVariants.{NoMemory};
+ghost use Rattle.mr_drive.specs.Driving.{role_of};
 
 use crate::actor::{Actor, Role};
 use crate::condition_variables::ConditionVariables;
@@ -12,7 +13,7 @@ use crate::shared_state::SharedState;
 use crate::turn::Next;
 use mr_board::mr_world::World;
 use mr_board::{Board, Seat};
-use mr_board_report::{Plan, Report, Run, reported};
+use mr_board_report::{Plan, Report, Run, Unreported, reported};
 use mr_user::{Gate, Job};
 use std::alloc::{AllocError, Global};
 use std::sync::{Mutex, Wait};
@@ -25,9 +26,10 @@ use std::thread::Threads;
 /// makes at most `turns` turns, and at most one event in each. A fault of the plan that is due comes before any other
 /// event. Faults that did not come until the end are dropped, and so are those that are not permitted when they come.
 ///
-/// There is no report (`DriveFault`) where turns or the gate's looks are spent, or where no thread finds anything to
-/// do. There is none where a limit would be passed, where a thread can't be made, or where memory was refused. Last,
-/// there is none where the seats do not account for the journal, or a thread tried an event that was not planned.
+/// Where there is no report, `Unreported` tells why, and has the run's world. `TurnsSpent`: turns or the gate's looks are spent,
+/// or no thread finds anything to do. `Full`: a limit would be passed. `Thread`: a thread can't be made. `JournalMismatch`: a
+/// thread tried an event that is not planned, or the seats do not account for the journal. None of these is told of a run
+/// that came to its end and whose seats account for it. `NoMemory`: memory was refused.
 pub fn drive<R: Threads + Wait + Sync, J: Job + Send + Sync, G: Gate + Sync>(
     rt: &R,
     alloc: Global,
@@ -35,17 +37,47 @@ pub fn drive<R: Threads + Wait + Sync, J: Job + Send + Sync, G: Gate + Sync>(
     gate: &G,
     plan: &Plan,
     turns: u64,
-) -> Result<Report, DriveFault>
+) -> Result<Report, Unreported>
 where
     J::Key: Send + Sync,
     J::Value: Send + Sync,
-    ensures { IfOk result (λ r. IsReported (computation J.Key.cmp J.Key.codec J.Value.codec J.functions) plan.now r.succeeded r.files.items r.by.items r.world) }
+    ensures report { IfOk result (λ r. IsReported (computation J.Key.cmp J.Key.codec J.Value.codec J.functions) plan.now r.succeeded r.files.items r.by.items r.world) }
+    ensures none { IfErr result (λ u. IsUndriven plan.now u.fault u.world) }
+{
+    match run_of(rt, alloc, job, gate, plan, turns) {
+        Ok((run, stop, back)) => reported(plan, run, stop, back),
+        Err(e) => Err(undriven(e)),
+    }
+}
+
+// Memory was refused before there was a run to be told of.
+fn undriven(e: AllocError) -> Unreported
+    ensures { (result.fault ≡ NoMemory) × (result.world ≡ None) }
+{
+    Unreported::from(e)
+}
+
+// The number of the one board of a run.
+const BOARD: u64 = 0;
+
+// A run of a plan that no thread acts on any longer, why they stopped where that was not the end, and their seats.
+fn run_of<R: Threads + Wait + Sync, J: Job + Send + Sync, G: Gate + Sync>(
+    rt: &R,
+    alloc: Global,
+    job: &J,
+    gate: &G,
+    plan: &Plan,
+    turns: u64,
+) -> Result<(Run<J>, Option<DriveFault>, Vec<Seat>), AllocError>
+where
+    J::Key: Send + Sync,
+    J::Value: Send + Sync,
 {
     let nodes = plan.config.nodes;
     let seats = nodes.saturating_add(masters(plan)).saturating_add(1);
     let world = match World::new(alloc, plan.config.copy()?) {
         Ok(world) => world,
-        Err(fault) => return Err(DriveFault::from(fault.wants_memory())),
+        Err(fault) => return Err(fault.wants_memory()),
     };
     let (board, all) = Board::new(alloc, job, BOARD, world, seats)?;
     let crew = crew_of(alloc, all, nodes, turns)?;
@@ -61,27 +93,7 @@ where
         conditions: _,
     } = shared;
     let (run, stop) = state.into_inner().ends();
-    ended(plan, run, stop, back)
-}
-
-// The number of the one board of a run.
-const BOARD: u64 = 0;
-
-// The report of a run that no thread acts on any longer, and why they stopped where that was not the end.
-fn ended<J: Job>(
-    plan: &Plan,
-    run: Run<J>,
-    stop: Option<DriveFault>,
-    back: Vec<Seat>,
-) -> Result<Report, DriveFault>
-    ensures report { IfOk result (λ r. IsReported (computation J.Key.cmp J.Key.codec J.Value.codec J.functions) plan.now r.succeeded r.files.items r.by.items r.world) }
-    ensures is { IfOk result (λ r. (r.world ≡ run.world) × (r.by.items ≡ run.by) × IsAccounted run back.items) }
-    ensures none { IfErr result (IsUndriven plan.now run stop back.items) }
-{
-    if let Some(fault) = stop {
-        return Err(fault);
-    }
-    reported(plan, run, back)
+    Ok((run, stop, back))
 }
 
 // What all threads of a run share: the state under its lock, and where they wait.
@@ -152,7 +164,7 @@ fn run_threads<R: Threads + Wait + Sync, J: Job + Send + Sync, G: Gate + Sync>(
     gate: &G,
     shared: &Shared<J>,
     crew: Vec<Worker>,
-) -> Result<Vec<Seat>, DriveFault>
+) -> Result<Vec<Seat>, AllocError>
 where
     J::Key: Send + Sync,
     J::Value: Send + Sync,
@@ -172,7 +184,7 @@ where
         }
         for handle in handles {
             if back.push(handle.join(rt)).is_err() {
-                return Err(DriveFault::NoMemory);
+                return Err(AllocError);
             }
         }
         Ok(back)

@@ -8,12 +8,14 @@
 //!   journal is what the job's functions give. An outcome was told, or the newest master is Stopped. `files` is what a
 //!   reader of the destination sees. `succeeded` is whether success was told. Where it was, the files are the job's
 //!   sequential execution's, and nothing else (`IsReported`).
+//! - Where there is none, `Unreported` has the fault, and the run's world, unless memory was refused before there was one,
+//!   or its seats do not account for it (`JournalMismatch`). That world is of a run of the plan, which did not come to its
+//!   end, or memory was refused for its files (`IsUndriven`).
 //!
 //! No fact of locks, wakes or joins is used: that a run is as planned is its type's invariant (`Run` of
 //! mr_board_report), and `reported` tests the seats, of which the clause of `drive` does not speak.
 //!
-//! Private contracts (`specs/Driving`) say what a refusal means to a run, and why there is no report of a run that was
-//! given back.
+//! Private contracts (`specs/Driving`) say what a refusal means to a run.
 //!
 //! In no clause: that there is a report, that several works are done at once, and that the gate is entered.
 //!
@@ -35,5 +37,5 @@ mod shared_state;
 mod turn;
 
 pub use driver::drive;
-pub use mr_board_report::{DriveFault, Plan, Report};
+pub use mr_board_report::{DriveFault, Plan, Report, Unreported};
 pub use pair_gate::PairGate;

@@ -97,7 +97,7 @@ where
     plan.config.ranges();
     match drive(rt, rt.alloc(), job, gate, plan, turns) {
         Ok(report) => Ok(report),
-        Err(fault) => Err(fault_of(fault)),
+        Err(unreported) => Err(fault_of(unreported.fault)),
     }
 }
 

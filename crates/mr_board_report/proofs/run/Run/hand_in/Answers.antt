@@ -1,5 +1,10 @@
-use Rattle.mr_board_report.proofs.Running.{free-of, handed, unchanged_from}
+use Rattle.std.proofs.Common.{sym, ◌∙◌}
+use Rattle.mr_board_report.proofs.Calls.{hands-nothing, steps_hand}
+use Rattle.mr_board_report.proofs.Running.{free-of, handed}
 use Rattle.mr_board_report.proofs.run.Run.hand_in.Goals as goal
+
+pub returns-then-is_held : goal.returns-then-is_held
+returns-then-is_held g c = record { hands = hands-nothing c.args.self.now c.args.seat.now c.args.done (sym c.is_held.ensures ∙ c.if-is_held.true) }
 
 pub invariant_of-self : goal.invariant_of-self
 invariant_of-self g c =
@@ -9,6 +14,7 @@ invariant_of-self g c =
 
 pub returns : goal.returns
 returns g c = record {
-  unchanged =
-      unchanged_from c.args.self.now c.self.inside.board c.hand_in_as.new.self c.self.inside.faults c.self.inside.came c.self.view_is c.hand_in_as.result c.told_of.result c.told_of.ensures c.hand_in_as.ensures.unchanged;
+  hands =
+      steps_hand c.args.self.now c.self.inside.board c.hand_in_as.new.self c.args.seat.now c.hand_in_as.new.seat c.self.inside.faults c.self.inside.came c.self.view_is c.args.done c.hand_in_as.result c.told_of.result
+      (sym c.is_held.ensures ∙ c.if-is_held.false) c.told_of.ensures c.hand_in_as.ensures.hands;
 }
