@@ -1,5 +1,5 @@
 -- Why no exploration is begun.
-use Rattle.std.proofs.Common.{ℕ, List, inr, sym}
+use Rattle.std.proofs.Common.{ℕ, false, List, inr, sym}
 use Rattle.mr_sim_commands.specs.declared.fault.SimFault.{SimFault}
 use Rattle.mr_sim_commands.specs.declared.fault.SimFault.TheVariants as fault
 use Rattle.mr_play.specs.declared.player.Player.{Player}
@@ -12,7 +12,7 @@ left_by : (input : List ℕ) (p : Player) → HasPrinted input p → IsLeftBy in
 left_by input p h = record {
   text = text_in p;
   prints = h.prints;
-  is = λ i. record { job = sym h.kind i; config = (sym h.journal i).config; played = sym h.state i };
+  is = λ i. record { job = sym h.kind i; config = (sym h.journal i).config; played = sym h.state i; past_limit = false };
 }
 
 pub begins : (input : List ℕ) (p : Player) (e : Exploring) → HasPrinted input p → StartsFrom (view_of p) e → IsRunOf input e

@@ -8,10 +8,13 @@ use Rattle.mr_explore_search.specs.declared.fault.WalkFault.TheVariants as walk_
 use Rattle.mr_explore_search.specs.declared.ended.Ended.{Ended}
 use Rattle.mr_explore_search.specs.Runs.{Found, PassesLimit}
 use Rattle.mr_explore_search.specs.Taking.{Takes}
-use Rattle.mr_explore_ends.specs.Table.{Came, Table, all_noted, noted}
+use Rattle.mr_explore_ends.specs.Outcomes.{Outcome}
+use Rattle.mr_explore_ends.specs.Table.{Came, ToEnd, ToLimit, Table, all_noted, noted}
+use Rattle.std.specs.Prelude.{if◌then◌else◌}
 use Rattle.std.specs.List.{list_any}
+use Rattle.mr_play.specs.mr_world.specs.Journal.{world_in}
 use Rattle.mr_script.specs.declared.expectation.Expectation.{Expectation}
-use Rattle.mr_explore.specs.Exploring.{Fails, IsFoundLast, Made, MadeOne, MadeRun, Makes, MakesOne, NoneMeets, Remaining, as_found, came, meets_goal}
+use Rattle.mr_explore.specs.Exploring.{Fails, IsFoundLast, IsTimed, Made, MadeOne, MadeRun, Makes, MakesOne, NoneMeets, Remaining, as_found, came, is_stalled, journal_of, meets_goal, outcome_of}
 use Rattle.mr_explore.specs.Runs.{Exploring}
 use Rattle.mr_explore.specs.inner.Players.{fault_of}
 
@@ -25,6 +28,18 @@ walk_made x walk new f e left is h = left ∙ subst (λ (g : Option (Ended Explo
 
 pub none_left : (walk new : List (Found Exploring)) (f : Option (Ended Exploring)) → f ≡ None → Takes walk (Ok f) new → (walk ≡ []) × (new ≡ [])
 none_left walk new f is h = subst (λ (g : Option (Ended Exploring)). Takes walk (Ok g) new) is h
+
+-- ---- what comes of a run
+
+-- a limit forbids its last fault
+pub came_past : (m : MadeRun) → m.run.past_limit ≡ true → came m ≡ ToLimit
+came_past m past = ap (λ (b : Bool). if b then ToLimit else ToEnd (record { end = outcome_of m.run.config (world_in (journal_of m.run)); faults = m.faults; stalled = is_stalled m.run; events = m.run.played.events })) past
+
+-- it came to this end
+pub came_to : (m : MadeRun) (end : Outcome) (stalled : Bool) → m.run.past_limit ≡ false → end ≡ outcome_of m.run.config (world_in (journal_of m.run)) → stalled ≡ is_stalled m.run → came m ≡ ToEnd (record { end = end; faults = m.faults; stalled = stalled; events = m.run.played.events })
+came_to m end stalled none is waits =
+    ap (λ (b : Bool). if b then ToLimit else ToEnd (record { end = outcome_of m.run.config (world_in (journal_of m.run)); faults = m.faults; stalled = is_stalled m.run; events = m.run.played.events })) none
+    ∙ (λ i. ToEnd (record { end = sym is i; faults = m.faults; stalled = sym waits i; events = m.run.played.events }))
 
 -- ---- lists
 
@@ -92,11 +107,11 @@ ran_one n goal old mid new r h =
       table = noted_one_more n goal old mid new r m h.1;
     }
 
-pub ran_out : (n runs : ℕ) (goal : Option (List Expectation)) (old mid new : Remaining) → Ran n goal old mid → n < runs → MakesOne goal mid (Ok false) new → Made runs goal old new
-ran_out n runs goal old mid new r few (inl h) =
+pub ran_out : (n runs : ℕ) (seconds : Option ℕ) (goal : Option (List Expectation)) (old mid new : Remaining) → Ran n goal old mid → n < runs → MakesOne goal mid (Ok false) new → Made runs seconds goal old new
+ran_out n runs seconds goal old mid new r few (inl h) =
     let first = r.count in
-    subst (λ (x : Remaining). Made runs goal old x) (sym h.1) (record { made = r.made; are = r.are; count = (omega (arith, few, first), inr (r.none, inr h.0)); faults = r.faults; table = r.table })
-ran_out n runs goal old mid new r few (inr h) =
+    subst (λ (x : Remaining). Made runs seconds goal old x) (sym h.1) (record { made = r.made; are = r.are; count = (omega (arith, few, first), inr (r.none, inr (inl h.0))); faults = r.faults; table = r.table })
+ran_out n runs seconds goal old mid new r few (inr h) =
     let m = h.0 in
     let one = length-append r.made (m ∷ []) in
     let first = r.count in record {
@@ -107,10 +122,17 @@ ran_out n runs goal old mid new r few (inr h) =
       table = noted_one_more n goal old mid new r m h.1;
     }
 
-pub ran_all : (n runs : ℕ) (goal : Option (List Expectation)) (old new : Remaining) → Ran n goal old new → n ≡ runs → Made runs goal old new
-ran_all n runs goal old new r all =
+pub ran_all : (n runs : ℕ) (seconds : Option ℕ) (goal : Option (List Expectation)) (old new : Remaining) → Ran n goal old new → n ≡ runs → Made runs seconds goal old new
+ran_all n runs seconds goal old new r all =
     let first = r.count in
     record { made = r.made; are = r.are; count = (omega (arith, all, first), inr (r.none, inl (first ∙ all))); faults = r.faults; table = r.table }
+
+-- the time has passed
+pub ran_in_time : (n runs : ℕ) (seconds : Option ℕ) (goal : Option (List Expectation)) (old mid new : Remaining) → Ran n goal old mid → n < runs → MakesOne goal mid (Ok true) new → IsTimed seconds → Made runs seconds goal old new
+ran_in_time n runs seconds goal old mid new r few h timed =
+    let ran = ran_one n goal old mid new r h in
+    let count = ran.count in
+    record { made = ran.made; are = ran.are; count = (omega (arith, few, count), inr (ran.none, inr (inr timed))); faults = ran.faults; table = ran.table }
 
 still_fails : (n runs : ℕ) (goal : Option (List Expectation)) (old mid : Remaining) (f : SimFault) → Ran n goal old mid → n < runs → Fails 1 goal mid f → Fails runs goal old f
 still_fails n runs goal old mid fault.NoMemory r few c = tt
@@ -131,6 +153,6 @@ still_fails n runs goal old mid fault.JobFailed r few c = absurd c
 still_fails n runs goal old mid fault.TurnsSpent r few c = absurd c
 still_fails n runs goal old mid fault.Thread r few c = absurd c
 
-pub ran_failed : (n runs : ℕ) (goal : Option (List Expectation)) (old mid new : Remaining) (f : SimFault) (r : Result (Unit {0}) SimFault) → Ran n goal old mid → n < runs → Fails 1 goal mid f → IsErrAnd r (λ g. g ≡ f) → Makes runs goal old r new
-ran_failed n runs goal old mid new f r ran few h is = let z = err_from_is_err_and r is in
-    subst (λ (y : Result (Unit {0}) SimFault). Makes runs goal old y new) (sym z.1) (subst (λ (g : SimFault). Fails runs goal old g) (sym z.2) (still_fails n runs goal old mid f ran few h))
+pub ran_failed : (n runs : ℕ) (seconds : Option ℕ) (goal : Option (List Expectation)) (old mid new : Remaining) (f : SimFault) (r : Result (Unit {0}) SimFault) → Ran n goal old mid → n < runs → Fails 1 goal mid f → IsErrAnd r (λ g. g ≡ f) → Makes runs seconds goal old r new
+ran_failed n runs seconds goal old mid new f r ran few h is = let z = err_from_is_err_and r is in
+    subst (λ (y : Result (Unit {0}) SimFault). Makes runs seconds goal old y new) (sym z.1) (subst (λ (g : SimFault). Fails runs goal old g) (sym z.2) (still_fails n runs goal old mid f ran few h))

@@ -11,7 +11,7 @@ use Rattle.mr_play.proofs.Playing.{one_end, one_play_text_law}
 use Rattle.mr_explore_search.specs.Runs.{Found, Run, PassesLimit}
 use Rattle.mr_explore.specs.declared.asked.Asked.{Asked}
 use Rattle.mr_explore.specs.Explored.{IsFullExplored, PrintsExplored, goal_of}
-use Rattle.mr_explore.specs.Exploring.{IsFoundLast, IsFullBehind, MadeRun, NoneMeets, as_found, meets_goal}
+use Rattle.mr_explore.specs.Exploring.{IsFoundLast, IsFullBehind, IsTimed, MadeRun, NoneMeets, as_found, meets_goal}
 use Rattle.mr_explore.specs.Laws.{ExploredOrRefused}
 use Rattle.mr_explore.specs.Runs.{CannotStart, Exploring, IsLeftBy, IsRunOf, StartsFrom, newest_in, runs_with, start_first, with}
 
@@ -24,7 +24,7 @@ one_left : (input : List ℕ) (a b : Exploring) → IsLeftBy input a → IsLeftB
 one_left input a b x y =
     let job = ok_is x.prints.job y.prints.job (sym x.prints.said ∙ y.prints.said) in
     let left = one_end within input x.text y.text x.prints y.prints in
-    x.is ∙ ((λ i. record { job = (job i).job; config = config_of (job i); played = left i }) ∙ sym y.is)
+    x.is ∙ ((λ i. record { job = (job i).job; config = config_of (job i); played = left i; past_limit = false }) ∙ sym y.is)
 
 some_is : (x y : Exploring) → Some x ≡ Some y → x ≡ y
 some_is x y e = cc
@@ -81,13 +81,14 @@ apart_found goal (m ∷ made) (k ∷ more) left rest some none e = by (meets_goa
   by false true e s n next = cc
   by false false e s n next = next s n
 
-apart : (most : ℕ) (goal : Option (List Expectation)) (made : List MadeRun) (left all : List (Found Exploring)) → all ≡ map as_found made ++ left → IsFoundLast goal made ⊎ (NoneMeets goal made × ((length made ≡ most) ⊎ (left ≡ []))) → IsFullBehind most goal all → ⊥
-apart most goal made left all are (inl last) full =
-    apart_found goal made full.made left full.rest (ap (list_any (meets_goal goal)) last.are ∙ some_meets goal last.before last.last last.meets) full.none (sym are ∙ full.is)
-apart most goal made left all are (inr k) full = by k.1 where
-  by : (length made ≡ most) ⊎ (left ≡ []) → ⊥
-  by (inl many) = let few = full.few in apart_most made full.made left full.rest (omega (arith, few, many)) (sym are ∙ full.is)
-  by (inr none) = apart_all made full.made full.rest (ap (λ xs. map as_found made ++ xs) (sym none) ∙ (sym are ∙ full.is))
+apart : (most : ℕ) (seconds : Option ℕ) (goal : Option (List Expectation)) (made : List MadeRun) (left all : List (Found Exploring)) → all ≡ map as_found made ++ left → IsFoundLast goal made ⊎ (NoneMeets goal made × ((length made ≡ most) ⊎ ((left ≡ []) ⊎ IsTimed seconds))) → IsFullBehind most goal all → IsTimed seconds
+apart most seconds goal made left all are (inl last) full =
+    absurd (apart_found goal made full.made left full.rest (ap (list_any (meets_goal goal)) last.are ∙ some_meets goal last.before last.last last.meets) full.none (sym are ∙ full.is))
+apart most seconds goal made left all are (inr k) full = by k.1 where
+  by : (length made ≡ most) ⊎ ((left ≡ []) ⊎ IsTimed seconds) → IsTimed seconds
+  by (inl many) = let few = full.few in absurd (apart_most made full.made left full.rest (omega (arith, few, many)) (sym are ∙ full.is))
+  by (inr (inl none)) = absurd (apart_all made full.made full.rest (ap (λ xs. map as_found made ++ xs) (sym none) ∙ (sym are ∙ full.is)))
+  by (inr (inr timed)) = timed
 
 not_none : (x : Exploring) → None ≡ Some x → ⊥
 not_none x e = cc
@@ -99,11 +100,11 @@ starts_not e new newest none (inr s) = s.0 newest
 not_started : (input : List ℕ) (run : Exploring) → IsRunOf input run → CannotStart input → ⊥
 not_started input run r c = starts_not c.before run c.newest c.none (subst (λ (e : Exploring). StartsFrom e run) (one_left input r.before c.before r.left c.left) r.starts)
 
-not_full_law : (asked : Asked) (input text : List ℕ) → PrintsExplored asked input text → IsFullExplored asked input → ⊥
-not_full_law asked input text p (inl f) = one_play_text_law.not_full within input p.is_run.left.text p.is_run.left.prints f
-not_full_law asked input text p (inr (inl c)) = not_started input p.run p.is_run c
+not_full_law : (asked : Asked) (input text : List ℕ) → PrintsExplored asked input text → IsFullExplored asked input → IsTimed asked.seconds
+not_full_law asked input text p (inl f) = absurd (one_play_text_law.not_full within input p.is_run.left.text p.is_run.left.prints f)
+not_full_law asked input text p (inr (inl c)) = absurd (not_started input p.run p.is_run c)
 not_full_law asked input text p (inr (inr w)) =
-    apart asked.most (goal_of asked) p.made p.rest (runs_with asked.faults p.run) p.are p.count.1
+    apart asked.most asked.seconds (goal_of asked) p.made p.rest (runs_with asked.faults p.run) p.are p.count.1
     (subst (λ (e : Exploring). IsFullBehind asked.most (goal_of asked) (runs_with asked.faults e)) (one_run_law input w.run p.run w.is_run p.is_run) w.full)
 
 pub explored_or_refused_law : ExploredOrRefused

@@ -23,14 +23,15 @@ abbrev pub found_in : ℕ → List MadeRun → List (walk.Found Exploring) → F
 found_in faults made rest = record { table = table_of (map came made); faults = faults; whole = no_more rest }
 
 -- Of all runs of the input with at most as many faults as are asked for, the first `asked.most` were made, or all, or those
--- up to the first that came to the end that is sought. This is printed of their ends.
+-- up to the first that came to the end that is sought; or, where a time is given, the first so many as it took. This is
+-- printed of their ends.
 pub record PrintsExplored (asked : Asked) (input text : List ℕ) : Type 0 where
   pub run : Exploring
   pub is_run : IsRunOf input run
   pub made : List MadeRun
   pub rest : List (walk.Found Exploring)
   pub are : runs_with asked.faults run ≡ map as_found made ++ rest
-  pub count : AreEnough asked.most (goal_of asked) made rest
+  pub count : AreEnough asked.most asked.seconds (goal_of asked) made rest
   pub tells : TellsEnds input asked.form (goal_of asked) (found_in asked.faults made rest) text
 
 -- one of the first runs, of as many as are asked for, would pass a limit

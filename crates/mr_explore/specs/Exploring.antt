@@ -1,11 +1,11 @@
 -- What an exploration promises.
-use Rattle.std.specs.Prelude.{◌≡◌, ◌≤◌, ◌<◌, ◌⊎◌, ℕ, Bool, true, false, List, [], ◌∷◌, ◌++◌, length, map, Option, Some, None, Result, Ok, Err}
+use Rattle.std.specs.Prelude.{◌≡◌, ◌≤◌, ◌<◌, ◌⊎◌, ℕ, Bool, true, false, List, [], ◌∷◌, ◌++◌, length, map, Option, Some, None, Result, Ok, Err, if◌then◌else◌}
 use Rattle.std.specs.List.{flat_map, list_any}
 use Rattle.mr_sim_commands.specs.declared.fault.SimFault.{SimFault}
 use Rattle.mr_sim_commands.specs.declared.fault.SimFault.TheVariants as fault
 use Rattle.mr_play.specs.mr_world.specs.Journal.{Journal, world_in}
 use Rattle.mr_play.specs.mr_world.specs.Limits.{within}
-use Rattle.mr_play.specs.Text.{IsFullPlay, PlayFails}
+use Rattle.mr_play.specs.Text.{IsFullPlay, PlayFails, job_as}
 use Rattle.mr_play.specs.WorldText.{visible_text, won_in}
 use Rattle.mr_world_model.specs.Ids.{marker}
 use Rattle.mr_world_model.specs.Content.{entry_at, is_file}
@@ -17,8 +17,9 @@ use Rattle.mr_explore_search.specs.Taking.{no_more}
 use Rattle.mr_script.specs.declared.expectation.Expectation.{Expectation}
 use Rattle.mr_explore_ends.specs.Goals.{meets}
 use Rattle.mr_explore_ends.specs.Outcomes.{Outcome}
-use Rattle.mr_explore_ends.specs.Table.{Came, Table, all_noted, empty}
+use Rattle.mr_explore_ends.specs.Table.{Came, ToEnd, ToLimit, Table, all_noted, empty}
 use Rattle.mr_explore_ends.specs.Text as ends
+use Rattle.mr_explore.specs.Faults.{goes_in_vain}
 use Rattle.mr_explore.specs.Runs.{CannotStart, Exploring, IsRunOf, runs_with}
 
 -- ---- runs that were made
@@ -38,9 +39,15 @@ journal_of e = record { config = e.config; events = e.played.events }
 abbrev pub outcome_of : Config → World → Outcome
 outcome_of cfg w = record { winners = won_in cfg w; marker = is_file (entry_at w.content marker); outcome = outcome w; files = flat_map visible_text (visible w) }
 
--- what a table knows of it
+-- it was ended since it makes no progress
+abbrev pub is_stalled : Exploring → Bool
+is_stalled e = goes_in_vain (job_as e.job) e.config (within e.config) e.played
+
+-- what a table knows of it: its end; or that its last fault would pass a limit
 abbrev pub came : MadeRun → Came
-came m = record { end = outcome_of m.run.config (world_in (journal_of m.run)); faults = m.faults; events = m.run.played.events }
+came m =
+    if m.run.past_limit then ToLimit
+    else ToEnd (record { end = outcome_of m.run.config (world_in (journal_of m.run)); faults = m.faults; stalled = is_stalled m.run; events = m.run.played.events })
 
 -- ---- the end that is sought
 
@@ -49,8 +56,12 @@ abbrev pub is_sought : Option (List Expectation) → Outcome → Bool
 is_sought None end = false
 is_sought (Some goal) end = meets goal end
 
+abbrev pub comes_to : Option (List Expectation) → Came → Bool
+comes_to goal (ToEnd reached) = is_sought goal reached.end
+comes_to goal ToLimit = false
+
 abbrev pub meets_goal : Option (List Expectation) → MadeRun → Bool
-meets_goal goal m = is_sought goal (came m).end
+meets_goal goal m = comes_to goal (came m)
 
 abbrev pub NoneMeets : Option (List Expectation) → List MadeRun → Type 0
 NoneMeets goal made = list_any (meets_goal goal) made ≡ false
@@ -111,21 +122,26 @@ MakesOne goal old (Ok true) new = (m : MadeRun) × MadeOne old m new × (meets_g
 MakesOne goal old (Ok false) new = ((old.left ≡ []) × (new ≡ old)) ⊎ ((m : MadeRun) × MadeOne old m new × (meets_goal goal m ≡ true))
 MakesOne goal old (Err f) new = Fails 1 goal old f
 
--- Where an end is sought, no run is made behind the first that came to it. Else `most` runs were made; or fewer were made, and then no run is left.
-abbrev pub AreEnough : ℕ → Option (List Expectation) → List MadeRun → List (Found Exploring) → Type 0
-AreEnough most goal made rest = (length made ≤ most) × (IsFoundLast goal made ⊎ (NoneMeets goal made × ((length made ≡ most) ⊎ (rest ≡ []))))
+-- a time is given, so any number of runs may be made in it
+abbrev pub IsTimed : Option ℕ → Type 0
+IsTimed None = ⊥
+IsTimed (Some seconds) = Unit {0}
+
+-- Where an end is sought, no run is made behind the first that came to it. Else `most` runs were made; or fewer were made, and then no run is left, or a time is given.
+abbrev pub AreEnough : ℕ → Option ℕ → Option (List Expectation) → List MadeRun → List (Found Exploring) → Type 0
+AreEnough most seconds goal made rest = (length made ≤ most) × (IsFoundLast goal made ⊎ (NoneMeets goal made × ((length made ≡ most) ⊎ ((rest ≡ []) ⊎ IsTimed seconds))))
 
 -- the first of the runs that were left were made, in their order, and noted in the table
-pub record Made (most : ℕ) (goal : Option (List Expectation)) (old new : Remaining) : Type 0 where
+pub record Made (most : ℕ) (seconds : Option ℕ) (goal : Option (List Expectation)) (old new : Remaining) : Type 0 where
   pub made : List MadeRun
   pub are : old.left ≡ map as_found made ++ new.left
-  pub count : AreEnough most goal made new.left
+  pub count : AreEnough most seconds goal made new.left
   pub faults : new.faults ≡ old.faults
   pub table : new.table ≡ all_noted (map came made) old.table
 
-abbrev pub Makes : ℕ → Option (List Expectation) → Remaining → Result (Unit {0}) SimFault → Remaining → Type 0
-Makes most goal old (Ok done) new = Made most goal old new
-Makes most goal old (Err f) new = Fails most goal old f
+abbrev pub Makes : ℕ → Option ℕ → Option (List Expectation) → Remaining → Result (Unit {0}) SimFault → Remaining → Type 0
+Makes most seconds goal old (Ok done) new = Made most seconds goal old new
+Makes most seconds goal old (Err f) new = Fails most goal old f
 
 -- what was found so far
 abbrev pub found_of : Remaining → ends.Found

@@ -2,8 +2,8 @@
 -- newest master does, unless in vain.
 use Rattle.std.specs.Prelude.{ℕ, suc, ◌&&◌, Bool, false, nat_lt, List, [], ◌∷◌, ◌++◌, drop, length, map, slice_get, Option, Some, None, is_none, if◌then◌else◌}
 use Rattle.std.specs.List.{flat_map, range_with_len}
-use Rattle.std.specs.Option.{option_and_then}
 use Rattle.mr_world_events.specs.declared.event.Weather.TheVariants.{Calm, Unavailable, Unanswered}
+use Rattle.mr_ids.specs.declared.id.TheConstants.{MAX_APP_ATTEMPTS}
 use Rattle.mr_ids.specs.declared.id.TaskKind.TheVariants.{Map, Reduce}
 use Rattle.mr_world_model.specs.Packets.{Config}
 use Rattle.mr_world_model.specs.World.{Event, Start, Crash, Duty, LaunchOn, Deliver, ContainerStep, Die, NodeRestart, Expire}
@@ -29,6 +29,24 @@ ends_behind before after = ends_from 0 (drop (length before) after)
 -- No run is cut by a number of events: a world takes no more than these.
 unfoldable pub most_events : ℕ
 most_events = MAX_EVENTS
+
+-- What comes of an event or a fault: this is how far the run is then; or it is not permitted where the run is; or it is
+-- permitted, and a limit forbids it, behind which nothing comes of the run
+pub data Fate : Type 0 where
+  Happens : Played → Fate
+  NotPermitted : Fate
+  PastLimit : Played → Fate
+
+-- what is taken happens; what is not would pass a limit
+abbrev pub unless_past : Played → Option Played → Fate
+unless_past s None = PastLimit s
+unless_past s (Some t) = Happens t
+
+-- and then something more
+abbrev pub and_then : (Played → Fate) → Fate → Fate
+and_then more (Happens s) = more s
+and_then more NotPermitted = NotPermitted
+and_then more (PastLimit s) = PastLimit s
 
 -- a calm of one event made it, or there was none
 abbrev pub onward_by : Played → Option Played → Onward Played
@@ -74,30 +92,38 @@ module _ (job : Job) (cfg : Config) (within : Limits) where
   abbrev pub told : Event → Played → Option Played
   told e s = if is_none (not_now cfg (world job cfg within s) e) then taken job cfg within e (stepped_by job cfg within e s.stepped) s else None
 
-  -- ---- what a fault does, or what it put off, where master k is the newest; none where it can't befall the run
+  -- ---- what a fault does, or what it put off, where master k is the newest
+
+  -- the same of an event, where a limit is told apart
+  abbrev pub happening : Event → Played → Fate
+  happening e s = if is_none (not_now cfg (world job cfg within s) e) then unless_past s (taken job cfg within e (stepped_by job cfg within e s.stepped) s) else NotPermitted
+
+  -- the master behind k starts; there is a last one
+  abbrev pub starting : (k kept : ℕ) → Played → Fate
+  starting k kept s = if nat_lt k MAX_APP_ATTEMPTS then happening (Start (suc k) kept) s else PastLimit s
 
   -- the next master starts, if the newest one is not alive; one that is alive has so many bytes that it did not flush
-  abbrev pub starts_next : ℕ → Option ℕ → Played → Option Played
-  starts_next k None s = told (Start (suc k) 0) s
-  starts_next k (Some unflushed) s = None
+  abbrev pub starts_next : ℕ → Option ℕ → Played → Fate
+  starts_next k None s = starting k 0 s
+  starts_next k (Some unflushed) s = NotPermitted
 
-  abbrev pub befallen_by : ℕ → Fault → Played → Option Played
-  befallen_by k (fault.Duty weather) s = told (Duty k weather) s
-  befallen_by k (fault.Step c weather) s = told (ContainerStep c weather) s
-  befallen_by k (fault.Lost i) s = Some (losing job cfg within i s)
-  befallen_by k (fault.Late i) s = told (Deliver i) s
-  befallen_by k (fault.Again i) s = told (Deliver i) s
-  befallen_by k (fault.Crash kept) s = option_and_then (told (Start (suc k) 0)) (told (Crash k kept) s)
-  befallen_by k (fault.Halt kept) s = told (Crash k kept) s
+  abbrev pub befallen_by : ℕ → Fault → Played → Fate
+  befallen_by k (fault.Duty weather) s = happening (Duty k weather) s
+  befallen_by k (fault.Step c weather) s = happening (ContainerStep c weather) s
+  befallen_by k (fault.Lost i) s = Happens (losing job cfg within i s)
+  befallen_by k (fault.Late i) s = happening (Deliver i) s
+  befallen_by k (fault.Again i) s = happening (Deliver i) s
+  befallen_by k (fault.Crash kept) s = and_then (starting k 0) (happening (Crash k kept) s)
+  befallen_by k (fault.Halt kept) s = happening (Crash k kept) s
   befallen_by k fault.Next s = starts_next k (unflushed_in (world job cfg within s) k) s
-  befallen_by k (fault.Superseded kept) s = told (Start (suc k) kept) s
-  befallen_by k (fault.SupersededLate kept) s = option_and_then (told (Duty k Calm)) (told (Start (suc k) kept) s)
-  befallen_by k (fault.Death c) s = told (Die c) s
-  befallen_by k (fault.Restart n) s = told (NodeRestart n) s
-  befallen_by k (fault.Expiry n) s = told (Expire k n) s
-  befallen_by k (fault.Attempt t n) s = told (LaunchOn k t n) s
+  befallen_by k (fault.Superseded kept) s = starting k kept s
+  befallen_by k (fault.SupersededLate kept) s = and_then (happening (Duty k Calm)) (starting k kept s)
+  befallen_by k (fault.Death c) s = happening (Die c) s
+  befallen_by k (fault.Restart n) s = happening (NodeRestart n) s
+  befallen_by k (fault.Expiry n) s = happening (Expire k n) s
+  befallen_by k (fault.Attempt t n) s = happening (LaunchOn k t n) s
 
-  abbrev pub befallen : Fault → Played → Option Played
+  abbrev pub befallen : Fault → Played → Fate
   befallen f s = befallen_by (newest s) f s
 
   -- ---- what may befall a run where it is

@@ -13,7 +13,7 @@ use Rattle.mr_play.specs.WorldText.{world_text}
 use Rattle.mr_explore.specs.declared.asked.Asked.{Asked}
 use Rattle.mr_explore.specs.Explored.{IsFullExplored, PrintsExplored}
 use Rattle.mr_explore_ends.specs.Outcomes.{outcome_text}
-use Rattle.mr_explore.specs.Exploring.{outcome_of}
+use Rattle.mr_explore.specs.Exploring.{IsTimed, outcome_of}
 use Rattle.mr_explore.specs.Faults.{calm, goes_in_vain}
 use Rattle.mr_explore.specs.Runs.{Exploring, IsRunOf}
 use Rattle.mr_explore.specs.Vain.{asks_here, most_ahead}
@@ -23,7 +23,8 @@ pub record ExploredOrRefused : Type 0 where
   pub one_run : (input : List ℕ) (a b : Exploring) → IsRunOf input a → IsRunOf input b → a ≡ b
   pub not_bad_job : (asked : Asked) (input text : List ℕ) (e : JobTextFault) → PrintsExplored asked input text → IsBadPlayJob input e → ⊥
   pub not_bad_line : (asked : Asked) (input text : List ℕ) (n : ℕ) → PrintsExplored asked input text → IsBadPlayLine input n → ⊥
-  pub not_full : (asked : Asked) (input text : List ℕ) → PrintsExplored asked input text → IsFullExplored asked input → ⊥
+  -- where a time is given, it may pass before a run would pass a limit
+  pub not_full : (asked : Asked) (input text : List ℕ) → PrintsExplored asked input text → IsFullExplored asked input → IsTimed asked.seconds
 
 -- what a run came to is written as `play` prints its cluster
 abbrev pub OutcomesArePrinted : Type 0

@@ -1,6 +1,6 @@
 -- Which runs there are of an input (our own profile): all that come of it by at most a given number of faults, as
 -- mr_explore_search says it. A run goes on as a calm of the newest master, unless in vain.
-use Rattle.std.specs.Prelude.{◌≡◌, ◌≢◌, ◌⊎◌, ℕ, List, Option, Some, None}
+use Rattle.std.specs.Prelude.{◌≡◌, ◌≢◌, ◌⊎◌, ℕ, Bool, true, false, List, [], Option, Some, None, if◌then◌else◌}
 use Rattle.std.specs.Option.{option_map}
 use Rattle.mr_world_model.specs.Packets.{Config}
 use Rattle.mr_world_model.specs.World.{World, Start}
@@ -12,13 +12,14 @@ use Rattle.mr_explore_search.specs.Steps.{Onward, Goes, Ends, Full, Steps}
 use Rattle.mr_explore_search.specs.Runs.{Found, runs}
 use Rattle.mr_explore_faults.specs.declared.fault.Fault.{Fault}
 use Rattle.mr_explore_faults.specs.Kinds as kinds
-use Rattle.mr_explore.specs.Faults.{befallen, faults_at, most_events, newest, onward, told}
+use Rattle.mr_explore.specs.Faults.{Fate, Happens, NotPermitted, PastLimit, befallen, faults_at, most_events, newest, onward, told}
 
--- a run of a job's cluster, as far as it is
+-- a run of a job's cluster, as far as it is; and whether a limit forbids its last fault, so that nothing comes of it
 pub record Exploring : Type 0 where
   pub job : JobKind
   pub config : Config
   pub played : Played
+  pub past_limit : Bool
 
 abbrev pub world_of : Exploring → World
 world_of e = world (job_as e.job) e.config (within e.config) e.played
@@ -31,11 +32,17 @@ onward_with e (Goes s) = Goes (with e s)
 onward_with e (Ends s) = Ends (with e s)
 onward_with e Full = Full
 
+-- a fault that a limit forbids makes a run too, which is told apart; one that is not permitted makes none
+abbrev pub befallen_with : Exploring → Fate → Option Exploring
+befallen_with e (Happens s) = Some (with e s)
+befallen_with e NotPermitted = None
+befallen_with e (PastLimit s) = Some (record e { played = s; past_limit = true })
+
 abbrev pub explored : Steps Exploring Fault
 explored = record {
-  onward = λ e. onward_with e (onward (job_as e.job) e.config (within e.config) e.played);
-  faults = λ e. faults_at (job_as e.job) e.config (within e.config) e.played;
-  befallen = λ f e. option_map (with e) (befallen (job_as e.job) e.config (within e.config) f e.played);
+  onward = λ e. if e.past_limit then Ends e else onward_with e (onward (job_as e.job) e.config (within e.config) e.played);
+  faults = λ e. if e.past_limit then [] else faults_at (job_as e.job) e.config (within e.config) e.played;
+  befallen = λ f e. if e.past_limit then None else befallen_with e (befallen (job_as e.job) e.config (within e.config) f e.played);
   later = kinds.later;
 }
 
@@ -54,7 +61,7 @@ StartsFrom e new = ((newest_in e ≡ 0) × (option_map (with e) (start_first e) 
 pub record IsLeftBy (input : List ℕ) (e : Exploring) : Type 0 where
   pub text : List ℕ
   pub prints : PrintsPlay within input text
-  pub is : e ≡ record { job = prints.job.job; config = config_of prints.job; played = prints.left }
+  pub is : e ≡ record { job = prints.job.job; config = config_of prints.job; played = prints.left; past_limit = false }
 
 -- the run of an input, which is a job text and a script behind it
 pub record IsRunOf (input : List ℕ) (e : Exploring) : Type 0 where

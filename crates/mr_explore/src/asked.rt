@@ -11,13 +11,15 @@ pub enum Form {
     Json,
 }
 
-/// How many faults a run has at most, how many runs are made, which end is sought, and how the ends are told.
+/// How many faults a run has at most, how many runs are made, in which time, which end is sought, and how the ends are told.
 #[derive(Clone, Copy, Debug, PartialEq, Eq)]
 pub struct Asked<'a> {
     /// How many faults a run has at most.
     pub faults: u32,
     /// How many runs are made at most.
     pub most: u64,
+    /// After so many seconds no further run is made.
+    pub seconds: Option<u64>,
     /// What is so of the end that is sought; all ends are told where no end is sought.
     pub goal: Option<&'a [Expectation]>,
     pub form: Form,

@@ -1,9 +1,9 @@
 //! An exploration: runs are made, one after the other, and what comes of them is noted.
-ghost use Rattle.std.specs.Prelude.{◌≡◌, IfOk, IfErr, OnOk};
+ghost use Rattle.std.specs.Prelude.{◌≡◌, true, IfOk, IfErr, OnOk};
 ghost use Rattle.std.specs.Option.{option_map};
 ghost use Rattle.mr_explore_ends.specs.Table.{noted};
 ghost use Rattle.mr_explore_search.specs.Taking.{no_more};
-ghost use Rattle.mr_explore.specs.Exploring.{Begins, ExploreFails, Makes, MakesOne, came, is_sought, meets_goal};
+ghost use Rattle.mr_explore.specs.Exploring.{Begins, ExploreFails, IsTimed, Makes, MakesOne, came, is_sought, meets_goal};
 ghost use Rattle.mr_explore.specs.inner.Players.{fault_of};
 
 use crate::explored::Explored;
@@ -57,23 +57,28 @@ impl Exploration {
         }
     }
 
-    /// Makes at most `runs` runs more, and notes their ends. Where an end is sought, no run is made behind the first that came to it. Every 100,000 runs it tells how far it is.
+    /// Makes at most `runs` runs more, and notes their ends. Where an end is sought, no run is made behind the first that came to it. Where a time is given, no
+    /// run is made behind the first after which it has passed. Every 100,000 runs it tells how far it is.
     ///
     /// Refusals: `Full` where a run would pass a limit of the world, or an allocation failure.
     pub fn make<W: Watch>(
         &mut self,
         alloc: Global,
         runs: u64,
+        seconds: Option<u64>,
         goal: Option<&[Expectation]>,
         watch: &W,
     ) -> Result<(), SimFault>
-        ensures { Makes runs (option_map (λ g. g.now) goal.entry) self.old result self.new }
+        ensures { Makes runs seconds (option_map (λ g. g.now) goal.entry) self.old result self.new }
     {
         for _ in 0..runs {
             if !self.make_one(alloc, goal)? {
                 return Ok(());
             }
             self.tell(watch);
+            if has_passed(watch, seconds) {
+                return Ok(());
+            }
         }
         Ok(())
     }
@@ -121,7 +126,18 @@ impl Exploration {
     }
 }
 
-// A run came to its end; whether that is one that is sought.
+// Whether a time is given, and has passed.
+fn has_passed<W: Watch>(watch: &W, seconds: Option<u64>) -> bool
+    ensures { result ≡ true → IsTimed seconds }
+{
+    match seconds {
+        Some(seconds) => watch.have_passed(seconds),
+        None => false,
+    }
+}
+
+// A run came to its end, or a limit forbids its last fault; whether that end is one that is sought.
+#[tactic(auto, using(crate::proofs::Making::came_past, crate::proofs::Making::came_to))]
 fn note(
     alloc: Global,
     table: &mut Table,
@@ -132,10 +148,15 @@ fn note(
     ensures noted { OnOk result (table.new ≡ noted (came (record { faults = ended.now.faults; run = ended.now.run })) table.old) }
     ensures met { IfOk result (λ met. met ≡ meets_goal (option_map (λ g. g.now) goal.entry) (record { faults = ended.now.faults; run = ended.now.run })) }
 {
+    if ended.run.passes_limit() {
+        table.pass_limit();
+        return Ok(false);
+    }
     let world = ended.run.world();
+    let stalled = ended.run.is_stalled(alloc)?;
     let end = winners.outcome_of(alloc, world)?;
     let met = is_sought(goal, &end);
-    table.note(alloc, end, ended.faults, world.journal())?;
+    table.note(alloc, end, ended.faults, stalled, world.journal())?;
     Ok(met)
 }
 

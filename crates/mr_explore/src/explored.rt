@@ -3,27 +3,30 @@ ghost use Rattle.std.specs.Prelude.{◌≡◌, Some, IfOk, IfErr};
 ghost use Rattle.std.specs.Option.{option_map};
 ghost use Rattle.mr_play.specs.Players.{state_in};
 ghost use Rattle.mr_explore_search.specs.Steps.{GoesOn};
-ghost use Rattle.mr_explore.specs.Exploring.{ExploreFails};
+ghost use Rattle.mr_explore.specs.Exploring.{ExploreFails, is_stalled};
 ghost use Rattle.mr_explore.specs.Runs.{IsRunOf, StartsFrom, explored, newest_in, start_first, with};
-ghost use Rattle.mr_explore.specs.inner.Players.{CannotBegin, view_of};
+ghost use Rattle.mr_explore.specs.inner.Players.{CannotBegin, FaresAs, view_of, view_with};
 
 use crate::befall::{befall, may_befall};
 use crate::faults_at::faults_at;
 use crate::going;
+use crate::tried::Tried;
+use crate::vain::is_in_vain;
 use mr_explore_faults::{Fault, later};
 use mr_explore_search::{Run, WalkFault};
 use mr_play::mr_world::World;
 use mr_play::{Player, PlayerFault, played};
 use mr_sim_commands::SimFault;
 use mr_world_events::Event;
-use std::alloc::Global;
+use std::alloc::{AllocError, Global};
 use std::collections::LinkedList;
 use std::marker::Model;
 
-/// A run of a job. Contracts see it as its job, its config, and how far it is.
+/// A run of a job. Contracts see it as its job, its config, how far it is, and whether a limit forbids its last fault.
 #[derive(Drop)]
 pub struct Explored {
     player: Player,
+    past_limit: bool,
 }
 
 impl Model for Explored {
@@ -32,7 +35,7 @@ impl Model for Explored {
 
     ghost Value = { Exploring };
 
-    ghost view = { λ e. record { job = e.player.job; config = e.player.world.config; played = state_in e.player } };
+    ghost view = { λ e. record { job = e.player.job; config = e.player.world.config; played = state_in e.player; past_limit = e.past_limit } };
 }
 
 impl Explored {
@@ -45,7 +48,10 @@ impl Explored {
     {
         let player = played(alloc, input)?;
         match started(player) {
-            Ok(player) => Ok(Explored { player }),
+            Ok(player) => Ok(Explored {
+                player,
+                past_limit: false,
+            }),
             Err(fault) => Err(fault),
         }
     }
@@ -56,6 +62,20 @@ impl Explored {
     {
         &self.player.world
     }
+
+    /// Whether a limit forbids its last fault, so that nothing comes of it.
+    pub fn passes_limit(&self) -> bool
+        ensures { result ≡ self.now.past_limit }
+    {
+        self.past_limit
+    }
+
+    /// Whether it makes no progress where it is. Its only fault is an allocation failure.
+    pub(crate) fn is_stalled(&self, alloc: Global) -> Result<bool, AllocError>
+        ensures { IfOk result (λ stalled. stalled ≡ is_stalled self.now) }
+    {
+        is_in_vain(alloc, &self.player)
+    }
 }
 
 impl Run for Explored {
@@ -65,17 +85,20 @@ impl Run for Explored {
 
     fn fork(&self, alloc: Global) -> Result<Explored, WalkFault> {
         match self.player.fork(alloc) {
-            Ok(player) => Ok(Explored { player }),
+            Ok(player) => Ok(Explored {
+                player,
+                past_limit: self.past_limit,
+            }),
             Err(_) => Err(WalkFault::NoMemory),
         }
     }
 
     fn go_on(&mut self, alloc: Global) -> Result<bool, WalkFault> {
-        go_further(alloc, &mut self.player)
+        go_on(alloc, &mut self.player, self.past_limit)
     }
 
     fn faults(&self, alloc: Global) -> Result<LinkedList<Fault>, WalkFault> {
-        match faults_at(alloc, &self.player) {
+        match faults_of(alloc, &self.player, self.past_limit) {
             Ok(faults) => Ok(faults),
             Err(_) => Err(WalkFault::NoMemory),
         }
@@ -93,11 +116,52 @@ impl Run for Explored {
     }
 
     fn befall(&mut self, _alloc: Global, fault: Fault) -> Result<bool, WalkFault> {
-        match befall(&mut self.player, fault) {
-            Ok(befell) => Ok(befell),
+        match befall_if(&mut self.player, self.past_limit, fault) {
+            Ok(Tried::Befell) => Ok(true),
+            Ok(Tried::CanNot) => Ok(false),
+            Ok(Tried::PassesLimit) => {
+                self.past_limit = true;
+                Ok(true)
+            }
             Err(_) => Err(WalkFault::NoMemory),
         }
     }
+}
+
+// What may be tried where it is: nothing, if a limit forbids its last fault.
+#[tactic(auto, using(crate::proofs::Onwards::faults_are, crate::proofs::Onwards::no_faults))]
+fn faults_of(
+    alloc: Global,
+    player: &Player,
+    past_limit: bool,
+) -> Result<LinkedList<Fault>, AllocError>
+    ensures { IfOk result (λ faults. faults ≡ explored.faults (view_with past_limit player.now)) }
+{
+    if past_limit {
+        return Ok(LinkedList::new(alloc));
+    }
+    faults_at(alloc, player)
+}
+
+// A fault is tried on it; none can befall it, if a limit forbids its last fault.
+#[tactic(auto, using(crate::proofs::Onwards::never))]
+fn befall_if(player: &mut Player, past_limit: bool, fault: Fault) -> Result<Tried, AllocError>
+    ensures { IfOk result (λ tried. FaresAs (explored.befallen fault (view_with past_limit player.old)) past_limit tried player.new) }
+{
+    if past_limit {
+        return Ok(Tried::CanNot);
+    }
+    befall(player, fault)
+}
+
+// It makes an event more by itself, if no limit forbids its last fault; whether there was one.
+fn go_on(alloc: Global, player: &mut Player, past_limit: bool) -> Result<bool, WalkFault>
+    ensures { GoesOn (explored.onward (view_with past_limit player.old)) result (view_with past_limit player.new) }
+{
+    if past_limit {
+        return Ok(false);
+    }
+    go_further(alloc, player)
 }
 
 // It makes an event more by itself; whether there was one.

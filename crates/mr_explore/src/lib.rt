@@ -11,14 +11,16 @@
 //!
 //! - **What `explore` prints** (`explore_output`, for every input): exactly the text of the definitions
 //!   (`PrintsExplored`), byte for byte. Of all runs with at most as many faults as are asked for, the first `most`
-//!   were made, or all, or those up to the first that came to the end that is sought. The text tells of their ends. A
-//!   fault is one that the input has (`ExploredFails`): the first bad key of the job text, else the first bad line of
+//!   were made, or all, or those up to the first that came to the end that is sought; where a time is given, the first
+//!   ones. The text tells of their ends. A fault is one that the input has (`ExploredFails`): the first bad key of the job text, else the first bad line of
 //!   the script, else `Full`. A limit may be passed by the script, by the first master's start, or by one of these runs.
 //! - **A run is one of mr_explore_search's** (`Explored`): its calm, where it has ended, what may befall it at a place, and what
 //!   then comes of it are exactly those of the definitions. It has ended where its calm has, or where it goes on in
 //!   vain (`specs/Vain`): all who live wait for their masters, and the calm's next events are their questions alone.
 //!   In these events nothing changes of what `play` prints (`asking_shows_nothing`). That nothing comes of such a run
-//!   behind them is reckoned in the README, and not proved.
+//!   behind them is reckoned in the README, and not proved; so an end tells how many of its runs are such (`is_stalled`).
+//! - **What a limit forbids is told.** A fault that is permitted and would pass a limit makes a run that has ended, and
+//!   has no end (`past_limit`, `Fate` of `specs/Faults`). It is counted, and then the runs are not all.
 //! - **The runs that are made are exactly those of the definition, in its order, each once** (`Exploration::new`,
 //!   `make`). At first all runs are left that come of the first one by at most `faults` faults, those of fewer faults
 //!   first (`runs_with`, of which mr_explore_search says that these are all: `runs_are_all_that_depart`). Each call of
@@ -43,6 +45,7 @@ mod laws;
 mod leading;
 mod output;
 mod sequential;
+mod tried;
 mod vain;
 mod watch;
 mod winners;

@@ -17,8 +17,8 @@ use mr_sim_commands::{Printed, SimFault};
 use std::alloc::{AllocError, Global};
 
 /// What `explore` prints of an input, which is a job text and a script behind it. It tells the ends of the input's
-/// runs with at most `asked.faults` faults, of which at most `asked.most` are made, and none behind the first that came to
-/// the end that is sought.
+/// runs with at most `asked.faults` faults, of which at most `asked.most` are made, none behind the first that came to
+/// the end that is sought, and none after `asked.seconds`.
 ///
 /// The first bad key of the job text is told (`Job`), else the first bad line of the script (`BadCommand`). Else
 /// `Full` is told where the script, the start of the first master, or one of these runs would pass a limit of the
@@ -34,7 +34,7 @@ pub fn explore_output<W: Watch>(
     ensures fault { IfErr result (ExploredFails asked.now input.now) }
 {
     let mut exploration = Exploration::new(alloc, input, asked.faults)?;
-    exploration.make(alloc, asked.most, asked.goal, watch)?;
+    exploration.make(alloc, asked.most, asked.seconds, asked.goal, watch)?;
     explored_text(alloc, input, &exploration, asked.goal, asked.form)
 }
 

@@ -5,7 +5,7 @@ use Rattle.std.specs.Prelude.{if◌then◌else◌}
 use Rattle.mr_explore_ends.specs.declared.row.Row.{Row}
 use Rattle.mr_explore_ends.specs.Outcomes.{same_outcome}
 use Rattle.mr_explore_ends.specs.Rows.{as_end}
-use Rattle.mr_explore_ends.specs.Table.{Came, End, met, noted_in, opened}
+use Rattle.mr_explore_ends.specs.Table.{Reached, End, met, noted_in, opened}
 use Rattle.mr_explore_ends.specs.inner.Rows.{place_from}
 
 not_some : (k : ℕ) → None ≡ Some k → ⊥
@@ -19,19 +19,19 @@ mapped [] ys = refl
 mapped (x ∷ xs) ys = ap (λ zs. as_end x ∷ zs) (mapped xs ys)
 
 -- the end of a run, where it is compared with that of the first row
-abbrev if_same : Came → Row → List Row → Bool → List End
-if_same c r rs b = if b then met c.faults c.events (as_end r) ∷ map as_end rs else as_end r ∷ noted_in c (map as_end rs)
+abbrev if_same : Reached → Row → List Row → Bool → List End
+if_same c r rs b = if b then met c.faults c.stalled c.events (as_end r) ∷ map as_end rs else as_end r ∷ noted_in c (map as_end rs)
 
 -- where its row stands, and what stands before and behind it
-record IsAt (c : Came) (k : ℕ) (rows : List Row) (i : ℕ) : Type 0 where
+record IsAt (c : Reached) (k : ℕ) (rows : List Row) (i : ℕ) : Type 0 where
   pub front : List Row
   pub row : Row
   pub back : List Row
   pub are : rows ≡ front ++ row ∷ back
   pub place : i ≡ k + length front
-  pub noted : noted_in c (map as_end rows) ≡ map as_end front ++ met c.faults c.events (as_end row) ∷ map as_end back
+  pub noted : noted_in c (map as_end rows) ≡ map as_end front ++ met c.faults c.stalled c.events (as_end row) ∷ map as_end back
 
-found_at : (c : Came) (k : ℕ) (rows : List Row) (i : ℕ) → place_from c.end k rows ≡ Some i → IsAt c k rows i
+found_at : (c : Reached) (k : ℕ) (rows : List Row) (i : ℕ) → place_from c.end k rows ≡ Some i → IsAt c k rows i
 found_at c k [] i e = absurd (not_some i e)
 found_at c k (r ∷ rs) i e = by (same_outcome r.end c.end) refl e (found_at c (k + 1) rs i) where
   goes : IsAt c (k + 1) rs i → same_outcome r.end c.end ≡ false → IsAt c k (r ∷ rs) i
@@ -43,7 +43,7 @@ found_at c k (r ∷ rs) i e = by (same_outcome r.end c.end) refl e (found_at c (
   by true same here more = let place = some_is k i here in record { front = []; row = r; back = rs; are = refl; place = omega (arith, place); noted = ap (if_same c r rs) same }
   by false other here more = goes (more here) other
 
-pub is_within : (c : Came) (rows : List Row) (i : ℕ) → place_from c.end 0 rows ≡ Some i → i < length rows
+pub is_within : (c : Reached) (rows : List Row) (i : ℕ) → place_from c.end 0 rows ≡ Some i → i < length rows
 is_within c rows i e =
     let at = found_at c 0 rows i e in
     let place = at.place in
@@ -51,16 +51,16 @@ is_within c rows i e =
     omega (arith, place, all)
 
 -- the row met the run
-pub met_at : (c : Came) (rows new : List Row) (i : ℕ) (row d : Row) → place_from c.end 0 rows ≡ Some i → new ≡ set rows i row → as_end row ≡ met c.faults c.events (as_end (get_or rows i d)) → map as_end new ≡ noted_in c (map as_end rows)
+pub met_at : (c : Reached) (rows new : List Row) (i : ℕ) (row d : Row) → place_from c.end 0 rows ≡ Some i → new ≡ set rows i row → as_end row ≡ met c.faults c.stalled c.events (as_end (get_or rows i d)) → map as_end new ≡ noted_in c (map as_end rows)
 met_at c rows new i row d e is says =
     let at = found_at c 0 rows i e in
     let place : length at.front ≡ i = let p = at.place in omega (arith, p) in
     let was : get_or rows i d ≡ at.row = ap (λ xs. get_or xs i d) at.are ∙ get_or_at at.front at.row at.back d i place in
     let now : new ≡ at.front ++ row ∷ at.back = is ∙ (ap (λ xs. set xs i row) at.are ∙ set_at at.front at.row at.back row i place) in
-    ap (map as_end) now ∙ (mapped at.front (row ∷ at.back) ∙ (ap (λ x. map as_end at.front ++ x ∷ map as_end at.back) (says ∙ ap (λ x. met c.faults c.events (as_end x)) was) ∙ sym at.noted))
+    ap (map as_end) now ∙ (mapped at.front (row ∷ at.back) ∙ (ap (λ x. map as_end at.front ++ x ∷ map as_end at.back) (says ∙ ap (λ x. met c.faults c.stalled c.events (as_end x)) was) ∙ sym at.noted))
 
 -- the end is new
-none_from : (c : Came) (k : ℕ) (rows : List Row) → place_from c.end k rows ≡ None → noted_in c (map as_end rows) ≡ map as_end rows ++ opened c ∷ []
+none_from : (c : Reached) (k : ℕ) (rows : List Row) → place_from c.end k rows ≡ None → noted_in c (map as_end rows) ≡ map as_end rows ++ opened c ∷ []
 none_from c k [] e = refl
 none_from c k (r ∷ rs) e = by (same_outcome r.end c.end) refl e (none_from c (k + 1) rs) where
   by : (b : Bool) → same_outcome r.end c.end ≡ b → (if b then Some k else place_from c.end (k + 1) rs) ≡ None → (place_from c.end (k + 1) rs ≡ None → noted_in c (map as_end rs) ≡ map as_end rs ++ opened c ∷ []) →
@@ -68,7 +68,7 @@ none_from c k (r ∷ rs) e = by (same_outcome r.end c.end) refl e (none_from c (
   by true same here more = absurd (not_some k (sym here))
   by false other here more = ap (if_same c r rs) other ∙ ap (λ xs. as_end r ∷ xs) (more here)
 
-pub opened_behind : (c : Came) (rows new : List Row) (row : Row) → place_from c.end 0 rows ≡ None → new ≡ rows ++ row ∷ [] → as_end row ≡ opened c → map as_end new ≡ noted_in c (map as_end rows)
+pub opened_behind : (c : Reached) (rows new : List Row) (row : Row) → place_from c.end 0 rows ≡ None → new ≡ rows ++ row ∷ [] → as_end row ≡ opened c → map as_end new ≡ noted_in c (map as_end rows)
 opened_behind c rows new row e is says =
     ap (map as_end) is ∙ (mapped rows (row ∷ []) ∙ (ap (λ x. map as_end rows ++ x ∷ []) says ∙ sym (none_from c 0 rows e)))
 

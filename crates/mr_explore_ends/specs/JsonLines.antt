@@ -7,7 +7,7 @@ use Rattle.mr_script.specs.Expected.{outcome_word, winner_word}
 use Rattle.mr_explore_ends.specs.Outcomes.{Outcome}
 use Rattle.mr_explore_ends.specs.Table.{End}
 use Rattle.mr_explore_ends.specs.Goals.{best_of}
-use Rattle.mr_explore_ends.specs.Text.{Found, Sequential, is_sequential, marked_are_sequential}
+use Rattle.mr_explore_ends.specs.Text.{Found, Sequential, are_all, is_sequential, marked_are_sequential}
 use Rattle.serde_json.specs.Data.{Data, boolean, null}
 use Rattle.mr_sim_json.specs.Members.{Member, count, line_of, list, object_of, text}
 
@@ -28,9 +28,10 @@ read_members s end =
     ∷ (codes "sequential", boolean (is_sequential s end))
     ∷ []
 
--- how many runs came to it, and of the first shortest of them how many faults and events it has, and its script
+-- how many runs came to it, how many of them were ended since they make no progress, and of the first shortest how many
+-- faults and events it has, and its script
 abbrev pub shortest_members : End → List Member
-shortest_members e = (codes "runs", count e.runs) ∷ (codes "faults", count e.faults) ∷ (codes "events", count e.events) ∷ (codes "script", text e.script) ∷ []
+shortest_members e = (codes "runs", count e.runs) ∷ (codes "stalled", count e.stalled) ∷ (codes "faults", count e.faults) ∷ (codes "events", count e.events) ∷ (codes "script", text e.script) ∷ []
 
 abbrev pub end_object : Sequential → End → Data
 end_object s e = object_of (read_members s e.end ++ shortest_members e)
@@ -38,9 +39,10 @@ end_object s e = object_of (read_members s e.end ++ shortest_members e)
 abbrev pub end_line : Sequential → End → List ℕ
 end_line s e = line_of (end_object s e)
 
--- how many runs were made, with how many faults at most, whether these are all, how many ends came, and whether the files are right where the marker is
+-- how many runs were made, with how many faults at most, whether these are all, how many of them would pass a limit, how many
+-- ends came, and whether the files are right where the marker is
 abbrev pub runs_members : Sequential → Found → List Member
-runs_members s f = (codes "runs", count f.table.runs) ∷ (codes "faults", count f.faults) ∷ (codes "all", boolean f.whole) ∷ (codes "ends", count (length f.table.ends)) ∷ (codes "sequential", boolean (marked_are_sequential s f.table.ends)) ∷ []
+runs_members s f = (codes "runs", count f.table.runs) ∷ (codes "faults", count f.faults) ∷ (codes "all", boolean (are_all f)) ∷ (codes "past_limit", count f.table.past_limit) ∷ (codes "ends", count (length f.table.ends)) ∷ (codes "sequential", boolean (marked_are_sequential s f.table.ends)) ∷ []
 
 abbrev pub runs_line : Sequential → Found → List ℕ
 runs_line s f = line_of (object_of (runs_members s f))

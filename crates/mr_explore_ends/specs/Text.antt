@@ -1,5 +1,5 @@
 -- What is printed of the ends that runs came to (our own profile). All but the scripts stands in comments, so that each part of it, behind the job text, is an input of `play`.
-use Rattle.std.specs.Prelude.{ℕ, ◌+◌, Bool, true, false, not, ◌||◌, List, [], ◌∷◌, ◌++◌, ◌==◌, length, codes, decimal, Option, Some, None, if◌then◌else◌}
+use Rattle.std.specs.Prelude.{ℕ, ◌+◌, Bool, true, false, not, ◌&&◌, ◌||◌, List, [], ◌∷◌, ◌++◌, ◌==◌, length, codes, decimal, Option, Some, None, if◌then◌else◌}
 use Rattle.std.specs.List.{flat_map, list_all, range_with_len}
 use Rattle.std.specs.Str.{bytes_eq}
 use Rattle.mr_script.specs.declared.expectation.Expectation.{Expectation}
@@ -35,19 +35,26 @@ marked_are_sequential s ends = list_all (is_sequential_if_marked s) ends
 unfoldable pub counting : List ℕ → ℕ → List ℕ → List ℕ
 counting before n word = before ++ decimal n ++ word ++ (if n == 1 then [] else codes "s")
 
--- what was found: the table of the runs that were made, how many faults a run has at most, and whether these are all
+-- what was found: the table of the runs that were made, how many faults a run has at most, and whether none is left to be made
 pub record Found : Type 0 where
   pub table : Table
   pub faults : ℕ
   pub whole : Bool
 
-abbrev pub if_not_all : Bool → List ℕ
-if_not_all true = []
-if_not_all false = codes ", not all"
+-- the runs of the table are all: none is left to be made, and none would pass a limit
+abbrev pub are_all : Found → Bool
+are_all f = f.whole && (f.table.past_limit == 0)
 
--- how many runs were made, with how many faults, and whether these are all
+abbrev pub past_limit_text : ℕ → List ℕ
+past_limit_text n = if n == 0 then [] else codes " (" ++ decimal n ++ codes " would pass a limit)"
+
+abbrev pub if_not_all : Bool → ℕ → List ℕ
+if_not_all true past = []
+if_not_all false past = codes ", not all" ++ past_limit_text past
+
+-- how many runs were made, with how many faults at most, whether these are all, and how many of them would pass a limit
 abbrev pub runs_text : Found → List ℕ
-runs_text f = counting (codes "# ") f.table.runs (codes " run") ++ counting (codes " with at most ") f.faults (codes " fault") ++ if_not_all f.whole
+runs_text f = counting (codes "# ") f.table.runs (codes " run") ++ counting (codes " with at most ") f.faults (codes " fault") ++ if_not_all (are_all f) f.table.past_limit
 
 -- whether a reader sees no file, just those of the sequential execution, or others
 abbrev pub seen_line : Sequential → Outcome → List ℕ
@@ -61,9 +68,16 @@ abbrev pub shortest_line : End → List ℕ
 shortest_line e =
     counting (codes "# ") e.runs (codes " run") ++ counting (codes "; the first shortest has ") e.faults (codes " fault") ++ counting (codes " and ") e.events (codes " event") ++ 10 ∷ []
 
--- an end: that line, what is printed of it, what its files are, and the script
+-- how many of these runs were ended since they make no progress, if any was
+abbrev pub stalled_line : ℕ → List ℕ
+stalled_line n = if n == 0 then [] else counting (codes "# ended without progress: ") n (codes " run") ++ 10 ∷ []
+
+abbrev pub runs_lines : End → List ℕ
+runs_lines e = shortest_line e ++ stalled_line e.stalled
+
+-- an end: these two lines, what is printed of it, what its files are, and the script
 abbrev pub end_text : Sequential → End → List ℕ
-end_text s e = shortest_line e ++ commented (outcome_text e.end) ++ seen_line s e.end ++ e.script
+end_text s e = runs_lines e ++ commented (outcome_text e.end) ++ seen_line s e.end ++ e.script
 
 -- an end behind an empty line, if its script has just this many faults
 abbrev pub text_if : Sequential → ℕ → End → List ℕ

@@ -14,7 +14,7 @@ use crate::outcome::Outcome;
 use crate::row::Row;
 use crate::sequential::{Sequential, marked_are_sequential};
 use crate::table::Table;
-use crate::text::Found;
+use crate::text::{Found, are_all};
 use mr_ids::AttemptId;
 use mr_script::Expectation;
 use mr_script_writer::{put_outcome, put_winner};
@@ -162,6 +162,7 @@ fn put_shortest(object: &mut Object, alloc: Global, row: &Row) -> Result<(), All
     ensures { OnOk result (members_view object.new.entries ≡ with_all (shortest_members (as_end row.now)) (members_view object.old.entries)) }
 {
     put_count(object, alloc, "runs", row.runs)?;
+    put_count(object, alloc, "stalled", row.stalled)?;
     put_count(object, alloc, "faults", u64::from(row.faults))?;
     put_count(object, alloc, "events", row.events as u64)?;
     put_text(object, alloc, "script", &row.script)
@@ -214,7 +215,7 @@ fn outcome_word(alloc: Global, outcome: Option<bool>) -> Result<Vec<u8>, AllocEr
     Ok(word)
 }
 
-// How many runs were made.
+// How many runs were made, and whether these are all.
 #[tactic(auto, using(crate::proofs::EndObjects::runs_are_plain))]
 fn put_runs(
     out: &mut Vec<u8>,
@@ -238,7 +239,8 @@ fn runs_value(
     let mut object = Object::new(alloc);
     put_count(&mut object, alloc, "runs", found.table.runs())?;
     put_count(&mut object, alloc, "faults", u64::from(found.faults))?;
-    put_flag(&mut object, alloc, "all", found.whole)?;
+    put_flag(&mut object, alloc, "all", are_all(found))?;
+    put_count(&mut object, alloc, "past_limit", found.table.past_limit())?;
     put_count(&mut object, alloc, "ends", found.table.rows().len() as u64)?;
     let sequential = marked_are_sequential(found.table, sequential);
     put_flag(&mut object, alloc, "sequential", sequential)?;

@@ -2,7 +2,7 @@
 ghost use Rattle.std.specs.Prelude.{◌≡◌, IfOk, OnOk, OnErr};
 ghost use Rattle.mr_script_writer.specs.Repeating.{repeating};
 ghost use Rattle.mr_explore_ends.specs.Rows.{as_end};
-ghost use Rattle.mr_explore_ends.specs.Table.{is_shorter, met, opened};
+ghost use Rattle.mr_explore_ends.specs.Table.{is_shorter, met, one_more_if, opened};
 
 use crate::outcome::Outcome;
 use mr_script_writer::put_script;
@@ -14,8 +14,10 @@ use std::alloc::{AllocError, Global};
 pub struct Row {
     /// What the runs came to.
     pub end: Outcome,
-    /// From 1.
+    /// From 1, and counted up to 2^64 - 1.
     pub runs: u64,
+    /// How many of these runs were ended since they make no progress, counted so too.
+    pub stalled: u64,
     pub faults: u32,
     /// How many lines the script has.
     pub events: usize,
@@ -24,19 +26,21 @@ pub struct Row {
 }
 
 impl Row {
-    /// An end to which one run came. It fails where there is no memory.
+    /// An end to which one run came; `stalled` tells whether it was ended since it makes no progress. It fails where there is no memory.
     pub fn new(
         alloc: Global,
         end: Outcome,
         faults: u32,
+        stalled: bool,
         events: &[Event],
     ) -> Result<Row, AllocError>
-        ensures { IfOk result (λ row. as_end row ≡ opened (record { end = end; faults = faults; events = events.now })) }
+        ensures { IfOk result (λ row. as_end row ≡ opened (record { end = end; faults = faults; stalled = stalled; events = events.now })) }
     {
         let script = script_of(alloc, events)?;
         Ok(Row {
             end,
             runs: 1,
+            stalled: one_more_if(stalled, 0),
             faults,
             events: events.len(),
             script,
@@ -48,9 +52,10 @@ impl Row {
         &mut self,
         alloc: Global,
         faults: u32,
+        stalled: bool,
         events: &[Event],
     ) -> Result<(), AllocError>
-        ensures met { OnOk result (as_end self.new ≡ met faults events.now (as_end self.old)) }
+        ensures met { OnOk result (as_end self.new ≡ met faults stalled events.now (as_end self.old)) }
         ensures stays { OnErr result (self.new ≡ self.old) }
     {
         if self.is_after(faults, events.len()) {
@@ -59,6 +64,7 @@ impl Row {
             self.events = events.len();
         }
         self.runs = self.runs.saturating_add(1);
+        self.stalled = one_more_if(stalled, self.stalled);
         Ok(())
     }
 
@@ -68,6 +74,13 @@ impl Row {
     {
         faults < self.faults || (faults == self.faults && events < self.events)
     }
+}
+
+// One more, if so it is.
+fn one_more_if(more: bool, count: u64) -> u64
+    ensures { result ≡ one_more_if more count }
+{
+    if more { count.saturating_add(1) } else { count }
 }
 
 fn script_of(alloc: Global, events: &[Event]) -> Result<Vec<u8>, AllocError>

@@ -1,7 +1,7 @@
 //! A table of the ends that came.
 ghost use Rattle.std.specs.Prelude.{◌≡◌, ◌<◌, ◌∷◌, ◌++◌, List, length, map, OnOk, OnErr};
 ghost use Rattle.mr_explore_ends.specs.Rows.{as_end};
-ghost use Rattle.mr_explore_ends.specs.Table.{empty, met, noted, noted_in, opened};
+ghost use Rattle.mr_explore_ends.specs.Table.{ToLimit, ToEnd, empty, met, noted, noted_in, opened};
 ghost use Rattle.mr_explore_ends.specs.declared.row.Row.{Row};
 ghost use Rattle.mr_explore_ends.specs.inner.Rows.{place_from};
 
@@ -11,11 +11,13 @@ use mr_world_events::Event;
 use std::alloc::{AllocError, Global};
 use std::marker::Model;
 
-/// The ends of the runs that were made, in the order in which they came first. Contracts see it as how many runs were made, and these ends.
+/// The ends of the runs that were made, in the order in which they came first. Contracts see it as how many runs were made, how many of them would
+/// pass a limit, and these ends.
 #[derive(Debug, Drop)]
 pub struct Table {
     rows: Vec<Row>,
     runs: u64,
+    past_limit: u64,
 }
 
 impl Model for Table {
@@ -25,7 +27,7 @@ impl Model for Table {
 
     ghost Value = { ends.Table };
 
-    ghost view = { λ t. record { runs = t.runs; ends = map as_end t.rows.items } };
+    ghost view = { λ t. record { runs = t.runs; past_limit = t.past_limit; ends = map as_end t.rows.items } };
 }
 
 impl Table {
@@ -36,23 +38,34 @@ impl Table {
         Table {
             rows: Vec::new(alloc),
             runs: 0,
+            past_limit: 0,
         }
     }
 
-    /// A run was made that came to this end, with this many faults and these events. It fails where there is no memory, and leaves the table as it was.
+    /// A run was made that came to this end, with this many faults and these events; `stalled` tells whether it was ended since it makes no progress. It
+    /// fails where there is no memory, and leaves the table as it was.
     pub fn note(
         &mut self,
         alloc: Global,
         end: Outcome,
         faults: u32,
+        stalled: bool,
         events: &[Event],
     ) -> Result<(), AllocError>
-        ensures noted { OnOk result (self.new ≡ noted (record { end = end; faults = faults; events = events.now }) self.old) }
+        ensures noted { OnOk result (self.new ≡ noted (ToEnd (record { end = end; faults = faults; stalled = stalled; events = events.now })) self.old) }
         ensures stays { OnErr result (self.new ≡ self.old) }
     {
-        note_in(alloc, &mut self.rows, end, faults, events)?;
+        note_in(alloc, &mut self.rows, end, faults, stalled, events)?;
         self.runs = self.runs.saturating_add(1);
         Ok(())
+    }
+
+    /// A run was made that came to no end, since its last fault would pass a limit.
+    pub fn pass_limit(&mut self)
+        ensures { self.new ≡ noted ToLimit self.old }
+    {
+        self.runs = self.runs.saturating_add(1);
+        self.past_limit = self.past_limit.saturating_add(1);
     }
 
     /// The ends, in the order in which they came first.
@@ -68,6 +81,13 @@ impl Table {
     {
         self.runs
     }
+
+    /// How many of them came to no end, since their last fault would pass a limit. They are counted so too.
+    pub fn past_limit(&self) -> u64
+        ensures { result ≡ self.now.past_limit }
+    {
+        self.past_limit
+    }
 }
 
 // The row of the end counts the run, or is new.
@@ -76,15 +96,16 @@ fn note_in(
     rows: &mut Vec<Row>,
     end: Outcome,
     faults: u32,
+    stalled: bool,
     events: &[Event],
 ) -> Result<(), AllocError>
-    ensures noted { OnOk result (map as_end rows.new.items ≡ noted_in (record { end = end; faults = faults; events = events.now }) (map as_end rows.old.items)) }
+    ensures noted { OnOk result (map as_end rows.new.items ≡ noted_in (record { end = end; faults = faults; stalled = stalled; events = events.now }) (map as_end rows.old.items)) }
     ensures stays { OnErr result (rows.new.items ≡ rows.old.items) }
 {
     match place_of(rows, &end) {
-        Some(place) => rows[place].meet(alloc, faults, events),
+        Some(place) => rows[place].meet(alloc, faults, stalled, events),
         None => {
-            rows.push(Row::new(alloc, end, faults, events)?)?;
+            rows.push(Row::new(alloc, end, faults, stalled, events)?)?;
             Ok(())
         }
     }

@@ -4,7 +4,7 @@ ghost use Rattle.std.specs.List.{flat_map, range_with_len};
 ghost use Rattle.std.specs.Option.{option_map};
 ghost use Rattle.mr_explore_ends.specs.Founds.{as_found};
 ghost use Rattle.mr_explore_ends.specs.Rows.{as_end};
-ghost use Rattle.mr_explore_ends.specs.Text.{all_text, best_text, counting, end_text, ends_text, explored_text, found_text, if_not_all, marked_line, runs_text, seen_line, shortest_line, text_if};
+ghost use Rattle.mr_explore_ends.specs.Text.{all_text, are_all, best_text, counting, end_text, ends_text, explored_text, found_text, if_not_all, marked_line, past_limit_text, runs_lines, runs_text, seen_line, shortest_line, stalled_line, text_if};
 
 use crate::best::best_of;
 use crate::outcome::Outcome;
@@ -16,12 +16,22 @@ use mr_script::Expectation;
 use mr_script_writer::put_comments;
 use std::alloc::{AllocError, Global};
 
-/// What was found: the table of the runs that were made, how many faults a run has at most, and whether these are all.
+/// What was found.
 #[derive(Clone, Copy, Debug)]
 pub struct Found<'a> {
+    /// Of the runs that were made.
     pub table: &'a Table,
+    /// How many faults a run has at most.
     pub faults: u32,
+    /// Whether none is left to be made.
     pub whole: bool,
+}
+
+/// Whether the runs of the table are all: none is left to be made, and none would pass a limit.
+pub(crate) fn are_all(found: &Found<'_>) -> bool
+    ensures { result ≡ are_all (as_found found.now) }
+{
+    found.whole && found.table.past_limit() == 0
 }
 
 /// The ends that came, those of the fewest faults first; or of those that meet a goal the best. It fails where there is no memory.
@@ -145,22 +155,35 @@ fn put_best_end(
     }
 }
 
-// How many runs were made, with how many faults, and whether these are all.
+// How many runs were made, with how many faults at most, whether these are all, and how many of them would pass a limit.
 fn put_runs(out: &mut Vec<u8>, found: &Found<'_>) -> Result<(), AllocError>
     ensures { OnOk result (out.new.items ≡ out.old.items ++ runs_text (as_found found.now)) }
 {
     put_count(out, b"# ", found.table.runs(), b" run")?;
     put_count(out, b" with at most ", u64::from(found.faults), b" fault")?;
-    put_if_not_all(out, found.whole)
+    put_if_not_all(out, are_all(found), found.table.past_limit())
 }
 
-fn put_if_not_all(out: &mut Vec<u8>, whole: bool) -> Result<(), AllocError>
-    ensures { OnOk result (out.new.items ≡ out.old.items ++ if_not_all whole) }
+fn put_if_not_all(out: &mut Vec<u8>, all: bool, past_limit: u64) -> Result<(), AllocError>
+    ensures { OnOk result (out.new.items ≡ out.old.items ++ if_not_all all past_limit) }
 {
-    if whole {
+    if all {
         return Ok(());
     }
-    out.extend_from_slice(b", not all")
+    out.extend_from_slice(b", not all")?;
+    put_past_limit(out, past_limit)
+}
+
+fn put_past_limit(out: &mut Vec<u8>, past_limit: u64) -> Result<(), AllocError>
+    ensures { OnOk result (out.new.items ≡ out.old.items ++ past_limit_text past_limit) }
+{
+    if past_limit == 0 {
+        return Ok(());
+    }
+    out.extend_from_slice(b" (")?;
+    let mut digits = Buffer::new();
+    out.extend_from_slice(digits.format(past_limit).as_bytes())?;
+    out.extend_from_slice(b" would pass a limit)")
 }
 
 // One end.
@@ -173,10 +196,18 @@ fn put_end(
     ensures { OnOk result (out.new.items ≡ out.old.items ++ end_text sequential.now (as_end row.now)) }
 {
     let text = row.end.text(alloc)?;
-    put_shortest(out, row)?;
+    put_runs_of(out, row)?;
     put_comments(out, &text)?;
     put_seen(out, &row.end, sequential)?;
     out.extend_from_slice(&row.script)
+}
+
+// How many runs came to an end, how long the first shortest is, and how many were ended since they make no progress.
+fn put_runs_of(out: &mut Vec<u8>, row: &Row) -> Result<(), AllocError>
+    ensures { OnOk result (out.new.items ≡ out.old.items ++ runs_lines (as_end row.now)) }
+{
+    put_shortest(out, row)?;
+    put_stalled(out, row.stalled)
 }
 
 // How many runs came to an end, and how long the first shortest is.
@@ -191,6 +222,17 @@ fn put_shortest(out: &mut Vec<u8>, row: &Row) -> Result<(), AllocError>
         b" fault",
     )?;
     put_count(out, b" and ", row.events as u64, b" event")?;
+    out.extend_from_slice(b"\n")
+}
+
+// How many runs were ended since they make no progress, if any was.
+fn put_stalled(out: &mut Vec<u8>, stalled: u64) -> Result<(), AllocError>
+    ensures { OnOk result (out.new.items ≡ out.old.items ++ stalled_line stalled) }
+{
+    if stalled == 0 {
+        return Ok(());
+    }
+    put_count(out, b"# ended without progress: ", stalled, b" run")?;
     out.extend_from_slice(b"\n")
 }
 

@@ -1,5 +1,6 @@
 -- The definitions, of a player.
-use Rattle.std.specs.Prelude.{◌≡◌, ℕ, Bool, true, false, List, Option, None, Result, Ok, Err}
+use Rattle.std.specs.Prelude.{◌≡◌, ℕ, Bool, true, false, List, Option, Some, None, Result, Ok, Err}
+use Rattle.std.specs.declared.alloc.AllocError.{AllocError}
 use Rattle.mr_packet.specs.declared.packet.ContainerId.{ContainerId}
 use Rattle.mr_world_model.specs.World.{Event, Crash}
 use Rattle.mr_play.specs.mr_world.specs.Limits.{within}
@@ -9,7 +10,9 @@ use Rattle.mr_play.specs.Text.{job_as}
 use Rattle.mr_play.specs.Players.{SameJob, state_in}
 use Rattle.mr_explore_search.specs.Steps.{Onward, Goes, Ends, Full}
 use Rattle.mr_explore_faults.specs.declared.fault.Fault.{Fault}
-use Rattle.mr_explore.specs.Faults.{asks_on, befallen_by, calm, faults_at, faults_by, goes_in_vain, kept, kept_in, listed, next_event, of_crashes, of_world, onward, told}
+use Rattle.mr_explore.specs.declared.tried.Tried.{Tried}
+use Rattle.mr_explore.specs.declared.tried.Tried.TheVariants as tried
+use Rattle.mr_explore.specs.Faults.{Fate, Happens, NotPermitted, PastLimit, asks_on, befallen_by, calm, faults_at, faults_by, goes_in_vain, happening, kept, kept_in, listed, next_event, of_crashes, of_world, onward, starting, told}
 use Rattle.mr_sim_commands.specs.declared.fault.SimFault.{SimFault}
 use Rattle.mr_sim_commands.specs.declared.fault.SimFault.TheVariants as fault
 use Rattle.mr_play.specs.declared.fault.PlayerFault.{PlayerFault}
@@ -18,16 +21,22 @@ use Rattle.mr_explore_search.specs.declared.fault.WalkFault.{WalkFault}
 use Rattle.mr_explore_search.specs.declared.fault.WalkFault.TheVariants as walk_fault
 use Rattle.mr_explore.specs.Runs.{Exploring, newest_in, start_first}
 
-abbrev pub view_of : Player → Exploring
-view_of p = record { job = p.job; config = p.world.config; played = state_in p }
+abbrev pub view_with : Bool → Player → Exploring
+view_with past p = record { job = p.job; config = p.world.config; played = state_in p; past_limit = past }
 
-abbrev pub told_in : Player → Event → Played → Option Played
-told_in p e s = told (job_as p.job) p.world.config (within p.world.config) e s
+abbrev pub view_of : Player → Exploring
+view_of p = view_with false p
 
 abbrev pub calm_in : Player → ℕ → Played → Option Played
 calm_in p most s = calm (job_as p.job) p.world.config (within p.world.config) most s
 
-abbrev pub befallen_in : Player → ℕ → Fault → Option Played
+abbrev pub happening_in : Player → Event → Played → Fate
+happening_in p e s = happening (job_as p.job) p.world.config (within p.world.config) e s
+
+abbrev pub starting_in : Player → (k kept : ℕ) → Fate
+starting_in p k kept = starting (job_as p.job) p.world.config (within p.world.config) k kept (state_in p)
+
+abbrev pub befallen_in : Player → ℕ → Fault → Fate
 befallen_in p k f = befallen_by (job_as p.job) p.world.config (within p.world.config) k f (state_in p)
 
 abbrev pub faults_in : Player → List Fault
@@ -45,6 +54,20 @@ vain_in p = goes_in_vain (job_as p.job) p.world.config (within p.world.config) (
 
 abbrev pub asks_on_in : Player → List ContainerId → Bool
 asks_on_in p cs = asks_on (job_as p.job) p.world.config (within p.world.config) cs (state_in p)
+
+-- What was tried came of a player as is said: it is as far as what happened, or came before what a limit forbids. Nothing
+-- is said of a player where it was not permitted, or where there was no memory.
+abbrev pub Fares : Player → Fate → Result Tried AllocError → Player → Type 0
+Fares old said (Ok tried.Befell) new = SameJob old new × (said ≡ Happens (state_in new))
+Fares old said (Ok tried.CanNot) new = said ≡ NotPermitted
+Fares old said (Ok tried.PassesLimit) new = SameJob old new × (said ≡ PastLimit (state_in new))
+Fares old said (Err f) new = Unit {0}
+
+-- the same of a run, of which a limit forbids the last fault or not
+abbrev pub FaresAs : Option Exploring → Bool → Tried → Player → Type 0
+FaresAs said past tried.Befell new = said ≡ Some (view_with past new)
+FaresAs said past tried.CanNot new = said ≡ None
+FaresAs said past tried.PassesLimit new = said ≡ Some (view_with true new)
 
 -- a run went on as is said
 abbrev pub GoesAs : Onward Played → Player → Result Bool PlayerFault → Player → Type 0
