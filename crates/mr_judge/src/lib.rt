@@ -23,4 +23,5 @@ mod verdict;
 pub use command::{judge_input, run};
 pub use fault::JudgeFault;
 pub use judge::judged;
+pub use line::Told;
 pub use verdict::{Verdict, said_of, status_of, verdict_json, verdict_text};

@@ -7,7 +7,7 @@ use Rattle.mr_sim_commands.specs.Faults.{CommitterFails, HistoryFails, SeqFails}
 use Rattle.mr_trace_svg.specs.declared.part.Part.{Part}
 use Rattle.mr_trace.specs.mr_play.specs.declared.shown.Shown.{Shown}
 use Rattle.mr_trace.specs.mr_play.specs.Text.{PlayFails}
-use Rattle.mr_sim.specs.declared.subcommand.Command.TheVariants.{Committer, Play, PlayShown, PlayDrawn, PlayJson, History, HistoryJson, Seq, Threads, ThreadsSeen, Explore}
+use Rattle.mr_sim.specs.declared.subcommand.Command.TheVariants.{Committer, CommitterTrace, CommitterJson, Play, PlayShown, PlayDrawn, PlayJson, PlayTree, History, HistoryJson, Seq, Threads, ThreadsSeen, Explore}
 use Rattle.mr_explore.specs.declared.asked.Asked.{Asked}
 use Rattle.mr_threads.specs.declared.seen.Seen.{Seen}
 use Rattle.mr_threads.specs.Text.{ShownFails, ThreadsFail}
@@ -30,6 +30,38 @@ committer_fails input (Err JobFailed) h = h
 committer_fails input (Err TurnsSpent) h = h
 committer_fails input (Err JournalMismatch) h = h
 committer_fails input (Err Thread) h = h
+
+pub trace_fails : {A : Type 0} (input : List ℕ) (r : Result A SimFault) → IfErr r (CommitterFails input) → IfErr r (RefusesText CommitterTrace input)
+trace_fails input (Ok x) h = h
+trace_fails input (Err NoMemory) h = h
+trace_fails input (Err Read) h = h
+trace_fails input (Err Write) h = h
+trace_fails input (Err TooLong) h = h
+trace_fails input (Err (BadCommand n)) h = h
+trace_fails input (Err (BadRecord n)) h = h
+trace_fails input (Err (Job e)) h = h
+trace_fails input (Err Refused) h = h
+trace_fails input (Err Full) h = h
+trace_fails input (Err JobFailed) h = h
+trace_fails input (Err TurnsSpent) h = h
+trace_fails input (Err JournalMismatch) h = h
+trace_fails input (Err Thread) h = h
+
+pub trace_json_fails : {A : Type 0} (input : List ℕ) (r : Result A SimFault) → IfErr r (CommitterFails input) → IfErr r (RefusesText CommitterJson input)
+trace_json_fails input (Ok x) h = h
+trace_json_fails input (Err NoMemory) h = h
+trace_json_fails input (Err Read) h = h
+trace_json_fails input (Err Write) h = h
+trace_json_fails input (Err TooLong) h = h
+trace_json_fails input (Err (BadCommand n)) h = h
+trace_json_fails input (Err (BadRecord n)) h = h
+trace_json_fails input (Err (Job e)) h = h
+trace_json_fails input (Err Refused) h = h
+trace_json_fails input (Err Full) h = h
+trace_json_fails input (Err JobFailed) h = h
+trace_json_fails input (Err TurnsSpent) h = h
+trace_json_fails input (Err JournalMismatch) h = h
+trace_json_fails input (Err Thread) h = h
 
 pub history_fails : {A : Type 0} (input : List ℕ) (r : Result A SimFault) → IfErr r (HistoryFails input) → IfErr r (RefusesText History input)
 history_fails input (Ok x) h = h
@@ -163,6 +195,22 @@ json_fails input (Err JobFailed) h = h
 json_fails input (Err TurnsSpent) h = h
 json_fails input (Err JournalMismatch) h = h
 json_fails input (Err Thread) h = h
+
+pub tree_fails : {A : Type 0} (input : List ℕ) (r : Result A SimFault) → IfErr r (PlayFails within input) → IfErr r (RefusesText PlayTree input)
+tree_fails input (Ok x) h = h
+tree_fails input (Err NoMemory) h = h
+tree_fails input (Err Read) h = h
+tree_fails input (Err Write) h = h
+tree_fails input (Err TooLong) h = h
+tree_fails input (Err (BadCommand n)) h = h
+tree_fails input (Err (BadRecord n)) h = h
+tree_fails input (Err (Job e)) h = h
+tree_fails input (Err Refused) h = h
+tree_fails input (Err Full) h = h
+tree_fails input (Err JobFailed) h = h
+tree_fails input (Err TurnsSpent) h = h
+tree_fails input (Err JournalMismatch) h = h
+tree_fails input (Err Thread) h = h
 
 pub history_json_fails : {A : Type 0} (input : List ℕ) (r : Result A SimFault) → IfErr r (HistoryFails input) → IfErr r (RefusesText HistoryJson input)
 history_json_fails input (Ok x) h = h

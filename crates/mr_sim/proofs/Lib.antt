@@ -1,3 +1,4 @@
 pub mod Failing
+pub mod ListedPlays
 pub mod Refusals
 pub mod Sought

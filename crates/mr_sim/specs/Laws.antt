@@ -4,6 +4,7 @@ use Rattle.mr_sim_commands.specs.declared.fault.SimFault.{SimFault}
 use Rattle.mr_sim_commands.specs.declared.fault.SimFault.TheVariants.{NoMemory, Read, Write, TooLong, BadCommand, BadRecord, Job, Refused, Full, JobFailed, TurnsSpent, JournalMismatch, Thread}
 use Rattle.mr_sim.specs.declared.subcommand.Command.{Command}
 use Rattle.mr_sim.specs.declared.subcommand.Command.TheVariants.{Threads, ThreadsSeen, Explore}
+use Rattle.mr_explore.specs.Exploring.{IsTimed}
 use Rattle.mr_sim.specs.Printed.{IsWithin, Prints, Refuses}
 
 -- threads run a job
@@ -11,6 +12,13 @@ abbrev pub RunsThreads : Command → Type 0
 RunsThreads (Threads turns hold) = Unit {0}
 RunsThreads (ThreadsSeen turns hold seen) = Unit {0}
 RunsThreads _ = ⊥
+
+-- threads run a job; or runs are made for a time, which may pass before one that would pass a limit
+abbrev pub DependsOnTime : Command → Type 0
+DependsOnTime (Threads turns hold) = Unit {0}
+DependsOnTime (ThreadsSeen turns hold seen) = Unit {0}
+DependsOnTime (Explore asked progress) = IsTimed asked.seconds
+DependsOnTime _ = ⊥
 
 -- the events of runs are made once more
 abbrev pub MakesRunsAgain : Command → Type 0
@@ -29,7 +37,7 @@ IsOutside command (BadCommand n) = ⊥
 IsOutside command (BadRecord n) = ⊥
 IsOutside command (Job e) = ⊥
 IsOutside command Refused = ⊥
-IsOutside command Full = RunsThreads command
+IsOutside command Full = DependsOnTime command
 IsOutside command JobFailed = RunsThreads command
 IsOutside command TurnsSpent = RunsThreads command
 IsOutside command JournalMismatch = MakesRunsAgain command

@@ -8,7 +8,7 @@ use Rattle.mr_sim_commands.specs.declared.fault.JobTextFault.{JobTextFault}
 use Rattle.mr_sim_commands.specs.declared.fault.SimFault.{SimFault}
 use Rattle.mr_sim_commands.specs.declared.fault.SimFault.TheVariants.{NoMemory, Read, Write, TooLong, BadCommand, BadRecord, Job, Refused, Full, JobFailed, TurnsSpent, JournalMismatch, Thread}
 use Rattle.mr_sim.specs.declared.subcommand.Command.{Command}
-use Rattle.mr_sim.specs.declared.subcommand.Command.TheVariants.{Committer, Play, PlayShown, PlayDrawn, PlayJson, History, HistoryJson, Seq, Threads, ThreadsSeen, Explore}
+use Rattle.mr_sim.specs.declared.subcommand.Command.TheVariants.{Committer, CommitterTrace, CommitterJson, Play, PlayShown, PlayDrawn, PlayJson, PlayTree, History, HistoryJson, Seq, Threads, ThreadsSeen, Explore}
 use Rattle.mr_sim_commands.specs.committer.Script.{IsFirstBad}
 use Rattle.mr_sim_commands.specs.committer.Text.{PrintsCommitter}
 use Rattle.mr_sim_commands.specs.history.Text.{PrintsHistory}
@@ -20,19 +20,25 @@ use Rattle.mr_trace.specs.mr_play.specs.Shown.{Draws}
 use Rattle.mr_trace.specs.Shown.{Shows}
 use Rattle.mr_trace.specs.mr_play.specs.Text.{PrintsPlay, IsBadPlayJob, IsBadPlayLine, IsFullPlay}
 use Rattle.mr_sim_commands.specs.seq.Text.{PrintsSeq, RefusesSeq}
+use Rattle.mr_commit_trace.specs.Shown.{PrintsTrace}
+use Rattle.mr_pipe.specs.declared.form.Form.TheVariants.{Text, Json}
 use Rattle.mr_threads.specs.Runs.{IsRead}
 use Rattle.mr_threads.specs.Text.{HasFailed, PrintsSuccess, ShowsRun}
 use Rattle.mr_sim.specs.Goals.{Names, PrintsSought}
+use Rattle.mr_sim.specs.Trees.{ListsPlay}
 
 -- ---- what is printed
 
 -- the text is what the subcommand prints for the input
 abbrev pub Prints : Command → List ℕ → List ℕ → Type 0
 Prints Committer input text = PrintsCommitter input text
+Prints CommitterTrace input text = PrintsTrace Text input text
+Prints CommitterJson input text = PrintsTrace Json input text
 Prints Play input text = PrintsPlay within input text
 Prints (PlayShown shown) input text = Shows within shown input text
 Prints (PlayDrawn part) input text = Draws within input
 Prints PlayJson input text = TellsPlay within input text
+Prints PlayTree input text = ListsPlay within input text
 Prints History input text = PrintsHistory input text
 Prints HistoryJson input text = TellsHistory input text
 Prints Seq input text = PrintsSeq input text
@@ -45,10 +51,13 @@ Prints (Explore asked progress) input text = PrintsSought asked input text
 -- the first line of a script that is no command
 abbrev pub IsBadLine : Command → List ℕ → ℕ → Type 0
 IsBadLine Committer input n = IsFirstBad 1 (lines_of input) n
+IsBadLine CommitterTrace input n = IsFirstBad 1 (lines_of input) n
+IsBadLine CommitterJson input n = IsFirstBad 1 (lines_of input) n
 IsBadLine Play input n = IsBadPlayLine input n
 IsBadLine (PlayShown shown) input n = IsBadPlayLine input n
 IsBadLine (PlayDrawn part) input n = IsBadPlayLine input n
 IsBadLine PlayJson input n = IsBadPlayLine input n
+IsBadLine PlayTree input n = IsBadPlayLine input n
 IsBadLine History input n = ⊥
 IsBadLine HistoryJson input n = ⊥
 IsBadLine Seq input n = ⊥
@@ -59,10 +68,13 @@ IsBadLine (Explore asked progress) input n = IsBadPlayLine input n
 -- the first whole line of a segment that is no record and not the version line at its head
 abbrev pub IsBadRecord : Command → List ℕ → ℕ → Type 0
 IsBadRecord Committer input n = ⊥
+IsBadRecord CommitterTrace input n = ⊥
+IsBadRecord CommitterJson input n = ⊥
 IsBadRecord Play input n = ⊥
 IsBadRecord (PlayShown shown) input n = ⊥
 IsBadRecord (PlayDrawn part) input n = ⊥
 IsBadRecord PlayJson input n = ⊥
+IsBadRecord PlayTree input n = ⊥
 IsBadRecord History input n = bad_line input ≡ Some n
 IsBadRecord HistoryJson input n = bad_line input ≡ Some n
 IsBadRecord Seq input n = ⊥
@@ -73,10 +85,13 @@ IsBadRecord (Explore asked progress) input n = ⊥
 -- what is wrong with a job text
 abbrev pub IsBadJob : Command → List ℕ → JobTextFault → Type 0
 IsBadJob Committer input e = ⊥
+IsBadJob CommitterTrace input e = ⊥
+IsBadJob CommitterJson input e = ⊥
 IsBadJob Play input e = IsBadPlayJob input e
 IsBadJob (PlayShown shown) input e = IsBadPlayJob input e
 IsBadJob (PlayDrawn part) input e = IsBadPlayJob input e
 IsBadJob PlayJson input e = IsBadPlayJob input e
+IsBadJob PlayTree input e = IsBadPlayJob input e
 IsBadJob History input e = ⊥
 IsBadJob HistoryJson input e = ⊥
 IsBadJob Seq input e = submission_of input ≡ Err e
@@ -87,10 +102,13 @@ IsBadJob (Explore asked progress) input e = IsBadPlayJob input e
 -- the job of a job text refuses a line of a split; or it does not have a reduce that the goal names
 abbrev pub IsRefused : Command → List ℕ → Type 0
 IsRefused Committer input = ⊥
+IsRefused CommitterTrace input = ⊥
+IsRefused CommitterJson input = ⊥
 IsRefused Play input = ⊥
 IsRefused (PlayShown shown) input = ⊥
 IsRefused (PlayDrawn part) input = ⊥
 IsRefused PlayJson input = ⊥
+IsRefused PlayTree input = ⊥
 IsRefused History input = ⊥
 IsRefused HistoryJson input = ⊥
 IsRefused Seq input = RefusesSeq input
@@ -101,10 +119,13 @@ IsRefused (Explore asked progress) input = Names asked input false
 -- an event of a run, or a work, passes a limit
 abbrev pub IsFull : Command → List ℕ → Type 0
 IsFull Committer input = ⊥
+IsFull CommitterTrace input = ⊥
+IsFull CommitterJson input = ⊥
 IsFull Play input = IsFullPlay within input
 IsFull (PlayShown shown) input = IsFullPlay within input
 IsFull (PlayDrawn part) input = IsFullPlay within input
 IsFull PlayJson input = IsFullPlay within input
+IsFull PlayTree input = IsFullPlay within input
 IsFull History input = ⊥
 IsFull HistoryJson input = ⊥
 IsFull Seq input = ⊥

@@ -19,7 +19,9 @@ impl InputKind {
     /// What this subcommand reads.
     pub(crate) fn of(command: &Command<'_>) -> InputKind {
         match command {
-            Command::Committer => InputKind::Calls,
+            Command::Committer | Command::CommitterTrace | Command::CommitterJson => {
+                InputKind::Calls
+            }
             Command::History | Command::HistoryJson => InputKind::Segment,
             Command::Seq | Command::Threads { .. } | Command::ThreadsSeen { .. } => {
                 InputKind::JobText
@@ -28,6 +30,7 @@ impl InputKind {
             | Command::PlayShown(_)
             | Command::PlayDrawn(_)
             | Command::PlayJson
+            | Command::PlayTree
             | Command::Explore { .. } => InputKind::JobAndScript,
         }
     }

@@ -15,10 +15,12 @@
 //! | Subcommand | What it prints |
 //! |---|---|
 //! | `committer` | what its commands print by the committer effect, and the listing of what they leave |
+//! | `committer` with the calls, as text or as lines of JSON | what mr_commit_trace says that the store sees of its commands |
 //! | `history` | the records of the segment's whole lines, and the number of torn bytes |
 //! | `seq` | the sequential execution of the job that the text submits: for each reduce, by rising name, `== `, the part file's name and length, and its bytes |
 //! | `play` | what came of the run of the cluster that a script and its calms make |
 //! | `play` with a trace, the history or a picture | what mr_trace, mr_play and mr_trace_picture say of that run |
+//! | `play` with the tree | the listing of what the namespace holds then |
 //! | `play` and `history` as lines of JSON | what mr_trace_json says of the run and of the segment |
 //! | `explore` | what mr_explore_ends says of the ends of all runs of the input with at most as many faults as are asked for; the job has each reduce that the goal names |
 //! | `threads` | what `seq` prints for the job text; what is shown of a run in its place is what mr_threads says of it |
@@ -52,9 +54,9 @@
 //!
 //! Each input has at most one text, by the laws of mr_sim_commands and mr_play. No input is both printed and refused, by
 //! any subcommand (`printed_or_refused`). Where there is a text for an input of at most 2^24 bytes, the clause
-//! `fault` leaves only `NoMemory`, `Read` and `Write`. There are two exceptions. Where runs are made once more, it
+//! `fault` leaves only `NoMemory`, `Read` and `Write`. There are three exceptions. Where runs are made once more, it
 //! leaves `JournalMismatch` too. Where threads run a job, whether there is a run and whether it fails depends on the
-//! schedule as well.
+//! schedule as well. Where `explore` has a time, how many runs are made depends on that, and so does `Full`.
 //!
 //! `SimFault::status` is exactly the table of statuses, and `exit_status` is the program's. It is 0 where it was done
 //! or help was asked for, 2 where the words were refused, and 3 where the run was not as its script expects. Else it
@@ -81,6 +83,7 @@ mod refusal;
 mod remarks;
 mod streams;
 mod subcommand;
+mod tree;
 
 pub use ending::{Ending, exit_status};
 pub use laws::printed_or_refused;

@@ -1,16 +1,41 @@
-//! How far an exploration is.
+//! How far an exploration is, and how long it took.
 use mr_explore::Watch;
+use std::rt::Clock;
+use std::time::Instant;
 
 /// Tells it on standard error. What can't be told is dropped.
 #[derive(Drop)]
-pub(crate) struct OnStandardError<'a, H: Eprint> {
+pub(crate) struct OnStandardError<'a, H: Eprint + Clock> {
     /// The handle.
     pub(crate) rt: &'a H,
+    /// When it began, if the clock could be read.
+    pub(crate) began: Option<Instant>,
 }
 
-impl<H: Eprint> Watch for OnStandardError<'_, H> {
+impl<'a, H: Eprint + Clock> OnStandardError<'a, H> {
+    /// It begins now.
+    pub(crate) fn new(rt: &'a H) -> OnStandardError<'a, H> {
+        OnStandardError {
+            rt,
+            began: Instant::now(rt).ok(),
+        }
+    }
+}
+
+impl<H: Eprint + Clock> Watch for OnStandardError<'_, H> {
     fn tell(&self, runs: u64, ends: usize) {
         let _ = eprintln!(self.rt; "mrsim: {runs} runs, {ends} ends");
+    }
+
+    /// Where the clock can't be read, they have.
+    fn have_passed(&self, seconds: u64) -> bool {
+        match self.began {
+            Some(began) => match began.elapsed(self.rt) {
+                Ok(passed) => passed.as_secs() >= seconds,
+                Err(_) => true,
+            },
+            None => true,
+        }
     }
 }
 
@@ -28,5 +53,9 @@ impl<W: Watch> Watch for Progress<'_, W> {
         if self.is_asked {
             self.watch.tell(runs, ends);
         }
+    }
+
+    fn have_passed(&self, seconds: u64) -> bool {
+        self.watch.have_passed(seconds)
     }
 }

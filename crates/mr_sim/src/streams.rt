@@ -75,7 +75,7 @@ fn helped<H: AllocGlobal + Eprint + Clock + Threads + Wait + Sync>(
         threads_seen: |turns: Option<u64>, hold: bool, seen: Seen| threads_seen(
             rt, input, turns, hold, seen,
         ),
-        watch: OnStandardError { rt },
+        watch: OnStandardError::new(rt),
     };
     match printed(rt.alloc(), &host, *command, input) {
         Ok(printed) => Ok(noted(rt.alloc(), printed)?),

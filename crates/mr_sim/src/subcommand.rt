@@ -8,7 +8,10 @@ ghost use Rattle.mr_sim.specs.Printed.{Prints, RefusesText};
 use crate::goal::explored;
 use crate::host::Host;
 use crate::progress::Progress;
+use crate::tree::play_tree;
+use mr_commit_trace::committer_trace;
 use mr_explore::{Asked, Unwatched, Watch};
+use mr_pipe::Form;
 use mr_sim_commands::{IdleKeys, Printed, SimFault, committer_output, history_output, seq_output};
 use mr_threads::{Seen, unthreaded};
 use mr_trace::mr_play::{Shown, play};
@@ -23,6 +26,10 @@ use std::alloc::Global;
 pub enum Command<'a> {
     /// Runs a script of committer calls, and lists what the namespace holds then.
     Committer,
+    /// The same, and prints each call of the store with its answer in place of the rest.
+    CommitterTrace,
+    /// The same as lines of JSON.
+    CommitterJson,
     /// Runs the cluster of a job text by a script of events, and prints what came of it.
     Play,
     /// The same, and shows more of the run beside it.
@@ -31,6 +38,8 @@ pub enum Command<'a> {
     PlayDrawn(Part),
     /// The same, and prints lines of JSON: each event, and what came of the run.
     PlayJson,
+    /// The same, and prints all that the namespace holds at the end in place of what came of the run.
+    PlayTree,
     /// Prints the records of one segment of a job history, and how many bytes after the last whole line were dropped.
     History,
     /// The same as lines of JSON.
@@ -66,7 +75,7 @@ fn plain(alloc: Global, text: Vec<u8>) -> Printed
 }
 
 /// What a subcommand prints for the bytes of its input, and what is noted beside it. This is the one place that tells the subcommands apart.
-#[tactic(auto, using(crate::proofs::Failing::committer_fails, crate::proofs::Failing::history_fails, crate::proofs::Failing::play_fails, crate::proofs::Failing::shown_fails, crate::proofs::Failing::drawn_fails, crate::proofs::Failing::json_fails, crate::proofs::Failing::history_json_fails, crate::proofs::Failing::seq_fails, crate::proofs::Failing::threads_fails, crate::proofs::Failing::seen_fails, crate::proofs::Failing::explore_fails))]
+#[tactic(auto, using(crate::proofs::Failing::committer_fails, crate::proofs::Failing::trace_fails, crate::proofs::Failing::trace_json_fails, crate::proofs::Failing::history_fails, crate::proofs::Failing::play_fails, crate::proofs::Failing::shown_fails, crate::proofs::Failing::drawn_fails, crate::proofs::Failing::json_fails, crate::proofs::Failing::tree_fails, crate::proofs::Failing::history_json_fails, crate::proofs::Failing::seq_fails, crate::proofs::Failing::threads_fails, crate::proofs::Failing::seen_fails, crate::proofs::Failing::explore_fails))]
 pub(crate) fn printed<T, S, W: Watch>(
     alloc: Global,
     host: &Host<T, S, W>,
@@ -99,10 +108,13 @@ where
 {
     match command {
         Command::Committer => Ok(plain(alloc, committer_output(alloc, input)?)),
+        Command::CommitterTrace => Ok(plain(alloc, committer_trace(alloc, Form::Text, input)?)),
+        Command::CommitterJson => Ok(plain(alloc, committer_trace(alloc, Form::Json, input)?)),
         Command::Play => play(alloc, input),
         Command::PlayShown(shown) => play_shown(alloc, input, shown),
         Command::PlayDrawn(part) => play_drawn(alloc, input, part),
         Command::PlayJson => play_json(alloc, input),
+        Command::PlayTree => play_tree(alloc, input),
         Command::History => Ok(plain(alloc, history_output(alloc, input)?)),
         Command::HistoryJson => Ok(plain(alloc, history_json(alloc, input)?)),
         Command::Seq => seq_output(alloc, input),

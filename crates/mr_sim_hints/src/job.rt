@@ -41,6 +41,24 @@ pub enum JobTrouble {
     BadFault(usize, FaultTrouble),
 }
 
+/// A key of a fault that tells a node.
+#[derive(Clone, Copy, Debug, PartialEq, Eq)]
+pub enum NodeKey {
+    /// `node`: it restarts.
+    Node,
+    /// `expire`: the newest master gives it up.
+    Expire,
+}
+
+impl fmt::Display for NodeKey {
+    fn fmt<W: fmt::Write>(&self, f: &mut fmt::Formatter<W>) -> fmt::Result {
+        f.write_str(match self {
+            NodeKey::Node => "node",
+            NodeKey::Expire => "expire",
+        })
+    }
+}
+
 /// Why a fault of a plan is refused.
 #[derive(Clone, Copy, Debug, PartialEq, Eq)]
 pub enum FaultTrouble {
@@ -48,8 +66,8 @@ pub enum FaultTrouble {
     After,
     /// It has not just one of the keys that tell what it does.
     Act,
-    /// What its key tells is no node.
-    Node { key: &'static str, nodes: u64 },
+    /// What this key tells is none of so many nodes.
+    Node { key: NodeKey, nodes: u64 },
     /// It does not tell how many bytes a master keeps.
     Kept,
 }
@@ -168,15 +186,15 @@ fn fault_trouble(fault: &Value, nodes: u64) -> Option<FaultTrouble> {
         _ => return Some(FaultTrouble::After),
     }
     match (fault.get("node"), fault.get("master"), fault.get("expire")) {
-        (Some(node), None, None) => node_trouble(node, "node", nodes),
+        (Some(node), None, None) => node_trouble(node, NodeKey::Node, nodes),
         (None, Some(kept), None) if kept.is_u64() => None,
         (None, Some(_), None) => Some(FaultTrouble::Kept),
-        (None, None, Some(node)) => node_trouble(node, "expire", nodes),
+        (None, None, Some(node)) => node_trouble(node, NodeKey::Expire, nodes),
         _ => Some(FaultTrouble::Act),
     }
 }
 
-fn node_trouble(node: &Value, key: &'static str, nodes: u64) -> Option<FaultTrouble> {
+fn node_trouble(node: &Value, key: NodeKey, nodes: u64) -> Option<FaultTrouble> {
     match node.as_u64() {
         Some(node) if node < nodes => None,
         _ => Some(FaultTrouble::Node { key, nodes }),

@@ -21,9 +21,11 @@ and one of these is one fault, at each place, before each event and behind the l
   a container ends; a node restarts; the newest master gives a node up
   the newest master launches an attempt of a task on a node, other than the one that it launches next anyway
 Behind a fault the run goes on as the calm of the newest master. Runs of fewer faults are made first.
-Writes how many runs there are, and each end that came of them, those that need fewer faults first: how many runs have it, what
-`play` prints of it, whether the files that a reader sees are those of `seq`, and of the scripts that lead to it with the fewest
-faults the first shortest one. Behind the job text it is an input of `play`: each script was played before it is shown.
+Writes how many runs there are, `not all` where some were not made or would pass a limit, and each end that came of them, those
+that need fewer faults first: how many runs have it, how many of these were ended since they make no progress (all who live only
+ask their masters, and hear nothing, or no), what `play` prints of it, whether the files that a reader sees are those of `seq`, and
+of the scripts that lead to it with the fewest faults the first shortest one. Behind the job text it is an input of `play`: each
+script was played before it is shown.
 
 Example, where one.job is a job text alone, and its line has an end:
   mrsim explore --find \"marker yes, outcome failed\" one.job > script
@@ -38,6 +40,9 @@ const FIND: &str =
 
 const MOST: &str = "Makes at most RUNS runs, and shows what came of them (default: all)";
 
+const SECONDS: &str =
+    "Makes no further run after N seconds, and shows what came of those that were made";
+
 const PROGRESS: &str = "Says on standard error how many runs were made, every 100000 runs";
 
 const JSON_SHOWN: &str =
@@ -50,6 +55,8 @@ const FIND_WORD: &str = "find";
 const MOST_WORD: &str = "most";
 
 const PROGRESS_WORD: &str = "progress";
+
+const SECONDS_WORD: &str = "seconds";
 
 const JSON_WORD: &str = "json";
 
@@ -84,6 +91,13 @@ const WORDS: &[Word] = &[
         help: PROGRESS,
         ..Word::FLAG
     },
+    Word {
+        name: SECONDS_WORD,
+        help: SECONDS,
+        value_names: &["N"],
+        bounds: ValueParser::Unsigned(0, u64::MAX),
+        ..Word::TEXT
+    },
 ];
 
 /// The words of `explore`.
@@ -100,6 +114,7 @@ pub fn explore_of<'a>(
         asked: Asked {
             faults: words.get_one::<u32>(FAULTS_WORD).unwrap_or(1),
             most: words.get_one::<u64>(MOST_WORD).unwrap_or(u64::MAX),
+            seconds: words.get_one::<u64>(SECONDS_WORD),
             goal,
             form: form_of(words),
         },

@@ -5,6 +5,7 @@ ghost use Rattle.std.specs.Prelude.{◌≡◌, ◌⊎◌, IfErr};
 ghost use Rattle.std.specs.Process.{exit_status};
 ghost use Rattle.mr_sim.specs.Fault.{exit_status_of};
 
+mod committer;
 mod explore;
 mod pipe;
 mod table;
@@ -23,7 +24,9 @@ use std::alloc::Global;
 use std::fs::File;
 use std::io::Write;
 use std::process::ExitCode;
-use std::rt::Files;
+use std::rt::{Clock, Files};
+use std::sync::Wait;
+use std::thread::Threads;
 use std::{env, io};
 
 // What a goal of `explore` is.
@@ -185,6 +188,24 @@ fn lent(goal: &Option<Vec<Expectation>>) -> Option<&[Expectation]> {
     }
 }
 
+// What comes of a run over this file.
+fn run_file<H: AllocGlobal + Clock + Eprint + Files + Print + Sync + Threads + Wait>(
+    rt: &H,
+    command: &mr_sim::Command<'_>,
+    name: &str,
+) -> Result<Remarks, Refusal> {
+    match File::open(rt, name) {
+        Ok(mut reader) => {
+            let ran = run(rt, command, &mut reader, &mut io::writer(rt));
+            helped(rt, name, ran)
+        }
+        Err(error) => Err(Refusal {
+            fault: open_fault(&error),
+            help: open_help(&error, name),
+        }),
+    }
+}
+
 // The exit code of a run, when its remarks or its refusal are said.
 fn code_of_run<W: Write>(
     rt: &impl Eprint,
@@ -231,17 +252,7 @@ fn main(rt: HostRuntime) -> ExitCode {
     let (command, file) = (command_of(&matches, lent(&goal)), file_of(&matches));
     let ran = match file {
         None => run(&rt, &command, &mut rt.reader(), &mut io::writer(&rt)),
-        Some(name) => match File::open(&rt, name) {
-            Ok(mut reader) => helped(
-                &rt,
-                name,
-                run(&rt, &command, &mut reader, &mut io::writer(&rt)),
-            ),
-            Err(error) => Err(Refusal {
-                fault: open_fault(&error),
-                help: open_help(&error, name),
-            }),
-        },
+        Some(name) => run_file(&rt, &command, name),
     };
     code_of_run(&rt, &mut rt.stderr(), ran, file)
 }

@@ -71,7 +71,7 @@ const WORDS: &[Word] = &[
     Word {
         name: FOLD_WORD,
         help: FOLDED,
-        rules_out: &["history", "trace", "script"],
+        rules_out: &["history", "json", "trace", "script"],
         needs: &["diagram"],
         ..Word::FLAG
     },
@@ -80,7 +80,7 @@ const WORDS: &[Word] = &[
         help: FIRST_DRAWN,
         value_names: &["N"],
         bounds: FROM_BOUNDS,
-        rules_out: &["history", "trace", "script"],
+        rules_out: &["history", "json", "trace", "script"],
         needs: &["diagram"],
         ..Word::TEXT
     },
@@ -89,7 +89,7 @@ const WORDS: &[Word] = &[
         help: MOST_DRAWN,
         value_names: &["N"],
         bounds: ROWS_BOUNDS,
-        rules_out: &["history", "trace", "script"],
+        rules_out: &["history", "json", "trace", "script"],
         needs: &["diagram"],
         ..Word::TEXT
     },

@@ -2,6 +2,7 @@
 ghost use Rattle.std.specs.Prelude.{◌≡◌, ◌≢◌};
 ghost use Rattle.clap.specs.Words.{kind_of};
 
+use crate::committer::{COMMITTER, COMMITTER_HELP, committer_of, committer_words};
 use crate::explore::{EXPLORE, EXPLORE_HELP, explore_of, explore_words};
 use crate::pipe::{
     JUDGE, JUDGE_HELP, RECOVERY, RECOVERY_HELP, SEGMENTS, STEP, STEP_HELP, STEP_PLACE, TASK,
@@ -37,36 +38,6 @@ Statuses:
   6  `mrsim: turns spent`
   7  `mrsim: full`, `mrsim: thread`, `mrsim: journal mismatch`
 Where an input is refused, a second line on standard error mostly says where, and what was expected.";
-
-const COMMITTER: &str = "Runs a script of committer calls and lists the directory that they leave";
-
-const COMMITTER_HELP: &str = "\
-Reads a script from standard input, one command a line:
-  as K            the generation K of the master makes the calls from here on (1 at first)
-  raise K         raises the fence to K: calls of older generations are refused
-  check           refuses a destination that exists
-  setup           sets the job up
-  write A TEXT    the reduce attempt A writes TEXT and a line feed as its part file
-  needs A         tells whether the attempt A has output to be committed
-  commit A        commits the attempt A as its task's output
-  abort A         deletes what the attempt A wrote
-  recover T [B]   takes over what the newest earlier generation committed of the task T, if its part file has B bytes
-  commitjob       commits the job: publishes what was committed, and the marker _SUCCESS
-  abortjob        deletes what is temporary
-  bar A           bars the attempt A: from here on each call made for it is refused
-  by A, by none   the calls from here on are made for the attempt A, or for none (at first none)
-  # ..            is a comment
-Writes a line for each refused command and each `needs`, and then each path with its length.
-
-Example:
-  setup
-  write attempt_200707121733_0003_r_000000_0 hello
-  commit attempt_200707121733_0003_r_000000_0
-  commitjob
-prints
-  out/
-  out/_SUCCESS 0
-  out/part-r-00000 6";
 
 const HISTORY: &str = "Prints the records of one segment of a job history";
 
@@ -177,6 +148,9 @@ const HISTORY_JSON: &str = "Prints lines of JSON in place of the rest";
 /// What `--trace` shows.
 pub const TRACE_SHOWN: &str = "Shows each event, with the packets that it added, before the rest";
 
+const TREE: &str =
+    "Lists the whole namespace at the end, as `committer` does, in place of the rest";
+
 /// What `--from` is.
 pub const FIRST_DRAWN: &str =
     "With --diagram: the first event that is drawn, by its place in the trace (default 0)";
@@ -217,7 +191,7 @@ const PLAY_WORDS: &[Word] = &[
     Word {
         name: FOLD_WORD,
         help: FOLDED,
-        rules_out: &["history", "trace"],
+        rules_out: &["history", "json", "trace", "tree"],
         needs: &[DIAGRAM_WORD],
         ..Word::FLAG
     },
@@ -226,7 +200,7 @@ const PLAY_WORDS: &[Word] = &[
         help: FIRST_DRAWN,
         value_names: &["N"],
         bounds: FROM_BOUNDS,
-        rules_out: &["history", "trace"],
+        rules_out: &["history", "json", "trace", "tree"],
         needs: &[DIAGRAM_WORD],
         ..Word::TEXT
     },
@@ -235,7 +209,7 @@ const PLAY_WORDS: &[Word] = &[
         help: MOST_DRAWN,
         value_names: &["N"],
         bounds: ROWS_BOUNDS,
-        rules_out: &["history", "trace"],
+        rules_out: &["history", "json", "trace", "tree"],
         needs: &[DIAGRAM_WORD],
         ..Word::TEXT
     },
@@ -253,6 +227,12 @@ const PLAY_WORDS: &[Word] = &[
     Word {
         name: "trace",
         help: TRACE_SHOWN,
+        ..Word::FLAG
+    },
+    Word {
+        name: "tree",
+        help: TREE,
+        rules_out: &["diagram", "history", "json", "trace"],
         ..Word::FLAG
     },
 ];
@@ -352,7 +332,8 @@ impl Subcommand {
 
     fn words(self) -> &'static [Word] {
         match self {
-            Subcommand::Committer | Subcommand::Seq => &[],
+            Subcommand::Committer => committer_words(),
+            Subcommand::Seq => &[],
             Subcommand::Play => play_words(),
             Subcommand::Explore => explore_words(),
             Subcommand::Threads => threads_words(),
@@ -423,8 +404,8 @@ pub fn command_of<'a>(
         Some(("explore", words)) => explore_of(words, goal),
         Some(("threads", words)) => threads_of(words),
         Some(("history", words)) => history_of(words),
-        Some(("seq", _)) => mr_sim::Command::Seq,
-        _ => mr_sim::Command::Committer,
+        Some(("committer", words)) => committer_of(words),
+        _ => mr_sim::Command::Seq,
     }
 }
 
@@ -480,6 +461,9 @@ fn play_of<'a>(words: &ArgMatches<'_>) -> mr_sim::Command<'a> {
     }
     if words.get_flag("json") {
         return mr_sim::Command::PlayJson;
+    }
+    if words.get_flag("tree") {
+        return mr_sim::Command::PlayTree;
     }
     let shown = shown_of(words);
     if shown.trace || shown.history {

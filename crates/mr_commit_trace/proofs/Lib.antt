@@ -1,0 +1,6 @@
+mod InTurn
+mod Objects
+mod Onces
+mod Rights
+mod Turning
+mod Writing
