@@ -35,7 +35,7 @@ fn namespace_calls(rt: HostRuntime) {
     let mut names = new_namespace(rt, rt.alloc());
     names.raise(two.app);
     names.raise(generation(rt, 1));
-    confirm!(rt; names.fence() == 2);
+    confirm_eq!(rt; names.fence(), 2);
     let rows = &[
         (Call::Mkdirs, "/d/c/x", "", Is::Done),
         (Call::Create, "/d/b", "", Is::Done),
@@ -117,7 +117,7 @@ fn calls_are_copied(rt: HostRuntime) {
     ] {
         let op = op(rt, rt.alloc(), row);
         let copy = op.copy().expect(rt, "no memory");
-        confirm!(rt; copy == op);
+        confirm_eq!(rt; copy, op);
         drop(copy);
         drop(op);
     }
@@ -127,7 +127,7 @@ fn calls_are_copied(rt: HostRuntime) {
 fn are_alike(rt: &impl Abort, names: &Namespace, copy: &Namespace) {
     let first = names.walk().expect(rt, "no memory");
     let second = copy.walk().expect(rt, "no memory");
-    confirm!(rt; first == second);
+    confirm_eq!(rt; first, second);
     drop(first);
     drop(second);
 }
@@ -135,8 +135,8 @@ fn are_alike(rt: &impl Abort, names: &Namespace, copy: &Namespace) {
 // The copy of the second generation's namespace has the same entries, the same fence and the same barred attempt.
 fn is_copy(rt: &impl Abort, names: &Namespace, copy: &Namespace, by_container: &Caller) {
     are_alike(rt, names, copy);
-    confirm!(rt; copy.fence() == 2);
-    confirm!(rt; copy.check_caller(*by_container) == Err(NameFault::Barred));
+    confirm_eq!(rt; copy.fence(), 2);
+    confirm_eq!(rt; copy.check_caller(*by_container), Err(NameFault::Barred));
 }
 
 // The copy has the same bytes. What it deletes stays in the first one.

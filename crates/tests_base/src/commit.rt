@@ -26,7 +26,7 @@ fn goes(
     want: Result<StepDone, CommitFault>,
 ) {
     let answer = step.next(names, *caller);
-    confirm!(rt; answer == want, &answer);
+    confirm_eq!(rt; answer, want);
 }
 
 // The step is over.
@@ -47,11 +47,11 @@ fn is_heard_alike(
     let call = step.call().expect(rt, "over");
     let answer = names.perform(*caller, call);
     let following = halves.follow(&answer).expect(rt, "a fault");
-    confirm!(rt; following.done() == want);
+    confirm_eq!(rt; following.done(), want);
     halves.go_on(following);
     let told = step.took(answer);
-    confirm!(rt; told == Ok(want), &told);
-    confirm!(rt; halves.cleans_up() == step.cleans_up());
+    confirm_eq!(rt; told, Ok(want));
+    confirm_eq!(rt; halves.cleans_up(), step.cleans_up());
 }
 
 // The step of one call is made, and by its copy in two halves. Then it is over.
@@ -73,7 +73,7 @@ fn ends_by_halves(rt: &impl Abort, names: &mut Namespace, caller: &Caller, mut h
 // This is the text of the fault.
 fn prints(rt: &impl Abort, alloc: Global, fault: CommitFault, text: &str) {
     let shown = fault.to_string(alloc).expect(rt, "no memory");
-    confirm!(rt; shown.as_str() == text, &text);
+    confirm_eq!(rt; shown.as_str(), text);
     drop(shown);
 }
 
@@ -95,7 +95,7 @@ fn goes_on_by_halves(rt: &impl Abort, step: &Step) {
     let there = Ok(Answer::Found(Some(Kind::Dir)));
     let following = sure.follow(&there).expect(rt, "a fault");
     drop(there);
-    confirm!(rt; following.done() == StepDone::More);
+    confirm_eq!(rt; following.done(), StepDone::More);
     sure.go_on(following);
     confirm!(rt; sure.call().is_some());
     drop(sure);
@@ -126,7 +126,7 @@ fn over_after_output_missing(rt: HostRuntime) {
 // The step hears that its call is done, and answers this fault.
 fn takes_no_answer(rt: &impl Abort, step: &mut Step, fault: CommitFault) {
     let answer = step.took(Ok(Answer::Done));
-    confirm!(rt; answer == Err(fault), &answer);
+    confirm_eq!(rt; answer, Err(fault));
 }
 
 // Before it hears it, it would answer this fault to what another call found.
@@ -134,7 +134,7 @@ fn follows_no_answer(rt: &impl Abort, step: &Step) {
     let free = Ok(Answer::Found(None));
     let fault = step.follow(&free).err();
     drop(free);
-    confirm!(rt; fault == Some(CommitFault::WrongAnswer), &fault);
+    confirm_eq!(rt; fault, Some(CommitFault::WrongAnswer));
 }
 
 // An answer of another call is no answer: the step ends there, deletes nothing and creates no marker.
@@ -282,7 +282,7 @@ fn commits_job(
     want: Result<(), CommitFault>,
 ) {
     let answer = commit_job(names, *caller, layout);
-    confirm!(rt; answer == want, &answer);
+    confirm_eq!(rt; answer, want);
 }
 
 // A job that is committed has its marker, and is not committed again.
@@ -313,9 +313,9 @@ fn commits_task(
 ) {
     let a = attempt(rt, TASK, 0);
     let needs = needs_task_commit(names, *caller, layout, a);
-    confirm!(rt; needs == Ok(needed), &needs);
+    confirm_eq!(rt; needs, Ok(needed));
     let answer = commit_task(names, *caller, layout, a);
-    confirm!(rt; answer == want, &answer);
+    confirm_eq!(rt; answer, want);
 }
 
 // The first attempt has output, is committed, and what it had is the task's.
@@ -357,7 +357,7 @@ fn checks(
     want: Result<(), CommitFault>,
 ) {
     let answer = check_output(names, *caller, layout);
-    confirm!(rt; answer == want, &answer);
+    confirm_eq!(rt; answer, want);
 }
 
 // The first generation commits its task once the second has the fence.
@@ -366,7 +366,7 @@ fn commits_late(rt: &impl Abort, alloc: Global, names: &mut Namespace, layout: &
     let late = CommitFault::Names(NameFault::Superseded(2));
     let a = attempt(rt, TASK, 0);
     let answer = commit_task(names, by_generation(rt, 1), layout, a);
-    confirm!(rt; answer == Err(late), &answer);
+    confirm_eq!(rt; answer, Err(late));
     prints(rt, alloc, late, "Superseded 2");
 }
 

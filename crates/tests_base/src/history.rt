@@ -48,7 +48,7 @@ fn reads(rt: &impl Abort, alloc: Global, bytes: &[u8], version: u32, count: usiz
     let read = replayed(rt, alloc, bytes);
     let told = (read.version, read.records.len(), read.torn);
     drop(read);
-    confirm!(rt; told == (version, count, torn), &told);
+    confirm_eq!(rt; told, (version, count, torn));
 }
 
 // These are the records that the master of this generation reads.
@@ -56,7 +56,7 @@ fn are_before(rt: &impl Abort, history: &History, number: u32, records: &[Record
     let k = generation(rt, number);
     assert!(rt; history.is_raised(k));
     let before = history.read(k).expect(rt, "a fault");
-    confirm!(rt; before.as_slice() == records);
+    confirm_eq!(rt; before.as_slice(), records);
     drop(before);
 }
 
@@ -88,8 +88,8 @@ fn one_of_each(rt: &impl Abort) -> [Record; 5] {
 
 // The stable part of the segment has these bytes.
 fn is_written(rt: &impl Abort, segment: &Segment, bytes: &[u8]) {
-    confirm!(rt; segment.stable() == bytes);
-    confirm!(rt; segment.tail() == 0);
+    confirm_eq!(rt; segment.stable(), bytes);
+    confirm_eq!(rt; segment.tail(), 0);
 }
 
 #[test]
@@ -99,21 +99,21 @@ fn record_lines(rt: HostRuntime) {
     for record in one_of_each(rt) {
         adds(rt, &mut segment, &record, None);
     }
-    confirm!(rt; segment.stable().len() == 0);
+    confirm_eq!(rt; segment.stable().len(), 0);
     let len = segment.tail();
     flushes(rt, &mut segment, None);
     let lines = &[STARTED, MAPPED, REDUCED, FAILED, UNSUCCESSFUL];
     let wanted = joined(rt, rt.alloc(), lines);
-    confirm!(rt; len == wanted.len());
+    confirm_eq!(rt; len, wanted.len());
     is_written(rt, &segment, wanted.as_bytes());
     drop(segment);
     let read = replayed(rt, rt.alloc(), wanted.as_bytes());
-    confirm!(rt; read.torn == 0);
-    confirm!(rt; read.records.as_slice() == one_of_each(rt).as_slice());
+    confirm_eq!(rt; read.torn, 0);
+    confirm_eq!(rt; read.records.as_slice(), one_of_each(rt).as_slice());
     drop(read);
     drop(wanted);
     let line = whole_line(rt.alloc(), &started(rt)).expect(rt, "no memory");
-    confirm!(rt; line.as_str() == STARTED);
+    confirm_eq!(rt; line.as_str(), STARTED);
     drop(line);
 }
 
@@ -125,8 +125,8 @@ fn records_are_copied(rt: HostRuntime) {
     records.push(reduced(rt)).expect(rt, "no memory");
     let mut copy = Records::from_vec(Vec::new(rt.alloc()));
     copy.extend(records.as_slice()).expect(rt, "no memory");
-    confirm!(rt; copy.as_slice() == records.as_slice());
-    confirm!(rt; copy.len() == 2);
+    confirm_eq!(rt; copy.as_slice(), records.as_slice());
+    confirm_eq!(rt; copy.len(), 2);
     drop(copy);
     drop(records);
 }
@@ -135,7 +135,7 @@ fn records_are_copied(rt: HostRuntime) {
 fn takes_no_more(rt: &impl Abort, segment: &mut Segment) {
     adds(rt, segment, &started(rt), Some(HistoryFault::Sealed));
     flushes(rt, segment, Some(HistoryFault::Sealed));
-    confirm!(rt; segment.flush_refusal() == Some(HistoryFault::Sealed));
+    confirm_eq!(rt; segment.flush_refusal(), Some(HistoryFault::Sealed));
 }
 
 #[test]
@@ -147,7 +147,7 @@ fn segment_seal(rt: HostRuntime) {
         adds(rt, &mut segment, &started(rt), None);
         flushes(rt, &mut segment, None);
         adds(rt, &mut segment, &reduced(rt), None);
-        confirm!(rt; segment.tail() == 68);
+        confirm_eq!(rt; segment.tail(), 68);
         segment.seal(*kept);
         reads(rt, alloc, segment.stable(), 1, *count, *torn);
         takes_no_more(rt, &mut segment);
@@ -326,7 +326,7 @@ fn longest_line(rt: HostRuntime) {
     let rt = &rt;
     let alloc = rt.alloc();
     let line = joined(rt, alloc, &[LONGEST, "}\n"]);
-    confirm!(rt; line.len() == 131);
+    confirm_eq!(rt; line.len(), 131);
     reads(rt, alloc, line.as_bytes(), 1, 1, 0);
     drop(line);
     for ending in &["0}", " }", "}{\"event\":\"unsuccessful\"}"] {
@@ -344,14 +344,14 @@ fn full_segment(rt: HostRuntime) {
     for _ in 0..246723 {
         adds(rt, &mut segment, &record, None);
     }
-    confirm!(rt; segment.append_refusal(&record) == Some(HistoryFault::Full));
+    confirm_eq!(rt; segment.append_refusal(&record), Some(HistoryFault::Full));
     adds(rt, &mut segment, &record, Some(HistoryFault::Full));
     let short = Record::JobUnsuccessful;
     adds(rt, &mut segment, &short, None);
     adds(rt, &mut segment, &short, None);
     adds(rt, &mut segment, &short, Some(HistoryFault::Full));
     flushes(rt, &mut segment, None);
-    confirm!(rt; segment.stable().len() == 16777214);
+    confirm_eq!(rt; segment.stable().len(), 16777214);
     reads(rt, alloc, segment.stable(), 1, 246725, 0);
     drop(segment);
 }

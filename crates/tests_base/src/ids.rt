@@ -23,7 +23,7 @@ fn task(job: JobId, kind: TaskKind, number: u32) -> TaskId {
 // `{}` writes this text of a value.
 fn shows<T: Display>(rt: &impl Abort, alloc: Global, value: &T, text: &str) {
     let shown = value.to_string(alloc).expect(rt, "no memory");
-    confirm!(rt; shown.as_str() == text, &text);
+    confirm_eq!(rt; shown.as_str(), text);
     drop(shown);
 }
 
@@ -32,24 +32,24 @@ fn attempt_text(rt: HostRuntime) {
     let rt = &rt;
     let read = AttemptId::parse("attempt_200707121733_0003_r_000005_1000");
     let wanted = attempt(rt, task(JOB, TaskKind::Reduce, 5), 1000);
-    confirm!(rt; read == Ok(wanted));
-    confirm!(rt; wanted.generation().number() == 2);
+    confirm_eq!(rt; read, Ok(wanted));
+    confirm_eq!(rt; wanted.generation().number(), 2);
     is_no_attempt(rt, "attempt_200707121733_0003_r_00005_1000", IdFault::Width);
 }
 
 // The text is no attempt's, for this reason.
 fn is_no_attempt(rt: &impl Abort, text: &str, fault: IdFault) {
-    confirm!(rt; AttemptId::parse(text) == Err(fault), &text);
+    confirm_eq!(rt; AttemptId::parse(text), Err(fault));
 }
 
 // Nor is it a job's.
 fn is_no_job(rt: &impl Abort, text: &str, fault: IdFault) {
-    confirm!(rt; JobId::parse(text) == Err(fault), &text);
+    confirm_eq!(rt; JobId::parse(text), Err(fault));
 }
 
 // Nor is it a task's.
 fn is_no_task(rt: &impl Abort, text: &str, fault: IdFault) {
-    confirm!(rt; TaskId::parse(text) == Err(fault), &text);
+    confirm_eq!(rt; TaskId::parse(text), Err(fault));
 }
 
 #[test]
@@ -76,7 +76,7 @@ fn identifier_faults(rt: HostRuntime) {
         start: 200707121733,
         number: 10000,
     };
-    confirm!(rt; JobId::parse("job_200707121733_10000") == Ok(more));
+    confirm_eq!(rt; JobId::parse("job_200707121733_10000"), Ok(more));
     is_no_task(rt, "task_200707121733_0003_x_000005", IdFault::Kind);
     is_no_task(rt, "task_200707121733_003_x_000005", IdFault::Width);
     is_no_attempt(rt, "attempt_200707121733_0003_m_000005", IdFault::Number);
@@ -111,7 +111,7 @@ fn identifiers_are_written(rt: HostRuntime) {
     let wanted = "<job_200707121733_0003 task_200707121733_0003_m_000005 \
         attempt_200707121733_0003_m_000005_0 \
         attempt_18446744073709551615_4294967295_r_4294967295_999999 1000";
-    confirm!(rt; out.as_slice() == wanted.as_bytes());
+    confirm_eq!(rt; out.as_slice(), wanted.as_bytes());
     drop(out);
 }
 
@@ -126,12 +126,12 @@ fn identifiers_are_shown_and_read(rt: HostRuntime) {
     let reduce = task(ZERO_JOB, TaskKind::Reduce, 1234567);
     let text = "task_0_0000_r_1234567";
     shows(rt, alloc, &reduce, text);
-    confirm!(rt; text.parse::<TaskId>() == Ok(reduce));
-    confirm!(rt; text.parse::<AttemptId>() == Err(IdFault::Prefix));
+    confirm_eq!(rt; text.parse::<TaskId>(), Ok(reduce));
+    confirm_eq!(rt; text.parse::<AttemptId>(), Err(IdFault::Prefix));
     let tried = attempt(rt, reduce, 7);
     let text = "attempt_0_0000_r_1234567_7";
     shows(rt, alloc, &tried, text);
-    confirm!(rt; text.parse::<AttemptId>() == Ok(tried));
+    confirm_eq!(rt; text.parse::<AttemptId>(), Ok(tried));
     shows(rt, alloc, &generation(rt, 1), "1");
     shows(rt, alloc, &TaskKind::Map, "m");
     shows(rt, alloc, &IdFault::Trailing, "a field is left over");
@@ -146,16 +146,16 @@ fn generations_of_attempts(rt: HostRuntime) {
     confirm!(rt; AttemptId::new(map, 1_000_000).is_none());
     for (number, wanted) in &[(0, 1), (999, 1), (1000, 2), (999_999, 1000)] {
         let tried = attempt(rt, map, *number);
-        confirm!(rt; tried.generation() == generation(rt, *wanted));
-        confirm!(rt; tried.task() == map);
-        confirm!(rt; tried.number() == *number);
+        confirm_eq!(rt; tried.generation(), generation(rt, *wanted));
+        confirm_eq!(rt; tried.task(), map);
+        confirm_eq!(rt; tried.number(), *number);
     }
 }
 
 // The attempt of this number at map 0 is of this generation.
 fn is_of(rt: &impl Abort, number: u32, k: AppAttempt) {
     let map = task(JOB, TaskKind::Map, 0);
-    confirm!(rt; attempt(rt, map, number).generation() == k);
+    confirm_eq!(rt; attempt(rt, map, number).generation(), k);
 }
 
 // The numbers of a generation's attempts, from the first to the last.
@@ -164,12 +164,12 @@ fn numbers_of_generations(rt: HostRuntime) {
     let rt = &rt;
     for (number, first, last) in &[(1, 0, 999), (2, 1000, 1999), (1000, 999_000, 999_999)] {
         let k = generation(rt, *number);
-        confirm!(rt; k.first_attempt_number() == *first);
+        confirm_eq!(rt; k.first_attempt_number(), *first);
         is_of(rt, *first, k);
         is_of(rt, *last, k);
     }
-    confirm!(rt; MAX_APP_ATTEMPTS == 1000);
-    confirm!(rt; generation(rt, MAX_APP_ATTEMPTS).number() == 1000);
+    confirm_eq!(rt; MAX_APP_ATTEMPTS, 1000);
+    confirm_eq!(rt; generation(rt, MAX_APP_ATTEMPTS).number(), 1000);
     confirm!(rt; AppAttempt::new(MAX_APP_ATTEMPTS + 1).is_none());
 }
 

@@ -135,7 +135,7 @@ fn calls_raised(
         Call::Seal => history.seal(k, count),
         Call::Foresee => {
             let refusal = history.append_refusal(k, &Record::JobUnsuccessful);
-            confirm!(rt; history.flush_refusal(k) == refusal, &refusal);
+            confirm_eq!(rt; history.flush_refusal(k), refusal);
             return refusal;
         }
         _ => confirm!(rt; history.tail(k) == count, &count),
@@ -147,10 +147,10 @@ fn calls_raised(
 pub fn is_stable(rt: &impl Abort, history: &History, number: u32, text: &str) {
     let k = generation(rt, number);
     assert!(rt; history.is_raised(k));
-    confirm!(rt; history.stable(k) == text.as_bytes(), &text);
+    confirm_eq!(rt; history.stable(k), text.as_bytes());
 }
 
 /// The call is done, or refused so.
 pub fn is_told(rt: &impl Abort, answer: Result<(), HistoryFault>, want: Option<HistoryFault>) {
-    confirm!(rt; answer.err() == want, &answer);
+    confirm_eq!(rt; answer.err(), want);
 }

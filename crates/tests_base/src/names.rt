@@ -36,7 +36,7 @@ fn takes(rt: &impl Abort, alloc: Global, names: &mut Namespace, caller: &Caller,
     let place = path(rt, alloc, "/f");
     let answer = names.append(*caller, &place, bytes);
     drop(place);
-    confirm!(rt; answer == Ok(()), &answer);
+    confirm_eq!(rt; answer, Ok(()));
 }
 
 // The file at `/f` has so many bytes.
@@ -44,7 +44,7 @@ fn has(rt: &impl Abort, alloc: Global, names: &Namespace, caller: &Caller, want:
     let place = path(rt, alloc, "/f");
     let bytes = names.read(*caller, &place).expect(rt, "not read");
     drop(place);
-    confirm!(rt; bytes.len() == want, &want);
+    confirm_eq!(rt; bytes.len(), want);
     drop(bytes);
 }
 
@@ -116,7 +116,7 @@ fn large_directory_rename(rt: HostRuntime) {
     mark(rt, alloc);
     drop(a);
     drop(b);
-    confirm!(rt; renamed == Ok(()), &renamed);
+    confirm_eq!(rt; renamed, Ok(()));
     let rows = &[
         (Call::Exists, "/a/0", "", Is::Free),
         (Call::Exists, "/b/65534", "", Is::File),
@@ -273,7 +273,7 @@ fn bars(
     want: Result<(), NameFault>,
 ) {
     let answer = names.bar(*caller, attempt(rt, TASK, number));
-    confirm!(rt; answer == want, &answer);
+    confirm_eq!(rt; answer, want);
 }
 
 // As many attempts are barred as there is room for. One more is refused; one that is barred is not.

@@ -38,7 +38,7 @@ fn is_no_path(rt: &impl Abort, alloc: Global, text: &str) {
 // This is the path's text.
 fn shows(rt: &impl Abort, alloc: Global, path: &Path, text: &str) {
     let shown = path.to_string(alloc).expect(rt, "no memory");
-    confirm!(rt; shown.as_str() == text, &text);
+    confirm_eq!(rt; shown.as_str(), text);
     drop(shown);
 }
 
@@ -66,12 +66,12 @@ fn path_texts(rt: HostRuntime) {
     }
     confirm!(rt; is_name(&long));
     let longest = name(rt, alloc, &long);
-    confirm!(rt; longest.as_bytes() == long.as_slice());
+    confirm_eq!(rt; longest.as_bytes(), long.as_slice());
     drop(longest);
     let odd = name(rt, alloc, b"a\xff");
     let shown = odd.to_string(alloc).expect(rt, "no memory");
     drop(odd);
-    confirm!(rt; shown.as_str() == "a\u{fffd}");
+    confirm_eq!(rt; shown.as_str(), "a\u{fffd}");
     drop(shown);
 }
 
@@ -156,7 +156,7 @@ fn are_part_names(rt: &impl Abort, alloc: Global) {
         (123_456, "part-r-123456"),
     ] {
         let part = part_name(alloc, *reduce).expect(rt, "no memory");
-        confirm!(rt; part.as_bytes() == text.as_bytes(), &text);
+        confirm_eq!(rt; part.as_bytes(), text.as_bytes());
         confirm!(rt; !is_hidden(&part), &text);
         drop(part);
     }
@@ -186,9 +186,9 @@ fn paths_are_made(rt: HostRuntime) {
     let alloc = rt.alloc();
     let a = Name::new(alloc, b"a").expect(rt, "no memory");
     let b = a.copy().expect(rt, "no memory");
-    confirm!(rt; a == b);
+    confirm_eq!(rt; a, b);
     let clone = a.clone().expect(rt, "no memory");
-    confirm!(rt; clone == b);
+    confirm_eq!(rt; clone, b);
     drop(clone);
     let root = Path::root(alloc);
     let top = root.child(a).expect(rt, "no memory");
@@ -205,12 +205,12 @@ fn paths_are_made(rt: HostRuntime) {
 fn is_child(rt: &impl Abort, leaf: &Path, top: &Path) {
     confirm!(rt; *top < *leaf);
     let clone = leaf.clone().expect(rt, "no memory");
-    confirm!(rt; clone == *leaf);
+    confirm_eq!(rt; clone, *leaf);
     drop(clone);
     confirm!(rt; is_within(leaf.names(), top.names()));
-    confirm!(rt; parent(leaf.names()) == top.names());
+    confirm_eq!(rt; parent(leaf.names()), top.names());
     assert!(rt; leaf.len() == 2);
     let front = leaf.front(1).expect(rt, "no memory");
-    confirm!(rt; front == *top);
+    confirm_eq!(rt; front, *top);
     drop(front);
 }

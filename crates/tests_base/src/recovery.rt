@@ -28,7 +28,7 @@ fn recovery_begins_alike(
     halves.go_on(following);
     confirm!(rt; halves.call().is_some());
     let told = step.took(answer);
-    confirm!(rt; told == Ok(StepDone::More), &told);
+    confirm_eq!(rt; told, Ok(StepDone::More));
 }
 
 // The recovery's next call is made, with this answer.
@@ -40,7 +40,7 @@ fn recovers(
     want: Result<StepDone, CommitFault>,
 ) {
     let answer = step.next(names, *caller);
-    confirm!(rt; answer == want, &answer);
+    confirm_eq!(rt; answer, want);
 }
 
 // The recovery of what was committed, one call after the other.
@@ -174,7 +174,7 @@ fn takes_over(
     want: Result<(), CommitFault>,
 ) {
     let answer = recover_task(names, *caller, layout, TASK, Some(length));
-    confirm!(rt; answer == want, &answer);
+    confirm_eq!(rt; answer, want);
 }
 
 // The first attempt is aborted, and then the job, at once.

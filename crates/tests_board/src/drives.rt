@@ -1,6 +1,6 @@
 //! Jobs that threads run: gates, and works at once. Runs with faults of a plan are rows of tools/hostile.
 use crate::fixtures::plan;
-use mr_drive::{DriveFault, Report, drive};
+use mr_drive::{DriveFault, Report, Unreported, drive};
 use mr_ids::TaskKind;
 use mr_jobs::WordCount;
 use mr_user::{Gate, GateFault, OpenGate};
@@ -12,6 +12,22 @@ const TURNS: u64 = 100_000;
 
 // The one file of each job of `a`, `a`, `b` here.
 const TEXT: &[u8] = b"a\t2\nb\t1\n";
+
+// The report of a run, or why there is none.
+fn told(driven: Result<Report, Unreported>) -> Result<Report, DriveFault> {
+    match driven {
+        Ok(report) => Ok(report),
+        Err(unreported) => Err(unreported.fault),
+    }
+}
+
+// The run's world is there, and had no end.
+fn is_handed_back(unreported: &Unreported) -> bool {
+    match &unreported.world {
+        Some(world) => world.outcome().is_none(),
+        None => false,
+    }
+}
 
 fn is_counted(report: &Report) -> bool {
     report.succeeded && report.files.len() == 1 && report.files[0].bytes.as_slice() == TEXT
@@ -67,7 +83,9 @@ fn four_map_works_at_once(rt: HostRuntime) {
         rt.alloc(),
         r#""job":"wordcount","splits":["a","b","a",""],"nodes":4"#,
     );
-    let report = drive(&rt, rt.alloc(), &WordCount, &gate, &four, TURNS).expect(&rt, "a fault");
+    let report = told(drive(&rt, rt.alloc(), &WordCount, &gate, &four, TURNS)).expect(
+        &rt, "a fault",
+    );
     confirm!(rt; is_counted(&report));
     confirm!(rt; gate.maps.load(Ordering::SeqCst) == 4);
     confirm!(rt; gate.reduces.load(Ordering::SeqCst) == 1);
@@ -77,7 +95,7 @@ fn four_map_works_at_once(rt: HostRuntime) {
         rt.alloc(),
         r#""job":"wordcount","splits":["a","b","a",""],"nodes":3"#,
     );
-    let fault = drive(&rt, rt.alloc(), &WordCount, &gate, &three, TURNS).err();
+    let fault = told(drive(&rt, rt.alloc(), &WordCount, &gate, &three, TURNS)).err();
     confirm!(rt; fault == Some(DriveFault::TurnsSpent), &fault);
 }
 
@@ -90,7 +108,9 @@ fn four_reduce_works_at_once(rt: HostRuntime) {
         rt.alloc(),
         r#""job":"wordcount","splits":["a","b","a",""],"nodes":4,"reduces":4"#,
     );
-    let report = drive(&rt, rt.alloc(), &WordCount, &gate, &four, TURNS).expect(&rt, "a fault");
+    let report = told(drive(&rt, rt.alloc(), &WordCount, &gate, &four, TURNS)).expect(
+        &rt, "a fault",
+    );
     confirm!(rt; report.succeeded);
     confirm!(rt; report.files.len() == 4);
     confirm!(rt; gate.maps.load(Ordering::SeqCst) == 4);
@@ -110,8 +130,10 @@ impl Gate for ShutGate {
 #[test]
 fn a_gate_that_refuses_ends_the_run(rt: HostRuntime) {
     let plan = plan(&rt, rt.alloc(), r#""job":"wordcount","splits":["a b a"]"#);
-    let fault = drive(&rt, rt.alloc(), &WordCount, &ShutGate, &plan, TURNS).err();
-    confirm!(rt; fault == Some(DriveFault::TurnsSpent), &fault);
+    let driven = drive(&rt, rt.alloc(), &WordCount, &ShutGate, &plan, TURNS);
+    let unreported = driven.err().expect(&rt, "a report");
+    confirm!(rt; unreported.fault == DriveFault::TurnsSpent, &unreported.fault);
+    confirm!(rt; is_handed_back(&unreported));
 }
 
 // The fault of the plan is the second event, and the report tells its seat: the one behind that of the only node.
@@ -122,7 +144,9 @@ fn a_report_tells_who_made_each_event(rt: HostRuntime) {
         rt.alloc(),
         r#""job":"wordcount","splits":["a b a"],"faults":[{"after":1,"node":0}]"#,
     );
-    let report = drive(&rt, rt.alloc(), &WordCount, &OpenGate, &plan, TURNS).expect(&rt, "a fault");
+    let report = told(drive(&rt, rt.alloc(), &WordCount, &OpenGate, &plan, TURNS)).expect(
+        &rt, "a fault",
+    );
     confirm!(rt; is_counted(&report));
     confirm!(rt; report.by.len() == report.world.journal().len());
     confirm!(rt; report.world.journal().get(1) == Some(&Event::NodeRestart { node: 0 }));

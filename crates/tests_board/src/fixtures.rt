@@ -2,7 +2,7 @@
 
 ghost use Rattle.std.specs.Prelude.{◌≡◌, []};
 
-use mr_board::{Board, Finished, Mismatch, Seat, Work};
+use mr_board::{Board, Finished, Seat, Work};
 use mr_drive::Plan;
 use mr_ids::{AppAttempt, Bytes, JobId, TaskKind};
 use mr_jobs::WordCount;
@@ -34,7 +34,6 @@ impl Gate for ShutGate {
 }
 
 /// A board, its two seats, and how far its run is: how many packets were delivered or passed over, and who stepped last.
-#[derive(Drop)]
 pub struct Table {
     pub board: Board<WordCount>,
     pub masters: Seat,
@@ -43,12 +42,23 @@ pub struct Table {
     pub last: Option<ContainerId>,
 }
 
+// By hand, so that a table is dropped by one call.
+impl Drop for Table {
+    fn drop(self) {
+        let Table {
+            board: _,
+            masters: _,
+            nodes: _,
+            next: _,
+            last: _,
+        } = self;
+    }
+}
+
 /// The container of this number of the first master.
 pub fn container(rt: &impl Abort, number: u32) -> ContainerId {
-    match AppAttempt::new(1) {
-        Some(app) => ContainerId { app, number },
-        None => panic!(rt; "no generation 1"),
-    }
+    let app = AppAttempt::new(1).expect(rt, "no generation 1");
+    ContainerId { app, number }
 }
 
 // The world of a job of this one split and one reduce, on one node.
@@ -58,9 +68,7 @@ fn world(rt: &impl Abort, alloc: Global, text: &[u8]) -> World
     let mut splits = Vec::new(alloc);
     let split = Bytes::from_slice(alloc, text).expect(rt, "no memory");
     assert!(rt; split.len() <= 16_777_216);
-    if splits.push(split).is_err() {
-        panic!(rt; "no memory");
-    }
+    splits.push(split).expect(rt, "no memory");
     let config = Config {
         job: JobId {
             start: 200707121733,
@@ -89,7 +97,8 @@ pub fn numbered(rt: &impl Abort, alloc: Global, number: u64, text: &[u8]) -> Tab
     );
     let nodes = seats.pop().expect(rt, "no second seat");
     let masters = seats.pop().expect(rt, "no first seat");
-    assert!(rt; masters.number() == 0 && nodes.number() == 1);
+    confirm!(*rt; masters.number() == 0);
+    confirm!(*rt; nodes.number() == 1);
     Table {
         board,
         masters,
@@ -127,21 +136,10 @@ pub fn ended(rt: &impl Abort, alloc: Global) -> World {
     let mut table = opened(rt, alloc, b"a b a");
     table.launches_the_map(rt);
     table.calms(rt, alloc);
-    let Table {
-        board,
-        masters,
-        nodes,
-        next: _,
-        last: _,
-    } = table;
-    let mut seats = Vec::with_capacity(alloc, 2).expect(rt, "no memory");
-    if seats.push(masters).is_err() || seats.push(nodes).is_err() {
-        panic!(rt; "no memory");
-    }
-    match board.close(seats) {
-        Ok(closed) => closed.into_parts().0,
-        Err(Mismatch) => panic!(rt; "a mismatch"),
-    }
+    let (board, masters, nodes) = table.apart();
+    drop(masters);
+    drop(nodes);
+    board.into_world()
 }
 
 /// A copy of the event.
@@ -153,17 +151,25 @@ fn copied(rt: &impl Abort, event: &Event) -> Event {
 }
 
 impl Table {
+    /// Its board, the seat of its masters, and that of its nodes.
+    pub fn apart(self) -> (Board<WordCount>, Seat, Seat) {
+        let Table {
+            board,
+            masters,
+            nodes,
+            next: _,
+            last: _,
+        } = self;
+        (board, masters, nodes)
+    }
+
     /// The event is taken from the masters' seat.
     pub fn takes(&mut self, rt: &impl Abort, event: Event) {
         let length = self.board.world().journal().len();
         let made = self.masters.made().len();
-        match self.applied(rt, event) {
-            Ok(_) => {
-                assert!(rt; self.board.world().journal().len() > length);
-                assert!(rt; self.masters.made().len() > made);
-            }
-            Err(_) => panic!(rt; "refused"),
-        }
+        self.applied(rt, event).expect(rt, "refused");
+        confirm!(*rt; self.board.world().journal().len() > length);
+        confirm!(*rt; self.masters.made().len() > made);
     }
 
     /// What comes of the event from the masters' seat. Where memory is refused, world and list are as before, and it is applied again.
@@ -172,7 +178,7 @@ impl Table {
         let copy = copied(rt, &event);
         match self.board.apply_as(&mut self.masters, event) {
             Err(WorldFault::NoMemory) => {
-                assert!(rt; self.look() == before);
+                confirm!(*rt; self.look() == before);
                 self.board.apply_as(&mut self.masters, copy)
             }
             answer => answer,
@@ -180,7 +186,7 @@ impl Table {
     }
 
     /// How long journal, bag and the two lists are.
-    fn look(&self) -> [usize; 4] {
+    pub fn look(&self) -> [usize; 4] {
         let world = self.board.world();
         [
             world.journal().len(),
@@ -191,8 +197,8 @@ impl Table {
     }
 
     /// The work of a container, done behind an open gate.
-    pub fn done_at(&self, rt: &impl Abort, alloc: Global, c: ContainerId) -> Finished<WordCount> {
-        let work = self.board.work(alloc, &c).expect(rt, "it does not compute");
+    pub fn done_at(&self, rt: &impl Abort, alloc: Global, c: &ContainerId) -> Finished<WordCount> {
+        let work = self.board.work(alloc, c).expect(rt, "it does not compute");
         done(rt, alloc, work)
     }
 
@@ -205,7 +211,7 @@ impl Table {
         let before = self.look();
         match self.board.computed_as(&mut self.nodes, work) {
             Err(WorldFault::NoMemory) => {
-                assert!(rt; self.look() == before);
+                confirm!(*rt; self.look() == before);
                 let took = self.board.computed_as(&mut self.nodes, work)?;
                 Ok(took.count)
             }
@@ -301,10 +307,9 @@ impl Table {
         };
         self.last = Some(c);
         if self.board.world().input(&c).is_some() {
-            let work = self.done_at(rt, alloc, c);
-            if self.hands_in(rt, &work).is_err() {
-                panic!(rt; "refused");
-            }
+            let work = self.done_at(rt, alloc, &c);
+            self.hands_in(rt, &work).expect(rt, "refused");
+            drop(work);
         } else {
             self.takes(
                 rt,

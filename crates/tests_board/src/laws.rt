@@ -6,7 +6,7 @@ use mr_packet::Packet;
 use mr_world::{VisibleFile, World};
 use mr_world_events::Event;
 use mr_world_laws::{
-    files_stay_after_the_outcome, marked_files_stay, marker_stays, outcome_stays,
+    Told, files_stay_after_the_outcome, marked_files_stay, marker_stays, outcome_stays,
     success_means_marker, told_winner_is_the_winner, winner_stays,
 };
 use std::alloc::Global;
@@ -29,23 +29,32 @@ fn later(rt: &impl Abort, alloc: Global) -> Vec<Event> {
         generation: 7,
         kept: 0,
     };
-    if events.push(Event::NodeRestart { node: 0 }).is_err() || events.push(crash).is_err() {
-        panic!(rt; "no memory");
-    }
+    events
+        .push(Event::NodeRestart { node: 0 })
+        .expect(rt, "no memory");
+    events.push(crash).expect(rt, "no memory");
     events
 }
 
-// These are the one part file.
-fn are_the_file(files: &[VisibleFile]) -> bool {
+// These are the one part file, before the events and after them.
+fn are_the_file(rt: &impl Abort, told: Told<Vec<VisibleFile>>) {
+    confirm!(*rt; is_the_file(&told.before));
+    confirm!(*rt; is_the_file(&told.after));
+    drop(told);
+}
+
+fn is_the_file(files: &[VisibleFile]) -> bool {
     files.len() == 1 && files[0].bytes.as_slice() == TEXT
 }
 
 #[test]
 fn winner_is_told_again(rt: HostRuntime) {
-    let mut world = ended(&rt, rt.alloc());
-    let told = winner_stays(&mut world, later(&rt, rt.alloc()), REDUCE).expect(&rt, "refused");
-    assert!(rt; told.before == AttemptId::new(REDUCE, 0));
-    assert!(rt; told.after == told.before);
+    let rt = &rt;
+    let mut world = ended(rt, rt.alloc());
+    let told = winner_stays(&mut world, later(rt, rt.alloc()), REDUCE).expect(rt, "refused");
+    drop(world);
+    confirm!(*rt; told.before == AttemptId::new(REDUCE, 0));
+    confirm!(*rt; told.after == told.before);
 }
 
 // The first packet that tells of a winner.
@@ -58,58 +67,62 @@ fn told_at(world: &World) -> Option<usize> {
 
 #[test]
 fn told_winner_is_the_recorded_one(rt: HostRuntime) {
-    let world = ended(&rt, rt.alloc());
-    let place = told_at(&world).expect(&rt, "no winner is told");
-    match told_winner_is_the_winner(&world, place).expect(&rt, "refused") {
-        Some(winners) => {
-            assert!(rt; winners.1 == AttemptId::new(REDUCE, 0));
-            assert!(rt; winners.1 == Some(winners.0));
-        }
-        None => panic!(rt; "no winner"),
-    }
+    let rt = &rt;
+    let world = ended(rt, rt.alloc());
+    let place = told_at(&world).expect(rt, "no winner is told");
+    let winners = told_winner_is_the_winner(&world, place).expect(rt, "refused");
+    drop(world);
+    let (told, recorded) = winners.expect(rt, "no winner");
+    confirm!(*rt; recorded == AttemptId::new(REDUCE, 0));
+    confirm!(*rt; recorded == Some(told));
 }
 
 #[test]
 fn marker_is_seen_again(rt: HostRuntime) {
-    let mut world = ended(&rt, rt.alloc());
-    let told = marker_stays(&mut world, later(&rt, rt.alloc())).expect(&rt, "refused");
-    assert!(rt; told.before && told.after);
+    let rt = &rt;
+    let mut world = ended(rt, rt.alloc());
+    let told = marker_stays(&mut world, later(rt, rt.alloc())).expect(rt, "refused");
+    drop(world);
+    confirm!(*rt; told.before);
+    confirm!(*rt; told.after);
 }
 
 #[test]
 fn marked_files_are_seen_again(rt: HostRuntime) {
-    let mut world = ended(&rt, rt.alloc());
-    match marked_files_stay(&mut world, later(&rt, rt.alloc())).expect(&rt, "refused") {
-        Some(files) => {
-            assert!(rt; are_the_file(&files.before));
-            assert!(rt; are_the_file(&files.after));
-        }
-        None => panic!(rt; "no marker"),
-    }
+    let rt = &rt;
+    let mut world = ended(rt, rt.alloc());
+    let told = marked_files_stay(&mut world, later(rt, rt.alloc())).expect(rt, "refused");
+    drop(world);
+    are_the_file(rt, told.expect(rt, "no marker"));
 }
 
 #[test]
 fn files_are_seen_again_after_the_outcome(rt: HostRuntime) {
-    let mut world = ended(&rt, rt.alloc());
-    match files_stay_after_the_outcome(&mut world, later(&rt, rt.alloc())).expect(&rt, "refused") {
-        Some(files) => {
-            assert!(rt; are_the_file(&files.before));
-            assert!(rt; are_the_file(&files.after));
-        }
-        None => panic!(rt; "no outcome"),
-    }
+    let rt = &rt;
+    let mut world = ended(rt, rt.alloc());
+    let told = files_stay_after_the_outcome(&mut world, later(rt, rt.alloc())).expect(
+        rt, "refused",
+    );
+    drop(world);
+    are_the_file(rt, told.expect(rt, "no outcome"));
 }
 
 #[test]
 fn outcome_is_told_again(rt: HostRuntime) {
-    let mut world = ended(&rt, rt.alloc());
-    let told = outcome_stays(&mut world, later(&rt, rt.alloc())).expect(&rt, "refused");
-    assert!(rt; told.before == Some(true) && told.after == Some(true));
+    let rt = &rt;
+    let mut world = ended(rt, rt.alloc());
+    let told = outcome_stays(&mut world, later(rt, rt.alloc())).expect(rt, "refused");
+    drop(world);
+    confirm!(*rt; told.before == Some(true));
+    confirm!(*rt; told.after == Some(true));
 }
 
 #[test]
 fn success_is_told_of_a_marked_world(rt: HostRuntime) {
-    let world = ended(&rt, rt.alloc());
-    let (outcome, marker) = success_means_marker(&world).expect(&rt, "refused");
-    assert!(rt; outcome == Some(true) && marker);
+    let rt = &rt;
+    let world = ended(rt, rt.alloc());
+    let (outcome, marker) = success_means_marker(&world).expect(rt, "refused");
+    drop(world);
+    confirm!(*rt; outcome == Some(true));
+    confirm!(*rt; marker);
 }

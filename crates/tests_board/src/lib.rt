@@ -1,5 +1,5 @@
 //! Tests of what stands on a world: the board (several seats, works that are done outside it), the laws of what its calls answer, jobs
-//! that threads run, and the ends of the runs that are explored.
+//! that threads run, and a run that is explored.
 #![tactic(auto)]
 
 // Ends the test where the condition is not so, and tells it, and at which value. It is a call where `assert!` is a branch. What stands

@@ -1,7 +1,7 @@
 //! Runs of a plan, call by call: what is due comes, and nothing passes it.
 
-use crate::fixtures::plan;
-use mr_board::{Board, Seat};
+use crate::fixtures::{Table, container, opened, plan};
+use mr_board::{Board, Finished, Seat};
 use mr_board_report::{DriveFault, Plan, Run};
 use mr_jobs::WordCount;
 use mr_world::World;
@@ -40,6 +40,33 @@ fn refuses(rt: &impl Abort, run: &mut Run<WordCount>, seat: &mut Seat, event: Ev
     let answer = run.make(seat, event);
     confirm!(*rt; answer == Err(DriveFault::JournalMismatch), &answer);
     confirm!(*rt; run.world().journal().len() == events);
+}
+
+// The run makes what happened on the table, whose first event is due.
+fn follows(rt: &impl Abort, run: &mut Run<WordCount>, seat: &mut Seat, table: &Table) {
+    comes(rt, run, seat, 1);
+    let journal = table.board.world().journal();
+    for place in 1..journal.len() {
+        let event = journal[place].copy().expect(rt, "no memory");
+        let answer = run.make(seat, event);
+        confirm!(*rt; answer == Ok(true), &answer);
+    }
+}
+
+// While something is due, what a work gave is not taken.
+fn takes_nothing(
+    rt: &impl Abort,
+    run: &mut Run<WordCount>,
+    seat: &mut Seat,
+    done: Finished<WordCount>,
+) {
+    confirm!(*rt; run.is_held());
+    let events = run.world().journal().len();
+    let made = seat.made().len();
+    let answer = run.hand_in(seat, done);
+    confirm!(*rt; answer == Err(DriveFault::JournalMismatch), &answer);
+    confirm!(*rt; run.world().journal().len() == events);
+    confirm!(*rt; seat.made().len() == made);
 }
 
 // There is no master yet when the first fault is due, and none that runs at the second: the world refuses both, and what is behind them comes.
@@ -131,5 +158,30 @@ fn what_is_not_planned_does_not_happen(rt: HostRuntime) {
             kept: 0,
         },
     );
+    confirm!(*rt; answer == Ok(false), &answer);
+}
+
+// A crash is due while a map computes, and then the start behind it: what the map made is taken behind both, and once.
+#[test]
+fn a_work_waits_for_what_is_due(rt: HostRuntime) {
+    let rt = &rt;
+    let mut table = opened(rt, rt.alloc(), b"a b a");
+    table.launches_the_map(rt);
+    let c = container(rt, 0);
+    let events = table.board.world().journal().len();
+    let parts = format!(in rt.alloc();
+        "\"job\":\"wordcount\",\"splits\":[\"a b a\"],\"faults\":[{{\"after\":{events},\"master\":0}}]"
+    ).expect(rt, "no memory");
+    let plan = plan(rt, rt.alloc(), &parts);
+    let (mut run, mut seat) = begun(rt, rt.alloc(), &plan);
+    follows(rt, &mut run, &mut seat, &table);
+    takes_nothing(rt, &mut run, &mut seat, table.done_at(rt, rt.alloc(), &c));
+    comes(rt, &mut run, &mut seat, events + 1);
+    takes_nothing(rt, &mut run, &mut seat, table.done_at(rt, rt.alloc(), &c));
+    comes(rt, &mut run, &mut seat, events + 2);
+    let answer = run.hand_in(&mut seat, table.done_at(rt, rt.alloc(), &c));
+    confirm!(*rt; answer == Ok(true), &answer);
+    confirm!(*rt; run.world().journal().len() == events + 3);
+    let answer = run.hand_in(&mut seat, table.done_at(rt, rt.alloc(), &c));
     confirm!(*rt; answer == Ok(false), &answer);
 }

@@ -12,6 +12,13 @@ macro_rules! confirm {
     };
 }
 
+// Ends the test where the two differ, and tells both.
+macro_rules! confirm_eq {
+    ($rt:expr; $left:expr, $right:expr) => {
+        crate::confirm::are_same($rt, &$left, &$right, stringify!($left))
+    };
+}
+
 #[cfg(test)]
 mod confirm;
 #[cfg(test)]

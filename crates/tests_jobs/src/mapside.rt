@@ -29,7 +29,7 @@ fn gives_none<J: Job, G: Gate>(
     want: WorkFault,
 ) {
     let fault = mapped(rt, alloc, job, gate, 3, split, 1).err();
-    confirm!(rt; fault == Some(want), &fault);
+    confirm_eq!(rt; fault, Some(want));
 }
 
 #[test]
@@ -74,8 +74,8 @@ fn runs_are_read(rt: HostRuntime) {
     let alloc = rt.alloc();
     let read = read_pair::<WordCount>(alloc, b"\0\0\0\x01a\0\0\0\0\0\0\0\x02b");
     let ((key, value), len) = read.expect(rt, "a fault");
-    confirm!(rt; len == 13, &len);
-    confirm!(rt; value == 2, &value);
+    confirm_eq!(rt; len, 13);
+    confirm_eq!(rt; value, 2);
     bytes_are(rt, key.as_slice(), b"a");
     drop(key);
 }
@@ -85,7 +85,7 @@ fn bad_runs_and_none(rt: HostRuntime) {
     let rt = &rt;
     let alloc = rt.alloc();
     let fault = read_pair::<WordCount>(alloc, b"\0\0\0\x01a\0").err();
-    confirm!(rt; fault == Some(UserFault::BadWire), &fault);
+    confirm_eq!(rt; fault, Some(UserFault::BadWire));
     let mut groups = RunGroups::<WordCount>::new(alloc, Vec::new(alloc)).expect(rt, "no memory");
     let next = groups.next_group(alloc).expect(rt, "no memory");
     confirm!(rt; next.is_none());
@@ -100,15 +100,15 @@ fn map_work_is_refused(rt: HostRuntime) {
     let maps = gate_for(TaskKind::Map);
     let reduces = gate_for(TaskKind::Reduce);
     let output = mapped(rt, alloc, &MaxByKey, &maps, 3, b"x 3", 1).expect(rt, "a fault");
-    confirm!(rt; output.bytes().len() == 17);
+    confirm_eq!(rt; output.bytes().len(), 17);
     drop(output);
-    confirm!(rt; maps.entered.get() == 1);
+    confirm_eq!(rt; maps.entered.get(), 1);
     let refused = WorkFault::User(UserFault::Refused);
     gives_none(rt, alloc, &MaxByKey, &maps, b"x 3\nx", refused);
     let spent = WorkFault::Gate(GateFault::Spent);
     gives_none(rt, alloc, &MaxByKey, &reduces, b"x", spent);
-    confirm!(rt; maps.entered.get() == 2);
-    confirm!(rt; reduces.entered.get() == 1);
+    confirm_eq!(rt; maps.entered.get(), 2);
+    confirm_eq!(rt; reduces.entered.get(), 1);
 }
 
 #[test]
@@ -118,7 +118,7 @@ fn map_output_is_full(rt: HostRuntime) {
     let split = b"a ".repeat(alloc, 1000000).expect(rt, "no memory");
     gives_none(rt, alloc, &LineIndex, &OpenGate, &split, WorkFault::Full);
     let output = mapped(rt, alloc, &WordCount, &OpenGate, 3, &split, 1).expect(rt, "a fault");
-    confirm!(rt; output.bytes().len() == 17);
+    confirm_eq!(rt; output.bytes().len(), 17);
     drop(output);
 }
 
@@ -157,7 +157,7 @@ fn outputs_are_cut(rt: HostRuntime) {
     let copied = three.copy().expect(rt, "no memory");
     drop(three);
     let found = blocks(copied.bytes(), 3).expect(rt, "no blocks");
-    confirm!(rt; found.count() == 3);
+    confirm_eq!(rt; found.count(), 3);
     is_block(rt, found.get(0), b"ab");
     is_block(rt, found.get(1), b"");
     is_block(rt, found.get(2), b"c");

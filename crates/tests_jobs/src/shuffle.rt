@@ -32,7 +32,7 @@ fn refuses(
     want: ShuffleFault,
 ) {
     let fault = reduced(rt, alloc, reduce, of, all).err();
-    confirm!(rt; fault == Some(WorkFault::Shuffle(want)), &fault);
+    confirm_eq!(rt; fault, Some(WorkFault::Shuffle(want)));
 }
 
 // A reduce, the first map and the reduce of the pieces, their bytes, and why they are refused.
@@ -98,12 +98,12 @@ fn enters_once(rt: &impl Abort, alloc: Global, (first, all, kind): &Entering) {
     let parts = pieces(rt, alloc, *first, 3, all);
     let gate = gate_for(*kind);
     let fault = reduce_work(alloc, &WordCount, &gate, 3, &parts).err();
-    confirm!(rt; gate.entered.get() == 1);
+    confirm_eq!(rt; gate.entered.get(), 1);
     let want = match kind {
         TaskKind::Map => Some(WorkFault::Gate(GateFault::Spent)),
         TaskKind::Reduce => None,
     };
-    confirm!(rt; fault == want, &fault);
+    confirm_eq!(rt; fault, want);
 }
 
 // A reduce work enters once, with pieces and without, and before it looks at a piece: where the gate refuses, a bad piece
@@ -126,10 +126,10 @@ fn bytes_alone_are_reduced(rt: HostRuntime) {
     let gate = gate_for(TaskKind::Reduce);
     let text = reduce_bytes(alloc, &WordCount, &gate, &all).expect(rt, "a fault");
     bytes_are(rt, &text, b"a\t7\nb\t1\n");
-    confirm!(rt; gate.entered.get() == 1);
+    confirm_eq!(rt; gate.entered.get(), 1);
     let gate = gate_for(TaskKind::Map);
     let fault = reduce_bytes(alloc, &WordCount, &gate, &all).err();
-    confirm!(rt; fault == Some(WorkFault::Gate(GateFault::Spent)), &fault);
+    confirm_eq!(rt; fault, Some(WorkFault::Gate(GateFault::Spent)));
 }
 
 // The answer to a piece of one pair, whose key has so many bytes and whose value is 1.
@@ -146,9 +146,9 @@ fn reduce_is_full(rt: HostRuntime) {
     let rt = &rt;
     let alloc = rt.alloc();
     let text = reduced_of_long(rt, alloc, 16777213).expect(rt, "a fault");
-    confirm!(rt; text.len() == MAX_OUTPUT_LEN);
+    confirm_eq!(rt; text.len(), MAX_OUTPUT_LEN);
     let fault = reduced_of_long(rt, alloc, 16777214).err();
-    confirm!(rt; fault == Some(WorkFault::Full), &fault);
+    confirm_eq!(rt; fault, Some(WorkFault::Full));
 }
 
 // Where the block ends behind a pair, it has a text. Else it is truncated.

@@ -13,7 +13,7 @@ use std::process::Abort;
 
 // The call answers this fault.
 fn faults(rt: &impl Abort, fault: Option<UserFault>, want: UserFault) {
-    confirm!(rt; fault == Some(want), &fault);
+    confirm_eq!(rt; fault, Some(want));
 }
 
 // The pairs of line 2 of split 1.
@@ -212,11 +212,11 @@ fn splits_are_copied(rt: HostRuntime) {
     let splits = Splits::from_vec(bytes_of(rt, alloc, TEXTS));
     let none = Splits::from_vec(Vec::new(alloc));
     let copy = splits.copy().expect(rt, "no memory");
-    confirm!(rt; copy == splits);
+    confirm_eq!(rt; copy, splits);
     confirm!(rt; none != splits);
     drop(none);
     drop(splits);
-    confirm!(rt; copy.len() == 2);
+    confirm_eq!(rt; copy.len(), 2);
     confirm!(rt; copy.get(2).is_none());
     let first = copy.get(0).expect(rt, "no split");
     bytes_are(rt, first.as_slice(), b"a b\n");

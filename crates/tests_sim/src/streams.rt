@@ -95,29 +95,13 @@ impl Write for FaultyWriter {
     }
 }
 
-// A read that fails is answered at once, and nothing is written.
-fn each_read_fails<H: AllocGlobal + Eprint + Clock + Threads + Wait + Sync + Abort>(rt: &H) {
-    let mut whole = 0u32;
-    for good in 0..60 {
-        let mut input = FaultyReader {
-            bytes: HELLO,
-            piece: 3,
-            good,
-        };
-        let mut output = FaultyWriter::new(3, 1000);
-        match run(rt, &Command::Committer, &mut input, &mut output) {
-            Ok(remarks) => {
-                confirm!(rt; remarks.met && output.took(HELLO_TEXT));
-                whole = whole.saturating_add(1);
-            }
-            Err(refusal) => {
-                confirm!(rt; refusal.fault == SimFault::Read, &refusal);
-                confirm!(rt; output.len == 0);
-            }
-        }
-    }
-    // 109 bytes take 37 reads of 3 bytes, and one that finds the end.
-    confirm!(rt; whole == 22, &whole);
+// What a run of the committer over these streams comes to.
+fn ran<H: AllocGlobal + Eprint + Clock + Threads + Wait + Sync, R: Read>(
+    rt: &H,
+    input: &mut R,
+    output: &mut FaultyWriter,
+) -> Result<Remarks, Refusal> {
+    run(rt, &Command::Committer, input, output)
 }
 
 // The fault of a run, if it failed.
@@ -128,24 +112,74 @@ fn fault_of(ran: &Result<Remarks, Refusal>) -> Option<SimFault> {
     }
 }
 
+// Whether it is done, and all is as expected.
+fn is_met(ran: &Result<Remarks, Refusal>) -> bool {
+    match ran {
+        Ok(remarks) => remarks.met,
+        Err(_) => false,
+    }
+}
+
+// Whether a run of which so many reads succeed is done. Else it failed for its reads, and nothing is written.
+fn is_read<H: AllocGlobal + Eprint + Clock + Threads + Wait + Sync + Abort>(
+    rt: &H,
+    good: u32,
+) -> bool {
+    let mut input = FaultyReader {
+        bytes: HELLO,
+        piece: 3,
+        good,
+    };
+    let mut output = FaultyWriter::new(3, 1000);
+    let ran = ran(rt, &mut input, &mut output);
+    let fault = fault_of(&ran);
+    let met = is_met(&ran);
+    drop(ran);
+    confirm!(*rt; fault == None || fault == Some(SimFault::Read), &fault);
+    let want: &[u8] = if met { HELLO_TEXT } else { b"" };
+    confirm!(*rt; output.took(want));
+    fault.is_none()
+}
+
+// A read that fails is answered at once, and nothing is written.
+fn each_read_fails<H: AllocGlobal + Eprint + Clock + Threads + Wait + Sync + Abort>(rt: &H) {
+    let mut whole = 0u32;
+    for good in 0..60 {
+        if is_read(rt, good) {
+            whole = whole.saturating_add(1);
+        }
+    }
+    // 109 bytes take 37 reads of 3 bytes, and one that finds the end.
+    confirm!(*rt; whole == 22, &whole);
+}
+
+// Whether a run of which so many writes succeed is done. Else it failed for its writes.
+fn is_written<H: AllocGlobal + Eprint + Clock + Threads + Wait + Sync + Abort>(
+    rt: &H,
+    good: u32,
+) -> bool {
+    let mut input = HELLO;
+    let mut output = FaultyWriter::new(3, good);
+    let ran = ran(rt, &mut input, &mut output);
+    let fault = fault_of(&ran);
+    drop(ran);
+    confirm!(*rt; fault == None || fault == Some(SimFault::Write), &fault);
+    // What was taken is the text's beginning: nothing is lost between, nothing doubled.
+    let taken = output.len.min(HELLO_TEXT.len());
+    confirm!(*rt; output.took(&HELLO_TEXT[..taken]));
+    fault.is_none()
+}
+
 // So is a write that fails.
 fn each_write_fails<H: AllocGlobal + Eprint + Clock + Threads + Wait + Sync + Abort>(rt: &H) {
     let mut whole = 0u32;
     for good in 0..20 {
-        let mut input = HELLO;
-        let mut output = FaultyWriter::new(3, good);
-        let ran = run(rt, &Command::Committer, &mut input, &mut output);
-        match fault_of(&ran) {
-            None => whole = whole.saturating_add(1),
-            Some(fault) => confirm!(rt; fault == SimFault::Write, &fault),
+        if is_written(rt, good) {
+            whole = whole.saturating_add(1);
         }
-        drop(ran);
-        // What was taken is the text's beginning: nothing is lost between, nothing doubled.
-        let taken = output.len.min(HELLO_TEXT.len());
-        confirm!(rt; output.took(&HELLO_TEXT[..taken]));
     }
     // 39 bytes take 13 writes of 3 bytes.
-    confirm!(rt; whole == 7, &whole);
+    confirm!(*rt; whole == 7, &whole);
 }
 
 #[test]
@@ -160,7 +194,7 @@ fn failed_flush_is_answered(rt: HostRuntime) {
     let mut input = HELLO;
     let mut output = FaultyWriter::new(512, 1000);
     output.flushes = false;
-    let ran = run(&rt, &Command::Committer, &mut input, &mut output);
+    let ran = ran(&rt, &mut input, &mut output);
     let fault = fault_of(&ran);
     drop(ran);
     confirm!(rt; fault == Some(SimFault::Write), &fault);
@@ -180,7 +214,9 @@ fn runs_over_streams(rt: HostRuntime) {
 fn runs_with_remarks(rt: HostRuntime) {
     let mut input = HELLO;
     let mut output = FaultyWriter::new(512, 1000);
-    let remarks = run(&rt, &Command::Committer, &mut input, &mut output).expect(&rt, "a fault");
-    confirm!(rt; remarks.ending() == Ending::Done);
+    let remarks = ran(&rt, &mut input, &mut output).expect(&rt, "a fault");
+    let ending = remarks.ending();
+    drop(remarks);
+    confirm!(rt; ending == Ending::Done);
     confirm!(rt; output.took(HELLO_TEXT));
 }

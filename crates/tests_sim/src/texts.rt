@@ -9,6 +9,11 @@ use std::process::Abort;
 const ONE: &[u8] =
     b"{\"id\":\"job_200707121733_0003\",\"job\":\"wordcount\",\"reduces\":1,\"splits\":[\"a b a\"]}\n";
 
+const JOB: JobId = JobId {
+    start: 200707121733,
+    number: 3,
+};
+
 // This is the answer to the command.
 fn answers<H: AllocGlobal + Abort>(rt: &H, command: Command<'_>, input: &[u8], text: &[u8]) {
     let printed = answer(rt.alloc(), command, input).expect(rt, "a fault");
@@ -39,6 +44,7 @@ fn answers_without_a_handle(rt: HostRuntime) {
     let asked = Asked {
         faults: 0,
         most: u64::MAX,
+        seconds: None,
         goal: Some(goal.as_slice()),
         form: Form::Text,
     };
@@ -75,7 +81,8 @@ fn texts_of_threads(rt: HostRuntime) {
         (SimFault::Thread, "mrsim: thread"),
     ] {
         let shown = format!(in rt.alloc(); "{fault}").expect(&rt, "no memory");
-        assert!(rt; shown.as_str() == text);
+        confirm!(rt; shown.as_str() == text);
+        drop(shown);
     }
 }
 
@@ -84,22 +91,18 @@ fn texts_of_threads(rt: HostRuntime) {
 fn read_submission(rt: HostRuntime) {
     let alloc = rt.alloc();
     let job = read_job_text(alloc, ONE).expect(&rt, "a fault");
-    assert!(rt;
-        job.id
-            == JobId {
-                start: 200707121733,
-                number: 3
-            }
-    );
-    assert!(rt; job.job == JobKind::WordCount && job.reduces == 1);
-    assert!(rt; job.nodes == 1 && job.limit == 4 && job.v2_from == 1);
-    assert!(rt; job.faults.as_slice().is_empty());
-    assert!(rt; job.splits.as_slice().len() == 1);
-    assert!(rt; job.splits.into_vec()[0].as_slice() == b"a b a".as_slice());
+    confirm!(rt; job.id == JOB);
+    confirm!(rt; job.job == JobKind::WordCount);
+    confirm!(rt; (job.reduces, job.nodes, job.limit, job.v2_from) == (1, 1, 4, 1));
+    confirm!(rt; job.faults.as_slice().is_empty());
+    confirm!(rt; job.splits.len() == 1);
+    let split = job.splits.get(0).expect(&rt, "no split");
+    confirm!(rt; split.as_slice() == b"a b a".as_slice());
+    drop(job);
     let text =
         b"{\"id\":\"job_200707121733_0003\",\"job\":\"wordcount\",\"reduces\":1,\"splits\":[\"a\"],\"v2from\":1000,\"nodes\":2,\"limit\":3,\"faults\":[{\"after\":7,\"node\":1},{\"after\":8,\"master\":9},{\"after\":0,\"expire\":1}]}";
     let job = read_job_text(alloc, text).expect(&rt, "a fault");
-    assert!(rt; job.nodes == 2 && job.limit == 3 && job.v2_from == 1000);
+    confirm!(rt; (job.reduces, job.nodes, job.limit, job.v2_from) == (1, 2, 3, 1000));
     let faults = [
         PlanFault {
             after: 7,
@@ -114,5 +117,6 @@ fn read_submission(rt: HostRuntime) {
             act: PlanAct::Expire(1),
         },
     ];
-    assert!(rt; job.faults.into_vec().as_slice() == faults.as_slice());
+    confirm!(rt; job.faults.as_slice() == faults.as_slice());
+    drop(job);
 }

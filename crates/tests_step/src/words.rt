@@ -35,71 +35,92 @@ fn none(rt: &(impl Abort + AllocGlobal), line: &str) {
     so(rt, answer.is_none(), line);
 }
 
+// A line for each call.
+const CALLS: &[&str] = &[
+    "mkdirs /out/_temporary/1",
+    "create /out/_SUCCESS closed",
+    "create /a",
+    "append /a b%0A%20%25",
+    "append /a ",
+    "close /a",
+    "delete /a%20b/%FF",
+    "rename /a/b /",
+    "list /",
+    "exists /a-b._~",
+    "read /a",
+    "bar attempt_200707121733_0003_r_000000_1",
+];
+
 #[test]
 fn calls_are_read_back(rt: HostRuntime) {
     let rt = &rt;
-    call(rt, "mkdirs /out/_temporary/1");
-    call(rt, "create /out/_SUCCESS closed");
-    call(rt, "create /a");
-    call(rt, "append /a b%0A%20%25");
-    call(rt, "append /a ");
-    call(rt, "close /a");
-    call(rt, "delete /a%20b/%FF");
-    call(rt, "rename /a/b /");
-    call(rt, "list /");
-    call(rt, "exists /a-b._~");
-    call(rt, "read /a");
-    call(rt, "bar attempt_200707121733_0003_r_000000_1");
+    for line in CALLS {
+        call(rt, line);
+    }
 }
+
+// A line for each answer.
+const ANSWERS: &[&str] = &[
+    "done",
+    "entries",
+    "entries _temporary/ part-r-00000 a%20b",
+    "nothing",
+    "a directory",
+    "a file",
+    "bytes ",
+    "bytes a/b%0A",
+    "Superseded 4294967295",
+    "Barred",
+    "Missing",
+    "Exists",
+    "NotDir",
+    "NotFile",
+    "Closed",
+    "NoParent",
+    "IntoItself",
+    "Full",
+    "NoMemory",
+];
 
 #[test]
 fn answers_are_read_back(rt: HostRuntime) {
     let rt = &rt;
-    answer(rt, "done");
-    answer(rt, "entries");
-    answer(rt, "entries _temporary/ part-r-00000 a%20b");
-    answer(rt, "nothing");
-    answer(rt, "a directory");
-    answer(rt, "a file");
-    answer(rt, "bytes ");
-    answer(rt, "bytes a/b%0A");
-    answer(rt, "Superseded 4294967295");
-    answer(rt, "Barred");
-    answer(rt, "Missing");
-    answer(rt, "Exists");
-    answer(rt, "NotDir");
-    answer(rt, "NotFile");
-    answer(rt, "Closed");
-    answer(rt, "NoParent");
-    answer(rt, "IntoItself");
-    answer(rt, "Full");
-    answer(rt, "NoMemory");
+    for line in ANSWERS {
+        answer(rt, line);
+    }
 }
+
+// Lines that are neither.
+const NONE: &[&str] = &[
+    "",
+    "done ",
+    "Done",
+    " done",
+    "a",
+    "a door",
+    "bytes",
+    "bytes %0a",
+    "bytes %2",
+    "bytes a:b",
+    "bytes %61",
+    "entries /",
+    "entries a/b",
+    "entries  a",
+    "Superseded 4294967296",
+    "Superseded 01",
+    "mkdirs",
+    "mkdirs a",
+    "mkdirs /a/",
+    "mkdirs //a",
+    "create /a open",
+    "rename /a",
+    "bar attempt_1",
+];
 
 #[test]
 fn other_lines_are_none(rt: HostRuntime) {
     let rt = &rt;
-    none(rt, "");
-    none(rt, "done ");
-    none(rt, "Done");
-    none(rt, " done");
-    none(rt, "a");
-    none(rt, "a door");
-    none(rt, "bytes");
-    none(rt, "bytes %0a");
-    none(rt, "bytes %2");
-    none(rt, "bytes a:b");
-    none(rt, "bytes %61");
-    none(rt, "entries /");
-    none(rt, "entries a/b");
-    none(rt, "entries  a");
-    none(rt, "Superseded 4294967296");
-    none(rt, "Superseded 01");
-    none(rt, "mkdirs");
-    none(rt, "mkdirs a");
-    none(rt, "mkdirs /a/");
-    none(rt, "mkdirs //a");
-    none(rt, "create /a open");
-    none(rt, "rename /a");
-    none(rt, "bar attempt_1");
+    for line in NONE {
+        none(rt, line);
+    }
 }

@@ -22,8 +22,8 @@ fn hears(
 fn pending(rt: &impl Abort, kind: TaskKind) -> AttemptMachine {
     let a = attempt(rt, kind, 7);
     let mut machine = AttemptMachine::new(a);
-    confirm!(rt; machine.attempt() == a);
-    confirm!(rt; machine.state() == AttemptState::New);
+    confirm_eq!(rt; machine.attempt(), a);
+    confirm_eq!(rt; machine.state(), AttemptState::New);
     hears(
         rt,
         &mut machine,

@@ -24,17 +24,17 @@ fn bag_grows(rt: HostRuntime) {
     push(rt, &mut bag, 0);
     push(rt, &mut bag, 1);
     push(rt, &mut bag, 2);
-    confirm!(rt; bag.len() == 3);
-    confirm!(rt; bag.packets().len() == 3);
+    confirm_eq!(rt; bag.len(), 3);
+    confirm_eq!(rt; bag.packets().len(), 3);
     confirm!(rt; bag.get(3).is_none());
     let last = bag.get(2).expect(rt, "no packet");
-    confirm!(rt; last.to == Address::Node(2));
+    confirm_eq!(rt; last.to, Address::Node(2));
     drop(bag);
 }
 
 // These are the bytes.
 fn are(rt: &impl Abort, bytes: &Bytes, want: &[u8]) {
-    confirm!(rt; bytes.as_slice() == want, &want);
+    confirm_eq!(rt; bytes.as_slice(), want);
 }
 
 // More bytes are added.
@@ -52,9 +52,9 @@ fn bytes_are_added(rt: HostRuntime) {
     let mut bytes = bytes_of(rt, rt.alloc(), b"ab");
     extend(rt, &mut bytes, b"c");
     let copy = bytes.copy().expect(rt, "no memory");
-    confirm!(rt; copy.len() == 3);
+    confirm_eq!(rt; copy.len(), 3);
     are(rt, &copy, b"abc");
-    confirm!(rt; bytes == copy);
+    confirm_eq!(rt; bytes, copy);
     confirm!(rt; !bytes.is_empty());
     confirm!(rt; Bytes::new(rt.alloc()).is_empty());
     extend(rt, &mut bytes, b"d");
@@ -93,7 +93,7 @@ fn shared_bytes_outlive_their_first_holder(rt: HostRuntime) {
     drop(middle);
     drop(other);
     let want = bytes_of(rt, rt.alloc(), b"bcbce");
-    confirm!(rt; joined == want);
+    confirm_eq!(rt; joined, want);
     drop(want);
     drop(joined);
 }
@@ -124,7 +124,7 @@ fn bytes_are_copied_in_their_order(rt: HostRuntime) {
             .expect(rt, "no memory");
     }
     let copies = Bytes::copies(rt.alloc(), &all).expect(rt, "no memory");
-    confirm!(rt; copies.as_slice() == all.as_slice());
+    confirm_eq!(rt; copies.as_slice(), all.as_slice());
     drop(copies);
     drop(all);
 }

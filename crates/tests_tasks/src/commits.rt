@@ -101,7 +101,7 @@ fn written(
 // Where it reports that it is done, this is what it tells of its length.
 fn tells_length(rt: &impl Abort, machine: &ContainerMachine, want: Option<u32>) {
     let told = told_bytes(machine);
-    confirm!(rt; told == Some(want), &told);
+    confirm_eq!(rt; told, Some(want));
 }
 
 fn told_bytes(machine: &ContainerMachine) -> Option<Option<u32>> {
@@ -133,7 +133,7 @@ fn is_committed(
     part.push(name).expect(rt, "no memory");
     let bytes = names.read(reduce.caller(), &part).expect(rt, "no file");
     drop(part);
-    confirm!(rt; bytes.as_slice() == want);
+    confirm_eq!(rt; bytes.as_slice(), want);
     drop(bytes);
 }
 
@@ -258,6 +258,6 @@ fn done_ack_twice(rt: HostRuntime) {
     bag.reserve(1).expect(rt, "no memory");
     map.tell_end(&mut bag);
     drop(map);
-    confirm!(rt; bag.len() == 1);
+    confirm_eq!(rt; bag.len(), 1);
     drop(bag);
 }

@@ -25,7 +25,7 @@ pub fn hears(rt: &impl Abort, machine: &mut ContainerMachine, packet: Packet) {
 /// The container wishes this.
 pub fn wishes(rt: &impl Abort, machine: &ContainerMachine, want: Wish) {
     let wish = machine.wish();
-    confirm!(rt; wish == want, &wish);
+    confirm_eq!(rt; wish, want);
 }
 
 /// The container is told where the output of map 0 lies.

@@ -12,7 +12,7 @@ use std::process::Abort;
 // It asks for bytes from this offset on.
 fn asks_from(rt: &impl Abort, machine: &ContainerMachine, want: u64) {
     let offset = asked_offset(machine);
-    confirm!(rt; offset == Some(want), &offset);
+    confirm_eq!(rt; offset, Some(want));
 }
 
 // From which offset on it asks.
@@ -47,7 +47,7 @@ fn pieces_of_another(rt: HostRuntime) {
     gets(rt, alloc, &mut reduce, &(0, 1, 0, 1, b"x"));
     asks_from(rt, &reduce, 0);
     gets(rt, alloc, &mut reduce, &(0, 0, 0, 1, b"y"));
-    confirm!(rt; block(rt, &reduce).as_slice() == b"y".as_slice());
+    confirm_eq!(rt; block(rt, &reduce).as_slice(), b"y".as_slice());
     drop(reduce);
 }
 
@@ -86,7 +86,7 @@ fn empty_block(rt: HostRuntime) {
     let alloc = rt.alloc();
     let mut reduce = fetching(rt, alloc);
     gets(rt, alloc, &mut reduce, &(0, 0, 0, 0, b""));
-    confirm!(rt; block(rt, &reduce).len() == 0);
+    confirm_eq!(rt; block(rt, &reduce).len(), 0);
     drop(reduce);
 }
 
@@ -118,7 +118,7 @@ fn block_of_two_pieces(rt: HostRuntime) {
     asks(rt, &mut node, &mut reduce);
     asks_from(rt, &reduce, 65_536);
     asks(rt, &mut node, &mut reduce);
-    confirm!(rt; block(rt, &reduce).len() == 65_537);
+    confirm_eq!(rt; block(rt, &reduce).len(), 65_537);
     drop(reduce);
     drop(node);
 }
@@ -134,7 +134,7 @@ fn block_of_seventeen_pieces(rt: HostRuntime) {
         confirm!(rt; reduce.wish() != Wish::Compute);
         asks(rt, &mut node, &mut reduce);
     }
-    confirm!(rt; block(rt, &reduce).len() == 1_048_577);
+    confirm_eq!(rt; block(rt, &reduce).len(), 1_048_577);
     drop(reduce);
     drop(node);
 }

@@ -65,7 +65,7 @@ pub fn node_with(rt: &impl Abort, alloc: Global, output: Vec<u8>) -> NodeMachine
 
 /// These are the attempts of these numbers at the task 0 of this kind, in this order.
 pub fn are_attempts(rt: &impl Abort, list: &[AttemptId], kind: TaskKind, numbers: &[u32]) {
-    confirm!(rt; list.len() == numbers.len());
+    confirm_eq!(rt; list.len(), numbers.len());
     for (a, number) in list.iter().zip(numbers) {
         confirm!(rt; *a == attempt(rt, kind, *number), number);
     }
@@ -74,5 +74,5 @@ pub fn are_attempts(rt: &impl Abort, list: &[AttemptId], kind: TaskKind, numbers
 /// `{}` writes this text of a value.
 pub fn shows<T: Display>(rt: &impl Abort, alloc: Global, value: &T, text: &str) {
     let shown = value.to_string(alloc).expect(rt, "no memory");
-    confirm!(rt; shown.as_str() == text, &text);
+    confirm_eq!(rt; shown.as_str(), text);
 }

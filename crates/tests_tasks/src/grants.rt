@@ -110,8 +110,8 @@ fn grant_is_fixed(rt: HostRuntime) {
 // Its copy, which has the same attempts in the same order, and is fixed where it is.
 fn copied(rt: &impl Abort, grant: &Grant) -> Grant {
     let copy = grant.copy().expect(rt, "no memory");
-    confirm!(rt; copy.attempts() == grant.attempts());
-    confirm!(rt; copy.is_fixed() == grant.is_fixed());
+    confirm_eq!(rt; copy.attempts(), grant.attempts());
+    confirm_eq!(rt; copy.is_fixed(), grant.is_fixed());
     copy
 }
 
@@ -158,7 +158,7 @@ fn thousand_ask(rt: HostRuntime) {
     for number in 0..1000 {
         hold(rt, &mut grant, &[(Call::Pending, number, true)]);
     }
-    confirm!(rt; grant.attempts().len() == 1000);
+    confirm_eq!(rt; grant.attempts().len(), 1000);
     let mut copy = copied(rt, &grant);
     last_waits(rt, &mut grant);
     last_waits(rt, &mut copy);

@@ -36,7 +36,7 @@ fn hold(rt: &impl Abort, node: &mut NodeMachine, number: u32, rows: &[(Event, u3
     let c = container(rt, number);
     for (event, incarnation, want) in rows {
         let deed = comes(rt, node, &c, *event, *incarnation);
-        confirm!(rt; deed == *want, &deed);
+        confirm_eq!(rt; deed, *want);
     }
 }
 
@@ -124,9 +124,9 @@ fn launch_for_another_incarnation(rt: HostRuntime) {
     let app = container(rt, 0).app;
     let mut node = NodeMachine::new(rt.alloc(), 7, 1);
     node.restart();
-    confirm!(rt; node.number() == 7);
-    confirm!(rt; node.incarnation() == 2);
-    confirm!(rt; node.up(app).to == Address::Master(app));
+    confirm_eq!(rt; node.number(), 7);
+    confirm_eq!(rt; node.incarnation(), 2);
+    confirm_eq!(rt; node.up(app).to, Address::Master(app));
     hold(
         rt,
         &mut node,
@@ -167,7 +167,7 @@ fn fetches(rt: &impl Abort, node: &NodeMachine, rows: &[Fetch]) {
             .fetch(c, a, 0, *incarnation, *offset)
             .expect(rt, "no memory");
         let len = piece_len(&answer);
-        confirm!(rt; len == *want, &len);
+        confirm_eq!(rt; len, *want);
     }
 }
 
@@ -227,6 +227,6 @@ fn told_does_nothing(rt: HostRuntime) {
         node.hear(&outcome).expect(rt, "no memory"),
         &container(rt, 0),
     );
-    confirm!(rt; deed == Deed::Nothing, &deed);
+    confirm_eq!(rt; deed, Deed::Nothing);
     drop(node);
 }

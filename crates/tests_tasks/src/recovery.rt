@@ -62,8 +62,8 @@ fn the_first_winners_by_rising_task(rt: HostRuntime) {
     };
     let list = winners.as_slice();
     assert!(rt; winners.len() == 2);
-    confirm!(rt; list[0] == winner(rt, 0, 1000, Some(8)));
-    confirm!(rt; list[1] == winner(rt, 1, 0, None));
+    confirm_eq!(rt; list[0], winner(rt, 0, 1000, Some(8)));
+    confirm_eq!(rt; list[1], winner(rt, 1, 0, None));
     drop(winners);
 }
 

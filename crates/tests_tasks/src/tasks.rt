@@ -135,7 +135,7 @@ fn recovered(rt: &impl Abort, alloc: Global, number: u32) -> TaskMachine {
     let id = task_id(TaskKind::Map, 0);
     let mut task = TaskMachine::new(alloc, id, generation(rt, number));
     let answer = task.recovered(attempt_at(rt, id, 3));
-    confirm!(rt; answer == Ok(()), &answer);
+    confirm_eq!(rt; answer, Ok(()));
     are_attempts(rt, task.arrived(), TaskKind::Map, &[3]);
     task
 }
@@ -274,19 +274,19 @@ fn named_map_ends(rt: HostRuntime) {
 
 // Both tell the same of this attempt.
 fn are_alike(rt: &impl Abort, task: &TaskMachine, copy: &TaskMachine, a: AttemptId) {
-    confirm!(rt; copy.state(a) == task.state(a));
-    confirm!(rt; copy.can_commit(a) == task.can_commit(a));
-    confirm!(rt; copy.done_reply(a) == task.done_reply(a));
+    confirm_eq!(rt; copy.state(a), task.state(a));
+    confirm_eq!(rt; copy.can_commit(a), task.can_commit(a));
+    confirm_eq!(rt; copy.done_reply(a), task.done_reply(a));
 }
 
 // A copy of the machine tells what it tells.
 fn is_copied(rt: &impl Abort, task: &TaskMachine) {
     let copy = task.copy().expect(rt, "no memory");
-    confirm!(rt; copy.arrived() == task.arrived());
-    confirm!(rt; copy.numbered() == task.numbered());
-    confirm!(rt; copy.failures() == task.failures());
-    confirm!(rt; copy.winner() == task.winner());
-    confirm!(rt; copy.is_won() == task.is_won());
+    confirm_eq!(rt; copy.arrived(), task.arrived());
+    confirm_eq!(rt; copy.numbered(), task.numbered());
+    confirm_eq!(rt; copy.failures(), task.failures());
+    confirm_eq!(rt; copy.winner(), task.winner());
+    confirm_eq!(rt; copy.is_won(), task.is_won());
     for a in task.arrived() {
         are_alike(rt, task, &copy, *a);
     }
@@ -336,13 +336,13 @@ fn next_launch_is_told(rt: HostRuntime) {
     let mut task = machine(rt, rt.alloc(), TaskKind::Map);
     task.stands();
     assert!(rt; task.launch_refusal().is_none());
-    confirm!(rt; task.next_attempt() == attempt(rt, TaskKind::Map, 0));
+    confirm_eq!(rt; task.next_attempt(), attempt(rt, TaskKind::Map, 0));
     hold(
         rt,
         &mut task,
         &[(Call::Launch, 0, Is::Fine), (Call::Launch, 1, Is::Fine)],
     );
-    confirm!(rt; task.launch_refusal() == Some(TaskFault::TooManyLive));
+    confirm_eq!(rt; task.launch_refusal(), Some(TaskFault::TooManyLive));
     drop(task);
 }
 

@@ -130,8 +130,8 @@ pub fn world_copied(rt: &impl Abort, world: &World) -> World {
 /// What is read of both is the same.
 pub fn are_alike(rt: &impl Abort, world: &World, copy: &World) {
     confirm!(rt; Look::at(copy) == Look::at(world));
-    confirm!(rt; copy.journal() == world.journal());
-    confirm!(rt; winners(rt, copy) == winners(rt, world));
-    confirm!(rt; is_marked(rt, copy) == is_marked(rt, world));
-    confirm!(rt; shown(rt, copy) == shown(rt, world));
+    confirm_eq!(rt; copy.journal(), world.journal());
+    confirm_eq!(rt; winners(rt, copy), winners(rt, world));
+    confirm_eq!(rt; is_marked(rt, copy), is_marked(rt, world));
+    confirm_eq!(rt; shown(rt, copy), shown(rt, world));
 }

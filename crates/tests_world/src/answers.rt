@@ -95,7 +95,7 @@ pub fn answers(rt: &impl Abort, alloc: Global, master: &mut MasterMachine, rows:
 // The same of one row, and of no copy.
 fn is_answered(rt: &impl Abort, alloc: Global, master: &mut MasterMachine, row: &Row) {
     let (name, said, then) = *row;
-    confirm!(rt; due(rt, master) == Some(name), &name);
+    confirm_eq!(rt; due(rt, master), Some(name));
     let answer = answer(rt, alloc, said);
     let sent = master.answer(answer).expect(rt, "no memory");
     confirm!(rt; holds(rt, master, &sent, then), &name);

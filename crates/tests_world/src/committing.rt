@@ -55,7 +55,7 @@ fn refused_record_stops_a_failing_master(rt: HostRuntime) {
         launched(rt, &mut master, REDUCE, 0);
         hears(rt, &mut master, &[(Told::Failed, number, 0)]);
     }
-    confirm!(rt; master.phase() == Phase::Failing);
+    confirm_eq!(rt; master.phase(), Phase::Failing);
     let full = &[(DutyName::Append, Said::Full, Then::WouldStop)];
     answers(rt, alloc, &mut master, full);
     for _ in 0..9 {

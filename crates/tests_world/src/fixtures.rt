@@ -94,13 +94,13 @@ pub fn comes_to(rt: &impl Abort, world: &mut World, event: Event, want: Result<(
     match applied(rt, world, event) {
         Ok(took) => {
             confirm!(rt; want.is_ok());
-            confirm!(rt; took.first == bag);
+            confirm_eq!(rt; took.first, bag);
             confirm!(rt; world.journal().len() > journal);
         }
         Err(fault) => {
-            confirm!(rt; want == Err(fault), &fault);
-            confirm!(rt; world.bag().len() == bag);
-            confirm!(rt; world.journal().len() == journal);
+            confirm_eq!(rt; want, Err(fault));
+            confirm_eq!(rt; world.bag().len(), bag);
+            confirm_eq!(rt; world.journal().len(), journal);
         }
     }
 }
@@ -111,9 +111,9 @@ fn is_foreseen(rt: &impl Abort, world: &World, event: &Event, want: Result<(), W
         Err(WorldFault::NoMemory) => world.foresee(event),
         answer => answer,
     };
-    confirm!(rt; answer == want, &answer);
+    confirm_eq!(rt; answer, want);
     if let Event::Computed { container, bytes } = event {
-        confirm!(rt; world.foresee_computed(container, bytes) == want);
+        confirm_eq!(rt; world.foresee_computed(container, bytes), want);
     }
 }
 

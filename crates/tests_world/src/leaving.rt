@@ -36,8 +36,8 @@ fn bars(rt: &impl Abort, alloc: Global, master: &MasterMachine) {
     let mut copy = master.copy().expect(rt, "no memory");
     let rows = &[(DutyName::Bar, Said::Done, Then::Kills)];
     answers(rt, alloc, &mut copy, rows);
-    confirm!(rt; due(rt, &copy) == Some(DutyName::Append));
-    confirm!(rt; due(rt, master) == Some(DutyName::Bar));
+    confirm_eq!(rt; due(rt, &copy), Some(DutyName::Append));
+    confirm_eq!(rt; due(rt, master), Some(DutyName::Bar));
 }
 
 // What was prepared and is not taken leaves the master where it was.
@@ -48,7 +48,7 @@ fn what_is_prepared_changes_nothing(rt: HostRuntime) {
     launched(rt, &mut master, REDUCE, 0);
     given_up(rt, &mut master);
     makes_room(rt, &mut master);
-    confirm!(rt; due(rt, &master) == Some(DutyName::Bar));
+    confirm_eq!(rt; due(rt, &master), Some(DutyName::Bar));
 }
 
 // An answer that sends nothing is prepared, and there is room for it.
@@ -56,7 +56,7 @@ fn makes_room(rt: &impl Abort, master: &mut MasterMachine) {
     let prepared = master
         .prepare_answer(StoreAnswer::Fault)
         .expect(rt, "no memory");
-    confirm!(rt; prepared.packets().len() == 0);
+    confirm_eq!(rt; prepared.packets().len(), 0);
     confirm!(rt; master.reserve(&prepared).is_ok());
     drop(prepared);
 }

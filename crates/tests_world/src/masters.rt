@@ -89,7 +89,7 @@ pub fn given_up(rt: &impl Abort, master: &mut MasterMachine) -> Vec<Envelope> {
 /// This task is launched next, or none.
 pub fn wants(rt: &impl Abort, master: &MasterMachine, task: Option<TaskId>) {
     let wanted = master.wanted();
-    confirm!(rt; wanted == task, &wanted);
+    confirm_eq!(rt; wanted, task);
 }
 
 /// The name of what is due, if anything is.

@@ -13,9 +13,9 @@ use std::process::Abort;
 fn is_new(rt: &impl Abort, alloc: Global, master: &MasterMachine) {
     let duty = master.duty().expect(rt, "no memory");
     let duty = duty.expect(rt, "nothing is due");
-    confirm!(rt; duty.name() == DutyName::Marks);
+    confirm_eq!(rt; duty.name(), DutyName::Marks);
     looks_for_success(rt, alloc, duty.call());
-    confirm!(rt; master.phase() == Phase::Opening);
+    confirm_eq!(rt; master.phase(), Phase::Opening);
     wants(rt, master, None);
     drop(duty);
 }
@@ -25,7 +25,7 @@ fn looks_for_success(rt: &impl Abort, alloc: Global, call: &StoreCall) {
     match call {
         StoreCall::Names(Op::Exists(path)) => {
             let text = path.to_string(alloc).expect(rt, "no memory");
-            confirm!(rt; text.as_str() == "/staging/COMMIT_SUCCESS");
+            confirm_eq!(rt; text.as_str(), "/staging/COMMIT_SUCCESS");
         }
         _ => panic!(rt; "it looks for nothing"),
     }
@@ -57,9 +57,9 @@ fn nothing_is_launched_nor_given_up(rt: HostRuntime) {
 // Neither is the task launched on the node, nor the node given up.
 fn is_refused(rt: &impl Abort, master: &mut MasterMachine, task: TaskId, node: u32) {
     let launched = master.launch(task, node).err();
-    confirm!(rt; launched == Some(LaunchError::Refused(LaunchFault::NotRunning)), &launched);
+    confirm_eq!(rt; launched, Some(LaunchError::Refused(LaunchFault::NotRunning)));
     let given_up = master.expire(node).err();
-    confirm!(rt; given_up == Some(LaunchFault::NotRunning), &given_up);
+    confirm_eq!(rt; given_up, Some(LaunchFault::NotRunning));
 }
 
 // Of all that is told to masters only `NodeUp` is heard, and for none of it anything is sent.

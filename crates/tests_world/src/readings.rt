@@ -42,12 +42,12 @@ fn runs_a_list(rt: HostRuntime) {
         confirm!(rt; world.journal().len() < 3);
         confirm!(rt; world.run(list(rt, alloc)).is_ok());
     }
-    confirm!(rt; world.journal().len() == 3);
-    confirm!(rt; world.newest() == 2);
-    confirm!(rt; world.config().nodes == 2);
+    confirm_eq!(rt; world.journal().len(), 3);
+    confirm_eq!(rt; world.newest(), 2);
+    confirm_eq!(rt; world.config().nodes, 2);
     confirm!(rt; world.phase(1).is_none());
-    confirm!(rt; world.phase(2) == Some(Phase::Opening));
-    confirm!(rt; due(rt, &world, 2) == Some(DutyName::Marks));
+    confirm_eq!(rt; world.phase(2), Some(Phase::Opening));
+    confirm_eq!(rt; due(rt, &world, 2), Some(DutyName::Marks));
     drop(world);
 }
 
@@ -58,9 +58,9 @@ fn config_tells_its_job(rt: HostRuntime) {
     let world = world(rt, rt.alloc(), 2);
     let config = world.config();
     config.ranges();
-    confirm!(rt; config.job_id() == JOB);
-    confirm!(rt; config.reduce_count() == 1);
-    confirm!(rt; config.maps() == 1);
+    confirm_eq!(rt; config.job_id(), JOB);
+    confirm_eq!(rt; config.reduce_count(), 1);
+    confirm_eq!(rt; config.maps(), 1);
     has(rt, config.split(0), Some(b"a b a"));
     has(rt, config.split(1), None);
     drop(world);
@@ -69,7 +69,7 @@ fn config_tells_its_job(rt: HostRuntime) {
 // The split has these bytes, or there is none.
 fn has(rt: &impl Abort, split: Option<&Bytes>, want: Option<&[u8]>) {
     let items = split.map(|split| split.as_slice());
-    confirm!(rt; items == want, &want);
+    confirm_eq!(rt; items, want);
 }
 
 // A copy of a config is equal to it, and differs from that of a job on fewer nodes.
@@ -82,7 +82,7 @@ fn configs_are_copied_and_compared(rt: HostRuntime) {
         Ok(copy) => copy,
         Err(_) => world.config().copy().expect(rt, "no memory"),
     };
-    confirm!(rt; copy == *world.config());
+    confirm_eq!(rt; copy, *world.config());
     let other = started(rt, alloc, 1).world;
     confirm!(rt; copy != *other.config());
     drop(other);
@@ -100,12 +100,12 @@ fn splits_are_in_order(rt: HostRuntime) {
         items.push(split).expect(rt, "no memory");
     }
     let splits = Splits::from_vec(items);
-    confirm!(rt; splits.len() == 2);
-    confirm!(rt; splits.as_slice().len() == 2);
+    confirm_eq!(rt; splits.len(), 2);
+    confirm_eq!(rt; splits.as_slice().len(), 2);
     has(rt, splits.get(0), Some(b"a b"));
     has(rt, splits.get(1), Some(b""));
     has(rt, splits.get(2), None);
-    confirm!(rt; splits.into_vec().len() == 2);
+    confirm_eq!(rt; splits.into_vec().len(), 2);
 }
 
 // The first container of a job asks for its split.
@@ -116,7 +116,7 @@ fn container_asks(rt: HostRuntime) {
     let mut run = started(rt, alloc, 1);
     run.calms(rt, alloc, Stop::BeforeStep);
     let world = &run.world;
-    confirm!(rt; world.phase(1) == Some(Phase::Running));
+    confirm_eq!(rt; world.phase(1), Some(Phase::Running));
     confirm!(rt; world.wanted(1).is_none());
     lives(rt, world, container(rt, 0));
     let other = container(rt, 1);
@@ -127,11 +127,11 @@ fn container_asks(rt: HostRuntime) {
 
 // The container alone lives, on node 0 in its first incarnation, and asks for the split.
 fn lives(rt: &impl Abort, world: &World, c: ContainerId) {
-    confirm!(rt; world.wish(&c) == Some(Wish::Compute));
+    confirm_eq!(rt; world.wish(&c), Some(Wish::Compute));
     let place = world.place(&c).expect(rt, "no place");
     confirm!(rt; place.node == 0 && place.incarnation == 1);
-    confirm!(rt; living(rt, world).as_slice() == [c].as_slice());
-    confirm!(rt; world.next_living(Some(c)) == Some(c));
+    confirm_eq!(rt; living(rt, world).as_slice(), [c].as_slice());
+    confirm_eq!(rt; world.next_living(Some(c)), Some(c));
     match world.input(&c) {
         Some(Input::Map { split: 0, bytes }) => has(rt, Some(bytes), Some(b"a b a")),
         _ => panic!(rt; "no input"),
@@ -147,10 +147,10 @@ fn records_wait_for_a_flush(rt: HostRuntime) {
     run.calms(rt, alloc, Stop::BeforeStep);
     let started =
         b"{\"version\":2}\n{\"attempt\":\"attempt_200707121733_0003_m_000000_0\",\"event\":\"started\",\"node\":0}\n";
-    confirm!(rt; run.world.unflushed(1) == Some(started.len()));
+    confirm_eq!(rt; run.world.unflushed(1), Some(started.len()));
     confirm!(rt; run.world.stable(1).is_empty());
     run.calms(rt, alloc, Stop::Never);
-    confirm!(rt; run.world.unflushed(1) == Some(0));
+    confirm_eq!(rt; run.world.unflushed(1), Some(0));
     confirm!(rt; run.world.stable(1).starts_with(started.as_slice()));
     confirm!(rt; winner(rt, &run.world, REDUCE).is_some());
     drop(run);
@@ -161,7 +161,7 @@ fn records_wait_for_a_flush(rt: HostRuntime) {
 fn job_that_began(rt: HostRuntime) {
     let rt = &rt;
     let world = started(rt, rt.alloc(), 2).world;
-    confirm!(rt; winners(rt, &world).as_slice() == [None].as_slice());
+    confirm_eq!(rt; winners(rt, &world).as_slice(), [None].as_slice());
     confirm!(rt; !is_marked(rt, &world));
     confirm!(rt; shown(rt, &world).is_empty());
     confirm!(rt; asks(rt, &world, &store_call(1)));
@@ -180,11 +180,11 @@ fn worlds_are_copied(rt: HostRuntime) {
     are_alike(rt, &run.world, &other.world);
     let taken = run.world.journal().len();
     run.calms(rt, alloc, Stop::Never);
-    confirm!(rt; other.world.journal().len() == taken);
+    confirm_eq!(rt; other.world.journal().len(), taken);
     other.calms(rt, alloc, Stop::Never);
     are_alike(rt, &run.world, &other.world);
     confirm!(rt; is_marked(rt, &other.world));
-    confirm!(rt; shown(rt, &other.world).len() == 1);
+    confirm_eq!(rt; shown(rt, &other.world).len(), 1);
     drop(other);
     drop(run);
 }

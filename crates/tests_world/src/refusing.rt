@@ -17,13 +17,13 @@ fn refuses(
     want: Option<LaunchFault>,
 ) {
     let refusal = master.launch_refusal(task, node);
-    confirm!(rt; refusal == want, &refusal);
+    confirm_eq!(rt; refusal, want);
 }
 
 // The same of the node that would be given up.
 fn keeps(rt: &impl Abort, master: &MasterMachine, node: u32, want: Option<LaunchFault>) {
     let refusal = master.expire_refusal(node);
-    confirm!(rt; refusal == want, &refusal);
+    confirm_eq!(rt; refusal, want);
 }
 
 // The first refusal that applies: the task before the node, and the task's own last.

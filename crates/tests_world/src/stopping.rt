@@ -68,7 +68,7 @@ fn wrong_length_stops_the_recovery(rt: HostRuntime) {
         (DutyName::Recover, Said::ThreeBytes, Then::Silent),
     ];
     answers(rt, rt.alloc(), &mut master, rows);
-    confirm!(rt; due(rt, &master) == Some(DutyName::Recover));
+    confirm_eq!(rt; due(rt, &master), Some(DutyName::Recover));
 }
 
 // What an earlier master recorded as failed is aborted at once; a fault there stops the master.
@@ -83,7 +83,7 @@ fn recorded_failure_is_aborted(rt: HostRuntime) {
         (DutyName::Read, Said::JobFailed, Then::Silent),
     ];
     answers(rt, rt.alloc(), &mut master, rows);
-    confirm!(rt; master.phase() == Phase::Failing);
+    confirm_eq!(rt; master.phase(), Phase::Failing);
     let rows = &[
         (DutyName::Abort, Said::Fault, Then::WouldStop),
         (DutyName::Abort, Said::Missing, Then::EndsOnTwo),

@@ -7,13 +7,13 @@ use std::process::Abort;
 
 fn shows(rt: &impl Abort, alloc: Global, fault: WorldFault, text: &str) {
     let printed = fault.to_string(alloc).expect(rt, "no memory");
-    confirm!(rt; printed.as_str() == text, &text);
+    confirm_eq!(rt; printed.as_str(), text);
 }
 
 // The text of the reason, by itself and as what a world answers.
 fn shows_reason(rt: &impl Abort, alloc: Global, why: Why, text: &str) {
     let printed = why.to_string(alloc).expect(rt, "no memory");
-    confirm!(rt; printed.as_str() == text, &text);
+    confirm_eq!(rt; printed.as_str(), text);
     shows(rt, alloc, WorldFault::NotNow(why), text);
 }
 
