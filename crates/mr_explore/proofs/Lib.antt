@@ -1,3 +1,4 @@
+mod Advancing
 mod Ahead
 mod Asking
 mod Beginning

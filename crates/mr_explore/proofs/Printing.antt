@@ -83,6 +83,12 @@ begins_failed {A} asked input f r h is =
     let z = err_from_is_err_and r is in
     subst (λ (y : Result A SimFault). IfErr y (ExploredFails asked input)) (sym z.1) (subst (ExploredFails asked input) (sym z.2) (begins_fails asked input f h))
 
+-- a fault is carried on
+pub explored_failed : {A : Type 0} (asked : Asked) (input : List ℕ) (f : SimFault) (r : Result A SimFault) → ExploredFails asked input f → IsErrAnd r (λ g. g ≡ f) → IfErr r (ExploredFails asked input)
+explored_failed {A} asked input f r h is =
+    let z = err_from_is_err_and r is in
+    subst (λ (y : Result A SimFault). IfErr y (ExploredFails asked input)) (sym z.1) (subst (ExploredFails asked input) (sym z.2) h)
+
 pub makes_failed : {A : Type 0} (asked : Asked) (input : List ℕ) (x : Remaining) (f : SimFault) (r : Result A SimFault) → Begins input asked.faults x → Fails asked.most (goal_of asked) x f → IsErrAnd r (λ g. g ≡ f) → IfErr r (ExploredFails asked input)
 makes_failed {A} asked input x f r b h is =
     let z = err_from_is_err_and r is in
@@ -102,6 +108,28 @@ unchecked_fails input fault.Refused h = absurd h
 unchecked_fails input fault.JobFailed h = absurd h
 unchecked_fails input fault.TurnsSpent h = absurd h
 unchecked_fails input fault.Thread h = absurd h
+
+unchecked_explored : (asked : Asked) (input : List ℕ) (f : SimFault) → IsUnchecked f → ExploredFails asked input f
+unchecked_explored asked input fault.NoMemory h = tt
+unchecked_explored asked input fault.JournalMismatch h = tt
+unchecked_explored asked input fault.Full h = absurd h
+unchecked_explored asked input fault.Read h = absurd h
+unchecked_explored asked input fault.Write h = absurd h
+unchecked_explored asked input fault.TooLong h = absurd h
+unchecked_explored asked input (fault.BadCommand n) h = absurd h
+unchecked_explored asked input (fault.BadRecord n) h = absurd h
+unchecked_explored asked input (fault.Job e) h = absurd h
+unchecked_explored asked input fault.Refused h = absurd h
+unchecked_explored asked input fault.JobFailed h = absurd h
+unchecked_explored asked input fault.TurnsSpent h = absurd h
+unchecked_explored asked input fault.Thread h = absurd h
+
+pub counting_failed : {A : Type 0} (asked : Asked) (input : List ℕ) (f : SimFault) (r : Result A SimFault) → IsUnchecked f → IsErrAnd r (λ g. g ≡ f) → IfErr r (ExploredFails asked input)
+counting_failed asked input f r h is = explored_failed asked input f r (unchecked_explored asked input f h) is
+
+pub dividing_fails : {A : Type 0} (asked : Asked) (input : List ℕ) (r : Result A SimFault) → IfErr r IsUnchecked → IfErr r (ExploredFails asked input)
+dividing_fails asked input (Ok a) h = h
+dividing_fails asked input (Err f) h = unchecked_explored asked input f h
 
 unsaid_fails : (input : List ℕ) (f : SimFault) → IsUnsaid (job_line input) f → TellFails input f
 unsaid_fails input fault.NoMemory h = tt

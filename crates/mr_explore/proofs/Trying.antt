@@ -1,10 +1,9 @@
 -- What comes of an event that is tried.
-use Rattle.std.proofs.Common.{◌≡◌, ℕ, suc, nat_lt, Bool, true, false, Option, Some, None, Result, Ok, Err, is_none, if◌then◌else◌, inl, inr, refl, sym, ap, subst}
+use Rattle.std.proofs.Common.{◌≡◌, ℕ, suc, nat_lt, Bool, true, false, Option, Some, None, Result, is_none, if◌then◌else◌, inl, inr, refl, sym, ap, subst}
 use Rattle.mr_ids.specs.declared.id.TheConstants.{MAX_APP_ATTEMPTS}
 use Rattle.mr_world_events.specs.declared.why.Why.{Why}
 use Rattle.mr_world_model.specs.World.{Event, Start}
 use Rattle.mr_world_model.specs.Effect.{not_now}
-use Rattle.mr_play.specs.mr_world_state.specs.declared.fault.WorldFault.{WorldFault}
 use Rattle.mr_play.specs.mr_world_state.specs.declared.fault.WorldFault.TheVariants as world_fault
 use Rattle.mr_play.specs.mr_world.specs.Standing.{Refuses}
 use Rattle.mr_play.specs.mr_world.specs.Applying.{CanHappen, IsRefused}

@@ -2,3 +2,5 @@
 pub mod Players
 pub mod Checks
 pub mod Winners
+pub mod Counts
+pub mod Begun

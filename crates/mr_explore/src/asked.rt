@@ -23,4 +23,6 @@ pub struct Asked<'a> {
     /// What is so of the end that is sought; all ends are told where no end is sought.
     pub goal: Option<&'a [Expectation]>,
     pub form: Form,
+    /// By how many threads they are made; as many as there are processors, if none is asked for. It changes nothing of what is printed.
+    pub jobs: Option<u32>,
 }

@@ -57,6 +57,18 @@ impl Exploration {
         }
     }
 
+    /// What is left of a walk, and the table of the runs that were made.
+    pub(crate) fn of(alloc: Global, walk: Walk<Explored>, faults: u32, table: Table) -> Exploration
+        ensures { result ≡ record { left = walk; faults = faults; table = table } }
+    {
+        Exploration {
+            walk,
+            faults,
+            table,
+            winners: Winners::new(alloc),
+        }
+    }
+
     /// Makes at most `runs` runs more, and notes their ends. Where an end is sought, no run is made behind the first that came to it. Where a time is given, no
     /// run is made behind the first after which it has passed. Every 100,000 runs it tells how far it is.
     ///
@@ -126,8 +138,8 @@ impl Exploration {
     }
 }
 
-// Whether a time is given, and has passed.
-fn has_passed<W: Watch>(watch: &W, seconds: Option<u64>) -> bool
+/// Whether a time is given, and has passed.
+pub fn has_passed<W: Watch>(watch: &W, seconds: Option<u64>) -> bool
     ensures { result ≡ true → IsTimed seconds }
 {
     match seconds {
@@ -136,9 +148,9 @@ fn has_passed<W: Watch>(watch: &W, seconds: Option<u64>) -> bool
     }
 }
 
-// A run came to its end, or a limit forbids its last fault; whether that end is one that is sought.
+/// A run came to its end, or a limit forbids its last fault; whether that end is one that is sought.
 #[tactic(auto, using(crate::proofs::Making::came_past, crate::proofs::Making::came_to))]
-fn note(
+pub fn note(
     alloc: Global,
     table: &mut Table,
     winners: &mut Winners,
@@ -170,8 +182,8 @@ fn is_sought(goal: Option<&[Expectation]>, end: &Outcome) -> bool
     }
 }
 
-// The fault of a walk, as that of an exploration.
-fn sim_fault(fault: WalkFault) -> SimFault
+/// The fault of a walk, as that of an exploration.
+pub fn sim_fault(fault: WalkFault) -> SimFault
     ensures { result ≡ fault_of fault }
 {
     match fault {

@@ -29,14 +29,20 @@
 //! - **The first run is the one that `play` plays**: what it computes is what the job text says, and it is as far as
 //!   the script. Where no master was started, the first one's start comes next (`IsRunOf`). An input has one such run
 //!   at most, and nothing is printed of an input that is refused (`explored_or_refused`).
+//! - **Threads change nothing of it** (`count_by_threads`): `PrintsExplored` does not speak of them. Parts of what is left
+//!   are counted apart, each in a table of its own, by whichever thread is free. A part is counted only where none of its
+//!   runs would pass a limit, comes to the end that is sought, or is more than are asked for (`IsCounted`). Counted parts
+//!   are taken in their order (`Advances`); from the first that is not on, runs are made one after the other.
 //! - **Each script of the table leads to the end beside it**, by `play`'s own definition (`check_scripts`: `PrintsPlay` of the job text and the script). `explored_text`
 //!   plays each before it prints any.
 //!
-//! Only tested: that it succeeds where there is memory, and what `Watch` is told.
+//! Only tested: that it succeeds where there is memory, what `Watch` is told, and that threads count anything.
 #![tactic(auto)]
 
 mod asked;
 mod befall;
+mod counting;
+mod divided;
 mod exploration;
 mod explored;
 mod faults_at;
@@ -51,11 +57,14 @@ mod watch;
 mod winners;
 
 pub use asked::{Asked, Form};
+pub use counting::{Counted, count_by_threads};
 pub use exploration::Exploration;
 pub use explored::Explored;
 pub use laws::{asking_shows_nothing, explored_or_refused, outcomes_are_printed};
 pub use leading::check_scripts;
 pub use mr_explore_ends::{Outcome, Row, Table, best_of, read_goal};
 pub use mr_explore_faults::Fault;
+pub use mr_explore_search::{Parts, WalkFault};
+pub use mr_script::Expectation;
 pub use output::{explore_output, explored_text};
 pub use watch::{Unwatched, Watch};

@@ -4,9 +4,13 @@ ghost use Rattle.std.specs.Option.{option_map};
 ghost use Rattle.mr_explore_ends.specs.Founds.{as_found};
 ghost use Rattle.mr_explore.specs.Ends.{TellFails, TellsEnds, told_text};
 ghost use Rattle.mr_explore.specs.Explored.{ExploredFails, PrintsExplored};
-ghost use Rattle.mr_explore.specs.Exploring.{found_of};
+ghost use Rattle.mr_explore_ends.specs.Table.{empty};
+ghost use Rattle.mr_explore.specs.Counting.{Advances};
+ghost use Rattle.mr_explore.specs.Exploring.{Makes, Remaining, found_of};
+ghost use Rattle.mr_explore.specs.inner.Begun.{IsBegun};
 
 use crate::asked::{Asked, Form};
+use crate::divided::Divided;
 use crate::exploration::Exploration;
 use crate::leading::check_scripts;
 use crate::sequential::sequential_of;
@@ -33,9 +37,51 @@ pub fn explore_output<W: Watch>(
     ensures met { IfOk result (λ v. v.met ≡ true) }
     ensures fault { IfErr result (ExploredFails asked.now input.now) }
 {
-    let mut exploration = Exploration::new(alloc, input, asked.faults)?;
-    exploration.make(alloc, asked.most, asked.seconds, asked.goal, watch)?;
+    let mut exploration = begun(alloc, input, asked, watch)?;
+    make_rest(
+        alloc,
+        &mut exploration,
+        asked.most,
+        asked.seconds,
+        asked.goal,
+        watch,
+    )?;
     explored_text(alloc, input, &exploration, asked.goal, asked.form)
+}
+
+// An exploration of an input, of which threads made the first runs. There is one part where a run has one fault at most, so one thread makes all.
+fn begun<W: Watch>(
+    alloc: Global,
+    input: &[u8],
+    asked: &Asked<'_>,
+    watch: &W,
+) -> Result<Exploration, SimFault>
+    ensures begun { IfOk result (IsBegun asked.now input.now) }
+    ensures fault { IfErr result (ExploredFails asked.now input.now) }
+{
+    let threads = watch.threads(asked.jobs);
+    if threads < 2 || asked.faults < 2 {
+        let exploration = Exploration::new(alloc, input, asked.faults)?;
+        return Ok(exploration);
+    }
+    let mut divided = Divided::new(alloc, input, asked.faults)?;
+    divided.make(alloc, asked.most, asked.seconds, asked.goal, threads, watch)?;
+    divided.into_exploration(alloc)
+}
+
+// Makes the runs behind those that were made, up to `most` in all.
+fn make_rest<W: Watch>(
+    alloc: Global,
+    exploration: &mut Exploration,
+    most: u64,
+    seconds: Option<u64>,
+    goal: Option<&[Expectation]>,
+    watch: &W,
+) -> Result<(), SimFault>
+    ensures { (start : Remaining) → start.table ≡ empty → Advances most (option_map (λ g. g.now) goal.entry) start exploration.old → Makes most seconds (option_map (λ g. g.now) goal.entry) start result exploration.new }
+{
+    let left = most.saturating_sub(exploration.table().runs());
+    exploration.make(alloc, left, seconds, goal, watch)
 }
 
 /// What is printed of an exploration of an input: all ends, or the best that meets a goal. Each script of its table was played before, and led to its end.

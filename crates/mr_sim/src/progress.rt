@@ -1,9 +1,11 @@
-//! How far an exploration is, and how long it took.
-use mr_explore::Watch;
+//! Who watches an exploration: tells how far it is and how long it took, and counts parts of it by threads.
+use mr_explore::{Counted, Expectation, Explored, Parts, WalkFault, Watch, count_by_threads};
+use std::alloc::Global;
 use std::rt::Clock;
+use std::thread::{Threads, available_parallelism};
 use std::time::Instant;
 
-/// Tells it on standard error. What can't be told is dropped.
+/// Tells on standard error how far an exploration is, and counts parts of it by threads. What can't be told is dropped.
 #[derive(Drop)]
 pub(crate) struct OnStandardError<'a, H: Eprint + Clock> {
     /// The handle.
@@ -22,7 +24,7 @@ impl<'a, H: Eprint + Clock> OnStandardError<'a, H> {
     }
 }
 
-impl<H: Eprint + Clock> Watch for OnStandardError<'_, H> {
+impl<H: Eprint + Clock + Threads + Sync> Watch for OnStandardError<'_, H> {
     fn tell(&self, runs: u64, ends: usize) {
         let _ = eprintln!(self.rt; "mrsim: {runs} runs, {ends} ends");
     }
@@ -36,6 +38,32 @@ impl<H: Eprint + Clock> Watch for OnStandardError<'_, H> {
             },
             None => true,
         }
+    }
+
+    fn threads(&self, asked: Option<u32>) -> usize {
+        match asked {
+            Some(jobs) => jobs as usize,
+            None => processors(self.rt),
+        }
+    }
+
+    fn count(
+        &self,
+        alloc: Global,
+        threads: usize,
+        parts: &Parts<Explored>,
+        most: u64,
+        goal: Option<&[Expectation]>,
+    ) -> Result<Vec<Counted>, WalkFault> {
+        count_by_threads(self.rt, alloc, threads, parts, most, goal)
+    }
+}
+
+// How many processors there are; 1 where that can't be told.
+fn processors<H: Threads>(rt: &H) -> usize {
+    match available_parallelism(rt) {
+        Ok(count) => count.get(),
+        Err(_) => 1,
     }
 }
 
@@ -57,5 +85,20 @@ impl<W: Watch> Watch for Progress<'_, W> {
 
     fn have_passed(&self, seconds: u64) -> bool {
         self.watch.have_passed(seconds)
+    }
+
+    fn threads(&self, asked: Option<u32>) -> usize {
+        self.watch.threads(asked)
+    }
+
+    fn count(
+        &self,
+        alloc: Global,
+        threads: usize,
+        parts: &Parts<Explored>,
+        most: u64,
+        goal: Option<&[Expectation]>,
+    ) -> Result<Vec<Counted>, WalkFault> {
+        self.watch.count(alloc, threads, parts, most, goal)
     }
 }

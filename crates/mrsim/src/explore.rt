@@ -40,6 +40,9 @@ const FIND: &str =
 
 const MOST: &str = "Makes at most RUNS runs, and shows what came of them (default: all)";
 
+const JOBS: &str =
+    "By how many threads runs are made, 1 to 256 (default: as many as there are processors); what is printed is the same";
+
 const SECONDS: &str =
     "Makes no further run after N seconds, and shows what came of those that were made";
 
@@ -51,6 +54,8 @@ const JSON_SHOWN: &str =
 const FAULTS_WORD: &str = "faults";
 
 const FIND_WORD: &str = "find";
+
+const JOBS_WORD: &str = "jobs";
 
 const MOST_WORD: &str = "most";
 
@@ -72,6 +77,13 @@ const WORDS: &[Word] = &[
         name: FIND_WORD,
         help: FIND,
         value_names: &["GOAL"],
+        ..Word::TEXT
+    },
+    Word {
+        name: JOBS_WORD,
+        help: JOBS,
+        value_names: &["N"],
+        bounds: ValueParser::Signed(1, 256),
         ..Word::TEXT
     },
     Word {
@@ -117,6 +129,7 @@ pub fn explore_of<'a>(
             seconds: words.get_one::<u64>(SECONDS_WORD),
             goal,
             form: form_of(words),
+            jobs: words.get_one::<u32>(JOBS_WORD),
         },
         progress: words.get_flag(PROGRESS_WORD),
     }

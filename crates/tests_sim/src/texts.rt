@@ -47,6 +47,7 @@ fn answers_without_a_handle(rt: HostRuntime) {
         seconds: None,
         goal: Some(goal.as_slice()),
         form: Form::Text,
+        jobs: None,
     };
     let command = Command::Explore {
         asked,
