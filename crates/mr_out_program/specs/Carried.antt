@@ -1,5 +1,5 @@
 -- Which calls were made for an order, and how its end is told. Our own.
-use Rattle.std.specs.Prelude.{◌≡◌, ◌≢◌, ◌⊎◌, ℕ, Bool, true, false, List, [], ◌++◌, codes, decimal, Option, Some, None, Result, Ok, Err, IfOk, IsErr, ◌≤◌, if◌then◌else◌}
+use Rattle.std.specs.Prelude.{◌≡◌, ◌≢◌, ◌⊎◌, ℕ, Bool, true, false, List, [], ◌++◌, codes, decimal, Option, Some, None, Result, Ok, Err, IfOk, IsErr, ◌≤◌, ◌<◌, if◌then◌else◌}
 use Rattle.std.specs.String.{string_bytes}
 use Rattle.mr_ids.specs.Attempt.{Attempt}
 use Rattle.mr_ids.specs.Text.{attempt_text, IsAttempt}
@@ -111,6 +111,11 @@ TellsStart job end answered = (is_fault end ≡ false) × Says (attempt_saying e
 
 abbrev pub Begins : Order → Directory → Directory → Result Answered Fault → Type 0
 Begins order old new result = (end : Outcome) × CarriesOut order old new end × IfOk result (TellsStart old.job end)
+
+-- the job has the task of this number, if one is named
+abbrev pub HasTask : Option ℕ → Job → Type 0
+HasTask None job = Unit {0}
+HasTask (Some n) job = n < job.tasks
 
 -- the job has no task of this number
 abbrev pub IsNoTask : Option ℕ → Job → Type 0

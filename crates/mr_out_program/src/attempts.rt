@@ -1,11 +1,11 @@
 //! Commands about attempts: begun, done, failed.
-ghost use Rattle.std.specs.Prelude.{◌≡◌, ◌≤◌, ◌⊎◌, ◌++◌, ℕ, List, codes, decimal, false, Some, IfOk, IsErr};
+ghost use Rattle.std.specs.Prelude.{◌≡◌, ◌≤◌, ◌<◌, ◌⊎◌, ◌++◌, ℕ, List, codes, decimal, false, Some, IfOk, IsErr};
 ghost use Rattle.std.specs.String.{string_bytes};
 ghost use Rattle.mr_ids.specs.Text.{attempt_text};
 ghost use Rattle.mr_out_files.specs.Made.{Keeps};
 ghost use Rattle.mr_out_program.specs.Sayings.{done_saying, fail_saying};
 ghost use Rattle.mr_out_program.specs.Turns.{TurnsOf, IsTurn, IsStart, IsFailure};
-ghost use Rattle.mr_out_program.specs.Carried.{start_of, started_line, Begins, CarriesAndTellsOf, IsNoAttempt, IsNoTask, CarriesAndTells, SaysIfAny, TellsStart, is_fault};
+ghost use Rattle.mr_out_program.specs.Carried.{start_of, started_line, Begins, CarriesAndTellsOf, IsNoAttempt, HasTask, IsNoTask, CarriesAndTells, SaysIfAny, TellsStart, is_fault};
 
 use crate::answering::Answered;
 use crate::ending::settle;
@@ -25,7 +25,7 @@ pub fn attempt(
     task: Option<u32>,
     over: bool,
 ) -> Result<Answered, Fault>
-    ensures { Begins (start_of task over) directory.old directory.new result
+    ensures { (HasTask task directory.old.job × Begins (start_of task over) directory.old directory.new result)
         ⊎ (IsErr result × IsNoTask task directory.old.job × Keeps directory.old directory.new) }
 {
     match task {
@@ -40,7 +40,7 @@ fn attempt_at(
     task: u32,
     over: bool,
 ) -> Result<Answered, Fault>
-    ensures { Begins (start_of (Some task) over) directory.old directory.new result
+    ensures { (HasTask (Some task) directory.old.job × Begins (start_of (Some task) over) directory.old directory.new result)
         ⊎ (IsErr result × IsNoTask (Some task) directory.old.job × Keeps directory.old directory.new) }
 {
     check_task(rt, directory, task)?;
@@ -58,7 +58,8 @@ fn start_at(task: u32, over: bool) -> Order
 }
 
 fn check_task(rt: &HostRuntime, directory: &Directory, task: u32) -> Result<(), Fault>
-    ensures { IsErr result → directory.now.job.tasks ≤ task }
+    ensures none { IsErr result → directory.now.job.tasks ≤ task }
+    ensures some { IfOk result (λ done. task < directory.now.job.tasks) }
 {
     if task < directory.job.tasks {
         return Ok(());
