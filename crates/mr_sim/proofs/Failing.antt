@@ -9,7 +9,7 @@ use Rattle.mr_trace.specs.mr_play.specs.declared.shown.Shown.{Shown}
 use Rattle.mr_trace.specs.mr_play.specs.Text.{PlayFails}
 use Rattle.mr_sim.specs.declared.subcommand.Command.TheVariants.{Committer, CommitterTrace, CommitterJson, Play, PlayShown, PlayDrawn, PlayJson, PlayTree, History, HistoryJson, Seq, Threads, ThreadsSeen, Explore}
 use Rattle.mr_explore.specs.declared.asked.Asked.{Asked}
-use Rattle.mr_threads.specs.declared.seen.Seen.{Seen}
+use Rattle.mr_threads_shown.specs.declared.seen.Seen.{Seen}
 use Rattle.mr_threads.specs.Text.{ShownFails, ThreadsFail}
 use Rattle.mr_threads.proofs.Failing.{nothing_to_print}
 use Rattle.mr_sim.specs.Goals.{SoughtFails}

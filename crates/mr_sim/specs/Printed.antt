@@ -23,7 +23,8 @@ use Rattle.mr_sim_commands.specs.seq.Text.{PrintsSeq, RefusesSeq}
 use Rattle.mr_commit_trace.specs.Shown.{PrintsTrace}
 use Rattle.mr_pipe.specs.declared.form.Form.TheVariants.{Text, Json}
 use Rattle.mr_threads.specs.Runs.{IsRead}
-use Rattle.mr_threads.specs.Text.{HasFailed, PrintsSuccess, ShowsRun}
+use Rattle.mr_threads.specs.Text.{HasFailed, PrintsSuccess}
+use Rattle.mr_threads_shown.specs.Text.{ShowsRun}
 use Rattle.mr_sim.specs.Goals.{Names, PrintsSought}
 use Rattle.mr_sim.specs.Trees.{ListsPlay}
 

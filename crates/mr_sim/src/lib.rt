@@ -1,6 +1,6 @@
 //! The simulator: what `mrsim` reads and writes. The subcommands stand beneath it. Those that need no cluster are in
 //! mr_sim_commands, `play` is in mr_play, and what is shown beside it in mr_trace, mr_trace_picture and mr_trace_json. `explore` is
-//! in mr_explore, and `threads` in mr_threads.
+//! in mr_explore, and `threads` in mr_threads and mr_threads_shown.
 //!
 //! # What is proved
 //!
@@ -23,7 +23,7 @@
 //! | `play` with the tree | the listing of what the namespace holds then |
 //! | `play` and `history` as lines of JSON | what mr_trace_json says of the run and of the segment |
 //! | `explore` | what mr_explore_ends says of the ends of all runs of the input with at most as many faults as are asked for; the job has each reduce that the goal names |
-//! | `threads` | what `seq` prints for the job text; what is shown of a run in its place is what mr_threads says of it |
+//! | `threads` | what `seq` prints for the job text; what is shown of a run in its place is what mr_threads_shown says of it |
 //!
 //! **`run_streams`, from a reader to a writer**: reads all, answers, writes all. Proved, for every reader and writer that tell
 //! their bytes:
@@ -91,7 +91,7 @@ pub use mr_explore::{Asked, Form};
 pub use mr_explore_ends::{is_contrary, read_goal};
 pub use mr_script::Expectation;
 pub use mr_sim_commands::{JobTextFault, SimFault};
-pub use mr_threads::Seen;
+pub use mr_threads_shown::Seen;
 pub use mr_trace::mr_play::Shown;
 pub use mr_trace_svg::Part;
 pub use refusal::{Help, Refusal};

@@ -1,7 +1,8 @@
 //! The subcommands, from the bytes of their input to what they print.
 ghost use Rattle.std.specs.Prelude.{◌≡◌, ℕ, Bool, true, Option, IfOk, IfErr};
-ghost use Rattle.mr_threads.specs.declared.seen.Seen.{Seen};
-ghost use Rattle.mr_threads.specs.Text.{PrintsSuccess, ShownFails, ShowsRun, ThreadsFail};
+ghost use Rattle.mr_threads.specs.Text.{PrintsSuccess, ShownFails, ThreadsFail};
+ghost use Rattle.mr_threads_shown.specs.declared.seen.Seen.{Seen};
+ghost use Rattle.mr_threads_shown.specs.Text.{ShowsRun};
 ghost use Rattle.mr_sim.specs.Expected.{IsMet};
 ghost use Rattle.mr_sim.specs.Printed.{Prints, RefusesText};
 
@@ -13,7 +14,8 @@ use mr_commit_trace::committer_trace;
 use mr_explore::{Asked, Unwatched, Watch};
 use mr_pipe::Form;
 use mr_sim_commands::{IdleKeys, Printed, SimFault, committer_output, history_output, seq_output};
-use mr_threads::{Seen, unthreaded};
+use mr_threads::unthreaded;
+use mr_threads_shown::Seen;
 use mr_trace::mr_play::{Shown, play};
 use mr_trace::play_shown;
 use mr_trace_json::{history_json, play_json};

@@ -4,16 +4,16 @@ use Rattle.mr_user.specs.Computation.{Computation}
 use Rattle.mr_shuffle.specs.SequentialText.{AreSplits}
 use Rattle.mr_world_files.specs.Jobs.{job_of, LawsOf}
 use Rattle.mr_world_files.specs.Shown.{MarkedWorldsShowSequential}
-use Rattle.mr_trace.specs.mr_world.specs.Limits.{within}
-use Rattle.mr_trace.specs.mr_world.specs.Ranges.{IsInRange}
-use Rattle.mr_trace.specs.mr_world.proofs.Headlines.{outputs-are-bounded}
+use Rattle.mr_play.specs.mr_world.specs.Limits.{within}
+use Rattle.mr_play.specs.mr_world.specs.Ranges.{IsInRange}
+use Rattle.mr_play.specs.mr_world.proofs.Headlines.{outputs-are-bounded}
 use Rattle.mr_drive.specs.mr_board_report.specs.Reports.{IsReported}
 use Rattle.mr_drive.specs.mr_board_report.specs.declared.plan.Plan.{Plan}
 use Rattle.mr_drive.specs.mr_board_report.specs.declared.report.Report.{Report}
 use Rattle.mr_sim_commands.specs.declared.job.submission.JobKind.{JobKind}
 use Rattle.mr_sim_commands.specs.declared.job.submission.Submission.{Submission}
 use Rattle.mr_sim_commands.specs.job.Text.{submission_of}
-use Rattle.mr_trace.specs.mr_play.specs.Text.{job_as, config_of}
+use Rattle.mr_play.specs.Text.{job_as, config_of}
 use Rattle.mr_threads.specs.Runs.{IsReportOf, Reports, plan_of}
 
 pub is_report : {K V : Type 0} (job : Computation K V) (plan : Plan) (r : Report) → LawsOf job → MarkedWorldsShowSequential → IsInRange plan.config → AreSplits plan.config.splits →

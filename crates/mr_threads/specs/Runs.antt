@@ -4,16 +4,16 @@ use Rattle.mr_world_model.specs.Claims.{IsMarked}
 use Rattle.mr_world_model.specs.Results.{outcome, visible}
 use Rattle.mr_world_model.specs.Sequential.{Job, IsFaithful}
 use Rattle.mr_world_files.specs.Shown.{ShowsSequential}
-use Rattle.mr_trace.specs.mr_world.specs.Journal.{Journal, world_in}
-use Rattle.mr_trace.specs.mr_world.specs.Limits.{within}
-use Rattle.mr_trace.specs.mr_world.specs.VisibleFiles.{as_pair}
+use Rattle.mr_play.specs.mr_world.specs.Journal.{Journal, world_in}
+use Rattle.mr_play.specs.mr_world.specs.Limits.{within}
+use Rattle.mr_play.specs.mr_world.specs.VisibleFiles.{as_pair}
 use Rattle.mr_drive.specs.mr_board_report.specs.Following.{Follows}
 use Rattle.mr_drive.specs.mr_board_report.specs.Reports.{IsThrough}
 use Rattle.mr_drive.specs.mr_board_report.specs.declared.plan.Plan.{Plan}
 use Rattle.mr_drive.specs.mr_board_report.specs.declared.report.Report.{Report}
 use Rattle.mr_sim_commands.specs.declared.job.submission.Submission.{Submission}
 use Rattle.mr_sim_commands.specs.job.Text.{submission_of}
-use Rattle.mr_trace.specs.mr_play.specs.Text.{job_as, config_of}
+use Rattle.mr_play.specs.Text.{job_as, config_of}
 
 -- what is planned for the job of a job text
 abbrev pub plan_of : Submission → Plan

@@ -4,7 +4,7 @@ use Rattle.mr_drive.specs.mr_board_report.specs.declared.fault.DriveFault.TheVar
 use Rattle.mr_sim_commands.specs.declared.fault.SimFault.{SimFault}
 use Rattle.mr_sim_commands.specs.declared.fault.SimFault.TheVariants.{NoMemory, Full, TurnsSpent, JournalMismatch, Thread}
 -- of mr_play: a tactic names a word by a module of a crate that crates.txt lists, or of its own
-unfoldable pub use Rattle.mr_trace.specs.mr_play.specs.Text.{job_as}
+unfoldable pub use Rattle.mr_play.specs.Text.{job_as}
 
 -- a fault of the threads, not of a job text
 abbrev pub IsOfThreads : SimFault → Type 0

@@ -2,7 +2,7 @@
 ghost use Rattle.std.specs.Prelude.{◌≡◌, IfOk, IfErr};
 ghost use Rattle.mr_user.specs.Computation.{computation};
 ghost use Rattle.mr_world_files.specs.Jobs.{job_of};
-ghost use Rattle.mr_trace.specs.mr_play.specs.Text.{job_as};
+ghost use Rattle.mr_play.specs.Text.{job_as};
 ghost use Rattle.mr_threads.specs.Runs.{IsReportOf, Reports};
 ghost use Rattle.mr_threads.specs.Text.{ShownFails};
 ghost use Rattle.mr_threads.specs.inner.{IsOfThreads, fault_of};
@@ -10,8 +10,8 @@ ghost use Rattle.mr_threads.specs.inner.{IsOfThreads, fault_of};
 use crate::manner::Manner;
 use mr_drive::{DriveFault, PairGate, Plan, Report, drive};
 use mr_jobs::{LineIndex, MaxByKey, WordCount};
+use mr_play::setup_of;
 use mr_sim_commands::{IdleKeys, JobKind, SimFault, read_job_text};
-use mr_trace::mr_play::setup_of;
 use mr_user::{Gate, Job, OpenGate};
 use mr_world_files::{jobs_have_their_laws, marked_worlds_show_sequential_files};
 use std::alloc::AllocGlobal;
@@ -20,8 +20,11 @@ use std::sync::Wait;
 use std::thread::Threads;
 
 /// What came of a job text whose job threads ran, and the keys of the text that say nothing.
+///
+/// `Job` names the first bad key of the job text. `TurnsSpent`, `JournalMismatch`, `Thread` and `Full` are those of
+/// `mr_drive`. `NoMemory` may come at any text; no other fault comes.
 #[tactic(auto, using(crate::proofs::Failing::bad_text, crate::proofs::Failing::no_run, crate::proofs::Reported::reports_of))]
-pub(crate) fn driven<H: AllocGlobal + Clock + Threads + Wait + Sync>(
+pub fn report_of<H: AllocGlobal + Clock + Threads + Wait + Sync>(
     rt: &H,
     input: &[u8],
     manner: Manner,

@@ -8,15 +8,15 @@ const TURNS_OF_A_FETCH: u64 = 10;
 
 /// How the threads are run.
 #[derive(Clone, Copy, Debug, PartialEq, Eq)]
-pub(crate) struct Manner {
+pub struct Manner {
     /// How many turns each thread has at most; where that is not told it follows from the job's size.
-    pub(crate) turns: Option<u64>,
+    pub turns: Option<u64>,
     /// Whether the first map work is held until the second has begun, for at most as many looks as there are turns.
-    pub(crate) hold: bool,
+    pub hold: bool,
 }
 
 impl Manner {
-    /// How many turns each thread has at most that runs this plan.
+    // How many turns each thread has at most that runs this plan.
     pub(crate) fn turns_of(&self, plan: &Plan) -> u64 {
         match self.turns {
             Some(turns) => turns,

@@ -1,14 +1,14 @@
 //! What `threads` prints.
 ghost use Rattle.std.specs.Prelude.{◌≡◌, true, IfOk, IfErr, map};
 ghost use Rattle.std.specs.List.{flat_map};
-ghost use Rattle.mr_trace.specs.mr_world.specs.VisibleFiles.{as_pair};
-ghost use Rattle.mr_trace.specs.mr_play.specs.WorldText.{visible_text};
+ghost use Rattle.mr_play.specs.mr_world.specs.VisibleFiles.{as_pair};
+ghost use Rattle.mr_play.specs.WorldText.{visible_text};
 ghost use Rattle.mr_threads.specs.Text.{PrintsSuccess, ShownFails, ThreadsFail};
 
-use crate::driven::driven;
+use crate::driven::report_of;
 use crate::manner::Manner;
+use mr_play::mr_world::VisibleFile;
 use mr_sim_commands::{Printed, SimFault, print_file, read_job_text};
-use mr_trace::mr_world::VisibleFile;
 use std::alloc::{AllocError, AllocGlobal, Global};
 use std::rt::Clock;
 use std::sync::Wait;
@@ -29,7 +29,7 @@ pub fn threads_output<H: AllocGlobal + Clock + Threads + Wait + Sync>(
     ensures met { IfOk result (λ v. v.met ≡ true) }
     ensures fault { IfErr result (ThreadsFail input.now) }
 {
-    let (report, idle_keys) = driven(rt, input, Manner { turns, hold })?;
+    let (report, idle_keys) = report_of(rt, input, Manner { turns, hold })?;
     if !report.succeeded {
         return Err(SimFault::JobFailed);
     }

@@ -5,21 +5,14 @@ ghost use Rattle.std.specs.Prelude.{◌≡◌, ◌⊎◌, IfErr};
 ghost use Rattle.std.specs.Process.{exit_status};
 ghost use Rattle.mr_sim.specs.Fault.{exit_status_of};
 
-mod committer;
-mod explore;
-mod pipe;
-mod table;
-mod threads;
-mod unread;
-mod words;
+mod command;
 
-use crate::explore::goal_word;
-use crate::pipe::served;
-use crate::unread::{missing, why_unread};
-use crate::words::{command_line, command_of, ending_of, file_of};
+use crate::command::{command_of, ending_of, file_of, goal_word};
 use clap::ArgMatches;
 use clap::error::ErrorKind;
+use mr_pipe_commands::{missing, served, why_unread};
 use mr_sim::{Ending, Expectation, Help, Refusal, Remarks, SimFault, is_contrary, read_goal, run};
+use mr_sim_arguments::command_line;
 use std::alloc::Global;
 use std::fs::File;
 use std::io::Write;

@@ -1,6 +1,6 @@
 use Rattle.std.proofs.Common.{◌≡◌, map, take, flat_map}
-use Rattle.mr_trace.specs.mr_world.specs.VisibleFiles.{as_pair}
-use Rattle.mr_trace.specs.mr_play.specs.WorldText.{visible_text}
+use Rattle.mr_play.specs.mr_world.specs.VisibleFiles.{as_pair}
+use Rattle.mr_play.specs.WorldText.{visible_text}
 use Rattle.mr_threads.proofs.output.files_text.Given as goal
 
 abbrev pub invariant-loop-file : goal.invariant-loop-file

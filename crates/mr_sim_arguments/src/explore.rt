@@ -1,8 +1,7 @@
 //! The subcommand `explore`: every run of a job with few faults.
+use crate::names::{FAULTS, FIND, JSON, MOST, PROGRESS, SECONDS};
 use crate::table::Word;
-use clap::ArgMatches;
 use clap::builder::ValueParser;
-use mr_sim::{Asked, Expectation, Form};
 
 /// What `explore` does, in a line.
 pub const EXPLORE: &str =
@@ -17,7 +16,7 @@ and one of these is one fault, at each place, before each event and behind the l
   the packet that comes next is passed over, and comes later, also behind other faults, or never; one that came comes once more
   the newest master crashes, and the next one starts at once, or behind another fault, or never; or the next one starts while
   it lives, and it makes one store call more, or none; each time nothing of what it did not flush stays, or all up to the
-  end of one of its records
+  end of one of its lines, the version line too
   a container ends; a node restarts; the newest master gives a node up
   the newest master launches an attempt of a task on a node, other than the one that it launches next anyway
 Behind a fault the run goes on as the calm of the newest master. Runs of fewer faults are made first.
@@ -33,67 +32,55 @@ Example, where one.job is a job text alone, and its line has an end:
 As JSON, which ends have the marker:
   mrsim explore --json one.job | grep '\"marker\":true'";
 
-const FAULTS: &str = "How many faults a run has at most, 0 to 4 (default 1)";
+const FAULTS_HELP: &str = "How many faults a run has at most, 0 to 4 (default 1)";
 
-const FIND: &str =
+const FIND_HELP: &str =
     "Stops at the first end that has these lines, as \"marker yes, outcome failed\", and shows it; else `none`";
 
-const MOST: &str = "Makes at most RUNS runs, and shows what came of them (default: all)";
+const MOST_HELP: &str = "Makes at most RUNS runs, and shows what came of them (default: all)";
 
-const SECONDS: &str =
+const SECONDS_HELP: &str =
     "Makes no further run after N seconds, and shows what came of those that were made";
 
-const PROGRESS: &str = "Says on standard error how many runs were made, every 100000 runs";
+const PROGRESS_HELP: &str = "Says on standard error how many runs were made, every 100000 runs";
 
 const JSON_SHOWN: &str =
     "Prints lines of JSON in place of the rest: each end, then how many runs were made";
 
-const FAULTS_WORD: &str = "faults";
-
-const FIND_WORD: &str = "find";
-
-const MOST_WORD: &str = "most";
-
-const PROGRESS_WORD: &str = "progress";
-
-const SECONDS_WORD: &str = "seconds";
-
-const JSON_WORD: &str = "json";
-
 const WORDS: &[Word] = &[
     Word {
-        name: FAULTS_WORD,
-        help: FAULTS,
+        name: FAULTS,
+        help: FAULTS_HELP,
         value_names: &["N"],
         bounds: ValueParser::Signed(0, 4),
         ..Word::TEXT
     },
     Word {
-        name: FIND_WORD,
-        help: FIND,
+        name: FIND,
+        help: FIND_HELP,
         value_names: &["GOAL"],
         ..Word::TEXT
     },
     Word {
-        name: JSON_WORD,
+        name: JSON,
         help: JSON_SHOWN,
         ..Word::FLAG
     },
     Word {
-        name: MOST_WORD,
-        help: MOST,
+        name: MOST,
+        help: MOST_HELP,
         value_names: &["RUNS"],
         bounds: ValueParser::Unsigned(0, u64::MAX),
         ..Word::TEXT
     },
     Word {
-        name: PROGRESS_WORD,
-        help: PROGRESS,
+        name: PROGRESS,
+        help: PROGRESS_HELP,
         ..Word::FLAG
     },
     Word {
-        name: SECONDS_WORD,
-        help: SECONDS,
+        name: SECONDS,
+        help: SECONDS_HELP,
         value_names: &["N"],
         bounds: ValueParser::Unsigned(0, u64::MAX),
         ..Word::TEXT
@@ -103,37 +90,4 @@ const WORDS: &[Word] = &[
 /// The words of `explore`.
 pub fn explore_words() -> &'static [Word] {
     WORDS
-}
-
-/// What `explore` is asked for, and the end that is sought.
-pub fn explore_of<'a>(
-    words: &ArgMatches<'_>,
-    goal: Option<&'a [Expectation]>,
-) -> mr_sim::Command<'a> {
-    mr_sim::Command::Explore {
-        asked: Asked {
-            faults: words.get_one::<u32>(FAULTS_WORD).unwrap_or(1),
-            most: words.get_one::<u64>(MOST_WORD).unwrap_or(u64::MAX),
-            seconds: words.get_one::<u64>(SECONDS_WORD),
-            goal,
-            form: form_of(words),
-        },
-        progress: words.get_flag(PROGRESS_WORD),
-    }
-}
-
-fn form_of(words: &ArgMatches<'_>) -> Form {
-    if words.get_flag(JSON_WORD) {
-        Form::Json
-    } else {
-        Form::Text
-    }
-}
-
-/// The end that is sought, as it was given.
-pub fn goal_word<'a>(matches: &ArgMatches<'a>) -> Option<&'a str> {
-    match matches.subcommand() {
-        Some(("explore", words)) => words.get_str(FIND_WORD),
-        _ => None,
-    }
 }

@@ -1,6 +1,6 @@
 //! The subcommand `committer`: the committer's calls.
+use crate::names::{JSON, TRACE};
 use crate::table::Word;
-use clap::ArgMatches;
 
 /// What `committer` does, in a line.
 pub const COMMITTER: &str =
@@ -46,13 +46,13 @@ const CALLS_JSON: &str =
 
 const WORDS: &[Word] = &[
     Word {
-        name: "json",
+        name: JSON,
         help: CALLS_JSON,
-        rules_out: &["trace"],
+        rules_out: &[TRACE],
         ..Word::FLAG
     },
     Word {
-        name: "trace",
+        name: TRACE,
         help: CALLS,
         ..Word::FLAG
     },
@@ -61,15 +61,4 @@ const WORDS: &[Word] = &[
 /// The words of `committer`.
 pub fn committer_words() -> &'static [Word] {
     WORDS
-}
-
-/// What of a script's calls is printed.
-pub fn committer_of<'a>(words: &ArgMatches<'_>) -> mr_sim::Command<'a> {
-    if words.get_flag("trace") {
-        mr_sim::Command::CommitterTrace
-    } else if words.get_flag("json") {
-        mr_sim::Command::CommitterJson
-    } else {
-        mr_sim::Command::Committer
-    }
 }

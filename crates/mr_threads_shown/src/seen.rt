@@ -1,17 +1,17 @@
 //! What is shown of a run that threads made.
 ghost use Rattle.std.specs.Prelude.{◌≡◌, ◌++◌, [], true, false, IfOk, IfErr};
 ghost use Rattle.mr_sim_commands.specs.declared.fault.SimFault.TheVariants.{NoMemory};
-ghost use Rattle.mr_threads.specs.Text.{ShownFails, ShowsRun, Tells, TellsRun, text_of_run};
+ghost use Rattle.mr_threads.specs.Text.{ShownFails};
+ghost use Rattle.mr_threads_shown.specs.Text.{ShowsRun, Tells, TellsRun, text_of_run};
 ghost use Rattle.mr_script_writer.specs.Repeating.{commented, repeating};
 ghost use Rattle.mr_trace.specs.Happened.{by_threads};
 ghost use Rattle.mr_trace.specs.Trace.{trace_text};
 
-use crate::driven::driven;
-use crate::manner::Manner;
+use mr_play::mr_world::World;
+use mr_play::{Shown, print_histories, print_world};
 use mr_script_writer::{put_comments, put_script};
 use mr_sim_commands::{Printed, SimFault};
-use mr_trace::mr_play::{Shown, print_histories, print_world};
-use mr_trace::mr_world::World;
+use mr_threads::{Manner, report_of};
 use mr_trace::{Makers, trace_of};
 use mr_trace_json::json_of;
 use mr_trace_picture::drawn;
@@ -47,7 +47,7 @@ pub fn threads_seen<H: AllocGlobal + Clock + Threads + Wait + Sync>(
     ensures met { IfOk result (λ v. v.met ≡ true) }
     ensures fault { IfErr result (ShownFails input.now) }
 {
-    let (report, idle_keys) = driven(rt, input, Manner { turns, hold })?;
+    let (report, idle_keys) = report_of(rt, input, Manner { turns, hold })?;
     let text = seen_of(rt.alloc(), &report.world, &report.by, seen)?;
     Ok(Printed::plain(rt.alloc(), text, idle_keys))
 }

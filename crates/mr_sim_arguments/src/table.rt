@@ -1,10 +1,8 @@
 //! The words of a subcommand as rows of a table, and the arguments of clap that they make.
+use crate::names::FILE;
 use clap::builder::ValueParser;
 use clap::{Arg, ArgAction};
 use std::alloc::{AllocError, Global};
-
-/// The name of the argument that is the file to be read.
-pub const FILE: &str = "FILE";
 
 const FILE_HELP: &str = "The file to read in place of standard input; - is standard input";
 

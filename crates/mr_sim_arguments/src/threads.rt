@@ -1,12 +1,11 @@
 //! The words of `threads`.
-use crate::table::Word;
-use crate::words::{
-    DRAWN, FIRST_DRAWN, FOLD_WORD, FOLDED, FROM_BOUNDS, FROM_WORD, HISTORY_SHOWN, JSON_SHOWN,
-    MOST_DRAWN, ROWS_BOUNDS, ROWS_WORD, TRACE_SHOWN, part_of, shown_of,
+use crate::names::{DIAGRAM, FOLD, FROM, HISTORY_NAME, HOLD, JSON, ROWS, SCRIPT, TRACE, TURNS};
+use crate::shown::{
+    DRAWN, FIRST_DRAWN, FOLDED, FROM_BOUNDS, HISTORY_SHOWN, JSON_SHOWN, MOST_DRAWN, ROWS_BOUNDS,
+    TRACE_SHOWN,
 };
-use clap::ArgMatches;
+use crate::table::Word;
 use clap::builder::ValueParser;
-use mr_sim::Seen;
 
 /// What `threads` does, in a line.
 pub const THREADS: &str =
@@ -39,79 +38,77 @@ has the job text on one line is run, and its run is repeated:
   mrsim threads --script job.json > script
   cat job.json script | mrsim play";
 
-const TURNS: &str =
+const TURNS_HELP: &str =
     "How many turns each thread has at most, 1 to 1000000000 (default: 100000, and 10 for each pair of a map and a reduce)";
 
-const HOLD: &str =
+const HOLD_HELP: &str =
     "Holds the first map's work until a second one has begun; it looks at most --turns times";
 
 const SCRIPT_SHOWN: &str = "Prints the script by which `play` repeats the run";
 
-const TURNS_WORD: &str = "turns";
-
 const WORDS: &[Word] = &[
     Word {
-        name: TURNS_WORD,
-        help: TURNS,
+        name: TURNS,
+        help: TURNS_HELP,
         value_names: &["N"],
         bounds: ValueParser::Unsigned(1, 1_000_000_000),
         ..Word::TEXT
     },
     Word {
-        name: "hold",
-        help: HOLD,
+        name: HOLD,
+        help: HOLD_HELP,
         ..Word::FLAG
     },
     Word {
-        name: "diagram",
+        name: DIAGRAM,
         help: DRAWN,
-        rules_out: &["history", "trace", "script"],
+        rules_out: &[HISTORY_NAME, TRACE, SCRIPT],
         ..Word::FLAG
     },
     Word {
-        name: FOLD_WORD,
+        name: FOLD,
         help: FOLDED,
-        rules_out: &["history", "json", "trace", "script"],
-        needs: &["diagram"],
+        rules_out: &[HISTORY_NAME, JSON, TRACE, SCRIPT],
+        needs: &[DIAGRAM],
         ..Word::FLAG
     },
     Word {
-        name: FROM_WORD,
+        name: FROM,
         help: FIRST_DRAWN,
         value_names: &["N"],
         bounds: FROM_BOUNDS,
-        rules_out: &["history", "json", "trace", "script"],
-        needs: &["diagram"],
+        rules_out: &[HISTORY_NAME, JSON, TRACE, SCRIPT],
+        needs: &[DIAGRAM],
         ..Word::TEXT
     },
     Word {
-        name: ROWS_WORD,
+        name: ROWS,
         help: MOST_DRAWN,
         value_names: &["N"],
         bounds: ROWS_BOUNDS,
-        rules_out: &["history", "json", "trace", "script"],
-        needs: &["diagram"],
+        rules_out: &[HISTORY_NAME, JSON, TRACE, SCRIPT],
+        needs: &[DIAGRAM],
         ..Word::TEXT
     },
     Word {
-        name: "script",
+        name: SCRIPT,
         help: SCRIPT_SHOWN,
-        rules_out: &["history", "trace"],
+        rules_out: &[HISTORY_NAME, TRACE],
         ..Word::FLAG
     },
     Word {
-        name: "history",
+        name: HISTORY_NAME,
         help: HISTORY_SHOWN,
         ..Word::FLAG
     },
     Word {
-        name: "json",
+        name: JSON,
         help: JSON_SHOWN,
-        rules_out: &["diagram", "history", "script", "trace"],
+        rules_out: &[DIAGRAM, HISTORY_NAME, SCRIPT, TRACE],
         ..Word::FLAG
     },
     Word {
-        name: "trace",
+        name: TRACE,
         help: TRACE_SHOWN,
         ..Word::FLAG
     },
@@ -120,33 +117,4 @@ const WORDS: &[Word] = &[
 /// The words of `threads`.
 pub fn threads_words() -> &'static [Word] {
     WORDS
-}
-
-/// What `threads` is asked for.
-pub fn threads_of<'a>(words: &ArgMatches<'_>) -> mr_sim::Command<'a> {
-    let turns = words.get_one::<u64>(TURNS_WORD);
-    let hold = words.get_flag("hold");
-    match seen_of(words) {
-        Some(seen) => mr_sim::Command::ThreadsSeen { turns, hold, seen },
-        None => mr_sim::Command::Threads { turns, hold },
-    }
-}
-
-// What is shown in place of the part files, if that is asked for.
-fn seen_of(words: &ArgMatches<'_>) -> Option<Seen> {
-    if words.get_flag("diagram") {
-        return Some(Seen::Drawn(part_of(words)));
-    }
-    if words.get_flag("json") {
-        return Some(Seen::Json);
-    }
-    if words.get_flag("script") {
-        return Some(Seen::Script);
-    }
-    let shown = shown_of(words);
-    if shown.trace || shown.history {
-        Some(Seen::Shown(shown))
-    } else {
-        None
-    }
 }

@@ -1,0 +1,22 @@
+//! What the subcommand `threads` shows of a run in place of the job's part files.
+//!
+//! # What is proved
+//!
+//! For every input, number of turns and gate, whatever the schedule was:
+//!
+//! - **`threads_seen`**: what it shows is of a run of the job that the text says, as it plans it (`ShowsRun`; `IsRun` of
+//!   mr_threads). Where the marker is, the files in the text of `play` are those that `seq` prints. What stands there is
+//!   in the table below.
+//!
+//! | Asked for | What is shown |
+//! |---|---|
+//! | `Shown` | the text that `play` prints of the run. Where they are asked for, exactly the trace of that run stands before it, with the thread whose seat was noted for each event, and exactly the history behind it |
+//! | `Json` | exactly the lines of the run, with the thread whose seat was noted for each event |
+//! | `Script` | exactly the commands of the run's events, and then the text of `play`, as comments |
+//!
+//! In no clause: what a picture says; that there is a run.
+#![tactic(auto)]
+
+mod seen;
+
+pub use seen::{Seen, threads_seen};
