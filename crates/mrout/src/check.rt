@@ -114,14 +114,9 @@ fn check_listing<R: Files + Input + Print + Eprint>(
     rt: &R,
     alloc: Global,
     request: &Request,
-    names: &[&str],
+    name: Option<&str>,
     format: Format,
 ) -> Ending {
-    let name = match names.first() {
-        None => None,
-        Some(name) if *name == "-" => None,
-        Some(name) => Some(*name),
-    };
     let looked = match look_at_listing(rt, alloc, format, name) {
         Ok(looked) => looked,
         Err(ending) => return ending,
@@ -196,11 +191,31 @@ fn ending_of_history(rt: &impl Eprint, dir: &str, fault: &Fault) -> Ending {
     }
 }
 
-/// May these directories be read, or the one that is listed? Prints the answer of each, and ends with the worst of them.
-/// The names are those of the directories, or that of the file with the listing, if it is not standard input.
+// The file with this name; none where that is standard input.
+fn file_of<'a>(name: &'a str) -> Option<&'a str> {
+    if name == "-" { None } else { Some(name) }
+}
+
+// The answer of the listing in each of these files, or on standard input where there is none.
+fn check_listings(rt: &HostRuntime, request: &Request, names: &[&str], format: Format) -> Ending {
+    if names.is_empty() {
+        return check_listing(rt, rt.alloc(), request, None, format);
+    }
+    let mut all = Answer::Yes;
+    for name in names {
+        match check_listing(rt, rt.alloc(), request, file_of(name), format) {
+            Ending::Answered(answer) => all = all.worse(answer),
+            ending => return ending,
+        }
+    }
+    Ending::Answered(all)
+}
+
+/// May these directories be read, or those that are listed? Prints the answer of each, and ends with the worst of them.
+/// The names are those of the directories, or of the files with the listings, if there is none on standard input.
 pub fn run_check(rt: &HostRuntime, request: &Request, names: &[&str]) -> Ending {
     if let Some(format) = request.listing {
-        return check_listing(rt, rt.alloc(), request, names, format);
+        return check_listings(rt, request, names, format);
     }
     let mut all = Answer::Yes;
     for dir in names {

@@ -6,7 +6,7 @@ use clap::error::ErrorKind;
 use clap::{Arg, ArgAction, ArgMatches, Command, Error};
 use mr_out_check::{Shape, Store, Told};
 use mr_out_listing::Format;
-use mr_out_program::subcommands;
+use mr_out_words::subcommands;
 use std::alloc::{AllocError, Global};
 
 const ABOUT: &str =
@@ -31,7 +31,7 @@ Statuses:
 const CHECK: &str = "May these directories be read?";
 
 const CHECK_HELP: &str = "\
-Lists each DIR of this machine; or, with --listing, reads FILE or standard input, the lines of
+Lists each DIR of this machine; or, with --listing, reads each FILE, or standard input, the lines of
   hdfs    hdfs dfs -ls -R DIR
   find    find DIR -printf '%y %s %p\\n'
   find0   find DIR -printf '%y %s %p\\0'
@@ -153,7 +153,7 @@ fn check_words<'a>(alloc: Global) -> Result<Vec<Arg<'a>>, AllocError> {
     args.push(flag(alloc, QUIET, "Prints nothing"))?;
     let names = Arg::new(alloc, NAMES)
         .help(
-            "The directories; with --listing the file with the listing, if it is not standard input",
+            "The directories; with --listing the files with listings, if none is on standard input",
         )
         .action(ArgAction::Append)
         .num_args(0..)
