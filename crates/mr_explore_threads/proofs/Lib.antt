@@ -1,0 +1,2 @@
+mod Advancing
+mod Failing
