@@ -33,6 +33,8 @@ Example, where one.job is a job text alone, and its line has an end:
 As JSON, which ends have the marker:
   mrsim explore --json one.job | grep '\"marker\":true'";
 
+const DEEP: &str = "Ends no run for making no progress, but goes on: each makes at most EVENTS events by itself, behind the script and behind each fault";
+
 const FAULTS: &str = "How many faults a run has at most, 0 to 4 (default 1)";
 
 const FIND: &str =
@@ -48,6 +50,8 @@ const PROGRESS: &str = "Says on standard error how many runs were made, every 10
 const JSON_SHOWN: &str =
     "Prints lines of JSON in place of the rest: each end, then how many runs were made";
 
+const DEEP_WORD: &str = "deep";
+
 const FAULTS_WORD: &str = "faults";
 
 const FIND_WORD: &str = "find";
@@ -61,6 +65,13 @@ const SECONDS_WORD: &str = "seconds";
 const JSON_WORD: &str = "json";
 
 const WORDS: &[Word] = &[
+    Word {
+        name: DEEP_WORD,
+        help: DEEP,
+        value_names: &["EVENTS"],
+        bounds: ValueParser::Unsigned(0, u64::MAX),
+        ..Word::TEXT
+    },
     Word {
         name: FAULTS_WORD,
         help: FAULTS,
@@ -115,6 +126,7 @@ pub fn explore_of<'a>(
             faults: words.get_one::<u32>(FAULTS_WORD).unwrap_or(1),
             most: words.get_one::<u64>(MOST_WORD).unwrap_or(u64::MAX),
             seconds: words.get_one::<u64>(SECONDS_WORD),
+            deep: words.get_one::<u64>(DEEP_WORD),
             goal,
             form: form_of(words),
         },
