@@ -4,7 +4,6 @@ ghost use Rattle.std.specs.String.{string_bytes};
 ghost use Rattle.mr_out_program.specs.Sayings.{fault_status, order_saying, publish_saying};
 ghost use Rattle.mr_out_program.specs.Carried.{CarriesAndTells, Forgets, Says, SaysIfAny};
 
-use crate::asked::{Asked, Command, Failing};
 use crate::attempts::{attempt, attempt_all, done, fail_all, fail_one, fail_task};
 use crate::beginning::begin;
 use crate::ending::settle;
@@ -15,6 +14,7 @@ use mr_out_files::{Directory, Lock};
 use mr_out_layout::{Fault, GONE, Why, host_of, sync_folder};
 use mr_out_removal::remove_folder;
 use mr_out_steps::Order;
+use mr_out_words::{Asked, Command, Failing};
 use std::io;
 
 /// What is printed, and the exit status.

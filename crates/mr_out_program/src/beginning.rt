@@ -5,10 +5,10 @@ ghost use Rattle.mr_out_layout.specs.Faults.{IsRefusal};
 ghost use Rattle.mr_out_program.specs.Asking.{IsAlike};
 
 use crate::answering::Answered;
-use crate::asked::Asked;
 use mr_ids::JobId;
 use mr_out_files::{Directory, Lock, begin as make, name_of};
 use mr_out_layout::{Fault, Job, Why, absolute, host_of, is_suffix, sync_folder};
+use mr_out_words::Asked;
 use std::random::RandomSource;
 use std::time::Clock;
 

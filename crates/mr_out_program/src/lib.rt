@@ -1,9 +1,9 @@
-//! The commands of the program `mrout`: words, then what is printed and the exit status.
+//! The commands of the program `mrout`: what is printed, and the exit status.
 //!
 //! # How to begin
 //!
-//! `subcommands` are clap's command lines of the commands, and `asked_of` is what the words ask for. `answer` carries
-//! it out on the disk: it gives what is to be printed on standard output, what on standard error, and the exit status.
+//! `answer` carries out on the disk what the words ask for (mr_out_words): it gives what is to be printed on standard
+//! output, what on standard error, and the exit status.
 //!
 //! # What is proved
 //!
@@ -21,17 +21,13 @@
 #![tactic(auto)]
 
 mod answering;
-mod asked;
 mod attempts;
 mod beginning;
 mod carrying;
 mod ending;
 mod saying;
 mod standing;
-mod words;
 
 pub use answering::{Answered, abort, answer, forget_published, publish, recover};
-pub use asked::{Asked, Command, Failing};
 pub use attempts::{attempt, attempt_all, done, fail_all, fail_one, fail_task};
 pub use carrying::carry_out;
-pub use words::{asked_of, subcommands};

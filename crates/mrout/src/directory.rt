@@ -1,6 +1,7 @@
 //! The commands of a directory that the program makes and publishes.
 use crate::ending::Ending;
-use mr_out_program::{Asked, answer};
+use mr_out_program::answer;
+use mr_out_words::Asked;
 use std::io::{self, Write};
 
 // Writes what was printed.

@@ -14,7 +14,7 @@ use crate::directory::run_directory;
 use crate::ending::Ending;
 use crate::words::{NAMES, command_line, ending_of, request_of};
 use clap::ArgMatches;
-use mr_out_program::asked_of;
+use mr_out_words::asked_of;
 use std::alloc::Global;
 use std::io::ErrorKind;
 use std::process::ExitCode;

@@ -6,7 +6,7 @@ use clap::error::ErrorKind;
 use clap::{Arg, ArgAction, ArgMatches, Command, Error};
 use mr_out_check::{Shape, Store, Told};
 use mr_out_listing::Format;
-use mr_out_program::subcommands;
+use mr_out_words::subcommands;
 use std::alloc::{AllocError, Global};
 
 const ABOUT: &str =
