@@ -42,7 +42,7 @@ pub fn look_file(rt: &HostRuntime, path: &str) -> Result<Option<Metadata>, Fault
     }
 }
 
-/// Whether both looks were at one file.
+/// Whether both looks were at one file. Which file a look was at, no clause of std says.
 pub fn is_one(a: &Metadata, b: &Metadata) -> bool {
     a.dev() == b.dev() && a.ino() == b.ino()
 }

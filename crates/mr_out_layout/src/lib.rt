@@ -7,6 +7,11 @@
 //!   end, and else that line's number (`Tells`).
 //! - `Job::read` gives a job only of bytes that tell it, and refuses all others so (`IsJobOf`).
 //! - `path_of` gives the path of each name; no two have one path (`paths_are_apart`). A fault is of the path that was asked.
+//! - `Job::line` is `job_line`; `note_of` and `note_of_failure` are `IsNoteOf` and `unknown_note`.
+//! - `read_recorded` gives a job that a file tells and records that this program writes, or a fault of `IsReadingFault`.
+//!
+//! What a file holds, which file a look was at, and where the process stands, no clause of std says. So of `told`, `is_one`,
+//! `absolute`, `read_note` and `write_note` little is proved but safety.
 //!
 //! # What there is
 //!

@@ -1,2 +1,4 @@
 -- Words that only private functions speak of.
 pub mod Advance
+pub mod Settled
+pub mod Begun

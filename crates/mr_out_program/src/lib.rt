@@ -13,8 +13,12 @@
 //! - `attempt`, `done`, `fail_one`, `publish`, `abort`, `recover`, `forget_published`, in a directory that is open: one such
 //!   order is carried out, and what is to be printed, with the exit status, is what its end is told by
 //!   (`specs/Carried.antt`, `specs/Sayings.antt`).
-//! - Which status stands for each fault.
+//! - An end that no command says is a fault: that of the call which failed last, with its path and why, or of the file that
+//!   is refused (`specs/Faults.antt`). A text or a task that the job does not have is refused by its name.
 //! - `attempt_all`, `fail_task`, `fail_all`: such orders are carried out, one after another (`specs/Turns.antt`).
+//! - `status` makes no call that changes anything.
+//! - `answer`: what is printed, and the status, are what its command may answer (`specs/Answers.antt`). Where a fault is
+//!   told, standard output is given nothing.
 //!
 //! That `answer` opens the directory and calls the function that the words name is read in the code; what `status` tells
 //! too. Other texts are only tested.

@@ -2,8 +2,8 @@
 //!
 //! # What is proved
 //!
-//! Each function is safe, and returns: a folder is listed a few times at most, whoever writes into it. What a disk holds no contract can
-//! say. `tools/mrout_rows` lets others write into a folder while it is removed.
+//! Each function is safe, and returns: a folder is listed a few times at most, whoever writes into it. A number that is given is behind
+//! those that were seen. What a disk holds no contract can say. `tools/mrout_rows` lets others write into a folder while it is removed.
 #![tactic(auto)]
 
 mod removal;

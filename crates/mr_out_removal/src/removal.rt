@@ -5,6 +5,9 @@
 //! reached by a short path, whatever stands in it; it is listed a few times at most, and no link is followed. Who stands in
 //! such a folder may write there all the while: what is in it then is left, and whoever removes something next removes that
 //! too.
+ghost use Rattle.std.specs.Prelude.{◌≡◌, ◌≤◌, ◌++◌, codes, decimal, IfOk};
+ghost use Rattle.std.specs.String.{string_bytes};
+
 use mr_out_layout::REMOVED;
 use std::alloc::AllocError;
 use std::{fs, io};
@@ -16,7 +19,7 @@ const LISTINGS: u32 = 16;
 const MOST: u64 = 1_000_000;
 
 /// Removes a folder of what attempts write, or the file that stands in its place; and what was left of others. What is
-/// written all the while is left.
+/// written all the while is left. What is gone then, and why a call failed, no clause of std says.
 pub fn clear(rt: &HostRuntime, path: &str) -> io::Result<()> {
     make_removed(rt)?;
     let next = first_free(rt, REMOVED)?;
@@ -27,7 +30,7 @@ pub fn clear(rt: &HostRuntime, path: &str) -> io::Result<()> {
 }
 
 /// Removes a folder with all that it holds, or the file that stands in its place. `DirectoryNotEmpty`: it is written into
-/// all the while.
+/// all the while. What is gone then, and why a call failed, no clause of std says.
 pub fn remove_folder(rt: &HostRuntime, path: &str) -> io::Result<()> {
     if !is_folder(rt, path)? {
         return fs::remove_file(rt, path);
@@ -60,7 +63,9 @@ fn is_folder(rt: &HostRuntime, path: &str) -> io::Result<bool> {
     Ok(found.is_dir())
 }
 
-fn numbered(rt: &HostRuntime, top: &str, number: u64) -> Result<String, AllocError> {
+fn numbered(rt: &HostRuntime, top: &str, number: u64) -> Result<String, AllocError>
+    ensures { IfOk result (λ path. string_bytes path ≡ top.now ++ (codes "/" ++ decimal number)) }
+{
     format!(in rt.alloc(); "{top}/{number}")
 }
 
@@ -77,7 +82,9 @@ fn first_free(rt: &HostRuntime, top: &str) -> io::Result<u64> {
     Ok(next)
 }
 
-fn behind(next: u64, name: &str) -> u64 {
+fn behind(next: u64, name: &str) -> u64
+    ensures { next ≤ result }
+{
     match name.parse::<u64>() {
         Ok(number) => next.max(number.saturating_add(1)),
         Err(_) => next,
