@@ -3,3 +3,4 @@ pub mod Layout
 pub mod Faults
 pub mod Jobs
 pub mod Segments
+pub mod inner

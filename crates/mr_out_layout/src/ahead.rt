@@ -3,7 +3,7 @@ use crate::fault::Fault;
 use crate::layout::segment_path;
 use crate::lines::front;
 use mr_history::Records;
-use std::alloc::Global;
+use std::alloc::{AllocError, Global};
 use std::fs::{File, Metadata};
 use std::io;
 use std::io::Read;
@@ -41,29 +41,75 @@ pub fn read_ahead(rt: &HostRuntime, most: u32) -> Result<Vec<Ahead>, Fault> {
 }
 
 fn ahead_of(rt: &HostRuntime, path: &str) -> Result<Option<Ahead>, Fault> {
-    let mut bytes = Vec::new(rt.alloc());
-    match read_whole(rt, path, &mut bytes) {
-        Ok(found) => {
-            let (records, rest) = front(rt.alloc(), &bytes)?;
-            let len = bytes.len().saturating_sub(rest.len());
-            Ok(Some(Ahead {
-                disk: found.dev(),
-                file: found.ino(),
-                len: len as u64,
-                records,
-            }))
-        }
+    let mut records = Records::new(rt.alloc());
+    match read_lines(rt, path, &mut records) {
+        Ok((found, len)) => Ok(Some(Ahead {
+            disk: found.dev(),
+            file: found.ino(),
+            len,
+            records,
+        })),
         Err(error) if error.kind() == io::ErrorKind::OutOfMemory => Err(Fault::NoMemory),
         Err(_) => Ok(None),
     }
 }
 
-// Reads a file, and tells which one it is.
-fn read_whole(rt: &HostRuntime, path: &str, bytes: &mut Vec<u8>) -> io::Result<Metadata> {
+// How many bytes are read at once. A line is far shorter.
+const CHUNK: usize = 32_768;
+
+// Adds the records of a file's whole lines, chunk by chunk, up to the first that is none. Tells which file it is, and how
+// many bytes these lines have.
+fn read_lines(
+    rt: &HostRuntime,
+    path: &str,
+    records: &mut Records,
+) -> io::Result<(Metadata, u64)> {
     let mut file = File::open(rt, path)?;
     let found = file.metadata()?;
-    file.read_to_end(bytes)?;
-    Ok(found)
+    let mut chunk = Vec::new(rt.alloc());
+    chunk.resize(CHUNK, 0u8)?;
+    let mut len = 0u64;
+    let mut held = 0usize;
+    for _ in 0..u64::MAX {
+        let filled = fill(&mut file, &mut chunk, held)?;
+        let whole = put_lines(rt.alloc(), &chunk, filled, records)?;
+        len = len.saturating_add(whole as u64);
+        if whole == 0 || filled == held {
+            break;
+        }
+        held = move_up(&mut chunk, whole, filled);
+    }
+    Ok((found, len))
+}
+
+// Reads behind the bytes that a chunk holds. How many it holds then.
+fn fill(file: &mut File, chunk: &mut [u8], held: usize) -> io::Result<usize> {
+    match chunk.get_mut(held..) {
+        Some(room) => Ok(held.saturating_add(file.read(room)?)),
+        None => Ok(held),
+    }
+}
+
+// Adds the records of the lines that a chunk begins with. How many bytes these have.
+fn put_lines(
+    alloc: Global,
+    chunk: &[u8],
+    filled: usize,
+    records: &mut Records,
+) -> Result<usize, AllocError> {
+    let bytes = chunk.get(..filled).unwrap_or(&[]);
+    let (more, rest) = front(alloc, bytes)?;
+    records.extend(more.as_slice())?;
+    Ok(bytes.len().saturating_sub(rest.len()))
+}
+
+// Moves what a chunk holds behind these bytes to its head. How many bytes that are.
+fn move_up(chunk: &mut [u8], from: usize, to: usize) -> usize {
+    if to < from || chunk.len() < to {
+        return 0;
+    }
+    chunk.copy_within(from..to, 0);
+    to - from
 }
 
 /// The bytes of a file behind so many, of a file of this length.

@@ -7,6 +7,7 @@ ghost use Rattle.mr_history.specs.Line.{line_of, IsRecordOf};
 ghost use Rattle.mr_history.specs.Reading.{HasNoFeed, record_of};
 ghost use Rattle.mr_out_layout.specs.Segments.{Splits};
 
+use crate::names::Front;
 use mr_history::{HistoryFault, Record, Records, Replayed, replay};
 use mr_ids::AttemptId;
 use std::alloc::{AllocError, Global};
@@ -16,10 +17,11 @@ use std::alloc::{AllocError, Global};
 pub(crate) fn front(alloc: Global, bytes: &[u8]) -> Result<(Records, &[u8]), AllocError>
     ensures { IfOk result (λ p. Splits bytes.now p.0 p.1.now) }
 {
+    let like = front_like(alloc, bytes)?;
     let mut records = Records::new(alloc);
     let mut rest = bytes;
     while let Some((line, after)) = split_line(rest) {
-        let Some(record) = record_at(alloc, rest, line)? else {
+        let Some(record) = record_at(alloc, rest, line, &like)? else {
             return Ok((records, rest));
         };
         records.push(record)?;
@@ -38,12 +40,17 @@ pub(crate) fn split_line(bytes: &[u8]) -> Option<(&[u8], &[u8])>
 }
 
 // The record of the line with which bytes begin.
-fn record_at(alloc: Global, bytes: &[u8], line: &[u8]) -> Result<Option<Record>, AllocError>
+fn record_at(
+    alloc: Global,
+    bytes: &[u8],
+    line: &[u8],
+    like: &Option<Front>,
+) -> Result<Option<Record>, AllocError>
     requires clean { HasNoFeed line.now }
     requires front { (rest : List ℕ) × (bytes.now ≡ line.now ++ 10 ∷ rest) }
     ensures { IfOk result (λ o. o ≡ record_of 1 line.now) }
 {
-    match record_in(line) {
+    match record_in(line, like) {
         Some(record) => Ok(Some(record)),
         None => replayed(alloc, &bytes[..line.len() + 1], line),
     }
@@ -83,14 +90,14 @@ fn first(records: &Records) -> Option<Record>
 }
 
 // The record of a line, if it is one that this program writes.
-fn record_in(line: &[u8]) -> Option<Record>
+fn record_in(line: &[u8], like: &Option<Front>) -> Option<Record>
     ensures { IfSome result (λ r. (line.now ≡ line_of r) × IsRecordOf 1 r) }
 {
     if line == "{\"event\":\"unsuccessful\"}".as_bytes() {
         return Some(Record::JobUnsuccessful);
     }
     let (name, event) = split_name(behind_key(line)?)?;
-    record_of(attempt_in(name)?, event)
+    record_of(attempt_named(name, like)?, event)
 }
 
 // Whether bytes are this text.
@@ -129,6 +136,34 @@ fn split_name(bytes: &[u8]) -> Option<(&[u8], &[u8])>
 {
     let at = bytes.iter().position(|byte| *byte == b'"')?;
     Some((&bytes[..at], &bytes[at..]))
+}
+
+// What the names of the attempts begin with that are of the job of the first line's.
+fn front_like(alloc: Global, bytes: &[u8]) -> Result<Option<Front>, AllocError> {
+    match first_attempt(bytes) {
+        Some(a) => Ok(Some(Front::of(alloc, a.task().job)?)),
+        None => Ok(None),
+    }
+}
+
+// The attempt that the first line is about.
+fn first_attempt(bytes: &[u8]) -> Option<AttemptId> {
+    let (line, _) = split_line(bytes)?;
+    let (name, _) = split_name(behind_key(line)?)?;
+    attempt_in(name)
+}
+
+// The attempt at a reduce that has this text, which mostly is of one job with those before.
+fn attempt_named(name: &[u8], like: &Option<Front>) -> Option<AttemptId>
+    ensures name { IfSome result (λ a. name.now ≡ attempt_text a) }
+    ensures kind { IfSome result (λ a. IsAttempt a × (is_reduce a.task.kind ≡ true)) }
+{
+    if let Some(front) = like
+        && let Some(a) = front.attempt(name)
+    {
+        return Some(a);
+    }
+    attempt_in(name)
 }
 
 // The attempt at a reduce that has this text.

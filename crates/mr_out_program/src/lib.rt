@@ -34,4 +34,4 @@ pub use answering::{Answered, abort, answer, forget_published, publish, recover}
 pub use asked::{Asked, Command, Failing};
 pub use attempts::{attempt, attempt_all, done, fail_all, fail_one, fail_task};
 pub use carrying::carry_out;
-pub use words::{asked_of, subcommands};
+pub use words::{asked_of, is_name, subcommands};

@@ -51,13 +51,23 @@ fn about<'a>(name: &str) -> &'a str {
     }
 }
 
-/// The command lines of the commands.
-pub fn subcommands<'a>(alloc: Global) -> Result<Vec<clap::Command<'a>>, AllocError> {
+/// The command lines of the commands, but for those that are named otherwise where `word` names one.
+pub fn subcommands<'a>(
+    alloc: Global,
+    word: &str,
+) -> Result<Vec<clap::Command<'a>>, AllocError> {
     let mut commands = Vec::new(alloc);
     for name in NAMES {
-        commands.push(subcommand(alloc, name)?)?;
+        if *name == word || !is_name(word) {
+            commands.push(subcommand(alloc, name)?)?;
+        }
     }
     Ok(commands)
+}
+
+/// Whether a word names a command.
+pub fn is_name(word: &str) -> bool {
+    NAMES.iter().any(|name| *name == word)
 }
 
 fn subcommand<'a>(alloc: Global, name: &'static str) -> Result<clap::Command<'a>, AllocError> {

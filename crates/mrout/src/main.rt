@@ -73,7 +73,11 @@ fn main(rt: HostRuntime) -> ExitCode {
     let Ok(words): Result<Vec<String>, _> = args.collect(alloc) else {
         return code_of(&rt, Ending::NoMemory);
     };
-    let Ok(command) = command_line(alloc) else {
+    let word = match words.get(1) {
+        Some(word) => word.as_str(),
+        None => "",
+    };
+    let Ok(command) = command_line(alloc, word) else {
         return code_of(&rt, Ending::NoMemory);
     };
     match command.try_get_matches_from(words.as_slice()) {

@@ -6,7 +6,7 @@ use clap::error::ErrorKind;
 use clap::{Arg, ArgAction, ArgMatches, Command, Error};
 use mr_out_check::{Shape, Store, Told};
 use mr_out_listing::Format;
-use mr_out_program::subcommands;
+use mr_out_program::{is_name, subcommands};
 use std::alloc::{AllocError, Global};
 
 const ABOUT: &str =
@@ -162,19 +162,22 @@ fn check_words<'a>(alloc: Global) -> Result<Vec<Arg<'a>>, AllocError> {
     Ok(args)
 }
 
-/// The program's command line.
-pub fn command_line<'a>(alloc: Global) -> Result<Command<'a>, AllocError> {
-    let check = Command::new(alloc, "check")
-        .about(CHECK)
-        .after_help(CHECK_HELP)
-        .args(check_words(alloc)?)?;
-    Command::new(alloc, "mrout")
+/// The program's command line. Where this word, its first, names a command, it has no other.
+pub fn command_line<'a>(alloc: Global, word: &str) -> Result<Command<'a>, AllocError> {
+    let line = Command::new(alloc, "mrout")
         .version(VERSION)
         .about(ABOUT)
         .after_help(STATUSES)
         .subcommand_required(true)
-        .subcommands(subcommands(alloc)?)?
-        .subcommand(check)
+        .subcommands(subcommands(alloc, word)?)?;
+    if is_name(word) {
+        return Ok(line);
+    }
+    let check = Command::new(alloc, "check")
+        .about(CHECK)
+        .after_help(CHECK_HELP)
+        .args(check_words(alloc)?)?;
+    line.subcommand(check)
 }
 
 /// How the program ends at words that name nothing to be run.

@@ -1,0 +1,7 @@
+-- What the names of a job's attempts at reduces begin with.
+use Rattle.std.specs.Prelude.{ℕ, List, ◌++◌, codes}
+use Rattle.mr_ids.specs.declared.id.JobId.{JobId}
+use Rattle.mr_ids.specs.Text.{numeral}
+
+abbrev pub front_text : JobId → List ℕ
+front_text j = codes "attempt_" ++ (numeral 1 j.start ++ (codes "_" ++ (numeral 4 j.number ++ codes "_r_")))
