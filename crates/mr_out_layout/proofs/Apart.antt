@@ -5,7 +5,6 @@ use Rattle.std.proofs.lemmas.List.{append_cancel_right}
 use Rattle.mr_ids.specs.Attempt.{Attempt}
 use Rattle.mr_ids.specs.Text.{numeral, attempt_text, IsAttempt}
 use Rattle.mr_ids.proofs.Texts.{numeral_injective, attempt_text_injective, attempt_text_plain, plain-All}
-use Rattle.mr_out_disk.specs.declared.place.Place.{Place}
 use Rattle.mr_out_disk.specs.declared.place.Place.TheVariants.{Part, Marker, Kept, Work, Decision, Home}
 use Rattle.mr_out_layout.specs.Layout.{part_name, path_of, PathsAreApart}
 

@@ -1,8 +1,9 @@
 -- What the file of a job tells: an object of JSON. Our own.
-use Rattle.std.specs.Prelude.{◌≡◌, ℕ, Bool, true, ◌&&◌, nat_le, List, codes, Option, Some, None, option_and_then, if◌then◌else◌}
+use Rattle.std.specs.Prelude.{◌≡◌, ℕ, Bool, true, ◌&&◌, nat_le, List, ◌++◌, codes, decimal, Option, Some, None, option_and_then, if◌then◌else◌}
 use Rattle.std.specs.String.{string_bytes}
 use Rattle.serde_json.specs.Data.{Data}
 use Rattle.serde_json.specs.Find.{get, as_str, as_bool, as_number, as_u64}
+use Rattle.mr_ids.specs.declared.id.JobId.{JobId}
 use Rattle.mr_ids.specs.Text.{job_text}
 use Rattle.mr_out_layout.specs.declared.job.Job.{Job}
 use Rattle.mr_out_layout.specs.Layout.{is_suffix}
@@ -20,6 +21,27 @@ in_range low high n = if nat_le low n && nat_le n high then Some n else None
 abbrev pub number_at : List ℕ → ℕ → ℕ → Data → Option ℕ
 number_at key low high value = option_and_then (in_range low high) (option_and_then as_u64 (option_and_then as_number (get key value)))
 
+-- ---- the line that tells it
+
+abbrev pub limit_text : Option ℕ → List ℕ
+limit_text None = codes "null"
+limit_text (Some n) = decimal n
+
+abbrev pub flag_text : Bool → List ℕ
+flag_text flag = if flag then codes "true" else codes "false"
+
+-- what stands before the suffix, and what from there on
+unfoldable pub line_front : JobId → ℕ → List ℕ → List ℕ
+line_front id tasks limit = codes "{\"version\":1,\"job\":\"" ++ (job_text id ++ (codes "\",\"tasks\":" ++ (decimal tasks ++ (codes ",\"limit\":" ++ limit))))
+
+unfoldable pub line_back : List ℕ → Bool → List ℕ → List ℕ
+line_back suffix hold host = codes ",\"suffix\":\"" ++ (suffix ++ (codes "\",\"hold\":" ++ (flag_text hold ++ (codes ",\"host\":\"" ++ (host ++ codes "\"}\n")))))
+
+abbrev pub job_line : Job → List ℕ
+job_line job = line_front job.id job.tasks (limit_text job.limit) ++ line_back (string_bytes job.suffix) job.hold (string_bytes job.host)
+
+-- ---- what is read of it
+
 pub record IsJobOf (value : Data) (job : Job) : Type 0 where
   pub version : number_at (codes "version") 1 1 value ≡ Some 1
   pub id : text_at (codes "job") value ≡ Some (job_text job.id)
@@ -30,3 +52,7 @@ pub record IsJobOf (value : Data) (job : Job) : Type 0 where
   pub suits : is_suffix (string_bytes job.suffix) ≡ true
   pub hold : flag_at (codes "hold") value ≡ Some job.hold
   pub host : text_at (codes "host") value ≡ Some (string_bytes job.host)
+
+-- some file tells this job
+abbrev pub IsTold : Job → Type 0
+IsTold job = (value : Data) × IsJobOf value job

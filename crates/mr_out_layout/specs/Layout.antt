@@ -61,6 +61,10 @@ PathsAreApart = (suffix : List ℕ) (p q : Place) → InRange p → InRange q �
 abbrev pub is_suffix_byte : ℕ → Bool
 is_suffix_byte b = ((is_ascii_alphanumeric b || (b == 46)) || (b == 45)) || (b == 95)
 
+-- such bytes alone
+abbrev pub IsPlain : List ℕ → Type 0
+IsPlain text = list_all is_suffix_byte text ≡ true
+
 abbrev pub begins_well : List ℕ → Bool
 begins_well [] = true
 begins_well (b ∷ rest) = b == 46

@@ -1,6 +1,6 @@
 //! Why a directory is refused, or a call on it failed.
 ghost use Rattle.std.specs.Prelude.{◌≡◌};
-ghost use Rattle.mr_out_layout.specs.Faults.{IsRefusal, IsFailure, IsPlaced, is_of_path, is_failure_of};
+ghost use Rattle.mr_out_layout.specs.Faults.{IsRefusal, IsFailure, TellsError, IsPlaced, is_of_path, is_failure_of};
 ghost use Rattle.mr_out_layout.specs.declared.fault.Fault.TheVariants.{NoMemory};
 
 use crate::calls::absolute;
@@ -190,9 +190,10 @@ impl Fault {
         }
     }
 
-    /// A call that failed on a path.
+    /// A call that failed on a path. An error that tells of refused memory is told as that.
     pub fn of_call(alloc: Global, what: &'static str, path: &str, error: io::Error) -> Fault
-        ensures { IsFailure path.now result }
+        ensures named { IsFailure what.now path.now result }
+        ensures told { TellsError error result }
     {
         if error.kind() == io::ErrorKind::OutOfMemory {
             return Fault::NoMemory;

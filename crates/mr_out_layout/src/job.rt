@@ -1,12 +1,13 @@
 //! The job of an output directory: one line of JSON, which is written once.
 ghost use Rattle.std.specs.Prelude.{◌≡◌, Some, codes, true, option_map, IfOk, IfErr, IfSome};
+ghost use Rattle.std.specs.String.{string_bytes};
 ghost use Rattle.std.specs.List.{list_all};
 ghost use Rattle.serde_json.specs.Data.{Data};
 ghost use Rattle.serde_json.specs.Read.{read};
 ghost use Rattle.serde_json.specs.View.{view};
 ghost use Rattle.mr_ids.specs.Text.{job_text};
-ghost use Rattle.mr_out_layout.specs.Layout.{is_suffix, begins_well, is_suffix_byte};
-ghost use Rattle.mr_out_layout.specs.Jobs.{IsJobOf, text_at, flag_at, number_at};
+ghost use Rattle.mr_out_layout.specs.Layout.{is_suffix, begins_well, is_suffix_byte, IsPlain};
+ghost use Rattle.mr_out_layout.specs.Jobs.{IsJobOf, IsTold, text_at, flag_at, number_at, limit_text, line_front, line_back, job_line};
 ghost use Rattle.mr_out_layout.specs.Faults.{IsRefusal};
 
 use crate::fault::{Fault, Why};
@@ -68,8 +69,11 @@ fn is_plain(byte: u8) -> bool
     byte.is_ascii_alphanumeric() || byte == b'.' || byte == b'-' || byte == b'_'
 }
 
-/// The host: its machine number, or its name where it has none, or nothing.
-pub fn host_of(rt: &HostRuntime) -> Result<String, Fault> {
+/// The host: its machine number, or its name where it has none, or nothing. It needs no escape in JSON.
+pub fn host_of(rt: &HostRuntime) -> Result<String, Fault>
+    ensures plain { IfOk result (λ host. IsPlain (string_bytes host)) }
+    ensures failed { IfErr result (λ fault. fault ≡ Fault.NoMemory) }
+{
     let alloc = rt.alloc();
     match first_line(rt, "/etc/machine-id")? {
         Some(host) => Ok(host),
@@ -80,8 +84,10 @@ pub fn host_of(rt: &HostRuntime) -> Result<String, Fault> {
     }
 }
 
-/// The bytes of a file by which the system tells something, if it can be read.
-pub fn told(rt: &HostRuntime, path: &str) -> Result<Option<Vec<u8>>, Fault> {
+/// The bytes of a file by which the system tells something, if it can be read. Which they are, no clause of std says.
+pub fn told(rt: &HostRuntime, path: &str) -> Result<Option<Vec<u8>>, Fault>
+    ensures failed { IfErr result (λ fault. fault ≡ Fault.NoMemory) }
+{
     match fs::read(rt, path) {
         Ok(bytes) => Ok(Some(bytes)),
         Err(error) if error.kind() == io::ErrorKind::OutOfMemory => Err(Fault::NoMemory),
@@ -90,39 +96,50 @@ pub fn told(rt: &HostRuntime, path: &str) -> Result<Option<Vec<u8>>, Fault> {
 }
 
 // The plain bytes of a file's first line, if it has any.
-pub fn first_line(rt: &HostRuntime, path: &str) -> Result<Option<String>, Fault> {
-    let alloc = rt.alloc();
+pub fn first_line(rt: &HostRuntime, path: &str) -> Result<Option<String>, Fault>
+    ensures plain { IfOk result (λ line. IfSome line (λ text. IsPlain (string_bytes text))) }
+    ensures failed { IfErr result (λ fault. fault ≡ Fault.NoMemory) }
+{
     let Some(bytes) = told(rt, path)? else {
         return Ok(None);
     };
+    let text = plain_front(rt.alloc(), &bytes)?;
+    if text.is_empty() {
+        return Ok(None);
+    }
+    Ok(Some(text))
+}
+
+// The plain bytes that these begin with.
+#[tactic(auto, using(crate::proofs::Fronts::plain_more))]
+fn plain_front(alloc: Global, bytes: &[u8]) -> Result<String, AllocError>
+    ensures { IfOk result (λ text. IsPlain (string_bytes text)) }
+{
     let mut text = String::new(alloc);
-    for byte in bytes.as_slice() {
+    for byte in bytes {
         if !is_plain(*byte) {
             break;
         }
         text.push(char::from(*byte))?;
     }
-    Ok(if text.is_empty() { None } else { Some(text) })
+    Ok(text)
 }
 
 impl Job {
     /// The line that tells the job.
-    pub fn line(&self, alloc: Global) -> Result<String, AllocError> {
-        let limit = match self.limit {
-            Some(limit) => format!(in alloc; "{limit}")?,
-            None => String::from_str(alloc, "null")?,
-        };
-        let (id, tasks) = (self.id, self.tasks);
-        let (suffix, host) = (self.suffix.as_str(), self.host.as_str());
-        let (limit, hold) = (limit.as_str(), self.hold);
-        format!(in alloc;
-            "{{\"version\":1,\"job\":\"{id}\",\"tasks\":{tasks},\"limit\":{limit},\"suffix\":\"{suffix}\",\"hold\":{hold},\"host\":\"{host}\"}}\n"
-        )
+    pub fn line(&self, alloc: Global) -> Result<String, AllocError>
+        ensures { IfOk result (λ line. string_bytes line ≡ job_line self.now) }
+    {
+        let limit = limit_text(alloc, self.limit)?;
+        let front = line_front(alloc, self.id, self.tasks, &limit)?;
+        let back = line_back(alloc, &self.suffix, self.hold, &self.host)?;
+        format!(in alloc; "{front}{back}")
     }
 
     /// The job that the bytes of the file tell. Whatever else they hold is of another version.
     pub fn read(alloc: Global, bytes: &[u8]) -> Result<Job, Fault>
         ensures told { IfOk result (λ job. (value : Data) × ((read bytes.now ≡ Some value) × IsJobOf value job)) }
+        ensures job { IfOk result IsTold }
         ensures refused { IfErr result (IsRefusal (codes "_mrout/job") Why.OtherVersion) }
     {
         match value_of(alloc, bytes)? {
@@ -133,6 +150,31 @@ impl Job {
             None => Err(Fault::refused(alloc, JOB, Why::OtherVersion)),
         }
     }
+}
+
+fn limit_text(alloc: Global, limit: Option<u32>) -> Result<String, AllocError>
+    ensures { IfOk result (λ text. string_bytes text ≡ limit_text limit) }
+{
+    match limit {
+        Some(limit) => format!(in alloc; "{limit}"),
+        None => String::from_str(alloc, "null"),
+    }
+}
+
+// What stands before the suffix.
+#[tactic(auto, unfolding(crate::specs::Jobs::line_front))]
+fn line_front(alloc: Global, id: JobId, tasks: u32, limit: &str) -> Result<String, AllocError>
+    ensures { IfOk result (λ text. string_bytes text ≡ line_front id tasks limit.now) }
+{
+    format!(in alloc; "{{\"version\":1,\"job\":\"{id}\",\"tasks\":{tasks},\"limit\":{limit}")
+}
+
+// What stands from the suffix on.
+#[tactic(auto, unfolding(crate::specs::Jobs::line_back))]
+fn line_back(alloc: Global, suffix: &str, hold: bool, host: &str) -> Result<String, AllocError>
+    ensures { IfOk result (λ text. string_bytes text ≡ line_back suffix.now hold host.now) }
+{
+    format!(in alloc; ",\"suffix\":\"{suffix}\",\"hold\":{hold},\"host\":\"{host}\"}}\n")
 }
 
 fn value_of(alloc: Global, bytes: &[u8]) -> Result<Option<Value>, Fault>

@@ -5,8 +5,15 @@
 //! - Each function is safe, and returns.
 //! - `tell` gives exactly the records of a segment before the first line that is none, whether what begins there is a torn
 //!   end, and else that line's number (`Tells`).
-//! - `Job::read` gives a job only of bytes that tell it, and refuses all others so (`IsJobOf`).
-//! - `path_of` gives the path of each name; no two have one path (`paths_are_apart`). A fault is of the path that was asked.
+//! - `Job::line` is `job_line`. `Job::read` gives a job only of bytes that tell it, and refuses all others so (`IsJobOf`).
+//! - `path_of` gives the path of each name; no two have one path (`paths_are_apart`).
+//! - `note_of` is a note of that length (`IsNoteOf`), `note_of_failure` is `unknown_note`.
+//! - A fault names the call that failed and the path that was asked (`IsFailure`), or why what stands there is refused.
+//! - `read_recorded` gives a job that a file tells and records that this program writes, or a fault of `IsReadingFault`;
+//!   `read_ahead` gives whole lines alone (`IsOfLines`).
+//!
+//! What a file holds, which file a look was at, and where the process stands, no clause of std says. So of `told`, `is_one`,
+//! `absolute`, `read_note` and `write_note` little is proved but safety.
 //!
 //! # What there is
 //!

@@ -1,4 +1,10 @@
 //! What is recorded of a directory, for whoever only reads: no lock is taken, and nothing is changed or synced.
+ghost use Rattle.std.specs.Prelude.{◌≡◌, codes, IfOk, IfErr, IfSome};
+ghost use Rattle.std.specs.List.{AllByRecursion};
+ghost use Rattle.mr_history.specs.Line.{IsRecordOf};
+ghost use Rattle.mr_out_layout.specs.Faults.{IsFailure};
+ghost use Rattle.mr_out_layout.specs.Recorded.{IsSound, IsSegmentFault, IsHistoryFault, IsReadingFault};
+
 use crate::calls::look;
 use crate::fault::{Fault, Why};
 use crate::job::Job;
@@ -21,7 +27,11 @@ pub struct Recorded {
 
 /// What is recorded of a directory; nothing where it is none of `mrout`. Read permission is enough. A command that runs meanwhile may record
 /// more; the last line that it has not written whole is passed over.
-pub fn read_recorded(rt: &HostRuntime, dir: &str) -> Result<Option<Recorded>, Fault> {
+#[tactic(auto, using(crate::proofs::Fronts::memory_reading, crate::proofs::Fronts::look_reading, crate::proofs::Fronts::read_reading, crate::proofs::Fronts::job_reading, crate::proofs::Fronts::history_reading, crate::proofs::Fronts::list_reading))]
+pub fn read_recorded(rt: &HostRuntime, dir: &str) -> Result<Option<Recorded>, Fault>
+    ensures told { IfOk result (λ found. IfSome found IsSound) }
+    ensures failed { IfErr result (IsReadingFault dir.now) }
+{
     let home = format!(in rt.alloc(); "{dir}/{HOME}")?;
     match look(rt, &home)? {
         Some(found) if found.is_dir() => {}
@@ -41,7 +51,9 @@ pub fn read_recorded(rt: &HostRuntime, dir: &str) -> Result<Option<Recorded>, Fa
 }
 
 // The bytes of a file beneath a directory, if it is there.
-fn read_in(rt: &HostRuntime, dir: &str, name: &str) -> Result<Option<Vec<u8>>, Fault> {
+fn read_in(rt: &HostRuntime, dir: &str, name: &str) -> Result<Option<Vec<u8>>, Fault>
+    ensures failed { IfErr result (IsFailure (codes "read") name.now) }
+{
     let path = format!(in rt.alloc(); "{dir}/{name}")?;
     match fs::read(rt, path.as_str()) {
         Ok(bytes) => Ok(Some(bytes)),
@@ -51,7 +63,11 @@ fn read_in(rt: &HostRuntime, dir: &str, name: &str) -> Result<Option<Vec<u8>>, F
 }
 
 // The records of all segments.
-fn records_in(rt: &HostRuntime, dir: &str) -> Result<Records, Fault> {
+#[tactic(auto, using(crate::proofs::Fronts::memory_history, crate::proofs::Fronts::segment_history, crate::proofs::Fronts::gap_history))]
+fn records_in(rt: &HostRuntime, dir: &str) -> Result<Records, Fault>
+    ensures told { IfOk result (λ records. AllByRecursion (IsRecordOf 1) records) }
+    ensures failed { IfErr result IsHistoryFault }
+{
     let mut records = Records::new(rt.alloc());
     for number in 1..=MAX_SEGMENTS {
         if !read_segment(rt, dir, number, &mut records)? {
@@ -63,12 +79,16 @@ fn records_in(rt: &HostRuntime, dir: &str) -> Result<Records, Fault> {
     Ok(records)
 }
 
+#[tactic(auto, using(crate::proofs::Fronts::all_joined, crate::proofs::Fronts::told_records, crate::proofs::Fronts::memory_segment, crate::proofs::Fronts::unread_segment, crate::proofs::Fronts::damaged_segment))]
 fn read_segment(
     rt: &HostRuntime,
     dir: &str,
     number: u32,
     records: &mut Records,
-) -> Result<bool, Fault> {
+) -> Result<bool, Fault>
+    ensures told { AllByRecursion (IsRecordOf 1) records.old → IfOk result (λ there. AllByRecursion (IsRecordOf 1) records.new) }
+    ensures failed { IfErr result (IsSegmentFault number) }
+{
     let name = segment_path(rt.alloc(), number)?;
     let Some(bytes) = read_in(rt, dir, &name)? else {
         return Ok(false);
@@ -84,7 +104,9 @@ fn read_segment(
 }
 
 // The lengths that the names of the folder of what was handed in tell.
-fn lengths_in(rt: &HostRuntime, dir: &str) -> Result<Vec<Length>, Fault> {
+fn lengths_in(rt: &HostRuntime, dir: &str) -> Result<Vec<Length>, Fault>
+    ensures failed { IfErr result (IsFailure (codes "list") (codes "_mrout/kept")) }
+{
     let mut lengths = Vec::new(rt.alloc());
     let path = format!(in rt.alloc(); "{dir}/{KEPT}")?;
     let entries = match fs::read_dir(rt, path.as_str()) {
@@ -101,7 +123,9 @@ fn lengths_in(rt: &HostRuntime, dir: &str) -> Result<Vec<Length>, Fault> {
     Ok(lengths)
 }
 
-fn put_length(rt: &HostRuntime, lengths: &mut Vec<Length>, name: &str) -> Result<(), Fault> {
+fn put_length(rt: &HostRuntime, lengths: &mut Vec<Length>, name: &str) -> Result<(), Fault>
+    ensures { IfErr result (λ fault. fault ≡ Fault.NoMemory) }
+{
     if let Some(length) = length_named(rt.alloc(), name)? {
         lengths.push(length)?;
     }

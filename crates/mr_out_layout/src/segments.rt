@@ -1,7 +1,8 @@
 //! What the bytes of a segment tell, where its end may be torn.
-ghost use Rattle.std.specs.Prelude.{◌≡◌, true, nat_lt, nat_eq};
+ghost use Rattle.std.specs.Prelude.{◌≡◌, true, nat_lt, nat_eq, IfErr};
 ghost use Rattle.mr_history.specs.Reading.{version_of};
 ghost use Rattle.mr_out_layout.specs.Segments.{Tells, line_count, is_damage};
+ghost use Rattle.mr_out_layout.specs.Recorded.{IsGap};
 ghost use Rattle.mr_out_layout.specs.declared.segments.Damage.TheVariants.{NoMemory};
 
 use crate::fault::{Fault, Why};
@@ -97,7 +98,10 @@ fn is_of_other_version(bytes: &[u8]) -> bool
 }
 
 /// Refuses a history of which this segment is missing and a later one is there, in this folder of `mrout`.
-pub fn refuse_gap(rt: &HostRuntime, home: &str, missing: u32) -> Result<(), Fault> {
+#[tactic(auto, using(crate::proofs::Fronts::list_gap))]
+pub fn refuse_gap(rt: &HostRuntime, home: &str, missing: u32) -> Result<(), Fault>
+    ensures { IfErr result (IsGap missing) }
+{
     let entries = match fs::read_dir(rt, home) {
         Ok(entries) => entries,
         Err(error) => return Err(Fault::of_call(rt.alloc(), "list", HOME, error)),
@@ -112,7 +116,10 @@ pub fn refuse_gap(rt: &HostRuntime, home: &str, missing: u32) -> Result<(), Faul
 }
 
 // Refuses the name of a segment behind the one that is missing.
-fn refuse_behind(rt: &HostRuntime, name: &str, missing: u32) -> Result<(), Fault> {
+#[tactic(auto, using(crate::proofs::Fronts::memory_gap, crate::proofs::Fronts::missing_gap))]
+fn refuse_behind(rt: &HostRuntime, name: &str, missing: u32) -> Result<(), Fault>
+    ensures { IfErr result (IsGap missing) }
+{
     match segment_named(rt.alloc(), name)? {
         Some(number) if number > missing => {
             let path = segment_path(rt.alloc(), missing)?;

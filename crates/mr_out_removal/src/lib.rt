@@ -2,8 +2,10 @@
 //!
 //! # What is proved
 //!
-//! Each function is safe, and returns: a folder is listed a few times at most, whoever writes into it. What a disk holds no contract can
-//! say. `tools/mrout_rows` lets others write into a folder while it is removed.
+//! - Each function is safe, and returns: a folder is listed a few times at most, whoever writes into it.
+//! - Each call that removes is of a path that lies within the folder that is removed (`IsWithin`), by its text.
+//!
+//! What a disk holds no contract can say. `tools/mrout_rows` lets others write into a folder while it is removed.
 #![tactic(auto)]
 
 mod removal;

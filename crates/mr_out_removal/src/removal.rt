@@ -5,6 +5,10 @@
 //! reached by a short path, whatever stands in it; it is listed a few times at most, and no link is followed. Who stands in
 //! such a folder may write there all the while: what is in it then is left, and whoever removes something next removes that
 //! too.
+ghost use Rattle.std.specs.Prelude.{◌≡◌, ◌≤◌, ◌++◌, codes, decimal, IfOk};
+ghost use Rattle.std.specs.String.{string_bytes};
+ghost use Rattle.mr_out_removal.specs.Beneath.{IsBeneath, IsWithin};
+
 use mr_out_layout::REMOVED;
 use std::alloc::AllocError;
 use std::{fs, io};
@@ -16,27 +20,63 @@ const LISTINGS: u32 = 16;
 const MOST: u64 = 1_000_000;
 
 /// Removes a folder of what attempts write, or the file that stands in its place; and what was left of others. What is
-/// written all the while is left.
+/// written all the while is left. What is gone then, and why a call failed, no clause of std says.
+#[tactic(auto, using(crate::proofs::Lying::name_beneath, crate::proofs::Lying::same_within))]
 pub fn clear(rt: &HostRuntime, path: &str) -> io::Result<()> {
     make_removed(rt)?;
     let next = first_free(rt, REMOVED)?;
-    let aside = numbered(rt, REMOVED, next)?;
-    let renamed = fs::rename(rt, path, aside.as_str());
+    let renamed = put_aside(rt, REMOVED, path, next);
     empty(rt, REMOVED, next.saturating_add(1))?;
     renamed
 }
 
 /// Removes a folder with all that it holds, or the file that stands in its place. `DirectoryNotEmpty`: it is written into
-/// all the while.
+/// all the while. What is gone then, and why a call failed, no clause of std says.
+#[tactic(auto, using(crate::proofs::Lying::same_within))]
 pub fn remove_folder(rt: &HostRuntime, path: &str) -> io::Result<()> {
     if !is_folder(rt, path)? {
-        return fs::remove_file(rt, path);
+        return remove_file(rt, path, path);
     }
     let mut next = first_free(rt, path)?;
     take_out(rt, path, path, &mut next)?;
     empty(rt, path, next)?;
+    remove_dir(rt, path, path)
+}
+
+// ---- the calls that remove: each of what lies in the folder that is removed
+
+fn remove_file(rt: &HostRuntime, top: &str, path: &str) -> io::Result<()>
+    requires { IsWithin top.now path.now }
+{
+    fs::remove_file(rt, path)
+}
+
+fn remove_dir(rt: &HostRuntime, top: &str, path: &str) -> io::Result<()>
+    requires { IsWithin top.now path.now }
+{
     fs::remove_dir(rt, path)
 }
+
+// Names that are no text can't be told; std goes through them.
+fn remove_all(rt: &HostRuntime, top: &str, path: &str) -> io::Result<()>
+    requires { IsBeneath top.now path.now }
+{
+    fs::remove_dir_all(rt, path)
+}
+
+// Gives what stands at a path a number in the folder.
+fn put_aside(rt: &HostRuntime, top: &str, path: &str, number: u64) -> io::Result<()> {
+    let aside = numbered(rt, top, number)?;
+    fs::rename(rt, path, aside.as_str())
+}
+
+fn numbered(rt: &HostRuntime, top: &str, number: u64) -> Result<String, AllocError>
+    ensures { IfOk result (λ path. string_bytes path ≡ top.now ++ (codes "/" ++ decimal number)) }
+{
+    format!(in rt.alloc(); "{top}/{number}")
+}
+
+// ---- what is removed
 
 // Makes the folder of what is being removed, where it is not there.
 fn make_removed(rt: &HostRuntime) -> io::Result<()> {
@@ -60,10 +100,6 @@ fn is_folder(rt: &HostRuntime, path: &str) -> io::Result<bool> {
     Ok(found.is_dir())
 }
 
-fn numbered(rt: &HostRuntime, top: &str, number: u64) -> Result<String, AllocError> {
-    format!(in rt.alloc(); "{top}/{number}")
-}
-
 // The number behind each that is a name in a folder.
 fn first_free(rt: &HostRuntime, top: &str) -> io::Result<u64> {
     let mut next = 0u64;
@@ -77,7 +113,9 @@ fn first_free(rt: &HostRuntime, top: &str) -> io::Result<u64> {
     Ok(next)
 }
 
-fn behind(next: u64, name: &str) -> u64 {
+fn behind(next: u64, name: &str) -> u64
+    ensures { next ≤ result }
+{
     match name.parse::<u64>() {
         Ok(number) => next.max(number.saturating_add(1)),
         Err(_) => next,
@@ -96,21 +134,25 @@ fn empty(rt: &HostRuntime, top: &str, next: u64) -> io::Result<()> {
     Ok(())
 }
 
+#[tactic(auto, using(crate::proofs::Lying::name_beneath, crate::proofs::Lying::beneath_within))]
 fn remove_numbered(rt: &HostRuntime, top: &str, number: u64, next: &mut u64) -> io::Result<()> {
     let path = numbered(rt, top, number)?;
     match is_folder(rt, &path) {
         Ok(true) => remove_listed(rt, top, &path, next),
-        Ok(false) => fs::remove_file(rt, path.as_str()),
+        Ok(false) => remove_file(rt, top, &path),
         Err(error) if error.kind() == io::ErrorKind::NotFound => Ok(()),
         Err(error) => Err(error),
     }
 }
 
 // Takes out what stands in a folder and removes it, a few times over where somebody writes into it.
-fn remove_listed(rt: &HostRuntime, top: &str, folder: &str, next: &mut u64) -> io::Result<()> {
+#[tactic(auto, using(crate::proofs::Lying::beneath_within))]
+fn remove_listed(rt: &HostRuntime, top: &str, folder: &str, next: &mut u64) -> io::Result<()>
+    requires { IsBeneath top.now folder.now }
+{
     for _ in 0..LISTINGS {
         let is_odd = take_out(rt, top, folder, next)?;
-        match remove_rest(rt, folder, is_odd) {
+        match remove_rest(rt, top, folder, is_odd) {
             Err(error) if error.kind() == io::ErrorKind::DirectoryNotEmpty => {}
             removed => return removed,
         }
@@ -118,17 +160,21 @@ fn remove_listed(rt: &HostRuntime, top: &str, folder: &str, next: &mut u64) -> i
     Ok(())
 }
 
-// Names that are no text can't be told; std goes through them.
-fn remove_rest(rt: &HostRuntime, folder: &str, is_odd: bool) -> io::Result<()> {
+#[tactic(auto, using(crate::proofs::Lying::beneath_within))]
+fn remove_rest(rt: &HostRuntime, top: &str, folder: &str, is_odd: bool) -> io::Result<()>
+    requires { IsBeneath top.now folder.now }
+{
     if is_odd {
-        fs::remove_dir_all(rt, folder)
+        remove_all(rt, top, folder)
     } else {
-        fs::remove_dir(rt, folder)
+        remove_dir(rt, top, folder)
     }
 }
 
 // Takes each name out of a folder, and says whether there are names that are no text, and no others.
-fn take_out(rt: &HostRuntime, top: &str, folder: &str, next: &mut u64) -> io::Result<bool> {
+fn take_out(rt: &HostRuntime, top: &str, folder: &str, next: &mut u64) -> io::Result<bool>
+    requires { IsWithin top.now folder.now }
+{
     let mut taken = 0u64;
     let mut is_odd = false;
     for entry in fs::read_dir(rt, folder)? {
@@ -148,18 +194,21 @@ fn take_out(rt: &HostRuntime, top: &str, folder: &str, next: &mut u64) -> io::Re
 }
 
 // A file is removed, and so is an empty folder. What has a number already is not taken out.
+#[tactic(auto, using(crate::proofs::Lying::name_beneath, crate::proofs::Lying::beneath_within))]
 fn take_name(
     rt: &HostRuntime,
     top: &str,
     folder: &str,
     name: &str,
     next: &mut u64,
-) -> io::Result<()> {
+) -> io::Result<()>
+    requires { IsWithin top.now folder.now }
+{
     if folder == top && name.parse::<u64>().is_ok() {
         return Ok(());
     }
     let path = format!(in rt.alloc(); "{folder}/{name}")?;
-    match fs::remove_file(rt, path.as_str()) {
+    match remove_file(rt, top, &path) {
         Err(error) if error.kind() == io::ErrorKind::IsADirectory => {
             take_folder(rt, top, &path, next)
         }
@@ -168,8 +217,11 @@ fn take_name(
     }
 }
 
-fn take_folder(rt: &HostRuntime, top: &str, path: &str, next: &mut u64) -> io::Result<()> {
-    match fs::remove_dir(rt, path) {
+#[tactic(auto, using(crate::proofs::Lying::beneath_within))]
+fn take_folder(rt: &HostRuntime, top: &str, path: &str, next: &mut u64) -> io::Result<()>
+    requires { IsBeneath top.now path.now }
+{
+    match remove_dir(rt, top, path) {
         Err(error) if error.kind() == io::ErrorKind::DirectoryNotEmpty => {
             give_number(rt, top, path, next)
         }
@@ -179,11 +231,13 @@ fn take_folder(rt: &HostRuntime, top: &str, path: &str, next: &mut u64) -> io::R
 }
 
 // A folder gets a number of its own.
-fn give_number(rt: &HostRuntime, top: &str, path: &str, next: &mut u64) -> io::Result<()> {
+fn give_number(rt: &HostRuntime, top: &str, path: &str, next: &mut u64) -> io::Result<()>
+    requires { IsBeneath top.now path.now }
+    ensures { next.old ≤ next.new }
+{
     let number = *next;
     *next = number.saturating_add(1);
-    let aside = numbered(rt, top, number)?;
-    match fs::rename(rt, path, aside.as_str()) {
+    match put_aside(rt, top, path, number) {
         Err(error) if is_gone(error.kind()) => Ok(()),
         renamed => renamed,
     }
