@@ -84,7 +84,7 @@ class Names:
         return why or "done"
 
     def delete(self, path):
-        if self.parent(path) not in self.held:
+        if path == "/" or self.parent(path) not in self.held:
             return "NoParent"
         if path not in self.held:
             return "Missing"

@@ -122,10 +122,11 @@ impl Folder {
     }
 
     fn delete(&self, place: &Path) -> io::Result<String> {
-        if place.parent().map_or("nothing", kind) == "nothing" {
+        if place == self.root || place.parent().map_or("nothing", kind) == "nothing" {
             return Ok("NoParent".into());
         }
         match kind(place) {
+            "nothing" => return Ok("Missing".into()),
             "a directory" => fs::remove_dir_all(place)?,
             _ => fs::remove_file(place)?,
         }
@@ -150,14 +151,17 @@ impl Folder {
     }
 
     fn list(&self, place: &Path) -> io::Result<String> {
-        let mut words = Vec::new();
+        let mut entries = Vec::new();
         for entry in fs::read_dir(place)? {
             let entry = entry?;
-            let mark = if entry.file_type()?.is_dir() { "/" } else { "" };
-            words.push(format!(" {}{mark}", encoded(entry.file_name().as_bytes())));
+            entries.push((entry.file_name(), entry.file_type()?.is_dir()));
         }
-        words.sort();
-        Ok(format!("entries{}", words.concat()))
+        entries.sort();
+        let mut line = String::from("entries");
+        for (name, is_dir) in entries {
+            line += &format!(" {}{}", encoded(name.as_bytes()), if is_dir { "/" } else { "" });
+        }
+        Ok(line)
     }
 }
 

@@ -23,7 +23,7 @@ call() {
             else : > "$path" && echo done
             fi ;;
         delete)
-            if [ ! -e "${path%/*}" ]; then echo NoParent
+            if [ "$2" = / ] || [ ! -e "${path%/*}" ]; then echo NoParent
             elif [ ! -e "$path" ]; then echo Missing
             else rm -r "$path" && echo done
             fi ;;

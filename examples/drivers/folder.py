@@ -30,7 +30,7 @@ class Folder:
         verb, *words = line.split(" ")
         try:
             return getattr(self, verb)(*words)
-        except FileNotFoundError:
+        except (FileNotFoundError, NotADirectoryError):
             return "Missing"
 
     def mkdirs(self, path):
@@ -51,7 +51,7 @@ class Folder:
 
     def delete(self, path):
         place = self.place(path)
-        if not os.path.lexists(os.path.dirname(place)):
+        if place == self.root or not os.path.lexists(os.path.dirname(place)):
             return "NoParent"
         if os.path.isdir(place):
             shutil.rmtree(place)

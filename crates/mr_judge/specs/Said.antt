@@ -3,7 +3,7 @@ use Rattle.std.specs.Prelude.{ℕ, List, [], ◌∷◌, ◌++◌, Result, Ok, Er
 use Rattle.serde_json.specs.Data.{Data, boolean}
 use Rattle.mr_sim_json.specs.Members.{count, line_of, object_of, text}
 use Rattle.mr_judge.specs.declared.fault.JudgeFault.{JudgeFault}
-use Rattle.mr_judge.specs.declared.fault.JudgeFault.TheVariants.{BadLine, NoMemory}
+use Rattle.mr_judge.specs.declared.fault.JudgeFault.TheVariants.{BadLine, TooLong, NoMemory}
 use Rattle.mr_pipe.specs.declared.form.Form.{Form}
 use Rattle.mr_pipe.specs.declared.form.Form.TheVariants.{Text, Json}
 use Rattle.mr_judge.specs.declared.verdict.Verdict.{Verdict}
@@ -35,4 +35,5 @@ abbrev pub status_of : Result Verdict JudgeFault → ℕ
 status_of (Ok Right) = 0
 status_of (Ok (Wrong line answered expected)) = 1
 status_of (Err (BadLine line)) = 3
+status_of (Err TooLong) = 3
 status_of (Err NoMemory) = 5

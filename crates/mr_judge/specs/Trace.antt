@@ -1,5 +1,5 @@
 -- A store's trace, and its judgement by the namespace's definition. The lines are our own format, in the words of a trace of `mrsim`; what an answer has to be is mr_names' `call_of`.
-use Rattle.std.specs.Prelude.{◌≡◌, ◌≢◌, ◌⊎◌, ℕ, List, [], ◌∷◌, ◌++◌, Option, Some, None, Result, Ok, Err, codes, decimal}
+use Rattle.std.specs.Prelude.{◌≡◌, ◌≢◌, ◌<◌, ◌≤◌, ◌^◌, ◌⊎◌, ℕ, List, [], ◌∷◌, ◌++◌, length, Option, Some, None, Result, Ok, Err, codes, decimal}
 use Rattle.mr_ids.specs.Attempt.{Attempt}
 use Rattle.mr_ids.specs.Text.{IsAttempt}
 use Rattle.mr_names.specs.declared.op.Caller.{Caller}
@@ -52,14 +52,18 @@ Judges s ((n, Called caller call answer) ∷ rest) verdict =
 abbrev pub JudgesText : List ℕ → Verdict → Type 0
 JudgesText input verdict = (all : List (ℕ × Told)) × AreLines IsLine 1 (lines_of input) all × Judges opening all verdict
 
--- the first line that is no line of a trace; there may be an allocation failure at any input
+-- the first line that is no line of a trace; there may be an allocation failure at any input. How long it may be is for whoever reads it
 abbrev pub JudgeFails : List ℕ → JudgeFault → Type 0
 JudgeFails input (fault.BadLine n) = IsFirstNoLine IsLine 1 (lines_of input) n
+JudgeFails input fault.TooLong = ⊥
 JudgeFails input fault.NoMemory = Unit {0}
 
+-- of what is read: a trace has at most 2^24 bytes, and a longer one is not judged
 abbrev pub JudgedAs : List ℕ → Result Verdict JudgeFault → Type 0
-JudgedAs input (Ok verdict) = JudgesText input verdict
-JudgedAs input (Err e) = JudgeFails input e
+JudgedAs input (Ok verdict) = (length input ≤ 2 ^ 24) × JudgesText input verdict
+JudgedAs input (Err (fault.BadLine n)) = (length input ≤ 2 ^ 24) × JudgeFails input (fault.BadLine n)
+JudgedAs input (Err fault.TooLong) = 2 ^ 24 < length input
+JudgedAs input (Err fault.NoMemory) = Unit {0}
 
 abbrev pub judge_fault : ScriptFault → JudgeFault
 judge_fault (script.BadCommand n) = fault.BadLine n

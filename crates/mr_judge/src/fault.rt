@@ -12,6 +12,9 @@ pub enum JudgeFault {
     /// The first line that is no call with its answer, by its number.
     #[error("line {0}: bad line")]
     BadLine(usize),
+    /// There are more than 16,777,216 bytes.
+    #[error("input too long")]
+    TooLong,
     /// There was no memory.
     #[error("no memory")]
     NoMemory,

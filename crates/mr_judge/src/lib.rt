@@ -8,7 +8,7 @@
 //!   answer is another one is told, with the words of that answer and of the right one. A line is read exactly where it is the line that a call with its answer is
 //!   written as; the first that is none is told (`BadLine`).
 //! - **`judge_input`, bytes to bytes**: what is written is what is said of the verdict of the bytes that were read (`said_of`: a line, or a line of JSON); nothing where there
-//!   is none.
+//!   is none. `TooLong`: there are more than 16,777,216 bytes.
 //! - **`run`**, which the program calls: its status is that of the judgement (`Runs`). `status_of` is the table of statuses.
 //!
 //! Only tested: that these succeed with ample memory, and what stands on standard error.

@@ -99,14 +99,15 @@ pub fn said_of(
     }
 }
 
-/// The exit status of a judgement: 0 where all is right, 1 where an answer is wrong, 3 where a line is none, 5 where there was no memory.
+/// The exit status of a judgement: 0 where all is right, 1 where an answer is wrong, 3 where a line is none or the trace is too long, 5 where there was
+/// no memory.
 pub fn status_of(judged: &Result<Verdict, JudgeFault>) -> u8
     ensures { result ≡ status_of judged.now }
 {
     match judged {
         Ok(Verdict::Right) => 0,
         Ok(Verdict::Wrong { .. }) => 1,
-        Err(JudgeFault::BadLine(_)) => 3,
+        Err(JudgeFault::BadLine(_) | JudgeFault::TooLong) => 3,
         Err(JudgeFault::NoMemory) => 5,
     }
 }

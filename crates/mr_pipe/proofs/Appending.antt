@@ -1,5 +1,5 @@
 -- Text that is sent in turn.
-use Rattle.std.proofs.Common.{◌≡◌, ℕ, List, [], ◌++◌, Option, Some, None, IfSome, sym, ap, ◌∙◌, append_assoc, append-nil}
+use Rattle.std.proofs.Common.{ℕ, List, [], ◌++◌, Option, Some, None, sym, ap, ◌∙◌, append_assoc, append-nil}
 use Rattle.std.specs.Io.KnownBytes.{Appends}
 
 -- nothing is added
@@ -13,8 +13,3 @@ in_turn None v w first more a b = tt
 in_turn (Some xs) None w first more a b = absurd a
 in_turn (Some xs) (Some ys) None first more a b = absurd b
 in_turn (Some xs) (Some ys) (Some zs) first more a b = b ∙ ap (λ l. l ++ more) a ∙ append_assoc xs first more
-
--- all that a reader has
-pub all_read : (left : Option (List ℕ)) (old new : List ℕ) → old ≡ [] → IfSome left (λ xs. new ≡ old ++ xs) → IfSome left (λ xs. new ≡ xs)
-all_read None old new is read = tt
-all_read (Some xs) old new is read = read ∙ ap (λ o. o ++ xs) is

@@ -4,7 +4,8 @@
 //!
 //! - **`next_line`** gives the next line of the stream (`lines_in`), or says that there is none. A line ends with a line feed: what stands
 //!   behind the last one is no line, since its writer may have been cut off.
-//! - **`read_all`** gives all that a reader has. **`send`** has written the whole text where it answers `Ok`.
+//! - **`read_all`** gives all that a reader has; nothing where that is more than 16,777,216 bytes. **`send`** has written the whole text where it
+//!   answers `Ok`.
 //! - `status_of` is the table of a fault's statuses. **`say`** has written the fault's line (`fault_line`) where it answers `Ok`.
 //!
 //! Only tested: that a text is flushed, and what is written before a stream fails.

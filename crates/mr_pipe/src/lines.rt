@@ -1,7 +1,8 @@
 //! Lines of a stream, one at a time, and text that is sent at once.
-ghost use Rattle.std.specs.Prelude.{◌≡◌, OnOk, IfOk, IfSome};
+ghost use Rattle.std.specs.Prelude.{◌≡◌, ◌≢◌, ◌<◌, ◌≤◌, ◌^◌, OnOk, IfOk, IfErr, IfSome, IfNone, length};
 ghost use Rattle.std.specs.Io.KnownBytes.{Appends};
 ghost use Rattle.mr_pipe.specs.Stream.{GivesLine};
+ghost use Rattle.mr_pipe.specs.declared.fault.PipeFault.TheVariants.{Write};
 ghost use Rattle.mr_pipe.specs.inner.Reading.{TakesFeed};
 
 use crate::fault::PipeFault;
@@ -33,23 +34,49 @@ fn take_line_feed(line: &mut Vec<u8>) -> bool
 }
 
 // Why a read failed.
-fn read_fault(error: &io::Error) -> PipeFault {
+fn read_fault(error: &io::Error) -> PipeFault
+    ensures { result ≢ Write }
+{
     match error.kind() {
         io::ErrorKind::OutOfMemory => PipeFault::NoMemory,
         _ => PipeFault::Read,
     }
 }
 
-/// All that the reader has.
-#[tactic(auto, using(crate::proofs::Appending::all_read))]
-pub fn read_all<R: Read>(alloc: Global, reader: &mut R) -> Result<Vec<u8>, PipeFault>
-    ensures { IfOk result (λ bytes. IfSome (R.remaining reader.old) (λ all. bytes.items ≡ all)) }
+// Most bytes of an input that is read whole.
+const MOST_BYTES: usize = 1 << 24;
+
+// Most calls of the reader, interrupted ones with them.
+const MOST_READS: u32 = 1 << 25;
+
+/// All that the reader has, if that is at most 16,777,216 bytes; else none. An interrupted read is tried again.
+///
+/// `Read`: a read failed, or the input did not end within 33,554,432 reads. `NoMemory`: memory was refused.
+pub fn read_all<R: Read>(alloc: Global, reader: &mut R) -> Result<Option<Vec<u8>>, PipeFault>
+    ensures all { IfOk result (λ read. IfSome read (λ bytes. IfSome (R.remaining reader.old) (λ all. bytes.items ≡ all))) }
+    ensures limit { IfOk result (λ read. IfSome read (λ bytes. length bytes.items ≤ 2 ^ 24)) }
+    ensures long { IfOk result (λ read. IfNone read (IfSome (R.remaining reader.old) (λ all. 2 ^ 24 < length all))) }
+    ensures kinds { IfErr result (λ fault. fault ≢ Write) }
 {
     let mut bytes = Vec::new(alloc);
-    match reader.read_to_end(&mut bytes) {
-        Ok(_) => Ok(bytes),
-        Err(error) => Err(read_fault(&error)),
+    let mut chunk = [0u8; 4096];
+    for _ in 0..MOST_READS {
+        match reader.read(&mut chunk) {
+            Ok(0) => return Ok(Some(bytes)),
+            Ok(n) => {
+                if bytes.len() + n > MOST_BYTES {
+                    return Ok(None);
+                }
+                bytes.extend_from_slice(&chunk[..n])?;
+            }
+            Err(error) => {
+                if error.kind() != io::ErrorKind::Interrupted {
+                    return Err(read_fault(&error));
+                }
+            }
+        }
     }
+    Err(PipeFault::Read)
 }
 
 /// Writes a text, and flushes it, so that whoever waits for it at a pipe has it.

@@ -15,20 +15,20 @@ pub fn no_memory(rt: &HostRuntime) -> u8 {
 pub fn segments_of(rt: &HostRuntime, names: &[&str]) -> Result<Vec<Bytes>, u8> {
     let mut segments = Vec::new(rt.alloc());
     for name in names {
-        match bytes_of(rt, name) {
-            Ok(bytes) => {
-                if segments.push(Bytes::from_vec(bytes)).is_err() {
-                    return Err(no_memory(rt));
-                }
-            }
+        let bytes = match bytes_of(rt, name) {
+            Ok(Some(bytes)) => bytes,
+            Ok(None) => return Err(too_long(rt, name)),
             Err(fault) => return Err(unread(rt, name, fault)),
+        };
+        if segments.push(Bytes::from_vec(bytes)).is_err() {
+            return Err(no_memory(rt));
         }
     }
     Ok(segments)
 }
 
-/// All bytes of a file, or of standard input.
-pub fn bytes_of(rt: &HostRuntime, name: &str) -> Result<Vec<u8>, PipeFault> {
+/// All bytes of a file, or of standard input; none where these are more than are read.
+pub fn bytes_of(rt: &HostRuntime, name: &str) -> Result<Option<Vec<u8>>, PipeFault> {
     if name == "-" {
         return read_all(rt.alloc(), &mut rt.stdin());
     }
@@ -36,6 +36,17 @@ pub fn bytes_of(rt: &HostRuntime, name: &str) -> Result<Vec<u8>, PipeFault> {
         Ok(mut file) => read_all(rt.alloc(), &mut file),
         Err(_) => Err(PipeFault::Read),
     }
+}
+
+/// The status of an input that is too long, when it is said, with which file it is, if it is one.
+pub fn too_long(rt: &HostRuntime, name: &str) -> u8 {
+    let _ = eprintln!(rt; "mrsim: input too long");
+    if name == "-" {
+        let _ = eprintln!(rt; "  at most 16777216 bytes are read");
+    } else {
+        let _ = eprintln!(rt; "  {name}: at most 16777216 bytes are read");
+    }
+    3
 }
 
 /// The status of a file that is not read, when it is said, with why. Of standard input no name is told, nor of a lack of memory.

@@ -1,5 +1,5 @@
 //! One subcommand that serves another program, from the words to the exit status.
-use crate::files::{bytes_of, no_memory, segments_of, unread};
+use crate::files::{bytes_of, no_memory, segments_of, too_long, unread};
 use clap::ArgMatches;
 use mr_ids::{AppAttempt, TaskId};
 use mr_pipe::Form;
@@ -131,7 +131,7 @@ fn judge(rt: &HostRuntime, words: &ArgMatches<'_>) -> u8 {
             &mut rt.stderr(),
         ),
         Some(name) => match bytes_of(rt, name) {
-            Ok(bytes) => {
+            Ok(Some(bytes)) => {
                 let mut trace = bytes.as_slice();
                 mr_judge::run(
                     alloc,
@@ -141,6 +141,7 @@ fn judge(rt: &HostRuntime, words: &ArgMatches<'_>) -> u8 {
                     &mut rt.stderr(),
                 )
             }
+            Ok(None) => too_long(rt, name),
             Err(fault) => unread(rt, name, fault),
         },
     }

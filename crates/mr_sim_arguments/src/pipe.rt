@@ -20,9 +20,11 @@ Operations:
   recover-task TASK [N]   takes over what an earlier generation committed of the task; with N, its part file has to have N bytes
 Writes the next store call as a line, reads the store's answer as a line from standard input, and so on. Ends with `finished`, or with
 `fault` and why (status 1). A line that is no answer changes nothing, and is named, as `no answer 3`. Status 3: the input ended first.
+The calls of commit-task and abort-task are the attempt's, those of the others the master's. `raise` and `bar` are calls of your own.
 
 Calls: mkdirs PATH, create PATH closed, delete PATH, rename FROM TO, list PATH, exists PATH, read PATH.
-Answers: done; entries NAME/ NAME ..; nothing, a directory, a file; bytes BYTES; or a refusal, as Missing.
+Answers: done; entries NAME/ NAME ..; nothing, a directory, a file; bytes BYTES; or a refusal, as Missing. Behind `bytes` stands a blank,
+of an empty file too.
 A byte of a path, a name or of BYTES that is no letter or digit and none of -._~/ is written %XX.
 
 Example: `printf 'done\\n' | mrsim step setup-job` prints
@@ -66,7 +68,8 @@ Reads a trace, one call a line, from an empty namespace on:
   raise GENERATION                  the fence is raised: calls of older generations are refused
   # ..                              is a comment
 Calls and answers are those of `step`, and append PATH BYTES, close PATH, bar ATTEMPT. Writes `right`, or the first wrong answer:
-its line, what was answered, and what should have been (status 1). Status 3: a line is none of these.
+its line, what was answered, and what should have been (status 1). Status 3: a line is none of these, or there are more than
+16777216 bytes.
 
 Example:
   1 none mkdirs /out: done
@@ -82,6 +85,7 @@ pub const RECOVERY: &str =
 pub const RECOVERY_HELP: &str = "\
 Reads the segments (see `history`), the oldest first: each FILE, or standard input as one. Writes `resume`, and for each task that is
 taken over a line `recover TASK ATTEMPT`, with the bytes of its part file where they are recorded: what `step recover-task` takes.
+Status 3: a line is no record, or a segment has more than 16777216 bytes.
 Where a mark of the job's commit is there: `report succeeded`, or `report failed` (a job commit that began is not made again).
 A segment with a line `unsuccessful` is of a job that failed: abort that job, whatever is written here.
 

@@ -14,8 +14,8 @@ use Rattle.mr_world.specs.Journal.{Journal, world_in}
 use Rattle.mr_world.specs.VisibleFiles.{as_pair}
 
 -- a world's winner of a reduce, its marker, its outcome
-abbrev pub winner_in : Journal → TaskId → Option Attempt
-winner_in j t = winner (world_in j) t
+abbrev pub world_winner : Journal → TaskId → Option Attempt
+world_winner j t = winner (world_in j) t
 
 abbrev pub marker_in : Journal → Bool
 marker_in j = is_file (entry_at (world_in j).content marker)

@@ -3,7 +3,7 @@ ghost use Rattle.std.specs.Prelude.{◌≡◌, ◌⊎◌, IfErr, IfNone, IfOk, I
 ghost use Rattle.mr_world_model.specs.Ids.{TaskId};
 ghost use Rattle.mr_world_model.specs.Ids.{Attempt};
 ghost use Rattle.mr_world.specs.Applying.{Ran};
-ghost use Rattle.mr_world_laws.specs.Runs.{winner_in, EndedAt, TellsOfWinner};
+ghost use Rattle.mr_world_laws.specs.Runs.{world_winner, EndedAt, TellsOfWinner};
 ghost use Rattle.mr_world.specs.mr_world_state.specs.declared.fault.WorldFault.TheVariants.{Full, NoMemory};
 
 use crate::told::Told;
@@ -22,8 +22,8 @@ pub fn winner_stays(
     task: TaskId,
 ) -> Result<Told<Option<AttemptId>>, WorldFault>
     ensures stays { IfOk result (λ told. IsSome told.before → told.after ≡ told.before) }
-    ensures before { IfOk result (λ told. told.before ≡ winner_in world.old task) }
-    ensures after { IfOk result (λ told. told.after ≡ winner_in world.new task) }
+    ensures before { IfOk result (λ told. told.before ≡ world_winner world.old task) }
+    ensures after { IfOk result (λ told. told.after ≡ world_winner world.new task) }
     ensures ran { OnOk result (Ran world.old events.items world.new) }
     ensures ended { IfErr result (λ fault. EndedAt world.old events.items fault world.new) }
     ensures fault { IfErr result (λ fault. (fault ≡ WorldFault.Full) ⊎ (fault ≡ WorldFault.NoMemory)) }
@@ -43,7 +43,7 @@ pub fn told_winner_is_the_winner(
     place: usize,
 ) -> Result<Option<(AttemptId, Option<AttemptId>)>, WorldFault>
     ensures same { IfOk result (λ told. IfSome told (λ winners. winners.1 ≡ Some winners.0)) }
-    ensures some { IfOk result (λ told. IfSome told (λ winners. (task : TaskId) × TellsOfWinner world.now place task winners.0 × (winners.1 ≡ winner_in world.now task))) }
+    ensures some { IfOk result (λ told. IfSome told (λ winners. (task : TaskId) × TellsOfWinner world.now place task winners.0 × (winners.1 ≡ world_winner world.now task))) }
     ensures none { IfOk result (λ told. IfNone told ((task : TaskId) (attempt : Attempt) → TellsOfWinner world.now place task attempt → ⊥)) }
     ensures memory { IfErr result (λ fault. fault ≡ WorldFault.NoMemory) }
 {
