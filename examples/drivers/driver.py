@@ -3,10 +3,12 @@
 
 driver.py MRSIM              crashes the driver before each store call in turn, and recovers; says how many runs there were
 driver.py MRSIM FOLDER       runs the job once, in this folder
+driver.py MRSIM --failed     crashes the driver of a job that fails; its next generation follows the plan of `mrsim recovery`
 driver.py MRSIM --latency    says how long a call over the pipe takes, beside `cat`
 
 Works with Python's standard library alone.
 """
+import json
 import os
 import shutil
 import subprocess
@@ -79,6 +81,32 @@ class Driver:
         with open(f"{folder}/part-r-{n:05d}", "w") as file:
             file.write(f"the output of task {n}\n")
 
+    def segment(self, generation):
+        return f"{self.root}/history.{generation}"
+
+    def record(self, event, **more):
+        """Puts a record into this generation's segment of the history, and makes it stable."""
+        with open(self.segment(self.generation), "a") as file:
+            file.write(json.dumps({**more, "event": event}, sort_keys=True, separators=(",", ":")) + "\n")
+            file.flush()
+            os.fsync(file.fileno())
+
+    def plan(self):
+        """What the history of the generations before this one asks for."""
+        segments = [it for it in map(self.segment, range(1, self.generation)) if os.path.exists(it)]
+        command = [self.mrsim, "recovery", *(segments or ["/dev/null"])]
+        return subprocess.run(command, stdout=subprocess.PIPE, text=True, check=True).stdout.splitlines()
+
+    def fail(self):
+        """One task has won, and another one has failed too often: that is recorded, and the job is aborted."""
+        winner = attempt(0, 1000 * (self.generation - 1))
+        self.step("setup-job")
+        self.write(0, 1000 * (self.generation - 1))
+        self.step("commit-task", winner)
+        self.record("reduce", attempt=winner)
+        self.record("unsuccessful")
+        self.step("abort-job")
+
     def run(self):
         first = 1000 * (self.generation - 1)
         self.step("setup-job")
@@ -118,6 +146,28 @@ def run_with_crash(mrsim, crash):
                 Driver(mrsim, root, 2).run()
         if not is_right(root):
             raise SystemExit(f"driver.py: wrong output after a crash before call {crash}")
+        return crashed
+
+
+def fail_with_crash(mrsim, crash):
+    """Fails a job with a crash before store call number `crash`; says whether it came to that call."""
+    with tempfile.TemporaryDirectory() as root:
+        first, second = Driver(mrsim, root, 1, crash), Driver(mrsim, root, 2)
+        try:
+            first.fail()
+            crashed = False
+        except Crash:
+            crashed = True
+            # Once the failure is recorded the next generation aborts the job too, whatever has won; before that it goes on.
+            plan, has_failed = second.plan(), os.path.exists(first.segment(1))
+            if plan != (["report failed"] if has_failed else ["resume"]):
+                raise SystemExit(f"driver.py: planned {plan} after a crash before call {crash}")
+            if has_failed:
+                second.step("abort-job")
+            else:
+                second.fail()
+        if os.listdir(f"{root}/out"):
+            raise SystemExit(f"driver.py: output of a failed job after a crash before call {crash}")
         return crashed
 
 
@@ -166,6 +216,11 @@ def main():
     mrsim = sys.argv[1]
     if sys.argv[2:] == ["--latency"]:
         latency(mrsim)
+    elif sys.argv[2:] == ["--failed"]:
+        runs = 0
+        while fail_with_crash(mrsim, runs):
+            runs += 1
+        print(f"driver.py: {runs + 1} runs of a job that fails, none with output")
     elif sys.argv[2:]:
         Driver(mrsim, sys.argv[2], 1).run()
     else:

@@ -8,7 +8,7 @@ use Rattle.mr_paths.specs.Layout.{marker_name, temporary_name, is_hidden}
 use Rattle.mr_script.specs.Lines.{before, after}
 use Rattle.mr_out_listing.specs.Lines.{Sight}
 use Rattle.mr_out_listing.specs.declared.entry.Kind.{Kind}
-use Rattle.mr_out_listing.specs.declared.entry.Kind.TheVariants.{File, Directory, Other}
+use Rattle.mr_out_listing.specs.declared.entry.Kind.TheVariants.{File, Directory, Closed, Other}
 use Rattle.mr_out_check.specs.declared.class.Class.{Class}
 use Rattle.mr_out_check.specs.declared.class.Class.TheVariants as class
 use Rattle.mr_out_check.specs.declared.premise.Premise.{Premise}
@@ -18,7 +18,7 @@ use Rattle.mr_out_check.specs.declared.premise.Standing.TheVariants.{Met, Open, 
 use Rattle.mr_out_check.specs.declared.told.Told.{Told}
 use Rattle.mr_out_check.specs.declared.verdict.Answer.{Answer}
 use Rattle.mr_out_check.specs.declared.verdict.Answer.TheVariants.{Yes, No, ItDepends}
-use Rattle.mr_out_check.specs.Classes.{attempt_class, below_class, class_by, class_of, file_class, folder_class, hidden_class, is_commit_mark, is_hive, is_spark, marker_class, part_behind, place_of, same_class, task_class, top_class, visible_class, work_class}
+use Rattle.mr_out_check.specs.Classes.{attempt_class, below_class, class_by, class_of, file_class, folder_class, hidden_class, is_commit_mark, is_hive, is_spark, marker_class, part_behind, place_of, same_class, task_class, temporary_class, top_class, visible_class, work_class}
 use Rattle.mr_out_check.specs.Seen.{Noted, Seen, classed, counted, noted, nothing, seen_all, seen_with, tallied}
 use Rattle.mr_out_check.specs.Verdicts.{answer, came, premises, same_standing, some_stands, standing}
 use Rattle.mr_out_check.specs.Laws.{Among, YesMeansMarked, YesMeansMet, the_marker}
@@ -80,6 +80,7 @@ is_marker class.ReducePart h = absurd (cc)
 is_marker class.MapPart h = absurd (cc)
 is_marker class.PlainPart h = absurd (cc)
 is_marker class.Temporary h = absurd (cc)
+is_marker class.TemporaryClosed h = absurd (cc)
 is_marker class.Generation h = absurd (cc)
 is_marker class.CommittedTask h = absurd (cc)
 is_marker class.TaskAttempt h = absurd (cc)
@@ -127,15 +128,21 @@ by4 false false false false w h = λ e. cc
 below-none : (front rest : List ℕ) → IsNone (below_class front rest)
 below-none front rest = by4 (bytes_eq front temporary_name) (bytes_eq front (codes "_mrout")) (bytes_eq front (codes "_delta_log")) (is_hidden front) (work_class (after 47 rest)) (work-none (after 47 rest))
 
-hidden-by : (a b c d : Bool) → IsNone (if a then class.Temporary else if b then class.Mrout else if c then class.DeltaLog else if d then class.CommitMark else class.Hidden)
-hidden-by true b c d = λ e. cc
-hidden-by false true c d = λ e. cc
-hidden-by false false true d = λ e. cc
-hidden-by false false false true = λ e. cc
-hidden-by false false false false = λ e. cc
+temporary-none : (kind : Kind) → IsNone (temporary_class kind)
+temporary-none Closed = λ e. cc
+temporary-none File = λ e. cc
+temporary-none Directory = λ e. cc
+temporary-none Other = λ e. cc
 
-hidden-none : (name : List ℕ) → IsNone (hidden_class name)
-hidden-none name = hidden-by (bytes_eq name temporary_name) (bytes_eq name (codes "_mrout")) (bytes_eq name (codes "_delta_log")) (is_commit_mark name)
+hidden-by : (w : Class) → IsNone w → (a b c d : Bool) → IsNone (if a then w else if b then class.Mrout else if c then class.DeltaLog else if d then class.CommitMark else class.Hidden)
+hidden-by w h true b c d = h
+hidden-by w h false true c d = λ e. cc
+hidden-by w h false false true d = λ e. cc
+hidden-by w h false false false true = λ e. cc
+hidden-by w h false false false false = λ e. cc
+
+hidden-none : (kind : Kind) (name : List ℕ) → IsNone (hidden_class kind name)
+hidden-none kind name = hidden-by (temporary_class kind) (temporary-none kind) (bytes_eq name temporary_name) (bytes_eq name (codes "_mrout")) (bytes_eq name (codes "_delta_log")) (is_commit_mark name)
 
 file-by : (a b c d f : Bool) → IsNone (if a then class.ReducePart else if b then class.MapPart else if c then class.PlainPart else if d then class.Spark else if f then class.Hive else class.Foreign)
 file-by true b c d f = λ e. cc
@@ -151,6 +158,7 @@ file-none name = file-by (is_some (part_behind (codes "part-r-") name)) (is_some
 visible-none : (kind : Kind) (name : List ℕ) → IsNone (visible_class kind name)
 visible-none File name = file-none name
 visible-none Directory name = either (list_any (λ b. b == 61) name) class.Partition class.Folder (λ e. cc) (λ e. cc)
+visible-none Closed name = either (list_any (λ b. b == 61) name) class.Partition class.Folder (λ e. cc) (λ e. cc)
 visible-none Other name = λ e. cc
 
 -- the kind is a file's, it has no byte, and it is the marker's name
@@ -163,13 +171,14 @@ of_marker : (kind : Kind) (empty : Bool) (name : List ℕ) → name ≡ marker_n
 of_marker File true name n h = record { file = refl; no_byte = refl; named = n }
 of_marker File false name n h = absurd (cc)
 of_marker Directory empty name n h = absurd (cc)
+of_marker Closed empty name n h = absurd (cc)
 of_marker Other empty name n h = absurd (cc)
 
 top-is : (kind : Kind) (empty : Bool) (name : List ℕ) → top_class kind empty name ≡ class.Marker → IsTheMarker kind empty name
 top-is kind empty name h = by (bytes_eq name marker_name) refl h where
-  by : (b : Bool) → bytes_eq name marker_name ≡ b → (if b then marker_class kind empty else if is_hidden name then hidden_class name else visible_class kind name) ≡ class.Marker → IsTheMarker kind empty name
+  by : (b : Bool) → bytes_eq name marker_name ≡ b → (if b then marker_class kind empty else if is_hidden name then hidden_class kind name else visible_class kind name) ≡ class.Marker → IsTheMarker kind empty name
   by true e g = of_marker kind empty name (same_bytes name marker_name e) g
-  by false e g = absurd (either (is_hidden name) (hidden_class name) (visible_class kind name) (hidden-none name) (visible-none kind name) g)
+  by false e g = absurd (either (is_hidden name) (hidden_class kind name) (visible_class kind name) (hidden-none kind name) (visible-none kind name) g)
 
 class-is : (o : Option (List ℕ)) (kind : Kind) (empty : Bool) (name : List ℕ) → class_by o kind empty name ≡ class.Marker → IsTheMarker kind empty name
 class-is None kind empty name h = top-is kind empty name h

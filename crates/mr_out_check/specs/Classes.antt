@@ -7,9 +7,9 @@ use Rattle.mr_script.specs.Lines.{before, after}
 use Rattle.mr_paths.specs.Layout.{marker_name, temporary_name, is_hidden}
 use Rattle.mr_out_listing.specs.Lines.{behind, has_digits, is_digit}
 use Rattle.mr_out_listing.specs.declared.entry.Kind.{Kind}
-use Rattle.mr_out_listing.specs.declared.entry.Kind.TheVariants.{File, Directory, Other}
+use Rattle.mr_out_listing.specs.declared.entry.Kind.TheVariants.{File, Directory, Closed, Other}
 use Rattle.mr_out_check.specs.declared.class.Class.{Class}
-use Rattle.mr_out_check.specs.declared.class.Class.TheVariants.{Marker, MarkerWithBytes, MarkerFolder, ReducePart, MapPart, PlainPart, Temporary, Generation, CommittedTask, TaskAttempt, OtherWork, Mrout, Spark, Hive, Partition, CommitMark, DeltaLog, Hidden, Folder, InFolder, Foreign}
+use Rattle.mr_out_check.specs.declared.class.Class.TheVariants.{Marker, MarkerWithBytes, MarkerFolder, ReducePart, MapPart, PlainPart, Temporary, TemporaryClosed, Generation, CommittedTask, TaskAttempt, OtherWork, Mrout, Spark, Hive, Partition, CommitMark, DeltaLog, Hidden, Folder, InFolder, Foreign}
 
 -- ---- part files
 
@@ -49,6 +49,7 @@ abbrev pub marker_class : Kind → Bool → Class
 marker_class File true = Marker
 marker_class File false = MarkerWithBytes
 marker_class Directory empty = MarkerFolder
+marker_class Closed empty = MarkerFolder
 marker_class Other empty = MarkerFolder
 
 abbrev pub file_class : List ℕ → Class
@@ -67,11 +68,19 @@ folder_class name = if list_any (λ b. b == 61) name then Partition else Folder
 abbrev pub visible_class : Kind → List ℕ → Class
 visible_class File name = file_class name
 visible_class Directory name = folder_class name
+visible_class Closed name = folder_class name
 visible_class Other name = Foreign
 
-abbrev pub hidden_class : List ℕ → Class
-hidden_class name =
-    if bytes_eq name temporary_name then Temporary
+-- the folder of a job's work: what stands in it was listed too, or it is not told
+abbrev pub temporary_class : Kind → Class
+temporary_class Closed = TemporaryClosed
+temporary_class File = Temporary
+temporary_class Directory = Temporary
+temporary_class Other = Temporary
+
+abbrev pub hidden_class : Kind → List ℕ → Class
+hidden_class kind name =
+    if bytes_eq name temporary_name then temporary_class kind
     else if bytes_eq name (codes "_mrout") then Mrout
     else if bytes_eq name (codes "_delta_log") then DeltaLog
     else if is_commit_mark name then CommitMark
@@ -80,7 +89,7 @@ hidden_class name =
 abbrev pub top_class : Kind → Bool → List ℕ → Class
 top_class kind empty name =
     if bytes_eq name marker_name then marker_class kind empty
-    else if is_hidden name then hidden_class name
+    else if is_hidden name then hidden_class kind name
     else visible_class kind name
 
 -- ---- a name beneath a folder
@@ -156,20 +165,21 @@ place_of ReducePart = 3
 place_of MapPart = 4
 place_of PlainPart = 5
 place_of Temporary = 6
-place_of Generation = 7
-place_of CommittedTask = 8
-place_of TaskAttempt = 9
-place_of OtherWork = 10
-place_of Mrout = 11
-place_of Spark = 12
-place_of Hive = 13
-place_of Partition = 14
-place_of CommitMark = 15
-place_of DeltaLog = 16
-place_of Hidden = 17
-place_of Folder = 18
-place_of InFolder = 19
-place_of Foreign = 20
+place_of TemporaryClosed = 7
+place_of Generation = 8
+place_of CommittedTask = 9
+place_of TaskAttempt = 10
+place_of OtherWork = 11
+place_of Mrout = 12
+place_of Spark = 13
+place_of Hive = 14
+place_of Partition = 15
+place_of CommitMark = 16
+place_of DeltaLog = 17
+place_of Hidden = 18
+place_of Folder = 19
+place_of InFolder = 20
+place_of Foreign = 21
 
 abbrev pub same_class : Class → Class → Bool
 same_class c d = place_of c == place_of d

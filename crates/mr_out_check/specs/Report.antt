@@ -30,6 +30,7 @@ class_words class.ReducePart = codes "part files of reduces"
 class_words class.MapPart = codes "part files of maps"
 class_words class.PlainPart = codes "part files"
 class_words class.Temporary = codes "folder _temporary"
+class_words class.TemporaryClosed = codes "folder _temporary, not listed"
 class_words class.Generation = codes "generations of the master"
 class_words class.CommittedTask = codes "committed tasks"
 class_words class.TaskAttempt = codes "task attempts"
@@ -78,15 +79,15 @@ broken_reason premise.Order = []
 -- why it is open, and how one learns more
 abbrev pub open_reason : Premise → List ℕ
 open_reason premise.Marker = codes "_SUCCESS has bytes, so another committer made it"
-open_reason premise.WorkDone = []
+open_reason premise.WorkDone = codes "what stands in _temporary was not listed: list with -R"
 open_reason premise.Tasks = codes "tell with --tasks N how many part files there are to be, and no more may be there (not tried here: the job's page of the history server)"
 open_reason premise.Numbers = codes "there is no part file, or a number is missing or comes twice"
 open_reason premise.Family = codes "the part files are of more than one family"
 open_reason premise.Names = codes "there are names that the committer of a job does not make"
 open_reason premise.Mrout = codes "it is a directory of mrout, whose history decides"
-open_reason premise.AppAttempts = codes "tell with --app-attempts 1 that the job had one application attempt (not tried here: yarn applicationattempt -list APPLICATION)"
-open_reason premise.TaskAttempts = codes "tell with --task-attempts 1 that each task had one attempt (not tried here: the job's page of the history server)"
-open_reason premise.Algorithm = codes "tell with --algorithm 1 that tasks publish in the job commit (mapreduce.fileoutputcommitter.algorithm.version)"
+open_reason premise.AppAttempts = codes "tell with --app-attempts 1 that the job had one application attempt (not tried here: yarn applicationattempt -list APPLICATION); with more the answer is never yes"
+open_reason premise.TaskAttempts = codes "tell with --task-attempts 1 that each task had one attempt (not tried here: the job's page of the history server); with more the answer is never yes"
+open_reason premise.Algorithm = codes "tell with --algorithm 1 that tasks publish in the job commit (mapreduce.fileoutputcommitter.algorithm.version); of version 2 the answer is never yes, so run the job with version 1"
 open_reason premise.Store = codes "tell with --store local or hdfs that a rename happens whole; of an object store the answer is never yes"
 open_reason premise.Order = codes "tell with --listed-after-marker that _SUCCESS was seen before the listing began"
 

@@ -72,7 +72,7 @@ abbrev pub marker_standing : Seen → Standing
 marker_standing s = if came class.Marker s then Met else if came class.MarkerWithBytes s then Open else Broken
 
 abbrev pub work_standing : Seen → Standing
-work_standing s = if work_came s then Broken else Met
+work_standing s = if work_came s then Broken else met_if (not (came class.TemporaryClosed s))
 
 -- as many tasks as are told
 abbrev pub tasks_standing : Option ℕ → Seen → Standing

@@ -19,6 +19,8 @@ pub enum Class {
     PlainPart,
     /// The folder `_temporary`.
     Temporary,
+    /// The folder `_temporary`, in a listing that does not tell what stands in it.
+    TemporaryClosed,
     /// What stands in it: a generation of the master.
     Generation,
     /// What a task has committed, in a generation.
@@ -62,20 +64,21 @@ impl Class {
             Class::MapPart => 4,
             Class::PlainPart => 5,
             Class::Temporary => 6,
-            Class::Generation => 7,
-            Class::CommittedTask => 8,
-            Class::TaskAttempt => 9,
-            Class::OtherWork => 10,
-            Class::Mrout => 11,
-            Class::Spark => 12,
-            Class::Hive => 13,
-            Class::Partition => 14,
-            Class::CommitMark => 15,
-            Class::DeltaLog => 16,
-            Class::Hidden => 17,
-            Class::Folder => 18,
-            Class::InFolder => 19,
-            Class::Foreign => 20,
+            Class::TemporaryClosed => 7,
+            Class::Generation => 8,
+            Class::CommittedTask => 9,
+            Class::TaskAttempt => 10,
+            Class::OtherWork => 11,
+            Class::Mrout => 12,
+            Class::Spark => 13,
+            Class::Hive => 14,
+            Class::Partition => 15,
+            Class::CommitMark => 16,
+            Class::DeltaLog => 17,
+            Class::Hidden => 18,
+            Class::Folder => 19,
+            Class::InFolder => 20,
+            Class::Foreign => 21,
         }
     }
 

@@ -3,7 +3,7 @@ ghost use Rattle.std.specs.Prelude.{◌≡◌, ◌==◌, option_copied};
 ghost use Rattle.std.specs.List.{list_any};
 ghost use Rattle.mr_script.specs.Lines.{after};
 ghost use Rattle.mr_paths.specs.Layout.{is_hidden};
-ghost use Rattle.mr_out_check.specs.Classes.{attempt_class, below_class, class_by, class_of, file_class, folder_class, hidden_class, is_commit_mark, is_hive, is_spark, marker_class, task_class, top_class, visible_class, work_class};
+ghost use Rattle.mr_out_check.specs.Classes.{attempt_class, below_class, class_by, class_of, file_class, folder_class, hidden_class, is_commit_mark, is_hive, is_spark, marker_class, task_class, temporary_class, top_class, visible_class, work_class};
 
 use crate::class::Class;
 use crate::part::part_behind;
@@ -64,7 +64,7 @@ fn marker_class(kind: Kind, empty: bool) -> Class
     match kind {
         Kind::File if empty => Class::Marker,
         Kind::File => Class::MarkerWithBytes,
-        Kind::Directory | Kind::Other => Class::MarkerFolder,
+        Kind::Directory | Kind::Closed | Kind::Other => Class::MarkerFolder,
     }
 }
 
@@ -110,16 +110,26 @@ fn visible_class(kind: Kind, name: &[u8]) -> Class
 {
     match kind {
         Kind::File => file_class(name),
-        Kind::Directory => folder_class(name),
+        Kind::Directory | Kind::Closed => folder_class(name),
         Kind::Other => Class::Foreign,
     }
 }
 
-fn hidden_class(name: &[u8]) -> Class
-    ensures { result ≡ hidden_class name.now }
+// The folder of a job's work: what stands in it was listed too, or it is not told.
+fn temporary_class(kind: Kind) -> Class
+    ensures { result ≡ temporary_class kind }
+{
+    match kind {
+        Kind::Closed => Class::TemporaryClosed,
+        Kind::File | Kind::Directory | Kind::Other => Class::Temporary,
+    }
+}
+
+fn hidden_class(kind: Kind, name: &[u8]) -> Class
+    ensures { result ≡ hidden_class kind name.now }
 {
     if name == TEMPORARY {
-        return Class::Temporary;
+        return temporary_class(kind);
     }
     if name == MROUT {
         return Class::Mrout;
@@ -141,7 +151,7 @@ fn top_class(kind: Kind, empty: bool, name: &[u8]) -> Class
         return marker_class(kind, empty);
     }
     if is_hidden(name) {
-        return hidden_class(name);
+        return hidden_class(kind, name);
     }
     visible_class(kind, name)
 }

@@ -7,7 +7,7 @@ ghost use Rattle.mr_out_check.specs.Verdicts.{same_standing};
 pub enum Premise {
     /// `_SUCCESS` is there, an empty file.
     Marker,
-    /// Nothing is left beneath `_temporary`.
+    /// Nothing is left beneath `_temporary`, and that was listed.
     WorkDone,
     /// There is a part file for each task, and none more.
     Tasks,

@@ -177,7 +177,7 @@ fn work_standing(seen: &Seen) -> Standing
     if work_came(seen) {
         Standing::Broken
     } else {
-        Standing::Met
+        met_if(!came(seen, Class::TemporaryClosed))
     }
 }
 

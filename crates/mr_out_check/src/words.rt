@@ -28,6 +28,7 @@ pub(crate) fn class_words(class: Class) -> &'static str
         Class::MapPart => "part files of maps",
         Class::PlainPart => "part files",
         Class::Temporary => "folder _temporary",
+        Class::TemporaryClosed => "folder _temporary, not listed",
         Class::Generation => "generations of the master",
         Class::CommittedTask => "committed tasks",
         Class::TaskAttempt => "task attempts",
@@ -91,6 +92,7 @@ pub(crate) fn open_reason(premise: Premise) -> &'static str
 {
     match premise {
         Premise::Marker => "_SUCCESS has bytes, so another committer made it",
+        Premise::WorkDone => "what stands in _temporary was not listed: list with -R",
         Premise::Tasks =>
             "tell with --tasks N how many part files there are to be, and no more may be there (not tried here: the job's page of the history server)",
         Premise::Numbers => "there is no part file, or a number is missing or comes twice",
@@ -98,15 +100,14 @@ pub(crate) fn open_reason(premise: Premise) -> &'static str
         Premise::Names => "there are names that the committer of a job does not make",
         Premise::Mrout => "it is a directory of mrout, whose history decides",
         Premise::AppAttempts =>
-            "tell with --app-attempts 1 that the job had one application attempt (not tried here: yarn applicationattempt -list APPLICATION)",
+            "tell with --app-attempts 1 that the job had one application attempt (not tried here: yarn applicationattempt -list APPLICATION); with more the answer is never yes",
         Premise::TaskAttempts =>
-            "tell with --task-attempts 1 that each task had one attempt (not tried here: the job's page of the history server)",
+            "tell with --task-attempts 1 that each task had one attempt (not tried here: the job's page of the history server); with more the answer is never yes",
         Premise::Algorithm =>
-            "tell with --algorithm 1 that tasks publish in the job commit (mapreduce.fileoutputcommitter.algorithm.version)",
+            "tell with --algorithm 1 that tasks publish in the job commit (mapreduce.fileoutputcommitter.algorithm.version); of version 2 the answer is never yes, so run the job with version 1",
         Premise::Store =>
             "tell with --store local or hdfs that a rename happens whole; of an object store the answer is never yes",
         Premise::Order =>
             "tell with --listed-after-marker that _SUCCESS was seen before the listing began",
-        Premise::WorkDone => "",
     }
 }

@@ -141,7 +141,7 @@ owned_sight kind line =
 abbrev pub hdfs_sight : List ℕ → Option Sight
 hdfs_sight line = owned_sight (kind_of_permissions (before 32 line)) (behind 32 line)
 
--- `Found 7 items`
+-- `Found 7 items`, which `-ls` prints without `-R` alone
 abbrev pub is_count : List ℕ → Bool
 is_count line = bytes_eq (before 32 line) (codes "Found") && is_number (before 32 (behind 32 line)) && bytes_eq (behind 32 (behind 32 line)) (codes "items")
 
@@ -153,7 +153,7 @@ sight_in Hdfs line = hdfs_sight line
 sight_in Find line = find_sight line
 sight_in Find0 line = find_sight line
 
--- a line that lists nothing, and is none too many
+-- a line that lists nothing, and tells that the listing is not recursive
 abbrev pub is_remark : Format → List ℕ → Bool
 is_remark Hdfs line = is_count line
 is_remark Find line = false

@@ -5,7 +5,7 @@ use Rattle.std.specs.Option.{option_map}
 use Rattle.mr_out_listing.specs.declared.entry.Entry.{Entry}
 use Rattle.mr_out_listing.specs.Lines.{Sight, as_sight, end_of, is_crlf, is_remark, line_in, sight_in}
 use Rattle.mr_out_listing.specs.declared.entry.Kind.{Kind}
-use Rattle.mr_out_listing.specs.declared.entry.Kind.TheVariants.{File, Directory, Other}
+use Rattle.mr_out_listing.specs.declared.entry.Kind.TheVariants.{File, Directory, Closed, Other}
 use Rattle.mr_out_listing.specs.declared.format.Format.{Format}
 use Rattle.mr_out_listing.specs.declared.format.Format.TheVariants.{Hdfs, Find, Find0}
 use Rattle.mr_out_listing.specs.declared.fault.ListingFault.{ListingFault}
@@ -48,15 +48,16 @@ beneath top path = if starts_with nat_eq path top then Some (drop (length top) p
 -- ---- reading
 
 -- how far a listing was read: how many lines, whether they end with carriage returns, and with what each path beneath the
--- directory begins. The first line tells the last two
+-- directory begins. The first line tells the last two. And whether it is recursive: it is, unless a remark says that it is not
 pub record State : Type 0 where
   pub format : Format
   pub lines : ℕ
   pub crlf : Option Bool
   pub top : Option (List ℕ)
+  pub recursive : Bool
 
 abbrev pub start : Format → State
-start f = record { format = f; lines = 0; crlf = None; top = None }
+start f = record { format = f; lines = 0; crlf = None; top = None; recursive = true }
 
 -- lines are counted up to 2^64 - 1
 abbrev pub one_more : ℕ → ℕ
@@ -81,6 +82,7 @@ with_top s top = record s { top = Some top }
 abbrev pub opened_by_find : State → Sight → Kind → Heard
 opened_by_find s sight Directory = Ok (None, with_top s (slashed sight.path))
 opened_by_find s sight File = Err (BadLine s.lines)
+opened_by_find s sight Closed = Err (BadLine s.lines)
 opened_by_find s sight Other = Err (BadLine s.lines)
 
 -- that of hdfs is one that stands in it
@@ -93,9 +95,26 @@ abbrev pub placed : State → Sight → Option (List ℕ) → Heard
 placed s sight None = opened s.format s sight
 placed s sight (Some top) = placed_beneath s sight (beneath top sight.path)
 
+-- of a directory in a listing that is not recursive, it is not told what stands in it
+abbrev pub kind_in : Bool → Kind → Kind
+kind_in true kind = kind
+kind_in false File = File
+kind_in false Directory = Closed
+kind_in false Closed = Closed
+kind_in false Other = Other
+
+abbrev pub told_in : Bool → Sight → Sight
+told_in recursive sight = record sight { kind = kind_in recursive sight.kind }
+
+-- a remark stands before all that is listed, and tells that the listing is not recursive
+abbrev pub remarked : State → Bool → Option (List ℕ) → Heard
+remarked s true None = Ok (None, record s { recursive = false })
+remarked s true (Some top) = Err (BadLine s.lines)
+remarked s false top = Err (BadLine s.lines)
+
 abbrev pub heard_line : State → List ℕ → Option Sight → Heard
-heard_line s line (Some sight) = placed s sight s.top
-heard_line s line None = if is_remark s.format line then Ok (None, s) else Err (BadLine s.lines)
+heard_line s line (Some sight) = placed s (told_in s.recursive sight) s.top
+heard_line s line None = remarked s (is_remark s.format line) s.top
 
 abbrev pub heard_in : State → Option (List ℕ) → Heard
 heard_in s None = Err (BadLine s.lines)

@@ -14,6 +14,8 @@ pub enum Kind {
     File,
     /// A directory.
     Directory,
+    /// A directory, in a listing that is not recursive: it is not told what stands in it.
+    Closed,
     /// A link, a pipe, a socket or a device.
     Other,
 }

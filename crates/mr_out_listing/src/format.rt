@@ -5,7 +5,7 @@ ghost use Rattle.mr_out_listing.specs.Lines.{end_of, may_be_crlf};
 /// In which form a directory is listed.
 #[derive(Clone, Copy, Debug, PartialEq, Eq)]
 pub enum Format {
-    /// The lines of `hdfs dfs -ls -R DIR`.
+    /// The lines of `hdfs dfs -ls -R DIR`; or those of `hdfs dfs -ls DIR`, which list nothing of what stands in a folder.
     Hdfs,
     /// Those of `find DIR -printf '%y %s %p\n'`.
     Find,

@@ -1,7 +1,7 @@
 //! The lines of a listing, one after another.
 ghost use Rattle.std.specs.Prelude.{◌≡◌, option_copied};
 ghost use Rattle.mr_out_listing.specs.Lines.{as_sight, is_remark, sight_in};
-ghost use Rattle.mr_out_listing.specs.Reading.{Answers, AnswersBy, counted, heard_line, Names, opened, opened_by_find, placed, start};
+ghost use Rattle.mr_out_listing.specs.Reading.{Answers, AnswersBy, counted, heard_line, kind_in, Names, opened, opened_by_find, placed, remarked, start, told_in};
 
 use crate::ends::{beneath, folder_of, is_crlf, line_in, slashed};
 use crate::entry::{Entry, Kind, listed};
@@ -11,13 +11,15 @@ use crate::hdfs::is_count;
 use std::alloc::Global;
 use std::marker::Model;
 
-/// A listing that is read line by line. Contracts see it as how far it was read (`State`): how many lines, how they end, and which directory it is of.
+/// A listing that is read line by line. Contracts see it as how far it was read (`State`): how many lines, how they end, which directory it is of, and
+/// whether it is recursive.
 #[derive(Debug, Drop)]
 pub struct Lines {
     format: Format,
     lines: u64,
     crlf: Option<bool>,
     top: Option<Vec<u8>>,
+    recursive: bool,
 }
 
 impl Model for Lines {
@@ -26,7 +28,7 @@ impl Model for Lines {
 
     ghost Value = { reading.State };
 
-    ghost view = { λ l. record { format = l.format; lines = l.lines; crlf = l.crlf; top = option_map (λ t. t.items) l.top } };
+    ghost view = { λ l. record { format = l.format; lines = l.lines; crlf = l.crlf; top = option_map (λ t. t.items) l.top; recursive = l.recursive } };
 }
 
 impl Lines {
@@ -39,6 +41,7 @@ impl Lines {
             lines: 0,
             crlf: None,
             top: None,
+            recursive: true,
         }
     }
 
@@ -74,10 +77,20 @@ impl Lines {
         ensures { AnswersBy (heard_line self.old line.now (sight_in self.old.format line.now)) result self.new }
     {
         match listed(self.format, line) {
-            Some(entry) => self.place(alloc, entry),
-            None if is_remark(self.format, line) => Ok(None),
-            None => Err(ListingFault::BadLine(self.lines)),
+            Some(entry) => self.place(alloc, told_in(self.recursive, entry)),
+            None => self.remark(line),
         }
+    }
+
+    // What a line says that lists nothing. A remark stands before all that is listed, and tells that the listing is not recursive.
+    fn remark<'a>(&mut self, line: &'a [u8]) -> Result<Option<Entry<'a>>, ListingFault>
+        ensures { AnswersBy (remarked self.old (is_remark self.old.format line.now) self.old.top) result self.new }
+    {
+        if self.top.is_some() || !is_remark(self.format, line) {
+            return Err(ListingFault::BadLine(self.lines));
+        }
+        self.recursive = false;
+        Ok(None)
     }
 
     // What is listed, by its name beneath the directory.
@@ -151,7 +164,27 @@ fn named<'a>(line: u64, entry: Entry<'a>, top: &[u8]) -> Result<Option<Entry<'a>
     }
 }
 
-// Whether a line lists nothing, and is none too many.
+// Of a directory in a listing that is not recursive, it is not told what stands in it.
+fn kind_in(recursive: bool, kind: Kind) -> Kind
+    ensures { result ≡ kind_in recursive kind }
+{
+    match kind {
+        Kind::Directory if !recursive => Kind::Closed,
+        other => other,
+    }
+}
+
+fn told_in(recursive: bool, entry: Entry<'_>) -> Entry<'_>
+    ensures { as_sight result ≡ told_in recursive (as_sight entry.entry) }
+{
+    Entry {
+        kind: kind_in(recursive, entry.kind),
+        empty: entry.empty,
+        path: entry.path,
+    }
+}
+
+// Whether a line lists nothing, and tells that the listing is not recursive.
 fn is_remark(format: Format, line: &[u8]) -> bool
     ensures { result ≡ is_remark format line.now }
 {

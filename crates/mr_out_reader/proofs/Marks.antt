@@ -49,7 +49,8 @@ at_marker names are e = path_by_text names (marker_name ∷ []) are names_are (a
 
 file-of : (x : Sight) (node : Option Entry) → x.kind ≡ kind.File → IsOf x node → is_file node ≡ true
 file-of x None file h = absurd h
-file-of x (Some Dir) file h = absurd (let other : kind.Directory ≡ kind.File = sym h ∙ file in cc)
+file-of x (Some Dir) file (inl h) = absurd (let other : kind.Directory ≡ kind.File = sym h ∙ file in cc)
+file-of x (Some Dir) file (inr h) = absurd (let other : kind.Closed ≡ kind.File = sym h ∙ file in cc)
 file-of x (Some (File bytes closed)) file h = refl
 
 marked-then : (w : World) → StoodIn w the_marker → IsMarked w

@@ -1,6 +1,6 @@
 -- A listing of a cluster's destination, whose lines were each true at some moment of a run, and what its answer says of the run. A listing is not
 -- one moment: a store gives it in portions. Our own.
-use Rattle.std.specs.Prelude.{◌≡◌, ◌==◌, ℕ, List, [], ◌∷◌, ◌++◌, length, take, All, Option, Some, None, Result, Ok}
+use Rattle.std.specs.Prelude.{◌≡◌, ◌⊎◌, ◌==◌, ℕ, List, [], ◌∷◌, ◌++◌, length, take, All, Option, Some, None, Result, Ok}
 use Rattle.std.specs.List.{join_with_byte, AllByRecursion}
 use Rattle.mr_paths.specs.Path.{IsName}
 use Rattle.mr_world_model.specs.Ids.{Name, Path, dest}
@@ -21,7 +21,7 @@ use Rattle.mr_out_check.specs.declared.verdict.Answer.TheVariants.{Yes}
 -- what is listed is this entry of the namespace
 abbrev pub IsOf : Sight → Option Entry → Type 0
 IsOf x None = ⊥
-IsOf x (Some Dir) = x.kind ≡ kind.Directory
+IsOf x (Some Dir) = (x.kind ≡ kind.Directory) ⊎ (x.kind ≡ kind.Closed)
 IsOf x (Some (File bytes closed)) = (x.kind ≡ kind.File) × (x.empty ≡ (length bytes == 0))
 
 -- it is listed as it stood in a world: by its names from the destination on, with a slash between each two

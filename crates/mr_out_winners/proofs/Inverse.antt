@@ -6,7 +6,7 @@ use Rattle.std.proofs.lemmas.Bool.Decides.{Decides-eqb}
 use Rattle.std.proofs.lemmas.Slice.Eq.{slice_eq-Decides}
 use Rattle.mr_paths.specs.Layout.{marker_name}
 use Rattle.mr_out_listing.specs.declared.entry.Kind.{Kind}
-use Rattle.mr_out_listing.specs.declared.entry.Kind.TheVariants.{File, Directory, Other}
+use Rattle.mr_out_listing.specs.declared.entry.Kind.TheVariants.{File, Directory, Closed, Other}
 use Rattle.mr_out_check.specs.declared.verdict.Answer.TheVariants.{Yes}
 use Rattle.mr_out_winners.specs.Tasks.{NameSeen, Part, look_at}
 use Rattle.mr_out_winners.specs.Findings.{Found, answer_of, findings, found_at, is_file, is_other, length_trouble, look_trouble, name_found, task_found, task_trouble, trouble_if, whole_found}
@@ -50,6 +50,7 @@ length-is (Some n) len h = ap (λ (m : ℕ). Some m) (num-same n len (no-not (n 
 file-is : (k : Kind) (t : Option Trouble) → (if is_file k then t else Some NoFile) ≡ None → (k ≡ File) × (t ≡ None)
 file-is File t h = (refl, h)
 file-is Directory t h = absurd (cc)
+file-is Closed t h = absurd (cc)
 file-is Other t h = absurd (cc)
 
 -- what was looked at stands among the names

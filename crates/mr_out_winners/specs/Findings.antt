@@ -5,7 +5,7 @@ use Rattle.std.specs.List.{list_any}
 use Rattle.std.specs.Str.{bytes_eq}
 use Rattle.mr_paths.specs.Layout.{is_hidden, marker_name}
 use Rattle.mr_out_listing.specs.declared.entry.Kind.{Kind}
-use Rattle.mr_out_listing.specs.declared.entry.Kind.TheVariants.{File, Directory, Other}
+use Rattle.mr_out_listing.specs.declared.entry.Kind.TheVariants.{File, Directory, Closed, Other}
 use Rattle.mr_out_check.specs.declared.verdict.Answer.{Answer}
 use Rattle.mr_out_check.specs.declared.verdict.Answer.TheVariants.{Yes, No}
 use Rattle.mr_out_winners.specs.Tasks.{NameSeen, Part, look_at}
@@ -47,6 +47,7 @@ whole_found marked told over tasks =
 abbrev pub is_file : Kind → Bool
 is_file File = true
 is_file Directory = false
+is_file Closed = false
 is_file Other = false
 
 abbrev pub length_trouble : Option ℕ → ℕ → Option Trouble

@@ -88,7 +88,7 @@ fn is_file(kind: Kind) -> bool
 {
     match kind {
         Kind::File => true,
-        Kind::Directory | Kind::Other => false,
+        Kind::Directory | Kind::Closed | Kind::Other => false,
     }
 }
 

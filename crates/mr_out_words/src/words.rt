@@ -17,7 +17,8 @@ const PUBLISH: &str = "Publishes what `begin --hold` holds back, if each task is
 
 const ABORT: &str = "Ends the job as failed";
 
-const RESUME: &str = "Finishes what a killed command left";
+const RESUME: &str =
+    "Finishes what a killed command left; status 0 says that it did, and `mrout check` whether DIR is published";
 
 const FORGET: &str = "Removes what mrout keeps in a published DIR";
 
@@ -96,7 +97,7 @@ fn put_begin(alloc: Global, args: &mut Vec<Arg<'_>>) -> Result<(), AllocError> {
         alloc,
         "limit",
         "L",
-        "So many failures of one task end the job",
+        "This many failures of one task end the job for good; who is given up counts (default: none do)",
         1,
         100,
     ))?;
@@ -133,7 +134,7 @@ fn over_word<'a>(alloc: Global) -> Arg<'a> {
     flag(
         alloc,
         "over",
-        "What is under way at the task is given up first",
+        "What is under way at the task is given up first, which counts against --limit",
     )
 }
 
@@ -153,14 +154,18 @@ fn task_word<'a>(alloc: Global) -> Arg<'a> {
         alloc,
         "task",
         "T",
-        "What is under way at this task is given up",
+        "What is under way at this task is given up, which counts against --limit",
         0,
         999,
     )
 }
 
 fn all_word<'a>(alloc: Global) -> Arg<'a> {
-    flag(alloc, "all", "All that is under way is given up")
+    flag(
+        alloc,
+        "all",
+        "All that is under way is given up, which counts against --limit",
+    )
 }
 
 // The words beside which alone it stands.

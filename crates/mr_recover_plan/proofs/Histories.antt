@@ -6,7 +6,7 @@ use Rattle.mr_history.specs.Reading.{bad_line, records_of}
 use Rattle.mr_recover.specs.Plan.{IsPlan}
 use Rattle.mr_recover.specs.declared.plan.Recovery.{Recovery}
 use Rattle.mr_recover.specs.declared.plan.Staging.{Staging}
-use Rattle.mr_recover_plan.specs.Plans.{AreWhole, IsFirstBad, PlanFails, Plans, records_in}
+use Rattle.mr_recover_plan.specs.Plans.{AreWhole, IsFirstBad, PlanFails, Plans, deciding, records_in}
 use Rattle.mr_recover_plan.specs.declared.fault.PlanFault.{PlanFault}
 use Rattle.mr_recover_plan.specs.declared.fault.PlanFault.TheVariants as fault
 use Rattle.mr_recover_plan.specs.inner.Segments.{FailsAt}
@@ -38,5 +38,9 @@ all_read all n records read = sym (append-nil records) ∙ read.is
 pub all_whole : (all : List (List ℕ)) (n : ℕ) (records : List Record) → HasRead all [] n records → AreWhole all
 all_whole all n records read = read.whole tt
 
-pub plans : (segments : List (List ℕ)) (records slice : List Record) (staging : Staging) (plan : Recovery) → AreWhole segments → records ≡ records_in segments → slice ≡ records → IsPlan slice staging plan → Plans segments staging plan
-plans segments records slice staging plan whole is same planned = record { whole = whole; is = subst (λ rs. IsPlan rs staging plan) (same ∙ is) planned }
+pub plans : (segments : List (List ℕ)) (records read slice : List Record) (staging marks : Staging) (plan : Recovery) → AreWhole segments → records ≡ records_in segments → read ≡ records → marks ≡ deciding read staging → slice ≡ records →
+    IsPlan slice marks plan → Plans segments staging plan
+plans segments records read slice staging marks plan whole is told decide same planned =
+    let all : slice ≡ records_in segments = same ∙ is in
+    let by : marks ≡ deciding slice staging = decide ∙ ap (λ (rs : List Record). deciding rs staging) (told ∙ sym same) in
+    record { whole = whole; is = subst (λ (rs : List Record). IsPlan rs (deciding rs staging) plan) all (subst (λ (m : Staging). IsPlan slice m plan) by planned) }

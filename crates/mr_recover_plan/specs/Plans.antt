@@ -1,8 +1,9 @@
 -- The plan for some segments: their records, one segment after the other, as a master of a later generation reads them, and mr_recover's plan for these. A torn end is no
--- record.
-use Rattle.std.specs.Prelude.{◌≡◌, ◌⊎◌, ◌+◌, ℕ, List, [], ◌∷◌, Some, None, Result, Ok, Err}
-use Rattle.std.specs.List.{flat_map}
+-- record. That a record of a failed job counts as COMMIT_FAIL is our own profile.
+use Rattle.std.specs.Prelude.{◌≡◌, ◌⊎◌, ◌+◌, ◌||◌, ℕ, Bool, true, false, List, [], ◌∷◌, Some, None, Result, Ok, Err}
+use Rattle.std.specs.List.{flat_map, list_any}
 use Rattle.mr_history.specs.declared.record.Record.{Record}
+use Rattle.mr_history.specs.declared.record.Record.TheVariants.{JobUnsuccessful}
 use Rattle.mr_history.specs.Reading.{bad_line, records_of}
 use Rattle.mr_recover.specs.Plan.{IsPlan}
 use Rattle.mr_recover.specs.declared.plan.Recovery.{Recovery}
@@ -18,6 +19,15 @@ AreWhole (bytes ∷ rest) = (bad_line bytes ≡ None) × AreWhole rest
 abbrev pub records_in : List (List ℕ) → List Record
 records_in segments = flat_map records_of segments
 
+-- the record tells that the job failed
+abbrev pub tells_failure : Record → Bool
+tells_failure JobUnsuccessful = true
+tells_failure _ = false
+
+-- the marks that decide: a record of a failed job counts as COMMIT_FAIL
+abbrev pub deciding : List Record → Staging → Staging
+deciding rs staging = record staging { fail = staging.fail || list_any tells_failure rs }
+
 -- line l of segment s is the first bad one, where segments are numbered from n on
 abbrev pub IsFirstBad : ℕ → List (List ℕ) → ℕ → ℕ → Type 0
 IsFirstBad n [] s l = ⊥
@@ -25,7 +35,7 @@ IsFirstBad n (bytes ∷ rest) s l = ((s ≡ n) × (bad_line bytes ≡ Some l)) �
 
 pub record Plans (segments : List (List ℕ)) (staging : Staging) (plan : Recovery) : Type 0 where
   pub whole : AreWhole segments
-  pub is : IsPlan (records_in segments) staging plan
+  pub is : IsPlan (records_in segments) (deciding (records_in segments) staging) plan
 
 -- why there is none: the first bad line; there may be an allocation failure at any segments
 abbrev pub PlanFails : List (List ℕ) → PlanFault → Type 0

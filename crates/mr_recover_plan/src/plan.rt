@@ -1,16 +1,18 @@
 //! The plan for some segments.
 ghost use Rattle.std.specs.Prelude.{◌≡◌, ◌++◌, IfOk, IfErr, OnOk, None};
+ghost use Rattle.std.specs.List.{list_any};
 ghost use Rattle.mr_history.specs.Reading.{bad_line, records_of};
-ghost use Rattle.mr_recover_plan.specs.Plans.{AreWhole, PlanFails, Plans, records_in};
+ghost use Rattle.mr_recover_plan.specs.Plans.{AreWhole, PlanFails, Plans, deciding, records_in, tells_failure};
 ghost use Rattle.mr_recover_plan.specs.inner.Segments.{FailsAt};
 
 use crate::fault::PlanFault;
-use mr_history::{HistoryFault, Records, replay};
+use mr_history::{HistoryFault, Record, Records, replay};
 use mr_ids::Bytes;
 use mr_recover::{Recovery, Staging};
 use std::alloc::Global;
 
 /// What a master does that starts behind the masters of these segments, the oldest first, where the staging folder has these marks.
+/// Where a record tells that the job failed, and no mark that it succeeded, its failure is reported.
 ///
 /// `BadLine`: the first whole line that is no record, of the first segment that has one. `NoMemory` may come at any segments.
 #[tactic(auto, using(crate::proofs::Histories::plans))]
@@ -19,7 +21,33 @@ pub fn planned(alloc: Global, segments: &[Bytes], staging: Staging) -> Result<Re
     ensures bad { IfErr result (PlanFails segments.now) }
 {
     let records = records_in(alloc, segments)?;
-    Ok(Recovery::plan(alloc, records.as_slice(), staging)?)
+    let marks = deciding(records.as_slice(), staging);
+    Ok(Recovery::plan(alloc, records.as_slice(), marks)?)
+}
+
+// The marks that decide: a record of a failed job counts as COMMIT_FAIL.
+fn deciding(records: &[Record], staging: Staging) -> Staging
+    ensures { result ≡ deciding records.now staging }
+{
+    Staging {
+        fail: staging.fail || has_failed(records),
+        ..staging
+    }
+}
+
+fn has_failed(records: &[Record]) -> bool
+    ensures { result ≡ list_any tells_failure records.now }
+{
+    records.iter().any(|told| tells_failure(told))
+}
+
+fn tells_failure(told: &Record) -> bool
+    ensures { result ≡ tells_failure told.now }
+{
+    match told {
+        Record::JobUnsuccessful => true,
+        _ => false,
+    }
 }
 
 // The records of all segments, one after the other.

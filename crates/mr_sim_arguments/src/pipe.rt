@@ -87,7 +87,7 @@ Reads the segments (see `history`), the oldest first: each FILE, or standard inp
 taken over a line `recover TASK ATTEMPT`, with the bytes of its part file where they are recorded: what `step recover-task` takes.
 Status 3: a line is no record, or a segment has more than 16777216 bytes.
 Where a mark of the job's commit is there: `report succeeded`, or `report failed` (a job commit that began is not made again).
-A segment with a line `unsuccessful` is of a job that failed: abort that job, whatever is written here.
+Without a mark `report failed` tells that a segment has a line `unsuccessful`: make `step abort-job` first, then report it.
 
 Example:
   {\"attempt\":\"attempt_200707121733_0003_r_000000_0\",\"event\":\"reduce\"}
