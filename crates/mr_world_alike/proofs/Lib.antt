@@ -1,0 +1,14 @@
+pub mod Tasks
+pub mod Shown
+pub mod Moving
+pub mod Heard
+pub mod Answering
+pub mod Sending
+pub mod Stored
+pub mod Masters
+pub mod Actors
+pub mod Events
+pub mod Delivered
+pub mod Stepped
+pub mod Worlds
+pub mod Packets
