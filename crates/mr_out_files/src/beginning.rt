@@ -1,4 +1,8 @@
 //! A directory is made: beside its place, under a name of its own, and then renamed.
+ghost use Rattle.std.specs.Prelude.{◌⊎◌, ℕ, List, codes, IfErr};
+ghost use Rattle.mr_out_layout.specs.Faults.{IsFailure, IsRefusal};
+ghost use Rattle.mr_out_files.specs.Troubles.{FailsAt, IsBeginFault, IsMakingFault};
+
 use crate::making::{Step, steps};
 use crate::mounts::network_disk;
 use mr_out_layout::{Fault, Job, Why, boot_of, enter, look, note_of, sync_folder, write_note};
@@ -10,7 +14,10 @@ use std::{fs, io};
 ///
 /// It is made beside its place and renamed there, and all of it is durable once this has answered. Where it fails,
 /// nothing is there, but where the last sync does: then it is there whole. A kill may leave the folder beside it.
-pub fn begin(rt: &HostRuntime, dir: &str, job: &Job) -> Result<(), Fault> {
+#[tactic(auto, using(crate::proofs::Troubled::entered_begin, crate::proofs::Troubled::nameless_begin, crate::proofs::Troubled::taken_begin, crate::proofs::Troubled::looked_begin, crate::proofs::Troubled::refused_begin, crate::proofs::Troubled::made_begin, crate::proofs::Troubled::memory_begin))]
+pub fn begin(rt: &HostRuntime, dir: &str, job: &Job) -> Result<(), Fault>
+    ensures { IfErr result (IsBeginFault dir.now) }
+{
     let (parent, name) = split(dir);
     if name.is_empty() {
         return Err(Fault::refused(rt.alloc(), dir, Why::NoName));
@@ -46,7 +53,9 @@ fn split(dir: &str) -> (&str, &str) {
     }
 }
 
-fn refuse_taken(rt: &HostRuntime, name: &str) -> Result<(), Fault> {
+fn refuse_taken(rt: &HostRuntime, name: &str) -> Result<(), Fault>
+    ensures { IfErr result (λ fault. IsFailure (codes "look") name.now fault ⊎ IsRefusal name.now Why.There fault) }
+{
     match fs::symlink_metadata(rt, name) {
         Ok(_) => Err(Fault::refused(rt.alloc(), name, Why::There)),
         Err(error) if error.kind() == io::ErrorKind::NotFound => Ok(()),
@@ -54,20 +63,19 @@ fn refuse_taken(rt: &HostRuntime, name: &str) -> Result<(), Fault> {
     }
 }
 
-fn make(rt: &HostRuntime, beside: &str, name: &str, job: &Job) -> Result<(), Fault> {
+fn make(rt: &HostRuntime, beside: &str, name: &str, job: &Job) -> Result<(), Fault>
+    ensures { IfErr result IsMakingFault }
+{
     for step in steps() {
         make_step(rt, *step, beside, name, job)?;
     }
     Ok(())
 }
 
-fn make_step(
-    rt: &HostRuntime,
-    step: Step,
-    beside: &str,
-    name: &str,
-    job: &Job,
-) -> Result<(), Fault> {
+#[tactic(auto, using(crate::proofs::Troubled::there_fault, crate::proofs::Troubled::folder_fault, crate::proofs::Troubled::some_fault, crate::proofs::Troubled::memory_fault))]
+fn make_step(rt: &HostRuntime, step: Step, beside: &str, name: &str, job: &Job) -> Result<(), Fault>
+    ensures { IfErr result IsMakingFault }
+{
     let home = format!(in rt.alloc(); "{beside}/_mrout")?;
     match step {
         Step::MakeFolders => make_folders(rt, beside, &home),
@@ -80,20 +88,29 @@ fn make_step(
     }
 }
 
-fn write_job(rt: &HostRuntime, home: &str, job: &Job) -> Result<(), Fault> {
+#[tactic(auto, using(crate::proofs::Troubled::written, crate::proofs::Troubled::memory_written))]
+fn write_job(rt: &HostRuntime, home: &str, job: &Job) -> Result<(), Fault>
+    ensures { IfErr result (λ fault. (path : List ℕ) × IsFailure (codes "write") path fault) }
+{
     let line = job.line(rt.alloc())?;
     write_file(rt, &format!(in rt.alloc(); "{home}/job")?, &line)
 }
 
 // Writes the empty history, and tries whether its disk will do.
-fn write_history(rt: &HostRuntime, home: &str, name: &str) -> Result<(), Fault> {
+#[tactic(auto, using(crate::proofs::Troubled::failed_fault, crate::proofs::Troubled::linked_fault, crate::proofs::Troubled::memory_fault))]
+fn write_history(rt: &HostRuntime, home: &str, name: &str) -> Result<(), Fault>
+    ensures { IfErr result IsMakingFault }
+{
     let history = format!(in rt.alloc(); "{home}/history.1")?;
     write_file(rt, &history, "")?;
     note(rt, home, &history)?;
     try_link(rt, home, name)
 }
 
-fn make_folders(rt: &HostRuntime, beside: &str, home: &str) -> Result<(), Fault> {
+#[tactic(auto, using(crate::proofs::Troubled::written, crate::proofs::Troubled::memory_written))]
+fn make_folders(rt: &HostRuntime, beside: &str, home: &str) -> Result<(), Fault>
+    ensures { IfErr result (λ fault. (path : List ℕ) × IsFailure (codes "create") path fault) }
+{
     make_folder(rt, beside)?;
     make_folder(rt, home)?;
     make_folder(rt, &format!(in rt.alloc(); "{home}/work")?)?;
@@ -101,20 +118,25 @@ fn make_folders(rt: &HostRuntime, beside: &str, home: &str) -> Result<(), Fault>
     make_folder(rt, &format!(in rt.alloc(); "{home}/removed")?)
 }
 
-fn make_folder(rt: &HostRuntime, path: &str) -> Result<(), Fault> {
+fn make_folder(rt: &HostRuntime, path: &str) -> Result<(), Fault>
+    ensures { IfErr result (IsFailure (codes "create") path.now) }
+{
     match fs::create_dir(rt, path) {
         Ok(()) => Ok(()),
         Err(error) => Err(Fault::of_call(rt.alloc(), "create", path, error)),
     }
 }
 
-fn write_file(rt: &HostRuntime, path: &str, text: &str) -> Result<(), Fault> {
+fn write_file(rt: &HostRuntime, path: &str, text: &str) -> Result<(), Fault>
+    ensures { IfErr result (IsFailure (codes "write") path.now) }
+{
     match write_synced(rt, path, text.as_bytes()) {
         Ok(()) => Ok(()),
         Err(error) => Err(Fault::of_call(rt.alloc(), "write", path, error)),
     }
 }
 
+/// Writes a file that is not there yet, and syncs it. What that left, and why it failed, no clause of std says.
 pub(crate) fn write_synced(rt: &HostRuntime, path: &str, bytes: &[u8]) -> io::Result<()> {
     let mut file = File::create_new(rt, path)?;
     file.write_all(bytes)?;
@@ -122,7 +144,9 @@ pub(crate) fn write_synced(rt: &HostRuntime, path: &str, bytes: &[u8]) -> io::Re
 }
 
 // Notes that the empty history is durable. Where that can't be noted, the first command writes it anew.
-fn note(rt: &HostRuntime, home: &str, history: &str) -> Result<(), Fault> {
+fn note(rt: &HostRuntime, home: &str, history: &str) -> Result<(), Fault>
+    ensures { IfErr result (IsFailure (codes "look") history.now) }
+{
     let (Some(boot), Some(end)) = (boot_of(rt)?, look(rt, history)?) else {
         return Ok(());
     };
@@ -132,7 +156,10 @@ fn note(rt: &HostRuntime, home: &str, history: &str) -> Result<(), Fault> {
 }
 
 // Whether a file may have a second name here: by that the parts are published.
-fn try_link(rt: &HostRuntime, home: &str, name: &str) -> Result<(), Fault> {
+#[tactic(auto, using(crate::proofs::Troubled::fails_at, crate::proofs::Troubled::memory_somewhere))]
+fn try_link(rt: &HostRuntime, home: &str, name: &str) -> Result<(), Fault>
+    ensures { IfErr result (λ fault. IsRefusal name.now Why.NoLinks fault ⊎ ((path : List ℕ) × FailsAt path fault)) }
+{
     let job = format!(in rt.alloc(); "{home}/job")?;
     let link = format!(in rt.alloc(); "{home}/link")?;
     match fs::hard_link(rt, job.as_str(), link.as_str()) {
@@ -157,7 +184,10 @@ fn is_no_link(kind: io::ErrorKind) -> bool {
 }
 
 // A name that somebody took meanwhile is refused: a directory that is not empty is not replaced.
-fn rename(rt: &HostRuntime, beside: &str, name: &str) -> Result<(), Fault> {
+#[tactic(auto, using(crate::proofs::Troubled::fails_at, crate::proofs::Troubled::looked_there))]
+fn rename(rt: &HostRuntime, beside: &str, name: &str) -> Result<(), Fault>
+    ensures { IfErr result (λ fault. FailsAt name.now fault ⊎ IsRefusal name.now Why.There fault) }
+{
     refuse_taken(rt, name)?;
     match fs::rename(rt, beside, name) {
         Ok(()) => Ok(()),

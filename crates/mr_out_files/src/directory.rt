@@ -1,6 +1,13 @@
 //! An output directory that is open: its lock is held, and calls are made on it.
-ghost use Rattle.std.specs.Prelude.{◌≡◌, [], ◌∷◌, ◌++◌, IfOk};
+ghost use Rattle.std.specs.Prelude.{◌≡◌, ◌⊎◌, ℕ, List, [], ◌∷◌, ◌++◌, codes, true, None, IfOk, IfErr};
+ghost use Rattle.std.specs.String.{string_bytes};
+ghost use Rattle.mr_ids.specs.Text.{attempt_text};
+ghost use Rattle.mr_out_layout.specs.Jobs.{IsTold};
+ghost use Rattle.mr_out_layout.specs.Faults.{IsFailure, IsRefusal, is_failure_of};
+ghost use Rattle.mr_out_layout.specs.Layout.{path_of, boot_path, work_folder};
 ghost use Rattle.mr_out_files.specs.Made.{calls_of, Keeps};
+ghost use Rattle.mr_out_files.specs.inner.Syncing.{FailsSomewhere, IsSyncFault};
+ghost use Rattle.mr_out_files.specs.Troubles.{trouble_of, FailsAt, AnswersAs, IsMade, IsHistoryTrouble, IsAppendTrouble, IsBarred, IsListTrouble, IsPathTrouble, IsSyncTrouble, IsFolderTrouble, IsRemoveTrouble, IsTroubleOf, HasTrouble, IsOpeningFault, attempt_at, folder_path};
 
 use crate::beginning::write_synced;
 use crate::early::{Early, sync_early};
@@ -45,7 +52,10 @@ pub struct Directory {
     made: Log<Call, Answer>,
 }
 
-fn done() -> Answer {
+fn done() -> Answer
+    ensures said { result ≡ Answer.Says Reply.Done }
+    ensures made { IsMade result }
+{
     Answer::Says(Reply::Done)
 }
 
@@ -55,7 +65,11 @@ fn answered(
     what: &'static str,
     path: &str,
     made: io::Result<()>,
-) -> Result<Answer, Fault> {
+) -> Result<Answer, Fault>
+    ensures told { AnswersAs what.now path.now made result }
+    ensures made { IfOk result IsMade }
+    ensures failed { IfErr result (IsFailure what.now path.now) }
+{
     match made {
         Ok(()) => Ok(done()),
         Err(error) if error.kind() == io::ErrorKind::NotFound => Ok(Answer::Says(Reply::Missing)),
@@ -69,13 +83,17 @@ fn answered(
 impl Directory {
     /// Goes into a directory, takes its lock, and reads its job. Where an attempt hands in, the file that it wrote is synced
     /// before the lock is held.
+    #[tactic(auto, using(crate::proofs::Troubled::memory_opening, crate::proofs::Troubled::entered_opening, crate::proofs::Troubled::locked_opening))]
     pub fn open(
         rt: &HostRuntime,
         dir: &str,
         lock: Lock,
         handing: Option<AttemptId>,
     ) -> Result<Directory, Fault>
-        ensures { IfOk result (λ directory. calls_of directory ≡ []) }
+        ensures calls { IfOk result (λ directory. calls_of directory ≡ []) }
+        ensures job { IfOk result (λ directory. IsTold directory.job) }
+        ensures untroubled { IfOk result (λ directory. trouble_of directory ≡ None) }
+        ensures failed { IfErr result (IsOpeningFault dir.now) }
     {
         enter(rt, dir)?;
         let history = History::new(rt, !lock.is_shared)?;
@@ -95,8 +113,11 @@ impl Directory {
     }
 
     /// The directory is of this host from now on. The lock is lost by that: it is opened anew for more.
+    #[tactic(auto, using(crate::proofs::Troubled::memory_moved, crate::proofs::Troubled::folder_moved))]
     pub fn move_here(&mut self, rt: &HostRuntime) -> Result<(), Fault>
-        ensures { calls_of self.new ≡ calls_of self.old }
+        ensures calls { calls_of self.new ≡ calls_of self.old }
+        ensures job { self.new.job ≡ record self.old.job { host = self.new.job.host } }
+        ensures failed { IfErr result (λ fault. FailsAt (codes "_mrout") fault ⊎ IsFailure (codes "write") (codes "_mrout/job") fault) }
     {
         self.job.host = host_of(rt)?;
         let line = self.job.line(self.alloc)?;
@@ -111,7 +132,9 @@ impl Directory {
 
     /// Why the call that failed last did, if one did. It is told once.
     pub fn trouble(&mut self) -> Option<Fault>
-        ensures { Keeps self.old self.new }
+        ensures same { Keeps self.old self.new }
+        ensures told { result ≡ trouble_of self.old }
+        ensures once { trouble_of self.new ≡ None }
     {
         self.trouble.take()
     }
@@ -121,14 +144,17 @@ impl Directory {
     pub fn perform(&mut self, rt: &HostRuntime, call: Call) -> Answer
         ensures noted { calls_of self.new ≡ calls_of self.old ++ (call, result) ∷ [] }
         ensures job { self.new.job ≡ self.old.job }
+        ensures failed { result ≡ Answer.Says Reply.Failed → HasTrouble self.new (string_bytes self.old.job.suffix) call }
     {
         let answer = self.answer(rt, call);
         self.made = self.made.and(&call, &answer);
         answer
     }
 
+    #[tactic(auto, using(crate::proofs::Troubled::not_failed))]
     fn answer(&mut self, rt: &HostRuntime, call: Call) -> Answer
-        ensures { Keeps self.old self.new }
+        ensures same { Keeps self.old self.new }
+        ensures failed { result ≡ Answer.Says Reply.Failed → HasTrouble self.new (string_bytes self.old.job.suffix) call }
     {
         match self.make(rt, call) {
             Ok(answer) => answer,
@@ -140,7 +166,9 @@ impl Directory {
     }
 
     fn make(&mut self, rt: &HostRuntime, call: Call) -> Result<Answer, Fault>
-        ensures { Keeps self.old self.new }
+        ensures same { Keeps self.old self.new }
+        ensures made { IfOk result IsMade }
+        ensures failed { IfErr result (λ fault. IsTroubleOf (string_bytes self.old.job.suffix) call fault) }
     {
         match call {
             Call::ReadHistory => self.read_history(rt),
@@ -161,30 +189,44 @@ impl Directory {
     // ---- the history
 
     fn read_history(&mut self, rt: &HostRuntime) -> Result<Answer, Fault>
-        ensures { Keeps self.old self.new }
+        ensures same { Keeps self.old self.new }
+        ensures made { IfOk result IsMade }
+        ensures failed { IfErr result IsHistoryTrouble }
     {
         Ok(Answer::Told(self.history.read(rt)?))
     }
 
     fn append(&mut self, rt: &HostRuntime, told: &Record) -> Result<Answer, Fault>
-        ensures { Keeps self.old self.new }
+        ensures same { Keeps self.old self.new }
+        ensures made { IfOk result IsMade }
+        ensures failed { IfErr result IsAppendTrouble }
     {
         self.history.append(rt, told)?;
         Ok(done())
     }
 
     fn sync_history(&mut self, rt: &HostRuntime) -> Result<Answer, Fault>
-        ensures { Keeps self.old self.new }
+        ensures same { Keeps self.old self.new }
+        ensures made { IfOk result IsMade }
+        ensures failed { IfErr result IsHistoryTrouble }
     {
         self.history.sync(rt)?;
         Ok(done())
     }
 
     // The file of an attempt that was begun in an earlier boot may have lost bytes when the machine stopped.
-    fn check_boot(&self, rt: &HostRuntime, place: &Place) -> Result<(), Fault> {
-        let (Place::Work(a) | Place::Kept(a)) = *place else {
-            return Ok(());
-        };
+    fn check_boot(&self, rt: &HostRuntime, place: &Place) -> Result<(), Fault>
+        ensures { IfErr result (IsBarred place.now) }
+    {
+        match attempt_at(place) {
+            Some(a) => self.check_boot_of(rt, a),
+            None => Ok(()),
+        }
+    }
+
+    fn check_boot_of(&self, rt: &HostRuntime, a: AttemptId) -> Result<(), Fault>
+        ensures { IfErr result (IsRefusal (attempt_text a) Why.EarlierBoot) }
+    {
         let note = boot_path(self.alloc, a)?;
         match told(rt, &note)? {
             Some(boot) if self.history.is_boot(&boot) => Ok(()),
@@ -197,27 +239,26 @@ impl Directory {
 
     // ---- names
 
-    fn path(&self, place: &Place) -> Result<String, Fault> {
+    fn path(&self, place: &Place) -> Result<String, Fault>
+        ensures path { IfOk result (λ text. string_bytes text ≡ path_of (string_bytes self.now.job.suffix) place.now) }
+        ensures failed { IfErr result (λ fault. fault ≡ Fault.NoMemory) }
+    {
         let path = path_of(self.alloc, &self.job, place)?;
         Ok(path)
     }
 
-    fn look(&self, rt: &HostRuntime, place: &Place) -> Result<Answer, Fault> {
+    fn look(&self, rt: &HostRuntime, place: &Place) -> Result<Answer, Fault>
+        ensures made { IfOk result IsMade }
+        ensures failed { IfErr result (IsFailure (codes "look") (path_of (string_bytes self.now.job.suffix) place.now)) }
+    {
         let path = self.path(place)?;
-        let reply = match look(rt, &path)? {
-            None => Reply::Missing,
-            Some(found) => {
-                if is_right(place, &found) {
-                    Reply::Found(found.ino())
-                } else {
-                    Reply::Odd
-                }
-            }
-        };
-        Ok(Answer::Says(reply))
+        Ok(seen_at(place, look(rt, &path)?))
     }
 
-    fn list_kept(&self, rt: &HostRuntime) -> Result<Answer, Fault> {
+    fn list_kept(&self, rt: &HostRuntime) -> Result<Answer, Fault>
+        ensures made { IfOk result IsMade }
+        ensures failed { IfErr result IsListTrouble }
+    {
         let mut attempts = LinkedList::new(self.alloc);
         let entries = match fs::read_dir(rt, KEPT) {
             Ok(entries) => entries,
@@ -233,8 +274,11 @@ impl Directory {
     }
 
     // Syncs a file that was handed in.
+    #[tactic(auto, using(crate::proofs::Troubled::failed_sync))]
     fn sync_file(&mut self, rt: &HostRuntime, place: &Place) -> Result<Answer, Fault>
-        ensures { Keeps self.old self.new }
+        ensures same { Keeps self.old self.new }
+        ensures made { IfOk result IsMade }
+        ensures failed { IfErr result IsSyncTrouble }
     {
         match self.sync_right(rt, place) {
             Ok(answer) => Ok(answer),
@@ -244,7 +288,9 @@ impl Directory {
 
     // Where the sync fails, its attempt has failed (`Failed`). Of another fault `trouble` tells, and the attempt lives on.
     fn not_synced(&mut self, fault: Fault) -> Result<Answer, Fault>
-        ensures { Keeps self.old self.new }
+        ensures same { Keeps self.old self.new }
+        ensures made { IfOk result IsMade }
+        ensures failed { IfErr result (λ told. (told ≡ fault) × (is_failure_of (codes "sync") fault ≡ true)) }
     {
         if fault.is_of("sync") {
             return Err(fault);
@@ -253,8 +299,11 @@ impl Directory {
         Ok(Answer::Says(Reply::Odd))
     }
 
+    #[tactic(auto, using(crate::proofs::Troubled::barred_sync, crate::proofs::Troubled::looked_sync, crate::proofs::Troubled::some_sync, crate::proofs::Troubled::call_sync, crate::proofs::Troubled::memory_sync, crate::proofs::Troubled::last_sync))]
     fn sync_right(&mut self, rt: &HostRuntime, place: &Place) -> Result<Answer, Fault>
-        ensures { Keeps self.old self.new }
+        ensures same { Keeps self.old self.new }
+        ensures made { IfOk result IsMade }
+        ensures failed { IfErr result (IsSyncFault (path_of (string_bytes self.old.job.suffix) place.now) place.now) }
     {
         self.check_boot(rt, place)?;
         let path = self.path(place)?;
@@ -273,7 +322,11 @@ impl Directory {
     }
 
     // Notes how long the file is that was handed in. One that was claimed before may have another length noted.
-    fn measured(&self, rt: &HostRuntime, place: &Place, found: &Metadata) -> Result<Answer, Fault> {
+    #[tactic(auto, using(crate::proofs::Troubled::dropped_somewhere, crate::proofs::Troubled::fails_somewhere))]
+    fn measured(&self, rt: &HostRuntime, place: &Place, found: &Metadata) -> Result<Answer, Fault>
+        ensures made { IfOk result IsMade }
+        ensures failed { IfErr result FailsSomewhere }
+    {
         if let Place::Kept(a) = *place {
             if self.claimed != Some(a) {
                 drop_lengths(rt, a)?;
@@ -285,14 +338,16 @@ impl Directory {
 
     // Whether the file was synced before the lock was held, and is what it was.
     fn is_synced(&mut self, named: &Metadata) -> Result<bool, Fault>
-        ensures { Keeps self.old self.new }
+        ensures same { Keeps self.old self.new }
+        ensures failed { IfErr result FailsSomewhere }
     {
         match self.early.take() {
-            Some(early) => early.is_still(named),
+            Some(early) => early.is_still(self.alloc, named),
             None => Ok(false),
         }
     }
 
+    #[tactic(auto, using(crate::proofs::Troubled::fails_somewhere))]
     fn sync_still(
         &self,
         rt: &HostRuntime,
@@ -300,7 +355,10 @@ impl Directory {
         file: &File,
         path: &str,
         before: &Metadata,
-    ) -> Result<Answer, Fault> {
+    ) -> Result<Answer, Fault>
+        ensures made { IfOk result IsMade }
+        ensures failed { IfErr result FailsSomewhere }
+    {
         sync(rt, file, path)?;
         let behind = stat(rt, file, path)?;
         if is_changed(before, &behind) {
@@ -310,8 +368,11 @@ impl Directory {
     }
 
     // Claims the file of an attempt, where no power cut came since that was begun.
+    #[tactic(auto, using(crate::proofs::Troubled::memory_renamed, crate::proofs::Troubled::renamed))]
     fn rename(&mut self, rt: &HostRuntime, from: &Place, to: &Place) -> Result<Answer, Fault>
-        ensures { Keeps self.old self.new }
+        ensures same { Keeps self.old self.new }
+        ensures made { IfOk result IsMade }
+        ensures failed { IfErr result (λ fault. IsBarred from.now fault ⊎ IsFailure (codes "rename") (path_of (string_bytes self.old.job.suffix) to.now) fault) }
     {
         self.check_boot(rt, from)?;
         self.claimed = kept_attempt(to).or(self.claimed);
@@ -325,7 +386,11 @@ impl Directory {
         )
     }
 
-    fn link(&self, rt: &HostRuntime, from: &Place, to: &Place) -> Result<Answer, Fault> {
+    #[tactic(auto, using(crate::proofs::Troubled::linked))]
+    fn link(&self, rt: &HostRuntime, from: &Place, to: &Place) -> Result<Answer, Fault>
+        ensures made { IfOk result IsMade }
+        ensures failed { IfErr result (IsFailure (codes "link") (path_of (string_bytes self.now.job.suffix) to.now)) }
+    {
         let from = self.path(from)?;
         let to = self.path(to)?;
         answered(
@@ -338,8 +403,11 @@ impl Directory {
 
     // Syncs a folder. Once the marker is durable, what attempts wrote is removed: where that fails, the next command does it
     // again.
+    #[tactic(auto, using(crate::proofs::Troubled::synced_folder, crate::proofs::Troubled::cleared_folder))]
     fn sync_folder(&mut self, rt: &HostRuntime, folder: Folder) -> Result<Answer, Fault>
-        ensures { Keeps self.old self.new }
+        ensures same { Keeps self.old self.new }
+        ensures made { IfOk result IsMade }
+        ensures failed { IfErr result (IsFolderTrouble folder) }
     {
         sync_folder(rt, folder_path(folder))?;
         if self.is_marked && folder == Folder::Output {
@@ -349,7 +417,9 @@ impl Directory {
     }
 
     fn clear_work(&mut self, rt: &HostRuntime) -> Result<Answer, Fault>
-        ensures { Keeps self.old self.new }
+        ensures same { Keeps self.old self.new }
+        ensures made { IfOk result IsMade }
+        ensures failed { IfErr result (IsFailure (codes "remove") (codes "_mrout/work")) }
     {
         self.is_marked = false;
         sweep(rt)?;
@@ -358,7 +428,9 @@ impl Directory {
 
     // Makes an empty file, and notes that the marker is there.
     fn mark(&mut self, rt: &HostRuntime, place: &Place) -> Result<Answer, Fault>
-        ensures { Keeps self.old self.new }
+        ensures same { Keeps self.old self.new }
+        ensures made { IfOk result IsMade }
+        ensures failed { IfErr result (IsPathTrouble (path_of (string_bytes self.old.job.suffix) place.now)) }
     {
         let answer = self.create(rt, place)?;
         self.is_marked = self.is_marked || *place == Place::Marker;
@@ -366,7 +438,11 @@ impl Directory {
     }
 
     // Makes an empty file. One that is there already is taken; anything else there is foreign.
-    fn create(&self, rt: &HostRuntime, place: &Place) -> Result<Answer, Fault> {
+    #[tactic(auto, using(crate::proofs::Troubled::looked_path, crate::proofs::Troubled::failed_path, crate::proofs::Troubled::memory_path))]
+    fn create(&self, rt: &HostRuntime, place: &Place) -> Result<Answer, Fault>
+        ensures made { IfOk result IsMade }
+        ensures failed { IfErr result (IsPathTrouble (path_of (string_bytes self.now.job.suffix) place.now)) }
+    {
         let path = self.path(place)?;
         match File::create_new(rt, path.as_str()) {
             Ok(_) => Ok(done()),
@@ -378,7 +454,11 @@ impl Directory {
         }
     }
 
-    fn remove(&self, rt: &HostRuntime, place: &Place) -> Result<Answer, Fault> {
+    #[tactic(auto, using(crate::proofs::Troubled::removed, crate::proofs::Troubled::memory_remove))]
+    fn remove(&self, rt: &HostRuntime, place: &Place) -> Result<Answer, Fault>
+        ensures made { IfOk result IsMade }
+        ensures failed { IfErr result (IsRemoveTrouble (path_of (string_bytes self.now.job.suffix) place.now) place.now) }
+    {
         match *place {
             Place::Work(a) => self.remove_work(rt, a),
             Place::Home => answered(rt, "rename", HOME, fs::rename(rt, HOME, GONE)),
@@ -391,22 +471,30 @@ impl Directory {
 
     // Removes the folder of an attempt, with whatever else is there. What a writer puts there meanwhile is the attempt's
     // too: it does not count any more, and goes with the work folder.
-    fn remove_work(&self, rt: &HostRuntime, a: AttemptId) -> Result<Answer, Fault> {
+    #[tactic(auto, using(crate::proofs::Troubled::looked_remove, crate::proofs::Troubled::folder_remove, crate::proofs::Troubled::note_remove, crate::proofs::Troubled::memory_remove))]
+    fn remove_work(&self, rt: &HostRuntime, a: AttemptId) -> Result<Answer, Fault>
+        ensures made { IfOk result IsMade }
+        ensures failed { IfErr result (IsRemoveTrouble (path_of (string_bytes self.now.job.suffix) (Place.Work a)) (Place.Work a)) }
+    {
         let path = self.path(&Place::Work(a))?;
         let there = look(rt, &path)?.is_some();
         let folder = work_folder(self.alloc, a)?;
         let removed = answered(rt, "remove", &folder, clear(rt, &folder))?;
         let note = boot_path(self.alloc, a)?;
         answered(rt, "remove", &note, fs::remove_file(rt, note.as_str()))?;
-        Ok(if there {
-            removed
+        if there {
+            Ok(removed)
         } else {
-            Answer::Says(Reply::Missing)
-        })
+            Ok(Answer::Says(Reply::Missing))
+        }
     }
 
     // Makes the folder in which an attempt writes, and notes the boot in which that was.
-    fn make_folder(&self, rt: &HostRuntime, a: AttemptId) -> Result<Answer, Fault> {
+    #[tactic(auto, using(crate::proofs::Troubled::noted_folder, crate::proofs::Troubled::memory_folder, crate::proofs::Troubled::made_folder))]
+    fn make_folder(&self, rt: &HostRuntime, a: AttemptId) -> Result<Answer, Fault>
+        ensures made { IfOk result IsMade }
+        ensures failed { IfErr result (λ fault. IsFailure (codes "write") (boot_path a) fault ⊎ IsFailure (codes "create") (work_folder a) fault) }
+    {
         let note = boot_path(self.alloc, a)?;
         if let Err(error) = fs::write(rt, note.as_str(), self.history.boot()) {
             return Err(Fault::of_call(self.alloc, "write", &note, error));
@@ -416,10 +504,23 @@ impl Directory {
     }
 }
 
-fn early_of(rt: &HostRuntime, handing: Option<AttemptId>) -> Result<Option<Early>, Fault> {
+fn early_of(rt: &HostRuntime, handing: Option<AttemptId>) -> Result<Option<Early>, Fault>
+    ensures { IfErr result (λ fault. fault ≡ Fault.NoMemory) }
+{
     match handing {
         Some(a) => sync_early(rt, a),
         None => Ok(None),
+    }
+}
+
+// The attempt whose file has this name.
+fn attempt_at(place: &Place) -> Option<AttemptId>
+    ensures { result ≡ attempt_at place.now }
+{
+    match *place {
+        Place::Work(a) => Some(a),
+        Place::Kept(a) => Some(a),
+        _ => None,
     }
 }
 
@@ -432,7 +533,9 @@ fn kept_attempt(place: &Place) -> Option<AttemptId> {
 }
 
 // Removes what attempts wrote.
-fn sweep(rt: &HostRuntime) -> Result<(), Fault> {
+fn sweep(rt: &HostRuntime) -> Result<(), Fault>
+    ensures { IfErr result (IsFailure (codes "remove") (codes "_mrout/work")) }
+{
     match clear(rt, WORK) {
         Ok(()) => Ok(()),
         Err(error) if error.kind() == io::ErrorKind::NotFound => Ok(()),
@@ -440,7 +543,25 @@ fn sweep(rt: &HostRuntime) -> Result<(), Fault> {
     }
 }
 
-fn folder_path(folder: Folder) -> &'static str {
+// What a look at a name answers.
+fn seen_at(place: &Place, found: Option<Metadata>) -> Answer
+    ensures { IsMade result }
+{
+    match found {
+        None => Answer::Says(Reply::Missing),
+        Some(found) => {
+            if is_right(place, &found) {
+                Answer::Says(Reply::Found(found.ino()))
+            } else {
+                Answer::Says(Reply::Odd)
+            }
+        }
+    }
+}
+
+fn folder_path(folder: Folder) -> &'static str
+    ensures { result.now ≡ folder_path folder }
+{
     match folder {
         Folder::Output => ".",
         Folder::Kept => KEPT,
@@ -458,18 +579,18 @@ fn is_right(place: &Place, found: &Metadata) -> bool {
 }
 
 // Adds the attempt that a name tells; one that tells a length is passed over.
-fn put_kept(
-    rt: &HostRuntime,
-    attempts: &mut LinkedList<AttemptId>,
-    name: &str,
-) -> Result<(), Fault> {
+fn put_kept(rt: &HostRuntime, attempts: &mut LinkedList<AttemptId>, name: &str) -> Result<(), Fault>
+    ensures { IfErr result (IsRefusal name.now Why.Foreign) }
+{
     match AttemptId::parse(name) {
         Ok(a) => Ok(attempts.push_back(a)?),
         Err(_) => refuse_foreign(rt, name),
     }
 }
 
-fn refuse_foreign(rt: &HostRuntime, name: &str) -> Result<(), Fault> {
+fn refuse_foreign(rt: &HostRuntime, name: &str) -> Result<(), Fault>
+    ensures { IfErr result (IsRefusal name.now Why.Foreign) }
+{
     match length_named(rt.alloc(), name)? {
         Some(_) => Ok(()),
         None => Err(Fault::refused(rt.alloc(), name, Why::Foreign)),

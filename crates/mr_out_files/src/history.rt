@@ -1,4 +1,10 @@
 //! The history of an output directory on the disk: its segments, and whether its end is durable.
+ghost use Rattle.std.specs.Prelude.{◌≡◌, ◌≢◌, ◌⊎◌, ◌≤◌, ℕ, [], codes, Err, IfErr, IsTrue, true};
+ghost use Rattle.mr_out_layout.specs.Faults.{IsFailure, IsRefusal};
+ghost use Rattle.mr_out_layout.specs.Layout.{segment_path};
+ghost use Rattle.mr_out_files.specs.Troubles.{FailsAt, IsSegmentTrouble, IsHistoryTrouble, IsAppendTrouble};
+ghost use Rattle.mr_out_files.specs.Boots.{boot_text};
+
 use crate::beginning::write_synced;
 use mr_history::{Record, Records, whole_line};
 use mr_out_layout::{
@@ -34,7 +40,9 @@ pub(crate) struct History {
 
 impl History {
     /// The history of the directory in which the process stands, read ahead. The lock need not be held yet.
-    pub(crate) fn new(rt: &HostRuntime, is_writer: bool) -> Result<History, Fault> {
+    pub(crate) fn new(rt: &HostRuntime, is_writer: bool) -> Result<History, Fault>
+        ensures { IfErr result (λ fault. fault ≡ Fault.NoMemory) }
+    {
         Ok(History {
             alloc: rt.alloc(),
             is_writer,
@@ -48,7 +56,9 @@ impl History {
     }
 
     /// Whether this is the number of this boot. Where the system tells none, any is.
-    pub(crate) fn is_boot(&self, told: &[u8]) -> bool {
+    pub(crate) fn is_boot(&self, told: &[u8]) -> bool
+        ensures { IsTrue result → boot_text self.now ≢ [] → told.now ≡ boot_text self.now }
+    {
         match &self.boot {
             Some(boot) => boot.as_bytes() == told,
             None => true,
@@ -56,7 +66,9 @@ impl History {
     }
 
     /// The number of this boot, or nothing where the system tells none.
-    pub(crate) fn boot(&self) -> &str {
+    pub(crate) fn boot(&self) -> &str
+        ensures { result.now ≡ boot_text self.now }
+    {
         match &self.boot {
             Some(boot) => boot.as_str(),
             None => "",
@@ -64,7 +76,10 @@ impl History {
     }
 
     /// The records of all segments.
-    pub(crate) fn read(&mut self, rt: &HostRuntime) -> Result<Records, Fault> {
+    #[tactic(auto, using(crate::proofs::Troubled::memory_trouble, crate::proofs::Troubled::segment_trouble, crate::proofs::Troubled::gap_trouble))]
+    pub(crate) fn read(&mut self, rt: &HostRuntime) -> Result<Records, Fault>
+        ensures { IfErr result IsHistoryTrouble }
+    {
         let mut records = Records::new(self.alloc);
         for number in 1..=MAX_SEGMENTS {
             if !self.read_segment(rt, number, &mut records)? {
@@ -77,12 +92,15 @@ impl History {
     }
 
     // Reads a segment, if it is there. The first one is.
+    #[tactic(auto, using(crate::proofs::Troubled::memory_segment, crate::proofs::Troubled::looked_segment, crate::proofs::Troubled::told_segment, crate::proofs::Troubled::refused_segment))]
     fn read_segment(
         &mut self,
         rt: &HostRuntime,
         number: u32,
         records: &mut Records,
-    ) -> Result<bool, Fault> {
+    ) -> Result<bool, Fault>
+        ensures { IfErr result (IsSegmentTrouble number) }
+    {
         let path = segment_path(self.alloc, number)?;
         let Some(found) = look_file(rt, &path)? else {
             if number == 1 {
@@ -98,6 +116,7 @@ impl History {
     }
 
     // What a segment tells, behind the records that were read ahead, which are added.
+    #[tactic(auto, using(crate::proofs::Troubled::memory_damaged))]
     fn told_by(
         &self,
         rt: &HostRuntime,
@@ -105,7 +124,9 @@ impl History {
         path: &str,
         found: &Metadata,
         records: &mut Records,
-    ) -> Result<Told, Fault> {
+    ) -> Result<Told, Fault>
+        ensures { IfErr result (λ fault. IsFailure (codes "read") path.now fault ⊎ ((line : ℕ) × IsRefusal path.now (Why.Damaged line) fault)) }
+    {
         let (bytes, lines) = match self.ahead.get(number.saturating_sub(1) as usize) {
             Some(ahead) if ahead.is_of(found) => {
                 records.extend(ahead.records.as_slice())?;
@@ -125,7 +146,10 @@ impl History {
     }
 
     // Whether the note tells that the end that was found is durable. In one boot that end is not behind the note's.
-    fn is_covered(&self, rt: &HostRuntime) -> Result<bool, Fault> {
+    #[tactic(auto, using(crate::proofs::Troubled::memory_trouble, crate::proofs::Troubled::path_trouble, crate::proofs::Troubled::refused_trouble))]
+    fn is_covered(&self, rt: &HostRuntime) -> Result<bool, Fault>
+        ensures { IfErr result IsHistoryTrouble }
+    {
         let path = segment_path(self.alloc, self.newest)?;
         let (Some(boot), Some(end)) = (&self.boot, look(rt, &path)?) else {
             return Ok(false);
@@ -138,7 +162,10 @@ impl History {
     }
 
     /// Appends the line of a record.
-    pub(crate) fn append(&mut self, rt: &HostRuntime, told: &Record) -> Result<(), Fault> {
+    #[tactic(auto, using(crate::proofs::Troubled::memory_append, crate::proofs::Troubled::append_at))]
+    pub(crate) fn append(&mut self, rt: &HostRuntime, told: &Record) -> Result<(), Fault>
+        ensures { IfErr result IsAppendTrouble }
+    {
         let line = whole_line(self.alloc, told)?;
         let mut file = match self.file.take() {
             Some(file) => file,
@@ -155,7 +182,11 @@ impl History {
 
     // Opens the segment to which records are appended: the newest one, or the next where the end of that is torn. The
     // name of the next one is durable before anything is in it.
-    fn open_end(&mut self, rt: &HostRuntime) -> Result<File, Fault> {
+    #[tactic(auto, using(crate::proofs::Troubled::opened_append))]
+    fn open_end(&mut self, rt: &HostRuntime) -> Result<File, Fault>
+        ensures failed { IfErr result IsAppendTrouble }
+        ensures full { self.old.is_torn ≡ true → 1000 ≤ self.old.newest → result ≡ Err Fault.Full }
+    {
         if self.is_torn {
             self.open_next(rt)
         } else {
@@ -163,7 +194,11 @@ impl History {
         }
     }
 
-    fn open_next(&mut self, rt: &HostRuntime) -> Result<File, Fault> {
+    #[tactic(auto, using(crate::proofs::Troubled::open_append, crate::proofs::Troubled::folder_append))]
+    fn open_next(&mut self, rt: &HostRuntime) -> Result<File, Fault>
+        ensures failed { IfErr result IsAppendTrouble }
+        ensures full { 1000 ≤ self.old.newest → result ≡ Err Fault.Full }
+    {
         if self.newest >= MAX_SEGMENTS {
             return Err(Fault::Full);
         }
@@ -176,7 +211,10 @@ impl History {
     }
 
     /// Makes all of it durable, if it is not known to be.
-    pub(crate) fn sync(&mut self, rt: &HostRuntime) -> Result<(), Fault> {
+    #[tactic(auto, using(crate::proofs::Troubled::memory_last))]
+    pub(crate) fn sync(&mut self, rt: &HostRuntime) -> Result<(), Fault>
+        ensures { IfErr result IsHistoryTrouble }
+    {
         if self.is_flushed {
             return Ok(());
         }
@@ -194,7 +232,10 @@ impl History {
 
     // What was appended is synced. An end that was found, and that no note tells, may be one of which a sync failed; of
     // such a one the next sync may answer that all is well, and not mean it. So it is written anew.
-    fn flush(&self, rt: &HostRuntime) -> Result<Metadata, Fault> {
+    #[tactic(auto, using(crate::proofs::Troubled::memory_trouble, crate::proofs::Troubled::path_trouble, crate::proofs::Troubled::stat_trouble, crate::proofs::Troubled::renewed_trouble, crate::proofs::Troubled::found_trouble))]
+    fn flush(&self, rt: &HostRuntime) -> Result<Metadata, Fault>
+        ensures { IfErr result IsHistoryTrouble }
+    {
         let path = segment_path(self.alloc, self.newest)?;
         if let Some(file) = &self.file {
             sync(rt, file, &path)?;
@@ -207,7 +248,10 @@ impl History {
     }
 
     // The bytes of the newest segment are written into another file, which is given its name once it is durable.
-    fn renew(&self, rt: &HostRuntime, path: &str) -> Result<Metadata, Fault> {
+    #[tactic(auto, using(crate::proofs::Troubled::renewed_end))]
+    fn renew(&self, rt: &HostRuntime, path: &str) -> Result<Metadata, Fault>
+        ensures { IfErr result (λ fault. FailsAt (codes "_mrout") fault ⊎ FailsAt path.now fault) }
+    {
         copy(rt, path)?;
         replace(rt, path)?;
         end_of(rt, path)
@@ -215,7 +259,10 @@ impl History {
 
     // One who only reads syncs the end that is found; and, where that is not in the first segment, the folder in which a
     // killed command may have made it.
-    fn sync_found(&self, rt: &HostRuntime, path: &str) -> Result<Metadata, Fault> {
+    #[tactic(auto, using(crate::proofs::Troubled::memory_found, crate::proofs::Troubled::folder_at, crate::proofs::Troubled::found_end))]
+    fn sync_found(&self, rt: &HostRuntime, path: &str) -> Result<Metadata, Fault>
+        ensures { IfErr result (λ fault. FailsAt (codes "_mrout") fault ⊎ (FailsAt path.now fault ⊎ IsRefusal path.now Why.NotSynced fault)) }
+    {
         if read_note(rt, &note_of_failure(self.alloc, self.boot())?)? == Noted::Durable {
             return Err(Fault::refused(self.alloc, path, Why::NotSynced));
         }
@@ -227,7 +274,9 @@ impl History {
     }
 
     // The end is durable. Where that can't be noted, the next command writes it anew.
-    fn note(&self, rt: &HostRuntime, end: &Metadata) -> Result<(), Fault> {
+    fn note(&self, rt: &HostRuntime, end: &Metadata) -> Result<(), Fault>
+        ensures { IfErr result (λ fault. fault ≡ Fault.NoMemory) }
+    {
         if let (true, Some(boot)) = (self.is_writer, &self.boot) {
             let _ = write_note(rt, HOME, &note_of(self.alloc, boot, end)?);
         }
@@ -246,7 +295,10 @@ impl History {
 }
 
 // Copies a segment into another file, which is durable then.
-fn copy(rt: &HostRuntime, path: &str) -> Result<(), Fault> {
+#[tactic(auto, using(crate::proofs::Troubled::fails_at))]
+fn copy(rt: &HostRuntime, path: &str) -> Result<(), Fault>
+    ensures { IfErr result (FailsAt path.now) }
+{
     let bytes = read(rt, path)?;
     let _ = fs::remove_file(rt, NEW_SEGMENT);
     match write_synced(rt, NEW_SEGMENT, &bytes) {
@@ -256,25 +308,36 @@ fn copy(rt: &HostRuntime, path: &str) -> Result<(), Fault> {
 }
 
 // The copy takes the segment's name, durably.
-fn replace(rt: &HostRuntime, path: &str) -> Result<(), Fault> {
+#[tactic(auto, using(crate::proofs::Troubled::fails_at, crate::proofs::Troubled::replaced))]
+fn replace(rt: &HostRuntime, path: &str) -> Result<(), Fault>
+    ensures { IfErr result (λ fault. FailsAt (codes "_mrout") fault ⊎ FailsAt path.now fault) }
+{
     match fs::rename(rt, NEW_SEGMENT, path) {
         Ok(()) => sync_folder(rt, HOME),
         Err(error) => Err(Fault::of_call(rt.alloc(), "rename", path, error)),
     }
 }
 
-fn sync_one(rt: &HostRuntime, path: &str) -> Result<(), Fault> {
+#[tactic(auto, using(crate::proofs::Troubled::fails_at, crate::proofs::Troubled::last_at))]
+fn sync_one(rt: &HostRuntime, path: &str) -> Result<(), Fault>
+    ensures { IfErr result (FailsAt path.now) }
+{
     let file = open(rt, path)?;
     sync(rt, &file, path)
 }
 
-fn end_of(rt: &HostRuntime, path: &str) -> Result<Metadata, Fault> {
+#[tactic(auto, using(crate::proofs::Troubled::fails_at, crate::proofs::Troubled::last_at))]
+fn end_of(rt: &HostRuntime, path: &str) -> Result<Metadata, Fault>
+    ensures { IfErr result (FailsAt path.now) }
+{
     let file = open(rt, path)?;
     stat(rt, &file, path)
 }
 
 // Opens the segment with this number, to append to it.
-fn append_to(rt: &HostRuntime, number: u32) -> Result<File, Fault> {
+fn append_to(rt: &HostRuntime, number: u32) -> Result<File, Fault>
+    ensures { IfErr result (IsFailure (codes "open") (segment_path number)) }
+{
     let path = segment_path(rt.alloc(), number)?;
     let opened = OpenOptions::new()
         .append(true)

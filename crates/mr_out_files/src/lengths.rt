@@ -1,11 +1,17 @@
 //! How long a file is that is handed in is noted, by a name beside it.
+ghost use Rattle.std.specs.Prelude.{◌⊎◌, ℕ, codes, IfErr};
+ghost use Rattle.mr_out_layout.specs.Faults.{IsFailure};
+ghost use Rattle.mr_out_layout.specs.Layout.{length_path};
+
 use mr_ids::AttemptId;
 use mr_out_layout::{Fault, KEPT, length_named, length_path};
 use std::fs::File;
 use std::{fs, io};
 
 /// Notes how long the file is that an attempt handed in. It is durable once the folder of what was handed in is.
-pub(crate) fn note_length(rt: &HostRuntime, a: AttemptId, len: u64) -> Result<(), Fault> {
+pub(crate) fn note_length(rt: &HostRuntime, a: AttemptId, len: u64) -> Result<(), Fault>
+    ensures { IfErr result (IsFailure (codes "create") (length_path a len)) }
+{
     let path = length_path(rt.alloc(), a, len)?;
     match File::create_new(rt, path.as_str()) {
         Ok(_) => Ok(()),
@@ -15,7 +21,9 @@ pub(crate) fn note_length(rt: &HostRuntime, a: AttemptId, len: u64) -> Result<()
 }
 
 /// Removes what a command that was stopped noted of an attempt.
-pub(crate) fn drop_lengths(rt: &HostRuntime, a: AttemptId) -> Result<(), Fault> {
+pub(crate) fn drop_lengths(rt: &HostRuntime, a: AttemptId) -> Result<(), Fault>
+    ensures { IfErr result (λ fault. IsFailure (codes "list") (codes "_mrout/kept") fault ⊎ ((len : ℕ) × IsFailure (codes "remove") (length_path a len) fault)) }
+{
     let entries = match fs::read_dir(rt, KEPT) {
         Ok(entries) => entries,
         Err(error) => return Err(Fault::of_call(rt.alloc(), "list", KEPT, error)),
@@ -29,14 +37,18 @@ pub(crate) fn drop_lengths(rt: &HostRuntime, a: AttemptId) -> Result<(), Fault> 
     Ok(())
 }
 
-fn drop_length(rt: &HostRuntime, a: AttemptId, name: &str) -> Result<(), Fault> {
+fn drop_length(rt: &HostRuntime, a: AttemptId, name: &str) -> Result<(), Fault>
+    ensures { IfErr result (λ fault. (len : ℕ) × IsFailure (codes "remove") (length_path a len) fault) }
+{
     match length_named(rt.alloc(), name)? {
         Some(told) if told.attempt == a => remove(rt, &length_path(rt.alloc(), a, told.len)?),
         _ => Ok(()),
     }
 }
 
-fn remove(rt: &HostRuntime, path: &str) -> Result<(), Fault> {
+fn remove(rt: &HostRuntime, path: &str) -> Result<(), Fault>
+    ensures { IfErr result (IsFailure (codes "remove") path.now) }
+{
     match fs::remove_file(rt, path) {
         Ok(()) => Ok(()),
         Err(error) => Err(Fault::of_call(rt.alloc(), "remove", path, error)),

@@ -6,7 +6,11 @@
 //! - `steps` are what `begin` makes, in order. Wherever these are stopped, and whatever a power cut leaves: where the
 //!   directory is there, it is whole (`directories_begin_whole`), and once all are made, it stays
 //!   (`begun_directories_stay`).
-//! - `Directory::perform` notes its call with the answer that it gives (`calls_of`). Nothing else notes one.
+//! - `Directory::perform` notes its call with the answer that it gives (`calls_of`). Nothing else notes one. Where the call
+//!   failed, `trouble` tells a fault that names a path of this call, or a refusal that it may meet (`IsTroubleOf`). A file's
+//!   sync is answered `Failed` where a sync failed, and for nothing else.
+//! - `begin` and `Directory::open` fail by their own faults alone (`IsBeginFault`, `IsOpeningFault`). A job that was read is
+//!   one that its file tells.
 //!
 //! No contract can say what a disk holds. What mr_out_calls proves speaks of recorded answers that are honest; that a
 //! method here makes the call that is noted, once, and answers what came of it, is read in the code and tested

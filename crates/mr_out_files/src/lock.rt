@@ -1,4 +1,9 @@
 //! The lock of an output directory: one on the file that tells its job.
+ghost use Rattle.std.specs.Prelude.{◌≡◌, ◌⊎◌, codes, IfOk, IfErr};
+ghost use Rattle.mr_out_layout.specs.Jobs.{IsTold};
+ghost use Rattle.mr_out_layout.specs.Faults.{IsFailure, IsRefusal};
+ghost use Rattle.mr_out_files.specs.Troubles.{IsLockFault};
+
 use mr_out_layout::{Fault, GONE, JOB, Job, Why, is_one, look, look_file, open, read, stat};
 use std::fs::{File, TryLockError};
 use std::thread;
@@ -24,7 +29,9 @@ pub struct Lock {
 }
 
 // Tries to take the lock once.
-fn take(rt: &HostRuntime, file: &File, is_shared: bool) -> Result<bool, Fault> {
+fn take(rt: &HostRuntime, file: &File, is_shared: bool) -> Result<bool, Fault>
+    ensures { IfErr result (IsFailure (codes "lock") (codes "_mrout/job")) }
+{
     let tried = if is_shared {
         file.try_lock_shared()
     } else {
@@ -38,7 +45,9 @@ fn take(rt: &HostRuntime, file: &File, is_shared: bool) -> Result<bool, Fault> {
 }
 
 // Waits for the lock.
-fn wait(rt: &HostRuntime, file: &File, lock: Lock) -> Result<(), Fault> {
+fn wait(rt: &HostRuntime, file: &File, lock: Lock) -> Result<(), Fault>
+    ensures { IfErr result (λ fault. (fault ≡ Fault.Busy) ⊎ IsFailure (codes "lock") (codes "_mrout/job") fault) }
+{
     let most = match lock.wait {
         Some(most) => most.saturating_mul(1000),
         None => u64::MAX,
@@ -71,7 +80,11 @@ fn tell_wait(rt: &HostRuntime, waited: u64, is_told: bool) -> bool {
 
 /// Opens the file that tells the job, reads it, and takes the lock on it. The file is still the one of that name then, and
 /// is never written again.
-pub(crate) fn locked(rt: &HostRuntime, lock: Lock) -> Result<(File, Job), Fault> {
+#[tactic(auto, using(crate::proofs::Troubled::looked_lock, crate::proofs::Troubled::absent_lock, crate::proofs::Troubled::told_lock, crate::proofs::Troubled::waited_lock, crate::proofs::Troubled::failed_lock))]
+pub(crate) fn locked(rt: &HostRuntime, lock: Lock) -> Result<(File, Job), Fault>
+    ensures job { IfOk result (λ p. IsTold p.1) }
+    ensures failed { IfErr result IsLockFault }
+{
     for _ in 0..100 {
         let Some(named) = look_file(rt, JOB)? else {
             return Err(absent(rt));
@@ -91,7 +104,9 @@ pub(crate) fn locked(rt: &HostRuntime, lock: Lock) -> Result<(File, Job), Fault>
 }
 
 // Why there is no job in the directory in which the process stands.
-fn absent(rt: &HostRuntime) -> Fault {
+fn absent(rt: &HostRuntime) -> Fault
+    ensures { IsRefusal (codes ".") Why.Forgotten result ⊎ IsRefusal (codes ".") Why.NotAJob result }
+{
     match look(rt, GONE) {
         Ok(Some(_)) => Fault::refused(rt.alloc(), ".", Why::Forgotten),
         _ => Fault::refused(rt.alloc(), ".", Why::NotAJob),

@@ -1,4 +1,7 @@
 //! On which kind of disk a folder lies, by what the system tells of its mounts.
+ghost use Rattle.std.specs.Prelude.{◌≡◌, codes, IfErr};
+ghost use Rattle.mr_out_layout.specs.Faults.{IsFailure};
+
 use mr_out_layout::{Fault, told};
 use std::env;
 
@@ -32,7 +35,10 @@ const NETWORK: &[&str] = &[
 ];
 
 /// The kind of network disk on which the process stands, if it does on one. Where the system tells nothing, it does not.
-pub(crate) fn network_disk(rt: &HostRuntime) -> Result<Option<&'static str>, Fault> {
+/// What the system tells, no clause of std says.
+pub(crate) fn network_disk(rt: &HostRuntime) -> Result<Option<&'static str>, Fault>
+    ensures { IfErr result (IsFailure (codes "look") (codes ".")) }
+{
     let Some(bytes) = told(rt, MOUNTS)? else {
         return Ok(None);
     };
@@ -58,7 +64,9 @@ fn told_by(
     rt: &HostRuntime,
     line: &[u8],
     here: &str,
-) -> Result<Option<(usize, Option<&'static str>)>, Fault> {
+) -> Result<Option<(usize, Option<&'static str>)>, Fault>
+    ensures { IfErr result (λ fault. fault ≡ Fault.NoMemory) }
+{
     let Ok(line) = str::from_utf8(line) else {
         return Ok(None);
     };
@@ -102,7 +110,9 @@ fn is_of_kind(kind: &str, network: &str) -> bool {
 }
 
 // The place of a mount: blanks, tabs, line feeds and backslashes are told in octal there, as `\040`.
-fn plain(rt: &HostRuntime, told: &str) -> Result<String, Fault> {
+fn plain(rt: &HostRuntime, told: &str) -> Result<String, Fault>
+    ensures { IfErr result (λ fault. fault ≡ Fault.NoMemory) }
+{
     let mut place = String::new(rt.alloc());
     let mut parts = told.split('\\');
     place.push_str(parts.next().unwrap_or(""))?;

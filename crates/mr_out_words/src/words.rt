@@ -1,4 +1,7 @@
 //! The words of the command line, by clap.
+ghost use Rattle.std.specs.Prelude.{◌≡◌, codes, IfSome, IfNone};
+ghost use Rattle.mr_out_words.specs.Asking.{text_in, IsFlag, IsNumber, IsFailingBy, IsCommandBy, IsNamedBy, IsAskedBy, IsNoCommand, name_of};
+
 use crate::asked::{Asked, Command, Failing};
 use clap::builder::ValueParser;
 use clap::{Arg, ArgAction, ArgMatches};
@@ -52,7 +55,7 @@ fn about<'a>(name: &str) -> &'a str {
     }
 }
 
-/// The command lines of the commands.
+/// The command lines of the commands. Which name and words each has, no clause of clap says of a whole command line.
 pub fn subcommands<'a>(alloc: Global) -> Result<Vec<clap::Command<'a>>, AllocError> {
     let mut commands = Vec::new(alloc);
     for name in NAMES {
@@ -219,64 +222,107 @@ fn number<'a>(
         .value_parser(ValueParser::Unsigned(low, high))
 }
 
-/// What the words ask for; nothing where they name none of these commands.
-pub fn asked_of<'a>(matches: &ArgMatches<'a>) -> Option<Asked<'a>> {
+/// What the words ask for; nothing where they name none of these commands. A number is read as `str::parse` reads it.
+pub fn asked_of<'a>(matches: &ArgMatches<'a>) -> Option<Asked<'a>>
+    ensures asked { IfSome result (IsAskedBy matches.now) }
+    ensures none { IfNone result (IsNoCommand matches.now) }
+{
     let (name, words) = matches.subcommand()?;
     let command = command_of(name, words)?;
     Some(Asked {
-        dir: words.get_str("DIR").unwrap_or(""),
-        wait: words.get_one::<u64>("wait"),
+        dir: text_in(words, "DIR"),
+        wait: seconds_in(words, "wait"),
         command,
     })
 }
 
-fn command_of<'a>(name: &str, words: &ArgMatches<'a>) -> Option<Command<'a>> {
+fn command_of<'a>(name: &str, words: &ArgMatches<'a>) -> Option<Command<'a>>
+    ensures asked { IfSome result (IsNamedBy name.now words.now) }
+    ensures none { IfNone result ((command : Command) → name.now ≡ name_of command → ⊥) }
+{
     match name {
         "begin" => Some(begin_of(words)),
         "attempt" => Some(attempt_of(words)),
         "done" => Some(Command::Done {
-            attempt: words.get_str("ATTEMPT").unwrap_or(""),
+            attempt: text_in(words, "ATTEMPT"),
         }),
         "fail" => Some(Command::Fail(failing_of(words))),
         "publish" => Some(Command::Publish),
         "abort" => Some(Command::Abort),
         "resume" => Some(Command::Resume {
-            here: words.get_flag("here"),
+            here: flag_in(words, "here"),
         }),
         "forget" => Some(Command::Forget),
         "status" => Some(Command::Status {
-            json: words.get_flag("json"),
+            json: flag_in(words, "json"),
         }),
         _ => None,
     }
 }
 
-fn begin_of<'a>(words: &ArgMatches<'a>) -> Command<'a> {
+// The text behind a word, if there is any.
+fn text_in<'a>(words: &ArgMatches<'a>, id: &str) -> &'a str
+    ensures { result.now ≡ text_in words.now id.now }
+{
+    words.get_str(id).unwrap_or("")
+}
+
+// Whether a flag was said.
+fn flag_in(words: &ArgMatches<'_>, id: &str) -> bool
+    ensures { IsFlag words.now id.now result }
+{
+    words.get_flag(id)
+}
+
+// The number that a word tells, if it was said.
+#[tactic(auto, using(crate::proofs::Numbers::told_so))]
+fn number_in(words: &ArgMatches<'_>, id: &str) -> Option<u32>
+    ensures { IsNumber 32 words.now id.now result }
+{
+    words.get_one::<u32>(id)
+}
+
+#[tactic(auto, using(crate::proofs::Numbers::told_so))]
+fn seconds_in(words: &ArgMatches<'_>, id: &str) -> Option<u64>
+    ensures { IsNumber 64 words.now id.now result }
+{
+    words.get_one::<u64>(id)
+}
+
+fn begin_of<'a>(words: &ArgMatches<'a>) -> Command<'a>
+    ensures name { name_of result ≡ codes "begin" }
+    ensures words { IsCommandBy words.now result }
+{
     Command::Begin {
-        tasks: words.get_one::<u32>("tasks").unwrap_or(1),
-        limit: words.get_one::<u32>("limit"),
-        suffix: words.get_str("suffix").unwrap_or(""),
-        hold: words.get_flag("hold"),
-        again: words.get_flag("again"),
+        tasks: number_in(words, "tasks").unwrap_or(1),
+        limit: number_in(words, "limit"),
+        suffix: text_in(words, "suffix"),
+        hold: flag_in(words, "hold"),
+        again: flag_in(words, "again"),
     }
 }
 
-fn attempt_of<'a>(words: &ArgMatches<'a>) -> Command<'a> {
-    if words.get_flag("all") {
+fn attempt_of<'a>(words: &ArgMatches<'a>) -> Command<'a>
+    ensures name { name_of result ≡ codes "attempt" }
+    ensures words { IsCommandBy words.now result }
+{
+    if flag_in(words, "all") {
         return Command::AttemptAll;
     }
     Command::Attempt {
-        task: words.get_one::<u32>("task"),
-        over: words.get_flag("over"),
+        task: number_in(words, "task"),
+        over: flag_in(words, "over"),
     }
 }
 
-fn failing_of<'a>(words: &ArgMatches<'a>) -> Failing<'a> {
-    if words.get_flag("all") {
+fn failing_of<'a>(words: &ArgMatches<'a>) -> Failing<'a>
+    ensures { IsFailingBy words.now result }
+{
+    if flag_in(words, "all") {
         return Failing::All;
     }
-    match words.get_one::<u32>("task") {
+    match number_in(words, "task") {
         Some(task) => Failing::Task(task),
-        None => Failing::One(words.get_str("ATTEMPT").unwrap_or("")),
+        None => Failing::One(text_in(words, "ATTEMPT")),
     }
 }
