@@ -24,13 +24,13 @@ use Rattle.mr_world_model.proofs.Runs.{begins_once}
 use Rattle.mr_world_model.proofs.Nodes.{nodes_agree}
 use Rattle.mr_world_model.proofs.Addressed.{packets_find_their_nodes}
 use Rattle.mr_master_refinement.proofs.Stores.{masters_go_on, masters_send}
-use Rattle.mr_world_alike.specs.Alike.{Alike}
+use Rattle.mr_world_alike.proofs.Raised.{Same}
 use Rattle.mr_world_alike.proofs.Stored.{history-same, fence-same}
 use Rattle.mr_world_alike.proofs.Masters.{MastersAlike, masters-rest, masters-move}
 use Rattle.mr_world_alike.proofs.Actors.{ContainersAlike, NodesAlike, containers-rest, containers-move, containers-hear, nodes-rest, nodes-move}
 use Rattle.mr_world_alike.proofs.Events.{masters-of, containers-of, join, none-called, Follows, step-sends}
 
-addressee-same : (cfg : Config) (w u : World) → Alike cfg w u → (o : Option Envelope) → addressee w o ≡ addressee u o
+addressee-same : (cfg : Config) (w u : World) → Same cfg w u → (o : Option Envelope) → addressee w o ≡ addressee u o
 addressee-same cfg w u e None = refl
 addressee-same cfg w u e (Some x) = by x.to x.body
   where
@@ -47,7 +47,7 @@ starts-so cfg w i n p m q at c a r =
     let reading : readings.reaction n (readings.seen cfg.reduces (w.node_past n)) p ≡ readings.reaction m.number m.seen p = λ j. readings.reaction (sym at.number j) (sym at.seen j) p in
     rw q (nodes_agree.starts cfg w n p ∙ ap (started n (incarnation_of (w.node_past n))) (reading ∙ r))
 
-module _ (cfg : Config) (within : Limits) (bound : BoundsBytes within) (es fs : List Event) (e : Alike cfg (world_of cfg within es) (world_of cfg within fs)) (i j : ℕ)
+module _ (cfg : Config) (within : Limits) (bound : BoundsBytes within) (es fs : List Event) (e : Same cfg (world_of cfg within es) (world_of cfg within fs)) (i j : ℕ)
     (one : slice_get (world_of cfg within es).bag i ≡ slice_get (world_of cfg within fs).bag j) where
   abbrev W : World
   W = world_of cfg within es

@@ -22,7 +22,7 @@ use Rattle.mr_master_refinement.specs.Agreement.{machine_seen}
 use Rattle.mr_master_refinement.specs.Points.{launch_why, expire_why}
 use Rattle.mr_master_refinement.specs.Stores.{MasterMoves}
 use Rattle.mr_master_refinement.proofs.Stores.{masters_go_on, masters_send}
-use Rattle.mr_world_alike.specs.Alike.{Alike}
+use Rattle.mr_world_alike.proofs.Raised.{Same}
 use Rattle.mr_world_alike.proofs.Sending.{sent-same}
 use Rattle.mr_world_alike.proofs.Stored.{reply-same, content-same, barred-same, history-same, fence-same, first-append}
 use Rattle.mr_world_alike.proofs.Masters.{MastersAlike, due-same, launch-same, expiry-same, masters-move, masters-start, masters-crash}
@@ -30,18 +30,18 @@ use Rattle.mr_world_alike.proofs.Actors.{ContainersAlike, NodesAlike, containers
 
 -- ---- the parts of a world
 
-pub masters-of : (cfg : Config) (w u : World) → Alike cfg w u → MastersAlike cfg w u
+pub masters-of : (cfg : Config) (w u : World) → Same cfg w u → MastersAlike cfg w u
 masters-of cfg w u e = record { living = e.is_master; same = e.masters }
 
-pub containers-of : (cfg : Config) (w u : World) → Alike cfg w u → ContainersAlike cfg w u
+pub containers-of : (cfg : Config) (w u : World) → Same cfg w u → ContainersAlike cfg w u
 containers-of cfg w u e = record { living = e.is_alive; same = e.containers }
 
 -- An event that calls the same, sends the same, and leaves masters, containers and nodes alike. A step of a master is a step of its machine
 -- (mr_master_refinement), so no reading of a cluster's master is looked into.
-pub join : (cfg : Config) (w u : World) (e : Alike cfg w u) (x y : Event) → call_of cfg w x ≡ call_of cfg u y
+pub join : (cfg : Config) (w u : World) (e : Same cfg w u) (x y : Event) → call_of cfg w x ≡ call_of cfg u y
     → ((m : Option Made) (j : ℕ) → history_after cfg w x m j ≡ history_after cfg u y m j) → fence_after w x ≡ fence_after u y → sent cfg w x ≡ sent cfg u y
     → MastersAlike cfg (effect cfg w x) (effect cfg u y) → ContainersAlike cfg (effect cfg w x) (effect cfg u y) → NodesAlike cfg (effect cfg w x) (effect cfg u y)
-    → Alike cfg (effect cfg w x) (effect cfg u y)
+    → Same cfg (effect cfg w x) (effect cfg u y)
 join cfg w u e x y calls histories fences sends m c n = record {
   content = content-same cfg w u e (call_of cfg w x) ∙ ap (λ (o : Option Made). content_after u o) calls;
   fence = fences;
@@ -85,9 +85,9 @@ none-called cfg w _ t = refl
 -- what comes of an event that is permitted
 pub record Follows (cfg : Config) (w u : World) (x y : Event) : Type 0 where
   pub sends : sent cfg w x ≡ sent cfg u y
-  pub left : Alike cfg (effect cfg w x) (effect cfg u y)
+  pub left : Same cfg (effect cfg w x) (effect cfg u y)
 
-module _ (cfg : Config) (within : Limits) (bound : BoundsBytes within) (es fs : List Event) (e : Alike cfg (world_of cfg within es) (world_of cfg within fs)) where
+module _ (cfg : Config) (within : Limits) (bound : BoundsBytes within) (es fs : List Event) (e : Same cfg (world_of cfg within es) (world_of cfg within fs)) where
   abbrev W : World
   W = world_of cfg within es
 

@@ -4,6 +4,7 @@ pub mod Moving
 pub mod Heard
 pub mod Answering
 pub mod Sending
+pub mod Raised
 pub mod Stored
 pub mod Masters
 pub mod Actors
@@ -12,3 +13,4 @@ pub mod Delivered
 pub mod Stepped
 pub mod Worlds
 pub mod Packets
+pub mod Agreeing

@@ -19,7 +19,7 @@ use Rattle.mr_world_model.proofs.Acts.{containers_act, maps_act, nodes_act}
 use Rattle.mr_world_model.proofs.Runs.{containers_say}
 use Rattle.mr_world_model.proofs.Places.{places_are_nodes}
 use Rattle.mr_master_refinement.proofs.Stores.{masters_go_on}
-use Rattle.mr_world_alike.specs.Alike.{Alike}
+use Rattle.mr_world_alike.proofs.Raised.{Same}
 use Rattle.mr_world_alike.proofs.Stored.{reply-to-same, stopped-same, history-same, fence-same}
 use Rattle.mr_world_alike.proofs.Masters.{masters-rest}
 use Rattle.mr_world_alike.proofs.Actors.{ContainersAlike, NodesAlike, containers-rest, containers-move, containers-die, containers-end, nodes-rest, nodes-move}
@@ -29,7 +29,7 @@ record Says (cfg : Config) (w u : World) (c : ContainerId) (m : container.Contai
   pub here : ContainerSays cfg w c m
   pub there : ContainerSays cfg u c m
 
-module _ (cfg : Config) (within : Limits) (bound : BoundsBytes within) (es fs : List Event) (e : Alike cfg (world_of cfg within es) (world_of cfg within fs)) where
+module _ (cfg : Config) (within : Limits) (bound : BoundsBytes within) (es fs : List Event) (e : Same cfg (world_of cfg within es) (world_of cfg within fs)) where
   abbrev W : World
   W = world_of cfg within es
 

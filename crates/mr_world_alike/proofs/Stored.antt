@@ -9,7 +9,7 @@ use Rattle.mr_world_model.specs.Hearing.{has}
 use Rattle.mr_world_model.specs.World.{World, Event, Start, Crash, Weather, Calm, Unavailable, Unanswered, Made, names_answer, unless_refused, own_reply, reply_of, reply_to, has_option, is_stopped, is_applied, names_left, with_bar, barred_left, segment_left}
 use Rattle.mr_world_model.specs.Effect.{content_after, barred_after, history_called, history_after, fence_after, version_of}
 use Rattle.mr_world_model.specs.Results.{told_by, first_told}
-use Rattle.mr_world_alike.specs.Alike.{Alike}
+use Rattle.mr_world_alike.proofs.Raised.{Same}
 
 -- ---- lists of bars
 
@@ -38,7 +38,7 @@ first-append (x ∷ xs) ys = by (told_by x.body) (first-append xs ys)
     by (Some b) q = refl
     by None q = q
 
-module _ (cfg : Config) (w u : World) (e : Alike cfg w u) where
+module _ (cfg : Config) (w u : World) (e : Same cfg w u) where
   own-same : (k : ℕ) (call : Store) → own_reply w k call ≡ own_reply u k call
   own-same k (Names op) = λ i. unless_refused (refusal (e.content i) op) (names_answer (e.content i) op)
   own-same k (Append_record r) = let h = e.history k in λ i. if (h i).is_sealed then Sealed else Fine

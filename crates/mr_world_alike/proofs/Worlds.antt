@@ -13,14 +13,15 @@ use Rattle.mr_world_model.specs.Actors.{BoundsBytes}
 use Rattle.mr_world_model.proofs.Basic.{is_none-eq, run-append}
 use Rattle.mr_world_alike.specs.Alike.{Alike, IsSame}
 use Rattle.mr_world_alike.specs.Laws.{StayAlike, WhatIsAlikeStaysAlike, AreSame, AlikeRunsStayAlike, AlikeWorldsEndTheSame}
+use Rattle.mr_world_alike.proofs.Raised.{Same, to-alike, to-same}
 use Rattle.mr_world_alike.proofs.Events.{Follows, start-permitted, start-follows, crash-permitted, crash-follows, duty-permitted, duty-follows, launch-permitted, launch-follows, expire-permitted, expire-follows}
 use Rattle.mr_world_alike.proofs.Delivered.{deliver-permitted, deliver-follows}
 use Rattle.mr_world_alike.proofs.Stepped.{step-permitted, step-follows, bytes-permitted, bytes-follow, die-permitted, die-follows, restart-permitted, restart-follows}
 
 stay-from : (cfg : Config) (w u : World) (x y : Event) → not_now cfg w x ≡ not_now cfg u y → (not_now cfg w x ≡ None → Follows cfg w u x y) → StayAlike cfg w u x y
-stay-from cfg w u x y p f = record { permitted = p; sends = λ n. let o = f n in o.sends; left = λ n. let o = f n in o.left }
+stay-from cfg w u x y p f = record { permitted = p; sends = λ n. let o = f n in o.sends; left = λ n. let o = f n in to-alike cfg (effect cfg w x) (effect cfg u y) o.left }
 
-module _ (cfg : Config) (within : Limits) (bound : BoundsBytes within) (es fs : List Event) (e : Alike cfg (world_of cfg within es) (world_of cfg within fs)) where
+module _ (cfg : Config) (within : Limits) (bound : BoundsBytes within) (es fs : List Event) (e : Same cfg (world_of cfg within es) (world_of cfg within fs)) where
   abbrev W : World
   W = world_of cfg within es
 
@@ -47,7 +48,7 @@ module _ (cfg : Config) (within : Limits) (bound : BoundsBytes within) (es fs : 
   stays (NodeRestart n) y s = own (NodeRestart n) y (stay-from cfg W U (NodeRestart n) (NodeRestart n) (restart-permitted cfg within bound es fs e n) (restart-follows cfg within bound es fs e n)) s
 
 pub what_stays : (cfg : Config) (within : Limits) → BoundsBytes within → WhatIsAlikeStaysAlike cfg within
-what_stays cfg within bound es fs x y e s = stays cfg within bound es fs e x y s
+what_stays cfg within bound es fs x y e s = stays cfg within bound es fs (to-same cfg within es fs e) x y s
 
 -- ---- lists of events
 
@@ -91,9 +92,11 @@ module _ (cfg : Config) (within : Limits) (bound : BoundsBytes within) where
 -- ---- ends
 
 pub ends_are_one : AlikeWorldsEndTheSame
-ends_are_one cfg w u e = record {
-  winners = λ t. λ i. winner_in (records_below (λ j. e.history j i) (suc (e.fence i))) t;
-  marked = ap (λ (c : Content). is_file (entry_at c marker)) e.content;
-  told = e.told;
-  files = ap (λ (c : Content). visible_in c) e.content;
-}
+ends_are_one cfg within es fs alike =
+    let e = to-same cfg within es fs alike in
+    record {
+      winners = λ t. λ i. winner_in (records_below (λ j. e.history j i) (suc (e.fence i))) t;
+      marked = ap (λ (c : Content). is_file (entry_at c marker)) e.content;
+      told = e.told;
+      files = ap (λ (c : Content). visible_in c) e.content;
+    }

@@ -1,5 +1,5 @@
 -- When two worlds are alike, whatever led to them: what each event makes of one, the same event makes of the other. Our own.
-use Rattle.std.specs.Prelude.{◌≡◌, ℕ, true, nat_lt, slice_get}
+use Rattle.std.specs.Prelude.{◌≡◌, ◌≤◌, ℕ, true, nat_lt, slice_get}
 use Rattle.mr_container.specs.State as container
 use Rattle.mr_node.specs.State as node
 use Rattle.mr_world_model.specs.Ids.{Attempt, ContainerId}
@@ -24,13 +24,13 @@ pub record OneNode (cfg : Config) (w u : World) (n : ℕ) : Type 0 where
   pub one : NodeIn cfg w n machine
   pub other : NodeIn cfg u n machine
 
--- The content of the namespace, its fence and its bars; the records of the history; who lives; each living master, each living container and each node; and
+-- The content of the namespace, its fence and its bars; the records of each generation's segment that a master was raised to; who lives; each living master, each living container and each node; and
 -- the outcome, once one was told. Packets are compared where an event is: those that lie in a bag and never come make no difference.
 pub record Alike (cfg : Config) (w u : World) : Type 0 where
   pub content : w.content ≡ u.content
   pub fence : w.fence ≡ u.fence
   pub barred : (a : Attempt) → has w.barred a ≡ has u.barred a
-  pub history : (j : ℕ) → w.history j ≡ u.history j
+  pub history : (j : ℕ) → 1 ≤ j → j ≤ w.fence → w.history j ≡ u.history j
   pub is_master : (k : ℕ) → w.is_master k ≡ u.is_master k
   pub masters : (k : ℕ) → w.is_master k ≡ true → SameMasters (setting cfg k) (machine_seen cfg k (w.master_past k)) (machine_seen cfg k (u.master_past k))
   pub is_alive : (c : ContainerId) → w.is_alive c ≡ u.is_alive c

@@ -40,4 +40,10 @@ pub record EndTheSame (w u : World) : Type 0 where
   pub files : visible w ≡ visible u
 
 abbrev pub AlikeWorldsEndTheSame : Type 0
-AlikeWorldsEndTheSame = (cfg : Config) (w u : World) → Alike cfg w u → EndTheSame w u
+AlikeWorldsEndTheSame = (cfg : Config) (within : Limits) (es fs : List Event) → Alike cfg (world_of cfg within es) (world_of cfg within fs) → EndTheSame (world_of cfg within es) (world_of cfg within fs)
+
+-- to be alike is an equivalence among worlds of runs
+pub record AlikeIsAnEquivalence : Type 0 where
+  pub itself : (cfg : Config) (within : Limits) (es : List Event) → Alike cfg (world_of cfg within es) (world_of cfg within es)
+  pub back : (cfg : Config) (w u : World) → Alike cfg w u → Alike cfg u w
+  pub through : (cfg : Config) (w u v : World) → Alike cfg w u → Alike cfg u v → Alike cfg w v

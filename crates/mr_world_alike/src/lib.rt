@@ -12,7 +12,8 @@
 //! - So it is of lists of events, where the limits take the same of them (`alike_runs_stay_alike`).
 //! - `SamePackets` says of two bags which packets are still to come, and which may come once more. The same events keep it
 //!   (`packets_stay_the_same`).
-//! - Alike worlds have one end: winners, marker, outcome, and the files that a reader sees (`alike_worlds_end_the_same`).
+//! - To be alike is an equivalence among worlds of runs (`alike_is_an_equivalence`).
+//! - Alike worlds of runs have one end: winners, marker, outcome, and the files that a reader sees (`alike_worlds_end_the_same`).
 //!
 //! Limits that bound what is handed in are a premise (`BoundsBytes`): those of a world are such.
 //!
@@ -23,11 +24,10 @@
 //!   where what is read off them differs, and it is what code can compare.
 //! - **The bag is no part of it.** An event reads one envelope of the bag, so bags are compared apart.
 //! - **Dead masters and dead containers are not compared**: nothing reads them.
-//! - **Segments are compared for all generations.** Those that no master has raised yet are fresh in every run.
 //! - **Limits are no part of it.** A world with fewer packets passes a limit later.
 #![tactic(auto)]
 
-ghost use Rattle.mr_world_alike.specs.Laws.{AlikeRunsStayAlike, AlikeWorldsEndTheSame, WhatIsAlikeStaysAlike};
+ghost use Rattle.mr_world_alike.specs.Laws.{AlikeIsAnEquivalence, AlikeRunsStayAlike, AlikeWorldsEndTheSame, WhatIsAlikeStaysAlike};
 ghost use Rattle.mr_world_alike.specs.Packets.{PacketsStayTheSame};
 ghost use Rattle.mr_world_model.specs.Actors.{BoundsBytes};
 ghost use Rattle.mr_world_model.specs.Claims.{Limits};
@@ -50,7 +50,12 @@ pub fn packets_stay_the_same()
     ensures stay { PacketsStayTheSame }
 {}
 
-/// Alike worlds have one end: the same winners, the marker in both or in none, the same outcome and the same files.
+/// A world of a run is like itself. Where one is like another, that is like the first, and what is like the other is like the first too.
+pub fn alike_is_an_equivalence()
+    ensures { AlikeIsAnEquivalence }
+{}
+
+/// Alike worlds of runs have one end: the same winners, the marker in both or in none, the same outcome and the same files.
 pub fn alike_worlds_end_the_same()
     ensures same { AlikeWorldsEndTheSame }
 {}

@@ -1,0 +1,5 @@
+use Rattle.mr_explore_alike.proofs.Leaving.{no_end}
+use Rattle.mr_explore_alike.proofs.no_end_is_lost.Goals as goal
+
+pub returns : goal.returns
+returns g c = no_end g.R.Run.steps g.R.AlikeRun.rest g.R.AlikeRun.size g.R.AlikeRun.like g.R.AlikeRun.ends
