@@ -62,9 +62,11 @@ impl Refusal {
         let kind = InputKind::of(command);
         let help = match fault {
             SimFault::BadCommand(line) => line_help(kind, line_at(input, line)),
-            SimFault::BadRecord(line) => {
-                Some(Help::Record(RecordHint::of(line_at(input, line), line)))
-            }
+            SimFault::BadRecord(line) => Some(Help::Record(RecordHint::of(
+                line_at(input, line),
+                line,
+                line_at(input, 1),
+            ))),
             SimFault::Job(key) => Some(Help::JobText(job_help(alloc, kind, input, key))),
             SimFault::Refused => refused_help(alloc, kind, input),
             SimFault::JobFailed => failed_help(alloc, input),
