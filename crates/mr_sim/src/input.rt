@@ -1,16 +1,11 @@
 //! Reading all that there is, within limits.
-ghost use Rattle.std.specs.Prelude.{◌≡◌, ◌<◌, ◌≤◌, ◌^◌, IfOk, IfErr, IfSome, IsErrOf, length, vec_len};
+ghost use Rattle.std.specs.Prelude.{◌≡◌, ◌≢◌, ◌<◌, ◌≤◌, ◌^◌, IfOk, IfErr, IfSome, IsErrOf, length, vec_len};
 ghost use Rattle.mr_sim.specs.Fault.{IsReadFault};
 
+use mr_pipe::{PipeFault, read_all};
 use mr_sim_commands::SimFault;
 use std::alloc::Global;
-use std::io::{ErrorKind, Read};
-
-/// Most bytes of an input.
-const MOST_BYTES: usize = 1 << 24;
-
-/// Most calls of the reader, interrupted ones with them.
-const MOST_READS: u32 = 1 << 25;
+use std::io::Read;
 
 /// All that the reader has, if that is no more than the limit.
 pub(crate) fn read_input<R: Read>(alloc: Global, reader: &mut R) -> Result<Vec<u8>, SimFault>
@@ -19,23 +14,22 @@ pub(crate) fn read_input<R: Read>(alloc: Global, reader: &mut R) -> Result<Vec<u
     ensures long { IsErrOf result SimFault.TooLong → IfSome (R.remaining reader.old) (λ xs. 2 ^ 24 < length xs) }
     ensures kinds { IfErr result IsReadFault }
 {
-    let mut bytes = Vec::new(alloc);
-    let mut chunk = [0u8; 4096];
-    for _ in 0..MOST_READS {
-        match reader.read(&mut chunk) {
-            Ok(0) => return Ok(bytes),
-            Ok(n) => {
-                if bytes.len() + n > MOST_BYTES {
-                    return Err(SimFault::TooLong);
-                }
-                bytes.extend_from_slice(&chunk[..n])?;
-            }
-            Err(error) => {
-                if error.kind() != ErrorKind::Interrupted {
-                    return Err(SimFault::Read);
-                }
-            }
-        }
+    match read_all(alloc, reader) {
+        Ok(Some(bytes)) => Ok(bytes),
+        Ok(None) => Err(SimFault::TooLong),
+        Err(fault) => Err(read_fault(fault)),
     }
-    Err(SimFault::Read)
+}
+
+// Why an input can't be read.
+fn read_fault(fault: PipeFault) -> SimFault
+    requires { fault ≢ PipeFault.Write }
+    ensures kinds { IsReadFault result }
+    ensures short { result ≢ SimFault.TooLong }
+{
+    match fault {
+        PipeFault::Read => SimFault::Read,
+        PipeFault::NoMemory => SimFault::NoMemory,
+        PipeFault::Write => unreachable!(),
+    }
 }

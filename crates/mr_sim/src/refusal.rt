@@ -5,6 +5,7 @@ use crate::input_kind::InputKind;
 use crate::subcommand::Command;
 use mr_sim_commands::{JobTextFault, SimFault, read_job_text};
 use mr_sim_hints::{Hint, JobHint, RecordHint, RefusedLine, hint_of, refused_line};
+use mr_threads::is_for_pairs;
 use std::alloc::Global;
 use std::fmt;
 
@@ -23,6 +24,8 @@ pub enum Help {
     Reduces(u32),
     /// Of the turns of threads: how many each had, where that was told.
     Turns(Option<u64>),
+    /// Of a map's work that is to be held, where no other map's can begin beside it: how many splits and nodes the job has.
+    Hold { splits: usize, nodes: u32 },
     /// Elsewhere, in these words.
     Words(&'static str),
 }
@@ -40,6 +43,10 @@ impl fmt::Display for Help {
                 reduces.saturating_sub(1)
             ),
             Help::Turns(turns) => put_turns(f, *turns),
+            Help::Hold { splits, nodes } => write!(
+                f,
+                "--hold needs a second map's work, on another node: two splits and two nodes, and the job has splits: {splits}, nodes: {nodes}"
+            ),
             Help::Words(words) => f.write_str(words),
         }
     }
@@ -62,14 +69,16 @@ impl Refusal {
         let kind = InputKind::of(command);
         let help = match fault {
             SimFault::BadCommand(line) => line_help(kind, line_at(input, line)),
-            SimFault::BadRecord(line) => {
-                Some(Help::Record(RecordHint::of(line_at(input, line), line)))
-            }
+            SimFault::BadRecord(line) => Some(Help::Record(RecordHint::of(
+                line_at(input, line),
+                line,
+                line_at(input, 1),
+            ))),
             SimFault::Job(key) => Some(Help::JobText(job_help(alloc, kind, input, key))),
             SimFault::Refused => refused_help(alloc, kind, input),
             SimFault::JobFailed => failed_help(alloc, input),
             SimFault::Full => Some(Help::Words(FULL)),
-            SimFault::TurnsSpent => turns_help(command),
+            SimFault::TurnsSpent => turns_help(alloc, command, input),
             _ => None,
         };
         Refusal { fault, help }
@@ -168,12 +177,30 @@ fn failed_help(alloc: Global, input: &[u8]) -> Option<Help> {
     }
 }
 
-// What allows threads more turns.
-fn turns_help(command: &Command<'_>) -> Option<Help> {
+// What allows threads more turns; or why no turns are enough.
+fn turns_help(alloc: Global, command: &Command<'_>, input: &[u8]) -> Option<Help> {
     match command {
-        Command::Threads { turns, .. } | Command::ThreadsSeen { turns, .. } => {
+        Command::Threads { turns, hold } | Command::ThreadsSeen { turns, hold, .. } => {
+            if *hold {
+                if let Some(help) = hold_help(alloc, input) {
+                    return Some(help);
+                }
+            }
             Some(Help::Turns(*turns))
         }
         _ => None,
+    }
+}
+
+// Why a map's work that is held waits for no other, where that is so.
+fn hold_help(alloc: Global, input: &[u8]) -> Option<Help> {
+    let Ok(submission) = read_job_text(alloc, input) else {
+        return None;
+    };
+    let (splits, nodes) = (submission.splits.len(), submission.nodes);
+    if is_for_pairs(splits, nodes) {
+        None
+    } else {
+        Some(Help::Hold { splits, nodes })
     }
 }

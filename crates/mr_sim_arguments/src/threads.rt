@@ -42,7 +42,7 @@ const TURNS_HELP: &str =
     "How many turns each thread has at most, 1 to 1000000000 (default: 100000, and 10 for each pair of a map and a reduce)";
 
 const HOLD_HELP: &str =
-    "Holds the first map's work until a second one has begun; it looks at most --turns times";
+    "Holds the first map's work until a second one has begun; it looks at most --turns times (for two splits or more, on two nodes or more)";
 
 const SCRIPT_SHOWN: &str = "Prints the script by which `play` repeats the run";
 

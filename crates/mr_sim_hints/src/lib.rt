@@ -28,4 +28,4 @@ pub use forms::Script;
 pub use hint::{Hint, Trouble, hint_of};
 pub use idle_keys::put_idle_keys;
 pub use job::{FaultTrouble, JobHint, JobTrouble, NodeKey, RefusedLine, refused_line};
-pub use record::RecordHint;
+pub use record::{RecordHint, RecordTrouble};

@@ -13,6 +13,7 @@
 //!   mr_board_report). Each result in that run is what the job's functions give. An outcome was told, or its newest
 //!   master is Stopped. What is shown of such a run: mr_threads_shown.
 //! - **`unthreaded`**, what is answered without a handle: the first bad key of the job text, else `Thread`.
+//! - **`is_for_pairs`**: works of two maps can be done at once only where there are two maps and two nodes.
 //!
 //! In no clause: that there is a run, that several works are done at once.
 //!
@@ -24,5 +25,5 @@ mod manner;
 mod output;
 
 pub use driven::report_of;
-pub use manner::Manner;
+pub use manner::{Manner, is_for_pairs};
 pub use output::{threads_output, unthreaded};

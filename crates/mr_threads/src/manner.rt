@@ -1,4 +1,6 @@
 //! How the threads are run.
+ghost use Rattle.std.specs.Prelude.{◌↔◌, ◌<◌, IsTrue};
+
 use mr_drive::Plan;
 
 // How many turns each thread has at most where that is not told: so many of any job, and so many more for each map from which each reduce fetches.
@@ -11,7 +13,8 @@ const TURNS_OF_A_FETCH: u64 = 10;
 pub struct Manner {
     /// How many turns each thread has at most; where that is not told it follows from the job's size.
     pub turns: Option<u64>,
-    /// Whether the first map work is held until the second has begun, for at most as many looks as there are turns.
+    /// Whether the first map work is held until the second has begun, for at most as many looks as there are turns. The job has to have two splits and two
+    /// nodes then.
     pub hold: bool,
 }
 
@@ -23,6 +26,13 @@ impl Manner {
             None => default_turns(plan.config.maps(), plan.config.reduces),
         }
     }
+}
+
+/// Whether works of two maps can be done at once: a node does one work at a time, and all works of a map are done on the node of the map's number.
+pub fn is_for_pairs(maps: usize, nodes: u32) -> bool
+    ensures { IsTrue result ↔ ((1 < maps) × (1 < nodes)) }
+{
+    maps > 1 && nodes > 1
 }
 
 fn default_turns(maps: u32, reduces: u32) -> u64 {

@@ -17,7 +17,7 @@ use std::thread::Threads;
 /// What `threads` prints for a job text: the part files of the job, which threads ran with success. It is what `seq` prints for the text.
 ///
 /// `Job` names the first bad key of the job text. `JobFailed`: a failure was told, or the newest master stopped. `TurnsSpent`, `JournalMismatch`, `Thread` and `Full`
-/// are those of `mr_drive`. `NoMemory` may come at any text; no other fault comes.
+/// are those of `report_of`. `NoMemory` may come at any text; no other fault comes.
 #[tactic(auto, using(crate::proofs::Files::prints, crate::proofs::Files::has_succeeded, crate::proofs::Failing::nothing_to_print, crate::proofs::Failing::has_failed))]
 pub fn threads_output<H: AllocGlobal + Clock + Threads + Wait + Sync>(
     rt: &H,
