@@ -1,0 +1,2 @@
+-- What is read of alike worlds.
+pub mod Shows
