@@ -121,6 +121,8 @@ ROWS = {
     "one_part_more": (write("part-r-00002", b"x"), "foreign"),
     "somebody_elses_file": (write("notes.txt", b"x"), "foreign"),
     "somebody_elses_folder": (folder_for("notes"), "foreign"),
+    "a_name_that_is_no_text": (lambda job: open(os.fsencode(job.dir) + b"/caf\xe9", "xb").close(), "foreign"),
+    "a_folder_whose_name_is_no_text": (lambda job: os.mkdir(os.fsencode(job.dir) + b"/caf\xe9"), "foreign"),
     "history_emptied": (write("_mrout/history.1", b""), "winners"),
     "history_cut": (without_last_record, "winners"),
     "history_of_another_job": (of_another_job, "winners"),

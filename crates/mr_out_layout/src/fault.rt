@@ -47,6 +47,8 @@ pub enum Why {
     There,
     /// It is there already, with a job of `mrout`.
     ThereAJob,
+    /// It is there already, with a job of `mrout` that was begun with another value of this word, or without it.
+    OtherWord(&'static str),
     /// There is no such directory.
     NoDirectory,
     /// It cannot end the names of part files.
@@ -96,6 +98,7 @@ impl Display for Why {
         match self {
             Why::Damaged(line) => write!(f, "line {line} is damaged"),
             Why::Network(kind) => write!(f, "on a network disk ({kind}); use a local one"),
+            Why::OtherWord(word) => write!(f, "there already, with a job of another {word}"),
             other => f.write_str(words(*other)),
         }
     }
@@ -109,7 +112,7 @@ fn words(why: Why) -> &'static str {
         Why::Foreign => "foreign, not made by mrout; nothing was replaced",
         Why::Damaged(_) => "damaged",
         Why::There => "there already, and no directory of mrout",
-        Why::ThereAJob => "there already, with a job of mrout",
+        Why::ThereAJob | Why::OtherWord(_) => "there already, with a job of mrout",
         Why::NoDirectory => "no such directory",
         Why::BadSuffix =>
             "no suffix: a full stop, then letters, digits, full stops, hyphens, low lines",

@@ -7,7 +7,7 @@ use Rattle.mr_out_steps.specs.declared.order.Outcome.TheVariants as outcome
 use Rattle.mr_out_steps.specs.declared.standing.Standing.{Standing}
 use Rattle.mr_out_steps.specs.declared.standing.Standing.TheVariants as standing
 use Rattle.mr_out_program.specs.declared.saying.Saying.{Saying}
-use Rattle.mr_out_program.specs.declared.saying.Saying.TheVariants.{Done, Undone, Won, LostAnother, LostGivenUp, LostOver, NoneAllWon, NoneBusy, NoneOver, Full, NotAllWon, EndedAsFailed}
+use Rattle.mr_out_program.specs.declared.saying.Saying.TheVariants.{Done, Undone, Won, LostAnother, LostGivenUp, LostOver, NoneAllWon, NoneBusy, NoneOver, Full, NotAllWon, EndedAsFailed, NotEnded, NotForgotten}
 
 -- ---- what is printed
 
@@ -25,12 +25,16 @@ text_of NoneOver = codes "none over\n"
 text_of Full = []
 text_of NotAllWon = []
 text_of EndedAsFailed = []
+text_of NotEnded = []
+text_of NotForgotten = []
 
 -- on standard error
 abbrev pub message_of : Saying → List ℕ
 message_of Full = codes "mrout: full\n"
 message_of NotAllWon = codes "mrout: not all are won\n"
 message_of EndedAsFailed = codes "mrout: the job was ended as failed\n"
+message_of NotEnded = codes "mrout: every task is won, and the job is published; nothing was ended\n"
+message_of NotForgotten = codes "mrout: the job is not published, so nothing was forgotten (see: mrout status)\n"
 message_of _ = []
 
 -- ---- the exit status
@@ -48,6 +52,8 @@ status_of NoneOver = 6
 status_of Full = 7
 status_of NotAllWon = 1
 status_of EndedAsFailed = 1
+status_of NotEnded = 1
+status_of NotForgotten = 1
 
 -- that of a command that was refused, or of which a call failed
 abbrev pub fault_status : Fault → ℕ
@@ -97,6 +103,8 @@ publish_saying _ = NotAllWon
 -- `abort` and `forget`
 abbrev pub order_saying : Outcome → Saying
 order_saying outcome.Finished = Done
+order_saying outcome.AllWon = NotEnded
+order_saying outcome.Unpublished = NotForgotten
 order_saying _ = Undone
 
 -- ---- words of `status`

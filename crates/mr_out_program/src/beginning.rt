@@ -93,13 +93,32 @@ fn is_there(
     path: String,
     again: bool,
 ) -> Result<Answered, Fault> {
-    if again && is_alike(&found.job, job) {
-        Ok(Answered::plain(rt, 0))
-    } else {
-        Err(Fault::Refused {
+    if !again {
+        return Err(Fault::Refused {
             path,
             why: Why::ThereAJob,
-        })
+        });
+    }
+    if is_alike(&found.job, job) {
+        return Ok(Answered::plain(rt, 0));
+    }
+    let word = other_word(&found.job, job);
+    Err(Fault::Refused {
+        path,
+        why: Why::OtherWord(word),
+    })
+}
+
+// The first word with which the two were not begun alike, if there is one.
+fn other_word(a: &Job, b: &Job) -> &'static str {
+    if a.tasks != b.tasks {
+        "--tasks"
+    } else if a.limit != b.limit {
+        "--limit"
+    } else if a.suffix != b.suffix {
+        "--suffix"
+    } else {
+        "--hold"
     }
 }
 

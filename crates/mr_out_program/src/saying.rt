@@ -31,6 +31,10 @@ pub(crate) enum Saying {
     NotAllWon,
     /// Nothing is published, since the job was ended as failed.
     EndedAsFailed,
+    /// The job is not ended as failed, since it is published.
+    NotEnded,
+    /// Nothing is forgotten, since the job is not published.
+    NotForgotten,
 }
 
 impl Saying {
@@ -51,6 +55,8 @@ impl Saying {
             Saying::Full => "",
             Saying::NotAllWon => "",
             Saying::EndedAsFailed => "",
+            Saying::NotEnded => "",
+            Saying::NotForgotten => "",
         }
     }
 
@@ -62,6 +68,10 @@ impl Saying {
             Saying::Full => "mrout: full\n",
             Saying::NotAllWon => "mrout: not all are won\n",
             Saying::EndedAsFailed => "mrout: the job was ended as failed\n",
+            Saying::NotEnded =>
+                "mrout: every task is won, and the job is published; nothing was ended\n",
+            Saying::NotForgotten =>
+                "mrout: the job is not published, so nothing was forgotten (see: mrout status)\n",
             _ => "",
         }
     }
@@ -79,6 +89,7 @@ impl Saying {
             Saying::NoneOver => 6,
             Saying::Full => 7,
             Saying::NotAllWon | Saying::EndedAsFailed => 1,
+            Saying::NotEnded | Saying::NotForgotten => 1,
         }
     }
 }
@@ -155,6 +166,8 @@ pub(crate) fn order_saying(outcome: Outcome) -> Saying
 {
     match outcome {
         Outcome::Finished => Saying::Done,
+        Outcome::AllWon => Saying::NotEnded,
+        Outcome::Unpublished => Saying::NotForgotten,
         _ => Saying::Undone,
     }
 }

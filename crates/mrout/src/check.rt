@@ -3,7 +3,7 @@ use crate::ending::Ending;
 use crate::request::Request;
 use crate::walk::{Marker, Walked, list, look_at_marker};
 use crate::winners::put_winners;
-use mr_out_check::{Answer, CheckFault, Looked, Told, look, put_answer};
+use mr_out_check::{Answer, CheckFault, Looked, Shape, Told, look, put_answer};
 use mr_out_layout::{Fault, read_recorded};
 use mr_out_listing::Format;
 use std::alloc::{AllocError, Global};
@@ -73,6 +73,8 @@ fn ending_of_print(rt: &impl Eprint, error: Option<io::Error>) -> Ending {
     }
 }
 
+const STANDARD_INPUT: &str = "standard input";
+
 // How much of a listing is read at once.
 const CHUNK: usize = 65_536;
 
@@ -101,7 +103,7 @@ fn look_at_listing<R: Files + Input + Eprint>(
     name: Option<&str>,
 ) -> Result<Looked, Ending> {
     match name {
-        None => look_in(rt, alloc, format, "standard input", rt.reader()),
+        None => look_in(rt, alloc, format, STANDARD_INPUT, rt.reader()),
         Some(name) => match File::open(rt, name) {
             Ok(file) => look_in(rt, alloc, format, name, file),
             Err(error) => Err(ending_of_error(rt, name, &error)),
@@ -124,6 +126,10 @@ fn check_listing<R: Files + Input + Print + Eprint>(
     let dir = dir_of(&looked.top);
     let mut text = Vec::new(alloc);
     let (shape, told) = (request.shape, &request.told);
+    if looked.top.is_empty() && looked.seen.notes().is_empty() && shape != Shape::Quiet {
+        let name = name.unwrap_or(STANDARD_INPUT);
+        let _ = eprintln!(rt; "mrout: {name}: the listing is empty");
+    }
     let answer = put_answer(&mut text, alloc, shape, dir, &looked.seen, told);
     match print_answer(&mut io::writer(rt), &text, answer) {
         Ok(answer) => Ending::Answered(answer),

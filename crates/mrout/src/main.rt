@@ -16,8 +16,11 @@ use crate::words::{NAMES, command_line, ending_of, request_of};
 use clap::ArgMatches;
 use mr_out_words::asked_of;
 use std::alloc::Global;
+use std::env::FillError;
 use std::io::ErrorKind;
 use std::process::ExitCode;
+use std::rt::Env;
+use std::str::from_utf8;
 use std::{env, io};
 
 // The exit code of a program that ended so.
@@ -57,18 +60,35 @@ fn run(rt: &HostRuntime, matches: &ArgMatches<'_>) -> Ending {
     }
 }
 
-fn args_ending(error: &io::Error) -> Ending {
-    match error.kind() {
-        ErrorKind::OutOfMemory => Ending::NoMemory,
-        _ => Ending::RefusedWords,
+// The number of the first argument that is no UTF-8, if one is; that of the program's name is 0.
+fn odd_argument(rt: &impl Env) -> Option<usize> {
+    let mut bytes = [0u8; 4096];
+    for number in 0..usize::MAX {
+        match rt.arg(number, &mut bytes) {
+            Ok(len) if from_utf8(&bytes[..len]).is_err() => return Some(number),
+            Ok(_) | Err(FillError::TooLong) => {}
+            Err(FillError::NotPresent) => return None,
+        }
     }
+    None
+}
+
+fn args_ending(rt: &(impl Env + Eprint), error: &io::Error) -> Ending {
+    if matches!(error.kind(), ErrorKind::OutOfMemory) {
+        return Ending::NoMemory;
+    }
+    let _ = match odd_argument(rt) {
+        Some(number) => eprintln!(rt; "error: argument {number} is no UTF-8"),
+        None => eprintln!(rt; "error: an argument is no UTF-8"),
+    };
+    Ending::RefusedWords
 }
 
 fn main(rt: HostRuntime) -> ExitCode {
     let alloc: Global = rt.alloc();
     let args = match env::args(&rt) {
         Ok(args) => args,
-        Err(error) => return code_of(&rt, args_ending(&error)),
+        Err(error) => return code_of(&rt, args_ending(&rt, &error)),
     };
     let Ok(words): Result<Vec<String>, _> = args.collect(alloc) else {
         return code_of(&rt, Ending::NoMemory);

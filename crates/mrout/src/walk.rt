@@ -46,16 +46,7 @@ fn kind_of(metadata: &Metadata) -> Kind {
     Kind::Other
 }
 
-fn put_name(
-    alloc: Global,
-    names: &mut Vec<Name>,
-    name: &[u8],
-    metadata: &Metadata,
-) -> io::Result<()> {
-    let look = Look {
-        kind: kind_of(metadata),
-        len: metadata.len(),
-    };
+fn put_name(alloc: Global, names: &mut Vec<Name>, name: &[u8], look: Look) -> io::Result<()> {
     let name = Vec::from_slice(alloc, name)?;
     names.push(Name { name, look })?;
     Ok(())
@@ -69,18 +60,27 @@ fn walk_entry<R: Files + AllocGlobal + Clone + Drop>(
     entry: &DirEntry<R, Global>,
 ) -> io::Result<Walk> {
     let metadata = entry.metadata()?;
+    let look = Look {
+        kind: kind_of(&metadata),
+        len: metadata.len(),
+    };
+    walk_name(alloc, walk, folder, entry.file_name(), look)
+}
+
+// A name in a folder, and what stands there.
+fn walk_name(alloc: Global, walk: Walk, folder: &str, name: &str, look: Look) -> io::Result<Walk> {
     let with_names = walk.with_names;
-    let kind = kind_of(&metadata);
-    let name = format!(in alloc; "{folder}{}", entry.file_name())?;
+    let kind = look.kind;
+    let name = format!(in alloc; "{folder}{name}")?;
     let listed = Entry {
         kind,
-        empty: metadata.len() == 0,
+        empty: look.len == 0,
         path: name.as_bytes(),
     };
     let seen = walk.seen.with(alloc, &listed)?;
     let mut names = walk.names;
     if with_names && folder.is_empty() {
-        put_name(alloc, &mut names, name.as_bytes(), &metadata)?;
+        put_name(alloc, &mut names, name.as_bytes(), look)?;
     }
     let mut folders = walk.folders;
     if kind == Kind::Directory && name.as_str() != "_mrout" {
@@ -94,6 +94,30 @@ fn walk_entry<R: Files + AllocGlobal + Clone + Drop>(
     })
 }
 
+// In place of a name that is no UTF-8.
+const NO_TEXT: &str = "(a name that is no UTF-8)";
+
+// What is listed in a folder, if its name is UTF-8. Of another name it is not asked what stands there, since paths are UTF-8 here. Neither the
+// committer of a job nor `mrout` makes such a name.
+fn walk_next<R: Files + AllocGlobal + Clone + Drop>(
+    alloc: Global,
+    walk: Walk,
+    folder: &str,
+    entry: io::Result<DirEntry<R, Global>>,
+) -> io::Result<Walk> {
+    match entry {
+        Ok(entry) => walk_entry(alloc, walk, folder, &entry),
+        Err(error) if error.kind() == io::ErrorKind::InvalidFilename => {
+            let look = Look {
+                kind: Kind::Other,
+                len: 0,
+            };
+            walk_name(alloc, walk, folder, NO_TEXT, look)
+        }
+        Err(error) => Err(error),
+    }
+}
+
 // All that is listed in a folder.
 fn walk_folder<R: Files + AllocGlobal + Clone + Drop>(
     alloc: Global,
@@ -103,7 +127,7 @@ fn walk_folder<R: Files + AllocGlobal + Clone + Drop>(
 ) -> io::Result<Walk> {
     let mut walk = walk;
     for entry in listing {
-        walk = walk_entry(alloc, walk, folder, &entry?)?;
+        walk = walk_next(alloc, walk, folder, entry)?;
     }
     Ok(walk)
 }

@@ -23,7 +23,7 @@ Statuses:
   3   the directory or the input was refused: `mrout: PATH: WHY`
   4   a call of the system failed: `mrout: NAME: WHY`
   5   `mrout: no memory`
-  6   `none over`: the job was ended as failed
+  6   `none over`: the job was ended as failed, for good: begin another DIR
   7   full
   8   it depends (check)
   75  `none busy`, or the wait for the lock ended: try later";
@@ -32,7 +32,7 @@ const CHECK: &str = "May these directories be read?";
 
 const CHECK_HELP: &str = "\
 Lists each DIR of this machine; or, with --listing, reads each FILE, or standard input, the lines of
-  hdfs    hdfs dfs -ls -R DIR
+  hdfs    hdfs dfs -ls -R DIR    (without -R `work` stays open where _temporary is listed)
   find    find DIR -printf '%y %s %p\\n'
   find0   find DIR -printf '%y %s %p\\0'
 Other listings are not read. Prints `yes: DIR`, `no: DIR: WHY` or `it depends: DIR: WHAT IS OPEN`; of one directory then

@@ -14,10 +14,12 @@ use mr_pipe_commands::{missing, served, why_unread};
 use mr_sim::{Ending, Expectation, Help, Refusal, Remarks, SimFault, is_contrary, read_goal, run};
 use mr_sim_arguments::command_line;
 use std::alloc::Global;
+use std::env::FillError;
 use std::fs::File;
 use std::io::Write;
 use std::process::ExitCode;
-use std::rt::{Clock, Files};
+use std::rt::{Clock, Env, Files};
+use std::str::from_utf8;
 use std::sync::Wait;
 use std::thread::Threads;
 use std::{env, io};
@@ -216,14 +218,36 @@ fn code_of_run<W: Write>(
     }
 }
 
+// The number of the first argument that is no UTF-8, if one is; that of the program's name is 0.
+fn odd_argument(rt: &impl Env) -> Option<usize> {
+    let mut bytes = [0u8; 4096];
+    for number in 0..usize::MAX {
+        match rt.arg(number, &mut bytes) {
+            Ok(len) if from_utf8(&bytes[..len]).is_err() => return Some(number),
+            Ok(_) | Err(FillError::TooLong) => {}
+            Err(FillError::NotPresent) => return None,
+        }
+    }
+    None
+}
+
+// How the program ends that can't read its arguments, when it has said why.
+fn args_ending(rt: &(impl Env + Eprint), error: &io::Error) -> Ending {
+    if error.kind() == io::ErrorKind::OutOfMemory {
+        return Ending::Failed(SimFault::NoMemory);
+    }
+    let _ = match odd_argument(rt) {
+        Some(number) => eprintln!(rt; "error: argument {number} is no UTF-8"),
+        None => eprintln!(rt; "error: an argument is no UTF-8"),
+    };
+    Ending::RefusedWords
+}
+
 fn main(rt: HostRuntime) -> ExitCode {
     let alloc: Global = rt.alloc();
     let args = match env::args(&rt) {
         Ok(args) => args,
-        Err(error) if error.kind() == io::ErrorKind::OutOfMemory => {
-            return code_of(&rt, Ending::Failed(SimFault::NoMemory));
-        }
-        Err(_) => return code_of(&rt, Ending::RefusedWords),
+        Err(error) => return code_of(&rt, args_ending(&rt, &error)),
     };
     let Ok(words): Result<Vec<String>, _> = args.collect(alloc) else {
         return code_of(&rt, Ending::Failed(SimFault::NoMemory));
