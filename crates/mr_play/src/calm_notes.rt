@@ -28,14 +28,14 @@ enum CalmEnd {
 }
 
 impl CalmEnd {
-    // Whether it is as the line asks: where a name was told, before it; else of a master that was there, and not cut off.
-    fn is_as_asked(self, until: Until) -> bool {
+    // Whether it is as the line asks, where it made so many events: where a name was told, before it; else of a master that was there, and not cut off.
+    // A master that had stopped before, or was not alive, lets it make none.
+    fn is_as_asked(self, until: Until, made: u64) -> bool {
         match self {
             CalmEnd::BeforeName => true,
             CalmEnd::NeverStarted | CalmEnd::Most => false,
-            CalmEnd::Ended | CalmEnd::Stopped | CalmEnd::NotAlive | CalmEnd::Idle => {
-                stop_of(until).is_none()
-            }
+            CalmEnd::Stopped | CalmEnd::NotAlive => made > 0 && stop_of(until).is_none(),
+            CalmEnd::Ended | CalmEnd::Idle => stop_of(until).is_none(),
         }
     }
 
@@ -63,16 +63,17 @@ impl Player {
     ) -> Result<(), AllocError>
         ensures { self.new ≡ record self.old { notes = self.new.notes } }
     {
-        let end = self.calm_end(k, until, before)?;
-        if end.is_as_asked(until) {
+        let made = self.world.journal().len().saturating_sub(before) as u64;
+        let end = self.calm_end(k, until, made)?;
+        if end.is_as_asked(until, made) {
             return Ok(());
         }
         put_note(&mut self.notes, line, k, until, end)?;
         Ok(())
     }
 
-    // How the calm ended. It looks for a name only where its last event was followed by such a look.
-    fn calm_end(&self, k: u32, until: Until, before: usize) -> Result<CalmEnd, AllocError> {
+    // How the calm ended that made so many events. It looks for a name only where its last event was followed by such a look.
+    fn calm_end(&self, k: u32, until: Until, made: u64) -> Result<CalmEnd, AllocError> {
         match self.world.phase(k) {
             None if k > self.world.newest() => return Ok(CalmEnd::NeverStarted),
             None => return Ok(CalmEnd::NotAlive),
@@ -80,8 +81,7 @@ impl Player {
             Some(Phase::Stopped) => return Ok(CalmEnd::Stopped),
             Some(_) => {}
         }
-        let made = self.world.journal().len().saturating_sub(before);
-        if made as u64 >= most_of(until) {
+        if made >= most_of(until) {
             return Ok(CalmEnd::Most);
         }
         match self.coming(k)? {
