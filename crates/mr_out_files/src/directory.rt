@@ -7,26 +7,28 @@ ghost use Rattle.mr_out_layout.specs.Faults.{IsFailure, IsRefusal, is_failure_of
 ghost use Rattle.mr_out_layout.specs.Layout.{path_of, boot_path, work_folder};
 ghost use Rattle.mr_out_files.specs.Made.{calls_of, Keeps};
 ghost use Rattle.mr_out_files.specs.inner.Syncing.{FailsSomewhere, IsSyncFault};
-ghost use Rattle.mr_out_files.specs.Troubles.{trouble_of, FailsAt, AnswersAs, IsMade, IsHistoryTrouble, IsAppendTrouble, IsBarred, IsListTrouble, IsPathTrouble, IsSyncTrouble, IsFolderTrouble, IsRemoveTrouble, IsTroubleOf, HasTrouble, IsOpeningFault, attempt_at, folder_path};
+ghost use Rattle.mr_out_files.specs.Troubles.{trouble_of, FailsAt, IsMade, IsHistoryTrouble, IsAppendTrouble, IsBarred, IsListTrouble, IsPathTrouble, IsSyncTrouble, IsFolderTrouble, IsRemoveTrouble, IsTroubleOf, HasTrouble, IsOpeningFault};
 
 use crate::beginning::write_synced;
 use crate::early::{Early, sync_early};
 use crate::history::History;
 use crate::lengths::{drop_lengths, note_length};
 use crate::lock::{Lock, locked};
+use crate::replies::{
+    answered, attempt_at, done, folder_path, kept_attempt, put_kept, seen_at, sweep,
+};
 use http_server::Log;
 use mr_history::Record;
 use mr_ids::AttemptId;
 use mr_out_disk::{Answer, Call, Folder, Place, Reply};
 use mr_out_layout::{
-    Fault, GONE, HOME, JOB, Job, KEPT, WORK, Why, boot_path, enter, host_of, is_changed, is_one,
-    length_named, look, look_file, open, path_of, stat, sync, sync_folder, told, work_folder,
+    Fault, GONE, HOME, JOB, Job, KEPT, Why, boot_path, enter, host_of, is_changed, is_one, look,
+    look_file, open, path_of, stat, sync, sync_folder, told, work_folder,
 };
 use mr_out_removal::clear;
 use std::alloc::Global;
 use std::collections::LinkedList;
 use std::fs::{File, Metadata};
-use std::os::unix::fs::MetadataExt;
 use std::{fs, io};
 
 // The file that tells the job, before it has its name.
@@ -50,34 +52,6 @@ pub struct Directory {
     trouble: Option<Fault>,
     // Each call with its answer, for contracts alone: it takes no memory.
     made: Log<Call, Answer>,
-}
-
-fn done() -> Answer
-    ensures said { result ≡ Answer.Says Reply.Done }
-    ensures made { IsMade result }
-{
-    Answer::Says(Reply::Done)
-}
-
-// What a call answers that may find nothing, or something in its way.
-fn answered(
-    rt: &HostRuntime,
-    what: &'static str,
-    path: &str,
-    made: io::Result<()>,
-) -> Result<Answer, Fault>
-    ensures told { AnswersAs what.now path.now made result }
-    ensures made { IfOk result IsMade }
-    ensures failed { IfErr result (IsFailure what.now path.now) }
-{
-    match made {
-        Ok(()) => Ok(done()),
-        Err(error) if error.kind() == io::ErrorKind::NotFound => Ok(Answer::Says(Reply::Missing)),
-        Err(error) if error.kind() == io::ErrorKind::AlreadyExists => Ok(Answer::Says(
-            Reply::Taken,
-        )),
-        Err(error) => Err(Fault::of_call(rt.alloc(), what, path, error)),
-    }
 }
 
 impl Directory {
@@ -510,89 +484,5 @@ fn early_of(rt: &HostRuntime, handing: Option<AttemptId>) -> Result<Option<Early
     match handing {
         Some(a) => sync_early(rt, a),
         None => Ok(None),
-    }
-}
-
-// The attempt whose file has this name.
-fn attempt_at(place: &Place) -> Option<AttemptId>
-    ensures { result ≡ attempt_at place.now }
-{
-    match *place {
-        Place::Work(a) => Some(a),
-        Place::Kept(a) => Some(a),
-        _ => None,
-    }
-}
-
-// The attempt whose handed-in file has this name.
-fn kept_attempt(place: &Place) -> Option<AttemptId> {
-    match *place {
-        Place::Kept(a) => Some(a),
-        _ => None,
-    }
-}
-
-// Removes what attempts wrote.
-fn sweep(rt: &HostRuntime) -> Result<(), Fault>
-    ensures { IfErr result (IsFailure (codes "remove") (codes "_mrout/work")) }
-{
-    match clear(rt, WORK) {
-        Ok(()) => Ok(()),
-        Err(error) if error.kind() == io::ErrorKind::NotFound => Ok(()),
-        Err(error) => Err(Fault::of_call(rt.alloc(), "remove", WORK, error)),
-    }
-}
-
-// What a look at a name answers.
-fn seen_at(place: &Place, found: Option<Metadata>) -> Answer
-    ensures { IsMade result }
-{
-    match found {
-        None => Answer::Says(Reply::Missing),
-        Some(found) => {
-            if is_right(place, &found) {
-                Answer::Says(Reply::Found(found.ino()))
-            } else {
-                Answer::Says(Reply::Odd)
-            }
-        }
-    }
-}
-
-fn folder_path(folder: Folder) -> &'static str
-    ensures { result.now ≡ folder_path folder }
-{
-    match folder {
-        Folder::Output => ".",
-        Folder::Kept => KEPT,
-        Folder::Work => WORK,
-        Folder::Home => HOME,
-    }
-}
-
-// A regular file; one that an attempt writes has no other name.
-fn is_right(place: &Place, found: &Metadata) -> bool {
-    match *place {
-        Place::Work(_) => found.is_file() && found.nlink() == 1,
-        _ => found.is_file(),
-    }
-}
-
-// Adds the attempt that a name tells; one that tells a length is passed over.
-fn put_kept(rt: &HostRuntime, attempts: &mut LinkedList<AttemptId>, name: &str) -> Result<(), Fault>
-    ensures { IfErr result (IsRefusal name.now Why.Foreign) }
-{
-    match AttemptId::parse(name) {
-        Ok(a) => Ok(attempts.push_back(a)?),
-        Err(_) => refuse_foreign(rt, name),
-    }
-}
-
-fn refuse_foreign(rt: &HostRuntime, name: &str) -> Result<(), Fault>
-    ensures { IfErr result (IsRefusal name.now Why.Foreign) }
-{
-    match length_named(rt.alloc(), name)? {
-        Some(_) => Ok(()),
-        None => Err(Fault::refused(rt.alloc(), name, Why::Foreign)),
     }
 }

@@ -31,6 +31,7 @@ mod lengths;
 mod lock;
 mod making;
 mod mounts;
+mod replies;
 
 pub use beginning::{begin, name_of};
 pub use directory::Directory;

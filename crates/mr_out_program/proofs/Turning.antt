@@ -1,9 +1,11 @@
 -- Commands that are carried out one after another.
-use Rattle.std.proofs.Common.{◌≡◌, ◌⊎◌, inl, inr, ℕ, zero, suc, ◌+◌, List, [], ◌∷◌, ◌++◌, Result, Ok, Err, refl, sym, ap, subst, ◌∙◌, append_assoc}
+use Rattle.std.proofs.Common.{◌≡◌, inl, inr, ℕ, zero, suc, List, [], ◌∷◌, ◌++◌, Result, Ok, Err, refl, sym, ap, subst, ◌∙◌, append_assoc, append-nil}
+use Rattle.std.specs.List.{AllByRecursion}
 use Rattle.mr_ids.specs.Attempt.{Attempt}
 use Rattle.mr_history.specs.declared.record.Record.{Record}
 use Rattle.mr_out_disk.specs.declared.call.Call.{Call}
-use Rattle.mr_out_disk.specs.declared.call.Call.TheVariants.{ReadHistory, SyncHistory}
+use Rattle.mr_out_disk.specs.declared.place.Folder.{Folder}
+use Rattle.mr_out_disk.specs.declared.call.Call.TheVariants.{ReadHistory, SyncHistory, SyncFolder}
 use Rattle.mr_out_disk.specs.declared.answer.Answer.{Answer}
 use Rattle.mr_out_disk.specs.declared.answer.Answer.TheVariants.{Says, Told}
 use Rattle.mr_out_disk.specs.declared.answer.Reply.TheVariants.{Done}
@@ -17,7 +19,7 @@ use Rattle.mr_out_files.specs.declared.directory.Directory.{Directory}
 use Rattle.mr_out_files.specs.Made.{calls_of, Keeps}
 use Rattle.mr_out_program.specs.declared.answering.Answered.{Answered}
 use Rattle.mr_out_program.specs.Carried.{first_of, CarriesOut, CarriesAndSettles, Begins}
-use Rattle.mr_out_program.specs.Turns.{Stops, Looks, Reads, Syncs, IsTurn, Turns, TurnsOf, IsStart, IsFailure}
+use Rattle.mr_out_program.specs.Turns.{Stops, Looks, IsAsking, OnlyAsks, Reads, Syncs, IsTurn, Turns, TurnsOf, IsStart, IsFail}
 
 -- ---- what begins where nothing was called
 
@@ -75,7 +77,7 @@ start_turn old new result it = inl (order.StartNext, refl, it.0, it.1)
 pub begun_turn : (old new : Directory) (result : Result Answered Fault) → Begins order.StartNext old new result → IsTurn IsStart old new
 begun_turn old new result it = inl (order.StartNext, refl, it.0, it.1)
 
-pub fail_turn : (old new : Directory) (a : Attempt) (result : Result Outcome Fault) → CarriesAndSettles (order.Fail a) old new result → IsTurn IsFailure old new
+pub fail_turn : (old new : Directory) (a : Attempt) (result : Result Outcome Fault) → CarriesAndSettles (order.Fail a) old new result → IsTurn IsFail old new
 fail_turn old new a result it = inl (order.Fail a, tt, it.0, it.1)
 
 -- ---- the records are read
@@ -92,24 +94,56 @@ looks_twice : (old new : Directory) (rs : List Record) (answer : Answer) → cal
 unfolding AreCallsOf
 looks_twice old new rs answer noted job = λ order. record { made = (ReadHistory, Told rs) ∷ (SyncHistory, answer) ∷ []; recorded = noted; calls = (refl, (refl, tt)); job = job }
 
+asks_twice : (old new : Directory) (rs : List Record) (answer : Answer) → calls_of new ≡ calls_of old ++ (ReadHistory, Told rs) ∷ (SyncHistory, answer) ∷ [] → new.job ≡ old.job → OnlyAsks old new
+asks_twice old new rs answer noted job = record { made = (ReadHistory, Told rs) ∷ (SyncHistory, answer) ∷ []; recorded = noted; asks = (tt, (tt, tt)); job = job }
+
 pub reads_synced : (old mid new : Directory) (read : List Record) (result : Result (List Record) Fault)
     → calls_of mid ≡ calls_of old ++ (ReadHistory, Told read) ∷ [] → mid.job ≡ old.job → Syncs read mid new result → Reads old new result
 reads_synced old mid new read (Ok rs) noted job (same, synced, still) =
     (subst (λ (xs : List Record). calls_of new ≡ calls_of old ++ (ReadHistory, Told xs) ∷ (SyncHistory, Says Done) ∷ []) (sym same) (twice old mid new read (Says Done) noted synced), still ∙ job)
-reads_synced old mid new read (Err f) noted job (answer, synced, still) = looks_twice old new read answer (twice old mid new read answer noted synced) (still ∙ job)
+reads_synced old mid new read (Err f) noted job (answer, synced, still) =
+    let both : calls_of new ≡ calls_of old ++ (ReadHistory, Told read) ∷ (SyncHistory, answer) ∷ [] = twice old mid new read answer noted synced in
+    (looks_twice old new read answer both (still ∙ job), asks_twice old new read answer both (still ∙ job))
 
 pub reads_failed : (old mid new : Directory) (answer : Answer) (f : Fault) → calls_of mid ≡ calls_of old ++ (ReadHistory, answer) ∷ [] → mid.job ≡ old.job → Keeps mid new → Reads old new (Err f)
-reads_failed old mid new answer f noted job k = looks_once old new answer (k.0 ∙ noted) (k.1 ∙ job)
+reads_failed old mid new answer f noted job k = (looks_once old new answer (k.0 ∙ noted) (k.1 ∙ job), record { made = (ReadHistory, answer) ∷ []; recorded = k.0 ∙ noted; asks = (tt, tt); job = k.1 ∙ job })
 
 pub syncs_failed : (read : List Record) (old mid new : Directory) (answer : Answer) (f : Fault) → calls_of mid ≡ calls_of old ++ (SyncHistory, answer) ∷ [] → mid.job ≡ old.job → Keeps mid new → Syncs read old new (Err f)
 syncs_failed read old mid new answer f noted job k = (answer, k.0 ∙ noted, k.1 ∙ job)
 
 pub reads_turn : (P : Order → Type 0) (old new : Directory) (result : Result (List Record) Fault) → Reads old new result → IsTurn P old new
 reads_turn P old new (Ok rs) it = inr (looks_twice old new rs (Says Done) it.0 it.1)
-reads_turn P old new (Err f) it = inr it
+reads_turn P old new (Err f) it = inr it.0
 
 pub reads_one : (P : Order → Type 0) (old new : Directory) (result : Result (List Record) Fault) → Reads old new result → TurnsOf P old new
 reads_one P old new result it = turns_one P old new (reads_turn P old new result it)
 
 pub reads_more : (P : Order → Type 0) (old mid new : Directory) (result : Result (List Record) Fault) → Reads old mid result → IsTurn P mid new → TurnsOf P old new
 reads_more P old mid new result it turn = turns_more P old mid new (reads_one P old mid result it) turn
+
+-- ---- calls that only ask
+
+pub reads_asks : (old new : Directory) (result : Result (List Record) Fault) → Reads old new result → OnlyAsks old new
+reads_asks old new (Ok rs) it = asks_twice old new rs (Says Done) it.0 it.1
+reads_asks old new (Err f) it = it.1
+
+pub asks_none : (old new : Directory) → Keeps old new → OnlyAsks old new
+asks_none old new k = record { made = []; recorded = k.0 ∙ sym (append-nil (calls_of old)); asks = tt; job = k.1 }
+
+pub asks_folder : (old mid new : Directory) (folder : Folder) (answer : Answer) → calls_of mid ≡ calls_of old ++ (SyncFolder folder, answer) ∷ [] → mid.job ≡ old.job → Keeps mid new → OnlyAsks old new
+asks_folder old mid new folder answer noted job k = record { made = (SyncFolder folder, answer) ∷ []; recorded = k.0 ∙ noted; asks = (tt, tt); job = k.1 ∙ job }
+
+all_both : (P : Call × Answer → Type 0) (xs ys : List (Call × Answer)) → AllByRecursion P xs → AllByRecursion P ys → AllByRecursion P (xs ++ ys)
+all_both P [] ys h k = k
+all_both P (x ∷ xs) ys h k = (h.0, all_both P xs ys h.1 k)
+
+pub asks_both : (old mid new : Directory) → OnlyAsks old mid → OnlyAsks mid new → OnlyAsks old new
+asks_both old mid new a b = record {
+  made = a.made ++ b.made;
+  recorded = b.recorded ∙ ap (λ (xs : List (Call × Answer)). xs ++ b.made) a.recorded ∙ append_assoc (calls_of old) a.made b.made;
+  asks = all_both (λ (m : Call × Answer). IsAsking m.0) a.made b.made a.asks b.asks;
+  job = b.job ∙ a.job;
+}
+
+pub asks_same : (d : Directory) → OnlyAsks d d
+asks_same d = asks_none d d (refl, refl)

@@ -1,11 +1,13 @@
 -- Which calls were made for an order, and how its end is told. Our own.
-use Rattle.std.specs.Prelude.{◌≡◌, ◌≢◌, ◌⊎◌, ℕ, Bool, true, false, List, [], ◌++◌, codes, decimal, Option, Some, None, Result, Ok, Err, IfOk, IsErr, ◌≤◌, ◌<◌, if◌then◌else◌}
+use Rattle.std.specs.Prelude.{◌≡◌, ◌≢◌, ◌⊎◌, ℕ, Bool, true, false, List, [], ◌++◌, codes, decimal, Option, Some, None, Result, Ok, Err, IsErrAnd, ◌<◌, if◌then◌else◌}
 use Rattle.std.specs.String.{string_bytes}
 use Rattle.mr_ids.specs.Attempt.{Attempt}
 use Rattle.mr_ids.specs.Text.{attempt_text, IsAttempt}
+use Rattle.mr_out_layout.specs.Faults.{IsFailure, IsRefusal}
 use Rattle.mr_out_layout.specs.Layout.{work_path}
 use Rattle.mr_out_layout.specs.declared.fault.Fault.{Fault}
 use Rattle.mr_out_layout.specs.declared.fault.Fault.TheVariants as fault
+use Rattle.mr_out_layout.specs.declared.fault.Why.TheVariants.{NoAttempt}
 use Rattle.mr_out_layout.specs.declared.job.Job.{Job}
 use Rattle.mr_out_steps.specs.declared.order.Order.{Order}
 use Rattle.mr_out_steps.specs.declared.order.Order.TheVariants as order
@@ -17,6 +19,7 @@ use Rattle.mr_out_files.specs.declared.directory.Directory.{Directory}
 use Rattle.mr_out_files.specs.Made.{calls_of, Keeps}
 use Rattle.mr_out_program.specs.declared.answering.Answered.{Answered}
 use Rattle.mr_out_program.specs.declared.saying.Saying.{Saying}
+use Rattle.mr_out_program.specs.Faults.{IsFaultOf}
 use Rattle.mr_out_program.specs.Sayings.{text_of, message_of, status_of, attempt_saying, order_saying}
 
 -- the command with this order, before its first call
@@ -42,13 +45,13 @@ is_fault outcome.NotKnown = true
 is_fault outcome.NoMemory = true
 is_fault _ = false
 
--- it is handed on as it is, or as a fault
-abbrev pub Settles : Outcome → Result Outcome Fault → Type 0
-Settles end (Ok told) = (told ≡ end) × (is_fault end ≡ false)
-Settles end (Err f) = is_fault end ≡ true
+-- it is handed on as it is, or as its fault
+abbrev pub Settles : Order → Directory → Directory → Outcome → Result Outcome Fault → Type 0
+Settles order old new end (Ok told) = (told ≡ end) × (is_fault end ≡ false)
+Settles order old new end (Err f) = (is_fault end ≡ true) × IsFaultOf order old new end f
 
 abbrev pub CarriesAndSettles : Order → Directory → Directory → Result Outcome Fault → Type 0
-CarriesAndSettles order old new result = (end : Outcome) × CarriesOut order old new end × Settles end result
+CarriesAndSettles order old new result = (end : Outcome) × CarriesOut order old new end × Settles order old new end result
 
 -- what is printed, and the exit status, are those of a saying
 pub record Says (saying : Saying) (a : Answered) : Type 0 where
@@ -56,25 +59,33 @@ pub record Says (saying : Saying) (a : Answered) : Type 0 where
   pub says : string_bytes a.message ≡ message_of saying
   pub ends : a.status ≡ status_of saying
 
--- a saying is told, if there is one; otherwise a fault, as where there is no memory
-abbrev pub SaysIfAny : Option Saying → Result Answered Fault → Type 0
-SaysIfAny None (Ok a) = ⊥
-SaysIfAny None (Err f) = Unit {0}
-SaysIfAny (Some saying) (Ok a) = Says saying a
-SaysIfAny (Some saying) (Err f) = f ≡ fault.NoMemory
+-- no fault
+abbrev pub Never : Fault → Type 0
+Never f = ⊥
 
--- It is told by these words, if there are any for such an end. Otherwise by a fault, as where there is no memory to tell it.
-abbrev pub Tells : (Outcome → Option Saying) → Outcome → Result Answered Fault → Type 0
-Tells says end (Ok a) = (is_fault end ≡ false) × ((saying : Saying) × (says end ≡ Some saying) × Says saying a)
-Tells says end (Err f) = (is_fault end ≡ true) ⊎ ((says end ≡ None) ⊎ (f ≡ fault.NoMemory))
+-- a saying is told, if there is one; otherwise such a fault. Or there is no memory to tell it
+abbrev pub SaysIfAny : (Fault → Type 0) → Option Saying → Result Answered Fault → Type 0
+SaysIfAny refuses None (Ok a) = ⊥
+SaysIfAny refuses None (Err f) = refuses f
+SaysIfAny refuses (Some saying) (Ok a) = Says saying a
+SaysIfAny refuses (Some saying) (Err f) = f ≡ fault.NoMemory
+
+-- It is told by these words, if there are any for such an end; by its own fault; or by the fault that refuses what has no words. Or there is no memory to tell it.
+abbrev pub Tells : (Outcome → Option Saying) → (Outcome → Fault → Type 0) → (Fault → Type 0) → Outcome → Result Answered Fault → Type 0
+Tells says faults refuses end (Ok a) = (is_fault end ≡ false) × ((saying : Saying) × (says end ≡ Some saying) × Says saying a)
+Tells says faults refuses end (Err f) = ((is_fault end ≡ true) × faults end f) ⊎ (((says end ≡ None) × refuses f) ⊎ (f ≡ fault.NoMemory))
 
 -- the order was carried out, and its end told so
-abbrev pub CarriesAndTells : Order → (Outcome → Option Saying) → Directory → Directory → Result Answered Fault → Type 0
-CarriesAndTells order says old new result = (end : Outcome) × CarriesOut order old new end × Tells says end result
+abbrev pub CarriesAndTells : Order → (Outcome → Option Saying) → (Fault → Type 0) → Directory → Directory → Result Answered Fault → Type 0
+CarriesAndTells order says refuses old new result = (end : Outcome) × CarriesOut order old new end × Tells says (IsFaultOf order old new) refuses end result
 
--- The order to forget was carried out; where nothing failed behind it, its end is told.
+-- the end of the order to forget is told; or by its fault, or that of a call on what is removed then
+abbrev pub TellsForgotten : (Outcome → Fault → Type 0) → Outcome → Result Answered Fault → Type 0
+TellsForgotten faults end (Ok a) = (is_fault end ≡ false) × Says (order_saying end) a
+TellsForgotten faults end (Err f) = ((is_fault end ≡ true) × faults end f) ⊎ IsFailure (codes "remove") (codes "_mrout.forgotten") f
+
 abbrev pub Forgets : Directory → Directory → Result Answered Fault → Type 0
-Forgets old new result = (end : Outcome) × CarriesOut order.Forget old new end × IfOk result (λ a. (is_fault end ≡ false) × Says (order_saying end) a)
+Forgets old new result = (end : Outcome) × CarriesOut order.Forget old new end × TellsForgotten (IsFaultOf order.Forget old new) end result
 
 -- ---- an attempt that is named by its text
 
@@ -82,11 +93,11 @@ Forgets old new result = (end : Outcome) × CarriesOut order.Forget old new end 
 abbrev pub IsNoAttempt : List ℕ → Job → Type 0
 IsNoAttempt text job = (a : Attempt) → IsAttempt a → text ≡ attempt_text a → a.task.job ≢ job.id
 
--- The order of the attempt with this text was carried out, and its end told. Where the job has no such attempt, that is refused, and no call is made.
+-- The order of the attempt with this text was carried out, and its end told. Where the job has no such attempt, the text is refused, and no call is made.
 abbrev pub CarriesAndTellsOf : (Attempt → Order) → (Outcome → Option Saying) → List ℕ → Directory → Directory → Result Answered Fault → Type 0
 CarriesAndTellsOf order says text old new result =
-    ((a : Attempt) × (text ≡ attempt_text a) × (a.task.job ≡ old.job.id) × CarriesAndTells (order a) says old new result)
-    ⊎ (IsErr result × IsNoAttempt text old.job × Keeps old new)
+    ((a : Attempt) × (text ≡ attempt_text a) × (a.task.job ≡ old.job.id) × CarriesAndTells (order a) says (IsRefusal text NoAttempt) old new result)
+    ⊎ (IsErrAnd result (IsRefusal text NoAttempt) × IsNoAttempt text old.job × Keeps old new)
 
 -- ---- an attempt that is begun
 
@@ -102,6 +113,7 @@ started_line job a here = decimal a.task.number ++ (codes " " ++ (attempt_text a
 pub record IsStarted (job : Job) (a : Attempt) (answered : Answered) : Type 0 where
   pub here : List ℕ
   pub prints : string_bytes answered.output ≡ started_line job a here
+  pub says : string_bytes answered.message ≡ []
   pub ends : answered.status ≡ 0
 
 -- the line of the attempt that was begun, or why none was
@@ -109,15 +121,15 @@ abbrev pub TellsStart : Job → Outcome → Answered → Type 0
 TellsStart job (outcome.Started a) answered = IsStarted job a answered
 TellsStart job end answered = (is_fault end ≡ false) × Says (attempt_saying end) answered
 
+-- or its fault; or where the process stands is not known, and so no path can be told
+abbrev pub StartsOrFails : Job → (Outcome → Fault → Type 0) → Outcome → Result Answered Fault → Type 0
+StartsOrFails job faults end (Ok answered) = TellsStart job end answered
+StartsOrFails job faults end (Err f) = ((is_fault end ≡ true) × faults end f) ⊎ IsFailure (codes "look") (codes ".") f
+
 abbrev pub Begins : Order → Directory → Directory → Result Answered Fault → Type 0
-Begins order old new result = (end : Outcome) × CarriesOut order old new end × IfOk result (TellsStart old.job end)
+Begins order old new result = (end : Outcome) × CarriesOut order old new end × StartsOrFails old.job (IsFaultOf order old new) end result
 
 -- the job has the task of this number, if one is named
 abbrev pub HasTask : Option ℕ → Job → Type 0
 HasTask None job = Unit {0}
 HasTask (Some n) job = n < job.tasks
-
--- the job has no task of this number
-abbrev pub IsNoTask : Option ℕ → Job → Type 0
-IsNoTask None job = ⊥
-IsNoTask (Some n) job = job.tasks ≤ n

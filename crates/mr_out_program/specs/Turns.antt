@@ -1,8 +1,9 @@
 -- Commands that are carried out one after another. Our own.
 use Rattle.std.specs.Prelude.{◌≡◌, ◌⊎◌, ℕ, zero, suc, List, [], ◌∷◌, ◌++◌, Result, Ok, Err}
+use Rattle.std.specs.List.{AllByRecursion}
 use Rattle.mr_history.specs.declared.record.Record.{Record}
 use Rattle.mr_out_disk.specs.declared.call.Call.{Call}
-use Rattle.mr_out_disk.specs.declared.call.Call.TheVariants.{ReadHistory, SyncHistory}
+use Rattle.mr_out_disk.specs.declared.call.Call.TheVariants.{ReadHistory, SyncHistory, SyncFolder}
 use Rattle.mr_out_disk.specs.declared.answer.Answer.{Answer}
 use Rattle.mr_out_disk.specs.declared.answer.Answer.TheVariants.{Says, Told}
 use Rattle.mr_out_disk.specs.declared.answer.Reply.TheVariants.{Done}
@@ -26,10 +27,25 @@ pub record Stops (order : Order) (old new : Directory) : Type 0 where
 abbrev pub Looks : Directory → Directory → Type 0
 Looks old new = (order : Order) → Stops order old new
 
+-- ---- calls that change nothing that is seen
+
+abbrev pub IsAsking : Call → Type 0
+IsAsking ReadHistory = Unit {0}
+IsAsking SyncHistory = Unit {0}
+IsAsking (SyncFolder folder) = Unit {0}
+IsAsking _ = ⊥
+
+-- only such calls were made
+pub record OnlyAsks (old new : Directory) : Type 0 where
+  pub made : List (Call × Answer)
+  pub recorded : calls_of new ≡ calls_of old ++ made
+  pub asks : AllByRecursion (λ (m : Call × Answer). IsAsking m.0) made
+  pub job : new.job ≡ old.job
+
 -- The records were read, and then synced. Where that failed, these calls are those of a command that was stopped.
 abbrev pub Reads : Directory → Directory → Result (List Record) Fault → Type 0
 Reads old new (Ok rs) = (calls_of new ≡ calls_of old ++ (ReadHistory, Told rs) ∷ (SyncHistory, Says Done) ∷ []) × (new.job ≡ old.job)
-Reads old new (Err f) = Looks old new
+Reads old new (Err f) = Looks old new × OnlyAsks old new
 
 -- the history is synced
 abbrev pub Syncs : List Record → Directory → Directory → Result (List Record) Fault → Type 0
@@ -51,6 +67,6 @@ TurnsOf P old new = (n : ℕ) × Turns P n old new
 abbrev pub IsStart : Order → Type 0
 IsStart o = o ≡ order.StartNext
 
-abbrev pub IsFailure : Order → Type 0
-IsFailure (order.Fail a) = Unit {0}
-IsFailure _ = ⊥
+abbrev pub IsFail : Order → Type 0
+IsFail (order.Fail a) = Unit {0}
+IsFail _ = ⊥

@@ -1,8 +1,10 @@
 //! A command is carried out, and what comes of it is told.
-ghost use Rattle.std.specs.Prelude.{◌≡◌, [], Some, IfOk};
+ghost use Rattle.std.specs.Prelude.{◌≡◌, ◌⊎◌, [], codes, Some, IfOk, IfErr};
 ghost use Rattle.std.specs.String.{string_bytes};
 ghost use Rattle.mr_out_program.specs.Sayings.{fault_status, order_saying, publish_saying};
-ghost use Rattle.mr_out_program.specs.Carried.{CarriesAndTells, Forgets, Says, SaysIfAny};
+ghost use Rattle.mr_out_layout.specs.Faults.{IsFailure};
+ghost use Rattle.mr_out_program.specs.Answers.{IsRefused, IsOpened, InOpened, IsToldOf, IsAnswerOf};
+ghost use Rattle.mr_out_program.specs.Carried.{CarriesAndTells, Forgets, Never, Says, SaysIfAny};
 
 use crate::attempts::{attempt, attempt_all, done, fail_all, fail_one, fail_task};
 use crate::beginning::begin;
@@ -45,6 +47,7 @@ impl Answered {
     /// A status with what standard output is given.
     pub(crate) fn told(rt: &HostRuntime, output: String, status: u8) -> Answered
         ensures prints { result.output ≡ output }
+        ensures says { string_bytes result.message ≡ [] }
         ensures ends { result.status ≡ status }
     {
         Answered {
@@ -56,7 +59,7 @@ impl Answered {
 
     /// What a command says of how it ended.
     pub(crate) fn said(rt: &HostRuntime, saying: Saying) -> Result<Answered, Fault>
-        ensures { SaysIfAny (Some saying) result }
+        ensures { SaysIfAny Never (Some saying) result }
     {
         let Ok(output) = String::from_str(rt.alloc(), saying.text()) else {
             return Err(Fault::NoMemory);
@@ -74,7 +77,9 @@ impl Answered {
 
 /// Carries out what is asked for. Statuses: 0 done; 1 as each command says; 3 refused; 4 a call failed; 5 no memory;
 /// 6 the job was ended as failed; 7 full; 75 try later.
-pub fn answer(rt: &HostRuntime, asked: &Asked<'_>) -> Answered {
+pub fn answer(rt: &HostRuntime, asked: &Asked<'_>) -> Answered
+    ensures { IsAnswerOf asked.now.command result }
+{
     match carried(rt, asked) {
         Ok(answered) => answered,
         Err(fault) => refused(rt, &fault.placed(rt)),
@@ -82,7 +87,9 @@ pub fn answer(rt: &HostRuntime, asked: &Asked<'_>) -> Answered {
 }
 
 // A fault as a line of standard error, with its status. Its path is absolute.
-fn refused(rt: &HostRuntime, fault: &Fault) -> Answered {
+fn refused(rt: &HostRuntime, fault: &Fault) -> Answered
+    ensures { IsRefused result }
+{
     let status = fault_status(fault);
     match format!(in rt.alloc(); "mrout: {fault}\n") {
         Ok(message) => Answered {
@@ -90,7 +97,7 @@ fn refused(rt: &HostRuntime, fault: &Fault) -> Answered {
             message,
             status,
         },
-        Err(_) => Answered::plain(rt, 5),
+        Err(_) => Answered::plain(rt, fault_status(&Fault::NoMemory)),
     }
 }
 
@@ -110,7 +117,10 @@ fn fault_status(fault: &Fault) -> u8
     }
 }
 
-fn carried(rt: &HostRuntime, asked: &Asked<'_>) -> Result<Answered, Fault> {
+#[tactic(auto, using(crate::proofs::Outputs::begin_told, crate::proofs::Outputs::attempt_told, crate::proofs::Outputs::attempt_all_told, crate::proofs::Outputs::done_told, crate::proofs::Outputs::fail_told, crate::proofs::Outputs::publish_told, crate::proofs::Outputs::abort_told, crate::proofs::Outputs::resume_told, crate::proofs::Outputs::forget_told, crate::proofs::Outputs::status_told))]
+fn carried(rt: &HostRuntime, asked: &Asked<'_>) -> Result<Answered, Fault>
+    ensures { IfOk result (IsToldOf asked.now.command) }
+{
     match asked.command {
         Command::Begin {
             tasks,
@@ -122,9 +132,7 @@ fn carried(rt: &HostRuntime, asked: &Asked<'_>) -> Result<Answered, Fault> {
         Command::Attempt { task, over } => attempt(rt, &mut open(rt, asked)?, task, over),
         Command::AttemptAll => attempt_all(rt, &mut open(rt, asked)?),
         Command::Done { attempt } => done(rt, &mut open_done(rt, asked, attempt)?, attempt),
-        Command::Fail(Failing::One(attempt)) => fail_one(rt, &mut open(rt, asked)?, attempt),
-        Command::Fail(Failing::Task(task)) => fail_task(rt, &mut open(rt, asked)?, task),
-        Command::Fail(Failing::All) => fail_all(rt, &mut open(rt, asked)?),
+        Command::Fail(failing) => fail(rt, asked, failing),
         Command::Publish => publish(rt, &mut open(rt, asked)?),
         Command::Abort => abort(rt, &mut open(rt, asked)?),
         Command::Resume { here } => resume(rt, asked, here),
@@ -133,13 +141,28 @@ fn carried(rt: &HostRuntime, asked: &Asked<'_>) -> Result<Answered, Fault> {
     }
 }
 
+#[tactic(auto, using(crate::proofs::Outputs::fail_one_told, crate::proofs::Outputs::fail_task_told, crate::proofs::Outputs::fail_all_told))]
+fn fail(rt: &HostRuntime, asked: &Asked<'_>, failing: Failing<'_>) -> Result<Answered, Fault>
+    ensures { IfOk result (IsToldOf (Command.Fail failing.entry)) }
+{
+    match failing {
+        Failing::One(attempt) => fail_one(rt, &mut open(rt, asked)?, attempt),
+        Failing::Task(task) => fail_task(rt, &mut open(rt, asked)?, task),
+        Failing::All => fail_all(rt, &mut open(rt, asked)?),
+    }
+}
+
 // The directory, with its lock for one who writes. It is of this host.
-fn open(rt: &HostRuntime, asked: &Asked<'_>) -> Result<Directory, Fault> {
+fn open(rt: &HostRuntime, asked: &Asked<'_>) -> Result<Directory, Fault>
+    ensures { IfOk result IsOpened }
+{
     open_here(rt, asked, None)
 }
 
 // The same, for the attempt with this text, which hands in.
-fn open_done(rt: &HostRuntime, asked: &Asked<'_>, text: &str) -> Result<Directory, Fault> {
+fn open_done(rt: &HostRuntime, asked: &Asked<'_>, text: &str) -> Result<Directory, Fault>
+    ensures { IfOk result IsOpened }
+{
     match AttemptId::parse(text) {
         Ok(a) => open_here(rt, asked, Some(a)),
         Err(_) => open_here(rt, asked, None),
@@ -150,7 +173,9 @@ fn open_here(
     rt: &HostRuntime,
     asked: &Asked<'_>,
     handing: Option<AttemptId>,
-) -> Result<Directory, Fault> {
+) -> Result<Directory, Fault>
+    ensures { IfOk result IsOpened }
+{
     let host = host_of(rt)?;
     let directory = open_any(rt, asked, false, handing)?;
     if directory.job.host != host {
@@ -160,7 +185,9 @@ fn open_here(
 }
 
 // The directory, with its lock for one who reads.
-fn open_shared(rt: &HostRuntime, asked: &Asked<'_>) -> Result<Directory, Fault> {
+fn open_shared(rt: &HostRuntime, asked: &Asked<'_>) -> Result<Directory, Fault>
+    ensures { IfOk result IsOpened }
+{
     open_any(rt, asked, true, None)
 }
 
@@ -169,7 +196,9 @@ fn open_any(
     asked: &Asked<'_>,
     is_shared: bool,
     handing: Option<AttemptId>,
-) -> Result<Directory, Fault> {
+) -> Result<Directory, Fault>
+    ensures { IfOk result IsOpened }
+{
     let lock = Lock {
         is_shared,
         wait: asked.wait.map(|seconds| seconds.saturating_mul(1000)),
@@ -180,7 +209,7 @@ fn open_any(
 /// A held job is published, if each task is won.
 #[tactic(auto, using(crate::proofs::Telling::tells_ok, crate::proofs::Telling::tells_err))]
 pub fn publish(rt: &HostRuntime, directory: &mut Directory) -> Result<Answered, Fault>
-    ensures { CarriesAndTells Order.Publish (λ end. Some (publish_saying end)) directory.old directory.new result }
+    ensures { CarriesAndTells Order.Publish (λ end. Some (publish_saying end)) Never directory.old directory.new result }
 {
     match settle(rt, directory, Order::Publish) {
         Ok(end) => Answered::said(rt, publish_saying(end)),
@@ -191,7 +220,7 @@ pub fn publish(rt: &HostRuntime, directory: &mut Directory) -> Result<Answered, 
 /// The job is ended as failed.
 #[tactic(auto, using(crate::proofs::Telling::tells_ok, crate::proofs::Telling::tells_err))]
 pub fn abort(rt: &HostRuntime, directory: &mut Directory) -> Result<Answered, Fault>
-    ensures { CarriesAndTells Order.Abort (λ end. Some (order_saying end)) directory.old directory.new result }
+    ensures { CarriesAndTells Order.Abort (λ end. Some (order_saying end)) Never directory.old directory.new result }
 {
     match settle(rt, directory, Order::Abort) {
         Ok(end) => Answered::said(rt, order_saying(end)),
@@ -202,7 +231,7 @@ pub fn abort(rt: &HostRuntime, directory: &mut Directory) -> Result<Answered, Fa
 /// What a killed command left is finished.
 #[tactic(auto, using(crate::proofs::Telling::tells_ok, crate::proofs::Telling::tells_err))]
 pub fn recover(rt: &HostRuntime, directory: &mut Directory) -> Result<Answered, Fault>
-    ensures { CarriesAndTells Order.Resume (λ end. Some Saying.Done) directory.old directory.new result }
+    ensures { CarriesAndTells Order.Resume (λ end. Some Saying.Done) Never directory.old directory.new result }
 {
     match settle(rt, directory, Order::Resume) {
         Ok(_) => Answered::said(rt, Saying::Done),
@@ -210,7 +239,9 @@ pub fn recover(rt: &HostRuntime, directory: &mut Directory) -> Result<Answered, 
     }
 }
 
-fn resume(rt: &HostRuntime, asked: &Asked<'_>, here: bool) -> Result<Answered, Fault> {
+fn resume(rt: &HostRuntime, asked: &Asked<'_>, here: bool) -> Result<Answered, Fault>
+    ensures { IfOk result (InOpened (CarriesAndTells Order.Resume (λ end. Some Saying.Done) Never)) }
+{
     if here {
         let mut directory = open_any(rt, asked, false, None)?;
         directory.move_here(rt)?;
@@ -220,7 +251,10 @@ fn resume(rt: &HostRuntime, asked: &Asked<'_>, here: bool) -> Result<Answered, F
     finish(rt, asked.dir, asked.wait)
 }
 
-fn finish(rt: &HostRuntime, dir: &str, wait: Option<u64>) -> Result<Answered, Fault> {
+#[tactic(auto, using(crate::proofs::Outputs::in_opened))]
+fn finish(rt: &HostRuntime, dir: &str, wait: Option<u64>) -> Result<Answered, Fault>
+    ensures { IfOk result (InOpened (CarriesAndTells Order.Resume (λ end. Some Saying.Done) Never)) }
+{
     let asked = Asked {
         dir,
         wait,
@@ -231,7 +265,10 @@ fn finish(rt: &HostRuntime, dir: &str, wait: Option<u64>) -> Result<Answered, Fa
 
 // Removes the history of a published directory. What a killed one left is removed too, once it is durable that it has its
 // other name: else a power cut could bring back a part of it.
-fn forget(rt: &HostRuntime, asked: &Asked<'_>) -> Result<Answered, Fault> {
+#[tactic(auto, using(crate::proofs::Outputs::forgets_told, crate::proofs::Outputs::gone_told))]
+fn forget(rt: &HostRuntime, asked: &Asked<'_>) -> Result<Answered, Fault>
+    ensures { IfOk result (λ a. InOpened Forgets a ⊎ Says Saying.Done a) }
+{
     match open(rt, asked) {
         Ok(mut directory) => forget_published(rt, &mut directory),
         Err(
@@ -258,9 +295,10 @@ pub fn forget_published(rt: &HostRuntime, directory: &mut Directory) -> Result<A
     }
 }
 
-#[tactic(auto, using(crate::proofs::Telling::said_ok))]
+#[tactic(auto, using(crate::proofs::Telling::said_ok, crate::proofs::Telling::said_err))]
 fn forgotten(rt: &HostRuntime, saying: Saying) -> Result<Answered, Fault>
-    ensures { IfOk result (Says saying) }
+    ensures says { IfOk result (Says saying) }
+    ensures failed { IfErr result (IsFailure (codes "remove") (codes "_mrout.forgotten")) }
 {
     match saying {
         Saying::Done => remove_gone(rt),
@@ -268,9 +306,10 @@ fn forgotten(rt: &HostRuntime, saying: Saying) -> Result<Answered, Fault>
     }
 }
 
-#[tactic(auto, using(crate::proofs::Telling::said_ok))]
+#[tactic(auto, using(crate::proofs::Telling::said_ok, crate::proofs::Telling::said_err))]
 fn remove_gone(rt: &HostRuntime) -> Result<Answered, Fault>
-    ensures { IfOk result (Says Saying.Done) }
+    ensures says { IfOk result (Says Saying.Done) }
+    ensures failed { IfErr result (IsFailure (codes "remove") (codes "_mrout.forgotten")) }
 {
     match remove_folder(rt, GONE) {
         Ok(()) => Answered::said(rt, Saying::Done),

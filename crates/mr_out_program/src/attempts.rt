@@ -1,11 +1,15 @@
 //! Commands about attempts: begun, done, failed.
-ghost use Rattle.std.specs.Prelude.{◌≡◌, ◌≤◌, ◌<◌, ◌⊎◌, ◌++◌, ℕ, List, codes, decimal, false, Some, IfOk, IsErr};
+ghost use Rattle.std.specs.Prelude.{◌≡◌, ◌≤◌, ◌<◌, ◌⊎◌, ◌++◌, ℕ, List, codes, decimal, false, Some, IfOk, IfErr, IsErr, IsErrAnd};
 ghost use Rattle.std.specs.String.{string_bytes};
 ghost use Rattle.mr_ids.specs.Text.{attempt_text};
+ghost use Rattle.mr_out_layout.specs.Faults.{IsFailure, IsRefusal};
 ghost use Rattle.mr_out_files.specs.Made.{Keeps};
+ghost use Rattle.mr_out_program.specs.Starting.{IsLineOfEnd, TellsStarts};
+ghost use Rattle.mr_out_program.specs.inner.Begun.{StartsOrTurns, StartsNextOrTurns};
+ghost use Rattle.mr_out_program.specs.Faults.{IsNoTask};
 ghost use Rattle.mr_out_program.specs.Sayings.{done_saying, fail_saying};
-ghost use Rattle.mr_out_program.specs.Turns.{TurnsOf, IsTurn, IsStart, IsFailure};
-ghost use Rattle.mr_out_program.specs.Carried.{start_of, started_line, Begins, CarriesAndTellsOf, IsNoAttempt, HasTask, IsNoTask, CarriesAndTells, SaysIfAny, TellsStart, is_fault};
+ghost use Rattle.mr_out_program.specs.Turns.{TurnsOf, IsTurn, IsFail};
+ghost use Rattle.mr_out_program.specs.Carried.{start_of, started_line, Begins, CarriesAndTellsOf, IsNoAttempt, HasTask, CarriesAndTells, Says, SaysIfAny, TellsStart, is_fault};
 
 use crate::answering::Answered;
 use crate::ending::settle;
@@ -26,7 +30,7 @@ pub fn attempt(
     over: bool,
 ) -> Result<Answered, Fault>
     ensures { (HasTask task directory.old.job × Begins (start_of task over) directory.old directory.new result)
-        ⊎ (IsErr result × IsNoTask task directory.old.job × Keeps directory.old directory.new) }
+        ⊎ (IsErrAnd result (IsNoTask task directory.old.job) × Keeps directory.old directory.new) }
 {
     match task {
         None => begun(rt, directory, Order::StartNext),
@@ -41,7 +45,7 @@ fn attempt_at(
     over: bool,
 ) -> Result<Answered, Fault>
     ensures { (HasTask (Some task) directory.old.job × Begins (start_of (Some task) over) directory.old directory.new result)
-        ⊎ (IsErr result × IsNoTask (Some task) directory.old.job × Keeps directory.old directory.new) }
+        ⊎ (IsErrAnd result (IsNoTask (Some task) directory.old.job) × Keeps directory.old directory.new) }
 {
     check_task(rt, directory, task)?;
     begun(rt, directory, start_at(task, over))
@@ -58,7 +62,7 @@ fn start_at(task: u32, over: bool) -> Order
 }
 
 fn check_task(rt: &HostRuntime, directory: &Directory, task: u32) -> Result<(), Fault>
-    ensures none { IsErr result → directory.now.job.tasks ≤ task }
+    ensures none { IfErr result (IsNoTask (Some task) directory.now.job) }
     ensures some { IfOk result (λ done. task < directory.now.job.tasks) }
 {
     if task < directory.job.tasks {
@@ -78,9 +82,10 @@ fn begun(rt: &HostRuntime, directory: &mut Directory, order: Order) -> Result<An
     }
 }
 
-#[tactic(auto, using(crate::proofs::Telling::tells_other))]
+#[tactic(auto, using(crate::proofs::Telling::tells_other, crate::proofs::Telling::said_err))]
 fn started(rt: &HostRuntime, directory: &Directory, end: Outcome) -> Result<Answered, Fault>
-    ensures { is_fault end ≡ false → IfOk result (TellsStart directory.now.job end) }
+    ensures told { is_fault end ≡ false → IfOk result (TellsStart directory.now.job end) }
+    ensures failed { IfErr result (IsFailure (codes "look") (codes ".")) }
 {
     match end {
         Outcome::Started(a) => {
@@ -93,7 +98,8 @@ fn started(rt: &HostRuntime, directory: &Directory, end: Outcome) -> Result<Answ
 
 // The task, the attempt, and the absolute path of the file that it is to write.
 fn started_line(rt: &HostRuntime, directory: &Directory, a: AttemptId) -> Result<String, Fault>
-    ensures { IfOk result (λ s. (here : List ℕ) × (string_bytes s ≡ started_line directory.now.job a here)) }
+    ensures told { IfOk result (λ s. (here : List ℕ) × (string_bytes s ≡ started_line directory.now.job a here)) }
+    ensures failed { IfErr result (IsFailure (codes "look") (codes ".")) }
 {
     let path = work_path(rt.alloc(), &directory.job, a)?;
     let here = match env::current_dir(rt) {
@@ -111,25 +117,25 @@ fn line_of(alloc: Global, a: AttemptId, here: &str, path: &str) -> Result<String
 }
 
 /// Begins an attempt at each task that waits for one: orders to begin one are carried out one after another.
-#[tactic(auto, using(crate::proofs::Turning::turns_more, crate::proofs::Turning::begun_turn))]
+#[tactic(auto, using(crate::proofs::Starting::tells_lines, crate::proofs::Starting::tells_none))]
 pub fn attempt_all(rt: &HostRuntime, directory: &mut Directory) -> Result<Answered, Fault>
-    ensures { TurnsOf IsStart directory.old directory.new }
+    ensures { TellsStarts directory.old directory.new result }
 {
     let mut lines = String::new(rt.alloc());
     attempt_each(rt, directory, &mut lines)?;
-    if lines.is_empty() {
+    if lines.as_str().is_empty() {
         return begun(rt, directory, Order::StartNext);
     }
     Ok(Answered::told(rt, lines, 0))
 }
 
-#[tactic(auto, using(crate::proofs::Turning::turns_none, crate::proofs::Turning::turns_more))]
+#[tactic(auto, using(crate::proofs::Starting::starts_none, crate::proofs::Starting::starts_more, crate::proofs::Starting::stops_more))]
 fn attempt_each(
     rt: &HostRuntime,
     directory: &mut Directory,
     lines: &mut String,
 ) -> Result<(), Fault>
-    ensures { TurnsOf IsStart directory.old directory.new }
+    ensures { StartsOrTurns directory.old directory.new (string_bytes lines.old) (string_bytes lines.new) result }
 {
     for _ in 0..directory.job.tasks {
         if !attempt_one(rt, directory, lines)? {
@@ -140,13 +146,13 @@ fn attempt_each(
 }
 
 // Begins an attempt, and puts its line. Whether one was begun.
-#[tactic(auto, using(crate::proofs::Turning::start_turn))]
+#[tactic(auto, using(crate::proofs::Starting::one_started, crate::proofs::Starting::none_started))]
 fn attempt_one(
     rt: &HostRuntime,
     directory: &mut Directory,
     lines: &mut String,
 ) -> Result<bool, Fault>
-    ensures { IsTurn IsStart directory.old directory.new }
+    ensures { StartsNextOrTurns directory.old directory.new (string_bytes lines.old) (string_bytes lines.new) result }
 {
     match settle(rt, directory, Order::StartNext) {
         Ok(end) => put_started(rt, directory, lines, end),
@@ -154,12 +160,15 @@ fn attempt_one(
     }
 }
 
+#[tactic(auto, using(crate::proofs::Starting::line_none))]
 fn put_started(
     rt: &HostRuntime,
     directory: &Directory,
     lines: &mut String,
     end: Outcome,
-) -> Result<bool, Fault> {
+) -> Result<bool, Fault>
+    ensures { IfOk result (λ more. (line : List ℕ) × IsLineOfEnd directory.now.job end line × (string_bytes lines.new ≡ string_bytes lines.old ++ line)) }
+{
     match end {
         Outcome::Started(a) => {
             lines.push_str(started_line(rt, directory, a)?.as_str())?;
@@ -173,6 +182,7 @@ fn put_started(
 fn attempt_of(rt: &HostRuntime, directory: &Directory, text: &str) -> Result<AttemptId, Fault>
     ensures named { IfOk result (λ a. (text.now ≡ attempt_text a) × (a.task.job ≡ directory.now.job.id)) }
     ensures none { IsErr result → IsNoAttempt text.now directory.now.job }
+    ensures refused { IfErr result (IsRefusal text.now Why.NoAttempt) }
 {
     match AttemptId::parse(text) {
         Ok(a) if a.task().job == directory.job.id => Ok(a),
@@ -195,7 +205,7 @@ fn done_by(
     a: AttemptId,
     text: &str,
 ) -> Result<Answered, Fault>
-    ensures { CarriesAndTells (Order.Done a) done_saying directory.old directory.new result }
+    ensures { CarriesAndTells (Order.Done a) done_saying (IsRefusal text.now Why.NoAttempt) directory.old directory.new result }
 {
     match settle(rt, directory, Order::Done(a)) {
         Ok(end) => said_or_refused(rt, done_saying(end), text),
@@ -218,7 +228,7 @@ fn fail_by(
     a: AttemptId,
     text: &str,
 ) -> Result<Answered, Fault>
-    ensures { CarriesAndTells (Order.Fail a) fail_saying directory.old directory.new result }
+    ensures { CarriesAndTells (Order.Fail a) fail_saying (IsRefusal text.now Why.NoAttempt) directory.old directory.new result }
 {
     match settle(rt, directory, Order::Fail(a)) {
         Ok(end) => said_or_refused(rt, fail_saying(end), text),
@@ -228,7 +238,7 @@ fn fail_by(
 
 // What is said of an attempt; one without a saying is none of this job.
 fn said_or_refused(rt: &HostRuntime, saying: Option<Saying>, text: &str) -> Result<Answered, Fault>
-    ensures { SaysIfAny saying result }
+    ensures { SaysIfAny (IsRefusal text.now Why.NoAttempt) saying result }
 {
     match saying {
         Some(saying) => Answered::said(rt, saying),
@@ -236,10 +246,13 @@ fn said_or_refused(rt: &HostRuntime, saying: Option<Saying>, text: &str) -> Resu
     }
 }
 
-/// What is under way at a task is given up: orders to give one up are carried out one after another.
+/// What is under way at a task is given up: orders to give one up are carried out one after another. A task that the job
+/// does not have is refused, and no call is made.
 #[tactic(auto, using(crate::proofs::Turning::turns_none))]
 pub fn fail_task(rt: &HostRuntime, directory: &mut Directory, task: u32) -> Result<Answered, Fault>
-    ensures { TurnsOf IsFailure directory.old directory.new }
+    ensures turns { TurnsOf IsFail directory.old directory.new }
+    ensures says { IfOk result (Says Saying.Done) }
+    ensures none { directory.old.job.tasks ≤ task → IsErrAnd result (IsNoTask (Some task) directory.old.job) × Keeps directory.old directory.new }
 {
     check_task(rt, directory, task)?;
     give_up(rt, directory, task)?;
@@ -249,7 +262,8 @@ pub fn fail_task(rt: &HostRuntime, directory: &mut Directory, task: u32) -> Resu
 /// All that is under way is given up: orders to give one up are carried out one after another.
 #[tactic(auto, using(crate::proofs::Turning::turns_none, crate::proofs::Turning::turns_both))]
 pub fn fail_all(rt: &HostRuntime, directory: &mut Directory) -> Result<Answered, Fault>
-    ensures { TurnsOf IsFailure directory.old directory.new }
+    ensures turns { TurnsOf IsFail directory.old directory.new }
+    ensures says { IfOk result (Says Saying.Done) }
 {
     for task in 0..directory.job.tasks {
         give_up(rt, directory, task)?;
@@ -259,7 +273,7 @@ pub fn fail_all(rt: &HostRuntime, directory: &mut Directory) -> Result<Answered,
 
 #[tactic(auto, using(crate::proofs::Turning::turns_none, crate::proofs::Turning::turns_both))]
 fn give_up(rt: &HostRuntime, directory: &mut Directory, task: u32) -> Result<(), Fault>
-    ensures { TurnsOf IsFailure directory.old directory.new }
+    ensures { TurnsOf IsFail directory.old directory.new }
 {
     for _ in 0..2 {
         if !give_up_one(rt, directory, task)? {
@@ -272,7 +286,7 @@ fn give_up(rt: &HostRuntime, directory: &mut Directory, task: u32) -> Result<(),
 // Gives up the first attempt under way at a task. Whether there is one.
 #[tactic(auto, using(crate::proofs::Turning::reads_one, crate::proofs::Turning::reads_more))]
 fn give_up_one(rt: &HostRuntime, directory: &mut Directory, task: u32) -> Result<bool, Fault>
-    ensures { TurnsOf IsFailure directory.old directory.new }
+    ensures { TurnsOf IsFail directory.old directory.new }
 {
     let records = read_records(rt, directory)?;
     match first_alive_of(directory, &records, task) {
@@ -283,7 +297,7 @@ fn give_up_one(rt: &HostRuntime, directory: &mut Directory, task: u32) -> Result
 
 #[tactic(auto, using(crate::proofs::Turning::fail_turn))]
 fn fail_now(rt: &HostRuntime, directory: &mut Directory, a: AttemptId) -> Result<bool, Fault>
-    ensures { IsTurn IsFailure directory.old directory.new }
+    ensures { IsTurn IsFail directory.old directory.new }
 {
     match settle(rt, directory, Order::Fail(a)) {
         Ok(_) => Ok(true),

@@ -1,10 +1,13 @@
 //! The command `begin`.
-ghost use Rattle.std.specs.Prelude.{IsTrue};
+ghost use Rattle.std.specs.Prelude.{◌≡◌, ◌<◌, ◌⊎◌, codes, false, IfOk, IfErr, IsErrAnd, IsTrue};
 ghost use Rattle.std.specs.String.{string_bytes};
-ghost use Rattle.mr_out_layout.specs.Faults.{IsRefusal};
-ghost use Rattle.mr_out_program.specs.Asking.{IsAlike};
+ghost use Rattle.mr_out_layout.specs.Faults.{IsFailure, IsRefusal};
+ghost use Rattle.mr_out_layout.specs.Layout.{is_suffix};
+ghost use Rattle.mr_out_program.specs.Asking.{IsAlike, RefusesThere};
+ghost use Rattle.mr_out_program.specs.Carried.{Says};
 
 use crate::answering::Answered;
+use crate::saying::Saying;
 use mr_ids::JobId;
 use mr_out_files::{Directory, Lock, begin as make, name_of};
 use mr_out_layout::{Fault, Job, Why, absolute, host_of, is_suffix, sync_folder};
@@ -19,7 +22,10 @@ pub fn begin(
     asked: &Asked<'_>,
     words: (u32, Option<u32>, &str, bool),
     again: bool,
-) -> Result<Answered, Fault> {
+) -> Result<Answered, Fault>
+    ensures done { IfOk result (Says Saying.Done) }
+    ensures suffix { is_suffix words.entry.2.now ≡ false → IsErrAnd result (IsRefusal words.entry.2.now Why.BadSuffix) }
+{
     let (tasks, limit, suffix, hold) = words;
     if !is_suffix(suffix) {
         return Err(Fault::refused(rt.alloc(), suffix, Why::BadSuffix));
@@ -45,7 +51,10 @@ pub fn begin(
 }
 
 // The milliseconds since 1970, and a random number below 10,000.
-fn new_id(rt: &HostRuntime) -> Result<JobId, Fault> {
+fn new_id(rt: &HostRuntime) -> Result<JobId, Fault>
+    ensures small { IfOk result (λ id. id.number < 10000) }
+    ensures failed { IfErr result (λ fault. IsFailure (codes "read the clock") (codes ".") fault ⊎ IsFailure (codes "draw a number") (codes ".") fault) }
+{
     let now = match rt.since_1970() {
         Ok(now) => now,
         Err(error) => return Err(Fault::of_call(rt.alloc(), "read the clock", ".", error)),
@@ -71,7 +80,9 @@ fn there(
     job: &Job,
     path: String,
     again: bool,
-) -> Result<Answered, Fault> {
+) -> Result<Answered, Fault>
+    ensures { IfOk result (Says Saying.Done) }
+{
     let lock = Lock {
         is_shared: true,
         wait: asked.wait,
@@ -92,7 +103,10 @@ fn is_there(
     job: &Job,
     path: String,
     again: bool,
-) -> Result<Answered, Fault> {
+) -> Result<Answered, Fault>
+    ensures done { IfOk result (λ answered. IsAlike found.now.job job.now × Says Saying.Done answered) }
+    ensures other { IfErr result (RefusesThere (string_bytes path) again) }
+{
     if !again {
         return Err(Fault::Refused {
             path,

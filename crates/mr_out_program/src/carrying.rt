@@ -1,5 +1,6 @@
 //! A command is carried out on a real disk, call by call.
 ghost use Rattle.mr_out_program.specs.Carried.{CarriesOut};
+ghost use Rattle.mr_out_program.specs.Faults.{TellsTrouble};
 ghost use Rattle.mr_out_program.specs.inner.Advance.{Advances};
 
 use mr_out_files::Directory;
@@ -7,10 +8,10 @@ use mr_out_machine::Command;
 use mr_out_steps::{Order, Outcome};
 
 /// Makes the calls of a command until it has ended. Just its calls are made, each once the answers before it were taken,
-/// and it ends as the step machine that took these answers.
+/// and it ends as the step machine that took these answers. Where the last one failed, the directory tells its trouble.
 #[tactic(auto, using(crate::proofs::Advancing::one_made, crate::proofs::Advancing::all_made, crate::proofs::Advancing::too_many))]
 pub fn carry_out(rt: &HostRuntime, directory: &mut Directory, order: Order) -> Outcome
-    ensures { CarriesOut order directory.old directory.new result }
+    ensures { CarriesOut order directory.old directory.new result × TellsTrouble directory.old directory.new }
 {
     let (id, tasks) = (directory.job.id, directory.job.tasks);
     let (limit, hold) = (directory.job.limit, directory.job.hold);

@@ -1,6 +1,13 @@
 //! How a command ended: as its order says, or with a fault.
+ghost use Rattle.std.specs.Prelude.{◌≡◌, IfOk, IfErr};
+ghost use Rattle.std.specs.String.{string_bytes};
+ghost use Rattle.mr_out_layout.specs.Faults.{IsRefusal};
+ghost use Rattle.mr_out_layout.specs.Layout.{part_name, kept_path};
 ghost use Rattle.mr_out_files.specs.Made.{Keeps};
-ghost use Rattle.mr_out_program.specs.Carried.{CarriesAndSettles, Settles};
+ghost use Rattle.mr_out_files.specs.Troubles.{trouble_of};
+ghost use Rattle.mr_out_program.specs.Faults.{IsNotKnown, unfit_path};
+ghost use Rattle.mr_out_program.specs.Carried.{CarriesAndSettles};
+ghost use Rattle.mr_out_program.specs.inner.Settled.{IsToldBy, SettlesAs};
 
 use crate::carrying::carry_out;
 use mr_ids::AttemptId;
@@ -27,7 +34,7 @@ fn settled(
     end: Outcome,
 ) -> Result<Outcome, Fault>
     ensures same { Keeps directory.old directory.new }
-    ensures tells { Settles end result }
+    ensures tells { SettlesAs order.now directory.old end result }
 {
     match end {
         Outcome::NoMemory => Err(Fault::NoMemory),
@@ -43,7 +50,8 @@ fn settled(
 }
 
 fn trouble(rt: &HostRuntime, directory: &mut Directory) -> Fault
-    ensures { Keeps directory.old directory.new }
+    ensures same { Keeps directory.old directory.new }
+    ensures told { IsToldBy (trouble_of directory.old) result }
 {
     match directory.trouble() {
         Some(fault) => fault,
@@ -52,9 +60,18 @@ fn trouble(rt: &HostRuntime, directory: &mut Directory) -> Fault
 }
 
 fn not_known(rt: &HostRuntime, directory: &mut Directory) -> Fault
-    ensures { Keeps directory.old directory.new }
+    ensures same { Keeps directory.old directory.new }
+    ensures told { (told : Fault) × IsToldBy (trouble_of directory.old) told × IsNotKnown told result }
 {
-    match trouble(rt, directory) {
+    let told = trouble(rt, directory);
+    unknown(told)
+}
+
+// The same fault; that of a call says that the end of it is not known.
+fn unknown(told: Fault) -> Fault
+    ensures { IsNotKnown told result }
+{
+    match told {
         Fault::Call {
             what: _,
             path,
@@ -68,19 +85,28 @@ fn not_known(rt: &HostRuntime, directory: &mut Directory) -> Fault
     }
 }
 
-fn foreign(rt: &HostRuntime, directory: &Directory, a: AttemptId) -> Result<Fault, Fault> {
+fn foreign(rt: &HostRuntime, directory: &Directory, a: AttemptId) -> Result<Fault, Fault>
+    ensures told { IfOk result (IsRefusal (part_name (string_bytes directory.now.job.suffix) a.task.number) Why.Foreign) }
+    ensures failed { IfErr result (λ fault. fault ≡ Fault.NoMemory) }
+{
     let number = a.task().number;
     let path = part_name(rt.alloc(), &directory.job, number)?;
     Ok(Fault::refused(rt.alloc(), &path, Why::Foreign))
 }
 
-fn vanished(rt: &HostRuntime, a: AttemptId) -> Result<Fault, Fault> {
+fn vanished(rt: &HostRuntime, a: AttemptId) -> Result<Fault, Fault>
+    ensures told { IfOk result (IsRefusal (kept_path a) Why.Vanished) }
+    ensures failed { IfErr result (λ fault. fault ≡ Fault.NoMemory) }
+{
     let path = kept_path(rt.alloc(), a)?;
     Ok(Fault::refused(rt.alloc(), &path, Why::Vanished))
 }
 
 // The file of the attempt that the order is about is refused.
-fn unfit(rt: &HostRuntime, directory: &Directory, order: &Order, why: Why) -> Result<Fault, Fault> {
+fn unfit(rt: &HostRuntime, directory: &Directory, order: &Order, why: Why) -> Result<Fault, Fault>
+    ensures told { IfOk result (IsRefusal (unfit_path directory.now.job order.now) why) }
+    ensures failed { IfErr result (λ fault. fault ≡ Fault.NoMemory) }
+{
     match *order {
         Order::Done(a) => {
             let path = work_path(rt.alloc(), &directory.job, a)?;

@@ -13,11 +13,15 @@
 //! - `attempt`, `done`, `fail_one`, `publish`, `abort`, `recover`, `forget_published`, in a directory that is open: one such
 //!   order is carried out, and what is to be printed, with the exit status, is what its end is told by
 //!   (`specs/Carried.antt`, `specs/Sayings.antt`).
-//! - Which status stands for each fault.
+//! - An end that no command says is a fault: that of the call which failed last, with its path and why, or of the file that
+//!   is refused (`specs/Faults.antt`). A text or a task that the job does not have is refused by its name.
 //! - `attempt_all`, `fail_task`, `fail_all`: such orders are carried out, one after another (`specs/Turns.antt`).
+//! - `status` makes no call that changes anything, and shows what the records tell that it read and then synced
+//!   (`specs/Shown.antt`).
+//! - `answer`: where nothing failed, the command that the words name was carried out in a directory that was opened, and
+//!   told so (`IsToldOf` of `specs/Answers.antt`). Where a fault is told, standard output is given nothing.
 //!
-//! That `answer` opens the directory and calls the function that the words name is read in the code; what `status` tells
-//! too. Other texts are only tested.
+//! Which directory `answer` opens is read in the code. Other texts are only tested.
 #![tactic(auto)]
 
 mod answering;

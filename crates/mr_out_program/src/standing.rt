@@ -1,18 +1,22 @@
 //! How a job stands, by the records that are durable.
-ghost use Rattle.std.specs.Prelude.{◌≡◌, IfOk};
+ghost use Rattle.std.specs.Prelude.{◌≡◌, ◌++◌, Bool, true, IfOk};
 ghost use Rattle.std.specs.String.{string_bytes};
 ghost use Rattle.mr_out_steps.specs.Standing.{task_of};
+ghost use Rattle.std.specs.List.{filter};
+ghost use Rattle.mr_out_machine.specs.Successes.{tells_success};
 ghost use Rattle.mr_out_program.specs.Sayings.{yes_or_no, outcome_word};
 ghost use Rattle.mr_out_program.specs.Asking.{to_give_up, won_line};
+ghost use Rattle.mr_out_program.specs.inner.Running.{separator, with_more, with_running};
+ghost use Rattle.mr_out_program.specs.Shown.{started_alive, running, attempt_word, running_text, state_word, unwon_line, IsTaskLine, AreTaskLines, hold_line, outcome_of, whole_object, whole_lines, whole_text, SyncsLast, IsShown};
 ghost use Rattle.mr_out_files.specs.Made.{Keeps};
-ghost use Rattle.mr_out_program.specs.Turns.{Reads, Syncs};
+ghost use Rattle.mr_out_program.specs.Turns.{Reads, Syncs, OnlyAsks};
 
 use crate::answering::Answered;
 use mr_history::{Record, Records};
 use mr_ids::{AttemptId, TaskId, TaskKind};
 use mr_out_disk::{Answer, Call, Folder, Reply};
 use mr_out_files::Directory;
-use mr_out_layout::{DECISION, Fault, MARKER, Why, kept_path, part_name};
+use mr_out_layout::{DECISION, Fault, Job, MARKER, Why, kept_path, part_name};
 use mr_out_machine::{first_alive, is_alive_at, is_over, successes, winner, winners};
 use std::fs;
 
@@ -79,43 +83,54 @@ fn has_file(rt: &HostRuntime, path: &str) -> bool {
     }
 }
 
-/// Tells how the job stands: a line a task, and the whole.
-pub fn status(rt: &HostRuntime, directory: &mut Directory, json: bool) -> Result<Answered, Fault> {
+/// Tells how the job stands, by the records that are durable: a line a task, and the whole. The calls that are made read and
+/// sync, and change nothing.
+#[tactic(auto, using(crate::proofs::Turning::reads_asks, crate::proofs::Turning::asks_both, crate::proofs::Showing::shown))]
+pub fn status(rt: &HostRuntime, directory: &mut Directory, json: bool) -> Result<Answered, Fault>
+    ensures asks { OnlyAsks directory.old directory.new }
+    ensures tells { IfOk result (IsShown json directory.old directory.new) }
+{
     let records = read_records(rt, directory)?;
-    let successes = successes(rt.alloc(), records.as_slice())?;
-    let mut out = String::new(rt.alloc());
-    for number in 0..directory.job.tasks {
-        put_task(
-            rt,
-            &mut out,
-            directory,
-            (&records, &successes),
-            number,
-            json,
-        )?;
-    }
+    let mut out = tasks_text(rt, directory, &records, json)?;
     put_whole(rt, &mut out, directory, &records, json)?;
     Ok(Answered::told(rt, out, 0))
 }
 
-fn put_task(
+// The lines of all tasks.
+#[tactic(auto, using(crate::proofs::Showing::line_more))]
+fn tasks_text(
     rt: &HostRuntime,
-    out: &mut String,
     directory: &Directory,
-    told: (&Records, &Records),
+    records: &Records,
+    json: bool,
+) -> Result<String, Fault>
+    ensures { IfOk result (λ text. AreTaskLines json directory.now.job records.now directory.now.job.tasks (string_bytes text)) }
+{
+    let successes = successes(rt.alloc(), records.as_slice())?;
+    let mut out = String::new(rt.alloc());
+    for number in 0..directory.job.tasks {
+        let line = task_line(rt, directory, records, &successes, number, json)?;
+        out.push_str(line.as_str())?;
+    }
+    Ok(out)
+}
+
+#[tactic(auto, using(crate::proofs::Showing::same_winner_by, crate::proofs::Showing::won_so, crate::proofs::Showing::unwon_so))]
+fn task_line(
+    rt: &HostRuntime,
+    directory: &Directory,
+    records: &Records,
+    successes: &Records,
     number: u32,
     json: bool,
-) -> Result<(), Fault> {
-    let (records, successes) = told;
+) -> Result<String, Fault>
+    requires { successes.now ≡ filter tells_success records.now }
+    ensures { IfOk result (λ line. IsTaskLine json directory.now.job records.now number (string_bytes line)) }
+{
     let task = task_of(directory, number);
     match winner(successes.as_slice(), &task) {
-        Some(a) => {
-            let bytes = len_of(rt, directory, a)?;
-            let line = won_line(rt, number, a, bytes, json)?;
-            out.push_str(line.as_str())?;
-            Ok(())
-        }
-        None => put_unwon(rt, out, records, &task, json),
+        Some(a) => won_line(rt, number, a, len_of(rt, directory, a)?, json),
+        None => unwon_of(rt, records, &task, json),
     }
 }
 
@@ -151,53 +166,62 @@ fn len_of(rt: &HostRuntime, directory: &Directory, a: AttemptId) -> Result<u64, 
 }
 
 // A task that nobody has won: who is under way.
-fn put_unwon(
-    rt: &HostRuntime,
-    out: &mut String,
-    records: &Records,
-    task: &TaskId,
-    json: bool,
-) -> Result<(), Fault> {
+fn unwon_of(rt: &HostRuntime, records: &Records, task: &TaskId, json: bool) -> Result<String, Fault>
+    ensures { IfOk result (λ line. string_bytes line ≡ unwon_line json task.now.number (running_text json (running records.now task.now))) }
+{
     let running = running_of(rt, records.as_slice(), task, json)?;
-    let number = task.number;
-    let line = if json {
-        let state = if running.is_empty() {
-            "waiting"
-        } else {
-            "running"
-        };
-        format!(in rt.alloc();
+    unwon_line(rt, task.number, &running, json)
+}
+
+#[tactic(auto, unfolding(crate::specs::Shown::unwon_line))]
+fn unwon_line(rt: &HostRuntime, number: u32, running: &str, json: bool) -> Result<String, Fault>
+    ensures { IfOk result (λ line. string_bytes line ≡ unwon_line json number running.now) }
+{
+    if json {
+        let state = state_word(running);
+        return Ok(format!(in rt.alloc();
             "{{\"task\":{number},\"state\":\"{state}\",\"attempts\":[{running}]}}\n"
-        )?
-    } else if running.is_empty() {
-        format!(in rt.alloc(); "{number} waiting\n")?
+        )?);
+    }
+    if running.is_empty() {
+        return Ok(format!(in rt.alloc(); "{number} waiting\n")?);
+    }
+    Ok(format!(in rt.alloc(); "{number} running {running}\n")?)
+}
+
+fn state_word(running: &str) -> &'static str
+    ensures { result.now ≡ state_word running.now }
+{
+    if running.is_empty() {
+        "waiting"
     } else {
-        format!(in rt.alloc(); "{number} running {running}\n")?
-    };
-    out.push_str(line.as_str())?;
-    Ok(())
+        "running"
+    }
 }
 
 // The attempts that are under way at a task, in a line.
+#[tactic(auto, using(crate::proofs::Showing::one_running, crate::proofs::Showing::running_is))]
 fn running_of(
     rt: &HostRuntime,
     records: &[Record],
     task: &TaskId,
     json: bool,
-) -> Result<String, Fault> {
+) -> Result<String, Fault>
+    ensures { IfOk result (λ text. string_bytes text ≡ running_text json (running records.now task.now)) }
+{
     let mut text = String::new(rt.alloc());
     if is_over(records) {
         return Ok(text);
     }
     for told in records {
-        if let Some(a) = running_one(records, task, told) {
-            put_one(rt, &mut text, a, json)?;
-        }
+        put_running(rt, &mut text, running_one(records, task, told), json)?;
     }
     Ok(text)
 }
 
-fn running_one(records: &[Record], task: &TaskId, told: &Record) -> Option<AttemptId> {
+fn running_one(records: &[Record], task: &TaskId, told: &Record) -> Option<AttemptId>
+    ensures { result ≡ started_alive records.now task.now told.now }
+{
     match *told {
         Record::AttemptStarted { attempt, node: _ } if is_alive_at(records, task, told) => {
             Some(attempt)
@@ -206,64 +230,159 @@ fn running_one(records: &[Record], task: &TaskId, told: &Record) -> Option<Attem
     }
 }
 
-fn put_one(rt: &HostRuntime, text: &mut String, a: AttemptId, json: bool) -> Result<(), Fault> {
-    let word = if json {
-        format!(in rt.alloc(); "\"{a}\"")?
-    } else {
-        format!(in rt.alloc(); "{a}")?
-    };
-    if !text.is_empty() {
-        text.push(if json { ',' } else { ' ' })?;
+// Puts an attempt behind the others, if there is one.
+fn put_running(
+    rt: &HostRuntime,
+    text: &mut String,
+    running: Option<AttemptId>,
+    json: bool,
+) -> Result<(), Fault>
+    ensures { IfOk result (λ done. string_bytes text.new ≡ with_running json (string_bytes text.old) running) }
+{
+    match running {
+        Some(a) => put_one(rt, text, a, json),
+        None => Ok(()),
     }
+}
+
+fn put_one(rt: &HostRuntime, text: &mut String, a: AttemptId, json: bool) -> Result<(), Fault>
+    ensures { IfOk result (λ done. string_bytes text.new ≡ with_more json (string_bytes text.old) a) }
+{
+    let word = attempt_word(rt, a, json)?;
+    if text.is_empty() {
+        text.push_str(word.as_str())?;
+        return Ok(());
+    }
+    text.push_str(separator(json))?;
     text.push_str(word.as_str())?;
     Ok(())
 }
 
+fn separator(json: bool) -> &'static str
+    ensures { result.now ≡ separator json }
+{
+    if json { "," } else { " " }
+}
+
+fn attempt_word(rt: &HostRuntime, a: AttemptId, json: bool) -> Result<String, Fault>
+    ensures { IfOk result (λ word. string_bytes word ≡ attempt_word json a) }
+{
+    if json {
+        return Ok(format!(in rt.alloc(); "\"{a}\"")?);
+    }
+    Ok(format!(in rt.alloc(); "{a}")?)
+}
+
+#[tactic(auto, using(crate::proofs::Turning::asks_same))]
 fn put_whole(
     rt: &HostRuntime,
     out: &mut String,
     directory: &mut Directory,
     records: &Records,
     json: bool,
-) -> Result<(), Fault> {
-    let (id, tasks) = (directory.job.id, directory.job.tasks);
-    let all = winners(rt.alloc(), id, records.as_slice(), tasks)?;
+) -> Result<(), Fault>
+    ensures asks { OnlyAsks directory.old directory.new }
+    ensures told { IfOk result (λ done. (marker : Bool) × (decided : Bool) × (decided ≡ true → SyncsLast directory.new) × (string_bytes out.new ≡ string_bytes out.old ++ whole_text json directory.old.job records.now marker decided)) }
+{
     let marker = has_marker(rt);
-    let outcome = outcome_word(is_over(records.as_slice()), all.is_some() && marker);
-    let line = if json {
-        let (hold, publish) = (directory.job.hold, is_decided(rt, directory)?);
-        format!(in rt.alloc();
-            "{{\"job\":\"{id}\",\"hold\":{hold},\"publish\":{publish},\"marker\":{marker},\"outcome\":\"{outcome}\"}}\n"
-        )?
-    } else {
-        let is_decided = is_decided(rt, directory)?;
-        put_hold(out, directory.job.hold, is_decided)?;
-        let marker = yes_or_no(marker);
-        format!(in rt.alloc(); "marker {marker}\noutcome {outcome}\n")?
-    };
-    out.push_str(line.as_str())?;
+    let decided = is_decided(rt, directory)?;
+    let text = whole_text(rt, &directory.job, records, json, marker, decided)?;
+    out.push_str(text.as_str())?;
     Ok(())
 }
 
-// Whether it was decided to publish, durably.
-fn is_decided(rt: &HostRuntime, directory: &mut Directory) -> Result<bool, Fault> {
-    if !has_file(rt, DECISION) {
-        return Ok(false);
+fn whole_text(
+    rt: &HostRuntime,
+    job: &Job,
+    records: &Records,
+    json: bool,
+    marker: bool,
+    decided: bool,
+) -> Result<String, Fault>
+    ensures { IfOk result (λ text. string_bytes text ≡ whole_text json job.now records.now marker decided) }
+{
+    let outcome = outcome_of(rt, job, records, marker)?;
+    if json {
+        return whole_object(rt, job, marker, decided, outcome);
     }
-    match directory.perform(rt, Call::SyncFolder(Folder::Home)) {
-        Answer::Says(Reply::Done) => Ok(true),
-        _ => Err(trouble(rt, directory)),
-    }
+    whole_lines(rt, job.hold, marker, decided, outcome)
+}
+
+fn outcome_of(
+    rt: &HostRuntime,
+    job: &Job,
+    records: &Records,
+    marker: bool,
+) -> Result<&'static str, Fault>
+    ensures { IfOk result (λ word. word.now ≡ outcome_of job.now records.now marker) }
+{
+    let all = winners(rt.alloc(), job.id, records.as_slice(), job.tasks)?;
+    Ok(outcome_word(is_over(records.as_slice()), all.is_some() && marker))
+}
+
+fn whole_object(
+    rt: &HostRuntime,
+    job: &Job,
+    marker: bool,
+    decided: bool,
+    outcome: &str,
+) -> Result<String, Fault>
+    ensures { IfOk result (λ text. string_bytes text ≡ whole_object job.now marker decided outcome.now) }
+{
+    let (id, hold) = (job.id, job.hold);
+    Ok(format!(in rt.alloc();
+        "{{\"job\":\"{id}\",\"hold\":{hold},\"publish\":{decided},\"marker\":{marker},\"outcome\":\"{outcome}\"}}\n"
+    )?)
+}
+
+fn whole_lines(
+    rt: &HostRuntime,
+    hold: bool,
+    marker: bool,
+    decided: bool,
+    outcome: &str,
+) -> Result<String, Fault>
+    ensures { IfOk result (λ text. string_bytes text ≡ whole_lines hold marker decided outcome.now) }
+{
+    let hold = hold_line(rt, hold, decided)?;
+    let marker = yes_or_no(marker);
+    Ok(format!(in rt.alloc(); "{hold}marker {marker}\noutcome {outcome}\n")?)
 }
 
 // Of a job that is held, whether it was decided to publish it.
-fn put_hold(out: &mut String, hold: bool, is_decided: bool) -> Result<(), Fault> {
+fn hold_line(rt: &HostRuntime, hold: bool, decided: bool) -> Result<String, Fault>
+    ensures { IfOk result (λ text. string_bytes text ≡ hold_line hold decided) }
+{
     if hold {
-        out.push_str("publish ")?;
-        out.push_str(yes_or_no(is_decided))?;
-        out.push('\n')?;
+        let decided = yes_or_no(decided);
+        return Ok(format!(in rt.alloc(); "publish {decided}\n")?);
     }
-    Ok(())
+    Ok(String::new(rt.alloc()))
+}
+
+// Whether it was decided to publish, durably.
+#[tactic(auto, using(crate::proofs::Turning::asks_none, crate::proofs::Turning::asks_folder, crate::proofs::Showing::synced_last))]
+fn is_decided(rt: &HostRuntime, directory: &mut Directory) -> Result<bool, Fault>
+    ensures asks { OnlyAsks directory.old directory.new }
+    ensures durable { IfOk result (λ decided. decided ≡ true → SyncsLast directory.new) }
+{
+    if !has_file(rt, DECISION) {
+        return Ok(false);
+    }
+    let answer = directory.perform(rt, Call::SyncFolder(Folder::Home));
+    let decided = told_synced(rt, directory, &answer);
+    drop(answer);
+    decided
+}
+
+fn told_synced(rt: &HostRuntime, directory: &mut Directory, answer: &Answer) -> Result<bool, Fault>
+    ensures same { Keeps directory.old directory.new }
+    ensures done { IfOk result (λ synced. answer.now ≡ Answer.Says Reply.Done) }
+{
+    match answer {
+        Answer::Says(Reply::Done) => Ok(true),
+        _ => Err(trouble(rt, directory)),
+    }
 }
 
 fn yes_or_no(is_so: bool) -> &'static str

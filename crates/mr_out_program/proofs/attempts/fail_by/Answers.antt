@@ -1,4 +1,6 @@
 use Rattle.std.proofs.Common.{Option, subst}
+use Rattle.mr_out_layout.specs.Faults.{IsRefusal}
+use Rattle.mr_out_layout.specs.declared.fault.Why.TheVariants.{NoAttempt}
 use Rattle.mr_out_steps.specs.declared.order.Order.TheVariants as order
 use Rattle.mr_out_program.specs.declared.saying.Saying.{Saying}
 use Rattle.mr_out_program.specs.Sayings.{fail_saying}
@@ -8,5 +10,5 @@ use Rattle.mr_out_program.proofs.attempts.fail_by.Goals as goal
 
 pub returns-in-Ok : goal.returns-in-Ok
 returns-in-Ok c =
-    tells_ok (order.Fail c.args.a) fail_saying c.args.directory.now c.settle.new.directory c.in-Ok.end c.said_or_refused.result c.in-Ok.ensures
-    (subst (λ (saying : Option Saying). SaysIfAny saying c.said_or_refused.result) c.fail_saying.ensures c.said_or_refused.ensures)
+    tells_ok (order.Fail c.args.a) fail_saying (IsRefusal c.args.text.now NoAttempt) c.args.directory.now c.settle.new.directory c.in-Ok.end c.said_or_refused.result c.in-Ok.ensures
+    (subst (λ (saying : Option Saying). SaysIfAny (IsRefusal c.args.text.now NoAttempt) saying c.said_or_refused.result) c.fail_saying.ensures c.said_or_refused.ensures)
