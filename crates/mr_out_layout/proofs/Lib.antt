@@ -2,3 +2,4 @@ pub mod Plain
 pub mod Ends
 pub mod Apart
 pub mod Fronts
+pub mod Named
