@@ -1,0 +1,2 @@
+-- What is printed for a script, and which faults there are: Printed.
+pub mod Printed
