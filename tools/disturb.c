@@ -1,5 +1,5 @@
 /* Loaded into a program (LD_PRELOAD) by disturb.py: runs it again and again, each time in a process of its own, and refuses
-   requests for memory or fails reads and writes there as it is told.
+   requests for memory, fails reads and writes, or starts no thread there as it is told.
 
    The program is loaded once, up to its beginning (or up to its first request for DISTURB_MARK bytes). There it waits for
    orders, and for each forks: the child is one run, from DISTURB_ROOM/in to DISTURB_ROOM/out and DISTURB_ROOM/err. */
@@ -7,6 +7,7 @@
 #include <dlfcn.h>
 #include <errno.h>
 #include <fcntl.h>
+#include <pthread.h>
 #include <stdint.h>
 #include <stdio.h>
 #include <stdlib.h>
@@ -16,7 +17,7 @@
 #include <sys/wait.h>
 #include <unistd.h>
 
-enum { MEMORY, READS, WRITES, SAYINGS, KINDS }; /* writes to standard output, and those to standard error */
+enum { MEMORY, READS, WRITES, SAYINGS, THREADS, KINDS }; /* writes to standard output, and those to standard error */
 enum { CALM = 0, SHORT = -1, NOTHING = -2 };     /* beside numbers of errno: one byte alone, and an answer of 0 bytes */
 enum { MARKS = 4 };
 
@@ -25,6 +26,7 @@ struct told { int64_t status, seen[KINDS], marks, at_mark[MARKS]; };
 
 static void *(*real_malloc)(size_t), *(*real_calloc)(size_t, size_t), *(*real_realloc)(void *, size_t), *(*real_aligned)(size_t, size_t);
 static ssize_t (*real_read)(int, void *, size_t), (*real_write)(int, const void *, size_t);
+static int (*real_create)(pthread_t *, const pthread_attr_t *, void *(*)(void *), void *);
 static struct order order;
 static struct told *told;
 static const char *room;
@@ -38,6 +40,7 @@ static void find(void) {
     real_aligned = dlsym(RTLD_NEXT, "aligned_alloc");
     real_read = dlsym(RTLD_NEXT, "read");
     real_write = dlsym(RTLD_NEXT, "write");
+    real_create = dlsym(RTLD_NEXT, "pthread_create");
 }
 
 static void redirect(int fd, const char *name, int flags) {
@@ -127,4 +130,10 @@ ssize_t write(int fd, const void *from, size_t n) {
     if (how > 0) { errno = how; return -1; }
     if (how == NOTHING) return 0;
     return real_write(fd, from, how == SHORT && n > 1 ? 1 : n);
+}
+
+int pthread_create(pthread_t *made, const pthread_attr_t *how, void *(*does)(void *), void *with) {
+    if (!real_create) find();
+    if (is_run && disturbed(THREADS)) return EAGAIN;
+    return real_create(made, how, does, with);
 }

@@ -1,4 +1,4 @@
-"""Runs a program with requests for memory refused, or reads and writes failing, one run in a fraction of a millisecond.
+"""Runs a program with requests for memory refused, reads and writes failing, or threads that can't be started, one run in a fraction of a millisecond.
 
 For tools/hostile, tools/sweeps.py and tools/refuse_tests. `library` compiles disturb.c, and a `Program` is a program that is loaded once and then
 run as often as is asked for, each time in a process of its own. Needs gcc and a program that is linked dynamically.
@@ -12,10 +12,10 @@ import signal
 import struct
 import subprocess
 
-MEMORY, READS, WRITES, SAYINGS, NEVER = 0, 1, 2, 3, -1
+MEMORY, READS, WRITES, SAYINGS, THREADS, NEVER = 0, 1, 2, 3, 4, -1
 SHORT, NOTHING = -1, -2
 EVERY = (1 << 62) - 1
-ORDER, TOLD = struct.Struct("<6q"), struct.Struct("<10q")
+ORDER, TOLD = struct.Struct("<6q"), struct.Struct("<11q")
 HERE = os.path.dirname(os.path.realpath(__file__))
 SECONDS = 20  # of a processor
 FIRST_ALL = 500
@@ -47,7 +47,7 @@ def quiet(stack=None):
 
 class Run:
     """What came of a run: its status (below 0: the signal that ended it), what it wrote and said, and how many requests for memory, reads,
-    writes and sayings there were."""
+    writes, sayings and threads there were."""
 
     def __init__(self, status, out, err, seen=(), marks=()):
         self.status, self.out, self.err, self.seen, self.marks = status, out, err, seen, marks
@@ -123,9 +123,9 @@ class Program:
         told = os.read(self.replies, TOLD.size)
         if len(told) != TOLD.size:
             raise Broken(f"{self.words[0]} cannot be run so: it is linked statically, or never reaches the place where it is to wait")
-        status, *seen, marks = TOLD.unpack(told)[:6]
+        status, *seen, marks = TOLD.unpack(told)[:7]
         status = os.waitstatus_to_exitcode(status)
-        return Run(status, self.read("out"), self.read("err"), seen, TOLD.unpack(told)[6 : 6 + marks])
+        return Run(status, self.read("out"), self.read("err"), seen, TOLD.unpack(told)[7 : 7 + marks])
 
 
 def spread(count, most):

@@ -2,9 +2,10 @@ mod Ahead
 mod Asking
 mod Beginning
 mod Listed
-mod Making
+pub mod Making
+mod OneText
 mod Onwards
-mod Printing
+pub mod Printing
 pub mod Refused
 mod Telling
 mod Trying

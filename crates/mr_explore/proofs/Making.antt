@@ -1,5 +1,5 @@
 -- Runs that are made, one after the other.
-use Rattle.std.proofs.Common.{◌≡◌, ◌<◌, ◌≤◌, ◌+◌, ℕ, Bool, true, false, not, ◌||◌, List, [], ◌∷◌, ◌++◌, map, length, length-append, append_assoc, Option, Some, None, Result, Ok, Err, IsErrAnd, inl, inr, refl, sym, ap, subst, ◌∙◌, arith}
+use Rattle.std.proofs.Common.{◌≡◌, ◌<◌, ◌+◌, ℕ, Bool, true, false, not, ◌||◌, List, [], ◌∷◌, ◌++◌, map, length, length-append, append_assoc, Option, Some, None, Result, Ok, Err, IsErrAnd, inl, inr, refl, sym, ap, subst, ◌∙◌, arith}
 use Rattle.std.proofs.lemmas.Result.{err_from_is_err_and}
 use Rattle.mr_sim_commands.specs.declared.fault.SimFault.{SimFault}
 use Rattle.mr_sim_commands.specs.declared.fault.SimFault.TheVariants as fault
@@ -14,9 +14,8 @@ use Rattle.std.specs.Prelude.{if◌then◌else◌}
 use Rattle.std.specs.List.{list_any}
 use Rattle.mr_play.specs.mr_world.specs.Journal.{world_in}
 use Rattle.mr_script.specs.declared.expectation.Expectation.{Expectation}
-use Rattle.mr_explore.specs.Exploring.{Fails, IsFoundLast, IsTimed, Made, MadeOne, MadeRun, Makes, MakesOne, NoneMeets, Remaining, as_found, came, is_stalled, journal_of, meets_goal, outcome_of}
+use Rattle.mr_explore.specs.Exploring.{Fails, IsTimed, Made, MadeOne, MadeRun, Makes, MakesOne, NoneMeets, Remaining, as_found, came, fault_of, is_stalled, journal_of, meets_goal, outcome_of}
 use Rattle.mr_explore.specs.Runs.{Exploring}
-use Rattle.mr_explore.specs.inner.Players.{fault_of}
 
 pub walk_failed : (goal : Option (List Expectation)) (x : Remaining) (left : List (Found Exploring)) (f : WalkFault) (new : List (Found Exploring)) → x.left ≡ left → Takes left (Err f) new → Fails 1 goal x (fault_of f)
 walk_failed goal x left walk_fault.NoMemory new e h = tt
@@ -43,22 +42,22 @@ came_to m end stalled none is waits =
 
 -- ---- lists
 
-mapped : {A B : Type 0} (f : A → B) (xs ys : List A) → map f (xs ++ ys) ≡ map f xs ++ map f ys
+pub mapped : {A B : Type 0} (f : A → B) (xs ys : List A) → map f (xs ++ ys) ≡ map f xs ++ map f ys
 mapped f [] ys = refl
 mapped f (x ∷ xs) ys = ap (λ zs. f x ∷ zs) (mapped f xs ys)
 
-noted_behind : (cs ds : List Came) (t : Table) → all_noted (cs ++ ds) t ≡ all_noted ds (all_noted cs t)
+pub noted_behind : (cs ds : List Came) (t : Table) → all_noted (cs ++ ds) t ≡ all_noted ds (all_noted cs t)
 noted_behind [] ds t = refl
 noted_behind (c ∷ cs) ds t = noted_behind cs ds (noted c t)
 
 -- runs behind runs, and what is left behind both
-behind : (made more : List MadeRun) (all mid left : List (Found Exploring)) → all ≡ map as_found made ++ mid → mid ≡ map as_found more ++ left → all ≡ map as_found (made ++ more) ++ left
+pub behind : (made more : List MadeRun) (all mid left : List (Found Exploring)) → all ≡ map as_found made ++ mid → mid ≡ map as_found more ++ left → all ≡ map as_found (made ++ more) ++ left
 behind made more all mid left a b =
     a ∙ (ap (λ xs. map as_found made ++ xs) b ∙ (sym (append_assoc (map as_found made) (map as_found more) left) ∙ ap (λ xs. xs ++ left) (sym (mapped as_found made more))))
 
 -- ---- runs
 
-none_behind : (goal : Option (List Expectation)) (before after : List MadeRun) → NoneMeets goal before → NoneMeets goal after → NoneMeets goal (before ++ after)
+pub none_behind : (goal : Option (List Expectation)) (before after : List MadeRun) → NoneMeets goal before → NoneMeets goal after → NoneMeets goal (before ++ after)
 none_behind goal [] after b a = a
 none_behind goal (m ∷ before) after b a = by (meets_goal goal m) (list_any (meets_goal goal) before) b (λ e. none_behind goal before after e a) where
   by : (x y : Bool) → (x || y) ≡ false → (y ≡ false → NoneMeets goal (before ++ after)) → (x || list_any (meets_goal goal) (before ++ after)) ≡ false

@@ -35,12 +35,12 @@ one_start before a b (inl x) (inr y) = absurd (y.0 x.0)
 one_start before a b (inr x) (inl y) = absurd (x.0 y.0)
 one_start before a b (inr x) (inr y) = x.1 ∙ sym y.1
 
-one_run_law : (input : List ℕ) (a b : Exploring) → IsRunOf input a → IsRunOf input b → a ≡ b
+pub one_run_law : (input : List ℕ) (a b : Exploring) → IsRunOf input a → IsRunOf input b → a ≡ b
 one_run_law input a b x y = one_start x.before a b x.starts (subst (λ (e : Exploring). StartsFrom e b) (one_left input y.before x.before y.left x.left) y.starts)
 
 -- ---- no limit
 
-tail_is : {A : Type 0} (x y : A) (xs ys : List A) → x ∷ xs ≡ y ∷ ys → xs ≡ ys
+pub tail_is : {A : Type 0} (x y : A) (xs ys : List A) → x ∷ xs ≡ y ∷ ys → xs ≡ ys
 tail_is x y xs ys e = cc
 
 run_is : (m k : MadeRun) → as_found m ≡ as_found k → m ≡ k
@@ -49,7 +49,7 @@ run_is m k e = ap made_of e where
   made_of (Run n s) = record { faults = n; run = s }
   made_of PassesLimit = m
 
-head_is : (m k : MadeRun) (xs ys : List (Found Exploring)) → as_found m ∷ xs ≡ as_found k ∷ ys → m ≡ k
+pub head_is : (m k : MadeRun) (xs ys : List (Found Exploring)) → as_found m ∷ xs ≡ as_found k ∷ ys → m ≡ k
 head_is m k xs ys e = run_is m k (cc)
 
 apart_all : (made more : List MadeRun) (rest : List (Found Exploring)) → map as_found made ++ [] ≡ map as_found more ++ PassesLimit ∷ rest → ⊥
@@ -64,7 +64,7 @@ apart_most (m ∷ made) [] left rest few e = cc
 apart_most (m ∷ made) (k ∷ more) left rest few e = apart_most made more left rest (omega (arith, few)) (tail_is (as_found m) (as_found k) _ _ e)
 
 -- where one of the first runs meets the goal, and none before the limit does, the limit comes before it
-some_meets : (goal : Option (List Expectation)) (made : List MadeRun) (m : MadeRun) → meets_goal goal m ≡ true → list_any (meets_goal goal) (made ++ m ∷ []) ≡ true
+pub some_meets : (goal : Option (List Expectation)) (made : List MadeRun) (m : MadeRun) → meets_goal goal m ≡ true → list_any (meets_goal goal) (made ++ m ∷ []) ≡ true
 some_meets goal [] m e = ap (λ b. b || false) e
 some_meets goal (k ∷ made) m e = by (meets_goal goal k) (some_meets goal made m e) where
   by : (b : Bool) → list_any (meets_goal goal) (made ++ m ∷ []) ≡ true → (b || list_any (meets_goal goal) (made ++ m ∷ [])) ≡ true

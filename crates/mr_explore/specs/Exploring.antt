@@ -12,6 +12,8 @@ use Rattle.mr_world_model.specs.Content.{entry_at, is_file}
 use Rattle.mr_world_model.specs.Packets.{Config}
 use Rattle.mr_world_model.specs.World.{World}
 use Rattle.mr_world_model.specs.Results.{outcome, visible}
+use Rattle.mr_explore_search.specs.declared.fault.WalkFault.{WalkFault}
+use Rattle.mr_explore_search.specs.declared.fault.WalkFault.TheVariants as walk_fault
 use Rattle.mr_explore_search.specs.Runs.{Found, Run, PassesLimit}
 use Rattle.mr_explore_search.specs.Taking.{no_more}
 use Rattle.mr_script.specs.declared.expectation.Expectation.{Expectation}
@@ -95,6 +97,12 @@ abbrev pub ExploreFails : List ℕ → SimFault → Type 0
 ExploreFails input fault.JournalMismatch = Unit {0}
 ExploreFails input fault.Full = IsFullPlay within input ⊎ CannotStart input
 ExploreFails input f = PlayFails within input f
+
+-- the fault of a walk, as that of an exploration
+abbrev pub fault_of : WalkFault → SimFault
+fault_of walk_fault.NoMemory = fault.NoMemory
+fault_of walk_fault.Full = fault.Full
+fault_of walk_fault.Mismatch = fault.JournalMismatch
 
 -- of these runs fewer than `most` come first, none of which came to the end that is sought, and behind them one that would pass a limit
 pub record IsFullBehind (most : ℕ) (goal : Option (List Expectation)) (left : List (Found Exploring)) : Type 0 where

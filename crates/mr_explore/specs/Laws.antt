@@ -26,6 +26,10 @@ pub record ExploredOrRefused : Type 0 where
   -- where a time is given, it may pass before a run would pass a limit
   pub not_full : (asked : Asked) (input text : List ℕ) → PrintsExplored asked input text → IsFullExplored asked input → IsTimed asked.seconds
 
+-- where no time is given, one text is printed at most
+abbrev pub OneExploredText : Type 0
+OneExploredText = (asked : Asked) (input a b : List ℕ) → (IsTimed asked.seconds → ⊥) → PrintsExplored asked input a → PrintsExplored asked input b → a ≡ b
+
 -- what a run came to is written as `play` prints its cluster
 abbrev pub OutcomesArePrinted : Type 0
 OutcomesArePrinted = (cfg : Config) (w : World) → outcome_text (outcome_of cfg w) ≡ world_text cfg w

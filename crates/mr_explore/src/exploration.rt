@@ -1,24 +1,24 @@
 //! An exploration: runs are made, one after the other, and what comes of them is noted.
 ghost use Rattle.std.specs.Prelude.{◌≡◌, true, IfOk, IfErr, OnOk};
 ghost use Rattle.std.specs.Option.{option_map};
-ghost use Rattle.mr_explore_ends.specs.Table.{noted};
+ghost use Rattle.mr_explore_ends.specs.Table.{empty, noted};
+ghost use Rattle.mr_explore_search.specs.Parting.{whole};
 ghost use Rattle.mr_explore_search.specs.Taking.{no_more};
-ghost use Rattle.mr_explore.specs.Exploring.{Begins, ExploreFails, IsTimed, Makes, MakesOne, came, is_sought, meets_goal};
-ghost use Rattle.mr_explore.specs.inner.Players.{fault_of};
+ghost use Rattle.mr_explore.specs.Exploring.{Begins, ExploreFails, IsTimed, Makes, MakesOne, came, fault_of, is_sought, meets_goal};
 
 use crate::explored::Explored;
 use crate::watch::Watch;
 use crate::winners::Winners;
 use mr_explore_ends::{Outcome, Table, meets};
-use mr_explore_search::{Ended, Walk, WalkFault};
+use mr_explore_search::{Ended, Parts, Walk, WalkFault};
 use mr_play::mr_world::MAX_EVENTS;
 use mr_script::Expectation;
 use mr_sim_commands::SimFault;
 use std::alloc::{AllocError, Global};
 use std::marker::Model;
 
-// How many runs are made before it is told again how far it is.
-const STRIDE: u64 = 100_000;
+/// How many runs are made before it is told again how far it is.
+pub const STRIDE: u64 = 100_000;
 
 /// The runs of an input with at most a given number of faults, and the table of those that were made. Contracts see it as the runs that are left, and that table.
 #[derive(Drop)]
@@ -54,6 +54,30 @@ impl Exploration {
                 winners: Winners::new(alloc),
             }),
             Err(fault) => Err(sim_fault(fault)),
+        }
+    }
+
+    /// The runs of an input, as `new` has them, that can be taken apart. None is in a part yet.
+    pub fn parts(alloc: Global, input: &[u8], faults: u32) -> Result<Parts<Explored>, SimFault>
+        ensures begins { IfOk result (λ parts. Begins input.now faults (record { left = whole parts; faults = faults; table = empty })) }
+        ensures fault { IfErr result (ExploreFails input.now) }
+    {
+        let run = Explored::new(alloc, input)?;
+        match Parts::new(alloc, run, faults, MAX_EVENTS as u64) {
+            Ok(parts) => Ok(parts),
+            Err(fault) => Err(sim_fault(fault)),
+        }
+    }
+
+    /// What is left of a walk, and the table of the runs that were made. A run has at most `faults` faults.
+    pub fn of(alloc: Global, walk: Walk<Explored>, faults: u32, table: Table) -> Exploration
+        ensures { result ≡ record { left = walk; faults = faults; table = table } }
+    {
+        Exploration {
+            walk,
+            faults,
+            table,
+            winners: Winners::new(alloc),
         }
     }
 
@@ -126,8 +150,8 @@ impl Exploration {
     }
 }
 
-// Whether a time is given, and has passed.
-fn has_passed<W: Watch>(watch: &W, seconds: Option<u64>) -> bool
+/// Whether a time is given, and has passed.
+pub fn has_passed<W: Watch>(watch: &W, seconds: Option<u64>) -> bool
     ensures { result ≡ true → IsTimed seconds }
 {
     match seconds {
@@ -136,9 +160,9 @@ fn has_passed<W: Watch>(watch: &W, seconds: Option<u64>) -> bool
     }
 }
 
-// A run came to its end, or a limit forbids its last fault; whether that end is one that is sought.
+/// Notes a run that came to its end, or whose last fault a limit forbids. Whether that end is one that is sought. It fails by an allocation failure.
 #[tactic(auto, using(crate::proofs::Making::came_past, crate::proofs::Making::came_to))]
-fn note(
+pub fn note(
     alloc: Global,
     table: &mut Table,
     winners: &mut Winners,
@@ -170,8 +194,8 @@ fn is_sought(goal: Option<&[Expectation]>, end: &Outcome) -> bool
     }
 }
 
-// The fault of a walk, as that of an exploration.
-fn sim_fault(fault: WalkFault) -> SimFault
+/// The fault of a walk, as that of an exploration.
+pub fn sim_fault(fault: WalkFault) -> SimFault
     ensures { result ≡ fault_of fault }
 {
     match fault {

@@ -51,11 +51,14 @@ mod watch;
 mod winners;
 
 pub use asked::{Asked, Form};
-pub use exploration::Exploration;
+pub use exploration::{Exploration, STRIDE, has_passed, note, sim_fault};
 pub use explored::Explored;
-pub use laws::{asking_shows_nothing, explored_or_refused, outcomes_are_printed};
+pub use laws::{
+    asking_shows_nothing, explored_or_refused, one_explored_text, outcomes_are_printed,
+};
 pub use leading::check_scripts;
 pub use mr_explore_ends::{Outcome, Row, Table, best_of, read_goal};
 pub use mr_explore_faults::Fault;
 pub use output::{explore_output, explored_text};
 pub use watch::{Unwatched, Watch};
+pub use winners::Winners;

@@ -1,4 +1,5 @@
 pub mod Choosing
 mod EndObjects
+mod Joining
 mod Noting
 mod Pieces

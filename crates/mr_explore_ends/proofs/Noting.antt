@@ -11,10 +11,10 @@ use Rattle.mr_explore_ends.specs.inner.Rows.{place_from}
 not_some : (k : ℕ) → None ≡ Some k → ⊥
 not_some k e = cc
 
-some_is : (k i : ℕ) → Some k ≡ Some i → k ≡ i
+pub some_is : (k i : ℕ) → Some k ≡ Some i → k ≡ i
 some_is k i e = cc
 
-mapped : (xs ys : List Row) → map as_end (xs ++ ys) ≡ map as_end xs ++ map as_end ys
+pub mapped : (xs ys : List Row) → map as_end (xs ++ ys) ≡ map as_end xs ++ map as_end ys
 mapped [] ys = refl
 mapped (x ∷ xs) ys = ap (λ zs. as_end x ∷ zs) (mapped xs ys)
 

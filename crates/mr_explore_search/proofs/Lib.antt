@@ -1,3 +1,4 @@
+mod Apart
 mod Coming
 mod Finishing
 mod Looking

@@ -2,7 +2,7 @@
 use Rattle.std.proofs.Common.{◌≡◌, ℕ, Bool, true, false, not, List, ◌∷◌, Option, Some, None, is_some, Result, Ok, Err, IsErrAnd, refl, sym, ap, subst, ◌∙◌}
 use Rattle.std.proofs.lemmas.Result.{err_from_is_err_and}
 use Rattle.mr_explore_search.specs.Steps.{Steps}
-use Rattle.mr_explore_search.specs.Runs.{Found, Run, PassesLimit}
+use Rattle.mr_explore_search.specs.Runs.{Found, Run}
 use Rattle.mr_explore_search.specs.Taking.{Takes, no_more}
 use Rattle.mr_explore_search.specs.declared.ended.Ended.{Ended}
 use Rattle.mr_explore_search.specs.declared.level.Level.{Level}

@@ -10,7 +10,7 @@ use Rattle.mr_explore_search.specs.declared.ended.Ended.{Ended}
 use Rattle.mr_explore_search.specs.declared.level.Level.{Level}
 use Rattle.mr_explore_search.specs.declared.fault.WalkFault.{WalkFault}
 use Rattle.mr_explore_search.specs.declared.fault.WalkFault.TheVariants as fault
-use Rattle.mr_explore_search.specs.inner.Stack.{is_over, worth, opened, child, pushed, befell, with_fault, with_owed, left_of, stack_left, turns_if, turns_less, turns_tried, turns_owed, turns_came, turns_on, turns_going, turns_by, turns_of, stack_turns, run_if, IsAtEnd, Further, NextOf, Turned}
+use Rattle.mr_explore_search.specs.inner.Stack.{is_over, worth, opened, child, pushed, befell, with_fault, with_owed, left_of, stack_left, turns_if, turns_less, turns_tried, turns_owed, turns_came, turns_on, turns_going, turns_by, turns_of, stack_turns, run_if, IsAtEnd, Departed, Further, NextOf, Turned}
 
 -- what is so of one that is the same
 pub same_if : {A B C : Type 0} (r : Result A B) (x y z : C) → y ≡ z → OnOk r (x ≡ y) → OnOk r (x ≡ z)
@@ -265,6 +265,12 @@ module _ {S F : Type 0} (steps : Steps S F) (most : ℕ) where
         by fault.NoMemory h = tt
         by fault.Full h = (n, e, h, same)
         by fault.Mismatch h = tt
+
+  -- all was tried, and the level goes on
+  pub turned_on : (l m : Level S F) (ls between new : List (Level S F)) (r : Result (Option (Ended S)) WalkFault) → Departed steps most l ls (Some m) between
+      → ((faults : List F) (late : ℕ) → faults ≡ [] → late ≡ 0 → (most' : ℕ) → Turned steps most' (record m { faults = faults; late = late } ∷ between) r new) → Turned steps most (l ∷ ls) r new
+  turned_on l m ls between new r d h =
+      subst (λ (ks : List (Level S F)). Turned steps most (l ∷ ks) r new) d.3 (subst (λ (k : Level S F). Turned steps most (k ∷ between) r new) d.0 (h m.faults m.late (ap (λ (k : Level S F). k.faults) d.0 ∙ d.1) (ap (λ (k : Level S F). k.late) d.0 ∙ d.2) most))
 
   -- ---- turns, one after the other
 

@@ -1,7 +1,7 @@
 //! Turns of a walk: a departure is tried, or a run goes on.
 ghost use Rattle.std.specs.Prelude.{◌≡◌, ◌<◌, ℕ, length, slice_get, List, [], ◌∷◌, Some, IfOk, IfErr, OnOk};
 ghost use Rattle.mr_explore_search.specs.Steps.{IsNotFull};
-ghost use Rattle.mr_explore_search.specs.inner.Stack.{Finishes, Further, NextOf, Turned, child, is_over, opened, run_if, with_fault, with_owed, worth};
+ghost use Rattle.mr_explore_search.specs.inner.Stack.{Departed, Finishes, Further, NextOf, Turned, child, is_over, opened, run_if, with_fault, with_owed, worth};
 
 use crate::chances::Chances;
 use crate::ended::Ended;
@@ -194,8 +194,8 @@ fn run_if<R: Run>(spare: u32, total: u32, run: R) -> Option<Ended<R>>
     }
 }
 
-// A run goes on by itself, from where all was tried.
-fn go_further<R: Run>(
+/// A run goes on by itself, from where all was tried.
+pub fn go_further<R: Run>(
     alloc: Global,
     levels: &mut Stack<Level<R, R::Fault>>,
     level: Level<R, R::Fault>,
@@ -244,18 +244,19 @@ fn go_from<R: Run>(
     }
 }
 
-// The level that was on top makes a turn, where no fault is left to be tried.
-fn turn_late<R: Run>(
+// A departure is tried, where no fault is left to be tried. Where all was tried, the level is handed back.
+fn depart_late<R: Run>(
     alloc: Global,
     levels: &mut Stack<Level<R, R::Fault>>,
     most: u64,
     mut level: Level<R, R::Fault>,
-) -> Result<Option<Ended<R>>, WalkFault>
+) -> Result<Option<Level<R, R::Fault>>, WalkFault>
     requires { level.faults ≡ [] }
-    ensures { Turned R.steps most (level ∷ levels.old) result levels.new }
+    ensures departs { IfOk result (λ all. Departed R.steps most level levels.old all levels.new) }
+    ensures fault { IfErr result IsNotFull }
 {
     if level.late == 0 {
-        return go_from(alloc, levels, level);
+        return Ok(Some(level));
     }
     let place = level.late - 1;
     level.late = place;
@@ -263,21 +264,37 @@ fn turn_late<R: Run>(
     Ok(None)
 }
 
-// The level that was on top makes a turn.
-fn turn<R: Run>(
+/// A departure of the level that was on top is tried. Where all were, the level is handed back.
+pub fn depart<R: Run>(
     alloc: Global,
     levels: &mut Stack<Level<R, R::Fault>>,
     most: u64,
     mut level: Level<R, R::Fault>,
-) -> Result<Option<Ended<R>>, WalkFault>
-    ensures { Turned R.steps most (level ∷ levels.old) result levels.new }
+) -> Result<Option<Level<R, R::Fault>>, WalkFault>
+    ensures departs { IfOk result (λ all. Departed R.steps most level levels.old all levels.new) }
+    ensures fault { IfErr result IsNotFull }
 {
     match level.faults.pop_front() {
         Some(fault) => {
             try_fault(alloc, levels, most, level, fault)?;
             Ok(None)
         }
-        None => turn_late(alloc, levels, most, level),
+        None => depart_late(alloc, levels, most, level),
+    }
+}
+
+// The level that was on top makes a turn.
+fn turn<R: Run>(
+    alloc: Global,
+    levels: &mut Stack<Level<R, R::Fault>>,
+    most: u64,
+    level: Level<R, R::Fault>,
+) -> Result<Option<Ended<R>>, WalkFault>
+    ensures { Turned R.steps most (level ∷ levels.old) result levels.new }
+{
+    match depart(alloc, levels, most, level)? {
+        Some(tried) => go_from(alloc, levels, tried),
+        None => Ok(None),
     }
 }
 

@@ -1,19 +1,18 @@
 //! The walk over all runs.
-ghost use Rattle.std.specs.Prelude.{◌≡◌, ◌∷◌, ◌++◌, IfOk, IfErr, OnOk};
+ghost use Rattle.std.specs.Prelude.{◌≡◌, IfOk, IfErr};
 ghost use Rattle.mr_explore_search.specs.Steps.{IsNotFull};
 ghost use Rattle.mr_explore_search.specs.Runs.{runs};
 ghost use Rattle.mr_explore_search.specs.Taking.{Takes, no_more};
-ghost use Rattle.mr_explore_search.specs.inner.Stack.{Looks, pass, passes, stack_left};
+ghost use Rattle.mr_explore_search.specs.inner.Stack.{Looks, stack_left};
 
-use crate::chances::Chances;
 use crate::ended::Ended;
 use crate::fault::WalkFault;
 use crate::level::Level;
 use crate::next::Next;
-use crate::owed::Owed;
+use crate::opening::open_all;
 use crate::run::Run;
 use crate::stack::Stack;
-use crate::turn::{next_of, open};
+use crate::turn::next_of;
 use std::alloc::Global;
 use std::marker::Model;
 
@@ -44,9 +43,19 @@ impl<R: Run> Walk<R> {
         ensures all { IfOk result (λ walk. walk ≡ runs R.steps most faults run) }
         ensures fault { IfErr result IsNotFull }
     {
-        let mut levels = Stack::new(alloc);
-        open_passes(alloc, &mut levels, &run, faults, most)?;
-        open_pass(alloc, &mut levels, run, 0, most)?;
+        let levels = open_all(alloc, run, faults, most)?;
+        Walk::of(alloc, levels, most)
+    }
+
+    /// A walk over all that is left of these levels.
+    pub(crate) fn of(
+        alloc: Global,
+        mut levels: Stack<Level<R, R::Fault>>,
+        most: u64,
+    ) -> Result<Walk<R>, WalkFault>
+        ensures all { IfOk result (λ walk. walk ≡ stack_left R.steps most levels) }
+        ensures fault { IfErr result IsNotFull }
+    {
         let next = look(alloc, &mut levels, most)?;
         Ok(Walk { levels, next, most })
     }
@@ -73,44 +82,6 @@ impl<R: Run> Walk<R> {
     {
         self.next.is_none()
     }
-}
-
-// The places from which the runs with one fault and more come, up to `faults`, come on top.
-fn open_passes<R: Run>(
-    alloc: Global,
-    levels: &mut Stack<Level<R, R::Fault>>,
-    run: &R,
-    faults: u32,
-    most: u64,
-) -> Result<(), WalkFault>
-    ensures opens { OnOk result (stack_left R.steps most levels.new ≡ passes R.steps most 1 faults run.now ++ stack_left R.steps most levels.old) }
-    ensures fault { IfErr result IsNotFull }
-{
-    for fewer in 0..faults {
-        let fork = run.fork(alloc)?;
-        open_pass(alloc, levels, fork, faults - fewer, most)?;
-    }
-    Ok(())
-}
-
-// The place from which the runs with just so many faults come is on top.
-fn open_pass<R: Run>(
-    alloc: Global,
-    levels: &mut Stack<Level<R, R::Fault>>,
-    run: R,
-    faults: u32,
-    most: u64,
-) -> Result<(), WalkFault>
-    ensures opens { OnOk result (levels.new ≡ pass R.steps most faults run ∷ levels.old) }
-    ensures fault { IfErr result IsNotFull }
-{
-    let chances = Chances {
-        owed: Owed::new(alloc),
-        spare: faults,
-        departs: faults as u64 + faults as u64,
-        total: faults,
-    };
-    open(alloc, levels, run, chances, 0, most)
 }
 
 // What comes next, if anything does.

@@ -228,18 +228,18 @@ history_json_fails input (Err TurnsSpent) h = h
 history_json_fails input (Err JournalMismatch) h = h
 history_json_fails input (Err Thread) h = h
 
-pub explore_fails : {A : Type 0} (asked : Asked) (progress : Bool) (input : List ℕ) (r : Result A SimFault) → IfErr r (SoughtFails asked input) → IfErr r (RefusesText (Explore asked progress) input)
-explore_fails asked progress input (Ok x) h = h
-explore_fails asked progress input (Err NoMemory) h = h
-explore_fails asked progress input (Err Read) h = h
-explore_fails asked progress input (Err Write) h = h
-explore_fails asked progress input (Err TooLong) h = h
-explore_fails asked progress input (Err (BadCommand n)) h = h
-explore_fails asked progress input (Err (BadRecord n)) h = h
-explore_fails asked progress input (Err (Job e)) h = h
-explore_fails asked progress input (Err Refused) h = h
-explore_fails asked progress input (Err Full) h = h
-explore_fails asked progress input (Err JobFailed) h = h
-explore_fails asked progress input (Err TurnsSpent) h = h
-explore_fails asked progress input (Err JournalMismatch) h = h
-explore_fails asked progress input (Err Thread) h = h
+pub explore_fails : {A : Type 0} (asked : Asked) (progress : Bool) (jobs : Option ℕ) (input : List ℕ) (r : Result A SimFault) → IfErr r (SoughtFails asked input) → IfErr r (RefusesText (Explore asked progress jobs) input)
+explore_fails asked progress jobs input (Ok x) h = h
+explore_fails asked progress jobs input (Err NoMemory) h = h
+explore_fails asked progress jobs input (Err Read) h = h
+explore_fails asked progress jobs input (Err Write) h = h
+explore_fails asked progress jobs input (Err TooLong) h = h
+explore_fails asked progress jobs input (Err (BadCommand n)) h = h
+explore_fails asked progress jobs input (Err (BadRecord n)) h = h
+explore_fails asked progress jobs input (Err (Job e)) h = h
+explore_fails asked progress jobs input (Err Refused) h = h
+explore_fails asked progress jobs input (Err Full) h = h
+explore_fails asked progress jobs input (Err JobFailed) h = h
+explore_fails asked progress jobs input (Err TurnsSpent) h = h
+explore_fails asked progress jobs input (Err JournalMismatch) h = h
+explore_fails asked progress jobs input (Err Thread) h = h

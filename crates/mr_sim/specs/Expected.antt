@@ -22,7 +22,7 @@ IsMet HistoryJson input met = met ≡ true
 IsMet Seq input met = met ≡ true
 IsMet (Threads turns hold) input met = met ≡ true
 IsMet (ThreadsSeen turns hold seen) input met = met ≡ true
-IsMet (Explore asked progress) input met = met ≡ true
+IsMet (Explore asked progress jobs) input met = met ≡ true
 
 -- how the program ends where a subcommand was done
 abbrev pub ending_of : Bool → Ending

@@ -17,14 +17,14 @@ RunsThreads _ = ⊥
 abbrev pub DependsOnTime : Command → Type 0
 DependsOnTime (Threads turns hold) = Unit {0}
 DependsOnTime (ThreadsSeen turns hold seen) = Unit {0}
-DependsOnTime (Explore asked progress) = IsTimed asked.seconds
+DependsOnTime (Explore asked progress jobs) = IsTimed asked.seconds
 DependsOnTime _ = ⊥
 
 -- the events of runs are made once more
 abbrev pub MakesRunsAgain : Command → Type 0
 MakesRunsAgain (Threads turns hold) = Unit {0}
 MakesRunsAgain (ThreadsSeen turns hold seen) = Unit {0}
-MakesRunsAgain (Explore asked progress) = Unit {0}
+MakesRunsAgain (Explore asked progress jobs) = Unit {0}
 MakesRunsAgain _ = ⊥
 
 -- A fault that is not of the input itself. Where threads run a job, it depends on the schedule whether it fails, and whether there is a run.

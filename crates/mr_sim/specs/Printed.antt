@@ -45,7 +45,7 @@ Prints HistoryJson input text = TellsHistory input text
 Prints Seq input text = PrintsSeq input text
 Prints (Threads turns hold) input text = PrintsSuccess input text
 Prints (ThreadsSeen turns hold seen) input text = ShowsRun seen input text
-Prints (Explore asked progress) input text = PrintsSought asked input text
+Prints (Explore asked progress jobs) input text = PrintsSought asked input text
 
 -- ---- what is refused
 
@@ -64,7 +64,7 @@ IsBadLine HistoryJson input n = ⊥
 IsBadLine Seq input n = ⊥
 IsBadLine (Threads turns hold) input n = ⊥
 IsBadLine (ThreadsSeen turns hold seen) input n = ⊥
-IsBadLine (Explore asked progress) input n = IsBadPlayLine input n
+IsBadLine (Explore asked progress jobs) input n = IsBadPlayLine input n
 
 -- the first whole line of a segment that is no record and not the version line at its head
 abbrev pub IsBadRecord : Command → List ℕ → ℕ → Type 0
@@ -81,7 +81,7 @@ IsBadRecord HistoryJson input n = bad_line input ≡ Some n
 IsBadRecord Seq input n = ⊥
 IsBadRecord (Threads turns hold) input n = ⊥
 IsBadRecord (ThreadsSeen turns hold seen) input n = ⊥
-IsBadRecord (Explore asked progress) input n = ⊥
+IsBadRecord (Explore asked progress jobs) input n = ⊥
 
 -- what is wrong with a job text
 abbrev pub IsBadJob : Command → List ℕ → JobTextFault → Type 0
@@ -98,7 +98,7 @@ IsBadJob HistoryJson input e = ⊥
 IsBadJob Seq input e = submission_of input ≡ Err e
 IsBadJob (Threads turns hold) input e = submission_of input ≡ Err e
 IsBadJob (ThreadsSeen turns hold seen) input e = submission_of input ≡ Err e
-IsBadJob (Explore asked progress) input e = IsBadPlayJob input e
+IsBadJob (Explore asked progress jobs) input e = IsBadPlayJob input e
 
 -- the job of a job text refuses a line of a split; or it does not have a reduce that the goal names
 abbrev pub IsRefused : Command → List ℕ → Type 0
@@ -115,7 +115,7 @@ IsRefused HistoryJson input = ⊥
 IsRefused Seq input = RefusesSeq input
 IsRefused (Threads turns hold) input = ⊥
 IsRefused (ThreadsSeen turns hold seen) input = ⊥
-IsRefused (Explore asked progress) input = Names asked input false
+IsRefused (Explore asked progress jobs) input = Names asked input false
 
 -- an event of a run, or a work, passes a limit
 abbrev pub IsFull : Command → List ℕ → Type 0
@@ -132,7 +132,7 @@ IsFull HistoryJson input = ⊥
 IsFull Seq input = ⊥
 IsFull (Threads turns hold) input = IsRead input
 IsFull (ThreadsSeen turns hold seen) input = IsRead input
-IsFull (Explore asked progress) input = IsFullExplored asked input
+IsFull (Explore asked progress jobs) input = IsFullExplored asked input
 
 -- threads ran the job, and no success was told
 abbrev pub IsFailed : Command → List ℕ → Type 0
@@ -149,7 +149,7 @@ IsToRun _ input = ⊥
 abbrev pub MayMismatch : Command → List ℕ → Type 0
 MayMismatch (Threads turns hold) input = IsRead input
 MayMismatch (ThreadsSeen turns hold seen) input = IsRead input
-MayMismatch (Explore asked progress) input = Unit {0}
+MayMismatch (Explore asked progress jobs) input = Unit {0}
 MayMismatch _ input = ⊥
 
 -- the text is formed or refused only of an input within the limit

@@ -5,16 +5,31 @@ ghost use Rattle.std.specs.Option.{option_map};
 ghost use Rattle.mr_trace.specs.mr_play.specs.Text.{job_line};
 ghost use Rattle.mr_sim.specs.Goals.{Names, PrintsSought, SoughtFails, has_reduce, has_reduces};
 
-use mr_explore::{Asked, Watch, explore_output};
+use mr_explore::{Asked, Unwatched, Watch, explore_output};
+use mr_explore_threads::explore_by_threads;
 use mr_script::{Expectation, split_once};
 use mr_sim_commands::{Printed, SimFault, read_job_text};
 use std::alloc::Global;
+use std::thread::Threads;
 
 /// What `explore` prints of an input, with the faults of `explore_output`. Before all of them but those of the job text comes `Refused`: the goal names
 /// a reduce that the job does not have, so no end can meet it.
 #[tactic(auto, using(crate::proofs::Sought::fails_sought))]
-pub(crate) fn explored<W: Watch>(
+pub(crate) fn explored(alloc: Global, input: &[u8], asked: &Asked<'_>) -> Result<Printed, SimFault>
+    ensures ok { IfOk result (λ v. PrintsSought asked.now input.now v.text.items) }
+    ensures met { IfOk result (λ v. v.met ≡ true) }
+    ensures fault { IfErr result (SoughtFails asked.now input.now) }
+{
+    check_goal(alloc, input, asked)?;
+    explore_output(alloc, input, asked, &Unwatched)
+}
+
+/// The same, by so many threads.
+#[tactic(auto, using(crate::proofs::Sought::fails_sought))]
+pub(crate) fn explored_by_threads<R: Threads + Sync, W: Watch>(
+    rt: &R,
     alloc: Global,
+    threads: usize,
     input: &[u8],
     asked: &Asked<'_>,
     watch: &W,
@@ -24,7 +39,7 @@ pub(crate) fn explored<W: Watch>(
     ensures fault { IfErr result (SoughtFails asked.now input.now) }
 {
     check_goal(alloc, input, asked)?;
-    explore_output(alloc, input, asked, watch)
+    explore_by_threads(rt, alloc, threads, input, asked, watch)
 }
 
 // Refuses a goal that names a reduce which the job does not have.

@@ -1,6 +1,6 @@
 //! The simulator: what `mrsim` reads and writes. The subcommands stand beneath it. Those that need no cluster are in
 //! mr_sim_commands, `play` is in mr_play, and what is shown beside it in mr_trace, mr_trace_picture and mr_trace_json. `explore` is
-//! in mr_explore, and `threads` in mr_threads and mr_threads_shown.
+//! in mr_explore and mr_explore_threads, and `threads` in mr_threads and mr_threads_shown.
 //!
 //! # What is proved
 //!
@@ -52,7 +52,8 @@
 //! (`IsAsExpected` of mr_play); of all else it is true. The ending of the program follows from that (`Remarks::ending`). Where there is a fault it hands out
 //! beside it what was expected in place of what is bad (`Refusal`). The fault is the contract. What the help says is in no clause; where there is no memory for it, less is said.
 //!
-//! Each input has at most one text, by the laws of mr_sim_commands and mr_play. No input is both printed and refused, by
+//! Each input has at most one text, by the laws of mr_sim_commands, mr_play and, where no time is given, mr_explore. So what `explore` prints does not
+//! depend on how many threads make its runs. No input is both printed and refused, by
 //! any subcommand (`printed_or_refused`). Where there is a text for an input of at most 2^24 bytes, the clause
 //! `fault` leaves only `NoMemory`, `Read` and `Write`. There are three exceptions. Where runs are made once more, it
 //! leaves `JournalMismatch` too. Where threads run a job, whether there is a run and whether it fails depends on the

@@ -3,28 +3,33 @@ use mr_explore::Watch;
 use std::rt::Clock;
 use std::time::Instant;
 
-/// Tells it on standard error. What can't be told is dropped.
+/// Tells it on standard error, where that is asked for. What can't be told is dropped.
 #[derive(Drop)]
 pub(crate) struct OnStandardError<'a, H: Eprint + Clock> {
     /// The handle.
     pub(crate) rt: &'a H,
     /// When it began, if the clock could be read.
     pub(crate) began: Option<Instant>,
+    /// Whether it is asked for.
+    pub(crate) is_asked: bool,
 }
 
 impl<'a, H: Eprint + Clock> OnStandardError<'a, H> {
     /// It begins now.
-    pub(crate) fn new(rt: &'a H) -> OnStandardError<'a, H> {
+    pub(crate) fn new(rt: &'a H, is_asked: bool) -> OnStandardError<'a, H> {
         OnStandardError {
             rt,
             began: Instant::now(rt).ok(),
+            is_asked,
         }
     }
 }
 
 impl<H: Eprint + Clock> Watch for OnStandardError<'_, H> {
     fn tell(&self, runs: u64, ends: usize) {
-        let _ = eprintln!(self.rt; "mrsim: {runs} runs, {ends} ends");
+        if self.is_asked {
+            let _ = eprintln!(self.rt; "mrsim: {runs} runs, {ends} ends");
+        }
     }
 
     /// Where the clock can't be read, they have.
@@ -36,26 +41,5 @@ impl<H: Eprint + Clock> Watch for OnStandardError<'_, H> {
             },
             None => true,
         }
-    }
-}
-
-/// Tells it where that is asked for.
-#[derive(Drop)]
-pub(crate) struct Progress<'a, W: Watch> {
-    /// Who is told.
-    pub(crate) watch: &'a W,
-    /// Whether it is asked for.
-    pub(crate) is_asked: bool,
-}
-
-impl<W: Watch> Watch for Progress<'_, W> {
-    fn tell(&self, runs: u64, ends: usize) {
-        if self.is_asked {
-            self.watch.tell(runs, ends);
-        }
-    }
-
-    fn have_passed(&self, seconds: u64) -> bool {
-        self.watch.have_passed(seconds)
     }
 }

@@ -1,15 +1,18 @@
 //! Subcommands over streams: all of the input is read, the whole output is formed, and then it is written.
-ghost use Rattle.std.specs.Prelude.{◌≡◌, ◌≢◌, IfOk, IfErr, IfSome, OnOk};
+ghost use Rattle.std.specs.Prelude.{◌≡◌, ◌≢◌, true, IfOk, IfErr, IfSome, OnOk};
 ghost use Rattle.std.specs.Io.KnownBytes.{Appends, Keeps};
 ghost use Rattle.mr_sim.specs.Expected.{IsMet};
+ghost use Rattle.mr_sim.specs.Goals.{PrintsSought, SoughtFails};
 ghost use Rattle.mr_sim.specs.Printed.{Prints, Refuses, RefusesText, Writes};
 
+use crate::goal::explored_by_threads;
 use crate::host::Host;
 use crate::input::read_input;
 use crate::progress::OnStandardError;
 use crate::refusal::Refusal;
 use crate::remarks::{Remarks, noted};
 use crate::subcommand::{Command, answer, printed};
+use mr_explore::Asked;
 use mr_sim_commands::{Printed, SimFault};
 use mr_threads::threads_output;
 use mr_threads_shown::{Seen, threads_seen};
@@ -17,7 +20,7 @@ use std::alloc::Global;
 use std::io::{Read, Write};
 use std::rt::Clock;
 use std::sync::Wait;
-use std::thread::Threads;
+use std::thread::{Threads, available_parallelism};
 
 /// Writes a whole text, and flushes it.
 fn write_text<W: Write>(writer: &mut W, text: &[u8]) -> Result<(), SimFault>
@@ -71,16 +74,76 @@ fn helped<H: AllocGlobal + Eprint + Clock + Threads + Wait + Sync>(
     ensures met { IfOk result (λ v. IsMet command.now input.now v.met) }
     ensures fault { IfErr result (λ e. RefusesText command.now input.now e.fault) }
 {
+    match printed_by(rt, command, input) {
+        Ok(printed) => Ok(noted(rt.alloc(), printed)?),
+        Err(fault) => Err(Refusal::of(rt.alloc(), command, input, fault)),
+    }
+}
+
+// What is printed where there is a handle: threads make the runs of `explore`, and run the job of `threads`.
+#[tactic(auto, using(crate::proofs::Failing::explore_fails))]
+fn printed_by<H: AllocGlobal + Eprint + Clock + Threads + Wait + Sync>(
+    rt: &H,
+    command: &Command<'_>,
+    input: &[u8],
+) -> Result<Printed, SimFault>
+    ensures ok { IfOk result (λ v. Prints command.now input.now v.text.items) }
+    ensures met { IfOk result (λ v. IsMet command.now input.now v.met) }
+    ensures fault { IfErr result (RefusesText command.now input.now) }
+{
+    match command {
+        Command::Explore {
+            asked,
+            progress,
+            jobs,
+        } => explored_with(rt, input, asked, *progress, *jobs),
+        _ => hosted(rt, command, input),
+    }
+}
+
+// The same, of all but `explore`: that is made by one thread here.
+fn hosted<H: AllocGlobal + Eprint + Clock + Threads + Wait + Sync>(
+    rt: &H,
+    command: &Command<'_>,
+    input: &[u8],
+) -> Result<Printed, SimFault>
+    ensures ok { IfOk result (λ v. Prints command.now input.now v.text.items) }
+    ensures met { IfOk result (λ v. IsMet command.now input.now v.met) }
+    ensures fault { IfErr result (RefusesText command.now input.now) }
+{
     let host = Host {
         threads: |turns: Option<u64>, hold: bool| threads_output(rt, input, turns, hold),
         threads_seen: |turns: Option<u64>, hold: bool, seen: Seen| threads_seen(
             rt, input, turns, hold, seen,
         ),
-        watch: OnStandardError::new(rt),
     };
-    match printed(rt.alloc(), &host, *command, input) {
-        Ok(printed) => Ok(noted(rt.alloc(), printed)?),
-        Err(fault) => Err(Refusal::of(rt.alloc(), command, input, fault)),
+    printed(rt.alloc(), &host, *command, input)
+}
+
+// What `explore` prints, by as many threads as are asked for, else by one for each processor.
+fn explored_with<H: AllocGlobal + Eprint + Clock + Threads + Sync>(
+    rt: &H,
+    input: &[u8],
+    asked: &Asked<'_>,
+    progress: bool,
+    jobs: Option<u32>,
+) -> Result<Printed, SimFault>
+    ensures ok { IfOk result (λ v. PrintsSought asked.now input.now v.text.items) }
+    ensures met { IfOk result (λ v. v.met ≡ true) }
+    ensures fault { IfErr result (SoughtFails asked.now input.now) }
+{
+    let watch = OnStandardError::new(rt, progress);
+    explored_by_threads(rt, rt.alloc(), threads_of(rt, jobs), input, asked, &watch)
+}
+
+// How many threads are asked for, or how many processors there are; 1 where that can't be told.
+fn threads_of<H: Threads>(rt: &H, jobs: Option<u32>) -> usize {
+    if let Some(jobs) = jobs {
+        return jobs as usize;
+    }
+    match available_parallelism(rt) {
+        Ok(count) => count.get(),
+        Err(_) => 1,
     }
 }
 

@@ -8,10 +8,9 @@ ghost use Rattle.mr_sim.specs.Printed.{Prints, RefusesText};
 
 use crate::goal::explored;
 use crate::host::Host;
-use crate::progress::Progress;
 use crate::tree::play_tree;
 use mr_commit_trace::committer_trace;
-use mr_explore::{Asked, Unwatched, Watch};
+use mr_explore::Asked;
 use mr_pipe::Form;
 use mr_sim_commands::{IdleKeys, Printed, SimFault, committer_output, history_output, seq_output};
 use mr_threads::unthreaded;
@@ -61,10 +60,11 @@ pub enum Command<'a> {
         seen: Seen,
     },
     /// Makes every run of a job text and a script with at most as many faults as are asked for, and tells the ends that they come to. `progress` tells on
-    /// standard error how far it is.
+    /// standard error how far it is. Runs are made by `jobs` threads, or by one for each processor.
     Explore {
         asked: Asked<'a>,
         progress: bool,
+        jobs: Option<u32>,
     },
 }
 
@@ -78,9 +78,9 @@ fn plain(alloc: Global, text: Vec<u8>) -> Printed
 
 /// What a subcommand prints for the bytes of its input, and what is noted beside it. This is the one place that tells the subcommands apart.
 #[tactic(auto, using(crate::proofs::Failing::committer_fails, crate::proofs::Failing::trace_fails, crate::proofs::Failing::trace_json_fails, crate::proofs::Failing::history_fails, crate::proofs::Failing::play_fails, crate::proofs::Failing::shown_fails, crate::proofs::Failing::drawn_fails, crate::proofs::Failing::json_fails, crate::proofs::Failing::tree_fails, crate::proofs::Failing::history_json_fails, crate::proofs::Failing::seq_fails, crate::proofs::Failing::threads_fails, crate::proofs::Failing::seen_fails, crate::proofs::Failing::explore_fails))]
-pub(crate) fn printed<T, S, W: Watch>(
+pub(crate) fn printed<T, S>(
     alloc: Global,
-    host: &Host<T, S, W>,
+    host: &Host<T, S>,
     command: Command<'_>,
     input: &[u8],
 ) -> Result<Printed, SimFault>
@@ -122,13 +122,7 @@ where
         Command::Seq => seq_output(alloc, input),
         Command::Threads { turns, hold } => (host.threads)(turns, hold),
         Command::ThreadsSeen { turns, hold, seen } => (host.threads_seen)(turns, hold, seen),
-        Command::Explore { asked, progress } => {
-            let watch = Progress {
-                watch: &host.watch,
-                is_asked: progress,
-            };
-            explored(alloc, input, &asked, &watch)
-        }
+        Command::Explore { asked, .. } => explored(alloc, input, &asked),
     }
 }
 
@@ -146,7 +140,6 @@ pub fn answer(alloc: Global, command: Command<'_>, input: &[u8]) -> Result<Vec<u
     let host = Host {
         threads: |_turns: Option<u64>, _hold: bool| unthreaded(alloc, input),
         threads_seen: |_turns: Option<u64>, _hold: bool, _seen: Seen| unthreaded(alloc, input),
-        watch: Unwatched,
     };
     Ok(printed(alloc, &host, command, input)?.text)
 }

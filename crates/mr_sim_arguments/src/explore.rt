@@ -1,5 +1,5 @@
 //! The subcommand `explore`: every run of a job with few faults.
-use crate::names::{FAULTS, FIND, JSON, MOST, PROGRESS, SECONDS};
+use crate::names::{FAULTS, FIND, JOBS, JSON, MOST, PROGRESS, SECONDS};
 use crate::table::Word;
 use clap::builder::ValueParser;
 
@@ -39,6 +39,9 @@ const FIND_HELP: &str =
 
 const MOST_HELP: &str = "Makes at most RUNS runs, and shows what came of them (default: all)";
 
+const JOBS_HELP: &str =
+    "By how many threads runs are made, 1 to 256 (default: one a processor); what is printed is the same";
+
 const SECONDS_HELP: &str =
     "Makes no further run after N seconds, and shows what came of those that were made";
 
@@ -59,6 +62,13 @@ const WORDS: &[Word] = &[
         name: FIND,
         help: FIND_HELP,
         value_names: &["GOAL"],
+        ..Word::TEXT
+    },
+    Word {
+        name: JOBS,
+        help: JOBS_HELP,
+        value_names: &["N"],
+        bounds: ValueParser::Signed(1, 256),
         ..Word::TEXT
     },
     Word {

@@ -45,6 +45,9 @@ pub const HISTORY_NAME: &str = "history";
 /// The first map's work is held.
 pub const HOLD: &str = "hold";
 
+/// By how many threads `explore` makes its runs.
+pub const JOBS: &str = "jobs";
+
 /// Lines of JSON are asked for.
 pub const JSON: &str = "json";
 

@@ -6,7 +6,7 @@ use clap::error::ErrorKind;
 use clap::{ArgMatches, Error};
 use mr_sim::{Asked, Ending, Expectation, Form, Part, Seen, Shown, SimFault};
 use mr_sim_arguments::{
-    DIAGRAM, FAULTS, FILE, FIND, FOLD, FROM, HISTORY_NAME, HOLD, JSON, MOST, PROGRESS, ROWS,
+    DIAGRAM, FAULTS, FILE, FIND, FOLD, FROM, HISTORY_NAME, HOLD, JOBS, JSON, MOST, PROGRESS, ROWS,
     SCRIPT, SECONDS, TRACE, TREE, TURNS,
 };
 
@@ -117,6 +117,7 @@ fn explore_of<'a>(words: &ArgMatches<'_>, goal: Option<&'a [Expectation]>) -> mr
             form: form_of(words),
         },
         progress: words.get_flag(PROGRESS),
+        jobs: words.get_one::<u32>(JOBS),
     }
 }
 

@@ -1,7 +1,7 @@
 //! The runs that come of one by at most so many faults.
 
 use crate::counting::Counting;
-use mr_explore_search::Walk;
+use mr_explore_search::{Parts, Walk};
 use std::alloc::Global;
 use std::process::Abort;
 
@@ -40,4 +40,34 @@ fn runs_of_one_step(rt: HostRuntime) {
     let ended = walk.next_run(alloc).expect(&rt, "no run");
     assert!(rt; ended.is_some_and(|ended| ended.run.at == 1));
     assert!(rt; walk.next_run(alloc).expect(&rt, "no run").is_none());
+}
+
+// How many runs a walk makes.
+fn runs_of(rt: &impl Abort, alloc: Global, mut walk: Walk<Counting>) -> usize {
+    for count in 0..20 {
+        if walk.next_run(alloc).expect(rt, "no run").is_none() {
+            return count;
+        }
+    }
+    panic!(rt; "too many runs")
+}
+
+// With two faults there is a part for the run without a fault, one for those with one, and one for all that come behind the first of two. A
+// part that is left is walked with the rest.
+#[test]
+fn runs_by_parts(rt: HostRuntime) {
+    let alloc = rt.alloc();
+    let mut parts = Parts::new(alloc, Counting { at: 0 }, 2, 10).expect(&rt, "no parts");
+    parts.divide(alloc, 10).expect(&rt, "no division");
+    assert!(rt; parts.len() == 3);
+    for (place, count) in [1, 2, 7].iter().enumerate() {
+        let walk = parts
+            .walk_of(alloc, place)
+            .expect(&rt, "no walk")
+            .expect(&rt, "no part");
+        assert!(rt; runs_of(&rt, alloc, walk) == *count);
+    }
+    parts.forget_first();
+    let walk = parts.into_walk(alloc).expect(&rt, "no walk");
+    assert!(rt; runs_of(&rt, alloc, walk) == 9);
 }

@@ -51,6 +51,7 @@ fn answers_without_a_handle(rt: HostRuntime) {
     let command = Command::Explore {
         asked,
         progress: false,
+        jobs: None,
     };
     answers(&rt, command, ONE, b"# 1 run with at most 0 faults\nnone\n");
 }

@@ -17,8 +17,6 @@ use Rattle.mr_sim_commands.specs.declared.fault.SimFault.{SimFault}
 use Rattle.mr_sim_commands.specs.declared.fault.SimFault.TheVariants as fault
 use Rattle.mr_play.specs.declared.fault.PlayerFault.{PlayerFault}
 use Rattle.mr_play.specs.declared.fault.PlayerFault.TheVariants as player_fault
-use Rattle.mr_explore_search.specs.declared.fault.WalkFault.{WalkFault}
-use Rattle.mr_explore_search.specs.declared.fault.WalkFault.TheVariants as walk_fault
 use Rattle.mr_explore.specs.Runs.{Exploring, newest_in, start_first}
 
 abbrev pub view_with : Bool → Player → Exploring
@@ -90,12 +88,6 @@ of_world_in p = of_world (job_as p.job) p.world.config (within p.world.config) (
 
 abbrev pub of_crashes_in : Player → List Fault
 of_crashes_in p = of_crashes (job_as p.job) p.world.config (within p.world.config) (state_in p)
-
--- the fault of a walk, as that of an exploration
-abbrev pub fault_of : WalkFault → SimFault
-fault_of walk_fault.NoMemory = fault.NoMemory
-fault_of walk_fault.Full = fault.Full
-fault_of walk_fault.Mismatch = fault.JournalMismatch
 
 -- no memory; or a limit forbids that the first master starts
 abbrev pub CannotBegin : Exploring → SimFault → Type 0

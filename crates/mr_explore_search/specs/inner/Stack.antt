@@ -155,6 +155,11 @@ module _ {S F : Type 0} (steps : Steps S F) where
   Turned most old (Err fault.NoMemory) new = Unit {0}
   Turned most old (Err fault.Mismatch) new = Unit {0}
 
+  -- a departure was tried, and there is less to be done; or all was tried, and the level is handed back
+  abbrev pub Departed : ℕ → Level S F → List (Level S F) → Option (Level S F) → List (Level S F) → Type 0
+  Departed most l old None new = (stack_left most (l ∷ old) ≡ stack_left most new) × (stack_turns most new < stack_turns most (l ∷ old))
+  Departed most l old (Some m) new = (m ≡ l) × (l.faults ≡ []) × (l.late ≡ 0) × (new ≡ old)
+
   abbrev pub NextOf : ℕ → List (Level S F) → Result (Option (Ended S)) WalkFault → List (Level S F) → Type 0
   NextOf most old (Ok None) new = (stack_left most old ≡ []) × (new ≡ [])
   NextOf most old (Ok (Some e)) new = stack_left most old ≡ Run e.faults e.run ∷ stack_left most new

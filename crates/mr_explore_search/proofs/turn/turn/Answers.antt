@@ -1,11 +1,9 @@
-use Rattle.std.proofs.Common.{sym, ◌∙◌}
-use Rattle.mr_explore_search.proofs.Turning.{turned_fault, with_faults}
+use Rattle.std.proofs.Common.{subst}
+use Rattle.mr_explore_search.specs.inner.Stack.{Departed}
+use Rattle.mr_explore_search.proofs.Turning.{turned_on}
 use Rattle.mr_explore_search.proofs.turn.turn.Goals as goal
 
-pub returns-in_ok-try_fault-in-Some : goal.returns-in_ok-try_fault-in-Some
-returns-in_ok-try_fault-in-Some g c =
-    turned_fault g.R.Run.steps c.args.most c.args.level c.in-Some.fault c.pop_front.new.self c.args.levels.now c.try_fault.new.levels c.in-Some.ensures.items c.in_ok-try_fault-in-Some.ensures.tries
-
-pub returns-in-None : goal.returns-in-None
-returns-in-None g c =
-    with_faults g.R.Run.steps c.args.most c.args.level c.pop_front.new.self c.args.levels.now c.turn_late.new.levels c.turn_late.result (c.in-None.ensures.cases.1 ∙ sym c.in-None.ensures.cases.0) c.turn_late.ensures
+pub returns-in-Some : goal.returns-in-Some
+returns-in-Some g c =
+    turned_on g.R.Run.steps c.args.most c.args.level c.in-Some.tried c.args.levels.now c.depart.new.levels c.go_from.new.levels c.go_from.result
+    (subst (λ o. Departed g.R.Run.steps c.args.most c.args.level c.args.levels.now o c.depart.new.levels) c.in-Some.is c.in_ok-tried.ensures.departs) c.go_from.ensures

@@ -1,6 +1,6 @@
 use Rattle.std.proofs.Common.{◌≡◌, ◌-◌, suc, ◌++◌}
 use Rattle.mr_explore_search.specs.inner.Stack.{passes, stack_left}
-use Rattle.mr_explore_search.proofs.walk.open_passes.Given as goal
+use Rattle.mr_explore_search.proofs.opening.open_passes.Given as goal
 
 -- those of the most faults are there
 abbrev pub invariant-loop-fewer : goal.invariant-loop-fewer

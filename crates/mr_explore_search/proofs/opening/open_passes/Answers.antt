@@ -1,7 +1,7 @@
 use Rattle.std.proofs.Common.{◌≤◌, ◌<◌, ◌-◌, ◌∷◌, ap, ◌∙◌, arith}
 use Rattle.mr_explore_search.specs.inner.Stack.{pass}
 use Rattle.mr_explore_search.proofs.Passes.{all_there, none_yet, one_more}
-use Rattle.mr_explore_search.proofs.walk.open_passes.Goals as goal
+use Rattle.mr_explore_search.proofs.opening.open_passes.Goals as goal
 
 pub loop-fewer-init : goal.loop-fewer-init
 loop-fewer-init g c = none_yet g.R.Run.steps c.args.most c.args.run.now c.args.faults c.args.levels.now

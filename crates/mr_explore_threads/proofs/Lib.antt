@@ -1,0 +1,3 @@
+mod Advancing
+mod Beginning
+mod Failing
