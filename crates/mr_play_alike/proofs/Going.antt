@@ -1,5 +1,5 @@
 -- A calm goes on with two alike plays by the same event.
-use Rattle.std.proofs.Common.{ℕ, suc, ◌+◌, ◌%◌, ◌≡◌, refl, sym, ◌∙◌, ap, subst, arith, Bool, true, false, ◌||◌, List, [], ◌∷◌, filter, length, length-drop, drop, nat_lt, nat_le, slice_get, Option, Some, None, is_some, option_to_list, if◌then◌else◌}
+use Rattle.std.proofs.Common.{ℕ, suc, ◌+◌, ◌%◌, ◌≤◌, ◌≡◌, refl, sym, ◌∙◌, ap, subst, arith, Bool, true, false, ◌||◌, List, [], ◌∷◌, filter, length, length-drop, drop, nat_lt, nat_le, slice_get, Option, Some, None, is_some, option_to_list, if◌then◌else◌}
 use Rattle.std.specs.Option.{option_map, option_or}
 use Rattle.std.specs.List.{flat_map, range_with_len}
 use Rattle.std.proofs.lemmas.Bool.{true≢false, ltb-true, ltb-false}
@@ -20,7 +20,7 @@ use Rattle.mr_world_shows.proofs.Shown.{show_the_same, due-same, next-same, seen
 use Rattle.mr_world.specs.Readings.{input_in, living, launched_by, next_living, is_behind, wish_by}
 use Rattle.mr_script.specs.declared.event_name.EventName.TheVariants as name
 use Rattle.mr_play.specs.EventNames.{duty_event, wish_event}
-use Rattle.mr_play.specs.Played.{Played, Next, world, is_dropped, passed, cursor_at, result_of, computed_of, computing, stepping, next_packet, next_duty, next_launch, next_step, next_of}
+use Rattle.mr_play.specs.Played.{Played, Next, world, is_dropped, is_passed, passed, cursor_at, result_of, computed_of, computing, stepping, next_packet, next_duty, next_launch, next_step, next_of}
 use Rattle.mr_play_alike.specs.Plays.{SamePlay, SameEvent, SameNext, AlikePlaysGoOnAlike}
 
 -- ---- lists
@@ -85,6 +85,14 @@ passed-same cfg w u e ds es m n f (x ∷ xs) =
     let rest = passed-same cfg w u e ds es (suc m) (suc n) (λ i. let c : suc m + i ≡ m + suc i = omega arith in let d : n + suc i ≡ suc n + i = omega arith in ap (λ k. is_dropped ds k) c ∙ (f (suc i) ∙ ap (λ k. is_dropped es k) d)) xs in
     λ i. if dropped i || is_some (gone i) then suc (rest i) else 0
 
+passed-fits : (w : World) (ds : List ℕ) (m : ℕ) (xs : List Envelope) → passed w ds m xs ≤ length xs
+passed-fits w ds m [] = omega arith
+passed-fits w ds m (x ∷ xs) = by (is_passed w ds m x) (passed-fits w ds (suc m) xs)
+  where
+    by : (b : Bool) → passed w ds (suc m) xs ≤ length xs → (if b then suc (passed w ds (suc m) xs) else 0) ≤ suc (length xs)
+    by true l = omega (arith, l)
+    by false l = omega arith
+
 -- ---- the first of several
 
 or-same : (w u : World) (m n : ℕ) (x x' y y' : Option Next) → SameNext w u m n x x' → SameNext w u m n y y' → SameNext w u m n (option_or x y) (option_or x' y')
@@ -132,6 +140,7 @@ module _ (job : Job) (cfg : Config) (within : Limits) (s t : Played) (k : ℕ) (
         passed = i + 1;
         here = omega arith;
         there = omega arith;
+        fits = let x = ltb-true (s.cursor + i) (length W.bag) e in omega (arith, x);
       }
       by false false e f = tt
       by true false e f =
@@ -155,23 +164,23 @@ module _ (job : Job) (cfg : Config) (within : Limits) (s t : Played) (k : ℕ) (
 
   -- ---- a store call, a launch
 
-  duty-same : (i : ℕ) → Same (next_duty job cfg within W k s.stepped (s.cursor + i)) (next_duty job cfg within U k t.stepped (t.cursor + i))
-  duty-same i =
+  duty-same : (i : ℕ) → s.cursor + i ≤ length W.bag → Same (next_duty job cfg within W k s.stepped (s.cursor + i)) (next_duty job cfg within U k t.stepped (t.cursor + i))
+  duty-same i l =
       let P : Option due.Duty → Type 0 = λ z. Same (option_map (as-duty k s.stepped (s.cursor + i)) (named (seen_by cfg W k).phase (duty cfg W k))) (option_map (as-duty k t.stepped (t.cursor + i)) z) in
       subst P (due-same cfg within s.events t.events o.alike k lives) (by (named (seen_by cfg W k).phase (duty cfg W k)))
     where
       by : (z : Option due.Duty) → Same (option_map (as-duty k s.stepped (s.cursor + i)) z) (option_map (as-duty k t.stepped (t.cursor + i)) z)
       by None = tt
-      by (Some d) = record { names = refl; event = refl; stepped = o.stepped; passed = i; here = refl; there = refl }
+      by (Some d) = record { names = refl; event = refl; stepped = o.stepped; passed = i; here = refl; there = refl; fits = l }
 
-  launch-same : (i : ℕ) → Same (next_launch job cfg within W k s.stepped (s.cursor + i)) (next_launch job cfg within U k t.stepped (t.cursor + i))
-  launch-same i =
+  launch-same : (i : ℕ) → s.cursor + i ≤ length W.bag → Same (next_launch job cfg within W k s.stepped (s.cursor + i)) (next_launch job cfg within U k t.stepped (t.cursor + i))
+  launch-same i l =
       let P : Option TaskId → Type 0 = λ z. Same (option_map (as-launch cfg k s.stepped (s.cursor + i)) (wanted cfg (seen_by cfg W k))) (option_map (as-launch cfg k t.stepped (t.cursor + i)) z) in
       subst P (next-same cfg within s.events t.events o.alike k lives) (by (wanted cfg (seen_by cfg W k)))
     where
       by : (z : Option TaskId) → Same (option_map (as-launch cfg k s.stepped (s.cursor + i)) z) (option_map (as-launch cfg k t.stepped (t.cursor + i)) z)
       by None = tt
-      by (Some x) = record { names = refl; event = refl; stepped = o.stepped; passed = i; here = refl; there = refl }
+      by (Some x) = record { names = refl; event = refl; stepped = o.stepped; passed = i; here = refl; there = refl; fits = l }
 
   -- ---- a step of a container
 
@@ -213,8 +222,8 @@ module _ (job : Job) (cfg : Config) (within : Limits) (s t : Played) (k : ℕ) (
       let P : Option Event → Type 0 = λ z. SameEvent W U (stepping job cfg within W c) z in
       subst P is (stepping-itself c)
 
-  step-same : (i : ℕ) → Same (next_step job cfg within W s.stepped (s.cursor + i)) (next_step job cfg within U t.stepped (t.cursor + i))
-  step-same i =
+  step-same : (i : ℕ) → s.cursor + i ≤ length W.bag → Same (next_step job cfg within W s.stepped (s.cursor + i)) (next_step job cfg within U t.stepped (t.cursor + i))
+  step-same i l =
       let shown = show_the_same cfg within s.events t.events o.alike in
       let q : next_living (living cfg W) s.stepped ≡ next_living (living cfg U) t.stepped = λ j. next_living (shown.lives j) (o.stepped j) in
       let P : Option ContainerId → Type 0 = λ z. Same (option_map (as-step job cfg within W (s.cursor + i)) (next_living (living cfg W) s.stepped)) (option_map (as-step job cfg within U (t.cursor + i)) z) in
@@ -225,12 +234,12 @@ module _ (job : Job) (cfg : Config) (within : Limits) (s t : Played) (k : ℕ) (
       by (Some c) e =
           let a = next-lives cfg W s.stepped c e in
           let v = wish-same cfg within s.events t.events o.alike c a in
-          record { names = λ j. name.Step ∷ option_to_list (wish_event (v j)); event = stepping-same c a; stepped = refl; passed = i; here = refl; there = refl }
+          record { names = λ j. name.Step ∷ option_to_list (wish_event (v j)); event = stepping-same c a; stepped = refl; passed = i; here = refl; there = refl; fits = l }
 
   -- ---- the first of these
 
-  at-same : (i : ℕ) → Same (next_of job cfg within W k s.stepped (s.cursor + i)) (next_of job cfg within U k t.stepped (t.cursor + i))
-  at-same i =
+  at-same : (i : ℕ) → s.cursor + i ≤ length W.bag → Same (next_of job cfg within W k s.stepped (s.cursor + i)) (next_of job cfg within U k t.stepped (t.cursor + i))
+  at-same i l =
       or-same W U s.cursor t.cursor (next_packet job cfg within W s.stepped (s.cursor + i)) (next_packet job cfg within U t.stepped (t.cursor + i))
       (option_or (next_duty job cfg within W k s.stepped (s.cursor + i)) (option_or (next_launch job cfg within W k s.stepped (s.cursor + i)) (next_step job cfg within W s.stepped (s.cursor + i))))
       (option_or (next_duty job cfg within U k t.stepped (t.cursor + i)) (option_or (next_launch job cfg within U k t.stepped (t.cursor + i)) (next_step job cfg within U t.stepped (t.cursor + i))))
@@ -238,16 +247,24 @@ module _ (job : Job) (cfg : Config) (within : Limits) (s t : Played) (k : ℕ) (
       (or-same W U s.cursor t.cursor (next_duty job cfg within W k s.stepped (s.cursor + i)) (next_duty job cfg within U k t.stepped (t.cursor + i))
       (option_or (next_launch job cfg within W k s.stepped (s.cursor + i)) (next_step job cfg within W s.stepped (s.cursor + i)))
       (option_or (next_launch job cfg within U k t.stepped (t.cursor + i)) (next_step job cfg within U t.stepped (t.cursor + i)))
-      (duty-same i)
+      (duty-same i l)
       (or-same W U s.cursor t.cursor (next_launch job cfg within W k s.stepped (s.cursor + i)) (next_launch job cfg within U k t.stepped (t.cursor + i))
-      (next_step job cfg within W s.stepped (s.cursor + i)) (next_step job cfg within U t.stepped (t.cursor + i)) (launch-same i) (step-same i)))
+      (next_step job cfg within W s.stepped (s.cursor + i)) (next_step job cfg within U t.stepped (t.cursor + i)) (launch-same i l) (step-same i l)))
+
+  pub shifts : passed W s.dropped s.cursor (drop s.cursor W.bag) ≡ passed U t.dropped t.cursor (drop t.cursor U.bag)
+  shifts = passed-same cfg W U o.alike s.dropped t.dropped s.cursor t.cursor o.dropped (drop s.cursor W.bag) ∙ ap (λ (xs : List Envelope). passed U t.dropped t.cursor xs) o.packets.ahead
+
+  pub fits : s.cursor + passed W s.dropped s.cursor (drop s.cursor W.bag) ≤ length W.bag
+  fits =
+      let a = passed-fits W s.dropped s.cursor (drop s.cursor W.bag) in
+      let b = length-drop s.cursor W.bag in
+      let c = o.packets.from in
+      omega (arith, a, b, c)
 
   pub go_on : Same (next_of job cfg within W k s.stepped (cursor_at W s.dropped s.cursor)) (next_of job cfg within U k t.stepped (cursor_at U t.dropped t.cursor))
   go_on =
-      let shift : passed W s.dropped s.cursor (drop s.cursor W.bag) ≡ passed U t.dropped t.cursor (drop t.cursor U.bag) =
-      passed-same cfg W U o.alike s.dropped t.dropped s.cursor t.cursor o.dropped (drop s.cursor W.bag) ∙ ap (λ (xs : List Envelope). passed U t.dropped t.cursor xs) o.packets.ahead in
       let P : ℕ → Type 0 = λ z. Same (next_of job cfg within W k s.stepped (cursor_at W s.dropped s.cursor)) (next_of job cfg within U k t.stepped (t.cursor + z)) in
-      subst P shift (at-same (passed W s.dropped s.cursor (drop s.cursor W.bag)))
+      subst P shifts (at-same (passed W s.dropped s.cursor (drop s.cursor W.bag)) fits)
 
 pub go_on_alike : AlikePlaysGoOnAlike
 go_on_alike job cfg within s t k o lives = go_on job cfg within s t k o lives

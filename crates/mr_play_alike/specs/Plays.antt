@@ -1,12 +1,13 @@
 -- When two plays are alike, and how a calm goes on with both. Our own.
-use Rattle.std.specs.Prelude.{◌≡◌, ◌+◌, ℕ, true, Option, Some, None}
+use Rattle.std.specs.Prelude.{◌≡◌, ◌≤◌, ◌+◌, ℕ, true, length, Option, Some, None}
 use Rattle.mr_world_model.specs.Packets.{Config}
 use Rattle.mr_world_model.specs.World.{World, Event}
 use Rattle.mr_world_model.specs.Claims.{Limits}
 use Rattle.mr_world_model.specs.Sequential.{Job}
 use Rattle.mr_world_alike.specs.Alike.{Alike, IsSame}
 use Rattle.mr_world_alike.specs.Packets.{SamePackets}
-use Rattle.mr_play.specs.Played.{Played, Next, world, is_dropped, cursor_at, next_of}
+use Rattle.mr_play.specs.Played.{Played, Next, world, is_dropped, cursor_at, next_of, calms}
+use Rattle.mr_script.specs.declared.event_name.EventName.{EventName}
 
 -- The worlds are alike. Behind the cursors lie the same packets, of which the same were dropped, also of those that are not sent yet, and what was delivered to
 -- one was delivered to the other. The same container stepped last.
@@ -23,7 +24,7 @@ SameEvent w u (Some e) None = ⊥
 SameEvent w u None (Some f) = ⊥
 SameEvent w u (Some e) (Some f) = IsSame w u e f
 
--- the same comes next in two worlds, in which calms had come to m and n: its names, its event, who has stepped last then, and how far calms come
+-- the same comes next in two worlds, in which calms had come to m and n: its names, its event, who has stepped last then, and how far calms come, which is within what was sent
 pub record SameStep (w u : World) (m n : ℕ) (x y : Next) : Type 0 where
   pub names : x.names ≡ y.names
   pub event : SameEvent w u x.event y.event
@@ -31,6 +32,7 @@ pub record SameStep (w u : World) (m n : ℕ) (x y : Next) : Type 0 where
   pub passed : ℕ
   pub here : x.cursor ≡ m + passed
   pub there : y.cursor ≡ n + passed
+  pub fits : m + passed ≤ length w.bag
 
 -- or nothing in both
 abbrev pub SameNext : World → World → (m n : ℕ) → Option Next → Option Next → Type 0
@@ -46,3 +48,8 @@ next_in job cfg within k s = next_of job cfg within (world job cfg within s) k s
 abbrev pub AlikePlaysGoOnAlike : Type 0
 AlikePlaysGoOnAlike = (job : Job) (cfg : Config) (within : Limits) (s t : Played) (k : ℕ) → SamePlay job cfg within s t → (world job cfg within s).is_master k ≡ true
     → SameNext (world job cfg within s) (world job cfg within t) s.cursor t.cursor (next_in job cfg within k s) (next_in job cfg within k t)
+
+-- where both come to their ends, and no limit keeps one from it
+abbrev pub AlikePlaysCalmAlike : Job → Config → Limits → Type 0
+AlikePlaysCalmAlike job cfg within = (k : ℕ) (stop : Option EventName) (most : ℕ) (s t s' t' : Played) → SamePlay job cfg within s t
+    → calms job cfg within k stop most s ≡ Some s' → calms job cfg within k stop most t ≡ Some t' → SamePlay job cfg within s' t'
