@@ -1,0 +1,2 @@
+-- When two plays are alike, and how they go on.
+pub mod Plays
