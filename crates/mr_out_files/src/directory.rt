@@ -45,8 +45,9 @@ pub struct Directory {
     history: History,
     // The file that is handed in, as it was synced before the lock was held.
     early: Option<Early>,
-    // The attempt whose file was claimed since then.
+    // The attempt whose file was claimed since then, and the one that was found to be begun in this boot.
     claimed: Option<AttemptId>,
+    checked: Option<AttemptId>,
     // The marker was made or found, and is not durable yet.
     is_marked: bool,
     trouble: Option<Fault>,
@@ -80,6 +81,7 @@ impl Directory {
             history,
             early,
             claimed: None,
+            checked: None,
             is_marked: false,
             trouble: None,
             made: Log::new(),
@@ -189,13 +191,19 @@ impl Directory {
     }
 
     // The file of an attempt that was begun in an earlier boot may have lost bytes when the machine stopped.
-    fn check_boot(&self, rt: &HostRuntime, place: &Place) -> Result<(), Fault>
-        ensures { IfErr result (IsBarred place.now) }
+    fn check_boot(&mut self, rt: &HostRuntime, place: &Place) -> Result<(), Fault>
+        ensures keeps { Keeps self.old self.new }
+        ensures barred { IfErr result (IsBarred place.now) }
     {
-        match attempt_at(place) {
-            Some(a) => self.check_boot_of(rt, a),
-            None => Ok(()),
+        let Some(a) = attempt_at(place) else {
+            return Ok(());
+        };
+        if self.checked == Some(a) {
+            return Ok(());
         }
+        self.check_boot_of(rt, a)?;
+        self.checked = Some(a);
+        Ok(())
     }
 
     fn check_boot_of(&self, rt: &HostRuntime, a: AttemptId) -> Result<(), Fault>

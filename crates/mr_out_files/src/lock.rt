@@ -4,8 +4,9 @@ ghost use Rattle.mr_out_layout.specs.Jobs.{IsTold};
 ghost use Rattle.mr_out_layout.specs.Faults.{IsFailure, IsRefusal};
 ghost use Rattle.mr_out_files.specs.Troubles.{IsLockFault};
 
-use mr_out_layout::{Fault, GONE, JOB, Job, Why, is_one, look, look_file, open, read, stat};
+use mr_out_layout::{Fault, GONE, JOB, Job, Why, is_one, look, look_file, open, stat};
 use std::fs::{File, TryLockError};
+use std::io::Read;
 use std::thread;
 use std::time::Duration;
 
@@ -89,8 +90,8 @@ pub(crate) fn locked(rt: &HostRuntime, lock: Lock) -> Result<(File, Job), Fault>
         let Some(named) = look_file(rt, JOB)? else {
             return Err(absent(rt));
         };
-        let file = open(rt, JOB)?;
-        let job = Job::read(rt.alloc(), &read(rt, JOB)?)?;
+        let mut file = open(rt, JOB)?;
+        let job = Job::read(rt.alloc(), &bytes_of(rt, &mut file)?)?;
         wait(rt, &file, lock)?;
         let held = stat(rt, &file, JOB)?;
         match look_file(rt, JOB)? {
@@ -101,6 +102,17 @@ pub(crate) fn locked(rt: &HostRuntime, lock: Lock) -> Result<(File, Job), Fault>
         }
     }
     Err(Fault::Busy)
+}
+
+// All bytes of the file that tells the job.
+fn bytes_of(rt: &HostRuntime, file: &mut File) -> Result<Vec<u8>, Fault>
+    ensures { IfErr result (IsFailure (codes "read") (codes "_mrout/job")) }
+{
+    let mut bytes = Vec::new(rt.alloc());
+    match file.read_to_end(&mut bytes) {
+        Ok(_) => Ok(bytes),
+        Err(error) => Err(Fault::of_call(rt.alloc(), "read", JOB, error)),
+    }
 }
 
 // Why there is no job in the directory in which the process stands.
