@@ -24,7 +24,7 @@ use Rattle.mr_world_shows.proofs.Shown.{phase-same}
 use Rattle.mr_play.specs.EventNames.{stops_at}
 use Rattle.mr_play.specs.Played.{Played, Next, world, is_dropped, has_ended, is_through, passed, cursor_at, next_of, calmed, calmed_by, calms}
 use Rattle.mr_world.specs.declared.limits.TheConstants.{MAX_EVENTS}
-use Rattle.mr_play_alike.specs.Plays.{SamePlay, SameEvent, SameStep, SameNext, AlikePlaysCalmAlike}
+use Rattle.mr_play_alike.specs.Plays.{SamePlay, SameEvent, SameStep, SameNext, AlikePlaysCalmAlike, AlikePlaysTakeAlike}
 use Rattle.mr_play_alike.proofs.Going.{go_on, shifts, fits}
 
 -- ---- whoever is through
@@ -191,3 +191,22 @@ module _ (job : Job) (cfg : Config) (within : Limits) (bound : BoundsBytes withi
 
 pub calm_alike : (job : Job) (cfg : Config) (within : Limits) → BoundsBytes within → AlikePlaysCalmAlike job cfg within
 calm_alike job cfg within bound k stop most s t s' t' o p q = calm-same job cfg within bound k stop most s t s' t' o p q
+
+-- ---- an event of its own
+
+if-some : (b : Bool) (z s' : Played) → (if b then Some z else None) ≡ Some s' → (b ≡ true) × (z ≡ s')
+if-some true z s' q = (refl, this-is z s' q)
+if-some false z s' q = absurd (true≢false (ap is_some (sym q)))
+
+pub take_alike : (job : Job) (cfg : Config) (within : Limits) → BoundsBytes within → AlikePlaysTakeAlike job cfg within
+take_alike job cfg within bound e f last s t s' t' o same now p q =
+    let x = if-some (nat_lt (length s.events) MAX_EVENTS && within (world job cfg within s) e) (record s { events = s.events ++ e ∷ []; stepped = last }) s' p in
+    let y = if-some (nat_lt (length t.events) MAX_EVENTS && within (world job cfg within t) f) (record t { events = t.events ++ f ∷ []; stepped = last }) t' q in
+    let b = and_parts (nat_lt (length s.events) MAX_EVENTS) (within (world job cfg within s) e) x.0 in
+    let c = and_parts (nat_lt (length t.events) MAX_EVENTS) (within (world job cfg within t) f) y.0 in
+    let r = o.packets.from in
+    let here : s.cursor ≡ s.cursor + 0 = omega arith in
+    let there : t.cursor ≡ t.cursor + 0 = omega arith in
+    let ends : s.cursor + 0 ≤ length (world_of cfg within s.events).bag = omega (arith, r) in
+    let z : SamePlay job cfg within (record s { events = s.events ++ e ∷ []; stepped = last }) (record t { events = t.events ++ f ∷ []; stepped = last }) = stay job cfg within bound s t o 0 s.cursor t.cursor here there ends e f last last refl same now b.1 c.1 in
+    subst (λ (u : Played). SamePlay job cfg within u t') x.1 (subst (λ (v : Played). SamePlay job cfg within (record s { events = s.events ++ e ∷ []; stepped = last }) v) y.1 z)
