@@ -28,6 +28,8 @@ use Rattle.mr_master_state.specs.declared.blame.Blame.{Blame}
 use Rattle.mr_master_state.specs.Told.{blamed}
 use Rattle.mr_master_state.specs.mr_master_tasks.specs.Told.{call_of}
 use Rattle.mr_master_events.specs.inner.Ends.{blame_of, ended, end_sends, kills_by, kills_if_over}
+use Rattle.mr_master_events.specs.inner.Reporting.{ack_of, due_of}
+use Rattle.mr_master_state.specs.mr_master_tables.specs.Earlier.{listed}
 use Rattle.mr_master_state.specs.mr_master_tasks.specs.Places.{place_of}
 use Rattle.mr_master_state.specs.mr_master_tasks.specs.Tasks.{AnswersAt, IsReplyAt}
 use Rattle.mr_master_state.specs.mr_master_tasks.specs.Tasks.{IsTold}
@@ -116,6 +118,20 @@ plan-ignored a bytes i l e within finds answers = plan-as [] (change.Reports i a
     (λ w s k.
     let known = known-is w s a i l (finds w s k) in
     sym (not-accepted-is w s a bytes l known.launch (refused w s a reply.Ignored known.arrived (reply-is a i l reply.Ignored finds answers w s k) (inr refl))))
+
+-- whatever it is answered
+pub plan-reported : {m : Master} {p : Prepared} (a : Attempt) (bytes : Option ℕ) (i : ℕ) (l : Launch) (r : DoneReply) (ack : Option Envelope) (due : Option Record)
+    → p ≡ record { packets = listed ack; change = change.Reports i a r due } → ack ≡ ack_of r l.container a → due ≡ due_of r a l bytes
+    → i < length m.tasks.machines → Finds m a i l → IsReplyAt m.tasks.machines i a r
+    → Plans m p (λ w s. ack_to w s a (launch_of w s a)) (λ w s. after_done w s a bytes (launch_of w s a))
+plan-reported a bytes i l reply.Accepted ack due is sends wants within finds answers =
+    plan-accepted a bytes i l (to_container l.container (packet.DoneAck a)) (success_of a.task.kind a l bytes)
+    (is ∙ (λ j. record { packets = listed (sends j); change = change.Reports i a reply.Accepted (wants j) })) refl refl within finds answers
+plan-reported a bytes i l reply.Again ack due is sends wants within finds answers =
+    plan-again a bytes i l (to_container l.container (packet.DoneAck a))
+    (is ∙ (λ j. record { packets = listed (sends j); change = change.Reports i a reply.Again (wants j) })) refl within finds answers
+plan-reported a bytes i l reply.Ignored ack due is sends wants within finds answers =
+    plan-ignored a bytes i l (is ∙ (λ j. record { packets = listed (sends j); change = change.Reports i a reply.Ignored (wants j) })) within finds answers
 
 -- ---- Where, FetchLost
 

@@ -2,3 +2,4 @@
 pub mod Ends
 pub mod Launching
 pub mod Expiring
+pub mod Reporting

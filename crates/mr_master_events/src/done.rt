@@ -1,10 +1,10 @@
 //! An attempt says that it is done.
 ghost use Rattle.std.specs.Prelude.{◌≡◌, IfOk};
-ghost use Rattle.mr_packet.specs.Sends.{to_container};
 ghost use Rattle.mr_master_model.specs.Readings.{launch_of};
 ghost use Rattle.mr_master_model.specs.Hearing.{after_done, success_of};
 ghost use Rattle.mr_master_model.specs.Sends.{ack_to};
 ghost use Rattle.mr_master_state.specs.Prepared.{Plans};
+ghost use Rattle.mr_master_events.specs.inner.Reporting.{ack_of, due_of};
 
 use mr_history::Record;
 use mr_ids::{AttemptId, TaskKind};
@@ -26,50 +26,46 @@ pub fn prepare_done(
     let Some((place, launch)) = master.known(attempt) else {
         return Ok(Prepared::silent(master.alloc, Change::Nothing));
     };
-    match master.tasks.done_reply(place, attempt) {
-        DoneReply::Accepted => {
-            let due = Some(success_of(attempt, &launch, bytes));
-            let ready = Prepared::of_one(
-                master.alloc,
-                done_ack(launch.container, attempt),
-                Change::Reports {
-                    place,
-                    attempt,
-                    reply: DoneReply::Accepted,
-                    due,
-                },
-            )?;
-            Ok(ready)
+    let reply = master.tasks.done_reply(place, attempt);
+    let due = due_of(reply, attempt, &launch, bytes);
+    let ready = Prepared::of_some(
+        master.alloc,
+        ack_of(reply, launch.container, attempt),
+        Change::Reports {
+            place,
+            attempt,
+            reply,
+            due,
+        },
+    )?;
+    Ok(ready)
+}
+
+// Where it is accepted, now or before, its container is told so.
+fn ack_of(reply: DoneReply, container: ContainerId, attempt: AttemptId) -> Option<Envelope>
+    ensures { result ≡ ack_of reply container attempt }
+{
+    match reply {
+        DoneReply::Accepted | DoneReply::Again => {
+            Some(to_container(container, Packet::DoneAck { attempt }))
         }
-        DoneReply::Again => {
-            let ready = Prepared::of_one(
-                master.alloc,
-                done_ack(launch.container, attempt),
-                Change::Reports {
-                    place,
-                    attempt,
-                    reply: DoneReply::Again,
-                    due: None,
-                },
-            )?;
-            Ok(ready)
-        }
-        DoneReply::Ignored => Ok(Prepared::silent(
-            master.alloc,
-            Change::Reports {
-                place,
-                attempt,
-                reply: DoneReply::Ignored,
-                due: None,
-            },
-        )),
+        DoneReply::Ignored => None,
     }
 }
 
-fn done_ack(container: ContainerId, attempt: AttemptId) -> Envelope
-    ensures { result ≡ to_container container (Packet.DoneAck attempt) }
+// Where it is accepted now, the record of its success is due.
+fn due_of(
+    reply: DoneReply,
+    attempt: AttemptId,
+    launch: &Launch,
+    bytes: Option<u32>,
+) -> Option<Record>
+    ensures { result ≡ due_of reply attempt launch.now bytes }
 {
-    to_container(container, Packet::DoneAck { attempt })
+    match reply {
+        DoneReply::Accepted => Some(success_of(attempt, launch, bytes)),
+        DoneReply::Again | DoneReply::Ignored => None,
+    }
 }
 
 // The record of a success.

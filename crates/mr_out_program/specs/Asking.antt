@@ -1,5 +1,5 @@
 -- What a command is asked about: tasks, attempts, jobs. Our own.
-use Rattle.std.specs.Prelude.{◌≡◌, ◌||◌, ℕ, Bool, true, false, ⊥, Unit, List, codes, decimal, ◌++◌, Option, None, is_some, if◌then◌else◌}
+use Rattle.std.specs.Prelude.{◌≡◌, ◌||◌, ℕ, Bool, true, false, List, codes, decimal, ◌++◌, Option, None, is_some, if◌then◌else◌}
 use Rattle.std.specs.String.{string_bytes}
 use Rattle.mr_ids.specs.Attempt.{Attempt}
 use Rattle.mr_ids.specs.Text.{attempt_text}
