@@ -10,6 +10,7 @@ ghost use Rattle.mr_out_files.specs.inner.Syncing.{FailsSomewhere, IsSyncFault};
 ghost use Rattle.mr_out_files.specs.Troubles.{trouble_of, FailsAt, IsMade, IsHistoryTrouble, IsAppendTrouble, IsBarred, IsListTrouble, IsPathTrouble, IsSyncTrouble, IsFolderTrouble, IsRemoveTrouble, IsTroubleOf, HasTrouble, IsOpeningFault};
 
 use crate::beginning::write_synced;
+use crate::boots::note_boot;
 use crate::early::{Early, sync_early};
 use crate::history::History;
 use crate::lengths::{drop_lengths, note_length};
@@ -17,6 +18,7 @@ use crate::lock::{Lock, locked};
 use crate::replies::{
     answered, attempt_at, done, folder_path, kept_attempt, put_kept, seen_at, sweep,
 };
+use crate::spares::take_folder;
 use http_server::Log;
 use mr_history::Record;
 use mr_ids::AttemptId;
@@ -478,10 +480,11 @@ impl Directory {
         ensures failed { IfErr result (λ fault. IsFailure (codes "write") (boot_path a) fault ⊎ IsFailure (codes "create") (work_folder a) fault) }
     {
         let note = boot_path(self.alloc, a)?;
-        if let Err(error) = fs::write(rt, note.as_str(), self.history.boot()) {
-            return Err(Fault::of_call(self.alloc, "write", &note, error));
-        }
+        note_boot(rt, &self.history, &note)?;
         let path = work_folder(self.alloc, a)?;
+        if take_folder(rt, &path)? {
+            return Ok(done());
+        }
         answered(rt, "create", &path, fs::create_dir(rt, path.as_str()))
     }
 }

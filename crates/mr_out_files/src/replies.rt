@@ -3,6 +3,7 @@ ghost use Rattle.std.specs.Prelude.{◌≡◌, codes, IfOk, IfErr};
 ghost use Rattle.mr_out_layout.specs.Faults.{IsFailure, IsRefusal};
 ghost use Rattle.mr_out_files.specs.Troubles.{AnswersAs, IsMade, attempt_at, folder_path};
 
+use crate::spares::SPARE;
 use mr_ids::AttemptId;
 use mr_out_disk::{Answer, Folder, Place, Reply};
 use mr_out_layout::{Fault, HOME, KEPT, WORK, Why, length_named};
@@ -59,11 +60,14 @@ pub(crate) fn kept_attempt(place: &Place) -> Option<AttemptId> {
     }
 }
 
-/// Removes what attempts wrote.
+/// Removes what attempts wrote, and the folders that were kept for more of them. Those are empty: where one can't be removed,
+/// it stays, and goes with the history.
 pub(crate) fn sweep(rt: &HostRuntime) -> Result<(), Fault>
     ensures { IfErr result (IsFailure (codes "remove") (codes "_mrout/work")) }
 {
-    match clear(rt, WORK) {
+    let cleared = clear(rt, WORK);
+    let _ = clear(rt, SPARE);
+    match cleared {
         Ok(()) => Ok(()),
         Err(error) if error.kind() == io::ErrorKind::NotFound => Ok(()),
         Err(error) => Err(Fault::of_call(rt.alloc(), "remove", WORK, error)),
