@@ -45,12 +45,8 @@ all_so old new (Err f) opened it = tt
 pub attempt_all_told : (c : Command) (old new : Directory) (r : Result Answered Fault) → c ≡ command.AttemptAll → IsOpened old → TellsStarts old new r → IfOk r (IsToldOf c)
 attempt_all_told c old new r e opened it = of_command c command.AttemptAll r e (all_so old new r opened it)
 
-done_so : (text : Bor (List ℕ)) (old new : Directory) (r : Result Answered Fault) → IsOpened old → CarriesAndTellsOf order.Done done_saying text.now old new r → IfOk r (IsToldOf (command.Done text))
-done_so text old new (Ok a) opened it = (old, new, opened, it)
-done_so text old new (Err f) opened it = tt
-
-pub done_told : (c : Command) (text : Bor (List ℕ)) (old new : Directory) (r : Result Answered Fault) → c ≡ command.Done text → IsOpened old → CarriesAndTellsOf order.Done done_saying text.now old new r → IfOk r (IsToldOf c)
-done_told c text old new r e opened it = of_command c (command.Done text) r e (done_so text old new r opened it)
+pub done_told : (c : Command) (text : Bor (List ℕ)) (r : Result Answered Fault) → c ≡ command.Done text → IfOk r (InOpened (CarriesAndTellsOf order.Done done_saying text.now)) → IfOk r (IsToldOf c)
+done_told c text r e it = of_command c (command.Done text) r e it
 
 fail_one_so : (text : Bor (List ℕ)) (old new : Directory) (r : Result Answered Fault) → IsOpened old → CarriesAndTellsOf order.Fail fail_saying text.now old new r → IfOk r (IsToldOf (command.Fail (failing.One text)))
 fail_one_so text old new (Ok a) opened it = (old, new, opened, it)

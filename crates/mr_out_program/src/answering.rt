@@ -1,10 +1,10 @@
 //! A command is carried out, and what comes of it is told.
 ghost use Rattle.std.specs.Prelude.{◌≡◌, ◌⊎◌, [], codes, Some, IfOk, IfErr};
 ghost use Rattle.std.specs.String.{string_bytes};
-ghost use Rattle.mr_out_program.specs.Sayings.{fault_status, order_saying, publish_saying};
+ghost use Rattle.mr_out_program.specs.Sayings.{fault_status, done_saying, order_saying, publish_saying};
 ghost use Rattle.mr_out_layout.specs.Faults.{IsFailure};
 ghost use Rattle.mr_out_program.specs.Answers.{IsRefused, IsOpened, InOpened, IsToldOf, IsAnswerOf};
-ghost use Rattle.mr_out_program.specs.Carried.{CarriesAndTells, Forgets, Never, Says, SaysIfAny};
+ghost use Rattle.mr_out_program.specs.Carried.{CarriesAndTells, CarriesAndTellsOf, Forgets, Never, Says, SaysIfAny};
 
 use crate::attempts::{attempt, attempt_all, done, fail_all, fail_one, fail_task};
 use crate::beginning::begin;
@@ -12,7 +12,7 @@ use crate::ending::settle;
 use crate::saying::{Saying, order_saying, publish_saying};
 use crate::standing::status;
 use mr_ids::AttemptId;
-use mr_out_files::{Directory, Lock};
+use mr_out_files::{Directory, Lock, keep_folder};
 use mr_out_layout::{Fault, GONE, Why, host_of, sync_folder};
 use mr_out_removal::remove_folder;
 use mr_out_steps::Order;
@@ -131,7 +131,7 @@ fn carried(rt: &HostRuntime, asked: &Asked<'_>) -> Result<Answered, Fault>
         } => begin(rt, asked, (tasks, limit, suffix, hold), again),
         Command::Attempt { task, over } => attempt(rt, &mut open(rt, asked)?, task, over),
         Command::AttemptAll => attempt_all(rt, &mut open(rt, asked)?),
-        Command::Done { attempt } => done(rt, &mut open_done(rt, asked, attempt)?, attempt),
+        Command::Done { attempt } => hand_in(rt, asked, attempt),
         Command::Fail(failing) => fail(rt, asked, failing),
         Command::Publish => publish(rt, &mut open(rt, asked)?),
         Command::Abort => abort(rt, &mut open(rt, asked)?),
@@ -149,6 +149,29 @@ fn fail(rt: &HostRuntime, asked: &Asked<'_>, failing: Failing<'_>) -> Result<Ans
         Failing::One(attempt) => fail_one(rt, &mut open(rt, asked)?, attempt),
         Failing::Task(task) => fail_task(rt, &mut open(rt, asked)?, task),
         Failing::All => fail_all(rt, &mut open(rt, asked)?),
+    }
+}
+
+// Hands a file in. Once the lock is free again, the folder of one who won is kept for another attempt.
+fn hand_in(rt: &HostRuntime, asked: &Asked<'_>, text: &str) -> Result<Answered, Fault>
+    ensures { IfOk result (InOpened (CarriesAndTellsOf Order.Done done_saying text.now)) }
+{
+    let answered = done_in(rt, asked, text)?;
+    keep_won(rt, text, answered.status);
+    Ok(answered)
+}
+
+#[tactic(auto, using(crate::proofs::Outputs::in_opened))]
+fn done_in(rt: &HostRuntime, asked: &Asked<'_>, text: &str) -> Result<Answered, Fault>
+    ensures { IfOk result (InOpened (CarriesAndTellsOf Order.Done done_saying text.now)) }
+{
+    done(rt, &mut open_done(rt, asked, text)?, text)
+}
+
+// The folder of an attempt whose hand-in had this status. It won where that is 0.
+fn keep_won(rt: &HostRuntime, text: &str, status: u8) {
+    if let (0, Ok(a)) = (status, AttemptId::parse(text)) {
+        let _ = keep_folder(rt, a);
     }
 }
 

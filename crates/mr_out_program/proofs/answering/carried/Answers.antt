@@ -1,13 +1,9 @@
-use Rattle.mr_out_program.proofs.Outputs.{attempt_told, done_told, publish_told, abort_told}
+use Rattle.mr_out_program.proofs.Outputs.{attempt_told, publish_told, abort_told}
 use Rattle.mr_out_program.proofs.answering.carried.Goals as goal
 
 pub returns-in_ok-open-in-Attempt : goal.returns-in_ok-open-in-Attempt
 returns-in_ok-open-in-Attempt c =
     attempt_told c.args.asked.now.command c.in-Attempt.task c.in-Attempt.over c.in_ok-open-in-Attempt.field-0 c.attempt.new.directory c.attempt.result c.in-Attempt.is c.in_ok-open-in-Attempt.ensures c.attempt.ensures
-
-pub returns-in_ok-open_done-in-Done : goal.returns-in_ok-open_done-in-Done
-returns-in_ok-open_done-in-Done c =
-    done_told c.args.asked.now.command c.in-Done.attempt c.in_ok-open_done-in-Done.field-0 c.done.new.directory c.done.result c.in-Done.is c.in_ok-open_done-in-Done.ensures c.done.ensures
 
 pub returns-in_ok-open-in-Publish : goal.returns-in_ok-open-in-Publish
 returns-in_ok-open-in-Publish c =
