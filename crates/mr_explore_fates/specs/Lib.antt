@@ -1,0 +1,2 @@
+-- When a fault of one play is that of another.
+pub mod Fates
