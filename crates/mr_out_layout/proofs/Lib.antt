@@ -1,3 +1,4 @@
 pub mod Plain
 pub mod Ends
 pub mod Apart
+pub mod Named

@@ -24,6 +24,7 @@ mod laws;
 mod layout;
 mod lengths;
 mod lines;
+mod names;
 mod recorded;
 mod segments;
 

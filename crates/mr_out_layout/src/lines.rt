@@ -1,12 +1,12 @@
-//! The records of a segment's lines. A line as this program writes it is read without memory: a command reads all lines of a history.
-ghost use Rattle.std.specs.Prelude.{◌≡◌, ◌≤◌, ℕ, List, [], ◌∷◌, ◌++◌, codes, length, true, nat_eq, None, IsTrue, IfOk, IfSome, IfNone, if◌then◌else◌};
-ghost use Rattle.std.specs.List.{slice_get};
-ghost use Rattle.mr_ids.specs.Kind.{is_reduce};
-ghost use Rattle.mr_ids.specs.Text.{attempt_text, IsAttempt};
-ghost use Rattle.mr_history.specs.Line.{line_of, IsRecordOf};
+//! The records of a segment's lines. A line of a job's attempt, as this program writes it, is read without memory: a command
+//! reads all lines of a history.
+ghost use Rattle.std.specs.Prelude.{◌≡◌, ℕ, List, [], ◌∷◌, ◌++◌, true, nat_eq, None, IsTrue, IfOk, IfSome, IfNone, if◌then◌else◌};
+ghost use Rattle.std.specs.List.{slice_get, AllByRecursion};
+ghost use Rattle.mr_history.specs.Line.{lines, IsRecordOf};
 ghost use Rattle.mr_history.specs.Reading.{HasNoFeed, record_of};
 ghost use Rattle.mr_out_layout.specs.Segments.{Splits};
 
+use crate::names::Front;
 use mr_history::{HistoryFault, Record, Records, Replayed, replay};
 use mr_ids::AttemptId;
 use std::alloc::{AllocError, Global};
@@ -16,8 +16,9 @@ use std::alloc::{AllocError, Global};
 pub(crate) fn front(alloc: Global, bytes: &[u8]) -> Result<(Records, &[u8]), AllocError>
     ensures { IfOk result (λ p. Splits bytes.now p.0 p.1.now) }
 {
-    let mut records = Records::new(alloc);
-    let mut rest = bytes;
+    let (plain, left) = plain_lines(alloc, bytes)?;
+    let mut records = plain;
+    let mut rest = left;
     while let Some((line, after)) = split_line(rest) {
         let Some(record) = record_at(alloc, rest, line)? else {
             return Ok((records, rest));
@@ -26,6 +27,59 @@ pub(crate) fn front(alloc: Global, bytes: &[u8]) -> Result<(Records, &[u8]), All
         rest = after;
     }
     Ok((records, rest))
+}
+
+// The records of the lines that `bytes` begin with, as far as this program writes them of attempts at one job, and the
+// bytes from there on.
+fn plain_lines(alloc: Global, bytes: &[u8]) -> Result<(Records, &[u8]), AllocError>
+    ensures { IfOk result (λ p. (bytes.now ≡ lines p.0 ++ p.1.now) × AllByRecursion (IsRecordOf 1) p.0) }
+{
+    match front_of(alloc, bytes)? {
+        Some(front) => lines_of(alloc, &front, bytes),
+        None => Ok((Records::new(alloc), bytes)),
+    }
+}
+
+// The same, of the job whose lines begin so.
+#[tactic(auto, using(crate::proofs::Plain::one_more, crate::proofs::Plain::all_more))]
+fn lines_of<'a>(
+    alloc: Global,
+    front: &Front,
+    bytes: &'a [u8],
+) -> Result<(Records, &'a [u8]), AllocError>
+    ensures { IfOk result (λ p. (bytes.now ≡ lines p.0 ++ p.1.now) × AllByRecursion (IsRecordOf 1) p.0) }
+{
+    let mut records = Records::new(alloc);
+    let mut rest = bytes;
+    while let Some((record, behind)) = front.split(rest) {
+        records.push(record)?;
+        rest = behind;
+    }
+    Ok((records, rest))
+}
+
+// What the lines begin with that are of one job with the first.
+fn front_of(alloc: Global, bytes: &[u8]) -> Result<Option<Front>, AllocError> {
+    let Some((line, _after)) = split_line(bytes) else {
+        return Ok(None);
+    };
+    let Some(record) = record_at(alloc, bytes, line)? else {
+        return Ok(None);
+    };
+    match attempt_of(&record) {
+        Some(a) => Ok(Some(Front::of(alloc, a.task().job)?)),
+        None => Ok(None),
+    }
+}
+
+// The attempt that a record is about.
+fn attempt_of(record: &Record) -> Option<AttemptId> {
+    match *record {
+        Record::AttemptStarted { attempt, node: _ } => Some(attempt),
+        Record::ReduceSucceeded { attempt, bytes: _ } => Some(attempt),
+        Record::AttemptFailed { attempt } => Some(attempt),
+        _ => None,
+    }
 }
 
 // The bytes before the first line feed, and those after it.
@@ -43,13 +97,10 @@ fn record_at(alloc: Global, bytes: &[u8], line: &[u8]) -> Result<Option<Record>,
     requires front { (rest : List ℕ) × (bytes.now ≡ line.now ++ 10 ∷ rest) }
     ensures { IfOk result (λ o. o ≡ record_of 1 line.now) }
 {
-    match record_in(line) {
-        Some(record) => Ok(Some(record)),
-        None => replayed(alloc, &bytes[..line.len() + 1], line),
-    }
+    replayed(alloc, &bytes[..line.len() + 1], line)
 }
 
-// The record of a line that may be spelled as another program spells it.
+// The record of a line. `whole` has its line feed too.
 fn replayed(alloc: Global, whole: &[u8], line: &[u8]) -> Result<Option<Record>, AllocError>
     requires clean { HasNoFeed line.now }
     requires whole { whole.now ≡ line.now ++ 10 ∷ [] }
@@ -82,87 +133,10 @@ fn first(records: &Records) -> Option<Record>
     }
 }
 
-// The record of a line, if it is one that this program writes.
-fn record_in(line: &[u8]) -> Option<Record>
-    ensures { IfSome result (λ r. (line.now ≡ line_of r) × IsRecordOf 1 r) }
-{
-    if line == "{\"event\":\"unsuccessful\"}".as_bytes() {
-        return Some(Record::JobUnsuccessful);
-    }
-    let (name, event) = split_name(behind_key(line)?)?;
-    record_of(attempt_in(name)?, event)
-}
-
 // Whether bytes are this text.
 pub(crate) fn is_text(bytes: &[u8], text: &str) -> bool
     ensures yes { IsTrue result → bytes.now ≡ text.now }
     ensures no { bytes.now ≡ text.now → IsTrue result }
 {
     bytes == text.as_bytes()
-}
-
-// What stands behind the key of an attempt.
-fn behind_key(line: &[u8]) -> Option<&[u8]>
-    ensures { IfSome result (λ rest. line.now ≡ codes "{\"attempt\":\"" ++ rest.now) }
-{
-    if line.len() < 12 {
-        return None;
-    }
-    let (key, rest) = cut(line, 12);
-    if is_text(key, "{\"attempt\":\"") {
-        Some(rest)
-    } else {
-        None
-    }
-}
-
-fn cut(bytes: &[u8], at: usize) -> (&[u8], &[u8])
-    requires { at ≤ length bytes.now }
-    ensures { bytes.now ≡ result.0.now ++ result.1.now }
-{
-    (&bytes[..at], &bytes[at..])
-}
-
-// The bytes before the next quotation mark, and those from there on.
-fn split_name(bytes: &[u8]) -> Option<(&[u8], &[u8])>
-    ensures { IfSome result (λ p. bytes.now ≡ p.0.now ++ p.1.now) }
-{
-    let at = bytes.iter().position(|byte| *byte == b'"')?;
-    Some((&bytes[..at], &bytes[at..]))
-}
-
-// The attempt at a reduce that has this text.
-fn attempt_in(name: &[u8]) -> Option<AttemptId>
-    ensures name { IfSome result (λ a. name.now ≡ attempt_text a) }
-    ensures kind { IfSome result (λ a. IsAttempt a × (is_reduce a.task.kind ≡ true)) }
-{
-    let Ok(text) = str::from_utf8(name) else {
-        return None;
-    };
-    match AttemptId::parse(text) {
-        Ok(a) if a.task().kind.is_reduce() => Some(a),
-        _ => None,
-    }
-}
-
-// What happened at an attempt, by what stands behind its name.
-#[tactic(auto, using(crate::proofs::Plain::started, crate::proofs::Plain::succeeded, crate::proofs::Plain::failed))]
-fn record_of(attempt: AttemptId, event: &[u8]) -> Option<Record>
-    requires ranges { IsAttempt attempt }
-    requires kind { is_reduce attempt.task.kind ≡ true }
-    ensures { IfSome result (λ r. (codes "{\"attempt\":\"" ++ (attempt_text attempt ++ event.now) ≡ line_of r) × IsRecordOf 1 r) }
-{
-    if is_text(event, "\",\"event\":\"started\",\"node\":0}") {
-        return Some(Record::AttemptStarted { attempt, node: 0 });
-    }
-    if is_text(event, "\",\"event\":\"reduce\"}") {
-        return Some(Record::ReduceSucceeded {
-            attempt,
-            bytes: None,
-        });
-    }
-    if is_text(event, "\",\"event\":\"failed\"}") {
-        return Some(Record::AttemptFailed { attempt });
-    }
-    None
 }

@@ -1,0 +1,2 @@
+-- Words that only private functions speak of.
+pub mod Names
