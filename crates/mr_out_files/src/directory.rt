@@ -36,8 +36,9 @@ pub struct Directory {
     history: History,
     // The file that is handed in, as it was synced before the lock was held.
     early: Option<Early>,
-    // The attempt whose file was claimed since then.
+    // The attempt whose file was claimed since then, and the one that was found to be begun in this boot.
     claimed: Option<AttemptId>,
+    checked: Option<AttemptId>,
     // The marker was made or found, and is not durable yet.
     is_marked: bool,
     trouble: Option<Fault>,
@@ -88,6 +89,7 @@ impl Directory {
             history,
             early,
             claimed: None,
+            checked: None,
             is_marked: false,
             trouble: None,
             made: Log::new(),
@@ -181,10 +183,21 @@ impl Directory {
     }
 
     // The file of an attempt that was begun in an earlier boot may have lost bytes when the machine stopped.
-    fn check_boot(&self, rt: &HostRuntime, place: &Place) -> Result<(), Fault> {
+    fn check_boot(&mut self, rt: &HostRuntime, place: &Place) -> Result<(), Fault>
+        ensures { Keeps self.old self.new }
+    {
         let (Place::Work(a) | Place::Kept(a)) = *place else {
             return Ok(());
         };
+        if self.checked == Some(a) {
+            return Ok(());
+        }
+        self.refuse_boot(rt, a)?;
+        self.checked = Some(a);
+        Ok(())
+    }
+
+    fn refuse_boot(&self, rt: &HostRuntime, a: AttemptId) -> Result<(), Fault> {
         let note = boot_path(self.alloc, a)?;
         match told(rt, &note)? {
             Some(boot) if self.history.is_boot(&boot) => Ok(()),

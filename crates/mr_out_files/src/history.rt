@@ -2,7 +2,7 @@
 use crate::beginning::write_synced;
 use mr_history::{Record, Records, whole_line};
 use mr_out_layout::{
-    Ahead, Damage, Fault, HOME, MAX_SEGMENTS, Noted, Told, Why, boot_of, look, look_file, note_of,
+    Ahead, Damage, Fault, HOME, MAX_SEGMENTS, Noted, Told, Why, boot_of, look_file, note_of,
     note_of_failure, open, read, read_ahead, read_behind, read_note, refuse_gap, segment_path,
     stat, sync, sync_folder, tell_behind, write_note,
 };
@@ -22,11 +22,15 @@ pub(crate) struct History {
     is_writer: bool,
     // The number of this boot of the machine, where the system tells one.
     boot: Option<String>,
-    // What was read before the lock was held.
+    // What was read before the lock was held, and the number of the segment behind which no other was seen then, if it was
+    // looked for.
     ahead: Vec<Ahead>,
-    // The newest segment: its number from 1, whether its end is torn, and the file once a record was appended.
+    last: Option<u32>,
+    // The newest segment: its number from 1, whether its end is torn, what it was when it was read, and the file once a
+    // record was appended.
     newest: u32,
     is_torn: bool,
+    end: Option<Metadata>,
     file: Option<File>,
     // Whether all of it is durable.
     is_flushed: bool,
@@ -35,13 +39,17 @@ pub(crate) struct History {
 impl History {
     /// The history of the directory in which the process stands, read ahead. The lock need not be held yet.
     pub(crate) fn new(rt: &HostRuntime, is_writer: bool) -> Result<History, Fault> {
+        let ahead = read_ahead(rt, MAX_SEGMENTS)?;
+        let last = last_of(rt, &ahead)?;
         Ok(History {
             alloc: rt.alloc(),
             is_writer,
             boot: boot_of(rt)?,
-            ahead: read_ahead(rt, MAX_SEGMENTS)?,
+            ahead,
+            last,
             newest: 1,
             is_torn: false,
+            end: None,
             file: None,
             is_flushed: false,
         })
@@ -68,12 +76,20 @@ impl History {
         let mut records = Records::new(self.alloc);
         for number in 1..=MAX_SEGMENTS {
             if !self.read_segment(rt, number, &mut records)? {
-                refuse_gap(rt, HOME, number)?;
+                self.refuse_gap(rt, number)?;
                 break;
             }
         }
         self.is_flushed = self.is_flushed || self.is_covered(rt)?;
         Ok(records)
+    }
+
+    // Refuses a later segment than one that is missing. It is not looked for where that was done before the lock was held.
+    fn refuse_gap(&self, rt: &HostRuntime, missing: u32) -> Result<(), Fault> {
+        if self.last == Some(missing.saturating_sub(1)) {
+            return Ok(());
+        }
+        refuse_gap(rt, HOME, missing)
     }
 
     // Reads a segment, if it is there. The first one is.
@@ -94,6 +110,7 @@ impl History {
         records.extend(told.records.as_slice())?;
         self.newest = number;
         self.is_torn = told.is_torn;
+        self.end = Some(found);
         Ok(true)
     }
 
@@ -126,13 +143,15 @@ impl History {
 
     // Whether the note tells that the end that was found is durable. In one boot that end is not behind the note's.
     fn is_covered(&self, rt: &HostRuntime) -> Result<bool, Fault> {
-        let path = segment_path(self.alloc, self.newest)?;
-        let (Some(boot), Some(end)) = (&self.boot, look(rt, &path)?) else {
+        let (Some(boot), Some(end)) = (&self.boot, &self.end) else {
             return Ok(false);
         };
-        match read_note(rt, &note_of(self.alloc, boot, &end)?)? {
+        match read_note(rt, &note_of(self.alloc, boot, end)?)? {
             Noted::Durable => Ok(true),
-            Noted::Longer => Err(Fault::refused(self.alloc, &path, Why::Shorter)),
+            Noted::Longer => {
+                let path = segment_path(self.alloc, self.newest)?;
+                Err(Fault::refused(self.alloc, &path, Why::Shorter))
+            }
             Noted::Nothing => Ok(false),
         }
     }
@@ -242,6 +261,17 @@ impl History {
         if let Ok(note) = note_of_failure(self.alloc, self.boot()) {
             let _ = write_note(rt, HOME, &note);
         }
+    }
+}
+
+// The number of the last segment that was read, where no later one is there. A fault but for memory is left to whoever holds
+// the lock.
+fn last_of(rt: &HostRuntime, ahead: &[Ahead]) -> Result<Option<u32>, Fault> {
+    let last = u32::try_from(ahead.len()).unwrap_or(0);
+    match refuse_gap(rt, HOME, last.saturating_add(1)) {
+        Ok(()) => Ok(Some(last)),
+        Err(Fault::NoMemory) => Err(Fault::NoMemory),
+        Err(_) => Ok(None),
     }
 }
 

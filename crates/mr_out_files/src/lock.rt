@@ -1,6 +1,7 @@
 //! The lock of an output directory: one on the file that tells its job.
-use mr_out_layout::{Fault, GONE, JOB, Job, Why, is_one, look, look_file, open, read, stat};
+use mr_out_layout::{Fault, GONE, JOB, Job, Why, is_one, look, look_file, open, stat};
 use std::fs::{File, TryLockError};
+use std::io::Read;
 use std::thread;
 use std::time::Duration;
 
@@ -76,8 +77,8 @@ pub(crate) fn locked(rt: &HostRuntime, lock: Lock) -> Result<(File, Job), Fault>
         let Some(named) = look_file(rt, JOB)? else {
             return Err(absent(rt));
         };
-        let file = open(rt, JOB)?;
-        let job = Job::read(rt.alloc(), &read(rt, JOB)?)?;
+        let mut file = open(rt, JOB)?;
+        let job = Job::read(rt.alloc(), &bytes_of(rt, &mut file)?)?;
         wait(rt, &file, lock)?;
         let held = stat(rt, &file, JOB)?;
         match look_file(rt, JOB)? {
@@ -88,6 +89,15 @@ pub(crate) fn locked(rt: &HostRuntime, lock: Lock) -> Result<(File, Job), Fault>
         }
     }
     Err(Fault::Busy)
+}
+
+// All bytes of the file that tells the job.
+fn bytes_of(rt: &HostRuntime, file: &mut File) -> Result<Vec<u8>, Fault> {
+    let mut bytes = Vec::new(rt.alloc());
+    match file.read_to_end(&mut bytes) {
+        Ok(_) => Ok(bytes),
+        Err(error) => Err(Fault::of_call(rt.alloc(), "read", JOB, error)),
+    }
 }
 
 // Why there is no job in the directory in which the process stands.
