@@ -98,6 +98,7 @@ fn make_folders(rt: &HostRuntime, beside: &str, home: &str) -> Result<(), Fault>
     make_folder(rt, home)?;
     make_folder(rt, &format!(in rt.alloc(); "{home}/work")?)?;
     make_folder(rt, &format!(in rt.alloc(); "{home}/kept")?)?;
+    make_folder(rt, &format!(in rt.alloc(); "{home}/spare")?)?;
     make_folder(rt, &format!(in rt.alloc(); "{home}/removed")?)
 }
 

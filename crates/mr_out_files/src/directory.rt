@@ -3,10 +3,12 @@ ghost use Rattle.std.specs.Prelude.{◌≡◌, [], ◌∷◌, ◌++◌, IfOk};
 ghost use Rattle.mr_out_files.specs.Made.{calls_of, Keeps};
 
 use crate::beginning::write_synced;
+use crate::boots::note_boot;
 use crate::early::{Early, sync_early};
 use crate::history::History;
 use crate::lengths::{drop_lengths, note_length};
 use crate::lock::{Lock, locked};
+use crate::spares::{SPARE, take_folder};
 use http_server::Log;
 use mr_history::Record;
 use mr_ids::AttemptId;
@@ -420,11 +422,11 @@ impl Directory {
 
     // Makes the folder in which an attempt writes, and notes the boot in which that was.
     fn make_folder(&self, rt: &HostRuntime, a: AttemptId) -> Result<Answer, Fault> {
-        let note = boot_path(self.alloc, a)?;
-        if let Err(error) = fs::write(rt, note.as_str(), self.history.boot()) {
-            return Err(Fault::of_call(self.alloc, "write", &note, error));
-        }
+        note_boot(rt, &self.history, &boot_path(self.alloc, a)?)?;
         let path = work_folder(self.alloc, a)?;
+        if take_folder(rt, &path)? {
+            return Ok(done());
+        }
         answered(rt, "create", &path, fs::create_dir(rt, path.as_str()))
     }
 }
@@ -444,12 +446,17 @@ fn kept_attempt(place: &Place) -> Option<AttemptId> {
     }
 }
 
-// Removes what attempts wrote.
+// Removes what attempts wrote, and the folders that were kept for more of them.
 fn sweep(rt: &HostRuntime) -> Result<(), Fault> {
-    match clear(rt, WORK) {
+    clear_folder(rt, WORK)?;
+    clear_folder(rt, SPARE)
+}
+
+fn clear_folder(rt: &HostRuntime, path: &str) -> Result<(), Fault> {
+    match clear(rt, path) {
         Ok(()) => Ok(()),
         Err(error) if error.kind() == io::ErrorKind::NotFound => Ok(()),
-        Err(error) => Err(Fault::of_call(rt.alloc(), "remove", WORK, error)),
+        Err(error) => Err(Fault::of_call(rt.alloc(), "remove", path, error)),
     }
 }
 

@@ -1,16 +1,25 @@
 //! How long a file is that is handed in is noted, by a name beside it.
 use mr_ids::AttemptId;
-use mr_out_layout::{Fault, KEPT, length_named, length_path};
+use mr_out_layout::{Fault, KEPT, boot_path, length_named, length_path};
 use std::fs::File;
 use std::{fs, io};
 
-/// Notes how long the file is that an attempt handed in. It is durable once the folder of what was handed in is.
+/// Notes how long the file is that an attempt handed in. It is durable once the folder of what was handed in is. The name is
+/// a further one of the note of the attempt's boot, or an empty file's where that can't have one.
 pub(crate) fn note_length(rt: &HostRuntime, a: AttemptId, len: u64) -> Result<(), Fault> {
     let path = length_path(rt.alloc(), a, len)?;
-    match File::create_new(rt, path.as_str()) {
+    let boot = boot_path(rt.alloc(), a)?;
+    match fs::hard_link(rt, boot.as_str(), path.as_str()) {
+        Ok(()) => Ok(()),
+        Err(_) => make_length(rt, &path),
+    }
+}
+
+fn make_length(rt: &HostRuntime, path: &str) -> Result<(), Fault> {
+    match File::create_new(rt, path) {
         Ok(_) => Ok(()),
         Err(error) if error.kind() == io::ErrorKind::AlreadyExists => Ok(()),
-        Err(error) => Err(Fault::of_call(rt.alloc(), "create", &path, error)),
+        Err(error) => Err(Fault::of_call(rt.alloc(), "create", path, error)),
     }
 }
 

@@ -16,9 +16,11 @@
 //!
 //! - `begin` makes the directory beside its place and renames it there.
 //! - `Directory::open` takes the lock. `perform` makes one call.
+//! - `keep_folder` keeps the folder of an attempt that won for another one.
 #![tactic(auto)]
 
 mod beginning;
+mod boots;
 mod directory;
 mod early;
 mod history;
@@ -27,9 +29,11 @@ mod lengths;
 mod lock;
 mod making;
 mod mounts;
+mod spares;
 
 pub use beginning::{begin, name_of};
 pub use directory::Directory;
 pub use laws::{begun_directories_stay, directories_begin_whole};
 pub use lock::Lock;
 pub use making::{Step, steps};
+pub use spares::keep_folder;

@@ -10,7 +10,7 @@ use crate::ending::settle;
 use crate::saying::{Saying, order_saying, publish_saying};
 use crate::standing::status;
 use mr_ids::AttemptId;
-use mr_out_files::{Directory, Lock};
+use mr_out_files::{Directory, Lock, keep_folder};
 use mr_out_layout::{Fault, GONE, Why, host_of, sync_folder};
 use mr_out_removal::remove_folder;
 use mr_out_steps::Order;
@@ -121,7 +121,7 @@ fn carried(rt: &HostRuntime, asked: &Asked<'_>) -> Result<Answered, Fault> {
         } => begin(rt, asked, (tasks, limit, suffix, hold), again),
         Command::Attempt { task, over } => attempt(rt, &mut open(rt, asked)?, task, over),
         Command::AttemptAll => attempt_all(rt, &mut open(rt, asked)?),
-        Command::Done { attempt } => done(rt, &mut open_done(rt, asked, attempt)?, attempt),
+        Command::Done { attempt } => hand_in(rt, asked, attempt),
         Command::Fail(Failing::One(attempt)) => fail_one(rt, &mut open(rt, asked)?, attempt),
         Command::Fail(Failing::Task(task)) => fail_task(rt, &mut open(rt, asked)?, task),
         Command::Fail(Failing::All) => fail_all(rt, &mut open(rt, asked)?),
@@ -131,6 +131,15 @@ fn carried(rt: &HostRuntime, asked: &Asked<'_>) -> Result<Answered, Fault> {
         Command::Forget => forget(rt, asked),
         Command::Status { json } => status(rt, &mut open_shared(rt, asked)?, json),
     }
+}
+
+// Hands a file in. Once the lock is free again, the folder of one who won is kept for another attempt.
+fn hand_in(rt: &HostRuntime, asked: &Asked<'_>, text: &str) -> Result<Answered, Fault> {
+    let answered = done(rt, &mut open_done(rt, asked, text)?, text)?;
+    if let (0, Ok(a)) = (answered.status, AttemptId::parse(text)) {
+        let _ = keep_folder(rt, a);
+    }
+    Ok(answered)
 }
 
 // The directory, with its lock for one who writes. It is of this host.
