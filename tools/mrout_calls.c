@@ -2,8 +2,9 @@
    name MROUT_ON alone), writes each into the file MROUT_RECORD, kills the process at the call MROUT_AT, "before" or "behind" it (MROUT_SIDE), or lets
    that call fail by the number MROUT_ERROR. A line of the record is: name, a tab, its paths (absolute) or bytes (in hexadecimal) with tabs between
    them. Refuses the request for memory of the number MROUT_REFUSE; the count of all is written into the file MROUT_REQUESTS. Where the program asks
-   the system for its mounts or its boot, it is given the file MROUT_MOUNTS or MROUT_BOOT, if one is named. Before each sync of a file the open file of
-   the number MROUT_GROWS grows by a byte. */
+   the system for its mounts or its boot, it is given the file MROUT_MOUNTS or MROUT_BOOT, if one is named. Before each sync (or the one of the number
+   MROUT_GROWS_AT alone) the open file of the number MROUT_GROWS grows by a byte. Behind each sync a line of the record tells whether the lock on the
+   file MROUT_LOCKED, if one is named, is "free" or "held". Behind each sync MROUT_SLOW seconds are slept. */
 #define _GNU_SOURCE
 #include <dlfcn.h>
 #include <errno.h>
@@ -13,6 +14,7 @@
 #include <stdio.h>
 #include <stdlib.h>
 #include <string.h>
+#include <sys/file.h>
 #include <sys/stat.h>
 #include <sys/types.h>
 #include <unistd.h>
@@ -155,16 +157,28 @@ ssize_t write(int fd, const void *bytes, size_t n) {
     return got;
 }
 
+static void note_lock(void) {
+    const char *locked = getenv("MROUT_LOCKED");
+    if (!locked) return;
+    int file = open(locked, O_RDONLY | O_CLOEXEC);
+    note(flock(file, LOCK_SH | LOCK_NB) ? "held" : "free", locked, NULL);
+    close(file);
+}
+
 int fsync(int fd) {
     REAL("fsync", int, int);
+    static int syncs;
     char p[4096];
-    const char *grows = getenv("MROUT_GROWS");
+    const char *grows = getenv("MROUT_GROWS"), *grows_at = getenv("MROUT_GROWS_AT");
     begin();
-    if (grows && real_write(atoi(grows), "x", 1) != 1) abort();
+    syncs++;
+    if (grows && (!grows_at || syncs == atoi(grows_at)) && real_write(atoi(grows), "x", 1) != 1) abort();
     of_fd(p, sizeof p, fd);
     if (!goes("sync")) { note("unsynced", p, NULL); return -1; }
     int got = real(fd);
     note(got == 0 ? "sync" : "unsynced", p, NULL);
+    note_lock();
+    if (getenv("MROUT_SLOW")) sleep(atoi(getenv("MROUT_SLOW")));
     made();
     return got;
 }

@@ -7,12 +7,12 @@ use Rattle.mr_history.specs.declared.record.Record.{Record}
 use Rattle.mr_out_disk.specs.declared.place.Place.{Place}
 use Rattle.mr_out_disk.specs.declared.place.Place.TheVariants.{Kept}
 use Rattle.mr_out_disk.specs.declared.call.Call.{Call}
-use Rattle.mr_out_disk.specs.declared.call.Call.TheVariants.{ReadHistory, AppendHistory, SyncHistory, Look, ListKept, SyncFile, SyncFolder, Rename, Link, Create, Remove, MakeFolder}
+use Rattle.mr_out_disk.specs.declared.call.Call.TheVariants.{ReadHistory, AppendHistory, SyncHistory, Look, ListKept, SyncFile, SyncFolder, SyncName, Rename, Link, Create, Remove, MakeFolder}
 use Rattle.mr_out_disk.specs.declared.answer.Answer.{Answer}
 use Rattle.mr_out_disk.specs.declared.answer.Answer.TheVariants.{Says, Told, Listed}
 use Rattle.mr_out_disk.specs.declared.answer.Reply.{Reply}
 use Rattle.mr_out_disk.specs.declared.answer.Reply.TheVariants.{Done, Missing, Taken, Found, Odd, Grew, Failed}
-use Rattle.mr_out_disk.specs.Disk.{Disk, records, seen, named, folder_synced, file_synced}
+use Rattle.mr_out_disk.specs.Disk.{Disk, records, seen, named, folder_synced, name_synced, file_synced}
 
 -- ---- what a disk is once a call was made
 
@@ -21,6 +21,7 @@ made d (AppendHistory r) = record d { appended = d.appended ++ r ∷ [] }
 made d SyncHistory = record d { synced = d.synced ++ d.appended; appended = [] }
 made d (SyncFile p) = file_synced (seen d p) d
 made d (SyncFolder folder) = folder_synced folder d
+made d (SyncName p) = name_synced p d
 made d (Rename from to) = named from None (named to (seen d from) d)
 made d (Link from to) = named to (seen d from) d
 made d (Create p) = named p (Some 0) d  -- an empty file; which one it is does not count
@@ -41,6 +42,7 @@ CanMake d (AppendHistory r) = Unit {0}
 CanMake d SyncHistory = Unit {0}
 CanMake d (SyncFile p) = seen d p ≢ None
 CanMake d (SyncFolder folder) = Unit {0}
+CanMake d (SyncName p) = Unit {0}
 CanMake d (Rename from to) = seen d from ≢ None
 CanMake d (Link from to) = (seen d from ≢ None) × (seen d to ≡ None)
 CanMake d (Create p) = seen d p ≡ None

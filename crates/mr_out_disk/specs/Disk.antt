@@ -45,6 +45,10 @@ named p file d = record d { moments = λ q. if same_place p q then moved file (d
 abbrev pub folder_synced : Folder → Disk → Disk
 folder_synced folder d = record d { moments = λ q. if stands_in folder q then settled (d.moments q) else d.moments q }
 
+-- which file this name is, is durable; of the other names of its folder that is not said
+abbrev pub name_synced : Place → Disk → Disk
+name_synced p d = record d { moments = λ q. if same_place p q then settled (d.moments q) else d.moments q }
+
 -- the file is synced, if there is one
 abbrev pub file_synced : Option ℕ → Disk → Disk
 file_synced None d = d

@@ -21,6 +21,8 @@ pub enum Call {
     SyncFile(Place),
     /// Syncs a folder. Answers: `Done`.
     SyncFolder(Folder),
+    /// Makes durable which file a name is, as a sync of its folder does. Answers: `Done`.
+    SyncName(Place),
     /// Renames a file; what stood at the new name is lost. Answers: `Done`, `Missing`.
     Rename { from: Place, to: Place },
     /// Gives a file one more name, which is not taken. Answers: `Done`, `Missing`, `Taken`.

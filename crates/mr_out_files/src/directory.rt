@@ -7,7 +7,8 @@ use crate::boots::note_boot;
 use crate::early::{Early, sync_early};
 use crate::history::History;
 use crate::lengths::{drop_lengths, note_length};
-use crate::lock::{Lock, locked};
+use crate::lock::{Lock, let_go, lock_again, locked};
+use crate::places::{folder_of, folder_path, is_right, kept_attempt};
 use crate::spares::{SPARE, take_folder};
 use http_server::Log;
 use mr_history::Record;
@@ -33,14 +34,17 @@ pub struct Directory {
     alloc: Global,
     /// Its job.
     pub job: Job,
-    // The lock is held as long as this file is open.
-    lock: File,
+    // The lock is held as long as this file is open, but while a claim is made durable. How it is held.
+    file: File,
+    lock: Lock,
     history: History,
-    // The file that is handed in, as it was synced before the lock was held.
+    // The file that was made durable while the lock was free.
     early: Option<Early>,
-    // The attempt whose file was claimed since then, and the one that was found to be begun in this boot.
+    // The attempt whose file was claimed, the one that was found to be begun in this boot, and the one whose claimed file's
+    // name is durable.
     claimed: Option<AttemptId>,
     checked: Option<AttemptId>,
+    named: Option<AttemptId>,
     // The marker was made or found, and is not durable yet.
     is_marked: bool,
     trouble: Option<Fault>,
@@ -70,28 +74,23 @@ fn answered(
 }
 
 impl Directory {
-    /// Goes into a directory, takes its lock, and reads its job. Where an attempt hands in, the file that it wrote is synced
-    /// before the lock is held.
-    pub fn open(
-        rt: &HostRuntime,
-        dir: &str,
-        lock: Lock,
-        handing: Option<AttemptId>,
-    ) -> Result<Directory, Fault>
+    /// Goes into a directory, takes its lock, and reads its job.
+    pub fn open(rt: &HostRuntime, dir: &str, lock: Lock) -> Result<Directory, Fault>
         ensures { IfOk result (λ directory. calls_of directory ≡ []) }
     {
         enter(rt, dir)?;
         let history = History::new(rt, !lock.is_shared)?;
-        let early = early_of(rt, handing)?;
-        let (lock, job) = locked(rt, lock)?;
+        let (file, job) = locked(rt, lock)?;
         Ok(Directory {
             alloc: rt.alloc(),
             job,
+            file,
             lock,
             history,
-            early,
+            early: None,
             claimed: None,
             checked: None,
+            named: None,
             is_marked: false,
             trouble: None,
             made: Log::new(),
@@ -111,6 +110,25 @@ impl Directory {
             Ok(()) => sync_folder(rt, HOME),
             Err(error) => Err(Fault::of_call(self.alloc, "write", JOB, error)),
         }
+    }
+
+    /// Makes durable what this attempt has claimed, if it has, while others may hold the lock: its file, and the file's name.
+    /// The calls that sync these answer that it is done, where the file was not changed since. Where the lock can't be had
+    /// again, the claim stands, and nothing else was done.
+    pub fn settle_claim(&mut self, rt: &HostRuntime, a: AttemptId) -> Result<(), Fault>
+        ensures { Keeps self.old self.new }
+    {
+        let place = Place::Kept(a);
+        let path = self.path(&place)?;
+        let Some(found) = look_file(rt, &path)? else {
+            return Ok(());
+        };
+        self.note(rt, a, &found)?;
+        let_go(rt, &self.file)?;
+        self.early = sync_early(rt, a, found)?;
+        lock_again(rt, &self.file, self.lock)?;
+        self.history.reopen();
+        Ok(())
     }
 
     /// Why the call that failed last did, if one did. It is told once.
@@ -154,6 +172,7 @@ impl Directory {
             Call::ListKept => self.list_kept(rt),
             Call::SyncFile(place) => self.sync_file(rt, &place),
             Call::SyncFolder(folder) => self.sync_folder(rt, folder),
+            Call::SyncName(place) => self.sync_name(rt, &place),
             Call::Rename { from, to } => self.rename(rt, &from, &to),
             Call::Link { from, to } => self.link(rt, &from, &to),
             Call::Create(place) => self.mark(rt, &place),
@@ -276,8 +295,8 @@ impl Directory {
         let Some(named) = look_file(rt, &path)? else {
             return Ok(Answer::Says(Reply::Missing));
         };
-        if self.is_synced(&named)? {
-            return self.measured(rt, place, &named);
+        if self.is_synced(place, &named)? {
+            return Ok(done());
         }
         let file = open(rt, &path)?;
         let before = stat(rt, &file, &path)?;
@@ -288,24 +307,35 @@ impl Directory {
     }
 
     // Notes how long the file is that was handed in. One that was claimed before may have another length noted.
+    fn note(&self, rt: &HostRuntime, a: AttemptId, found: &Metadata) -> Result<(), Fault> {
+        if self.claimed != Some(a) {
+            drop_lengths(rt, a)?;
+        }
+        note_length(rt, a, found.len())
+    }
+
     fn measured(&self, rt: &HostRuntime, place: &Place, found: &Metadata) -> Result<Answer, Fault> {
-        if let Place::Kept(a) = *place {
-            if self.claimed != Some(a) {
-                drop_lengths(rt, a)?;
-            }
-            note_length(rt, a, found.len())?;
+        if let Some(a) = kept_attempt(place) {
+            self.note(rt, a, found)?;
         }
         Ok(done())
     }
 
-    // Whether the file was synced before the lock was held, and is what it was.
-    fn is_synced(&mut self, named: &Metadata) -> Result<bool, Fault>
+    // Whether the file was made durable while the lock was free, and is what it was. Otherwise others may have noted another
+    // length of it.
+    fn is_synced(&mut self, place: &Place, named: &Metadata) -> Result<bool, Fault>
         ensures { Keeps self.old self.new }
     {
-        match self.early.take() {
-            Some(early) => early.is_still(named),
-            None => Ok(false),
+        let is_still = match self.early.take() {
+            Some(early) => early.is_still(named)?,
+            None => false,
+        };
+        if is_still {
+            self.named = kept_attempt(place);
+        } else {
+            self.claimed = None;
         }
+        Ok(is_still)
     }
 
     fn sync_still(
@@ -349,6 +379,17 @@ impl Directory {
             &to,
             fs::hard_link(rt, from.as_str(), to.as_str()),
         )
+    }
+
+    // Syncs the folder of a name, if that was not done while the lock was free.
+    fn sync_name(&mut self, rt: &HostRuntime, place: &Place) -> Result<Answer, Fault>
+        ensures { Keeps self.old self.new }
+    {
+        if self.named.is_none() || self.named != kept_attempt(place) {
+            sync_folder(rt, folder_path(folder_of(place)))?;
+        }
+        self.named = None;
+        Ok(done())
     }
 
     // Syncs a folder. Once the marker is durable, what attempts wrote is removed: where that fails, the next command does it
@@ -431,21 +472,6 @@ impl Directory {
     }
 }
 
-fn early_of(rt: &HostRuntime, handing: Option<AttemptId>) -> Result<Option<Early>, Fault> {
-    match handing {
-        Some(a) => sync_early(rt, a),
-        None => Ok(None),
-    }
-}
-
-// The attempt whose handed-in file has this name.
-fn kept_attempt(place: &Place) -> Option<AttemptId> {
-    match *place {
-        Place::Kept(a) => Some(a),
-        _ => None,
-    }
-}
-
 // Removes what attempts wrote, and the folders that were kept for more of them.
 fn sweep(rt: &HostRuntime) -> Result<(), Fault> {
     clear_folder(rt, WORK)?;
@@ -457,23 +483,6 @@ fn clear_folder(rt: &HostRuntime, path: &str) -> Result<(), Fault> {
         Ok(()) => Ok(()),
         Err(error) if error.kind() == io::ErrorKind::NotFound => Ok(()),
         Err(error) => Err(Fault::of_call(rt.alloc(), "remove", path, error)),
-    }
-}
-
-fn folder_path(folder: Folder) -> &'static str {
-    match folder {
-        Folder::Output => ".",
-        Folder::Kept => KEPT,
-        Folder::Work => WORK,
-        Folder::Home => HOME,
-    }
-}
-
-// A regular file; one that an attempt writes has no other name.
-fn is_right(place: &Place, found: &Metadata) -> bool {
-    match *place {
-        Place::Work(_) => found.is_file() && found.nlink() == 1,
-        _ => found.is_file(),
     }
 }
 

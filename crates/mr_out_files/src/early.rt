@@ -1,16 +1,16 @@
-//! The file of an attempt is made durable before the lock is held, so that nobody has to wait for that.
+//! What an attempt has claimed is made durable while the lock is free, so that nobody has to wait for that: its file, and then
+//! the file's name.
 //!
-//! It counts where the file was not changed since; then it is not synced again. Where that sync failed, the attempt has
-//! failed: another sync may answer well, and not mean it.
+//! It counts where the file was not changed since its length was noted; then neither is synced again. Where the sync of the
+//! file failed, the attempt has failed: another sync may answer well, and not mean it.
 use mr_ids::AttemptId;
-use mr_out_layout::{Fault, JOB, Job, is_changed, is_one, look, open, stat, sync, told, work_path};
-use std::fs::{File, Metadata};
-use std::os::unix::fs::MetadataExt;
+use mr_out_layout::{Fault, KEPT, is_changed, is_one, kept_path, open, sync, sync_folder};
+use std::fs::Metadata;
 
-/// A file that was synced before the lock was held.
+/// A claimed file that was synced while the lock was free, and so was its name, where the file's sync did not fail.
 #[derive(Drop)]
 pub(crate) struct Early {
-    // What it was before the sync.
+    // What it was when its length was noted.
     before: Metadata,
     synced: Result<(), Fault>,
 }
@@ -27,46 +27,29 @@ impl Early {
     }
 }
 
-/// Syncs the file that an attempt wrote, if there is one. Any other fault but for memory is left to whoever holds the lock.
-pub(crate) fn sync_early(rt: &HostRuntime, a: AttemptId) -> Result<Option<Early>, Fault> {
-    let Some(path) = early_path(rt, a)? else {
-        return Ok(None);
-    };
-    let Some(file) = early_file(rt, &path)? else {
-        return Ok(None);
-    };
-    let Some(before) = if_made(stat(rt, &file, &path))? else {
+/// Syncs the file that an attempt claimed, and then its name. Nothing where the file is gone meanwhile: whoever holds the lock
+/// finds out why.
+pub(crate) fn sync_early(
+    rt: &HostRuntime,
+    a: AttemptId,
+    before: Metadata,
+) -> Result<Option<Early>, Fault> {
+    let path = kept_path(rt.alloc(), a)?;
+    let Some(file) = if_made(open(rt, &path))? else {
         return Ok(None);
     };
     let synced = sync(rt, &file, &path);
+    if synced.is_ok() && if_synced(sync_folder(rt, KEPT))?.is_none() {
+        return Ok(None);
+    }
     Ok(Some(Early { before, synced }))
 }
 
-// Where the attempt writes, by the job as it is told before the lock is held.
-fn early_path(rt: &HostRuntime, a: AttemptId) -> Result<Option<String>, Fault> {
-    let Some(bytes) = told(rt, JOB)? else {
-        return Ok(None);
-    };
-    match if_made(Job::read(rt.alloc(), &bytes))? {
-        Some(job) => Ok(Some(work_path(rt.alloc(), &job, a)?)),
-        None => Ok(None),
-    }
-}
-
-fn early_file(rt: &HostRuntime, path: &str) -> Result<Option<File>, Fault> {
-    if is_written(rt, path)? {
-        if_made(open(rt, path))
-    } else {
-        Ok(None)
-    }
-}
-
-// Whether a regular file with one name stands there.
-fn is_written(rt: &HostRuntime, path: &str) -> Result<bool, Fault> {
-    match look(rt, path) {
-        Ok(Some(found)) => Ok(found.is_file() && found.nlink() == 1),
-        Err(Fault::NoMemory) => Err(Fault::NoMemory),
-        _ => Ok(false),
+// A sync that failed is a fault; any other fault but for memory is left to whoever holds the lock.
+fn if_synced(made: Result<(), Fault>) -> Result<Option<()>, Fault> {
+    match made {
+        Err(fault) if fault.is_of("sync") => Err(fault),
+        made => if_made(made),
     }
 }
 

@@ -156,6 +156,13 @@ impl History {
         }
     }
 
+    /// Others may have held the lock since: what is there is to be read anew.
+    pub(crate) fn reopen(&mut self) {
+        self.end = None;
+        self.file = None;
+        self.is_flushed = false;
+    }
+
     /// Appends the line of a record.
     pub(crate) fn append(&mut self, rt: &HostRuntime, told: &Record) -> Result<(), Fault> {
         let line = whole_line(self.alloc, told)?;

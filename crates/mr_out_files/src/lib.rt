@@ -29,6 +29,7 @@ mod lengths;
 mod lock;
 mod making;
 mod mounts;
+mod places;
 mod spares;
 
 pub use beginning::{begin, name_of};

@@ -91,6 +91,25 @@ pub(crate) fn locked(rt: &HostRuntime, lock: Lock) -> Result<(File, Job), Fault>
     Err(Fault::Busy)
 }
 
+/// Takes the lock again that was let go. Where its file is not the one of that name any more, that is another directory's.
+pub(crate) fn lock_again(rt: &HostRuntime, file: &File, lock: Lock) -> Result<(), Fault> {
+    wait(rt, file, lock)?;
+    let held = stat(rt, file, JOB)?;
+    match look_file(rt, JOB)? {
+        Some(still) if is_one(&held, &still) => Ok(()),
+        Some(_) => Err(Fault::Busy),
+        None => Err(absent(rt)),
+    }
+}
+
+/// Lets the lock go.
+pub(crate) fn let_go(rt: &HostRuntime, file: &File) -> Result<(), Fault> {
+    match file.unlock() {
+        Ok(()) => Ok(()),
+        Err(error) => Err(Fault::of_call(rt.alloc(), "unlock", JOB, error)),
+    }
+}
+
 // All bytes of the file that tells the job.
 fn bytes_of(rt: &HostRuntime, file: &mut File) -> Result<Vec<u8>, Fault> {
     let mut bytes = Vec::new(rt.alloc());

@@ -9,14 +9,13 @@ use Rattle.mr_history.specs.declared.record.Record.TheVariants.{AttemptStarted, 
 use Rattle.mr_history.specs.Winner.{winner_in}
 use Rattle.mr_history.proofs.Winners.{winner-of}
 use Rattle.mr_out_disk.specs.declared.place.Place.TheVariants.{Part, Marker, Kept, Work, Decision, Home}
-use Rattle.mr_out_disk.specs.declared.place.Folder.TheVariants as folder
 use Rattle.mr_out_disk.specs.declared.call.Call.{Call}
 use Rattle.mr_out_disk.specs.declared.call.Call.TheVariants as call
 use Rattle.mr_out_disk.specs.declared.answer.Answer.{Answer}
 use Rattle.mr_out_disk.specs.declared.answer.Answer.TheVariants.{Says, Told, Listed}
 use Rattle.mr_out_disk.specs.declared.answer.Reply.{Reply}
 use Rattle.mr_out_disk.specs.declared.answer.Reply.TheVariants.{Done, Missing, Taken, Found, Odd, Grew, Failed}
-use Rattle.mr_out_disk.specs.Disk.{Moments, Disk, records, seen, moved, settled, named, folder_synced, file_synced}
+use Rattle.mr_out_disk.specs.Disk.{Moments, Disk, records, seen, moved, settled, named, file_synced}
 use Rattle.mr_out_disk.specs.Calls.{made, effect, CanMake, MaySay, IsHonest}
 use Rattle.mr_out_disk.specs.Cuts.{IsFront}
 use Rattle.mr_out_steps.specs.declared.order.Outcome.{Outcome}
@@ -33,7 +32,7 @@ use Rattle.mr_out_model.proofs.Standings.{IsOpen}
 use Rattle.mr_out_model.proofs.Invariant as inv
 use Rattle.mr_out_model.proofs.Invariant.{View, view, all_records, IsFile, IsThere, IsGone, Wins, PartOf, IsPart, Shown, Stand, IsStored, File, OfJob, Core, Known, Held, Durable, Opens, MayAppend, Fate, IsAmong, AreWinners, Seen, ToLink, At, IsOf, Amid}
 use Rattle.mr_out_model.proofs.Records.{some-one, none-some, no-winner, one-winner, wins-own, none-all, appended_too, synced_too, core-success, core-plain, core-sync, told-success, told-plain, told-sync, stand-grows, stand-handed, handed-other, another, failure-plain, start-plain, map-plain, end-plain}
-use Rattle.mr_out_model.proofs.Names.{core-output, core-kept, core-whole, core-claim, core-empty, core-link, core-mark, stand-output, not-yet, kept_named, part_named, marker_named}
+use Rattle.mr_out_model.proofs.Names.{core-output, core-kept, settled-itself, core-whole, core-claim, core-empty, core-link, core-mark, stand-output, not-yet, kept_named, part_named, marker_named}
 use Rattle.mr_out_model.proofs.Turns.{ends-amid, links-amid, empties-amid, begins-amid, follows-amid}
 
 -- ---- what was there before stays
@@ -183,13 +182,13 @@ on-syncing-file s w c a b at Grew m = stays s w c (Over outcome.StillWritten) b 
 on-syncing-file s w c a b at Failed m = stays s w c (Appending (AttemptFailed a)) b (at.0, λ x. no-winner (winner_in w.disk.synced a.task) a at.1.unwon x)
 on-syncing-file s w c a b at _ m = fail s w c b
 
-pub on-syncing-claim : (s : Setting) (w : World) (c : Command) (a : Attempt) → Before s w c → At s (view w.disk) w.handed c (SyncingClaim a) → (reply : Reply) → After s w c (SyncingClaim a) (call.SyncFolder folder.Kept) reply
+pub on-syncing-claim : (s : Setting) (w : World) (c : Command) (a : Attempt) → Before s w c → At s (view w.disk) w.handed c (SyncingClaim a) → (reply : Reply) → After s w c (SyncingClaim a) (call.SyncName (Kept a)) reply
 unfolding turn
 on-syncing-claim s w c a b at Done = record {
-  core = core-kept s (view w.disk) w.handed b.core;
+  core = core-kept s (view w.disk) w.handed a b.core;
   work = b.work;
   told = b.told;
-  amid = record { fits = b.fits; here = (at.0, (at.1, record { file = at.2.file; every = (at.2.now, tt); is_whole = at.2.is_whole })) };
+  amid = record { fits = b.fits; here = (at.0, (at.1, record { file = at.2.file; every = settled-itself (IsFile at.2.file) a (w.disk.moments (Kept a)) at.2.now; is_whole = at.2.is_whole })) };
   grows = record { front = front-itself w.disk.synced; stand = λ st. st; handed = λ x y. refl; bytes = λ x g y z. refl; decision = λ e. e; marker = λ e. e; home = λ e. e };
 }
 on-syncing-claim s w c a b at _ = fail s w c b

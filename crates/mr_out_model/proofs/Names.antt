@@ -1,5 +1,5 @@
 -- What a name that changes, or a folder or a file that is synced, leaves of the invariant.
-use Rattle.std.proofs.Common.{if◌then◌else◌, ◌≡◌, ◌≢◌, ◌⊎◌, inl, inr, ◌<◌, ◌==◌, ℕ, Bool, true, false, cond, List, [], ◌∷◌, ◌++◌, Option, Some, None, refl, sym, ap, subst, ◌∙◌}
+use Rattle.std.proofs.Common.{if◌then◌else◌, ◌≡◌, ◌≢◌, ◌⊎◌, inl, inr, ◌<◌, ◌==◌, ℕ, Bool, true, false, cond, List, [], ◌∷◌, ◌++◌, Option, Some, None, refl, sym, ap, subst, ◌∙◌, true≢false}
 use Rattle.std.proofs.lemmas.Bool.{eqb-true, eq-eqb}
 use Rattle.mr_ids.specs.Attempt.{Attempt}
 use Rattle.mr_ids.specs.Same.{same_attempt}
@@ -15,13 +15,13 @@ use Rattle.mr_out_model.proofs.Moments.{Every, EveryOf, every-map, every-settled
 use Rattle.mr_out_model.proofs.Invariant.{View, all_records, IsFile, IsThere, IfThere, IfGone, Wins, PartOf, IsPart, Shown, Stand, Published, IsReleased, IsStored, File, OfJob, Core}
 use Rattle.mr_out_model.proofs.Records.{if-there-map, forgotten-map, one-winner, none-all, some-one, none-some}
 
--- ---- folders and files that are synced
+-- ---- folders, names and files that are synced
 
 abbrev pub output_synced : View → View
 output_synced v = record v { part = λ n. settled (v.part n); marker = settled v.marker; home = settled v.home }
 
-abbrev pub kept_synced : View → View
-kept_synced v = record v { kept = λ a. settled (v.kept a) }
+abbrev pub kept_settled : Attempt → View → View
+kept_settled a v = record v { kept = λ b. if same_attempt a b then settled (v.kept b) else v.kept b }
 
 abbrev pub whole_file : ℕ → View → View
 whole_file file v = record v { whole = λ f. if f == file then true else v.whole f }
@@ -48,21 +48,25 @@ core-output s v h c = record {
     by a f (inl e) = inl e
     by a f (inr p) = inr (every-settled (IsFile f) (v.part a.task.number) p.0, every-settled IsThere v.marker p.1)
 
-pub core-kept : (s : Setting) (v : View) (h : Attempt → Option ℕ) → Core s v h → Core s (kept_synced v) h
-core-kept s v h c = record {
+pub core-kept : (s : Setting) (v : View) (h : Attempt → Option ℕ) (a : Attempt) → Core s v h → Core s (kept_settled a v) h
+core-kept s v h a c = record {
   parts = c.parts;
   marker = c.marker;
-  files = λ a w. let x = c.files a w in record { file = x.file; handed = x.handed; is_whole = x.is_whole; writer = x.writer; stored = by a x.file x.stored };
+  files = λ b w. let x = c.files b w in record { file = x.file; handed = x.handed; is_whole = x.is_whole; writer = x.writer; stored = by b x.file x.stored };
   of_job = c.of_job;
-  kept = λ a. every-settled (IsWriters s a) (v.kept a) (c.kept a);
+  kept = λ b. every-if (IsWriters s b) (same_attempt a b) (settled (v.kept b)) (v.kept b) (λ e. every-settled (IsWriters s b) (v.kept b) (c.kept b)) (λ e. c.kept b);
   released = c.released;
   released_mark = c.released_mark;
   forgotten = c.forgotten;
 }
   where
-    by : (a : Attempt) (f : ℕ) → IsStored f (v.kept a) (v.part a.task.number) v.marker → IsStored f (settled (v.kept a)) (v.part a.task.number) v.marker
-    by a f (inl e) = inl (every-settled (IsFile f) (v.kept a) e)
-    by a f (inr p) = inr p
+    by : (b : Attempt) (f : ℕ) → IsStored f (v.kept b) (v.part b.task.number) v.marker → IsStored f (cond (same_attempt a b) (settled (v.kept b)) (v.kept b)) (v.part b.task.number) v.marker
+    by b f (inl e) = inl (every-if (IsFile f) (same_attempt a b) (settled (v.kept b)) (v.kept b) (λ is. every-settled (IsFile f) (v.kept b) e) (λ is. e))
+    by b f (inr p) = inr p
+
+-- the name itself
+pub settled-itself : (P : Option ℕ → Type 0) (a : Attempt) (m : Moments) → P m.now → Every P (cond (same_attempt a a) (settled m) m)
+settled-itself P a m p = every-if P (same_attempt a a) (settled m) m (λ is. (p, tt)) (λ is. absurd (true≢false (sym (same_attempt-itself a) ∙ is)))
 
 pub whole-still : (b x : Bool) → x ≡ true → cond b true x ≡ true
 whole-still true x e = refl

@@ -1,3 +1,4 @@
 pub mod Advancing
 pub mod Telling
 pub mod Turning
+pub mod Handing

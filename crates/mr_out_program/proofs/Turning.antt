@@ -24,7 +24,7 @@ use Rattle.mr_out_program.specs.Turns.{Stops, Looks, Reads, Syncs, IsTurn, Turns
 abbrev CarriedAt : Order → Job → List (Call × Answer) → List (Call × Answer) → Outcome → Type 0
 CarriedAt order job before after end = IsCarriedOut (first_of order job) before after end
 
-carried_from : (order : Order) (old mid new : Directory) (end : Outcome) → Keeps old mid → CarriesOut order mid new end → CarriesOut order old new end
+pub carried_from : (order : Order) (old mid new : Directory) (end : Outcome) → Keeps old mid → CarriesOut order mid new end → CarriesOut order old new end
 carried_from order old mid new end k it = record {
   calls = subst (λ (xs : List (Call × Answer)). CarriedAt order old.job xs (calls_of new) end) k.0 (subst (λ (job : Job). CarriedAt order job (calls_of mid) (calls_of new) end) k.1 it.calls);
   job = it.job ∙ k.1;

@@ -1,5 +1,7 @@
 -- Commands that are carried out one after another. Our own.
-use Rattle.std.specs.Prelude.{◌≡◌, ◌⊎◌, ℕ, zero, suc, List, [], ◌∷◌, ◌++◌, Result, Ok, Err}
+use Rattle.std.specs.Prelude.{◌≡◌, ◌⊎◌, ℕ, zero, suc, List, [], ◌∷◌, ◌++◌, Result, Ok, Err, IsErr}
+use Rattle.mr_ids.specs.Attempt.{Attempt}
+use Rattle.mr_ids.specs.Text.{attempt_text}
 use Rattle.mr_history.specs.declared.record.Record.{Record}
 use Rattle.mr_out_disk.specs.declared.call.Call.{Call}
 use Rattle.mr_out_disk.specs.declared.call.Call.TheVariants.{ReadHistory, SyncHistory}
@@ -13,7 +15,9 @@ use Rattle.mr_out_steps.specs.declared.order.Outcome.{Outcome}
 use Rattle.mr_out_calls.specs.Recorded.{AreCallsOf}
 use Rattle.mr_out_files.specs.declared.directory.Directory.{Directory}
 use Rattle.mr_out_files.specs.Made.{calls_of, Keeps}
-use Rattle.mr_out_program.specs.Carried.{first_of, CarriesOut}
+use Rattle.mr_out_program.specs.declared.answering.Answered.{Answered}
+use Rattle.mr_out_program.specs.Sayings.{done_saying}
+use Rattle.mr_out_program.specs.Carried.{first_of, CarriesOut, CarriesAndTells, IsNoAttempt}
 
 -- A command with this order was stopped behind some call, as by a kill: a front of its calls was made.
 pub record Stops (order : Order) (old new : Directory) : Type 0 where
@@ -54,3 +58,16 @@ IsStart o = o ≡ order.StartNext
 abbrev pub IsFailure : Order → Type 0
 IsFailure (order.Fail a) = Unit {0}
 IsFailure _ = ⊥
+
+-- ---- a file that is handed in
+
+-- A command with this order was stopped behind some call. Then one with the same order was carried out, and its end told; or nothing more was called, and
+-- that is a fault.
+abbrev pub ClaimsAndTells : Attempt → Directory → Directory → Result Answered Fault → Type 0
+ClaimsAndTells a old new result = (mid : Directory) × Stops (order.Done a) old mid × (CarriesAndTells (order.Done a) done_saying mid new result ⊎ (IsErr result × Keeps mid new))
+
+-- That came of the attempt with this text. Where the job has no such attempt, that is refused, and no call is made.
+abbrev pub HandsIn : List ℕ → Directory → Directory → Result Answered Fault → Type 0
+HandsIn text old new result =
+    ((a : Attempt) × (text ≡ attempt_text a) × (a.task.job ≡ old.job.id) × ClaimsAndTells a old new result)
+    ⊎ (IsErr result × IsNoAttempt text old.job × Keeps old new)

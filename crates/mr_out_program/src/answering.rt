@@ -135,7 +135,7 @@ fn carried(rt: &HostRuntime, asked: &Asked<'_>) -> Result<Answered, Fault> {
 
 // Hands a file in. Once the lock is free again, the folder of one who won is kept for another attempt.
 fn hand_in(rt: &HostRuntime, asked: &Asked<'_>, text: &str) -> Result<Answered, Fault> {
-    let answered = done(rt, &mut open_done(rt, asked, text)?, text)?;
+    let answered = done(rt, &mut open(rt, asked)?, text)?;
     if let (0, Ok(a)) = (answered.status, AttemptId::parse(text)) {
         let _ = keep_folder(rt, a);
     }
@@ -144,24 +144,8 @@ fn hand_in(rt: &HostRuntime, asked: &Asked<'_>, text: &str) -> Result<Answered, 
 
 // The directory, with its lock for one who writes. It is of this host.
 fn open(rt: &HostRuntime, asked: &Asked<'_>) -> Result<Directory, Fault> {
-    open_here(rt, asked, None)
-}
-
-// The same, for the attempt with this text, which hands in.
-fn open_done(rt: &HostRuntime, asked: &Asked<'_>, text: &str) -> Result<Directory, Fault> {
-    match AttemptId::parse(text) {
-        Ok(a) => open_here(rt, asked, Some(a)),
-        Err(_) => open_here(rt, asked, None),
-    }
-}
-
-fn open_here(
-    rt: &HostRuntime,
-    asked: &Asked<'_>,
-    handing: Option<AttemptId>,
-) -> Result<Directory, Fault> {
     let host = host_of(rt)?;
-    let directory = open_any(rt, asked, false, handing)?;
+    let directory = open_any(rt, asked, false)?;
     if directory.job.host != host {
         return Err(Fault::refused(rt.alloc(), ".", Why::OtherHost));
     }
@@ -170,20 +154,15 @@ fn open_here(
 
 // The directory, with its lock for one who reads.
 fn open_shared(rt: &HostRuntime, asked: &Asked<'_>) -> Result<Directory, Fault> {
-    open_any(rt, asked, true, None)
+    open_any(rt, asked, true)
 }
 
-fn open_any(
-    rt: &HostRuntime,
-    asked: &Asked<'_>,
-    is_shared: bool,
-    handing: Option<AttemptId>,
-) -> Result<Directory, Fault> {
+fn open_any(rt: &HostRuntime, asked: &Asked<'_>, is_shared: bool) -> Result<Directory, Fault> {
     let lock = Lock {
         is_shared,
         wait: asked.wait.map(|seconds| seconds.saturating_mul(1000)),
     };
-    Directory::open(rt, asked.dir, lock, handing)
+    Directory::open(rt, asked.dir, lock)
 }
 
 /// A held job is published, if each task is won.
@@ -221,7 +200,7 @@ pub fn recover(rt: &HostRuntime, directory: &mut Directory) -> Result<Answered, 
 
 fn resume(rt: &HostRuntime, asked: &Asked<'_>, here: bool) -> Result<Answered, Fault> {
     if here {
-        let mut directory = open_any(rt, asked, false, None)?;
+        let mut directory = open_any(rt, asked, false)?;
         directory.move_here(rt)?;
         drop(directory);
         return finish(rt, ".", asked.wait);

@@ -4,11 +4,12 @@ ghost use Rattle.std.specs.String.{string_bytes};
 ghost use Rattle.mr_ids.specs.Text.{attempt_text};
 ghost use Rattle.mr_out_files.specs.Made.{Keeps};
 ghost use Rattle.mr_out_program.specs.Sayings.{done_saying, fail_saying};
-ghost use Rattle.mr_out_program.specs.Turns.{TurnsOf, IsTurn, IsStart, IsFailure};
+ghost use Rattle.mr_out_program.specs.Turns.{TurnsOf, IsTurn, IsStart, IsFailure, HandsIn};
 ghost use Rattle.mr_out_program.specs.Carried.{start_of, started_line, Begins, CarriesAndTellsOf, IsNoAttempt, HasTask, IsNoTask, CarriesAndTells, SaysIfAny, TellsStart, is_fault};
 
 use crate::answering::Answered;
 use crate::ending::settle;
+use crate::handing::hand_in;
 use crate::saying::{Saying, attempt_saying, done_saying, fail_saying};
 use crate::standing::{first_alive_of, read_records};
 use mr_ids::AttemptId;
@@ -180,16 +181,17 @@ fn attempt_of(rt: &HostRuntime, directory: &Directory, text: &str) -> Result<Att
     }
 }
 
-/// An attempt has written its file. A text that names none of the job is refused, and no call is made.
+/// An attempt has written its file: it is claimed, and then handed in. A text that names none of the job is refused, and no
+/// call is made.
 pub fn done(rt: &HostRuntime, directory: &mut Directory, text: &str) -> Result<Answered, Fault>
-    ensures { CarriesAndTellsOf Order.Done done_saying text.now directory.old directory.new result }
+    ensures { HandsIn text.now directory.old directory.new result }
 {
     let a = attempt_of(rt, directory, text)?;
-    done_by(rt, directory, a, text)
+    hand_in(rt, directory, a, text)
 }
 
 #[tactic(auto, using(crate::proofs::Telling::tells_ok, crate::proofs::Telling::tells_err))]
-fn done_by(
+pub(crate) fn done_by(
     rt: &HostRuntime,
     directory: &mut Directory,
     a: AttemptId,

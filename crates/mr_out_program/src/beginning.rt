@@ -80,7 +80,7 @@ fn there(
     if again {
         sync_folder(rt, ".")?;
     }
-    match Directory::open(rt, name_of(asked.dir), lock, None) {
+    match Directory::open(rt, name_of(asked.dir), lock) {
         Ok(found) => is_there(rt, &found, job, path, again),
         Err(fault) => Err(not_a_job(fault, path)),
     }

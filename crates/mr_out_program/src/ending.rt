@@ -20,7 +20,8 @@ pub fn settle(rt: &HostRuntime, directory: &mut Directory, order: Order) -> Resu
     settled(rt, directory, &order, end)
 }
 
-fn settled(
+/// How an order that ended so is told: with a fault, where it refuses that, or a call failed.
+pub(crate) fn settled(
     rt: &HostRuntime,
     directory: &mut Directory,
     order: &Order,

@@ -10,9 +10,9 @@
 //! - Safety, and that each call returns but for the wait for the lock.
 //! - `carry_out`: what is recorded of the calls of an order, with the disk's answers, is what its step machine makes
 //!   (mr_out_calls), and the order ends as the machine that took these answers.
-//! - `attempt`, `done`, `fail_one`, `publish`, `abort`, `recover`, `forget_published`, in a directory that is open: one such
-//!   order is carried out, and what is to be printed, with the exit status, is what its end is told by
-//!   (`specs/Carried.antt`, `specs/Sayings.antt`).
+//! - `attempt`, `fail_one`, `publish`, `abort`, `recover`, `forget_published`, in a directory that is open: one such order is
+//!   carried out, and what is to be printed, with the exit status, is what its end is told by (`specs/Carried.antt`,
+//!   `specs/Sayings.antt`). `done` likewise, behind a command with its order that claims the file and is stopped there.
 //! - Which status stands for each fault.
 //! - `attempt_all`, `fail_task`, `fail_all`: such orders are carried out, one after another (`specs/Turns.antt`).
 //!
@@ -25,6 +25,7 @@ mod attempts;
 mod beginning;
 mod carrying;
 mod ending;
+mod handing;
 mod saying;
 mod standing;
 

@@ -23,7 +23,7 @@ pub enum Phase {
     Claiming(AttemptId),
     /// The claimed file is synced.
     SyncingFile(AttemptId),
-    /// The folder of the claimed file is synced.
+    /// The name of the claimed file is made durable.
     SyncingClaim(AttemptId),
     /// A record is appended.
     Appending(Record),
@@ -96,7 +96,7 @@ impl Phase {
             Phase::FindingWork(a) => Some(Call::Look(Place::Work(a))),
             Phase::Claiming(a) => Some(claim(a)),
             Phase::SyncingFile(a) => Some(Call::SyncFile(Place::Kept(a))),
-            Phase::SyncingClaim(_) => Some(Call::SyncFolder(Folder::Kept)),
+            Phase::SyncingClaim(a) => Some(Call::SyncName(Place::Kept(a))),
             Phase::Appending(told) => Some(Call::AppendHistory(told)),
             Phase::DroppingClaim(a) | Phase::Emptying(a) => Some(Call::Remove(Place::Kept(a))),
             Phase::DroppingWork(a) => Some(Call::Remove(Place::Work(a))),

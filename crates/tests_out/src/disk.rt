@@ -39,6 +39,13 @@ fn newest(moments: &[Option<u64>]) -> Option<u64> {
     }
 }
 
+// What the name is now is durable.
+fn settle(rt: &impl Abort, name: &mut Name) {
+    let now = newest(&name.moments);
+    name.moments.clear();
+    name.moments.push(now).expect(rt, "no memory");
+}
+
 fn home(rt: &impl Abort, alloc: Global) -> Name {
     Name {
         place: Place::Home,
@@ -116,6 +123,10 @@ impl FakeDisk {
                 self.sync_folder(rt, folder);
                 Answer::Says(Reply::Done)
             }
+            Call::SyncName(place) => {
+                self.sync_name(rt, &place);
+                Answer::Says(Reply::Done)
+            }
             Call::Look(place) => Answer::Says(found(self.seen(&place))),
             Call::SyncFile(place) => Answer::Says(self.sync_file(rt, &place)),
             Call::Rename { from, to } => Answer::Says(self.rename(rt, &from, &to)),
@@ -155,9 +166,15 @@ impl FakeDisk {
     fn sync_folder(&mut self, rt: &impl Abort, folder: Folder) {
         for name in self.names.iter_mut() {
             if folder_of(&name.place) == folder {
-                let now = newest(&name.moments);
-                name.moments.clear();
-                name.moments.push(now).expect(rt, "no memory");
+                settle(rt, name);
+            }
+        }
+    }
+
+    fn sync_name(&mut self, rt: &impl Abort, place: &Place) {
+        for name in self.names.iter_mut() {
+            if name.place == *place {
+                settle(rt, name);
             }
         }
     }
