@@ -1,5 +1,5 @@
 //! Tests of what stands on a world: the board (several seats, works that are done outside it), the laws of what its calls answer, jobs
-//! that threads run, and a run that is explored.
+//! that threads run, a run that is explored, and walks over runs.
 #![tactic(auto)]
 
 // Ends the test where the condition is not so, and tells it, and at which value. It is a call where `assert!` is a branch. What stands
@@ -17,6 +17,7 @@ macro_rules! confirm {
 mod closes;
 #[cfg(test)]
 mod confirm;
+mod counting;
 #[cfg(test)]
 mod drives;
 #[cfg(test)]
@@ -27,5 +28,7 @@ mod fixtures;
 mod laws;
 #[cfg(test)]
 mod runs;
+#[cfg(test)]
+mod walks;
 #[cfg(test)]
 mod works;

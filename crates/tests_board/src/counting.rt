@@ -1,5 +1,5 @@
 //! A run that counts to two, and that may be set back to its beginning where it is at one. That puts off that it is set to one there.
-ghost use Rattle.tests_explore.specs.Counting.{counting};
+ghost use Rattle.tests_board.specs.Counting.{counting};
 
 use mr_explore_search::{Run, WalkFault};
 use std::alloc::Global;

@@ -1,7 +1,7 @@
 -- A run that counts to two, and that may be set back to its beginning where it is at one. That puts off that it is set to one there (our own).
 use Rattle.std.specs.Prelude.{ℕ, ◌+◌, [], ◌∷◌, Option, Some, None, if◌then◌else◌, nat_lt, nat_eq}
 use Rattle.mr_explore_search.specs.Steps.{Onward, Goes, Ends, Steps}
-use Rattle.tests_explore.specs.declared.counting.Counting.{Counting}
+use Rattle.tests_board.specs.declared.counting.Counting.{Counting}
 
 abbrev pub counted : Counting → Onward Counting
 counted c = if nat_lt c.at 2 then Goes (record { at = c.at + 1 }) else Ends c
