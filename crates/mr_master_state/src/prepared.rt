@@ -10,6 +10,7 @@ ghost use Rattle.mr_master_state.specs.State.{Moves, MovesOn, Unchanged};
 ghost use Rattle.mr_master_phase.specs.WorkKinds.{left_of, with_left, others_of, with_others};
 ghost use Rattle.mr_master_phase.specs.Taking.{winner_of, after_winner, after_table};
 ghost use Rattle.mr_master_state.specs.Taking.{EntersAt, KeepsAfter};
+ghost use Rattle.mr_master_state.specs.inner.Telling.{TellsATask};
 ghost use Rattle.mr_master_model.specs.Readings.{is_running};
 
 use crate::boxed::Boxed;
@@ -180,6 +181,36 @@ impl Machine {
             Change::Dies(attempt) => self.tell_death(attempt),
             Change::Appends => self.append_first(),
             Change::Flushes(work) => self.flushes(work),
+            Change::Knows {
+                node,
+                incarnation,
+                nodes,
+                dead,
+                lost,
+            } => {
+                self.knows(node, incarnation, nodes, dead, lost);
+            }
+            Change::Launches {
+                place,
+                attempt,
+                machine,
+                launch,
+            } => {
+                self.has_launched(place, attempt, machine, launch);
+            }
+            Change::GivesUp { dead, lost, late } => self.has_given_up(dead, lost, late),
+            told => self.tell_task(told),
+        }
+    }
+
+    // A task is told of one of its attempts.
+    fn tell_task(&mut self, change: Change)
+        requires told { TellsATask change }
+        requires sound { IsSound self.old change }
+        requires room { HasRoom self.old change }
+        ensures { MovesOn self.old (λ w s. changed_by w s change) self.new }
+    {
+        match change {
             Change::Hears { place, attempt } => self.hears(place, attempt),
             Change::Asks {
                 place,
@@ -201,24 +232,7 @@ impl Machine {
                 blame,
             } => self.ends(place, attempt, &end, blame),
             Change::Loses { place, attempt } => self.loses(place, attempt),
-            Change::Knows {
-                node,
-                incarnation,
-                nodes,
-                dead,
-                lost,
-            } => {
-                self.knows(node, incarnation, nodes, dead, lost);
-            }
-            Change::Launches {
-                place,
-                attempt,
-                machine,
-                launch,
-            } => {
-                self.has_launched(place, attempt, machine, launch);
-            }
-            Change::GivesUp { dead, lost, late } => self.has_given_up(dead, lost, late),
+            _ => unreachable!(),
         }
     }
 

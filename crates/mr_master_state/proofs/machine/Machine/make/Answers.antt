@@ -2,6 +2,7 @@ use Rattle.std.proofs.Common.{sym, subst}
 use Rattle.mr_master_state.specs.declared.change.Change.{Change}
 use Rattle.mr_master_state.specs.Prepared.{changed_by}
 use Rattle.mr_master_state.specs.State.{Keeps}
+use Rattle.mr_master_state.proofs.Told_tasks.{else-told}
 use Rattle.mr_master_state.proofs.machine.Machine.make.Goals as goal
 
 pub returns-in-Becomes : goal.returns-in-Becomes
@@ -28,21 +29,6 @@ returns-in-Appends c = λ w s keeps spared. subst (λ (x : Change). Keeps c.appe
 pub returns-in-Flushes : goal.returns-in-Flushes
 returns-in-Flushes c = λ w s keeps spared. subst (λ (x : Change). Keeps c.flushes.new.self w (changed_by w s x)) (sym c.in-Flushes.is) (c.flushes.ensures w s keeps)
 
-pub returns-in-Hears : goal.returns-in-Hears
-returns-in-Hears c = λ w s keeps spared. subst (λ (x : Change). Keeps c.hears.new.self w (changed_by w s x)) (sym c.in-Hears.is) (c.hears.ensures w s keeps)
-
-pub returns-in-Asks : goal.returns-in-Asks
-returns-in-Asks c = λ w s keeps spared. subst (λ (x : Change). Keeps c.asks.new.self w (changed_by w s x)) (sym c.in-Asks.is) (c.asks.ensures w s keeps)
-
-pub returns-in-Reports : goal.returns-in-Reports
-returns-in-Reports c = λ w s keeps spared. subst (λ (x : Change). Keeps c.reports.new.self w (changed_by w s x)) (sym c.in-Reports.is) (c.reports.ensures w s keeps)
-
-pub returns-in-Ends : goal.returns-in-Ends
-returns-in-Ends c = λ w s keeps spared. subst (λ (x : Change). Keeps c.ends.new.self w (changed_by w s x)) (sym c.in-Ends.is) (c.ends.ensures w s keeps)
-
-pub returns-in-Loses : goal.returns-in-Loses
-returns-in-Loses c = λ w s keeps spared. subst (λ (x : Change). Keeps c.loses.new.self w (changed_by w s x)) (sym c.in-Loses.is) (c.loses.ensures w s keeps)
-
 pub returns-in-Knows : goal.returns-in-Knows
 returns-in-Knows c = λ w s keeps spared. subst (λ (x : Change). Keeps c.knows.new.self w (changed_by w s x)) (sym c.in-Knows.is) (c.knows.ensures w s keeps)
 
@@ -51,3 +37,10 @@ returns-in-Launches c = λ w s keeps spared. subst (λ (x : Change). Keeps c.has
 
 pub returns-in-GivesUp : goal.returns-in-GivesUp
 returns-in-GivesUp c = λ w s keeps spared. subst (λ (x : Change). Keeps c.has_given_up.new.self w (changed_by w s x)) (sym c.in-GivesUp.is) (c.has_given_up.ensures w s keeps)
+
+pub tell_task-requires-clause-told : goal.tell_task-requires-clause-told
+tell_task-requires-clause-told c = else-told c.args.change c.in_default.not-Nothing
+    (λ x e. c.in_default.not-Becomes x e) (λ f e. c.in_default.not-GoesOn f e) (λ r x e. c.in_default.not-HasRead r x e)
+    (λ i y x e. c.in_default.not-EntersOne i y x e) (λ t x e. c.in_default.not-Enters t x e) (λ a e. c.in_default.not-Dies a e)
+    c.in_default.not-Appends (λ x e. c.in_default.not-Flushes x e) (λ n i k d l e. c.in_default.not-Knows n i k d l e)
+    (λ i a y l e. c.in_default.not-Launches i a y l e) (λ d l b e. c.in_default.not-GivesUp d l b e)
