@@ -18,7 +18,7 @@ use Rattle.mr_out_layout.specs.Faults.{IsFailure, IsRefusal, is_failure_of}
 use Rattle.mr_out_layout.specs.Layout.{segment_path, length_path, work_folder, boot_path}
 use Rattle.mr_out_layout.specs.Recorded.{IsGap}
 use Rattle.mr_out_files.specs.declared.directory.Directory.{Directory}
-use Rattle.mr_out_files.specs.Troubles.{FailsAt, IsMade, IsOfSegment, IsSegmentTrouble, IsHistoryTrouble, IsAppendTrouble, IsBarred, IsPathTrouble, IsSyncTrouble, IsFolderTrouble, IsRemoveTrouble, IsOfBegin, IsMakingFault, IsBeginFault, IsLockFault, IsEnteringFault, IsOpeningFault, HasTrouble, folder_path}
+use Rattle.mr_out_files.specs.Troubles.{FailsAt, IsMade, IsOfSegment, IsSegmentTrouble, IsHistoryTrouble, IsAppendTrouble, IsBarred, IsPathTrouble, IsSyncTrouble, IsSweepTrouble, IsFolderTrouble, IsRemoveTrouble, IsOfBegin, IsMakingFault, IsBeginFault, IsLockFault, IsEnteringFault, IsOpeningFault, HasTrouble, folder_path}
 use Rattle.mr_out_files.specs.inner.Syncing.{FailsSomewhere, IsSyncFault}
 
 -- a call that was made did not fail
@@ -255,7 +255,14 @@ made_folder a text (Err f) is h = inr (moved_to (codes "create") text (work_fold
 pub synced_folder : (folder : Folder) (text : List ℕ) (f : Fault) → text ≡ folder_path folder → IsFailure (codes "open") text f ⊎ IsFailure (codes "sync") text f → IsFolderTrouble folder f
 synced_folder folder text f is h = inl (folder_at (folder_path folder) f (subst (λ (x : List ℕ). IsFailure (codes "open") x f ⊎ IsFailure (codes "sync") x f) is h))
 
-pub cleared_folder : {T : Type 0} (folder : Folder) (r : Result T Fault) → IfErr r (IsFailure (codes "remove") (codes "_mrout/work")) → IfErr r (IsFolderTrouble folder)
+pub swept_work : (f : Fault) → IsFailure (codes "remove") (codes "_mrout/work") f → IsSweepTrouble f
+swept_work f h = inl h
+
+pub swept_spare : {T : Type 0} (r : Result T Fault) → IfErr r (IsFailure (codes "remove") (codes "_mrout/spare")) → IfErr r IsSweepTrouble
+swept_spare (Ok x) h = tt
+swept_spare (Err f) h = inr h
+
+pub cleared_folder : {T : Type 0} (folder : Folder) (r : Result T Fault) → IfErr r IsSweepTrouble → IfErr r (IsFolderTrouble folder)
 cleared_folder folder (Ok x) h = tt
 cleared_folder folder (Err f) h = inr h
 

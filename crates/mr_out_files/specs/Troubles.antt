@@ -94,9 +94,13 @@ folder_path folder.Kept = codes "_mrout/kept"
 folder_path folder.Work = codes "_mrout/work"
 folder_path folder.Home = codes "_mrout"
 
+-- what attempts wrote can't be removed, or the folders that were kept for more of them
+abbrev pub IsSweepTrouble : Fault → Type 0
+IsSweepTrouble f = IsFailure (codes "remove") (codes "_mrout/work") f ⊎ IsFailure (codes "remove") (codes "_mrout/spare") f
+
 -- a call on the folder failed, or on what attempts wrote, which goes once the marker is durable
 abbrev pub IsFolderTrouble : Folder → Fault → Type 0
-IsFolderTrouble folder f = FailsAt (folder_path folder) f ⊎ IsFailure (codes "remove") (codes "_mrout/work") f
+IsFolderTrouble folder f = FailsAt (folder_path folder) f ⊎ IsSweepTrouble f
 
 -- a call on it failed; with the file of an attempt go its folder, and the note of its boot
 abbrev pub IsRemoveTrouble : List ℕ → Place → Fault → Type 0

@@ -7,7 +7,7 @@ ghost use Rattle.mr_out_layout.specs.Faults.{IsFailure, IsRefusal, is_failure_of
 ghost use Rattle.mr_out_layout.specs.Layout.{path_of, boot_path, work_folder};
 ghost use Rattle.mr_out_files.specs.Made.{calls_of, Keeps};
 ghost use Rattle.mr_out_files.specs.inner.Syncing.{FailsSomewhere, IsSyncFault};
-ghost use Rattle.mr_out_files.specs.Troubles.{trouble_of, FailsAt, IsMade, IsHistoryTrouble, IsAppendTrouble, IsBarred, IsListTrouble, IsPathTrouble, IsSyncTrouble, IsFolderTrouble, IsRemoveTrouble, IsTroubleOf, HasTrouble, IsOpeningFault};
+ghost use Rattle.mr_out_files.specs.Troubles.{trouble_of, FailsAt, IsMade, IsHistoryTrouble, IsAppendTrouble, IsBarred, IsListTrouble, IsPathTrouble, IsSyncTrouble, IsSweepTrouble, IsFolderTrouble, IsRemoveTrouble, IsTroubleOf, HasTrouble, IsOpeningFault};
 
 use crate::beginning::write_synced;
 use crate::boots::note_boot;
@@ -403,7 +403,7 @@ impl Directory {
     fn clear_work(&mut self, rt: &HostRuntime) -> Result<Answer, Fault>
         ensures same { Keeps self.old self.new }
         ensures made { IfOk result IsMade }
-        ensures failed { IfErr result (IsFailure (codes "remove") (codes "_mrout/work")) }
+        ensures failed { IfErr result IsSweepTrouble }
     {
         self.is_marked = false;
         sweep(rt)?;

@@ -1,7 +1,7 @@
 //! What a call replies, by what the system answered or what stands at a name.
 ghost use Rattle.std.specs.Prelude.{◌≡◌, codes, IfOk, IfErr};
 ghost use Rattle.mr_out_layout.specs.Faults.{IsFailure, IsRefusal};
-ghost use Rattle.mr_out_files.specs.Troubles.{AnswersAs, IsMade, attempt_at, folder_path};
+ghost use Rattle.mr_out_files.specs.Troubles.{IsSweepTrouble, AnswersAs, IsMade, attempt_at, folder_path};
 
 use crate::spares::SPARE;
 use mr_ids::AttemptId;
@@ -60,17 +60,25 @@ pub(crate) fn kept_attempt(place: &Place) -> Option<AttemptId> {
     }
 }
 
-/// Removes what attempts wrote, and the folders that were kept for more of them. Those are empty: where one can't be removed,
-/// it stays, and goes with the history.
+/// Removes what attempts wrote, and the folders that were kept for more of them.
+#[tactic(auto, using(crate::proofs::Troubled::swept_work, crate::proofs::Troubled::swept_spare))]
 pub(crate) fn sweep(rt: &HostRuntime) -> Result<(), Fault>
-    ensures { IfErr result (IsFailure (codes "remove") (codes "_mrout/work")) }
+    ensures { IfErr result IsSweepTrouble }
 {
-    let cleared = clear(rt, WORK);
-    let _ = clear(rt, SPARE);
-    match cleared {
+    match clear(rt, WORK) {
+        Ok(()) => clear_spare(rt),
+        Err(error) if error.kind() == io::ErrorKind::NotFound => clear_spare(rt),
+        Err(error) => Err(Fault::of_call(rt.alloc(), "remove", WORK, error)),
+    }
+}
+
+fn clear_spare(rt: &HostRuntime) -> Result<(), Fault>
+    ensures { IfErr result (IsFailure (codes "remove") (codes "_mrout/spare")) }
+{
+    match clear(rt, SPARE) {
         Ok(()) => Ok(()),
         Err(error) if error.kind() == io::ErrorKind::NotFound => Ok(()),
-        Err(error) => Err(Fault::of_call(rt.alloc(), "remove", WORK, error)),
+        Err(error) => Err(Fault::of_call(rt.alloc(), "remove", SPARE, error)),
     }
 }
 
