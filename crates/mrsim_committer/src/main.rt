@@ -17,18 +17,16 @@ use std::io::{ErrorKind, Read, Write};
 use std::process::ExitCode;
 use std::{env, io};
 
-// All that the reader has, if that is no more than so many bytes. At most one byte more is read.
-#[tactic(auto, using(crate::proofs::Limit::whole, crate::proofs::Limit::longer))]
-fn read_at_most<R: Read>(alloc: Global, reader: &mut R, most: u64) -> Result<Vec<u8>, SimFault>
-    requires { most < 2 ^ 32 }
-    ensures limit { IfOk result (λ v. vec_len v ≤ most) }
+// All that the reader has, if that is no more than the limit of `read_all`.
+fn read_input<R: Read>(alloc: Global, reader: &mut R) -> Result<Vec<u8>, SimFault>
+    ensures limit { IfOk result (λ v. vec_len v ≤ 2 ^ 24) }
     ensures all { IfOk result (λ v. IfSome (R.remaining reader.old) (λ xs. v.items ≡ xs)) }
-    ensures long { IsErrOf result SimFault.TooLong → IfSome (R.remaining reader.old) (λ xs. most < length xs) }
+    ensures long { IsErrOf result SimFault.TooLong → IfSome (R.remaining reader.old) (λ xs. 2 ^ 24 < length xs) }
     ensures kinds { IfErr result IsReadFault }
 {
-    match read_all(alloc, &mut Read::take(reader, most + 1)) {
-        Ok(bytes) if bytes.len() as u64 > most => Err(SimFault::TooLong),
-        Ok(bytes) => Ok(bytes),
+    match read_all(alloc, reader) {
+        Ok(Some(bytes)) => Ok(bytes),
+        Ok(None) => Err(SimFault::TooLong),
         Err(PipeFault::NoMemory) => Err(SimFault::NoMemory),
         Err(_) => Err(SimFault::Read),
     }
@@ -48,7 +46,7 @@ pub fn run_streams<R: Read, W: Write>(
     // Only a failed write leaves anything in the writer.
     ensures nothing { IfErr result (λ e. e ≢ SimFault.Write → Keeps (W.contents writer.old) (W.contents writer.new)) }
 {
-    let input = read_at_most(alloc, reader, 1 << 24)?;
+    let input = read_input(alloc, reader)?;
     let text = committer_output(alloc, &input)?;
     send(writer, &text).map_err(|_| SimFault::Write)
 }
