@@ -1,4 +1,4 @@
--- Whether a job has the reduces that a goal names.
+-- Whether a job has what a goal names.
 use Rattle.std.proofs.Common.{◌≡◌, ℕ, Bool, true, false, List, Result, Ok, Err, IfOk, IfErr, sym, ap, subst, ◌∙◌}
 use Rattle.mr_sim_commands.specs.declared.fault.JobTextFault.{JobTextFault}
 use Rattle.mr_sim_commands.specs.declared.fault.SimFault.{SimFault}
@@ -8,7 +8,7 @@ use Rattle.mr_sim_commands.specs.job.Text.{submission_of, Fails}
 use Rattle.mr_trace.specs.mr_play.specs.Text.{job_line}
 use Rattle.mr_explore.specs.declared.asked.Asked.{Asked}
 use Rattle.mr_explore.specs.Explored.{ExploredFails, PrintsExplored, goal_of}
-use Rattle.mr_sim.specs.Goals.{Names, PrintsSought, SoughtFails, has_reduces}
+use Rattle.mr_sim.specs.Goals.{Names, PrintsSought, SoughtFails, can_meet}
 
 -- a fault of reading the job text
 bad_line : (asked : Asked) (input : List ℕ) (e : SimFault) → Fails e (submission_of (job_line input)) → SoughtFails asked input e
@@ -30,7 +30,7 @@ pub bad_text : (asked : Asked) (input text : List ℕ) (e : SimFault) → text �
 bad_text asked input text e first h = bad_line asked input e (subst (λ (t : List ℕ). Fails e (submission_of t)) first h)
 
 -- the job that the job text says has them, or not
-pub names : (asked : Asked) (input text : List ℕ) (job : Submission) (all is : Bool) → text ≡ job_line input → submission_of text ≡ Ok job → is ≡ has_reduces job.reduces (goal_of asked) → is ≡ all → Names asked input all
+pub names : (asked : Asked) (input text : List ℕ) (job : Submission) (all is : Bool) → text ≡ job_line input → submission_of text ≡ Ok job → is ≡ can_meet job.id job.reduces (goal_of asked) → is ≡ all → Names asked input all
 names asked input text job all is first said told test = record {
   job = job;
   said = subst (λ (t : List ℕ). submission_of t ≡ Ok job) first said;
@@ -64,5 +64,5 @@ ok_is x y e = cc
 pub not_both : (asked : Asked) (input : List ℕ) → Names asked input true → Names asked input false → ⊥
 not_both asked input x y =
     let job : x.job ≡ y.job = ok_is x.job y.job (sym x.said ∙ y.said) in
-    let clash : true ≡ false = sym x.are ∙ (ap (λ (j : Submission). has_reduces j.reduces (goal_of asked)) job ∙ y.are) in
+    let clash : true ≡ false = sym x.are ∙ (ap (λ (j : Submission). can_meet j.id j.reduces (goal_of asked)) job ∙ y.are) in
     absurd (cc)

@@ -1,6 +1,10 @@
--- Which reduces a goal of `explore` names, and whether the job has them: our own.
-use Rattle.std.specs.Prelude.{◌≡◌, ℕ, Bool, true, false, nat_lt, List, Option, Some, None, Ok}
+-- Which reduces a goal of `explore` names, and which attempts as their winners, and whether the job can have them: our own.
+use Rattle.std.specs.Prelude.{◌≡◌, ℕ, Bool, true, false, ◌&&◌, nat_lt, List, Option, Some, None, Ok}
 use Rattle.std.specs.List.{list_all}
+use Rattle.mr_ids.specs.Attempt.{Attempt}
+use Rattle.mr_ids.specs.Same.{same_task}
+use Rattle.mr_ids.specs.declared.id.JobId.{JobId}
+use Rattle.mr_ids.specs.declared.id.TaskKind.TheVariants.{Reduce}
 use Rattle.mr_script.specs.declared.expectation.Expectation.{Expectation}
 use Rattle.mr_script.specs.declared.expectation.Expectation.TheVariants.{Winner, Marker, Outcome}
 use Rattle.mr_sim_commands.specs.declared.fault.SimFault.{SimFault}
@@ -11,28 +15,33 @@ use Rattle.mr_trace.specs.mr_play.specs.Text.{job_line}
 use Rattle.mr_explore.specs.declared.asked.Asked.{Asked}
 use Rattle.mr_explore.specs.Explored.{ExploredFails, PrintsExplored, goal_of}
 
--- a job with this many reduces has the one that the line names, if it names one
-abbrev pub has_reduce : ℕ → Expectation → Bool
-has_reduce reduces (Winner r won) = nat_lt r reduces
-has_reduce reduces (Marker there) = true
-has_reduce reduces (Outcome told) = true
+-- the attempt is one of this reduce of the job, if one is named
+abbrev pub may_win : JobId → ℕ → Option Attempt → Bool
+may_win job r None = true
+may_win job r (Some a) = same_task a.task (record { job = job; kind = Reduce; number = r })
 
--- it has each one that the goal names
-abbrev pub has_reduces : ℕ → Option (List Expectation) → Bool
-has_reduces reduces None = true
-has_reduces reduces (Some goal) = list_all (has_reduce reduces) goal
+-- a job with this many reduces has the reduce that the line names, and the attempt is one of it
+abbrev pub can_be : JobId → ℕ → Expectation → Bool
+can_be job reduces (Winner r won) = nat_lt r reduces && may_win job r won
+can_be job reduces (Marker there) = true
+can_be job reduces (Outcome told) = true
 
--- the job text of an input says a job; and whether that has each reduce that the goal names
+-- so it is of each line of the goal
+abbrev pub can_meet : JobId → ℕ → Option (List Expectation) → Bool
+can_meet job reduces None = true
+can_meet job reduces (Some goal) = list_all (can_be job reduces) goal
+
+-- the job text of an input says a job; and whether that has each reduce that the goal names, and each attempt is one of it
 pub record Names (asked : Asked) (input : List ℕ) (all : Bool) : Type 0 where
   pub job : Submission
   pub said : submission_of (job_line input) ≡ Ok job
-  pub are : has_reduces job.reduces (goal_of asked) ≡ all
+  pub are : can_meet job.id job.reduces (goal_of asked) ≡ all
 
--- what `explore` prints of an input whose job has each reduce that the goal names
+-- what `explore` prints of an input whose job can have each winner that the goal names
 abbrev pub PrintsSought : Asked → List ℕ → List ℕ → Type 0
 PrintsSought asked input text = Names asked input true × PrintsExplored asked input text
 
--- why it prints nothing: the goal names a reduce that the job does not have, or as before
+-- why it prints nothing: the goal names a reduce that the job does not have, or an attempt of another task; or as before
 abbrev pub SoughtFails : Asked → List ℕ → SimFault → Type 0
 SoughtFails asked input Refused = Names asked input false
 SoughtFails asked input f = ExploredFails asked input f

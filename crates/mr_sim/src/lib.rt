@@ -22,7 +22,7 @@
 //! | `play` with a trace, the history or a picture | what mr_trace, mr_play and mr_trace_picture say of that run |
 //! | `play` with the tree | the listing of what the namespace holds then |
 //! | `play` and `history` as lines of JSON | what mr_trace_json says of the run and of the segment |
-//! | `explore` | what mr_explore_ends says of the ends of all runs of the input with at most as many faults as are asked for; the job has each reduce that the goal names |
+//! | `explore` | what mr_explore_ends says of the ends of all runs of the input with at most as many faults as are asked for; the job has each reduce that the goal names, and each attempt that it names is one of that reduce |
 //! | `threads` | what `seq` prints for the job text; what is shown of a run in its place is what mr_threads_shown says of it |
 //!
 //! **`run_streams`, from a reader to a writer**: reads all, answers, writes all. Proved, for every reader and writer that tell
@@ -40,7 +40,7 @@
 //! | `BadCommand(n)` | line n is the first that is no command |
 //! | `BadRecord(n)` | whole line n is the first that is no record |
 //! | `Job(key)` | that key is the first bad one of the job text, or the text is no JSON object |
-//! | `Refused` | the job refuses a line of a split; of `explore`: the job does not have a reduce that the goal names |
+//! | `Refused` | the job refuses a line of a split; of `explore`: the goal names a reduce that the job does not have, or an attempt of another task |
 //! | `Full` | an event of a script, or a work, passes a limit of the world |
 //! | `Write` | there is a text to be written |
 //!

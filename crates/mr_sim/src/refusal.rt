@@ -1,8 +1,11 @@
 //! A fault with what helps whoever wrote the input: what was expected in its place.
 ghost use Rattle.std.specs.Prelude.{◌≡◌};
 
+use crate::goal::{can_be, reduce_of};
 use crate::input_kind::InputKind;
 use crate::subcommand::Command;
+use mr_ids::{AttemptId, JobId, TaskId};
+use mr_script::Expectation;
 use mr_sim_commands::{JobTextFault, SimFault, read_job_text};
 use mr_sim_hints::{Hint, JobHint, RecordHint, RefusedLine, hint_of, refused_line};
 use mr_threads::is_for_pairs;
@@ -22,6 +25,8 @@ pub enum Help {
     Record(RecordHint),
     /// Of a goal of `explore`: how many reduces the job has, of which it names another.
     Reduces(u32),
+    /// Of a goal of `explore`: the attempt that it names as a winner, and the reduce of which that is none.
+    Attempt(AttemptId, TaskId),
     /// Of the turns of threads: how many each had, where that was told.
     Turns(Option<u64>),
     /// Of a map's work that is to be held, where no other map's can begin beside it: how many splits and nodes the job has.
@@ -41,6 +46,11 @@ impl fmt::Display for Help {
                 f,
                 "the goal names a reduce that is not there: the job has reduces 0 to {}",
                 reduces.saturating_sub(1)
+            ),
+            Help::Attempt(attempt, task) => write!(
+                f,
+                "the goal names an attempt of another task: {attempt}, where r {} is {task}",
+                task.number
             ),
             Help::Turns(turns) => put_turns(f, *turns),
             Help::Hold { splits, nodes } => write!(
@@ -75,7 +85,7 @@ impl Refusal {
                 line_at(input, 1),
             ))),
             SimFault::Job(key) => Some(Help::JobText(job_help(alloc, kind, input, key))),
-            SimFault::Refused => refused_help(alloc, kind, input),
+            SimFault::Refused => refused_help(alloc, command, input),
             SimFault::JobFailed => failed_help(alloc, input),
             SimFault::Full => Some(Help::Words(FULL)),
             SimFault::TurnsSpent => turns_help(alloc, command, input),
@@ -147,18 +157,45 @@ fn job_help(alloc: Global, kind: InputKind, input: &[u8], fault: JobTextFault) -
     }
 }
 
-// Which line of a split the job refuses, or which reduces it has, of which a goal names another.
-fn refused_help(alloc: Global, kind: InputKind, input: &[u8]) -> Option<Help> {
-    match kind {
-        InputKind::JobText => split_help(alloc, input),
-        _ => goal_help(alloc, line_at(input, 1)),
+// Which line of a split the job refuses, or which winner of a goal can't be.
+fn refused_help(alloc: Global, command: &Command<'_>, input: &[u8]) -> Option<Help> {
+    match command {
+        Command::Explore { asked, .. } => goal_help(alloc, line_at(input, 1), asked.goal?),
+        _ => split_help(alloc, input),
     }
 }
 
-fn goal_help(alloc: Global, text: &[u8]) -> Option<Help> {
+fn goal_help(alloc: Global, text: &[u8], goal: &[Expectation]) -> Option<Help> {
     match read_job_text(alloc, text) {
-        Ok(submission) => Some(Help::Reduces(submission.reduces)),
+        Ok(submission) => absent(submission.id, submission.reduces, goal),
         Err(_) => None,
+    }
+}
+
+// What the first line of the goal names that can't be.
+fn absent(job: JobId, reduces: u32, goal: &[Expectation]) -> Option<Help> {
+    for line in goal {
+        if !can_be(job, reduces, line) {
+            return absent_of(job, reduces, line);
+        }
+    }
+    None
+}
+
+fn absent_of(job: JobId, reduces: u32, line: &Expectation) -> Option<Help> {
+    match line {
+        Expectation::Winner(reduce, won) => Some(absent_winner(job, reduces, *reduce, won)),
+        Expectation::Marker(_) | Expectation::Outcome(_) => None,
+    }
+}
+
+fn absent_winner(job: JobId, reduces: u32, reduce: u32, won: &Option<AttemptId>) -> Help {
+    if reduce >= reduces {
+        return Help::Reduces(reduces);
+    }
+    match won {
+        Some(attempt) => Help::Attempt(*attempt, reduce_of(job, reduce)),
+        None => Help::Reduces(reduces),
     }
 }
 

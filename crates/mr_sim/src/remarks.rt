@@ -5,7 +5,8 @@ ghost use Rattle.mr_sim.specs.Expected.{ending_of};
 use crate::ending::Ending;
 use mr_sim_commands::{Printed, SimFault};
 use mr_sim_hints::put_idle_keys;
-use std::alloc::Global;
+use mr_trace::mr_play::{Player, played};
+use std::alloc::{AllocError, Global};
 use std::io;
 use std::io::Write;
 
@@ -52,4 +53,45 @@ pub(crate) fn noted(alloc: Global, mut printed: Printed) -> Result<Printed, SimF
 {
     put_idle_keys(&mut printed.notes, alloc, printed.idle_keys.as_slice())?;
     Ok(printed)
+}
+
+/// What was printed of the runs of a job text and a script, with a note for each line of which `play` would tell: an event that is refused, an expectation
+/// that is not met, or a calm that ended otherwise than the line asks.
+pub(crate) fn noted_lines(
+    alloc: Global,
+    input: &[u8],
+    printed: Printed,
+) -> Result<Printed, SimFault>
+    ensures text { IfOk result (λ v. v.text ≡ printed.text) }
+    ensures met { IfOk result (λ v. v.met ≡ printed.met) }
+    ensures memory { IfErr result (λ e. e ≡ SimFault.NoMemory) }
+{
+    match played(alloc, input) {
+        Ok(player) => Ok(with_lines(printed, player)?),
+        Err(SimFault::NoMemory) => Err(SimFault::NoMemory),
+        // (the script was played before, so no other fault comes)
+        Err(_) => Ok(printed),
+    }
+}
+
+// The same, of who played it.
+fn with_lines(mut printed: Printed, player: Player) -> Result<Printed, AllocError>
+    ensures text { IfOk result (λ v. v.text ≡ printed.text) }
+    ensures met { IfOk result (λ v. v.met ≡ printed.met) }
+{
+    put_lines(&mut printed.notes, &player.told)?;
+    printed.notes.extend_from_slice(&player.notes)?;
+    Ok(printed)
+}
+
+// Lines that begin with their numbers, for standard error.
+fn put_lines(out: &mut Vec<u8>, lines: &[u8]) -> Result<(), AllocError> {
+    for line in lines.split(|byte| *byte == b'\n') {
+        if !line.is_empty() {
+            out.extend_from_slice(b"mrsim: line ")?;
+            out.extend_from_slice(line)?;
+            out.extend_from_slice(b"\n")?;
+        }
+    }
+    Ok(())
 }

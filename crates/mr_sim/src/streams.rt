@@ -10,7 +10,7 @@ use crate::host::Host;
 use crate::input::read_input;
 use crate::progress::OnStandardError;
 use crate::refusal::Refusal;
-use crate::remarks::{Remarks, noted};
+use crate::remarks::{Remarks, noted, noted_lines};
 use crate::subcommand::{Command, answer, printed};
 use mr_explore::Asked;
 use mr_sim_commands::{Printed, SimFault};
@@ -120,7 +120,7 @@ fn hosted<H: AllocGlobal + Eprint + Clock + Threads + Wait + Sync>(
     printed(rt.alloc(), &host, *command, input)
 }
 
-// What `explore` prints, by as many threads as are asked for, else by one for each processor.
+// What `explore` prints, by as many threads as are asked for, else by one for each processor; with notes on lines of the script.
 fn explored_with<H: AllocGlobal + Eprint + Clock + Threads + Sync>(
     rt: &H,
     input: &[u8],
@@ -133,7 +133,9 @@ fn explored_with<H: AllocGlobal + Eprint + Clock + Threads + Sync>(
     ensures fault { IfErr result (SoughtFails asked.now input.now) }
 {
     let watch = OnStandardError::new(rt, progress);
-    explored_by_threads(rt, rt.alloc(), threads_of(rt, jobs), input, asked, &watch)
+    let threads = threads_of(rt, jobs);
+    let printed = explored_by_threads(rt, rt.alloc(), threads, input, asked, &watch)?;
+    Ok(noted_lines(rt.alloc(), input, printed)?)
 }
 
 // How many threads are asked for, or how many processors there are; 1 where that can't be told.

@@ -20,6 +20,9 @@ and one of these is one fault, at each place, before each event and behind the l
   a container ends; a node restarts; the newest master gives a node up
   the newest master launches an attempt of a task on a node, other than the one that it launches next anyway
 Behind a fault the run goes on as the calm of the newest master. Runs of fewer faults are made first.
+An event of the script that is refused, an expectation that is not met, and a calm that ends otherwise than its line asks
+are told on standard error, with their lines. A GOAL is refused that names a reduce which the job does not have, or an attempt
+of another task as the winner of a reduce.
 Writes how many runs there are, `not all` where some were not made or would pass a limit, and each end that came of them, those
 that need fewer faults first: how many runs have it, how many of these were ended since they make no progress (all who live only
 ask their masters, and hear nothing, or no), what `play` prints of it, whether the files that a reader sees are those of `seq`, and
