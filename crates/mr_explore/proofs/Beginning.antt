@@ -12,7 +12,7 @@ left_by : (input : List ℕ) (p : Player) → HasPrinted input p → IsLeftBy in
 left_by input p h = record {
   text = text_in p;
   prints = h.prints;
-  is = λ i. record { job = sym h.kind i; config = (sym h.journal i).config; played = sym h.state i; past_limit = false };
+  is = λ i. record { job = sym h.kind i; config = (sym h.journal i).config; played = sym h.state i; past_limit = false; deep = false };
 }
 
 pub begins : (input : List ℕ) (p : Player) (e : Exploring) → HasPrinted input p → StartsFrom (view_of p) e → IsRunOf input e

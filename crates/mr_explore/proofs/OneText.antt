@@ -100,6 +100,6 @@ same_files one text None None x y = refl
 pub one_text_law : OneSeqText → OneExploredText
 one_text_law one asked input a b timed x y =
     let run = one_run_law input x.run y.run x.is_run y.is_run in
-    let same = same_runs asked.most asked.seconds (goal_of asked) x.made y.made x.rest y.rest timed x.count y.count (sym x.are ∙ (ap (runs_with asked.faults) run ∙ y.are)) in
+    let same = same_runs asked.most asked.seconds (goal_of asked) x.made y.made x.rest y.rest timed x.count y.count (sym x.are ∙ (ap (runs_with asked.deep asked.faults) run ∙ y.are)) in
     let files : x.tells.sequential ≡ y.tells.sequential = ap (λ (f : Option (List ℕ)). record { files = f }) (same_files one (job_line input) x.tells.sequential.files y.tells.sequential.files x.tells.of_job y.tells.of_job) in
     x.tells.is ∙ ((λ i. told_text asked.form (files i) (goal_of asked) (found_in asked.faults (same.0 i) (same.1 i))) ∙ sym y.tells.is)

@@ -47,7 +47,7 @@ begins_fails asked input fault.JobFailed h = h
 begins_fails asked input fault.TurnsSpent h = h
 begins_fails asked input fault.Thread h = h
 
-pub makes_fails : (asked : Asked) (input : List ℕ) (x : Remaining) (f : SimFault) → Begins input asked.faults x → Fails asked.most (goal_of asked) x f → ExploredFails asked input f
+pub makes_fails : (asked : Asked) (input : List ℕ) (x : Remaining) (f : SimFault) → Begins input asked.deep asked.faults x → Fails asked.most (goal_of asked) x f → ExploredFails asked input f
 makes_fails asked input x fault.NoMemory b h = tt
 makes_fails asked input x fault.JournalMismatch b h = tt
 makes_fails asked input x fault.Full b h = inr (inr (record { run = b.run; is_run = b.is; full = subst (IsFullBehind asked.most (goal_of asked)) b.left h }))
@@ -83,7 +83,7 @@ begins_failed {A} asked input f r h is =
     let z = err_from_is_err_and r is in
     subst (λ (y : Result A SimFault). IfErr y (ExploredFails asked input)) (sym z.1) (subst (ExploredFails asked input) (sym z.2) (begins_fails asked input f h))
 
-pub makes_failed : {A : Type 0} (asked : Asked) (input : List ℕ) (x : Remaining) (f : SimFault) (r : Result A SimFault) → Begins input asked.faults x → Fails asked.most (goal_of asked) x f → IsErrAnd r (λ g. g ≡ f) → IfErr r (ExploredFails asked input)
+pub makes_failed : {A : Type 0} (asked : Asked) (input : List ℕ) (x : Remaining) (f : SimFault) (r : Result A SimFault) → Begins input asked.deep asked.faults x → Fails asked.most (goal_of asked) x f → IsErrAnd r (λ g. g ≡ f) → IfErr r (ExploredFails asked input)
 makes_failed {A} asked input x f r b h is =
     let z = err_from_is_err_and r is in
     subst (λ (y : Result A SimFault). IfErr y (ExploredFails asked input)) (sym z.1) (subst (ExploredFails asked input) (sym z.2) (makes_fails asked input x f b h))
@@ -146,14 +146,14 @@ not_refused text fault.Thread h other = absurd h
 
 -- ---- what is printed
 
-found_is : (asked : Asked) (input : List ℕ) (x y : Remaining) (b : Begins input asked.faults x) (m : Made asked.most asked.seconds (goal_of asked) x y) → found_of y ≡ found_in asked.faults m.made y.left
+found_is : (asked : Asked) (input : List ℕ) (x y : Remaining) (b : Begins input asked.deep asked.faults x) (m : Made asked.most asked.seconds (goal_of asked) x y) → found_of y ≡ found_in asked.faults m.made y.left
 found_is asked input x y b m = λ i. record {
   table = (m.table ∙ (λ j. all_noted (map came m.made) (b.table j))) i;
   faults = (m.faults ∙ b.faults) i;
   whole = no_more y.left;
 }
 
-pub prints : (asked : Asked) (input text : List ℕ) (x y : Remaining) → Begins input asked.faults x → Made asked.most asked.seconds (goal_of asked) x y → TellsEnds input asked.form (goal_of asked) (found_of y) text → PrintsExplored asked input text
+pub prints : (asked : Asked) (input text : List ℕ) (x y : Remaining) → Begins input asked.deep asked.faults x → Made asked.most asked.seconds (goal_of asked) x y → TellsEnds input asked.form (goal_of asked) (found_of y) text → PrintsExplored asked input text
 prints asked input text x y b m t = record {
   run = b.run;
   is_run = b.is;
@@ -165,6 +165,6 @@ prints asked input text x y b m t = record {
 }
 
 -- the same, where there was memory
-pub prints_ok : {Text : Type 0} (items : Text → List ℕ) (asked : Asked) (input : List ℕ) (x y : Remaining) (r : Result Text SimFault) → Begins input asked.faults x → Made asked.most asked.seconds (goal_of asked) x y → IfOk r (λ text. TellsEnds input asked.form (goal_of asked) (found_of y) (items text)) → IfOk r (λ text. PrintsExplored asked input (items text))
+pub prints_ok : {Text : Type 0} (items : Text → List ℕ) (asked : Asked) (input : List ℕ) (x y : Remaining) (r : Result Text SimFault) → Begins input asked.deep asked.faults x → Made asked.most asked.seconds (goal_of asked) x y → IfOk r (λ text. TellsEnds input asked.form (goal_of asked) (found_of y) (items text)) → IfOk r (λ text. PrintsExplored asked input (items text))
 prints_ok items asked input x y (Ok text) b m h = prints asked input (items text) x y b m h
 prints_ok items asked input x y (Err f) b m h = h

@@ -24,7 +24,7 @@ one_left : (input : List ℕ) (a b : Exploring) → IsLeftBy input a → IsLeftB
 one_left input a b x y =
     let job = ok_is x.prints.job y.prints.job (sym x.prints.said ∙ y.prints.said) in
     let left = one_end within input x.text y.text x.prints y.prints in
-    x.is ∙ ((λ i. record { job = (job i).job; config = config_of (job i); played = left i; past_limit = false }) ∙ sym y.is)
+    x.is ∙ ((λ i. record { job = (job i).job; config = config_of (job i); played = left i; past_limit = false; deep = false }) ∙ sym y.is)
 
 some_is : (x y : Exploring) → Some x ≡ Some y → x ≡ y
 some_is x y e = cc
@@ -104,8 +104,8 @@ not_full_law : (asked : Asked) (input text : List ℕ) → PrintsExplored asked 
 not_full_law asked input text p (inl f) = absurd (one_play_text_law.not_full within input p.is_run.left.text p.is_run.left.prints f)
 not_full_law asked input text p (inr (inl c)) = absurd (not_started input p.run p.is_run c)
 not_full_law asked input text p (inr (inr w)) =
-    apart asked.most asked.seconds (goal_of asked) p.made p.rest (runs_with asked.faults p.run) p.are p.count.1
-    (subst (λ (e : Exploring). IsFullBehind asked.most (goal_of asked) (runs_with asked.faults e)) (one_run_law input w.run p.run w.is_run p.is_run) w.full)
+    apart asked.most asked.seconds (goal_of asked) p.made p.rest (runs_with asked.deep asked.faults p.run) p.are p.count.1
+    (subst (λ (e : Exploring). IsFullBehind asked.most (goal_of asked) (runs_with asked.deep asked.faults e)) (one_run_law input w.run p.run w.is_run p.is_run) w.full)
 
 pub explored_or_refused_law : ExploredOrRefused
 explored_or_refused_law = record {

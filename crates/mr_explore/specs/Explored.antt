@@ -30,7 +30,7 @@ pub record PrintsExplored (asked : Asked) (input text : List ℕ) : Type 0 where
   pub is_run : IsRunOf input run
   pub made : List MadeRun
   pub rest : List (walk.Found Exploring)
-  pub are : runs_with asked.faults run ≡ map as_found made ++ rest
+  pub are : runs_with asked.deep asked.faults run ≡ map as_found made ++ rest
   pub count : AreEnough asked.most asked.seconds (goal_of asked) made rest
   pub tells : TellsEnds input asked.form (goal_of asked) (found_in asked.faults made rest) text
 
@@ -38,7 +38,7 @@ pub record PrintsExplored (asked : Asked) (input text : List ℕ) : Type 0 where
 pub record WouldPass (asked : Asked) (input : List ℕ) : Type 0 where
   pub run : Exploring
   pub is_run : IsRunOf input run
-  pub full : IsFullBehind asked.most (goal_of asked) (runs_with asked.faults run)
+  pub full : IsFullBehind asked.most (goal_of asked) (runs_with asked.deep asked.faults run)
 
 -- a limit is passed by the script, by the start of the first master, or by a run
 abbrev pub IsFullExplored : Asked → List ℕ → Type 0

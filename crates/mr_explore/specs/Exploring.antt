@@ -85,10 +85,10 @@ pub record Remaining : Type 0 where
   pub table : Table
 
 -- all runs of the input are before it
-pub record Begins (input : List ℕ) (most : ℕ) (x : Remaining) : Type 0 where
+pub record Begins (input : List ℕ) (deep : Option ℕ) (most : ℕ) (x : Remaining) : Type 0 where
   pub run : Exploring
   pub is : IsRunOf input run
-  pub left : x.left ≡ runs_with most run
+  pub left : x.left ≡ runs_with deep most run
   pub faults : x.faults ≡ most
   pub table : x.table ≡ empty
 

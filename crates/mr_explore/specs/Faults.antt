@@ -1,6 +1,6 @@
 -- What one fault is, and where it may befall a run (our own profile). Without a fault a run goes on as a calm of the
--- newest master does, unless in vain.
-use Rattle.std.specs.Prelude.{ℕ, suc, ◌&&◌, Bool, false, nat_lt, List, [], ◌∷◌, ◌++◌, drop, length, map, slice_get, Option, Some, None, is_none, if◌then◌else◌}
+-- newest master does, unless in vain. One that is deep goes on there too.
+use Rattle.std.specs.Prelude.{ℕ, suc, ◌&&◌, not, Bool, false, nat_lt, List, [], ◌∷◌, ◌++◌, drop, length, map, slice_get, Option, Some, None, is_none, if◌then◌else◌}
 use Rattle.std.specs.List.{flat_map, range_with_len}
 use Rattle.mr_world_events.specs.declared.event.Weather.TheVariants.{Calm, Unavailable, Unanswered}
 use Rattle.mr_ids.specs.declared.id.TheConstants.{MAX_APP_ATTEMPTS}
@@ -26,9 +26,14 @@ use Rattle.mr_explore.specs.Vain.{all_wait, ask_behind, most_ahead}
 abbrev pub ends_behind : List ℕ → List ℕ → List ℕ
 ends_behind before after = ends_from 0 (drop (length before) after)
 
--- No run is cut by a number of events: a world takes no more than these.
+-- No run is cut by a number of events, unless it is deep: a world takes no more than these.
 unfoldable pub most_events : ℕ
 most_events = MAX_EVENTS
+
+-- how many events a run makes by itself at most, behind the script, each fault and what comes late: of one that is deep it is told
+abbrev pub most_onward : Option ℕ → ℕ
+most_onward None = most_events
+most_onward (Some events) = events
 
 -- What comes of an event or a fault: this is how far the run is then; or it is not permitted where the run is; or it is
 -- permitted, and a limit forbids it, behind which nothing comes of the run
@@ -68,7 +73,7 @@ module _ (job : Job) (cfg : Config) (within : Limits) where
   abbrev pub calm : ℕ → Played → Option Played
   calm most s = calms job cfg within (newest s) None most s
 
-  -- ---- how a run goes on by itself: as a calm of the newest master, unless it goes on in vain
+  -- ---- how a run goes on by itself: as a calm of the newest master, unless it goes on in vain and is not deep
 
   abbrev pub only_asked : List ContainerId → (n sent : ℕ) → Option Played → Bool
   only_asked cs n sent None = false
@@ -85,8 +90,8 @@ module _ (job : Job) (cfg : Config) (within : Limits) where
   abbrev pub goes_in_vain : Played → Bool
   goes_in_vain s = waits_in_vain (living cfg (world job cfg within s)) s
 
-  abbrev pub onward : Played → Onward Played
-  onward s = if goes_in_vain s then Ends s else onward_by s (calm 1 s)
+  abbrev pub onward : (deep : Bool) → Played → Onward Played
+  onward deep s = if not deep && goes_in_vain s then Ends s else onward_by s (calm 1 s)
 
   -- an event happens, as that of a line; none where it is not permitted or passes a limit
   abbrev pub told : Event → Played → Option Played
@@ -133,8 +138,8 @@ module _ (job : Job) (cfg : Config) (within : Limits) where
   last_of n (Goes t) = slice_get t.events n
   last_of n _ = None
 
-  abbrev pub next_event : Played → Option Event
-  next_event s = last_of (length s.events) (onward s)
+  abbrev pub next_event : (deep : Bool) → Played → Option Event
+  next_event deep s = last_of (length s.events) (onward deep s)
 
   abbrev pub stable_in : ℕ → Played → List ℕ
   stable_in k s = stable_bytes (history_of cfg s.events) k
@@ -170,5 +175,5 @@ module _ (job : Job) (cfg : Config) (within : Limits) where
   abbrev pub faults_by : Option Event → Played → List Fault
   faults_by next s = without_next next (listed next s)
 
-  abbrev pub faults_at : Played → List Fault
-  faults_at s = faults_by (next_event s) s
+  abbrev pub faults_at : (deep : Bool) → Played → List Fault
+  faults_at deep s = faults_by (next_event deep s) s

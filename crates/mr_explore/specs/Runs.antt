@@ -1,6 +1,6 @@
 -- Which runs there are of an input (our own profile): all that come of it by at most a given number of faults, as
--- mr_explore_search says it. A run goes on as a calm of the newest master, unless in vain.
-use Rattle.std.specs.Prelude.{◌≡◌, ◌≢◌, ◌⊎◌, ℕ, Bool, true, false, List, [], Option, Some, None, if◌then◌else◌}
+-- mr_explore_search says it. A run goes on as a calm of the newest master, unless in vain. A deep one goes on there too.
+use Rattle.std.specs.Prelude.{◌≡◌, ◌≢◌, ◌⊎◌, ℕ, Bool, true, false, List, [], Option, Some, None, is_some, if◌then◌else◌}
 use Rattle.std.specs.Option.{option_map}
 use Rattle.mr_world_model.specs.Packets.{Config}
 use Rattle.mr_world_model.specs.World.{World, Start}
@@ -12,14 +12,16 @@ use Rattle.mr_explore_search.specs.Steps.{Onward, Goes, Ends, Full, Steps}
 use Rattle.mr_explore_search.specs.Runs.{Found, runs}
 use Rattle.mr_explore_faults.specs.declared.fault.Fault.{Fault}
 use Rattle.mr_explore_faults.specs.Kinds as kinds
-use Rattle.mr_explore.specs.Faults.{Fate, Happens, NotPermitted, PastLimit, befallen, faults_at, most_events, newest, onward, told}
+use Rattle.mr_explore.specs.Faults.{Fate, Happens, NotPermitted, PastLimit, befallen, faults_at, most_onward, newest, onward, told}
 
--- a run of a job's cluster, as far as it is; and whether a limit forbids its last fault, so that nothing comes of it
+-- a run of a job's cluster, as far as it is; whether a limit forbids its last fault, so that nothing comes of it; and
+-- whether it is deep: it goes on where it goes on in vain
 pub record Exploring : Type 0 where
   pub job : JobKind
   pub config : Config
   pub played : Played
   pub past_limit : Bool
+  pub deep : Bool
 
 abbrev pub world_of : Exploring → World
 world_of e = world (job_as e.job) e.config (within e.config) e.played
@@ -40,8 +42,8 @@ befallen_with e (PastLimit s) = Some (record e { played = s; past_limit = true }
 
 abbrev pub explored : Steps Exploring Fault
 explored = record {
-  onward = λ e. if e.past_limit then Ends e else onward_with e (onward (job_as e.job) e.config (within e.config) e.played);
-  faults = λ e. if e.past_limit then [] else faults_at (job_as e.job) e.config (within e.config) e.played;
+  onward = λ e. if e.past_limit then Ends e else onward_with e (onward (job_as e.job) e.config (within e.config) e.deep e.played);
+  faults = λ e. if e.past_limit then [] else faults_at (job_as e.job) e.config (within e.config) e.deep e.played;
   befallen = λ f e. if e.past_limit then None else befallen_with e (befallen (job_as e.job) e.config (within e.config) f e.played);
   later = kinds.later;
 }
@@ -61,7 +63,7 @@ StartsFrom e new = ((newest_in e ≡ 0) × (option_map (with e) (start_first e) 
 pub record IsLeftBy (input : List ℕ) (e : Exploring) : Type 0 where
   pub text : List ℕ
   pub prints : PrintsPlay within input text
-  pub is : e ≡ record { job = prints.job.job; config = config_of prints.job; played = prints.left; past_limit = false }
+  pub is : e ≡ record { job = prints.job.job; config = config_of prints.job; played = prints.left; past_limit = false; deep = false }
 
 -- the run of an input, which is a job text and a script behind it
 pub record IsRunOf (input : List ℕ) (e : Exploring) : Type 0 where
@@ -76,6 +78,7 @@ pub record CannotStart (input : List ℕ) : Type 0 where
   pub newest : newest_in before ≡ 0
   pub none : start_first before ≡ None
 
--- all its runs with at most this many faults
-abbrev pub runs_with : ℕ → Exploring → List (Found Exploring)
-runs_with faults e = runs explored most_events faults e
+-- All runs of one with at most this many faults. Where a number of events is told they are deep: each makes at most so
+-- many by itself, behind the script, behind each fault, and behind what comes late.
+abbrev pub runs_with : (deep : Option ℕ) (faults : ℕ) → Exploring → List (Found Exploring)
+runs_with deep faults e = runs explored (most_onward deep) faults (record e { deep = is_some deep })

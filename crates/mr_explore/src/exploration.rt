@@ -4,6 +4,7 @@ ghost use Rattle.std.specs.Option.{option_map};
 ghost use Rattle.mr_explore_ends.specs.Table.{empty, noted};
 ghost use Rattle.mr_explore_search.specs.Parting.{whole};
 ghost use Rattle.mr_explore_search.specs.Taking.{no_more};
+ghost use Rattle.mr_explore.specs.Faults.{most_onward};
 ghost use Rattle.mr_explore.specs.Exploring.{Begins, ExploreFails, IsTimed, Makes, MakesOne, came, fault_of, is_sought, meets_goal};
 
 use crate::explored::Explored;
@@ -39,14 +40,20 @@ impl Model for Exploration {
 
 impl Exploration {
     /// Plays an input, which is a job text and a script behind it; no run is made yet. Where no master was started, `start 1 0` comes first.
+    /// Where `deep` is told, no run is ended for making no progress, and each makes at most so many events by itself (`runs_with` of `specs/Runs`).
     ///
     /// The faults of `mr_play::played`.
-    pub fn new(alloc: Global, input: &[u8], faults: u32) -> Result<Exploration, SimFault>
-        ensures begins { IfOk result (Begins input.now faults) }
+    pub fn new(
+        alloc: Global,
+        input: &[u8],
+        faults: u32,
+        deep: Option<u64>,
+    ) -> Result<Exploration, SimFault>
+        ensures begins { IfOk result (Begins input.now deep faults) }
         ensures fault { IfErr result (ExploreFails input.now) }
     {
-        let run = Explored::new(alloc, input)?;
-        match Walk::new(alloc, run, faults, MAX_EVENTS as u64) {
+        let parts = Exploration::parts(alloc, input, faults, deep)?;
+        match parts.into_walk(alloc) {
             Ok(walk) => Ok(Exploration {
                 walk,
                 faults,
@@ -58,12 +65,18 @@ impl Exploration {
     }
 
     /// The runs of an input, as `new` has them, that can be taken apart. None is in a part yet.
-    pub fn parts(alloc: Global, input: &[u8], faults: u32) -> Result<Parts<Explored>, SimFault>
-        ensures begins { IfOk result (λ parts. Begins input.now faults (record { left = whole parts; faults = faults; table = empty })) }
+    pub fn parts(
+        alloc: Global,
+        input: &[u8],
+        faults: u32,
+        deep: Option<u64>,
+    ) -> Result<Parts<Explored>, SimFault>
+        ensures begins { IfOk result (λ parts. Begins input.now deep faults (record { left = whole parts; faults = faults; table = empty })) }
         ensures fault { IfErr result (ExploreFails input.now) }
     {
         let run = Explored::new(alloc, input)?;
-        match Parts::new(alloc, run, faults, MAX_EVENTS as u64) {
+        let run_on = run.with_depth(deep.is_some());
+        match Parts::new(alloc, run_on, faults, most_onward(deep)) {
             Ok(parts) => Ok(parts),
             Err(fault) => Err(sim_fault(fault)),
         }
@@ -147,6 +160,17 @@ impl Exploration {
         ensures { result ≡ no_more self.now.left }
     {
         self.walk.is_done()
+    }
+}
+
+// How many events a run makes by itself at most.
+#[tactic(auto, unfolding(crate::specs::Faults::most_events))]
+fn most_onward(deep: Option<u64>) -> u64
+    ensures { result ≡ most_onward deep }
+{
+    match deep {
+        Some(events) => events,
+        None => MAX_EVENTS as u64,
     }
 }
 

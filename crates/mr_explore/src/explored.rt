@@ -1,11 +1,11 @@
 //! A job's run that goes on as a calm, and that faults may befall.
-ghost use Rattle.std.specs.Prelude.{◌≡◌, Some, IfOk, IfErr};
+ghost use Rattle.std.specs.Prelude.{◌≡◌, Bool, Some, IfOk, IfErr};
 ghost use Rattle.std.specs.Option.{option_map};
 ghost use Rattle.mr_play.specs.Players.{state_in};
 ghost use Rattle.mr_explore_search.specs.Steps.{GoesOn};
 ghost use Rattle.mr_explore.specs.Exploring.{ExploreFails, is_stalled};
 ghost use Rattle.mr_explore.specs.Runs.{IsRunOf, StartsFrom, explored, newest_in, start_first, with};
-ghost use Rattle.mr_explore.specs.inner.Players.{CannotBegin, FaresAs, view_of, view_with};
+ghost use Rattle.mr_explore.specs.inner.Players.{CannotBegin, FaresAs, view_as, view_of, view_with};
 
 use crate::befall::{befall, may_befall};
 use crate::faults_at::faults_at;
@@ -22,11 +22,13 @@ use std::alloc::{AllocError, Global};
 use std::collections::LinkedList;
 use std::marker::Model;
 
-/// A run of a job. Contracts see it as its job, its config, how far it is, and whether a limit forbids its last fault.
+/// A run of a job. Contracts see it as its job, its config, how far it is, whether a limit forbids its last fault, and whether it is deep.
 #[derive(Drop)]
 pub struct Explored {
     player: Player,
     past_limit: bool,
+    // It goes on where it goes on in vain.
+    deep: bool,
 }
 
 impl Model for Explored {
@@ -35,11 +37,11 @@ impl Model for Explored {
 
     ghost Value = { Exploring };
 
-    ghost view = { λ e. record { job = e.player.job; config = e.player.world.config; played = state_in e.player; past_limit = e.past_limit } };
+    ghost view = { λ e. record { job = e.player.job; config = e.player.world.config; played = state_in e.player; past_limit = e.past_limit; deep = e.deep } };
 }
 
 impl Explored {
-    /// The run of an input, which is a job text and a script behind it. Where no master was started, `start 1 0` comes first.
+    /// The run of an input, which is a job text and a script behind it. Where no master was started, `start 1 0` comes first. It is not deep.
     ///
     /// The faults of `mr_play::played`.
     pub fn new(alloc: Global, input: &[u8]) -> Result<Explored, SimFault>
@@ -51,8 +53,25 @@ impl Explored {
             Ok(player) => Ok(Explored {
                 player,
                 past_limit: false,
+                deep: false,
             }),
             Err(fault) => Err(fault),
+        }
+    }
+
+    /// The same run, deep or not: one that is deep goes on where it makes no progress.
+    pub(crate) fn with_depth(self, deep: bool) -> Explored
+        ensures { result ≡ record self { deep = deep } }
+    {
+        let Explored {
+            player,
+            past_limit,
+            deep: _,
+        } = self;
+        Explored {
+            player,
+            past_limit,
+            deep,
         }
     }
 
@@ -88,17 +107,18 @@ impl Run for Explored {
             Ok(player) => Ok(Explored {
                 player,
                 past_limit: self.past_limit,
+                deep: self.deep,
             }),
             Err(_) => Err(WalkFault::NoMemory),
         }
     }
 
     fn go_on(&mut self, alloc: Global) -> Result<bool, WalkFault> {
-        go_on(alloc, &mut self.player, self.past_limit)
+        go_on(alloc, &mut self.player, self.past_limit, self.deep)
     }
 
     fn faults(&self, alloc: Global) -> Result<LinkedList<Fault>, WalkFault> {
-        match faults_of(alloc, &self.player, self.past_limit) {
+        match faults_of(alloc, &self.player, self.past_limit, self.deep) {
             Ok(faults) => Ok(faults),
             Err(_) => Err(WalkFault::NoMemory),
         }
@@ -134,19 +154,20 @@ fn faults_of(
     alloc: Global,
     player: &Player,
     past_limit: bool,
+    deep: bool,
 ) -> Result<LinkedList<Fault>, AllocError>
-    ensures { IfOk result (λ faults. faults ≡ explored.faults (view_with past_limit player.now)) }
+    ensures { IfOk result (λ faults. faults ≡ explored.faults (view_with past_limit deep player.now)) }
 {
     if past_limit {
         return Ok(LinkedList::new(alloc));
     }
-    faults_at(alloc, player)
+    faults_at(alloc, player, deep)
 }
 
 // A fault is tried on it; none can befall it, if a limit forbids its last fault.
 #[tactic(auto, using(crate::proofs::Onwards::never))]
 fn befall_if(player: &mut Player, past_limit: bool, fault: Fault) -> Result<Tried, AllocError>
-    ensures { IfOk result (λ tried. FaresAs (explored.befallen fault (view_with past_limit player.old)) past_limit tried player.new) }
+    ensures { (deep : Bool) → IfOk result (λ tried. FaresAs (explored.befallen fault (view_with past_limit deep player.old)) past_limit deep tried player.new) }
 {
     if past_limit {
         return Ok(Tried::CanNot);
@@ -155,21 +176,26 @@ fn befall_if(player: &mut Player, past_limit: bool, fault: Fault) -> Result<Trie
 }
 
 // It makes an event more by itself, if no limit forbids its last fault; whether there was one.
-fn go_on(alloc: Global, player: &mut Player, past_limit: bool) -> Result<bool, WalkFault>
-    ensures { GoesOn (explored.onward (view_with past_limit player.old)) result (view_with past_limit player.new) }
+fn go_on(
+    alloc: Global,
+    player: &mut Player,
+    past_limit: bool,
+    deep: bool,
+) -> Result<bool, WalkFault>
+    ensures { GoesOn (explored.onward (view_with past_limit deep player.old)) result (view_with past_limit deep player.new) }
 {
     if past_limit {
         return Ok(false);
     }
-    go_further(alloc, player)
+    go_further(alloc, player, deep)
 }
 
 // It makes an event more by itself; whether there was one.
 #[tactic(auto, using(crate::proofs::Onwards::viewed, crate::proofs::Onwards::viewed_full))]
-fn go_further(alloc: Global, player: &mut Player) -> Result<bool, WalkFault>
-    ensures { GoesOn (explored.onward (view_of player.old)) result (view_of player.new) }
+fn go_further(alloc: Global, player: &mut Player, deep: bool) -> Result<bool, WalkFault>
+    ensures { GoesOn (explored.onward (view_as deep player.old)) result (view_as deep player.new) }
 {
-    match going::go_further(alloc, player) {
+    match going::go_further(alloc, player, deep) {
         Ok(went) => Ok(went),
         Err(fault) => match fault {
             PlayerFault::Full => Err(WalkFault::Full),

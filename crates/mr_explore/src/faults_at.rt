@@ -21,10 +21,14 @@ use std::alloc::{AllocError, Global};
 use std::collections::LinkedList;
 
 /// All that may be tried where the run is, in the order in which it is tried.
-pub fn faults_at(alloc: Global, player: &Player) -> Result<LinkedList<Fault>, AllocError>
-    ensures { IfOk result (λ faults. faults ≡ faults_in player.now) }
+pub fn faults_at(
+    alloc: Global,
+    player: &Player,
+    deep: bool,
+) -> Result<LinkedList<Fault>, AllocError>
+    ensures { IfOk result (λ faults. faults ≡ faults_in deep player.now) }
 {
-    let next = next_event(alloc, player)?;
+    let next = next_event(alloc, player, deep)?;
     let faults = listed(alloc, player, &next)?;
     Ok(without_next(alloc, faults, &next)?)
 }
@@ -102,19 +106,19 @@ fn add_of_event(faults: &mut LinkedList<Fault>, next: &Option<Event>) -> Result<
 }
 
 // The event that the run makes next by itself.
-fn next_event(alloc: Global, player: &Player) -> Result<Option<Event>, AllocError>
-    ensures { IfOk result (λ event. event ≡ next_in player.now) }
+fn next_event(alloc: Global, player: &Player, deep: bool) -> Result<Option<Event>, AllocError>
+    ensures { IfOk result (λ event. event ≡ next_in deep player.now) }
 {
     let mut ahead = player.fork(alloc)?;
-    next_of(alloc, &mut ahead)
+    next_of(alloc, &mut ahead, deep)
 }
 
 // The same. The player makes it.
-fn next_of(alloc: Global, ahead: &mut Player) -> Result<Option<Event>, AllocError>
-    ensures { IfOk result (λ event. event ≡ next_in ahead.old) }
+fn next_of(alloc: Global, ahead: &mut Player, deep: bool) -> Result<Option<Event>, AllocError>
+    ensures { IfOk result (λ event. event ≡ next_in deep ahead.old) }
 {
     let place = ahead.world.journal().len();
-    match go_further(alloc, ahead) {
+    match go_further(alloc, ahead, deep) {
         Ok(true) => event_at(&ahead.world, place),
         Ok(false) | Err(PlayerFault::Full) => Ok(None),
         Err(PlayerFault::NoMemory) => Err(AllocError),

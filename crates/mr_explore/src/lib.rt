@@ -19,6 +19,8 @@
 //!   vain (`specs/Vain`): all who live wait for their masters, and the calm's next events are their questions alone.
 //!   In these events nothing changes of what `play` prints (`asking_shows_nothing`). That nothing comes of such a run
 //!   behind them is reckoned in the README, and not proved; so an end tells how many of its runs are such (`is_stalled`).
+//!   Where a number of events is told (`Asked::deep`), a run goes on there too, and makes at most so many by itself: behind
+//!   the script, behind each fault, and behind each packet that comes late (`runs_with`).
 //! - **What a limit forbids is told.** A fault that is permitted and would pass a limit makes a run that has ended, and
 //!   has no end (`past_limit`, `Fate` of `specs/Faults`). It is counted, and then the runs are not all.
 //! - **The runs that are made are exactly those of the definition, in its order, each once** (`Exploration::new`,

@@ -33,7 +33,7 @@ pub fn explore_output<W: Watch>(
     ensures met { IfOk result (λ v. v.met ≡ true) }
     ensures fault { IfErr result (ExploredFails asked.now input.now) }
 {
-    let mut exploration = Exploration::new(alloc, input, asked.faults)?;
+    let mut exploration = Exploration::new(alloc, input, asked.faults, asked.deep)?;
     exploration.make(alloc, asked.most, asked.seconds, asked.goal, watch)?;
     explored_text(alloc, input, &exploration, asked.goal, asked.form)
 }

@@ -8,6 +8,6 @@ use Rattle.mr_explore_threads.specs.inner.Begun.{IsBegun}
 use Rattle.mr_explore_threads.proofs.Advancing.{none_yet}
 
 -- no run was made yet
-pub alone : (asked : Asked) (input : List ℕ) (r : Result Remaining SimFault) → IfOk r (Begins input asked.faults) → IfOk r (IsBegun asked input)
+pub alone : (asked : Asked) (input : List ℕ) (r : Result Remaining SimFault) → IfOk r (Begins input asked.deep asked.faults) → IfOk r (IsBegun asked input)
 alone asked input (Ok x) b = record { start = x; begins = b; goes = none_yet asked.most (goal_of asked) x }
 alone asked input (Err f) b = b

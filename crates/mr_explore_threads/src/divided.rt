@@ -55,12 +55,13 @@ impl Divided {
         alloc: Global,
         input: &[u8],
         faults: u32,
+        deep: Option<u64>,
         threads: usize,
     ) -> Result<Divided, SimFault>
-        ensures begins { IfOk result (Begins input.now faults) }
+        ensures begins { IfOk result (Begins input.now deep faults) }
         ensures fault { IfErr result (ExploreFails input.now) }
     {
-        let parts = Exploration::parts(alloc, input, faults)?;
+        let parts = Exploration::parts(alloc, input, faults, deep)?;
         Ok(Divided {
             parts,
             faults,

@@ -66,7 +66,7 @@ fn begun_alone(alloc: Global, input: &[u8], asked: &Asked<'_>) -> Result<Explora
     ensures begun { IfOk result (IsBegun asked.now input.now) }
     ensures fault { IfErr result (ExploredFails asked.now input.now) }
 {
-    Exploration::new(alloc, input, asked.faults)
+    Exploration::new(alloc, input, asked.faults, asked.deep)
 }
 
 // The same, of which threads made the first runs.
@@ -81,7 +81,7 @@ fn begun_by_threads<R: Threads + Sync, W: Watch>(
     ensures begun { IfOk result (IsBegun asked.now input.now) }
     ensures fault { IfErr result (ExploredFails asked.now input.now) }
 {
-    let mut divided = Divided::new(alloc, input, asked.faults, threads)?;
+    let mut divided = Divided::new(alloc, input, asked.faults, asked.deep, threads)?;
     divided.make(rt, alloc, asked.most, asked.seconds, asked.goal, watch)?;
     divided.into_exploration(alloc)
 }

@@ -1,5 +1,5 @@
 //! The subcommand `explore`: every run of a job with few faults.
-use crate::names::{FAULTS, FIND, JOBS, JSON, MOST, PROGRESS, SECONDS};
+use crate::names::{DEEP, FAULTS, FIND, JOBS, JSON, MOST, PROGRESS, SECONDS};
 use crate::table::Word;
 use clap::builder::ValueParser;
 
@@ -35,6 +35,9 @@ Example, where one.job is a job text alone, and its line has an end:
 As JSON, which ends have the marker:
   mrsim explore --json one.job | grep '\"marker\":true'";
 
+const DEEP_HELP: &str =
+    "Ends no run for making no progress: each makes at most EVENTS events by itself, behind the script, a fault or a late packet";
+
 const FAULTS_HELP: &str = "How many faults a run has at most, 0 to 4 (default 1)";
 
 const FIND_HELP: &str =
@@ -54,6 +57,13 @@ const JSON_SHOWN: &str =
     "Prints lines of JSON in place of the rest: each end, then how many runs were made";
 
 const WORDS: &[Word] = &[
+    Word {
+        name: DEEP,
+        help: DEEP_HELP,
+        value_names: &["EVENTS"],
+        bounds: ValueParser::Unsigned(0, u64::MAX),
+        ..Word::TEXT
+    },
     Word {
         name: FAULTS,
         help: FAULTS_HELP,

@@ -18,6 +18,9 @@ pub const COMMIT_STARTED: &str = "commit-started";
 /// The mark COMMIT_SUCCESS is there.
 pub const COMMIT_SUCCESS: &str = "commit-success";
 
+/// How many events a run of `explore` makes by itself, which none ends for making no progress.
+pub const DEEP: &str = "deep";
+
 /// The destination of `step`.
 pub const DEST: &str = "dest";
 

@@ -6,8 +6,8 @@ use clap::error::ErrorKind;
 use clap::{ArgMatches, Error};
 use mr_sim::{Asked, Ending, Expectation, Form, Part, Seen, Shown, SimFault};
 use mr_sim_arguments::{
-    DIAGRAM, FAULTS, FILE, FIND, FOLD, FROM, HISTORY_NAME, HOLD, JOBS, JSON, MOST, PROGRESS, ROWS,
-    SCRIPT, SECONDS, TRACE, TREE, TURNS,
+    DEEP, DIAGRAM, FAULTS, FILE, FIND, FOLD, FROM, HISTORY_NAME, HOLD, JOBS, JSON, MOST, PROGRESS,
+    ROWS, SCRIPT, SECONDS, TRACE, TREE, TURNS,
 };
 
 /// The subcommand that the words name. Words without one are refused before.
@@ -113,6 +113,7 @@ fn explore_of<'a>(words: &ArgMatches<'_>, goal: Option<&'a [Expectation]>) -> mr
             faults: words.get_one::<u32>(FAULTS).unwrap_or(1),
             most: words.get_one::<u64>(MOST).unwrap_or(u64::MAX),
             seconds: words.get_one::<u64>(SECONDS),
+            deep: words.get_one::<u64>(DEEP),
             goal,
             form: form_of(words),
         },

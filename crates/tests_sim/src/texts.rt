@@ -45,6 +45,7 @@ fn answers_without_a_handle(rt: HostRuntime) {
         faults: 0,
         most: u64::MAX,
         seconds: None,
+        deep: None,
         goal: Some(goal.as_slice()),
         form: Form::Text,
     };

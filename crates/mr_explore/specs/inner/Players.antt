@@ -19,11 +19,14 @@ use Rattle.mr_play.specs.declared.fault.PlayerFault.{PlayerFault}
 use Rattle.mr_play.specs.declared.fault.PlayerFault.TheVariants as player_fault
 use Rattle.mr_explore.specs.Runs.{Exploring, newest_in, start_first}
 
-abbrev pub view_with : Bool → Player → Exploring
-view_with past p = record { job = p.job; config = p.world.config; played = state_in p; past_limit = past }
+abbrev pub view_with : (past deep : Bool) → Player → Exploring
+view_with past deep p = record { job = p.job; config = p.world.config; played = state_in p; past_limit = past; deep = deep }
+
+abbrev pub view_as : (deep : Bool) → Player → Exploring
+view_as deep p = view_with false deep p
 
 abbrev pub view_of : Player → Exploring
-view_of p = view_with false p
+view_of p = view_as false p
 
 abbrev pub calm_in : Player → ℕ → Played → Option Played
 calm_in p most s = calm (job_as p.job) p.world.config (within p.world.config) most s
@@ -37,14 +40,14 @@ starting_in p k kept = starting (job_as p.job) p.world.config (within p.world.co
 abbrev pub befallen_in : Player → ℕ → Fault → Fate
 befallen_in p k f = befallen_by (job_as p.job) p.world.config (within p.world.config) k f (state_in p)
 
-abbrev pub faults_in : Player → List Fault
-faults_in p = faults_at (job_as p.job) p.world.config (within p.world.config) (state_in p)
+abbrev pub faults_in : (deep : Bool) → Player → List Fault
+faults_in deep p = faults_at (job_as p.job) p.world.config (within p.world.config) deep (state_in p)
 
-abbrev pub next_in : Player → Option Event
-next_in p = next_event (job_as p.job) p.world.config (within p.world.config) (state_in p)
+abbrev pub next_in : (deep : Bool) → Player → Option Event
+next_in deep p = next_event (job_as p.job) p.world.config (within p.world.config) deep (state_in p)
 
-abbrev pub onward_in : Player → Onward Played
-onward_in p = onward (job_as p.job) p.world.config (within p.world.config) (state_in p)
+abbrev pub onward_in : (deep : Bool) → Player → Onward Played
+onward_in deep p = onward (job_as p.job) p.world.config (within p.world.config) deep (state_in p)
 
 -- whether it goes on in vain
 abbrev pub vain_in : Player → Bool
@@ -62,10 +65,10 @@ Fares old said (Ok tried.PassesLimit) new = SameJob old new × (said ≡ PastLim
 Fares old said (Err f) new = Unit {0}
 
 -- the same of a run, of which a limit forbids the last fault or not
-abbrev pub FaresAs : Option Exploring → Bool → Tried → Player → Type 0
-FaresAs said past tried.Befell new = said ≡ Some (view_with past new)
-FaresAs said past tried.CanNot new = said ≡ None
-FaresAs said past tried.PassesLimit new = said ≡ Some (view_with true new)
+abbrev pub FaresAs : Option Exploring → (past deep : Bool) → Tried → Player → Type 0
+FaresAs said past deep tried.Befell new = said ≡ Some (view_with past deep new)
+FaresAs said past deep tried.CanNot new = said ≡ None
+FaresAs said past deep tried.PassesLimit new = said ≡ Some (view_with true deep new)
 
 -- a run went on as is said
 abbrev pub GoesAs : Onward Played → Player → Result Bool PlayerFault → Player → Type 0

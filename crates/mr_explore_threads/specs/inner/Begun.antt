@@ -8,5 +8,5 @@ use Rattle.mr_explore.specs.Exploring.{Begins, Remaining}
 -- the first of all runs of the input were made
 pub record IsBegun (asked : Asked) (input : List ℕ) (x : Remaining) : Type 0 where
   pub start : Remaining
-  pub begins : Begins input asked.faults start
+  pub begins : Begins input asked.deep asked.faults start
   pub goes : Advances asked.most (goal_of asked) start x

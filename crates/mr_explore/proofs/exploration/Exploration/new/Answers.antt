@@ -1,14 +1,6 @@
-use Rattle.std.proofs.Common.{ℕ, refl, sym, ap, ◌∙◌}
-use Rattle.mr_explore_search.specs.Runs.{runs}
-use Rattle.mr_explore.specs.Runs.{explored}
-use Rattle.mr_explore.proofs.Onwards.{most_events_is}
+use Rattle.std.proofs.Common.{◌∙◌}
 use Rattle.mr_explore.proofs.exploration.Exploration.new.Goals as goal
 
 pub returns-in-Ok-clause-begins : goal.returns-in-Ok-clause-begins
-returns-in-Ok-clause-begins c = record {
-  run = c.in_ok-run.run';
-  is = c.in_ok-run.ensures.run;
-  left = c.in-Ok.ensures.all ∙ ap (λ (m : ℕ). runs explored m c.args.faults c.in_ok-run.run') (sym most_events_is);
-  faults = refl;
-  table = c.new-in-Ok.ensures;
-}
+returns-in-Ok-clause-begins c =
+    let b = c.in_ok-parts.ensures.begins in record { run = b.run; is = b.is; left = c.in-Ok.ensures.all ∙ b.left; faults = b.faults; table = c.new.ensures }
