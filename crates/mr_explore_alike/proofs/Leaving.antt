@@ -1,14 +1,15 @@
 -- What is left out is found elsewhere.
-use Rattle.std.proofs.Common.{◌≡◌, ◌≤◌, ◌<◌, inl, inr, ℕ, suc, ◌+◌, List, [], ◌++◌, length, remove, option_to_list, refl, ◌∙◌, ap, subst, arith}
+use Rattle.std.proofs.Common.{◌≡◌, ◌≤◌, ◌<◌, inl, inr, ℕ, suc, ◌+◌, Bool, true, false, List, [], ◌++◌, length, remove, option_to_list, refl, sym, ◌∙◌, ap, subst, arith}
 use Rattle.mr_explore_search.specs.Steps.{Steps}
 use Rattle.mr_explore_search.specs.Runs.{Found, Run, PassesLimit}
 use Rattle.mr_explore_search.specs.Laws.{Departs, Has_ended, Has_made_all, Would_pass, Went, Was_befallen, Came_later, In}
 use Rattle.mr_explore_alike.specs.Likens.{Likens}
-use Rattle.mr_explore_alike.specs.Leaving.{Here, IsNoLonger, IsEnough, IsFound, NoEndIsLost}
+use Rattle.mr_explore_alike.specs.Leaving.{Here, IsNoLonger, IsTaken, IsEnough, IsFound, NoEndIsLost}
+use Rattle.mr_explore_alike.proofs.Void.{either, itself, true-is-not-false}
 
-module _ {S F : Type 0} (steps : Steps S F) (rest size : S → ℕ) (like : S → List F → S → List F → Type 0) (ends : S → S → Type 0) where
+module _ {S F : Type 0} (steps : Steps S F) (rest size : S → ℕ) (void : S → Bool) (like : S → List F → S → List F → Type 0) (ends : S → S → Type 0) where
   abbrev Longer : ℕ → S → ℕ → S → Type 0
-  Longer j u k s = IsNoLonger steps rest size like ends j u k s
+  Longer j u k s = IsNoLonger steps rest size void like ends j u k s
 
   -- behind a step of both
   step-on : (j k : ℕ) (u s u' s' : S) → (size u ≤ size s → size u' ≤ size s') → Longer j u k s → Longer j u' k s'
@@ -44,59 +45,92 @@ module _ {S F : Type 0} (steps : Steps S F) (rest size : S → ℕ) (like : S �
   label most total m i a os v q (Was_befallen n ripe left o s t r f x w d) = label most total n (length o) most (o ++ option_to_list (steps.later f)) t r d
   label most total m i a os v q (Came_later n ripe left o s t r place f lt g w d) = label most total n (length (remove o place)) most (remove o place) t r d
 
-  module _ (most budget : ℕ) (made : List (Here S F)) (found : List (Found S)) (l : Likens steps rest size like ends most) (enough : IsEnough steps rest size like ends budget made found) where
+  -- a made run that is no longer is like v, which has k faults, and of what was put off as much may come there
+  record Stands (made : List (Here S F)) (k ripe : ℕ) (o : List F) (v : S) : Type 0 where
+    by : Here S F
+    made_by : In by made
+    alike : like v o by.run by.owed
+    ripe_there : ripe ≤ by.ripe
+    no_longer : Longer by.faults by.run k v
+
+  module _ (most budget : ℕ) (made : List (Here S F)) (found : List (Found S)) (l : Likens steps rest size void like ends most) (enough : IsEnough steps rest size void like ends budget made found) where
+    -- one that is like v was to be made
+    stands : (j k i ripe : ℕ) (p o : List F) (u v : S) → IsTaken steps rest size void like ends made j ripe p u → like v o u p → i ≤ ripe → Longer j u k v → Stands made k i o v
+    stands j k i ripe p o u v (inl at) e r n = record {
+      by = record { faults = j; ripe = ripe; owed = p; run = u };
+      made_by = at;
+      alike = e;
+      ripe_there = r;
+      no_longer = n;
+    }
+    stands j k i ripe p o u v (inr c) e r n =
+        let there = c.ripe_there in
+        record {
+          by = c.by;
+          made_by = c.made_by;
+          alike = l.through v u c.by.run o p c.by.owed e c.alike;
+          ripe_there = omega (arith, r, there);
+          no_longer = through c.by.faults j k c.by.run u v c.no_longer n;
+        }
+
     abbrev Wanted : ℕ → Found S → Type 0
-    Wanted n (Run k s) = IsFound steps rest size like ends found n s
+    Wanted n (Run k s) = void s ≡ false → IsFound steps rest size void like ends found n s
     Wanted n PassesLimit = Unit {0}
 
+    -- what comes of a void run need not be found
+    of-void : (total m i a k : ℕ) (os : List F) (v : S) (q : Found S) → void v ≡ true → Departs steps most total m i a os v q → Wanted k q
+    of-void total m i a k os v q e d = subst (λ (z : Found S). Wanted k z) (sym (itself steps most total m i a os v q (l.nothing v e) d)) (λ f. absurd (true-is-not-false e f))
+
     -- a made run is like v, which has k faults, and m more to come
-    finds : (total m i a k : ℕ) (os : List F) (v : S) (q : Found S) (h : Here S F) → In h made → like v os h.run h.owed → i ≤ h.ripe → rest v < a → k + m ≤ budget → Longer h.faults h.run k v
-        → Departs steps most total m i a os v q → Wanted (k + m) q
-    finds total m i a k os v q h at e ripe-there few spare short (Has_ended ripe left o s t w) =
-        let x = l.stops s h.run t o h.owed e w in
+    finds : (total m i a k : ℕ) (os : List F) (v : S) (q : Found S) (h : Stands made k i os v) → rest v < a → k + m ≤ budget → Departs steps most total m i a os v q → Wanted (k + m) q
+    finds total m i a k os v q h few spare (Has_ended ripe left o s t w) =
+        let x = l.stops s h.by.run t o h.by.owed h.alike w in
         let same : k ≡ k + 0 = omega arith in
-        record {
-          faults = h.faults;
+        λ _. record {
+          faults = h.by.faults;
           run = x.there;
-          found_so = enough.ended h x.there at x.stops;
+          found_so = enough.ended h.by x.there h.made_by x.stops;
           one = x.one;
-          no_longer = subst (λ (z : ℕ). Longer h.faults x.there z t) same (step-on h.faults k h.run s x.there t x.no_longer short);
+          no_longer = subst (λ (z : ℕ). Longer h.by.faults x.there z t) same (step-on h.by.faults k h.by.run s x.there t x.no_longer h.no_longer);
         }
-    finds total m i a k os v q h at e ripe-there few spare short (Has_made_all ripe o s) = absurd (omega (arith, few))
-    finds total m i a k os v q h at e ripe-there few spare short (Would_pass n ripe left o s w) = tt
-    finds total m i a k os v q h at e ripe-there few spare short (Went n ripe left o s t r w d) =
-        let x = l.goes s h.run t o h.owed e w in
-        let lengths = l.owed s h.run o h.owed e in
+    finds total m i a k os v q h few spare (Has_made_all ripe o s) = absurd (omega (arith, few))
+    finds total m i a k os v q h few spare (Would_pass n ripe left o s w) = tt
+    finds total m i a k os v q h few spare (Went n ripe left o s t r w d) =
+        let x = l.goes s h.by.run t o h.by.owed h.alike w in
+        let lengths = l.owed s h.by.run o h.by.owed h.alike in
         let fewer = x.fewer in
-        finds total n (length o) left k o t r (record { faults = h.faults; ripe = length h.owed; owed = h.owed; run = x.there }) (enough.goes h x.there at x.goes) x.still
-        (omega (arith, lengths)) (omega (arith, few, fewer)) spare (step-on h.faults k h.run s x.there t x.no_longer short) d
-    finds total m i a k os v q h at e ripe-there few spare short (Was_befallen n ripe left o s t r f may w d) =
-        let x = l.befalls s h.run t o h.owed f e may w in
-        let lengths = l.owed s h.run o h.owed e in
-        let most-faults = at-most h.faults k h.run s short in
-        let c = enough.befalls h x.fault x.there at (omega (arith, most-faults, spare)) x.may x.befalls in
-        let ripe-by = c.ripe_there in
+        finds total n (length o) left k o t r
+        (stands h.by.faults k (length o) (length h.by.owed) h.by.owed o x.there t (enough.goes h.by x.there h.made_by x.goes) x.still (omega (arith, lengths)) (step-on h.by.faults k h.by.run s x.there t x.no_longer h.no_longer))
+        (omega (arith, few, fewer)) spare d
+    finds total m i a k os v q h few spare (Was_befallen n ripe left o s t r f may w d) =
+        either (void t) (λ nothing. of-void total n (length o) most (k + suc n) (o ++ option_to_list (steps.later f)) t r nothing d) (λ real.
+        let x = l.befalls s h.by.run t o h.by.owed f h.alike may w real in
+        let lengths = l.owed s h.by.run o h.by.owed h.alike in
+        let most-faults = at-most h.by.faults k h.by.run s h.no_longer in
         let same : suc k + n ≡ k + suc n = omega arith in
         subst (λ (z : ℕ). Wanted z r) same
-        (finds total n (length o) most (suc k) (o ++ option_to_list (steps.later f)) t r c.by c.made_by
-        (l.through t x.there c.by.run (o ++ option_to_list (steps.later f)) (h.owed ++ option_to_list (steps.later x.fault)) c.by.owed x.still c.alike)
-        (omega (arith, lengths, ripe-by)) x.few (omega (arith, spare))
-        (through c.by.faults (suc h.faults) (suc k) c.by.run x.there t c.no_longer (fault-on h.faults k h.run s x.there t x.no_longer short)) d)
-    finds total m i a k os v q h at e ripe-there few spare short (Came_later n ripe left o s t r place f lt g w d) =
-        let x = l.comes s h.run t o h.owed place f e g w in
-        let lengths = l.owed t x.there (remove o place) (remove h.owed place) x.still in
-        let c = enough.comes h place x.fault x.there at (omega (arith, lt, ripe-there)) x.owed x.befalls in
-        let ripe-by = c.ripe_there in
-        finds total n (length (remove o place)) most k (remove o place) t r c.by c.made_by
-        (l.through t x.there c.by.run (remove o place) (remove h.owed place) c.by.owed x.still c.alike)
-        (omega (arith, lengths, ripe-by)) x.few spare
-        (through c.by.faults h.faults k c.by.run x.there t c.no_longer (step-on h.faults k h.run s x.there t x.no_longer short)) d
+        (finds total n (length o) most (suc k) (o ++ option_to_list (steps.later f)) t r
+        (stands (suc h.by.faults) (suc k) (length o) (length h.by.owed) (h.by.owed ++ option_to_list (steps.later x.fault)) (o ++ option_to_list (steps.later f)) x.there t
+        (enough.befalls h.by x.fault x.there h.made_by (omega (arith, most-faults, spare)) x.may x.befalls (l.not_void t x.there (o ++ option_to_list (steps.later f)) (h.by.owed ++ option_to_list (steps.later x.fault)) x.still real))
+        x.still (omega (arith, lengths)) (fault-on h.by.faults k h.by.run s x.there t x.no_longer h.no_longer))
+        x.few (omega (arith, spare)) d))
+    finds total m i a k os v q h few spare (Came_later n ripe left o s t r place f lt g w d) =
+        either (void t) (λ nothing. of-void total n (length (remove o place)) most (k + n) (remove o place) t r nothing d) (λ real.
+        let x = l.comes s h.by.run t o h.by.owed place f h.alike g w real in
+        let lengths = l.owed t x.there (remove o place) (remove h.by.owed place) x.still in
+        let there = h.ripe_there in
+        finds total n (length (remove o place)) most k (remove o place) t r
+        (stands h.by.faults k (length (remove o place)) (length (remove h.by.owed place)) (remove h.by.owed place) (remove o place) x.there t
+        (enough.comes h.by place x.fault x.there h.made_by (omega (arith, lt, there)) x.owed x.befalls (l.not_void t x.there (remove o place) (remove h.by.owed place) x.still real))
+        x.still (omega (arith, lengths)) (step-on h.by.faults k h.by.run s x.there t x.no_longer h.no_longer))
+        x.few spare d)
 
-  pub no_end : NoEndIsLost steps rest size like ends
-  no_end most budget made found first l itself few enough at k s d =
+  pub no_end : NoEndIsLost steps rest size void like ends
+  no_end most budget made found first l itself few enough at k s d real =
       let n = d.0 in
       let spare = d.1 in
       let named : k ≡ n = label most n n 0 most [] first (Run k s) d.2 in
       let same : 0 + n ≡ k = omega (arith, named) in
-      subst (λ (z : ℕ). IsFound steps rest size like ends found z s) same
-      (finds most budget made found l enough n n 0 most 0 [] first (Run k s) (record { faults = 0; ripe = 0; owed = []; run = first }) at itself (omega arith) few (omega (arith, spare)) (inr (refl, omega arith)) d.2)
+      let start : Stands made 0 0 [] first = record { by = record { faults = 0; ripe = 0; owed = []; run = first }; made_by = at; alike = itself; ripe_there = omega arith; no_longer = inr (refl, omega arith) } in
+      subst (λ (z : ℕ). IsFound steps rest size void like ends found z s) same
+      (finds most budget made found l enough n n 0 most 0 [] first (Run k s) start few (omega (arith, spare)) d.2 real)

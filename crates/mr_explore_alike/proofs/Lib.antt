@@ -1,2 +1,3 @@
+pub mod Void
 pub mod Covering
 pub mod Leaving

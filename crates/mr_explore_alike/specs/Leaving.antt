@@ -1,5 +1,5 @@
 -- Which runs of a walk need not be made, and that no end and no shortest script is lost without them (our own profile).
-use Rattle.std.specs.Prelude.{◌≡◌, ◌<◌, ◌≤◌, ◌⊎◌, ℕ, suc, List, [], ◌++◌, length, remove, slice_get, Some, option_to_list}
+use Rattle.std.specs.Prelude.{◌≡◌, ◌<◌, ◌≤◌, ◌⊎◌, ℕ, suc, Bool, false, List, [], ◌++◌, length, remove, slice_get, Some, option_to_list}
 use Rattle.mr_explore_search.specs.Steps.{Goes, Ends, Steps}
 use Rattle.mr_explore_search.specs.Runs.{Found, Run}
 use Rattle.mr_explore_search.specs.Laws.{In, IsOneBy}
@@ -12,7 +12,7 @@ pub record Here (S F : Type 0) : Type 0 where
   pub owed : List F
   pub run : S
 
-module _ {S F : Type 0} (steps : Steps S F) (rest size : S → ℕ) (like : S → List F → S → List F → Type 0) (ends : S → S → Type 0) where
+module _ {S F : Type 0} (steps : Steps S F) (rest size : S → ℕ) (void : S → Bool) (like : S → List F → S → List F → Type 0) (ends : S → S → Type 0) where
   -- u, of j faults, is no longer than s, of k faults: it has fewer faults, or as many and no longer script
   abbrev pub IsNoLonger : (j : ℕ) → S → (k : ℕ) → S → Type 0
   IsNoLonger j u k s = (j < k) ⊎ ((j ≡ k) × (size u ≤ size s))
@@ -25,15 +25,19 @@ module _ {S F : Type 0} (steps : Steps S F) (rest size : S → ℕ) (like : S �
     pub ripe_there : ripe ≤ by.ripe
     pub no_longer : IsNoLonger by.faults by.run k s
 
-  -- Each made run goes on to its end, which is found. Of each fault that may befall it, while it may have one more, and of what was put off and may come to it,
-  -- a run is made, or left out since a run that is like it was made.
+  -- a place is made, or a made one is like it
+  abbrev pub IsTaken : (made : List (Here S F)) (k ripe : ℕ) (o : List F) (s : S) → Type 0
+  IsTaken made k ripe o s = In (record { faults = k; ripe = ripe; owed = o; run = s }) made ⊎ IsCovered made k ripe o s
+
+  -- The end of each made run is found. Its next place by itself is taken, and so is what comes of each fault that may befall it, while it may have one more, and
+  -- of what was put off and may come to it; void runs need not be.
   pub record IsEnough (budget : ℕ) (made : List (Here S F)) (found : List (Found S)) : Type 0 where
-    pub goes : (h : Here S F) (t : S) → In h made → steps.onward h.run ≡ Goes t → In (record { faults = h.faults; ripe = length h.owed; owed = h.owed; run = t }) made
+    pub goes : (h : Here S F) (t : S) → In h made → steps.onward h.run ≡ Goes t → IsTaken made h.faults (length h.owed) h.owed t
     pub ended : (h : Here S F) (t : S) → In h made → steps.onward h.run ≡ Ends t → In (Run h.faults t) found
-    pub befalls : (h : Here S F) (f : F) (t : S) → In h made → h.faults < budget → In f (steps.faults h.run) → steps.befallen f h.run ≡ Some t
-        → IsCovered made (suc h.faults) (length h.owed) (h.owed ++ option_to_list (steps.later f)) t
-    pub comes : (h : Here S F) (place : ℕ) (f : F) (t : S) → In h made → place < h.ripe → slice_get h.owed place ≡ Some f → steps.befallen f h.run ≡ Some t
-        → IsCovered made h.faults (length (remove h.owed place)) (remove h.owed place) t
+    pub befalls : (h : Here S F) (f : F) (t : S) → In h made → h.faults < budget → In f (steps.faults h.run) → steps.befallen f h.run ≡ Some t → void t ≡ false
+        → IsTaken made (suc h.faults) (length h.owed) (h.owed ++ option_to_list (steps.later f)) t
+    pub comes : (h : Here S F) (place : ℕ) (f : F) (t : S) → In h made → place < h.ripe → slice_get h.owed place ≡ Some f → steps.befallen f h.run ≡ Some t → void t ≡ false
+        → IsTaken made h.faults (length (remove h.owed place)) (remove h.owed place) t
 
   -- the run of k faults that came to s is one, or there is another one that is no longer and came to the same end
   pub record IsFound (found : List (Found S)) (k : ℕ) (s : S) : Type 0 where
@@ -43,8 +47,8 @@ module _ {S F : Type 0} (steps : Steps S F) (rest size : S → ℕ) (like : S �
     pub one : ends s run
     pub no_longer : IsNoLonger faults run k s
 
-  -- of all runs that depart at `budget` places at most each end is found, and a shortest script to it
+  -- of all runs that depart at `budget` places at most, and are not void, each end is found, and a shortest script to it
   abbrev pub NoEndIsLost : Type 0
-  NoEndIsLost = (most budget : ℕ) (made : List (Here S F)) (found : List (Found S)) (first : S) → Likens steps rest size like ends most → like first [] first [] → rest first < most
+  NoEndIsLost = (most budget : ℕ) (made : List (Here S F)) (found : List (Found S)) (first : S) → Likens steps rest size void like ends most → like first [] first [] → rest first < most
       → IsEnough budget made found → In (record { faults = 0; ripe = 0; owed = []; run = first }) made
-      → (k : ℕ) (s : S) → IsOneBy steps most budget first (Run k s) → IsFound found k s
+      → (k : ℕ) (s : S) → IsOneBy steps most budget first (Run k s) → void s ≡ false → IsFound found k s

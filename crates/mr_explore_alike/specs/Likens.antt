@@ -1,12 +1,12 @@
 -- When two runs of a walk go on alike: whatever comes of one comes of the other (our own profile).
-use Rattle.std.specs.Prelude.{◌≡◌, ◌<◌, ◌≤◌, ℕ, List, ◌++◌, length, remove, slice_get, Some, option_to_list}
+use Rattle.std.specs.Prelude.{◌≡◌, ◌<◌, ◌≤◌, ℕ, Bool, true, false, List, ◌++◌, length, remove, slice_get, Some, None, option_to_list}
 use Rattle.mr_explore_search.specs.Steps.{Goes, Ends, Steps}
 use Rattle.mr_explore_search.specs.Runs.{Found, Run, PassesLimit}
 use Rattle.mr_explore_search.specs.Laws.{Departs, In}
 
--- Of a run: how many steps it makes by itself at most, and how long its script is. Of two, with what was put off in each: whether they go on alike, and
--- whether they came to one end.
-module _ {S F : Type 0} (steps : Steps S F) (rest size : S → ℕ) (like : S → List F → S → List F → Type 0) (ends : S → S → Type 0) where
+-- Of a run: how many steps it makes by itself at most, how long its script is, and whether it is void: a limit forbids its last fault. Of two, with what was
+-- put off in each: whether they go on alike, and whether they came to one end.
+module _ {S F : Type 0} (steps : Steps S F) (rest size : S → ℕ) (void : S → Bool) (like : S → List F → S → List F → Type 0) (ends : S → S → Type 0) where
   -- t's script, no longer than s's, is no longer behind what comes of both
   abbrev pub StaysNoLonger : (s t s' t' : S) → Type 0
   StaysNoLonger s t s' t' = size t ≤ size s → size t' ≤ size s'
@@ -49,18 +49,20 @@ module _ {S F : Type 0} (steps : Steps S F) (rest size : S → ℕ) (like : S �
     pub few_there : rest there < most
     pub no_longer : StaysNoLonger s t s' there
 
-  -- of any two that are alike: as much was put off in both, and whatever comes of the one comes of the other
+  -- Of any two that are alike: as much was put off in both, and whatever comes of the one comes of the other, void runs left out. Nothing comes of a void run.
   pub record Likens (most : ℕ) : Type 0 where
     pub owed : (s t : S) (o p : List F) → like s o t p → length o ≡ length p
+    pub not_void : (s t : S) (o p : List F) → like s o t p → void s ≡ false → void t ≡ false
+    pub nothing : (s : S) → void s ≡ true → (steps.onward s ≡ Ends s) × ((f : F) → steps.befallen f s ≡ None)
     pub through : (s t u : S) (o p q : List F) → like s o t p → like t p u q → like s o u q
     pub goes : (s t s' : S) (o p : List F) → like s o t p → steps.onward s ≡ Goes s' → GoesToo s s' o t p
     pub stops : (s t s' : S) (o p : List F) → like s o t p → steps.onward s ≡ Ends s' → EndsToo s s' t
-    pub befalls : (s t s' : S) (o p : List F) (f : F) → like s o t p → In f (steps.faults s) → steps.befallen f s ≡ Some s' → BefallsToo most s s' (o ++ option_to_list (steps.later f)) t p
-    pub comes : (s t s' : S) (o p : List F) (place : ℕ) (f : F) → like s o t p → slice_get o place ≡ Some f → steps.befallen f s ≡ Some s' → ComesToo most s s' (remove o place) place t p
+    pub befalls : (s t s' : S) (o p : List F) (f : F) → like s o t p → In f (steps.faults s) → steps.befallen f s ≡ Some s' → void s' ≡ false → BefallsToo most s s' (o ++ option_to_list (steps.later f)) t p
+    pub comes : (s t s' : S) (o p : List F) (place : ℕ) (f : F) → like s o t p → slice_get o place ≡ Some f → steps.befallen f s ≡ Some s' → void s' ≡ false → ComesToo most s s' (remove o place) place t p
 
-  -- an end that comes of the one comes of the other; that a run would pass a limit need not
+  -- an end that comes of the one comes of the other; that a run is void, or would pass a limit, need not
   abbrev pub Covers : (most total n ripe left : ℕ) → List F → S → Found S → Type 0
-  Covers most total n ripe left p t (Run k s) = (u : S) × Departs steps most total n ripe left p t (Run total u) × ends s u
+  Covers most total n ripe left p t (Run k s) = void s ≡ false → (u : S) × Departs steps most total n ripe left p t (Run total u) × ends s u
   Covers most total n ripe left p t PassesLimit = Unit {0}
 
   -- The two may have had other numbers of faults before, and have other numbers of steps left.
