@@ -1,0 +1,15 @@
+pub mod Asking
+pub mod Counting
+pub mod Limits
+pub mod Moves
+pub mod Steps
+pub mod Calms
+pub mod Looking
+pub mod Going
+pub mod Listing
+pub mod Befalling
+pub mod Alike
+pub mod Whole
+pub mod Wary
+pub mod Itself
+pub mod Losing

@@ -1,0 +1,71 @@
+-- What is enough of mr_explore's runs is enough of careful ones.
+use Rattle.std.proofs.Common.{ℕ, ◌≡◌, inl, inr, refl, sym, ◌∙◌, ap, suc, Bool, true, false, List, ◌++◌, length, remove, option_to_list, if◌then◌else◌}
+use Rattle.std.proofs.lemmas.Bool.{true≢false}
+use Rattle.mr_world_state.specs.Limits.{within}
+use Rattle.mr_play.specs.Text.{job_as}
+use Rattle.mr_explore_search.specs.Steps.{Onward, Goes, Ends, Full}
+use Rattle.mr_explore_search.specs.Runs.{Found}
+use Rattle.mr_explore_search.specs.Laws.{In}
+use Rattle.mr_explore_alike.specs.Leaving.{Here, IsEnough, IsTaken}
+use Rattle.mr_explore_alike.proofs.Leaving.{no_end}
+use Rattle.mr_explore_faults.specs.declared.fault.Fault.{Fault}
+use Rattle.mr_explore.specs.Faults.{most_events, onward}
+use Rattle.mr_explore.specs.Runs.{Exploring, explored, onward_with}
+use Rattle.mr_explore_likeness.specs.Careful.{cannot_look, careful, ends_careful, onward_careful, unless_full}
+use Rattle.mr_explore_likeness.specs.Losing.{NoCarefulEndIsLost}
+use Rattle.mr_explore_likeness.specs.Runs.{ends, like, rest, size, void}
+use Rattle.mr_explore_likeness.proofs.Alike.{few-left}
+use Rattle.mr_explore_likeness.proofs.Itself.{first-itself}
+use Rattle.mr_explore_likeness.proofs.Wary.{wary_likens}
+
+abbrev is-goes : Onward Exploring → Bool
+is-goes (Goes s) = true
+is-goes (Ends s) = false
+is-goes Full = false
+
+abbrev is-full : Onward Exploring → Bool
+is-full (Goes s) = false
+is-full (Ends s) = false
+is-full Full = true
+
+goes-too : (s t : Exploring) → onward_careful s ≡ Goes t → explored.onward s ≡ Goes t
+goes-too s t q = by s.past_limit (cannot_look s) q
+  where
+    by : (b c : Bool) → (if b then Ends s else (if c then Full else explored.onward s)) ≡ Goes t → explored.onward s ≡ Goes t
+    by true c q = absurd (true≢false (ap is-goes (sym q)))
+    by false true q = absurd (true≢false (ap is-goes (sym q)))
+    by false false q = q
+
+ends-too : (s t : Exploring) → onward_careful s ≡ Ends t → explored.onward s ≡ Ends t
+ends-too s t q = by s.past_limit (cannot_look s) refl q
+  where
+    by : (b c : Bool) → s.past_limit ≡ b → (if b then Ends s else (if c then Full else explored.onward s)) ≡ Ends t → explored.onward s ≡ Ends t
+    by true c e q = (λ i. if e i then Ends s else onward_with s (onward (job_as s.job) s.config (within s.config) s.deep s.played)) ∙ q
+    by false true e q = absurd (true≢false (ap is-full q))
+    by false false e q = q
+
+tried-too : (s : Exploring) (f : Fault) → In f (unless_full (onward_careful s) (explored.faults s)) → In f (explored.faults s)
+tried-too s f i = by (onward_careful s) i
+  where
+    by : (o : Onward Exploring) → In f (unless_full o (explored.faults s)) → In f (explored.faults s)
+    by (Goes t) i = i
+    by (Ends t) i = i
+    by Full i = absurd i
+
+module _ (made : List (Here Exploring Fault)) where
+  taken : (k ripe : ℕ) (o : List Fault) (s : Exploring) → IsTaken explored rest size void (like false) ends made k ripe o s → IsTaken careful rest size void (like false) ends_careful made k ripe o s
+  taken k ripe o s (inl i) = inl i
+  taken k ripe o s (inr c) = inr (record { by = c.by; made_by = c.made_by; alike = c.alike; ripe_there = c.ripe_there; no_longer = c.no_longer })
+
+  enough-careful : (budget : ℕ) (found : List (Found Exploring)) → IsEnough explored rest size void (like false) ends budget made found → IsEnough careful rest size void (like false) ends_careful budget made found
+  enough-careful budget found e = record {
+    goes = λ h t i q. taken h.faults (length h.owed) h.owed t (e.goes h t i (goes-too h.run t q));
+    ended = λ h t i q. e.ended h t i (ends-too h.run t q);
+    befalls = λ h f t i l j q n. taken (suc h.faults) (length h.owed) (h.owed ++ option_to_list (explored.later f)) t (e.befalls h f t i l (tried-too h.run f j) q n);
+    comes = λ h place f t i l g q n. taken h.faults (length (remove h.owed place)) (remove h.owed place) t (e.comes h place f t i l g q n);
+  }
+
+pub no_careful_end : NoCarefulEndIsLost
+no_careful_end input budget made found first is enough at =
+    let itself = first-itself false input first is in
+    no_end careful rest size void (like false) ends_careful most_events budget made found first wary_likens itself (few-left (length first.played.events) itself.begun) (enough-careful made budget found enough) at

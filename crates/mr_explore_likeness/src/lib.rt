@@ -1,0 +1,54 @@
+//! When a run of an exploration is so like another one that it need not be made.
+//!
+//! # What is proved
+//!
+//! Two runs are alike (`like`) where their worlds are, the same packets are still to come and may come once more, the same was
+//! put off, and the second is nowhere nearer to a limit. Whatever comes of the first then comes of the second (`Likens` of
+//! mr_explore_alike):
+//!
+//! - of runs that are as near to each limit, as mr_explore's definitions make them go on (`level_runs_liken`);
+//! - of runs of which the second may have more room, where a run passes a limit as soon as the look-ahead for one that goes on
+//!   in vain does (`careful_runs_liken`).
+//!
+//! The run of an input is like itself (`runs_are_like_themselves`).
+//!
+//! So a search of mr_explore's runs may leave out each run of which one that is like it and no longer was made: it finds each end
+//! of all runs of which no look-ahead passes a limit, and a shortest script to it (`no_careful_end_is_lost`).
+//!
+//! There is no code in this crate: each law is the contract of a function that does nothing.
+//!
+//! # Why room counts
+//!
+//! Whether a run goes on in vain is found by a look-ahead, which a limit may end. Of two runs that are alike but for their room
+//! one may then have ended in vain, where the other goes on for some events, to its limit.
+#![tactic(auto)]
+
+ghost use Rattle.std.specs.Prelude.{true, false};
+ghost use Rattle.mr_explore.specs.Faults.{most_events};
+ghost use Rattle.mr_explore.specs.Runs.{explored};
+ghost use Rattle.mr_explore_alike.specs.Likens.{Likens};
+ghost use Rattle.mr_explore_likeness.specs.Careful.{careful, ends_careful};
+ghost use Rattle.mr_explore_likeness.specs.Losing.{NoCarefulEndIsLost, RunsAreLikeThemselves};
+ghost use Rattle.mr_explore_likeness.specs.Runs.{ends, like, rest, size, void};
+
+/// Runs of an exploration that are alike and as near to each limit: whatever comes of one comes of the other.
+pub fn level_runs_liken()
+    ensures { Likens explored rest size void (like true) ends most_events }
+{}
+
+/// Runs that are alike, of which the second is nowhere nearer to a limit: whatever comes of the first comes of the second, where a run
+/// passes a limit as soon as the look-ahead for one that goes on in vain does.
+pub fn careful_runs_liken()
+    ensures { Likens careful rest size void (like false) ends_careful most_events }
+{}
+
+/// The run of an input is like itself.
+pub fn runs_are_like_themselves()
+    ensures { RunsAreLikeThemselves }
+{}
+
+/// Where a run of an exploration is left out only if a run that is like it and no longer was made, each end of all runs is found of which no
+/// look-ahead passes a limit, and a shortest script to it.
+pub fn no_careful_end_is_lost()
+    ensures { NoCarefulEndIsLost }
+{}
