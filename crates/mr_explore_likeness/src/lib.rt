@@ -1,4 +1,4 @@
-//! When a run of an exploration is so like another one that it need not be made.
+//! When a run of an exploration need not be made: another one is like it.
 //!
 //! # What is proved
 //!
