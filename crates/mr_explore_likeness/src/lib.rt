@@ -17,10 +17,22 @@
 //!
 //! There is no code in this crate: each law is the contract of a function that does nothing.
 //!
+//! # What is compared
+//!
+//! - **What machines and stores hold** (`Alike` of mr_world_alike), and the histories byte by byte: how many bytes stay of what
+//!   was not flushed is read off these.
+//! - **The packets that calms have not come to**, and which of these were dropped.
+//! - **Where a packet lies that was delivered**, or may come late: it was passed over in both and is equal, or it lies as far
+//!   ahead in both. What comes next by itself is no fault, and that is told by the place.
+//! - **How many packets lie last that only ask**: by these a run is found to go on in vain.
+//! - **How many events, packets and launches there are**: the second run has no more. All else that a limit reads is the same
+//!   in alike worlds.
+//!
 //! # Why room counts
 //!
 //! Whether a run goes on in vain is found by a look-ahead, which a limit may end. Of two runs that are alike but for their room
-//! one may then have ended in vain, where the other goes on for some events, to its limit.
+//! one may then have ended in vain, where the other goes on for some events, to its limit. So runs of mr_explore are compared
+//! that have the same room; and of those that may have more only such as look ahead within the limits.
 #![tactic(auto)]
 
 ghost use Rattle.std.specs.Prelude.{true, false};
