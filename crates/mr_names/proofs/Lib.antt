@@ -1,4 +1,6 @@
+pub mod Comparing
 pub mod BarredSets
+pub mod Comparing
 pub mod CallLaws
 pub mod CallerLaws
 pub mod Callers
