@@ -2,5 +2,6 @@
 #![tactic(auto)]
 
 mod counting;
+mod placing;
 #[cfg(test)]
 mod runs;

@@ -1,0 +1,5 @@
+pub mod Lists
+pub mod Ways
+pub mod Taking
+pub mod Moving
+pub mod Finding

@@ -1,0 +1,7 @@
+use Rattle.std.proofs.Common.{sym, ap, ◌∙◌}
+use Rattle.std.specs.Option.{option_copied}
+use Rattle.mr_explore_places.proofs.Moving.{came_on}
+use Rattle.mr_explore_places.proofs.cursor.come.Goals as goal
+
+pub returns-in-Some-clause-moves : goal.returns-in-Some-clause-moves
+returns-in-Some-clause-moves g c = came_on g.R.Run.steps g.R.AlikeRun.rest g.R.AlikeRun.size g.R.AlikeRun.void g.R.AlikeRun.like g.R.AlikeRun.ends c.args.kept.now c.args.cursor.now c.come_to.new.cursor c.in-Some.place.now c.come_to.result (sym c.get.ensures.is ∙ ap option_copied c.in-Some.is) c.come_to.ensures.comes
