@@ -8,6 +8,7 @@ pub mod Looking
 pub mod Going
 pub mod Listing
 pub mod Befalling
+pub mod Through
 pub mod Alike
 pub mod Whole
 pub mod Wary

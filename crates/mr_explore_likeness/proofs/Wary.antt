@@ -19,13 +19,14 @@ use Rattle.mr_explore.specs.Runs.{Exploring, befallen_with, explored, onward_wit
 use Rattle.mr_explore_likeness.specs.Careful.{cannot_look, careful, ends_careful, onward_careful, unless_full}
 use Rattle.mr_explore_likeness.specs.Plays.{LikePlays, cluster}
 use Rattle.mr_explore_likeness.specs.Runs.{like, rest, size, void}
-use Rattle.mr_explore_likeness.proofs.Alike.{Both, as-many-owed, as-run, befalls-by, comes-by, ends-by, goes-by, one-outcome, that-at, this-at, through}
+use Rattle.mr_explore_likeness.proofs.Alike.{Both, as-run, befalls-by, comes-by, ends-by, goes-by, one-outcome, that-at, this-at}
 use Rattle.mr_explore_likeness.proofs.Befalling.{as-fault, same-fate}
 use Rattle.mr_explore_likeness.proofs.Calms.{SameCame, calm-same}
 use Rattle.mr_explore_likeness.proofs.Going.{SameOnward, next-same, onward-same}
 use Rattle.mr_explore_likeness.proofs.Listing.{other-fault}
 use Rattle.mr_explore_likeness.proofs.Looking.{LooksOn, vain-same, wait-same}
 use Rattle.mr_explore_likeness.proofs.Moves.{other-at}
+use Rattle.mr_explore_likeness.proofs.Through.{as-many-owed, through}
 
 -- what is tried
 abbrev tried : Exploring → List Fault

@@ -13,12 +13,13 @@ use Rattle.mr_explore.specs.Faults.{befallen, most_events, next_event, onward}
 use Rattle.mr_explore.specs.Runs.{Exploring, befallen_with, explored, onward_with}
 use Rattle.mr_explore_likeness.specs.Plays.{LikePlays, cluster}
 use Rattle.mr_explore_likeness.specs.Runs.{ends, like, rest, size, void}
-use Rattle.mr_explore_likeness.proofs.Alike.{Both, as-many-owed, as-run, befalls-by, comes-by, ends-by, goes-by, one-outcome, that-at, this-at, through}
+use Rattle.mr_explore_likeness.proofs.Alike.{Both, as-run, befalls-by, comes-by, ends-by, goes-by, one-outcome, that-at, this-at}
 use Rattle.mr_explore_likeness.proofs.Befalling.{as-fault, same-fate}
 use Rattle.mr_explore_likeness.proofs.Going.{SameOnward, SameNextEvent, next-same, onward-same}
 use Rattle.mr_explore_likeness.proofs.Listing.{other-fault}
 use Rattle.mr_explore_likeness.proofs.Looking.{vain-same}
 use Rattle.mr_explore_likeness.proofs.Moves.{other-at}
+use Rattle.mr_explore_likeness.proofs.Through.{as-many-owed, through}
 
 -- the same of plays
 both-of : (level : Bool) (s t : Exploring) (o p : List Fault) → like level s o t p → Both level s.job s.config s.played t.played o p

@@ -12,6 +12,10 @@ use Rattle.mr_explore_likeness.specs.Runs.{ends, like, rest, size, void}
 abbrev pub RunsAreLikeThemselves : Type 0
 RunsAreLikeThemselves = (level : Bool) (input : List ℕ) (e : Exploring) → IsRunOf input e → like level e [] e []
 
+-- a careful run is one of mr_explore's
+abbrev pub CarefulRunsAreRuns : Type 0
+CarefulRunsAreRuns = (most budget : ℕ) (first : Exploring) (k : ℕ) (s : Exploring) → IsOneBy careful most budget first (Run k s) → IsOneBy explored most budget first (Run k s)
+
 -- Of mr_explore's runs of an input enough were made: each one that was left out is like a made one that is no longer. Then of all runs by at most `budget` faults of which no look-ahead
 -- passes a limit, each end is found, and a shortest script to it.
 abbrev pub NoCarefulEndIsLost : Type 0

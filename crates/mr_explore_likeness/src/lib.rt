@@ -8,7 +8,7 @@
 //!
 //! - of runs that are as near to each limit, as mr_explore's definitions make them go on (`level_runs_liken`);
 //! - of runs of which the second may have more room, where a run passes a limit as soon as the look-ahead for one that goes on
-//!   in vain does (`careful_runs_liken`).
+//!   in vain does (`careful_runs_liken`). Those are some of the exploration's runs (`careful_runs_are_runs`).
 //!
 //! The run of an input is like itself (`runs_are_like_themselves`).
 //!
@@ -40,7 +40,7 @@ ghost use Rattle.mr_explore.specs.Faults.{most_events};
 ghost use Rattle.mr_explore.specs.Runs.{explored};
 ghost use Rattle.mr_explore_alike.specs.Likens.{Likens};
 ghost use Rattle.mr_explore_likeness.specs.Careful.{careful, ends_careful};
-ghost use Rattle.mr_explore_likeness.specs.Losing.{NoCarefulEndIsLost, RunsAreLikeThemselves};
+ghost use Rattle.mr_explore_likeness.specs.Losing.{CarefulRunsAreRuns, NoCarefulEndIsLost, RunsAreLikeThemselves};
 ghost use Rattle.mr_explore_likeness.specs.Runs.{ends, like, rest, size, void};
 
 /// Runs of an exploration that are alike and as near to each limit: whatever comes of one comes of the other.
@@ -57,6 +57,11 @@ pub fn careful_runs_liken()
 /// The run of an input is like itself.
 pub fn runs_are_like_themselves()
     ensures { RunsAreLikeThemselves }
+{}
+
+/// A run that goes on so is one of the exploration's.
+pub fn careful_runs_are_runs()
+    ensures { CarefulRunsAreRuns }
 {}
 
 /// Where a run of an exploration is left out only if a run that is like it and no longer was made, each end of all runs is found of which no
