@@ -1,4 +1,5 @@
 pub mod Calls
+pub mod Comparing
 pub mod Rules
 pub mod Steps
 pub mod Bounds

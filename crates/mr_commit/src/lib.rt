@@ -61,8 +61,9 @@
 //! - `needs_task_commit` and `check_output` are their one `exists`.
 //! - **An answer of another call is a fault**: `took` and `follow` answer `WrongAnswer` to it, and nothing goes on. What
 //!   the namespace answers is always of its call (law `answers_own_calls`).
-//! - `copy` of a step value is an equal value. Memory may be taken by what makes or copies a step value, by `follow`,
-//!   `took` and `next`, by the whole forms, and by `needs_task_commit`. No other call takes any.
+//! - `copy` of a step value is an equal value, and `is_same` tells whether two are equal. Memory may be taken by what
+//!   makes or copies a step value, by `follow`, `took` and `next`, by the whole forms, and by `needs_task_commit`. No
+//!   other call takes any.
 //! - **Laws**: steps lead to one answer and one namespace (`one_result`). Whole forms end, and the tables meet the
 //!   condition for it (`whole_forms_end`). After a task commit that was answered the committed path holds what the
 //!   attempt path held, and the attempt path holds nothing. Nothing else changed, and the fence is as before

@@ -1,6 +1,6 @@
 //! One line of a committer's table: its namespace call, and the lines that take its place once that was answered. Here are the merge of directories and the
 //! search through earlier generations; a `Step` keeps such lines for each operation.
-ghost use Rattle.std.specs.Prelude.{◌≡◌, ◌<◌, [], ◌∷◌, ◌++◌, IfOk, IfErr, OnErr, Ok, Err, map, filter, length};
+ghost use Rattle.std.specs.Prelude.{◌≡◌, ◌↔◌, ◌<◌, [], ◌∷◌, ◌++◌, IsTrue, IfOk, IfErr, OnErr, Ok, Err, map, filter, length};
 ghost use Rattle.mr_commit.specs.Line.{replaced, answered, op_of, merging, merging_child, merging_task, is_task, passes_missing, before, older, sought, measured, fault_at, moves};
 ghost use Rattle.mr_commit.specs.Line.Line.{Does, Clears, Needs, Merges, MergesEach, MergesTasks, Seeks, Measures};
 ghost use Rattle.mr_commit.specs.Steps.{IsFault};
@@ -17,7 +17,7 @@ use std::collections::LinkedList;
 use std::marker::Model;
 
 /// What follows once the call of a line was answered.
-#[derive(Drop)]
+#[derive(PartialEq, Eq, Drop)]
 enum Rule {
     /// Nothing follows.
     Plain,
@@ -278,6 +278,17 @@ impl TableLine {
             op: self.op.copy()?,
             rule: self.rule.copy()?,
         })
+    }
+
+    /// Whether both are the same line. It takes no memory.
+    pub fn is_same(&self, other: &TableLine) -> bool
+        ensures { IsTrue result ↔ (self.now ≡ other.now) }
+    {
+        if self.op == other.op {
+            let is_rule = self.rule == other.rule;
+            return is_rule;
+        }
+        false
     }
 
     /// The lines that take the place of this one once its call was answered.

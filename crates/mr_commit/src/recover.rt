@@ -1,5 +1,5 @@
 //! The recovery of a task (Hadoop's `recoverTask`): what the newest earlier generation committed of it is taken over; call by call, as a step value, and whole.
-ghost use Rattle.std.specs.Prelude.{◌≡◌, [], ◌∷◌, IfOk};
+ghost use Rattle.std.specs.Prelude.{◌≡◌, ◌↔◌, [], ◌∷◌, IsTrue, IfOk};
 ghost use Rattle.std.specs.Option.{option_copied};
 ghost use Rattle.mr_commit.specs.Line.Line.{Seeks};
 ghost use Rattle.mr_commit.specs.CommitterEffect.{Commits, HasEffect};
@@ -144,6 +144,19 @@ impl RecoverTask {
             step,
             has_earlier: self.has_earlier,
         })
+    }
+
+    /// Whether both have the same lines left, or both have no earlier generation. It takes no memory.
+    pub fn is_same(&self, other: &RecoverTask) -> bool
+        ensures { IsTrue result ↔ (self.now ≡ other.now) }
+    {
+        if self.has_earlier != other.has_earlier {
+            return false;
+        }
+        if !self.has_earlier {
+            return true;
+        }
+        self.step.is_same(&other.step)
     }
 }
 

@@ -1,6 +1,6 @@
 //! A step value: an operation of the committer as the lines of its table that are left. Which call is next, and what its answer puts in the place of the
 //! first line. Each operation's file has the maker of its table.
-ghost use Rattle.std.specs.Prelude.{◌≡◌, ◌<◌, [], ◌∷◌, ◌++◌, IfOk, OnOk, OnErr, length, drop};
+ghost use Rattle.std.specs.Prelude.{◌≡◌, ◌↔◌, ◌<◌, [], ◌∷◌, ◌++◌, IsTrue, IfOk, OnOk, OnErr, length, drop};
 ghost use Rattle.std.specs.Option.{option_copied};
 ghost use Rattle.mr_commit.specs.Settles.{Settles};
 ghost use Rattle.mr_commit.specs.Steps.{next_call, next_passes, done_at, Hears, Steps};
@@ -99,6 +99,22 @@ impl Step {
             left.push_back(line.copy()?)?;
         }
         Ok(Step { left })
+    }
+
+    /// Whether the same lines are left of both. It takes no memory.
+    pub fn is_same(&self, other: &Step) -> bool
+        ensures { IsTrue result ↔ (self.now ≡ other.now) }
+    {
+        let mut rest = other.left.iter();
+        for line in &self.left {
+            let Some(beside) = rest.next() else {
+                return false;
+            };
+            if !line.is_same(beside) {
+                return false;
+            }
+        }
+        rest.next().is_none()
     }
 
     /// Makes ready for the answer of the next call, the lines that follow, and changes nothing. A fault is that of `took`,

@@ -1,3 +1,4 @@
+pub mod Equality
 pub mod Fetching
 pub mod Same
 pub mod Sending

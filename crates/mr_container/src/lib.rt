@@ -39,6 +39,7 @@
 //! - `send` adds to the bag exactly the packet of the wish, and `Ended` behind it if it was the last; `tell_end`
 //!   adds `Ended` exactly where the container is over;
 //! - `blocks` lends the whole blocks, in the order of the maps, without a copy;
+//! - `is_same` of two machines, as `==`, is true exactly where they hold the same;
 //! - a packet that the wish does not wait for changes nothing. `hear` and `copy` may allocate, and where that fails the
 //!   machine is as it was. `call` may allocate and changes nothing. No other call takes memory, so nothing can be
 //!   refused after a store was changed.
@@ -58,6 +59,7 @@
 //! `copy` succeed with ample memory; the worked examples.
 #![tactic(auto)]
 
+mod comparing;
 mod laws;
 mod machine;
 mod namespace_call;

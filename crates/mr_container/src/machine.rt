@@ -37,6 +37,7 @@ use std::marker::Model;
 ///
 /// `call`, `hear` and `copy` may allocate, and where that is refused nothing has changed. No other call takes memory, so
 /// nothing can be refused after a store was changed.
+#[derive(PartialEq, Eq)]
 pub struct ContainerMachine {
     id: ContainerId,
     place: Place,
@@ -67,6 +68,8 @@ impl Model for ContainerMachine {
     ghost Value = { Container };
 
     ghost view = { λ m. record { id = m.id; place = m.place; maps = m.maps; seen = record { wish = m.wish; pieces = m.pieces; result = m.result } } };
+
+    ghost inverse = { λ m. record { id = m.id; place = m.place; maps = m.maps; wish = m.seen.wish; pieces = m.seen.pieces; result = m.seen.result } };
 }
 
 impl ContainerMachine {

@@ -1,5 +1,5 @@
 //! Permission to commit one task (Hadoop's `canCommit`): which attempts asked, in order of arrival, of whom the first has it. For the machine of a task.
-ghost use Rattle.std.specs.Prelude.{◌≡◌, false, OnOk, OnErr, IfOk};
+ghost use Rattle.std.specs.Prelude.{◌≡◌, ◌↔◌, false, OnOk, OnErr, IfOk, IsTrue};
 ghost use Rattle.std.specs.List.{IsDistinct};
 ghost use Rattle.mr_grant.specs.Attempts.{has, first_of, is_first, same_attempt, without};
 ghost use Rattle.mr_grant.specs.Grant.{nobody, after_pending, after_release, after_fix};
@@ -46,6 +46,14 @@ impl Grant {
             attempts: self.attempts.clone()?,
             fixed: self.fixed,
         })
+    }
+
+    /// Whether both hold the same: the same attempts in the same order, and both are fixed or neither is.
+    #[tactic(auto, using(crate::proofs::Same::lists_decide))]
+    pub fn is_same(&self, other: &Grant) -> bool
+        ensures { IsTrue result ↔ (self.now ≡ other.now) }
+    {
+        self.fixed == other.fixed && self.attempts.as_slice() == other.attempts.as_slice()
     }
 
     /// The attempt asks for permission: it waits as the last, if it is not there. One that is there keeps its place.

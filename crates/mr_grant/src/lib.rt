@@ -21,7 +21,8 @@
 //!   on that. `can_commit` is yes exactly for the first of those kept. `pending` adds an attempt as the last if it is
 //!   not there, allocates only then, and where it is refused has changed nothing. `release` takes an attempt out
 //!   exactly where the grant is not fixed. `fix` tells whether the attempt is the first, and if so the grant is fixed
-//!   from then on, which `is_fixed` tells. `first` and `attempts` are what they say. Each attempt is kept once; `copy` is equal. Memory may be taken by `pending` and `copy`, and by no
+//!   from then on, which `is_fixed` tells. `first` and `attempts` are what they say. Each attempt is kept once; `copy` is equal.
+//!   `is_same` answers whether two grants keep the same attempts in the same order and are alike fixed or not. Memory may be taken by `pending` and `copy`, and by no
 //!   other call.
 //! - Laws, on functions that do nothing, for every list of calls. Who is first stays first until it is released itself
 //!   (`first_stays`). A fixed grant stays fixed, and its first is the first for good (`fixed_stays`). Yes is for one

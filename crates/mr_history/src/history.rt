@@ -1,5 +1,5 @@
 //! The job history: a segment for each generation of the master, and the fence below which no master is heard.
-ghost use Rattle.std.specs.Prelude.{◌≡◌, ◌≤◌, ◌<◌, ◌-◌, ℕ, [], length, replicate, IfOk, IsOk, IsOkUnless, true, Option, if◌then◌else◌, nat_le, Some, None, take};
+ghost use Rattle.std.specs.Prelude.{◌≡◌, ◌↔◌, ◌≤◌, ◌<◌, ◌-◌, ℕ, [], length, replicate, IfOk, IsOk, IsOkUnless, IsTrue, true, Option, if◌then◌else◌, nat_le, Some, None, take};
 ghost use Rattle.mr_history.specs.Line.{fits, suits, IsVersion};
 ghost use Rattle.mr_history.specs.State.{State};
 ghost use Rattle.mr_history.specs.Segment.{fresh};
@@ -77,6 +77,23 @@ impl History {
             fence: self.fence,
             alloc: self.alloc,
         })
+    }
+
+    /// Whether both hold the same: the fence, and all segments. It takes no memory.
+    pub fn is_same(&self, other: &History) -> bool
+        ensures { IsTrue result ↔ (self.now ≡ other.now) }
+    {
+        if self.fence != other.fence {
+            return false;
+        }
+        for i in 0..self.fence as usize {
+            let segment = &self.segments[i];
+            let beside = &other.segments[i];
+            if !segment.is_same(beside) {
+                return false;
+            }
+        }
+        true
     }
 
     /// The generation below which calls are refused, 0 at first.

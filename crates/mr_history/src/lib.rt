@@ -54,6 +54,8 @@
 //!   above the fence was written to.
 //! - `History::copy` gives a history of its own with the same segments and the same fence, and refuses for want of
 //!   memory alone.
+//! - `History::is_same` tells whether two histories have the same segments and the same fence, `Segment::is_same` of two
+//!   segments whether they have the same version, stable bytes and tail and are both sealed or neither.
 //! - Laws for the layers above, each on a public function with an empty body: `lines_replay`, `segments_stay_sound`,
 //!   `others_stay`, `winners_stay`, and three more. `fronts_replay`: a front of a segment's bytes tells the records of
 //!   its whole lines, for every number of bytes, in both versions. `segments_record`: what each change does to a

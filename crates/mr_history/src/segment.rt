@@ -1,5 +1,5 @@
 //! The segment of one generation: the bytes that are stable, the tail that a crash may cut, and whether it is sealed.
-ghost use Rattle.std.specs.Prelude.{◌≡◌, ◌+◌, ◌≤◌, ℕ, [], length, take, drop, IfOk, IsOk, IsOkUnless, true, string_bytes, ◌++◌};
+ghost use Rattle.std.specs.Prelude.{◌≡◌, ◌↔◌, ◌+◌, ◌≤◌, ℕ, [], length, take, drop, IfOk, IsOk, IsOkUnless, IsTrue, true, string_bytes, ◌++◌};
 ghost use Rattle.mr_history.specs.Line.{fits, suits, whole_line, width, InRange, IsVersion};
 ghost use Rattle.mr_history.specs.State.{SegmentState};
 ghost use Rattle.mr_history.specs.Segment.{fresh, opening, appended, flushed, sealed, append_refusal, growth_refusal, flush_refusal, Changes, ChangesAlways};
@@ -66,6 +66,24 @@ impl Segment {
             sealed: self.sealed,
             alloc: self.alloc,
         })
+    }
+
+    /// Whether both hold the same: the version, the stable bytes, the tail, and whether it is sealed. It takes no memory.
+    pub fn is_same(&self, other: &Segment) -> bool
+        ensures { IsTrue result ↔ (self.now ≡ other.now) }
+    {
+        if self.version != other.version {
+            return false;
+        }
+        if self.mark != other.mark {
+            return false;
+        }
+        if self.sealed != other.sealed {
+            return false;
+        }
+        let bytes = self.bytes.as_slice();
+        let beside = other.bytes.as_slice();
+        bytes == beside
     }
 
     /// The version, 1 or 2.

@@ -1,6 +1,9 @@
 //! A map's output whose blocks have been found.
 //! It lies on a node's shelf, from where each reduce gets its block without a search.
-ghost use Rattle.std.specs.Prelude.{◌≡◌, ◌≤◌, length, slice_range, IfOk, IfSome};
+ghost use Rattle.std.specs.Prelude.{◌≡◌, ◌≤◌, ◌↔◌, length, slice_range, IfOk, IfSome, IsTrue, nat_eq};
+ghost use Rattle.std.specs.Cmp.Lexicographic.{pointwise};
+ghost use Rattle.std.specs.Cmp.Rules.{comparing};
+ghost use Rattle.std.proofs.Common.{rules};
 ghost use Rattle.std.specs.Option.{option_map, option_and_then};
 ghost use Rattle.std.specs.List.{slice_get};
 ghost use Rattle.mr_mapside.specs.Cutting.{cut};
@@ -89,6 +92,13 @@ impl CutOutput {
             places: self.places.clone()?,
         })
     }
+
+    /// Whether both hold the same bytes. Where the blocks lie follows from them, and is not compared.
+    pub fn is_same(&self, other: &CutOutput) -> bool
+        ensures { IsTrue result ↔ (self.now ≡ other.now) }
+    {
+        self.output.is_same(&other.output)
+    }
 }
 
 impl Clone for CutOutput {
@@ -97,6 +107,20 @@ impl Clone for CutOutput {
     fn clone(&self) -> Result<CutOutput, AllocError> {
         self.copy()
     }
+}
+
+impl PartialEq for CutOutput {
+    ghost eq = { pointwise nat_eq };
+
+    ghost laws = { Prim.search (comparing, rules) };
+
+    fn eq(&self, other: &CutOutput) -> bool {
+        self.is_same(other)
+    }
+}
+
+impl Eq for CutOutput {
+    ghost laws = { Prim.search (comparing, rules) };
 }
 
 // The places of the blocks that bytes are, however many these are; none where the bytes are no whole blocks.

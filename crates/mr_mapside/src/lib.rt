@@ -43,6 +43,7 @@
 //!   those of the output.
 //! - `MapOutput` is a list of at most 2^24 bytes, made from a `Vec` or from bytes, and given back; `copy` is equal, and
 //!   `part` is what it says. `share` changes nothing that is seen: after it copies and parts share the bytes.
+//! - `is_same` of two outputs, and of two `CutOutput`s, is true exactly where they have the same bytes.
 //! - Memory may be taken by `map_work`, `read_pair`, `read_value`, `RunGroups::new`, `next_group`, `CutOutput::new`,
 //!   `share_block`, `part`, `share` and each `copy`. No other call takes any.
 //! - Laws, on functions that do nothing: bytes are blocks behind their lengths in one way alone (`blocks_are_one`).

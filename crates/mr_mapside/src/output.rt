@@ -1,6 +1,6 @@
 //! What a map work gives: the blocks of all reduces in one list of bytes, for the map's node to keep and for reduces
 //! to fetch from.
-ghost use Rattle.std.specs.Prelude.{◌≡◌, ◌≤◌, length, slice_range, IfOk};
+ghost use Rattle.std.specs.Prelude.{◌≡◌, ◌≤◌, ◌↔◌, length, slice_range, IfOk, IsTrue};
 
 use crate::MAX_OUTPUT_LEN;
 use mr_ids::Bytes;
@@ -80,6 +80,13 @@ impl MapOutput {
         Ok(MapOutput {
             bytes: self.bytes.copy()?,
         })
+    }
+
+    /// Whether both hold the same bytes.
+    pub fn is_same(&self, other: &MapOutput) -> bool
+        ensures { IsTrue result ↔ (self.now ≡ other.now) }
+    {
+        self.bytes == other.bytes
     }
 }
 

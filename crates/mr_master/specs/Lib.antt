@@ -2,3 +2,4 @@
 pub mod State
 pub mod Refused
 pub mod Prepared
+pub mod Same

@@ -1,6 +1,6 @@
 //! The application master as whoever runs it sees it: `MasterMachine`, whose calls are handed on to the `Machine` of
 //! `mr_master_state`, and to what hears packets and takes answers.
-ghost use Rattle.std.specs.Prelude.{◌≡◌, true, [], ◌∷◌, None, IfOk, IfErr, OnOk, OnErr, unwrap_or};
+ghost use Rattle.std.specs.Prelude.{◌≡◌, ◌↔◌, true, [], ◌∷◌, None, IsTrue, IfOk, IfErr, OnOk, OnErr, unwrap_or};
 ghost use Rattle.std.specs.Option.{is_some};
 ghost use Rattle.mr_master_events.specs.mr_master_state.specs.State.{StandsFor, StandsForSome, Stands, StandsStill, Answers};
 ghost use Rattle.mr_master_model.specs.Duty.{duty};
@@ -8,6 +8,7 @@ ghost use Rattle.mr_master_model.specs.Past.{Step, Launches, Hears, Expires, Ans
 ghost use Rattle.mr_master_model.specs.Readings.{launch_refusal, expire_refusal, wanted};
 ghost use Rattle.mr_master_model.specs.Next.{seen, sent};
 ghost use Rattle.mr_master_events.specs.mr_master_state.specs.Prepared.{IsOne, IsExpiry, PlansFor, IsReadyFor, IsReadyForStep};
+ghost use Rattle.mr_master_events.specs.mr_master_state.specs.Same.{SameMachines};
 ghost use Rattle.mr_master_events.specs.Refused.{launch_error};
 
 use mr_ids::TaskId;
@@ -72,6 +73,21 @@ impl MasterMachine {
             machine,
             passed: self.passed,
         })
+    }
+
+    /// Whether both keep the same, whatever their settings. Spare room is not compared, nor how many of the first bars
+    /// are known to be past, nor in which order the nodes were heard of.
+    pub fn keeps_same(&self, other: &MasterMachine) -> bool
+        ensures { IsTrue result ↔ SameMachines self.now other.now }
+    {
+        self.machine.keeps_same(&other.machine)
+    }
+
+    /// Whether both keep the same (`keeps_same`), and are for one setting.
+    pub fn is_same(&self, other: &MasterMachine) -> bool
+        ensures { IsTrue result ↔ (SameMachines self.now other.now × (self.now.setting ≡ other.now.setting)) }
+    {
+        self.machine.is_same(&other.machine)
     }
 
     /// Each machine stands for some past. This call does nothing: it tells the caller so.

@@ -4,3 +4,4 @@ pub mod Due
 pub mod Replies
 pub mod Aborts
 pub mod Steps
+pub mod Comparing

@@ -1,6 +1,6 @@
 -- Kinds of work, and what the answer of a committer's call changes of one.
 -- Work is what a master is at in its phase. Our own: where code and definitions meet.
-use Rattle.std.specs.Prelude.{Bool, true, false, Option, Some, None, Ok, Err, List, [], if◌then◌else◌}
+use Rattle.std.specs.Prelude.{ℕ, Bool, true, false, Option, Some, None, Ok, Err, List, [], if◌then◌else◌}
 use Rattle.mr_commit.specs.Line.{Line, is_done}
 use Rattle.mr_commit.specs.Steps.{MayWantOn}
 use Rattle.mr_commit.specs.Recovery.{Recovery}
@@ -135,3 +135,22 @@ WantsMore left _ = ⊥
 abbrev pub lines_of : Recovery → List Line
 lines_of Nowhere = []
 lines_of (Left lines) = lines
+
+-- ---- comparisons
+
+-- what a work is at, as a number; where calls of a table are left: 0
+abbrev pub number_of : Work → ℕ
+number_of LooksForSuccess = 1
+number_of LooksForFail = 2
+number_of LooksForStarted = 3
+number_of Reads = 4
+number_of Runs = 5
+number_of TellsSuccess = 6
+number_of TellsFail = 7
+number_of AbortsCommit = 8
+number_of (Fails false) = 9
+number_of (Fails true) = 10
+number_of (Ends false) = 11
+number_of (Ends true) = 12
+number_of Stops = 13
+number_of _ = 0

@@ -13,6 +13,7 @@
 //!   next one: `move_on` moves them. After a refusal `refused` is what is next. `go_on` and `move_on` take no memory.
 //! - `read_work` is what is next after the earlier segments were read, `aborted` what is next after the abort of a
 //!   failed job.
+//! - `Work::is_same` is true exactly where two works are equal, with the calls and reduces that are left.
 //! - The questions tell the kinds of work apart (`is_look`, `is_tell`, `is_read`, `is_step`, `fails`, `is_running`,
 //!   `is_over`).
 #![tactic(auto)]

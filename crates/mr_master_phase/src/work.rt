@@ -12,6 +12,7 @@ ghost use Rattle.mr_master_model.specs.Answered.{takes_over};
 ghost use Rattle.mr_commit.specs.Tables.{setup_job, commit_job};
 
 mod mark;
+mod same;
 mod table;
 
 use crate::duty::{abort_duty, of_line, of_look, of_mark};

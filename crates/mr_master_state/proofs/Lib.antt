@@ -17,3 +17,4 @@ pub mod Rooms
 pub mod Made
 pub mod Wanting
 pub mod Past_bars
+pub mod Comparing

@@ -1,3 +1,4 @@
 -- Words for private contracts and for proofs. No public clause cites them.
 pub mod Leaving
 pub mod Outputs
+pub mod Comparing

@@ -11,6 +11,8 @@
 //! # What is proved
 //!
 //! - A new machine stands for the empty past (`Machine::new`). `copy` gives a machine that keeps all that this one keeps.
+//! - `keeps_same` is true exactly where two machines hold the same (`SameMachines`), `is_same` where they do for one
+//!   setting. Neither compares spare room, or in which order the nodes were heard of.
 //! - What is asked of a machine is what is read off all that it may stand for. Of attempts: `known`, `launched_in`,
 //!   `is_live`, `succeeded`, `ready_at`, `is_lost_map`. Of tasks: `place_within`, `wanted`, `all_succeeded`. Of a node:
 //!   `push_all_gone`, `all_gone`, `all_lost`. Of bars: `first_bar`, `passed`.
@@ -37,6 +39,7 @@ mod machine;
 mod nodes;
 mod outputs;
 mod prepared;
+mod same;
 mod send;
 mod wanted;
 

@@ -5,3 +5,5 @@ pub mod Incarnations
 pub mod Marking
 pub mod Adding
 pub mod Spreading
+pub mod Comparing
+pub mod Agreeing

@@ -1,5 +1,5 @@
 //! The attempts whose bar was ever due, in order. This is the only place that knows how they are kept.
-ghost use Rattle.std.specs.Prelude.{◌≡◌, ◌<◌, ◌≤◌, ◌+◌, [], length, slice_get, IfOk, OnOk, OnErr};
+ghost use Rattle.std.specs.Prelude.{◌≡◌, ◌↔◌, ◌<◌, ◌≤◌, ◌+◌, [], length, slice_get, IfOk, IsTrue, OnOk, OnErr};
 ghost use Rattle.indexmap.specs.IndexSet.{spare};
 ghost use Rattle.mr_grant.specs.Attempts.{with_last};
 ghost use Rattle.mr_master_tables.specs.Bars.{all_added};
@@ -55,6 +55,14 @@ impl Bars {
             due: self.due.clone()?,
             room: 0,
         })
+    }
+
+    /// Whether both have the same attempts in the same order. Spare room is not compared.
+    #[tactic(auto, using(crate::proofs::Comparing::attempts_decide))]
+    pub fn is_same(&self, other: &Bars) -> bool
+        ensures { IsTrue result ↔ (self.now.due ≡ other.now.due) }
+    {
+        self.due.as_slice() == other.due.as_slice()
     }
 
     /// How many there are.

@@ -1,5 +1,5 @@
 //! What the records of earlier masters say.
-ghost use Rattle.std.specs.Prelude.{◌≡◌, ◌≤◌, [], ◌++◌, IfOk, IfSome, IfNone, OnOk};
+ghost use Rattle.std.specs.Prelude.{◌≡◌, ◌↔◌, ◌≤◌, [], ◌++◌, IfOk, IfSome, IfNone, IsTrue, OnOk};
 ghost use Rattle.std.specs.Option.{option_map};
 ghost use Rattle.std.specs.List.{list_any};
 ghost use Rattle.mr_recover.specs.Plan.{AreWinners, winners_among, with_first};
@@ -94,6 +94,14 @@ impl Earlier {
             newest: self.newest.copy()?,
             spread: self.spread.copy()?,
         })
+    }
+
+    /// Whether both are of the same records in the same order. All else that they keep follows from their records.
+    #[tactic(auto, using(crate::proofs::Comparing::records_decide))]
+    pub fn is_same(&self, other: &Earlier) -> bool
+        ensures { IsTrue result ↔ (self.now ≡ other.now) }
+    {
+        self.records.as_slice() == other.records.as_slice()
     }
 
     /// The records, in order.

@@ -1,5 +1,5 @@
 //! What attempts were launched as, by the numbers of their containers. This is the only place that knows the map.
-ghost use Rattle.std.specs.Prelude.{◌≡◌, ◌<◌, ◌≤◌, ◌&&◌, ◌++◌, [], ◌∷◌, Some, None, OnOk, OnErr, IfOk, IfSome, IfNone, slice_get, length, get_or, false, if◌then◌else◌};
+ghost use Rattle.std.specs.Prelude.{◌≡◌, ◌↔◌, ◌<◌, ◌≤◌, ◌&&◌, ◌++◌, [], ◌∷◌, Some, None, OnOk, OnErr, IfOk, IfSome, IfNone, IsTrue, slice_get, length, get_or, false, if◌then◌else◌};
 ghost use Rattle.std.specs.Map.{lookup};
 ghost use Rattle.mr_grant.specs.Attempts.{same_attempt};
 ghost use Rattle.mr_ids.specs.Attempt.{Attempt};
@@ -75,6 +75,15 @@ impl Launches {
             spread: self.spread.copy()?,
             is_spread: self.is_spread,
         })
+    }
+
+    /// Whether both have the same launches in the same order, with the same containers sent a Kill. Spare room is not compared, and
+    /// neither is which tasks may be on which node.
+    #[tactic(auto, using(crate::proofs::Comparing::bools_decide))]
+    pub fn is_same(&self, other: &Launches) -> bool
+        ensures { IsTrue result ↔ ((self.now.entries ≡ other.now.entries) × (self.now.killed ≡ other.now.killed)) }
+    {
+        self.killed.as_slice() == other.killed.as_slice() && self.entries.is_same(&other.entries)
     }
 
     /// How many there are.
@@ -222,6 +231,13 @@ impl Entries {
         Ok(Entries {
             map: self.map.clone()?,
         })
+    }
+
+    #[tactic(auto, using(crate::proofs::Comparing::launches_decide))]
+    fn is_same(&self, other: &Entries) -> bool
+        ensures { IsTrue result ↔ (self.now.entries ≡ other.now.entries) }
+    {
+        self.map.as_slice() == other.map.as_slice()
     }
 
     fn len(&self) -> usize

@@ -13,6 +13,9 @@
 //!   which the records say that an output lies there.
 //! - `Earlier` answers by the last record of a success; `winners` are those of the recovery plan, by rising number.
 //! - `Writing` gives the append or the flush that is due.
+//! - `is_same` answers whether two tables of one kind hold the same, without spare room and without what follows from the rest: of
+//!   `Launches` the launches and the Kills, of `Nodes` which incarnation of each node is known, of `Earlier` the records, of
+//!   `Writing` the records that are due and those that were appended, of `Bars` the attempts.
 //! - Memory may be taken by what makes or copies a table, by each `reserve`, by `Nodes::note`, `Spread::add` and
 //!   `winners`, and by `push_won` and `push_outcome`. No other call takes any.
 #![tactic(auto)]

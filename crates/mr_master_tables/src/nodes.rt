@@ -1,5 +1,6 @@
 //! Which incarnation of each node is known. This is the only place that knows the map.
-ghost use Rattle.std.specs.Prelude.{◌≡◌, ℕ, IfOk, OnOk, OnErr, nat_eq, if◌then◌else◌};
+ghost use Rattle.std.specs.Prelude.{◌≡◌, ◌↔◌, ℕ, All, IfOk, IsTrue, OnOk, OnErr, nat_eq, if◌then◌else◌};
+ghost use Rattle.std.specs.Map.{keys_of};
 ghost use Rattle.mr_master_tables.specs.Nodes.{KeepsNodes, known_in};
 
 use indexmap::IndexMap;
@@ -43,6 +44,30 @@ impl Nodes {
         Ok(Nodes {
             known: self.known.clone()?,
         })
+    }
+
+    /// Whether each node is known in the same incarnation. The order in which incarnations were noted is not compared.
+    #[tactic(auto, using(crate::proofs::Agreeing::agree_each))]
+    pub fn is_same(&self, other: &Nodes) -> bool
+        ensures { IsTrue result ↔ ((k : ℕ) → known_in self.now k ≡ known_in other.now k) }
+    {
+        self.agrees(other, self.noted()) && self.agrees(other, other.noted())
+    }
+
+    // The nodes of which an incarnation was noted.
+    fn noted(&self) -> &[u32]
+        ensures { result.now ≡ keys_of self.now }
+    {
+        self.known.keys().as_slice()
+    }
+
+    // Whether each of these nodes is known in the same incarnation.
+    fn agrees(&self, other: &Nodes, nodes: &[u32]) -> bool
+        ensures { IsTrue result ↔ All (λ k. known_in self.now k ≡ known_in other.now k) nodes.now }
+    {
+        nodes
+            .iter()
+            .all(|node| self.incarnation(*node) == other.incarnation(*node))
     }
 
     /// The known incarnation of a node.

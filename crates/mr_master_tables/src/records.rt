@@ -1,5 +1,5 @@
 //! What is to be appended to the master's segment, and what was appended and is not flushed.
-ghost use Rattle.std.specs.Prelude.{◌≡◌, ◌≤◌, ◌<◌, ◌+◌, ◌||◌, [], ◌∷◌, ◌++◌, take, drop, length, List, false, OnOk, OnErr, IfOk};
+ghost use Rattle.std.specs.Prelude.{◌≡◌, ◌↔◌, ◌≤◌, ◌<◌, ◌+◌, ◌||◌, [], ◌∷◌, ◌++◌, take, drop, length, List, false, OnOk, OnErr, IfOk, IsTrue};
 ghost use Rattle.std.specs.List.{list_any};
 ghost use Rattle.mr_history.specs.declared.record.Record.{Record};
 ghost use Rattle.mr_master_model.specs.Duty.{wants_flush, record_duty};
@@ -72,6 +72,15 @@ impl Writing {
             tail,
             is_flush_wanted: self.is_flush_wanted,
         })
+    }
+
+    /// Whether the same records are due, and the same were appended and are not flushed, each in the same order. Spare room is not
+    /// compared. Neither is whether a flush is wanted, which the records tell.
+    #[tactic(auto, using(crate::proofs::Comparing::records_decide))]
+    pub fn is_same(&self, other: &Writing) -> bool
+        ensures { IsTrue result ↔ ((self.now.due ≡ other.now.due) × (self.now.tail ≡ other.now.tail)) }
+    {
+        self.tail.as_slice() == other.tail.as_slice() && self.due == other.due
     }
 
     /// Makes room: after it `additional` more records can be due, and be appended later, without taking memory.

@@ -8,3 +8,4 @@ pub mod AllDone
 pub mod Waiting
 pub mod Following
 pub mod Refusals
+pub mod Comparing

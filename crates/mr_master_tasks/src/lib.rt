@@ -17,7 +17,7 @@
 //!   kind has a Succeeded attempt. What both tell is kept up where a task takes a call, so nobody looks through all
 //!   tasks.
 //! - `recover_all` enters attempts one after another. One that is of no task of the job changes nothing.
-//! - `copy` gives equal machines.
+//! - `copy` gives equal machines. `is_same` answers whether two hold the same machines at the same places.
 //! - `place_of` is the place of a task of the job, and none of any other.
 //! - Memory may be taken by `new`, `copy`, `asked`, `launched`, `recovered`, `recover` and `recover_all`, and by no other
 //!   call.

@@ -1,5 +1,5 @@
 //! The machines of a master's tasks, by place.
-ghost use Rattle.std.specs.Prelude.{◌≡◌, ◌<◌, ◌+◌, ◌&&◌, not, nat_le, length, true, [], ◌∷◌, Some, ℕ, slice_get, List, None, OnOk, IfOk, IfSome, IfNone, set, vec_len};
+ghost use Rattle.std.specs.Prelude.{◌≡◌, ◌↔◌, ◌<◌, ◌+◌, ◌&&◌, not, nat_le, length, true, [], ◌∷◌, Some, ℕ, slice_get, List, None, OnOk, IfOk, IfSome, IfNone, IsTrue, set, vec_len};
 ghost use Rattle.std.specs.List.{find, list_all};
 ghost use Rattle.std.specs.Option.{is_some, option_copied};
 ghost use Rattle.mr_grant.specs.Attempts.{has};
@@ -68,6 +68,13 @@ impl Tasks {
         )?;
         let progress = Progress::of(alloc, &machines)?;
         Ok(Tasks { machines, progress })
+    }
+
+    /// Whether both have the same machines at the same places. How far the tasks have come is not compared: it follows from the machines.
+    pub fn is_same(&self, other: &Tasks) -> bool
+        ensures { IsTrue result ↔ (self.now ≡ other.now) }
+    {
+        are_same(&self.machines, &other.machines)
     }
 
     /// How many tasks there are.
@@ -236,6 +243,22 @@ impl Tasks {
             None => true,
         }
     }
+}
+
+// Whether the machines are the same, in the same order.
+#[tactic(auto, using(crate::proofs::Comparing::one_more, crate::proofs::Comparing::at_place, crate::proofs::Comparing::all_places))]
+fn are_same(machines: &[TaskMachine], others: &[TaskMachine]) -> bool
+    ensures { IsTrue result ↔ (machines.now ≡ others.now) }
+{
+    if machines.len() != others.len() {
+        return false;
+    }
+    for i in 0..machines.len() {
+        if !machines[i].is_same(&others[i]) {
+            return false;
+        }
+    }
+    true
 }
 
 /// The machine at the place took a call: what is kept of how far the tasks have come follows.

@@ -5,7 +5,11 @@ use Rattle.std.specs.Ordering.{eq_by_cmp, is_eq}
 use Rattle.std.specs.Cmp.{Equal-is, tied_itself, both_ways}
 use Rattle.std.specs.FinSet as set
 use Rattle.mr_ids.specs.Attempt.{Attempt}
+use Rattle.std.specs.Bool.{Decides}
+use Rattle.std.specs.HashSet.{HashSet, hash_set_eq}
+use Rattle.std.proofs.lemmas.Map.Lookups.{hash_set_eq_decides}
 use Rattle.mr_ids.specs.contracts.id.AttemptIdPartialEq.TheImpl.{eq-value}
+use Rattle.mr_ids.specs.contracts.id.AttemptIdEq.TheImpl.Laws.{laws-law}
 use Rattle.mr_ids.proofs.Same.{attempt-is, attempt-itself}
 use Rattle.mr_names.specs.Attempts.{attempt_cmp, attempt_total, attempt_exact}
 
@@ -52,3 +56,11 @@ counted (k ∷ ks) d =
 
     one_more : length ks + 1 ≡ length (k ∷ ks)
     one_more = omega arith
+
+-- `==` of two sets in the code holds exactly where the finite sets are one
+pub same_attempts : {S : Type 0} (s t : HashSet Attempt S) (r : Bool) → r ≡ hash_set_eq eq-value.it s t → Decides r (set.from_list {R = attempt_cmp} s.keys ≡ set.from_list t.keys)
+same_attempts s t r is =
+    let told = hash_set_eq_decides laws-law s t in (
+      λ yes. set.same_set attempt_total attempt_exact _ _ (λ q. sym (has-contains s.keys q) ∙ told.0 (sym is ∙ yes) q ∙ has-contains t.keys q),
+      λ same. is ∙ told.1 (λ q. has-contains s.keys q ∙ ap (λ x. set.contains x q) same ∙ sym (has-contains t.keys q)),
+    )

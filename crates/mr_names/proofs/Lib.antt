@@ -1,3 +1,4 @@
+pub mod Comparing
 pub mod BarredSets
 pub mod CallLaws
 pub mod CallerLaws

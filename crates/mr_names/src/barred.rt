@@ -1,5 +1,5 @@
 //! The attempts that are barred, as the namespace keeps them: every call of theirs is refused.
-ghost use Rattle.std.specs.Prelude.{◌≡◌, IfOk, OnOk, OnErr, ◌<◌, ◌^◌, false};
+ghost use Rattle.std.specs.Prelude.{◌≡◌, ◌↔◌, IsTrue, IfOk, OnOk, OnErr, ◌<◌, ◌^◌, false};
 ghost use Rattle.std.specs.FinSet as set;
 ghost use Rattle.mr_names.specs.Barred.{bars};
 
@@ -41,6 +41,13 @@ impl Barred {
         Ok(Barred {
             attempts: self.attempts.clone()?,
         })
+    }
+
+    /// Whether both have the same attempts. It takes no memory.
+    pub fn is_same(&self, other: &Barred) -> bool
+        ensures { IsTrue result ↔ (self.now ≡ other.now) }
+    {
+        self.attempts == other.attempts
     }
 
     pub fn contains(&self, a: AttemptId) -> bool

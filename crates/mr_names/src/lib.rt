@@ -37,7 +37,7 @@
 //! - the barred attempts are a finite set, kept for good: `bar` adds one and changes no content, and nothing takes one
 //!   out. Of one that is there a `bar` wants no memory and does nothing (clause `there`);
 //! - memory may be taken by `mkdirs`, `create`, `append`, `rename`, `list`, `read`, `bar` and `perform` of these, and
-//!   by `Namespace::new`, `walk` and the copies. No other call takes any. So `raise`, `fence`, `foresee`,
+//!   by `Namespace::new`, `walk`, `is_same` and the copies. No other call takes any. So `raise`, `fence`, `foresee`,
 //!   `check_caller`, `exists`, `close`, `delete` never answer `NoMemory` (nor does `perform` of the last three: its
 //!   clause `always`);
 //! - each namespace's content is a tree: the root is a directory, and so is the parent of each other entry. It has at
@@ -47,6 +47,9 @@
 //! `Op::copy` gives an equal call. `Namespace::copy` gives a namespace of its own with the same content, fence and
 //! barred attempts. Both refuse for want of memory alone. `NameFault::wants_memory` takes a fault of such a call: it is
 //! proved that there is no other.
+//!
+//! `Namespace::is_same` tells whether two namespaces have the same content, fence and barred attempts, and refuses for
+//! want of memory alone.
 //!
 //! Laws that follow from the definition alone stand on functions with empty bodies:
 //! - what each path holds after each call that is answered (`each_path`);

@@ -1,5 +1,5 @@
 //! The namespace as its callers see it: each call, and its refusals in their order, with the fence and the barred attempts. What stands where is kept in a `Tree` of mr_names_tree.
-ghost use Rattle.std.specs.Prelude.{IsOkUnless, ◌≡◌, ◌+◌, ℕ, [], ◌∷◌, ◌++◌, IfOk, OnOk, OnErr, length, nat_lt, ◌<◌, ◌^◌, if◌then◌else◌, Some, None, true, false};
+ghost use Rattle.std.specs.Prelude.{IsOkUnless, IsTrue, ◌≡◌, ◌↔◌, ◌+◌, ℕ, [], ◌∷◌, ◌++◌, IfOk, OnOk, OnErr, length, nat_lt, ◌<◌, ◌^◌, if◌then◌else◌, Some, None, true, false};
 ghost use Rattle.mr_names_tree.specs.Walk.{walk};
 ghost use Rattle.mr_names.specs.Calls.{State, IsSound, opening, raised, Makes, MakesAlways, Refuses, unheard, refused, entry_count, may_want_memory};
 
@@ -87,6 +87,21 @@ impl Namespace {
             barred: self.barred.copy()?,
             alloc: self.alloc,
         })
+    }
+
+    /// Whether both hold the same: the content, the fence and the barred attempts. It takes memory for a walk through
+    /// one, where both have the same fence, as many entries and the same barred attempts.
+    pub fn is_same(&self, other: &Namespace) -> Result<bool, AllocError>
+        ensures { IfOk result (λ same. IsTrue same ↔ (self.now ≡ other.now)) }
+    {
+        if self.fence != other.fence {
+            return Ok(false);
+        }
+        if !self.barred.is_same(&other.barred) {
+            return Ok(false);
+        }
+        let same = self.tree.is_same(self.alloc, &other.tree)?;
+        Ok(same)
     }
 
     /// The generation below which no caller is heard: 0 at first, and never above 1,000, so that a caller of

@@ -1,4 +1,5 @@
 pub mod Beneath
+pub mod Comparing
 pub mod ContentLaws
 pub mod Copying
 pub mod Counting

@@ -13,7 +13,8 @@
 //! - it fails by an allocation failure alone, and then nothing has changed: `make_dirs` makes all or none, and `rename`
 //!   moves the whole subtree or nothing;
 //! - `take_out`, `close`, `get`, `len` and `missing` take no memory;
-//! - a copy (`Tree::copy`) holds the same content.
+//! - a copy (`Tree::copy`) holds the same content, and `Tree::is_same` tells whether two trees do: which path has which
+//!   entry, and of files the bytes and whether they are closed.
 //!
 //! `rename`, `insert`, `take_out` and `missing` ask something of the content, by a `requires`: `MayRename`, a path where
 //! nothing is beneath one where something is, a path that is not the root, and a tree (`IsTree`). Whether a call is

@@ -1,5 +1,5 @@
 //! The directories and files of a namespace by their paths, as a tree in memory. It knows no callers, and fails by an allocation failure alone.
-ghost use Rattle.std.specs.Prelude.{◌≡◌, ◌+◌, ℕ, [], ◌∷◌, ◌++◌, IfOk, OnOk, OnErr, length, nat_lt, ◌<◌, ◌≤◌, ◌^◌, Some, None, is_some, true, false, IsTrue, take, drop, filter};
+ghost use Rattle.std.specs.Prelude.{◌≡◌, ◌↔◌, ◌+◌, ℕ, All, [], ◌∷◌, ◌++◌, IfOk, OnOk, OnErr, length, nat_lt, ◌<◌, ◌≤◌, ◌^◌, Some, None, is_some, true, false, IsTrue, take, drop, filter};
 ghost use Rattle.std.specs.Prelude.{map as list_map};
 ghost use Rattle.std.specs.FinMap as map;
 ghost use Rattle.std.specs.Option.{option_copied};
@@ -191,6 +191,39 @@ impl Tree {
             nodes,
             root: self.root,
         })
+    }
+
+    /// Whether both hold the same: the same paths, and at each the same directory or file. It takes memory for a walk
+    /// through one, where both have as many entries.
+    pub fn is_same(&self, alloc: Global, other: &Tree) -> Result<bool, AllocError>
+        ensures { IfOk result (λ same. IsTrue same ↔ (self.now ≡ other.now)) }
+    {
+        if self.len() != other.len() {
+            return Ok(false);
+        }
+        let found = self.walk(alloc)?;
+        Ok(self.are_alike(other, found.as_slice()))
+    }
+
+    // Whether both hold the same at each path that was found.
+    fn are_alike(&self, other: &Tree, found: &[Found]) -> bool
+        ensures { IsTrue result ↔ All (λ f. map.get self.now f.path ≡ map.get other.now f.path) found.now }
+    {
+        found.iter().all(|it| self.is_alike(other, it.path.names()))
+    }
+
+    // Whether both hold the same at a path.
+    #[tactic(auto, using(crate::proofs::Comparing::nodes_decide))]
+    fn is_alike(&self, other: &Tree, names: &[Name]) -> bool
+        ensures { IsTrue result ↔ (map.get self.now names.now ≡ map.get other.now names.now) }
+    {
+        match self.get(names) {
+            None => other.get(names).is_none(),
+            Some(node) => match other.get(names) {
+                None => false,
+                Some(beside) => node == beside,
+            },
+        }
     }
 
     /// Adds bytes at the end of a file.

@@ -1,5 +1,5 @@
 //! The machine of a node: which containers it launched or was asked to kill, the map outputs on its shelf, and what it does for a packet. For whoever runs nodes.
-ghost use Rattle.std.specs.Prelude.{◌≡◌, ◌<◌, ◌≤◌, ◌+◌, [], ◌∷◌, IfOk, OnOk, OnErr, length, take, drop, Bool, false};
+ghost use Rattle.std.specs.Prelude.{◌≡◌, ◌↔◌, ◌<◌, ◌≤◌, ◌+◌, [], ◌∷◌, IfOk, OnOk, OnErr, IsTrue, length, take, drop, Bool, false};
 ghost use Rattle.mr_node.specs.Past.{Hears, Shelves, Ends, Restarts};
 ghost use Rattle.mr_ids.specs.Attempt.{Attempt};
 ghost use Rattle.mr_ids.specs.declared.id.TaskId.{TaskId};
@@ -333,6 +333,18 @@ impl NodeMachine {
             known: self.known.copy()?,
             shelf: self.shelf.copy()?,
         })
+    }
+
+    /// Whether both hold the same: the number, the incarnation, the containers that they know, in their order of
+    /// arrival, and what lies on the shelf.
+    #[tactic(auto, using(crate::proofs::Comparing::shelves_left, crate::proofs::Comparing::other_number, crate::proofs::Comparing::other_incarnation))]
+    pub fn is_same(&self, other: &NodeMachine) -> bool
+        ensures { IsTrue result ↔ (self.now ≡ other.now) }
+    {
+        self.number == other.number
+            && self.incarnation == other.incarnation
+            && self.known.is_same(&other.known)
+            && self.shelf.is_same(&other.shelf)
     }
 }
 

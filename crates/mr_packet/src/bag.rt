@@ -1,5 +1,5 @@
 //! The bag: all packets that were ever sent, which stands for a network that loses, repeats and reorders them.
-ghost use Rattle.std.specs.Prelude.{◌≡◌, ◌≤◌, ◌<◌, ◌+◌, ◌++◌, [], ◌∷◌, length, IfOk, OnOk, OnErr, IfErr, IsOkUnless, slice_get};
+ghost use Rattle.std.specs.Prelude.{◌≡◌, ◌↔◌, ◌≤◌, ◌<◌, ◌+◌, ◌++◌, [], ◌∷◌, drop, length, IfOk, OnOk, OnErr, IfErr, IsOkUnless, IsTrue, slice_get};
 ghost use Rattle.std.specs.Option.{option_copied};
 
 use crate::fault::BagFault;
@@ -111,5 +111,25 @@ impl Bag {
         ensures { result.now ≡ self.now.packets }
     {
         self.packets.as_slice()
+    }
+
+    /// Whether the packets from one place on are those of another bag from another place on, in the same order. Past the last packet there are none.
+    #[tactic(auto, using(crate::proofs::Comparing::envelopes_decide))]
+    pub fn is_same_from(&self, place: usize, other: &Bag, other_place: usize) -> bool
+        ensures { IsTrue result ↔ (drop place self.now.packets ≡ drop other_place other.now.packets) }
+    {
+        behind(&self.packets, place) == behind(&other.packets, other_place)
+    }
+}
+
+// The packets from a place on.
+#[tactic(auto, using(crate::proofs::Comparing::none_behind))]
+fn behind(packets: &[Envelope], place: usize) -> &[Envelope]
+    ensures { result.now ≡ drop place packets.now }
+{
+    if place < packets.len() {
+        &packets[place..]
+    } else {
+        &packets[packets.len()..]
     }
 }

@@ -29,7 +29,7 @@ pub enum Address {
 /// The packets between a container and its master restate the calls of Hadoop's umbilical protocol (commit pending, can
 /// commit, done, failed). Those to and from a node restate its container launcher and shuffle handler. Incarnations,
 /// offsets and the recorded length are this project's profile.
-#[derive(Clone, Drop)]
+#[derive(Clone, PartialEq, Eq, Drop)]
 pub enum Packet {
     /// To a node: the container is to run the attempt, in this incarnation of the node.
     Launch {
@@ -132,7 +132,7 @@ impl Packet {
 }
 
 /// A packet and to whom it goes.
-#[derive(Drop)]
+#[derive(PartialEq, Eq, Drop)]
 pub struct Envelope {
     pub to: Address,
     pub body: Packet,

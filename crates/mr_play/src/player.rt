@@ -72,6 +72,27 @@ impl Player {
         })
     }
 
+    /// How many packets of the bag the calms have delivered or passed over.
+    pub fn cursor(&self) -> usize
+        ensures { result ≡ (state_in self.now).cursor }
+    {
+        self.cursor
+    }
+
+    /// The packets that no calm delivers, since the script dropped them, by their places in the bag.
+    pub fn dropped(&self) -> &BTreeSet<u64>
+        ensures { result.now.keys ≡ (state_in self.now).dropped }
+    {
+        &self.dropped
+    }
+
+    /// The container that a calm or the script stepped last.
+    pub fn stepped(&self) -> Option<ContainerId>
+        ensures { result ≡ (state_in self.now).stepped }
+    {
+        self.stepped
+    }
+
     /// Plays commands in turn, each with the number of its line, and notes which events each made.
     pub(crate) fn play(
         &mut self,

@@ -1,7 +1,12 @@
 -- The shelf's entries, seen as a finite map by attempts.
-use Rattle.std.proofs.Common.{◌≡◌, ℕ, Bool, true, false, cond, List, [], ◌∷◌, Some, None, refl, sym, ap, subst, ◌∙◌}
+use Rattle.std.proofs.Common.{◌≡◌, ◌↔◌, ℕ, Bool, true, false, cond, List, [], ◌∷◌, Some, None, IsTrue, nat_eq, refl, sym, ap, subst, ◌∙◌, rules}
+use Rattle.std.proofs.lemmas.Bool.{true≢false}
 use Rattle.std.proofs.lemmas.Cmp.{nat_list_cmp_total, tied_itself}
-use Rattle.std.specs.Cmp.{IsTotalOrder}
+use Rattle.std.proofs.lemmas.Map.Lookups.{hash_map_eq-Decides}
+use Rattle.std.proofs.lemmas.Slice.Eq.{slice_eq-Decides}
+use Rattle.std.specs.Bool.{Decides}
+use Rattle.std.specs.Cmp.{IsEquivalence, IsTotalOrder}
+use Rattle.std.specs.Cmp.Lexicographic.{pointwise}
 use Rattle.std.specs.FinMap as finite
 use Rattle.std.specs.FinMap.Entries.{find}
 use Rattle.std.specs.List.{slice_get}
@@ -10,13 +15,14 @@ use Rattle.std.specs.Option.{option_and_then}
 use Rattle.std.specs.Ordering.{eq_by_cmp, is_eq}
 use Rattle.std.specs.declared.cmp.Ordering.{Ordering}
 use Rattle.std.specs.declared.cmp.Ordering.TheVariants.{Less, Equal, Greater}
+use Rattle.indexmap.specs.IndexMap.{IndexMap, get, index_map_eq}
 use Rattle.mr_ids.specs.Attempt.{Attempt}
 use Rattle.mr_ids.specs.declared.id.TaskKind.{TaskKind}
 use Rattle.mr_ids.specs.declared.id.TaskKind.TheVariants.{Map, Reduce}
 use Rattle.mr_ids.specs.contracts.id.AttemptIdPartialEq.TheImpl.{eq-value}
 use Rattle.mr_ids.proofs.Same.{attempt-is, attempt-itself}
 use Rattle.mr_mapside.specs.Cutting.{cut}
-use Rattle.mr_shuffle.specs.Shelf.{kind_number, numbers_of, attempt_cmp, AttemptsAreApart, Outputs, block_there}
+use Rattle.mr_shuffle.specs.Shelf.{Shelf, kind_number, numbers_of, attempt_cmp, AttemptsAreApart, Outputs, block_there}
 
 -- the order of the numbers, at attempts
 attempt_order : IsTotalOrder attempt_cmp
@@ -97,3 +103,42 @@ nothing_there es reduces a reduce none = ap (option_and_then (λ bytes. option_a
 pub something_there : (es : List (Attempt × List ℕ)) (reduces : ℕ) (a : Attempt) (reduce : ℕ) (bytes : List ℕ) → Some bytes ≡ lookup (eq-value.it a) es →
     option_and_then (λ blocks. slice_get blocks reduce) (cut reduces bytes) ≡ block_there (record { reduces = reduces; outputs = finite.from_entries es }) a reduce
 something_there es reduces a reduce bytes some = ap (option_and_then (λ bytes. option_and_then (λ blocks. slice_get blocks reduce) (cut reduces bytes))) (some ∙ output_at es a)
+
+-- ---- shelves that hold the same
+
+eq_equiv : IsEquivalence eq-value.it
+eq_equiv = record {
+  refl = attempt-itself;
+  symm = λ a b. eq_is a b ∙ (swapped a b ∙ sym (eq_is b a));
+  congr = λ a b c e. ap (λ (x : Attempt). eq-value.it x c) (attempt-is a b e);
+}
+
+numbers-decide : (a b : ℕ) → Decides (nat_eq a b) (a ≡ b)
+numbers-decide = search (rules)
+
+bytes-decide : (a b : List ℕ) → Decides (pointwise nat_eq a b) (a ≡ b)
+bytes-decide a b = slice_eq-Decides numbers-decide a b _ refl
+
+-- what `==` of two maps of outputs answers
+outputs-decide : {S : Type 0} (m n : IndexMap Attempt (List ℕ) S) (r : Bool) → r ≡ index_map_eq eq-value.it (pointwise nat_eq) m n
+    → Decides r (◌≡◌ {A = Outputs} (finite.from_entries m.entries) (finite.from_entries n.entries))
+outputs-decide m n r is =
+    let told : Decides r ((q : Attempt) → get eq-value.it m q ≡ get eq-value.it n q) = hash_map_eq-Decides eq_equiv bytes-decide m n r is in (
+      λ yes. finite.same_map attempt_order attempt_exact _ _ (λ q. sym (output_at m.entries q) ∙ (told.0 yes q ∙ output_at n.entries q)),
+      λ same. told.1 (λ q. output_at m.entries q ∙ (ap (λ (o : Outputs). finite.get o q) same ∙ sym (output_at n.entries q))),
+    )
+
+abbrev shelf_of : ℕ → Outputs → Shelf
+shelf_of reduces outputs = record { reduces = reduces; outputs = outputs }
+
+-- and of two shelves that are cut for as many reduces
+pub shelves_decide : {S : Type 0} (s t : Shelf) (k l : ℕ) (m n : IndexMap Attempt (List ℕ) S) (r : Bool) → shelf_of k (finite.from_entries m.entries) ≡ s → shelf_of l (finite.from_entries n.entries) ≡ t → k ≡ l → r ≡ index_map_eq eq-value.it (pointwise nat_eq) m n → Decides r (s ≡ t)
+shelves_decide s t k l m n r a b counts is =
+    let told = outputs-decide m n r is in (
+      λ yes. sym a ∙ ((λ i. shelf_of (counts i) (told.0 yes i)) ∙ b),
+      λ same. told.1 (ap (λ (x : Shelf). x.outputs) (a ∙ (same ∙ sym b))),
+    )
+
+-- shelves that are cut for others are not the same
+pub other_counts : (s t : Shelf) (k l : ℕ) (o p : Outputs) → shelf_of k o ≡ s → shelf_of l p ≡ t → (k ≡ l → ⊥) → IsTrue false ↔ (s ≡ t)
+other_counts s t k l o p a b differ = (λ no. absurd (true≢false (sym no)), λ same. absurd (differ (ap (λ (x : Shelf). x.reduces) (a ∙ (same ∙ sym b)))))

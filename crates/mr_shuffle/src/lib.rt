@@ -56,6 +56,8 @@
 //!   there is no such reduce.
 //! - `put` finds the blocks, in one walk over the output, and keeps their places (8 bytes a block, a growth that
 //!   `put` answers for). `get` is then a look-up and no walk (read in the code: no clause speaks of time).
+//! - `is_same` of two shelves is true exactly where they are for as many reduces and have the same bytes of each
+//!   attempt, in whatever order these were put.
 //! - `share(a, r)` answers the block that `get` lends, as bytes of its own, and refuses for want of memory alone.
 //!   Read in the code, not proved: where `put` had memory for it, they share those of the output, and no byte is
 //!   copied.

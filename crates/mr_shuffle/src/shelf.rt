@@ -1,5 +1,5 @@
 //! The map outputs that lie on a node.
-ghost use Rattle.std.specs.Prelude.{◌≡◌, OnOk, OnErr, IfOk};
+ghost use Rattle.std.specs.Prelude.{◌≡◌, ◌↔◌, OnOk, OnErr, IfOk, IsTrue};
 ghost use Rattle.std.specs.Option.{option_map};
 ghost use Rattle.mr_shuffle.specs.Shelf.{with_output, without_outputs, block_there};
 
@@ -77,6 +77,18 @@ impl ShelfOfNode {
             reduces: self.reduces,
             outputs: self.outputs.clone()?,
         })
+    }
+
+    /// Whether both hold the same: outputs for as many reduces, and of each attempt the same bytes. In which order the
+    /// outputs were put is not compared.
+    #[tactic(auto, using(crate::proofs::Shelves::other_counts))]
+    pub fn is_same(&self, other: &ShelfOfNode) -> bool
+        ensures { IsTrue result ↔ (self.now ≡ other.now) }
+    {
+        if self.reduces != other.reduces {
+            return false;
+        }
+        self.outputs == other.outputs
     }
 
     /// Drops all outputs, as a node that restarts.

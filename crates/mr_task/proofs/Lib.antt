@@ -2,6 +2,7 @@ pub mod Arrivals
 pub mod Asking
 pub mod Bits
 pub mod Changes
+pub mod Comparing
 pub mod Failing
 pub mod Growth
 pub mod Keeps

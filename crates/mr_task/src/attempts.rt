@@ -1,5 +1,5 @@
 //! The attempts at one task in order of arrival. This is the only place that knows the map.
-ghost use Rattle.std.specs.Prelude.{◌≡◌, ◌<◌, ◌≤◌, ◌+◌, ◌++◌, [], ◌∷◌, Some, None, false, OnOk, OnErr, IfOk, length, count_by, slice_get};
+ghost use Rattle.std.specs.Prelude.{◌≡◌, ◌↔◌, ◌<◌, ◌≤◌, ◌+◌, ◌++◌, [], ◌∷◌, Some, None, false, OnOk, OnErr, IfOk, IsTrue, length, count_by, slice_get};
 ghost use Rattle.std.specs.List.{list_any, find, position};
 ghost use Rattle.std.specs.Map.{keys_of};
 ghost use Rattle.std.specs.Option.{option_map};
@@ -66,6 +66,14 @@ impl Attempts {
         Ok(Attempts {
             entries: self.entries.clone()?,
         })
+    }
+
+    // Whether the same is kept of the same attempts, in the same order.
+    #[tactic(auto, using(crate::proofs::Comparing::kept_decide))]
+    pub fn is_same(&self, other: &Attempts) -> bool
+        ensures { IsTrue result ↔ (self.now ≡ other.now) }
+    {
+        self.entries.as_slice() == other.entries.as_slice()
     }
 
     pub fn get(&self, attempt: &AttemptId) -> Option<Entry>

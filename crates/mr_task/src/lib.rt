@@ -38,7 +38,8 @@
 //! - `done(a)` is `Unknown`, `Again`, `Accepted` or `Ignored` as the readings say. `done_reply(a)` finds the same
 //!   without a change, and `report(a, reply)` is `done(a)` without finding it again. `state`, `winner`, `failures`,
 //!   `is_won`, `numbered`, `arrived` are readings;
-//! - memory may be taken by `launch`, `pending`, `recovered` and `copy`, and by no other call; `copy` is equal.
+//! - memory may be taken by `launch`, `pending`, `recovered` and `copy`, and by no other call; `copy` is equal;
+//! - `is_same` answers whether two machines store the same.
 //!
 //! Laws, on functions that do nothing, over the readings of every list of calls:
 //! - the name moves only when the named attempt is over, and once `Done` of a reduce's named attempt was heard not at

@@ -1,5 +1,5 @@
 //! The machine of one task under one master: its attempts, which of them may commit, which was accepted, how many failed. A master keeps one for each task.
-ghost use Rattle.std.specs.Prelude.{◌≡◌, ◌≤◌, ◌<◌, ◌+◌, [], ◌∷◌, length, if◌then◌else◌, true, false, Some, None, Ok, Err, IfOk, OnOk, OnErr, IfErr, IfNone, IsOkUnless, unwrap_or, not};
+ghost use Rattle.std.specs.Prelude.{◌≡◌, ◌↔◌, ◌≤◌, ◌<◌, ◌+◌, [], ◌∷◌, length, if◌then◌else◌, true, false, Some, None, Ok, Err, IfOk, OnOk, OnErr, IfErr, IfNone, IsOkUnless, IsTrue, unwrap_or, not};
 ghost use Rattle.mr_attempt.specs.Table.{is_live};
 ghost use Rattle.mr_grant.specs.Attempts.{has, is_first};
 ghost use Rattle.mr_task.specs.Calls.{Launches, Hears, Asks, Reports, Fails, Ends, Dies, Records, Recovers, Loses};
@@ -95,6 +95,18 @@ impl TaskMachine {
             grant: self.grant.copy()?,
             numbered: self.numbered,
         })
+    }
+
+    /// Whether both hold the same: they are of one task and one generation, and the attempts, the askers and the numbers are the same.
+    #[tactic(auto, using(crate::proofs::Comparing::tasks_decide))]
+    pub fn is_same(&self, other: &TaskMachine) -> bool
+        ensures { IsTrue result ↔ (self.now ≡ other.now) }
+    {
+        self.numbered == other.numbered
+            && self.task == other.task
+            && self.app == other.app
+            && self.grant.is_same(&other.grant)
+            && self.attempts.is_same(&other.attempts)
     }
 
     /// A lemma, which does nothing: each machine stands for some calls. It tells a caller's proof the type's invariant.

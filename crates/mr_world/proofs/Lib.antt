@@ -10,3 +10,4 @@ pub mod Headlines
 pub mod Happening
 pub mod Looking
 pub mod Repeating
+pub mod Comparing

@@ -85,6 +85,8 @@
 //!   `mr_world_files::jobs_have_their_laws` holds of each world;
 //! - `World::copy` gives a world of its own with the same config and the same journal, from where it goes on by itself.
 //!   It refuses for want of memory alone;
+//! - `World::is_alike` answers true only of worlds that are alike (`Alike` of mr_world_alike): from there the same
+//!   events lead both to the same ends. `launches` tells how many containers were launched;
 //! - `apply` refuses an event with the first reason why it is not permitted, else `Full` where it would pass a limit,
 //!   else `NoMemory`. Then nothing has changed. Else the event is the journal's last, the world after it is the
 //!   definitions', and the packets that it added are told (`Applies`);
@@ -107,8 +109,8 @@
 //!   (`repeats`, by `CanFollow`);
 //! - `asks` tells the store call that an event would make now, by whom, and what its caller would hear
 //!   (`specs/Asks`);
-//! - memory may be taken by `World::new`, `World::copy`, `Config::copy`, `apply`, `foresee` and `run`, and by `winner`, `winners`,
-//!   `marker`, `visible`, `duty`, `living` and `asks`. No other call takes any. Where a call can be refused nothing but
+//! - memory may be taken by `World::new`, `World::copy`, `World::is_alike`, `Config::copy`, `apply`, `foresee` and `run`,
+//!   and by `winner`, `winners`, `marker`, `visible`, `duty`, `living` and `asks`. No other call takes any. Where a call can be refused nothing but
 //!   memory, `WorldFault::wants_memory` takes its fault: it is proved to be that.
 //!
 //! A world's invariant is that its parts (`Parts`) *stand for* the world of its journal (`specs/Standing`): one
@@ -124,6 +126,7 @@
 //! A master is told what a store answers, a refusal too; only where a store is full the whole event is refused.
 #![tactic(auto)]
 
+mod alike;
 mod copy;
 mod happen;
 mod inputs;

@@ -1,8 +1,9 @@
 //! The world as programs see it: events are applied to it, its journal keeps them, and all that it tells is read here.
-ghost use Rattle.std.specs.Prelude.{◌≡◌, ◌≤◌, ◌<◌, [], IfOk, IfErr, map, slice_get};
+ghost use Rattle.std.specs.Prelude.{◌≡◌, ◌≤◌, ◌<◌, [], IfOk, IfErr, IsTrue, map, slice_get};
 ghost use Rattle.std.specs.List.{range_with_len};
 ghost use Rattle.std.specs.Option.{option_map};
 ghost use Rattle.mr_history.specs.Reading.{records_of};
+ghost use Rattle.mr_world_alike.specs.Alike.{Alike};
 ghost use Rattle.mr_world_model.specs.Ids.{marker, reduce_of};
 ghost use Rattle.mr_world_model.specs.Content.{entry_at, is_file};
 ghost use Rattle.mr_world_model.specs.World.{Compute};
@@ -15,10 +16,12 @@ ghost use Rattle.mr_world.specs.Asks.{asked_in};
 ghost use Rattle.mr_world.specs.Headline.{HeadlineHolds};
 ghost use Rattle.mr_world.specs.Histories.{stable_bytes};
 ghost use Rattle.mr_world.specs.Journal.{history_in, world_in};
+ghost use Rattle.mr_world.specs.Limits.{launch_count};
 ghost use Rattle.mr_world.specs.Readings.{as_input, due_in, input_in, living, next_living, phase_in, place_in, unflushed_in, wanted_in, wish_in};
 ghost use Rattle.mr_world.specs.Repeating.{CanFollow};
 ghost use Rattle.mr_world.specs.VisibleFiles.{as_pair};
 
+use crate::alike::{are_alike, launches};
 use crate::copy::copy_events;
 use crate::happen::{foresee, foresee_computed, make_room, take};
 use crate::inputs::{Input, input_of, place, wish};
@@ -326,6 +329,26 @@ impl World {
         ensures { option_map as_input result ≡ input_in self.now.config (world_in self.now) c.now }
     {
         input_of(&self.parts, c)
+    }
+}
+
+// What programs read of worlds that go on as others do
+impl World {
+    /// Whether this world and another were found to be alike: then the same events lead both to the same ends. What
+    /// was sent is not compared, but for the outcome, nor how the worlds came there. Its only fault is an allocation
+    /// failure.
+    pub fn is_alike(&self, other: &World) -> Result<bool, WorldFault>
+        ensures alike { IfOk result (λ alike. IsTrue alike → Alike self.now.config (world_in self.now) (world_in other.now)) }
+        ensures memory { IfErr result (λ fault. fault ≡ WorldFault.NoMemory) }
+    {
+        are_alike(&self.parts, &other.parts)
+    }
+
+    /// How many containers were launched.
+    pub fn launches(&self) -> u32
+        ensures { result ≡ launch_count (world_in self.now) }
+    {
+        launches(&self.parts)
     }
 }
 

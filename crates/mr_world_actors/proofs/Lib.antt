@@ -5,3 +5,4 @@ pub mod Living_next
 pub mod Ends
 pub mod Replying
 pub mod Copying
+pub mod Comparing

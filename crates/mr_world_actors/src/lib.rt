@@ -10,6 +10,8 @@
 //!   that no node has, nothing changes.
 //! - `Living::end_on` ends the containers that were launched on a node, and no other.
 //! - `Living::copy` and `Nodes::copy` keep an equal machine of each container and each node, and of no other.
+//! - `Living::is_same` and `Nodes::is_same` are true exactly where both hold the same machine of each container or node,
+//!   and of no other.
 //! - Memory may be taken by `Living::insert`, `Living::hear`, `Living::all`, `Nodes::new`, `Nodes::put`, `Nodes::hear`
 //!   and the copies. No other call takes any.
 //! - `Living::all` lists who lives, by generation, then number; `Living::next` is the next one after another, in cyclic order.

@@ -1,5 +1,5 @@
 //! The machines of the containers that are alive, in order of the containers, and what each of them hears, sends or computes.
-ghost use Rattle.std.specs.Prelude.{◌≡◌, None, Some, is_some, IfOk, IfSome, OnOk, OnErr, List, ℕ, filter, slice_get};
+ghost use Rattle.std.specs.Prelude.{◌≡◌, ◌↔◌, None, Some, is_some, IfOk, IfSome, IsTrue, OnOk, OnErr, List, ℕ, filter, slice_get};
 ghost use Rattle.std.specs.List.Sorted.{IsStrictlySortedBy};
 ghost use Rattle.std.specs.Option.{option_copied};
 ghost use Rattle.mr_packet.specs.declared.packet.Packet.{Packet};
@@ -48,6 +48,16 @@ impl Living {
         Ok(Living {
             machines: self.machines.clone()?,
         })
+    }
+
+    /// Whether the same containers live in both, and the machines of each hold the same.
+    pub fn is_same(&self, other: &Living) -> bool
+        ensures { IsTrue result ↔ ((c : ContainerId) → kept self.now c ≡ kept other.now c) }
+    {
+        if self.machines.len() != other.machines.len() {
+            return false;
+        }
+        self.machines == other.machines
     }
 
     /// The machine of a container, if it lives.

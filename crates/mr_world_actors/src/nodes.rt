@@ -1,5 +1,5 @@
 //! The machines of all nodes, by number.
-ghost use Rattle.std.specs.Prelude.{◌≡◌, ℕ, None, Some, is_some, IfOk, IfSome, OnOk, OnErr, ◌<◌, ◌-◌, ◌^◌, nat_lt, if◌then◌else◌};
+ghost use Rattle.std.specs.Prelude.{◌≡◌, ◌↔◌, ℕ, None, Some, is_some, IfOk, IfSome, IsTrue, OnOk, OnErr, ◌<◌, ◌-◌, ◌^◌, nat_lt, if◌then◌else◌};
 ghost use Rattle.std.specs.Option.{option_copied};
 ghost use Rattle.mr_node.specs.Readings.{opening, reaction};
 ghost use Rattle.mr_node.specs.Past.{Hears, Restarts, Shelves};
@@ -40,6 +40,13 @@ impl Nodes {
             machines.push(machine.copy()?)?;
         }
         Ok(Nodes { machines })
+    }
+
+    /// Whether there are the same nodes in both, and the machines of each hold the same.
+    pub fn is_same(&self, other: &Nodes) -> bool
+        ensures { IsTrue result ↔ ((n : ℕ) → node_of self.now n ≡ node_of other.now n) }
+    {
+        are_same(&self.machines, &other.machines)
     }
 
     /// The machine of a node, if there is one of this number.
@@ -96,6 +103,22 @@ impl Nodes {
             machine.restart();
         }
     }
+}
+
+// Whether two lists of machines are the same.
+#[tactic(auto, using(crate::proofs::Comparing::one_more, crate::proofs::Comparing::one_differs))]
+fn are_same(these: &[NodeMachine], those: &[NodeMachine]) -> bool
+    ensures { IsTrue result ↔ (these.now ≡ those.now) }
+{
+    if these.len() != those.len() {
+        return false;
+    }
+    for i in 0..these.len() {
+        if !these[i].is_same(&those[i]) {
+            return false;
+        }
+    }
+    true
 }
 
 // Whether a node would answer a packet with one. It answers whoever asks it to kill or to send. It answers a launch for another

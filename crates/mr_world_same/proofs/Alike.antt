@@ -27,13 +27,14 @@ use Rattle.mr_master_refinement.specs.Steps.{setting, steps}
 use Rattle.mr_master_refinement.specs.Agreement.{machine_seen}
 use Rattle.mr_world_alike.specs.Masters.{OneTask, SameMasters}
 use Rattle.mr_world_alike.specs.Alike.{OneContainer, OneNode}
+use Rattle.mr_world_state.specs.mr_master.specs.Same.{SameMachines}
 use Rattle.mr_world_state.specs.mr_master.specs.State.{Master, StandsFor}
 use Rattle.mr_world_state.specs.mr_world_actors.specs.Living.{kept}
 use Rattle.mr_world_state.specs.mr_world_actors.specs.Nodes.{node_of}
 use Rattle.mr_world_state.specs.declared.parts.Parts.{Parts}
-use Rattle.mr_world_state.specs.Machines.{master_of}
+use Rattle.mr_world_state.specs.Machines.{master_of, SameMaster}
 use Rattle.mr_world_state.specs.Standing.{Standing}
-use Rattle.mr_world_same.specs.Same.{SameMachines, SameMaster, SameParts, WhatIsSameIsAlike}
+use Rattle.mr_world_same.specs.Same.{SameParts, WhatIsSameIsAlike}
 
 -- ---- masters
 

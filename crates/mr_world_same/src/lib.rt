@@ -7,17 +7,12 @@
 //! that the parts stand for are alike (`what_is_same_is_alike`), so the same events lead both to the same ends (mr_world_alike). There is no code
 //! in this crate.
 //!
-//! # What code has to compare
+//! # What compares them
 //!
-//! A comparison beside each `copy` of a world (54 functions of some 580 lines), which answers true only where the values are equal:
-//!
-//! - **stores**: the tree (mr_names_tree: the nodes by their paths, with the bytes of files), fence and bars (mr_names), segments (mr_history);
-//! - **masters**: `Work` (mr_master_phase; with it the calls that are left of a `Step` and of a `RecoverTask`, mr_commit), the machines of tasks (mr_task,
-//!   mr_attempt, mr_grant; what mr_master_tasks marks follows from them), and launches, nodes, earlier records, what is to be written, and bars
-//!   (mr_master_tables);
-//! - **containers** (mr_container): place, wish, fetched blocks and bytes;
-//! - **nodes** (mr_node, mr_shuffle, mr_mapside): incarnation, which containers are known, and the shelf;
-//! - **bags** (`SamePackets` of mr_world_alike): what lies behind the cursor, and which envelopes were delivered; and the outcome.
+//! `Parts::is_same` of mr_world_state, which answers true exactly where `SameParts` holds. It stands on an `is_same`
+//! beside each `copy` of a part: of stores (mr_names_tree, mr_names, mr_history), masters (mr_commit, mr_attempt, mr_grant, mr_task, and the crates
+//! mr_master_tables to mr_master), containers and nodes (mr_mapside, mr_shuffle, mr_node, mr_container, mr_world_actors). `World::is_alike` of mr_world
+//! compares the outcome too. Bags are compared apart (`SamePackets` of mr_world_alike).
 #![tactic(auto)]
 
 ghost use Rattle.mr_world_same.specs.Same.{WhatIsSameIsAlike};

@@ -28,3 +28,5 @@ pub mod Asking
 pub mod Histories
 pub mod Looking
 pub mod Copying
+pub mod Comparing
+pub mod Same_parts

@@ -10,3 +10,4 @@ pub mod Lending
 pub mod Attending
 pub mod Addressees
 pub mod Asking
+pub mod Compared

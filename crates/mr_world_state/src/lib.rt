@@ -9,6 +9,8 @@
 //!
 //! - `Parts::new` stands for the opening world. `Parts::copy` gives parts of their own, which stand for each world that
 //!   these stand for;
+//! - `Parts::is_same` is true exactly where two hold the same (`SameParts` of `specs/Same`): the bag and the number of
+//!   launches are not compared, nor what follows from the config;
 //! - `Parts::happen` refuses an event with the first reason why it is not permitted, else `Full` where it would pass a
 //!   limit (`specs/Limits`), else `NoMemory`. The parts stand then for what they stood for. Else they stand for the
 //!   world that the definitions lead to (`Tries`). What it leaves of the history's bytes is told too (`LeavesHistory`);
@@ -17,7 +19,7 @@
 //! - `Parts::asked` tells the store call that an event would make, by whom, and what its caller would hear (`Looks`);
 //! - `Parts::check_master` tells whether a master is alive, and `Parts::undeliverable` why a packet can't be delivered;
 //! - a `Config` is copied and compared. It tells that its splits are those of a job (`Config::ranges`);
-//! - memory may be taken by `new`, `copy`, `happen`, `check` and `asked`. No other call takes any.
+//! - memory may be taken by `new`, `copy`, `is_same`, `happen`, `check` and `asked`. No other call takes any.
 //!
 //! Everything that can fail comes before the first change that can't be taken back. A reason is always answered before
 //! an allocation failure, and so is `Full`, but for one exception. It takes memory to find out which paths a
@@ -56,6 +58,7 @@ mod parts;
 mod push;
 mod restart;
 mod room;
+mod same;
 mod send;
 mod start;
 mod step;

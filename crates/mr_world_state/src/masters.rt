@@ -1,8 +1,8 @@
 //! The machines of the masters that are alive, by generation.
-ghost use Rattle.std.specs.Prelude.{◌≡◌, ℕ, None, is_some, IfOk, OnOk, OnErr};
+ghost use Rattle.std.specs.Prelude.{◌≡◌, ◌↔◌, ℕ, suc, None, is_some, IsTrue, IfOk, OnOk, OnErr};
 ghost use Rattle.std.specs.Option.{option_copied, option_copied_mut};
 ghost use Rattle.std.specs.Borrow.{sem};
-ghost use Rattle.mr_world_state.specs.Machines.{master_of, master_count};
+ghost use Rattle.mr_world_state.specs.Machines.{master_of, master_count, SameMaster};
 ghost use Rattle.mr_world_state.specs.inner.Lending.{LendsMaster};
 ghost use Rattle.mr_world_state.specs.inner.Masters.{SameMasters, Begins, Ceases, AreCopied, IsCopied};
 
@@ -39,6 +39,35 @@ impl Masters {
             machines.push(copied(machine)?)?;
         }
         Ok(Masters { machines })
+    }
+
+    /// Whether the masters of the same generations are alive in both, and those of each hold the same. Their settings
+    /// are not compared, nor how many masters were started.
+    pub fn is_same(&self, other: &Masters) -> bool
+        ensures { IsTrue result ↔ ((k : ℕ) → SameMaster (master_of self.now k) (master_of other.now k)) }
+    {
+        for place in 0..self.places().max(other.places()) {
+            if !are_same(self.at(place), other.at(place)) {
+                return false;
+            }
+        }
+        true
+    }
+
+    // How many masters were started.
+    #[tactic(auto, unfolding(crate::specs::Machines::master_count))]
+    fn places(&self) -> usize
+        ensures { result ≡ master_count self.now }
+    {
+        self.machines.len()
+    }
+
+    // The machine at a place, from 0: of the generation after it.
+    #[tactic(auto, unfolding(crate::specs::Machines::master_of))]
+    fn at(&self, place: usize) -> Option<&MasterMachine>
+        ensures { option_copied result ≡ master_of self.now (suc place) }
+    {
+        self.machines.get(place)?.as_ref()
     }
 
     /// The machine of the master of this generation, if it is alive.
@@ -103,4 +132,17 @@ fn copied(place: &Option<MasterMachine>) -> Result<Option<MasterMachine>, AllocE
         Some(machine) => Ok(Some(machine.copy()?)),
         None => Ok(None),
     }
+}
+
+// Whether there is a machine at neither place, or at both, and the two hold the same.
+fn are_same(one: Option<&MasterMachine>, other: Option<&MasterMachine>) -> bool
+    ensures { IsTrue result ↔ SameMaster (option_copied one.entry) (option_copied other.entry) }
+{
+    let Some(one) = one else {
+        return other.is_none();
+    };
+    let Some(other) = other else {
+        return false;
+    };
+    one.keeps_same(other)
 }

@@ -130,6 +130,13 @@ fn are_alike(rt: &impl Abort, names: &Namespace, copy: &Namespace) {
     confirm_eq!(rt; first, second);
     drop(first);
     drop(second);
+    is_same(rt, names, copy, true);
+}
+
+// Whether both hold the same: this.
+fn is_same(rt: &impl Abort, names: &Namespace, other: &Namespace, want: bool) {
+    let same = names.is_same(other).expect(rt, "no memory");
+    confirm_eq!(rt; same, want);
 }
 
 // The copy of the second generation's namespace has the same entries, the same fence and the same barred attempt.
@@ -167,6 +174,7 @@ fn namespace_copy(rt: HostRuntime) {
         (Call::Delete, "/c", "", Is::Done),
     ];
     hold(rt, alloc, &mut copy, two, rows);
+    is_same(rt, &names, &copy, false);
     drop(copy);
     let first = &[(Call::Read, "/c/f", "xy", Is::Told)];
     hold(rt, alloc, &mut names, two, first);

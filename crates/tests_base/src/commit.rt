@@ -89,14 +89,16 @@ fn setup_by_halves(rt: HostRuntime) {
     drop(names);
 }
 
-// A task's commit goes on where it hears, in two halves, that its attempt's directory is there.
+// A task's commit goes on where it hears, in two halves, that its attempt's directory is there. Until then the copy is the same.
 fn goes_on_by_halves(rt: &impl Abort, step: &Step) {
     let mut sure = step.copy().expect(rt, "no memory");
+    confirm!(rt; sure.is_same(step));
     let there = Ok(Answer::Found(Some(Kind::Dir)));
     let following = sure.follow(&there).expect(rt, "a fault");
     drop(there);
     confirm_eq!(rt; following.done(), StepDone::More);
     sure.go_on(following);
+    confirm!(rt; !sure.is_same(step));
     confirm!(rt; sure.call().is_some());
     drop(sure);
 }

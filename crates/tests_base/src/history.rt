@@ -393,6 +393,7 @@ fn history_copy(rt: HostRuntime) {
     ];
     hold(rt, &mut history, rows);
     let mut copy = history.copy().expect(rt, "no memory");
+    confirm!(rt; copy.is_same(&history));
     is_stable(rt, &copy, 1, STARTED);
     let rows = &[
         (2, Call::HasFence, 0, Is::Done),
@@ -406,6 +407,7 @@ fn history_copy(rt: HostRuntime) {
         2,
         "{\"version\":2}\n{\"event\":\"unsuccessful\"}\n",
     );
+    confirm!(rt; !copy.is_same(&history));
     drop(copy);
     hold(rt, &mut history, &[(2, Call::HasTail, 39, Is::Done)]);
     drop(history);

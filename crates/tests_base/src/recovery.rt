@@ -43,7 +43,7 @@ fn recovers(
     confirm_eq!(rt; answer, want);
 }
 
-// The recovery of what was committed, one call after the other.
+// The recovery of what was committed, one call after the other. It is the same as its copy until one goes on alone.
 fn recovers_by_steps(
     rt: &impl Abort,
     names: &mut Namespace,
@@ -52,8 +52,10 @@ fn recovers_by_steps(
 ) {
     let mut step = halves.copy().expect(rt, "no memory");
     recovery_begins_alike(rt, names, caller, &mut halves, &mut step);
-    drop(halves);
+    confirm!(rt; step.is_same(&halves));
     recovers(rt, names, caller, &mut step, Ok(StepDone::More));
+    confirm!(rt; !step.is_same(&halves));
+    drop(halves);
     recovers(rt, names, caller, &mut step, Ok(StepDone::Finished));
     drop(step);
 }

@@ -1,5 +1,5 @@
 //! Tests of what stands on a world: the board (several seats, works that are done outside it), the laws of what its calls answer, jobs
-//! that threads run, and a run that is explored.
+//! that threads run, a run that is explored, and what a player holds.
 #![tactic(auto)]
 
 // Ends the test where the condition is not so, and tells it, and at which value. It is a call where `assert!` is a branch. What stands
@@ -25,6 +25,8 @@ mod ends;
 mod fixtures;
 #[cfg(test)]
 mod laws;
+#[cfg(test)]
+mod players;
 #[cfg(test)]
 mod runs;
 #[cfg(test)]

@@ -155,6 +155,7 @@ fn outputs_are_cut(rt: HostRuntime) {
     let rt = &rt;
     let three = output(rt, rt.alloc(), THREE);
     let copied = three.copy().expect(rt, "no memory");
+    confirm!(rt; copied.is_same(&three));
     drop(three);
     let found = blocks(copied.bytes(), 3).expect(rt, "no blocks");
     confirm_eq!(rt; found.count(), 3);
@@ -178,11 +179,26 @@ fn cut_output_lends_its_blocks(rt: HostRuntime) {
     let rt = &rt;
     let cut = cut(rt, rt.alloc());
     let copied = cut.clone().expect(rt, "no memory");
+    confirm!(rt; copied.is_same(&cut));
     is_block(rt, copied.block(2, 1), b"c");
     drop(copied);
     confirm!(rt; cut.block(3, 1).is_none());
     confirm!(rt; cut.block(2, 2).is_none());
     drop(cut);
+}
+
+#[test]
+fn other_bytes_are_not_the_same(rt: HostRuntime) {
+    let rt = &rt;
+    let alloc = rt.alloc();
+    let two = output(rt, alloc, TWO);
+    let three = output(rt, alloc, THREE);
+    confirm!(rt; !two.is_same(&three));
+    let two = CutOutput::new(alloc, two).expect(rt, "no memory");
+    let three = CutOutput::new(alloc, three).expect(rt, "no memory");
+    confirm!(rt; !two.is_same(&three));
+    drop(two);
+    drop(three);
 }
 
 // The bytes of the output from this place on up to that one.

@@ -292,7 +292,9 @@ fn shelf_keeps_until_all_is_dropped(rt: HostRuntime) {
     has_none(rt, &shelf, first, 2);
     has_none(rt, &shelf, second, 0);
     let copied = shelf.copy().expect(rt, "no memory");
+    confirm!(rt; copied.is_same(&shelf));
     shelf.drop_all();
+    confirm!(rt; !copied.is_same(&shelf));
     has_none(rt, &shelf, first, 0);
     drop(shelf);
     has(rt, &copied, first, 1, b"c");

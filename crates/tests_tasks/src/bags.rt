@@ -32,6 +32,29 @@ fn bag_grows(rt: HostRuntime) {
     drop(bag);
 }
 
+// A bag with packets to the nodes of these numbers.
+fn bag_of(rt: &impl Abort, alloc: Global, numbers: &[u32]) -> Bag {
+    let mut bag = Bag::new(alloc);
+    for number in numbers {
+        push(rt, &mut bag, *number);
+    }
+    bag
+}
+
+// Two bags of one end: from their second packet on they are the same, from the first on they are not.
+#[test]
+fn bags_of_one_end(rt: HostRuntime) {
+    let rt = &rt;
+    let bag = bag_of(rt, rt.alloc(), &[0, 1, 2]);
+    let other = bag_of(rt, rt.alloc(), &[1, 2]);
+    confirm!(rt; bag.is_same_from(1, &other, 0));
+    confirm!(rt; !bag.is_same_from(0, &other, 0));
+    confirm!(rt; !bag.is_same_from(1, &other, 1));
+    confirm!(rt; bag.is_same_from(3, &other, 5));
+    drop(bag);
+    drop(other);
+}
+
 // These are the bytes.
 fn are(rt: &impl Abort, bytes: &Bytes, want: &[u8]) {
     confirm_eq!(rt; bytes.as_slice(), want);

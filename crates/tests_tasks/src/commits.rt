@@ -153,7 +153,7 @@ fn reduce_commits(rt: HostRuntime) {
         &[(Wish::Pending, Event::No), (Wish::Poll, Event::Yes)],
     );
     let mut copy = reduce.copy().expect(rt, "no memory");
-    drop(reduce);
+    confirm!(rt; copy.is_same(&reduce));
     goes(
         rt,
         &mut names,
@@ -165,6 +165,8 @@ fn reduce_commits(rt: HostRuntime) {
             (Wish::Rename, Event::Calls),
         ],
     );
+    confirm!(rt; !copy.is_same(&reduce));
+    drop(reduce);
     tells_length(rt, &copy, Some(3));
     is_committed(rt, alloc, &names, &layout, &copy, b"out");
     drop(copy);

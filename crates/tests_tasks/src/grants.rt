@@ -82,6 +82,7 @@ fn grant_is_fixed(rt: HostRuntime) {
     let mut grant = Grant::new(rt.alloc());
     first_of_two(rt, &mut grant);
     let mut copy = grant.copy().expect(rt, "no memory");
+    confirm!(rt; copy.is_same(&grant));
     hold(
         rt,
         &mut copy,
@@ -98,6 +99,7 @@ fn grant_is_fixed(rt: HostRuntime) {
             (Call::Fix, 0, false),
         ],
     );
+    confirm!(rt; !copy.is_same(&grant));
     drop(copy);
     hold(
         rt,

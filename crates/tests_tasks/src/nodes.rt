@@ -199,7 +199,7 @@ fn fetch_from_an_offset(rt: HostRuntime) {
     drop(node);
 }
 
-// An empty block is a piece, an output that is not there and one of before a restart are lost.
+// An empty block is a piece, an output that is not there and one of before a restart are lost. The copy is the same until the restart.
 #[test]
 fn fetch_of_nothing(rt: HostRuntime) {
     let rt = &rt;
@@ -210,9 +210,11 @@ fn fetch_of_nothing(rt: HostRuntime) {
         &copy,
         &[(0, 1, 0, (Is::Piece, 0, 0)), (1, 1, 0, (Is::Lost, 0, 0))],
     );
-    drop(copy);
+    confirm!(rt; copy.is_same(&node));
     assert!(rt; node.incarnation() == 1);
     node.restart();
+    confirm!(rt; !copy.is_same(&node));
+    drop(copy);
     fetches(rt, &node, &[(0, 2, 0, (Is::Lost, 0, 0))]);
     drop(node);
 }

@@ -56,7 +56,9 @@ fn accepted_then_ended(rt: HostRuntime) {
         ],
     );
     let mut copy = task.copy().expect(rt, "no memory");
+    confirm!(rt; copy.is_same(&task));
     hold(rt, &mut copy, &[(Call::Ended, 0, Is::Fine)]);
+    confirm!(rt; !copy.is_same(&task));
     hold(rt, &mut task, &[(Call::CanCommit, 0, Is::Yes)]);
     drop(task);
     hold(

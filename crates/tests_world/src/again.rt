@@ -127,8 +127,17 @@ pub fn world_copied(rt: &impl Abort, world: &World) -> World {
     }
 }
 
-/// What is read of both is the same.
+/// Whether the worlds were found to be alike.
+pub fn found_alike(rt: &impl Abort, world: &World, other: &World) -> bool {
+    match world.is_alike(other) {
+        Ok(alike) => alike,
+        Err(_) => world.is_alike(other).expect(rt, "no memory"),
+    }
+}
+
+/// What is read of both is the same, and they are alike.
 pub fn are_alike(rt: &impl Abort, world: &World, copy: &World) {
+    confirm!(rt; found_alike(rt, world, copy));
     confirm!(rt; Look::at(copy) == Look::at(world));
     confirm_eq!(rt; copy.journal(), world.journal());
     confirm_eq!(rt; winners(rt, copy), winners(rt, world));

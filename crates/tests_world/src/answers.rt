@@ -78,13 +78,15 @@ pub enum Then {
 /// What is due, how it is answered, and what comes of that.
 pub type Row = (DutyName, Said, Then);
 
-/// The store calls that are due are those of the rows, in turn. Each is answered so, and this comes of it.
+/// The store calls that are due are those of the rows, in turn. Each is answered so, and this comes of it. A copy is the same until it is answered.
 pub fn answers(rt: &impl Abort, alloc: Global, master: &mut MasterMachine, rows: &[Row]) {
     for row in rows {
         match row.2 {
             Then::WouldStop | Then::WouldFail => {
                 let mut copy = master.copy().expect(rt, "no memory");
+                confirm!(rt; copy.is_same(master));
                 is_answered(rt, alloc, &mut copy, row);
+                confirm!(rt; !copy.keeps_same(master));
                 drop(copy);
             }
             _ => is_answered(rt, alloc, master, row),

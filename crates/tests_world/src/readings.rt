@@ -1,6 +1,9 @@
 //! What is read of a world, and a list of events.
 
-use crate::again::{are_alike, asks, due, is_marked, living, shown, winner, winners};
+use crate::again::{
+    applied, are_alike, asks, due, found_alike, is_marked, living, shown, winner, winners,
+    world_copied,
+};
 use crate::events::{crash, start, store_call};
 use crate::fixtures::{Stop, started, world};
 use crate::masters::{JOB, REDUCE, container};
@@ -118,6 +121,7 @@ fn container_asks(rt: HostRuntime) {
     let world = &run.world;
     confirm_eq!(rt; world.phase(1), Some(Phase::Running));
     confirm!(rt; world.wanted(1).is_none());
+    confirm_eq!(rt; world.launches(), 1);
     lives(rt, world, container(rt, 0));
     let other = container(rt, 1);
     confirm!(rt; world.place(&other).is_none());
@@ -181,10 +185,36 @@ fn worlds_are_copied(rt: HostRuntime) {
     let taken = run.world.journal().len();
     run.calms(rt, alloc, Stop::Never);
     confirm_eq!(rt; other.world.journal().len(), taken);
+    confirm!(rt; !found_alike(rt, &run.world, &other.world));
     other.calms(rt, alloc, Stop::Never);
     are_alike(rt, &run.world, &other.world);
     confirm!(rt; is_marked(rt, &other.world));
     confirm_eq!(rt; shown(rt, &other.world).len(), 1);
     drop(other);
     drop(run);
+}
+
+// A node restarts.
+fn restarts(rt: &impl Abort, world: &mut World, node: u32) {
+    let took = applied(rt, world, Event::NodeRestart { node });
+    confirm!(rt; took.is_ok());
+}
+
+// Two nodes restart, in the one order and in the other: the worlds are alike, though not before both have.
+#[test]
+fn order_of_restarts_is_the_same(rt: HostRuntime) {
+    let rt = &rt;
+    let alloc = rt.alloc();
+    let mut world = started(rt, alloc, 2).world;
+    let mut other = world_copied(rt, &world);
+    restarts(rt, &mut world, 0);
+    confirm!(rt; !found_alike(rt, &world, &other));
+    restarts(rt, &mut other, 1);
+    confirm!(rt; !found_alike(rt, &world, &other));
+    restarts(rt, &mut world, 1);
+    restarts(rt, &mut other, 0);
+    confirm!(rt; found_alike(rt, &world, &other));
+    confirm_eq!(rt; other.launches(), 0);
+    drop(other);
+    drop(world);
 }

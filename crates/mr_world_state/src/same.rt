@@ -1,0 +1,43 @@
+//! Whether the parts of two worlds hold the same.
+ghost use Rattle.std.specs.Prelude.{◌↔◌, IsTrue, IfOk};
+ghost use Rattle.mr_world_state.specs.Same.{SameParts};
+ghost use Rattle.mr_world_state.specs.inner.Compared.{SameMachinesIn, SameStores};
+
+use crate::parts::Parts;
+use std::alloc::AllocError;
+
+impl Parts {
+    /// Whether both hold the same. The bag and the number of launches are not compared, nor what follows from the config:
+    /// the paths, and the settings of masters. Its only fault is an allocation failure.
+    pub fn is_same(&self, other: &Parts) -> Result<bool, AllocError>
+        ensures { IfOk result (λ same. IsTrue same ↔ SameParts self.now other.now) }
+    {
+        if !self.has_same_machines(other) {
+            return Ok(false);
+        }
+        self.has_same_stores(other)
+    }
+
+    // Whether the machines of nodes, containers and masters hold the same.
+    fn has_same_machines(&self, other: &Parts) -> bool
+        ensures { IsTrue result ↔ SameMachinesIn self.now other.now }
+    {
+        self.nodes.is_same(&other.nodes)
+            && self.living.is_same(&other.living)
+            && self.masters.is_same(&other.masters)
+    }
+
+    // Whether the stores hold the same, and both were made for the same. The tree of the namespace comes last, since
+    // memory is taken for it.
+    fn has_same_stores(&self, other: &Parts) -> Result<bool, AllocError>
+        ensures { IfOk result (λ same. IsTrue same ↔ SameStores self.now other.now) }
+    {
+        if !self.history.is_same(&other.history) {
+            return Ok(false);
+        }
+        if self.config != other.config {
+            return Ok(false);
+        }
+        self.names.is_same(&other.names)
+    }
+}
