@@ -3,7 +3,7 @@ ghost use Rattle.std.specs.Prelude.{◌≡◌, Bool, Some, IfOk, IfErr};
 ghost use Rattle.std.specs.Option.{option_map};
 ghost use Rattle.mr_play.specs.Players.{state_in};
 ghost use Rattle.mr_explore_search.specs.Steps.{GoesOn};
-ghost use Rattle.mr_explore.specs.Exploring.{ExploreFails, is_stalled};
+ghost use Rattle.mr_explore.specs.Exploring.{ExploreFails, is_cut, is_stalled};
 ghost use Rattle.mr_explore.specs.Runs.{IsRunOf, StartsFrom, explored, newest_in, start_first, with};
 ghost use Rattle.mr_explore.specs.inner.Players.{CannotBegin, FaresAs, view_as, view_of, view_with};
 
@@ -94,6 +94,13 @@ impl Explored {
         ensures { IfOk result (λ stalled. stalled ≡ is_stalled self.now) }
     {
         is_in_vain(alloc, &self.player)
+    }
+
+    /// Whether it was cut where it is: it is deep, and goes on. Its only fault is an allocation failure.
+    pub(crate) fn is_cut(&self, alloc: Global) -> Result<bool, AllocError>
+        ensures { IfOk result (λ cut. cut ≡ is_cut self.now) }
+    {
+        is_cut(alloc, &self.player, self.past_limit, self.deep)
     }
 }
 
@@ -188,6 +195,17 @@ fn go_on(
         return Ok(false);
     }
     go_further(alloc, player, deep)
+}
+
+// Whether it is deep and goes on, and no limit forbids its last fault.
+#[tactic(auto, using(crate::proofs::Onwards::not_cut))]
+fn is_cut(alloc: Global, player: &Player, past_limit: bool, deep: bool) -> Result<bool, AllocError>
+    ensures { IfOk result (λ cut. cut ≡ is_cut (view_with past_limit deep player.now)) }
+{
+    if past_limit || !deep {
+        return Ok(false);
+    }
+    going::goes_on(alloc, player)
 }
 
 // It makes an event more by itself; whether there was one.

@@ -21,6 +21,7 @@
 //!   behind them is reckoned in the README, and not proved; so an end tells how many of its runs are such (`is_stalled`).
 //!   Where a number of events is told (`Asked::deep`), a run goes on there too, and makes at most so many by itself: behind
 //!   the script, behind each fault, and behind each packet that comes late (`runs_with`).
+//!   It is cut there. One that would go on is counted (`is_cut` of `specs/Exploring`), and then the runs are not all.
 //! - **What a limit forbids is told.** A fault that is permitted and would pass a limit makes a run that has ended, and
 //!   has no end (`past_limit`, `Fate` of `specs/Faults`). It is counted, and then the runs are not all.
 //! - **The runs that are made are exactly those of the definition, in its order, each once** (`Exploration::new`,
