@@ -1,6 +1,7 @@
 //! A run that counts to two, and that may be set back to its beginning where it is at one. That puts off that it is set to one there.
-ghost use Rattle.tests_explore.specs.Counting.{counting};
+ghost use Rattle.tests_explore.specs.Counting.{counting, counting_marks};
 
+use mr_explore_places::MarkedRun;
 use mr_explore_search::{Run, WalkFault};
 use std::alloc::Global;
 use std::collections::LinkedList;
@@ -46,5 +47,27 @@ impl Run for Counting {
         } else {
             Ok(false)
         }
+    }
+}
+
+impl MarkedRun for Counting {
+    ghost marks = { counting_marks };
+
+    fn script_len(&self) -> u64 {
+        0
+    }
+
+    fn mark(&self, _alloc: Global, owed: &[u32]) -> Result<u64, WalkFault> {
+        Ok(owed.len() as u64)
+    }
+
+    fn is_like(
+        &self,
+        _alloc: Global,
+        owed: &[u32],
+        other: &Counting,
+        other_owed: &[u32],
+    ) -> Result<bool, WalkFault> {
+        Ok(self.at == other.at && owed.len() == other_owed.len())
     }
 }

@@ -1,6 +1,8 @@
-//! Tests of walks over runs.
+//! Tests of walks and searches over runs.
 #![tactic(auto)]
 
 mod counting;
+#[cfg(test)]
+mod places;
 #[cfg(test)]
 mod runs;
