@@ -3,7 +3,7 @@
 - deep_runs_come_to_the_same_ends: some inputs are explored as ever, and once more with `--deep`, where no run is ended for making no
   progress. Either no run was, and both print the same; or the ends are the same, each by as few faults and with the same script, but
   where that makes no progress. Behind such a script the calm of the newest master makes all of its 10,000 events, and what `play` tells
-  last is as without them.
+  last is as without them. Just the deep runs that make no progress were cut.
 """
 import json
 
@@ -29,7 +29,10 @@ class Explored:
         self.ends = {json.dumps([it[key] for key in ("winners", "marker", "outcome", "seen", "sequential")]): it for it in lines}
 
     def is_whole(self):
-        return self.all["all"] and self.all["past_limit"] == 0 and len(self.ends) == self.all["ends"]
+        return self.all["all"] == (self.all["cut"] == 0) and self.all["past_limit"] == 0 and len(self.ends) == self.all["ends"]
+
+    def stalled(self):
+        return sum(it["stalled"] for it in self.ends.values())
 
 
 def came(run):
@@ -66,12 +69,13 @@ def deep(program, library, room):
             return tally
         usual, further = Explored(told.out), Explored(told_deep.out)
         tally.count(usual.is_whole() and further.is_whole() and usual.ends.keys() == further.ends.keys(), f"the ends of {text}", told_deep)
+        tally.count(usual.all["cut"] == 0 and further.all["cut"] == further.stalled(), f"the runs of {text} that were cut", told_deep)
         with Program([program, "play", "--json"], library, f"{room}/on.{n}", stack=STACK) as play:
             for key, end in usual.ends.items():
                 also = further.ends.get(key, end)
                 is_same = also["script"] == end["script"] or end["stalled"] > 0 and makes_no_progress(play, job, end["script"])
                 tally.count(is_same and also["faults"] == end["faults"], f"{key} of {text}", also)
-        stalled = sum(it["stalled"] for it in usual.ends.values())
+        stalled = usual.stalled()
         tally.count(stalled or told.out == told_deep.out, f"all of {text}", told_deep)
         ended += stalled
     tally.count(ended, "runs that were ended", "none")

@@ -14,7 +14,7 @@ use Rattle.std.specs.Prelude.{if◌then◌else◌}
 use Rattle.std.specs.List.{list_any}
 use Rattle.mr_play.specs.mr_world.specs.Journal.{world_in}
 use Rattle.mr_script.specs.declared.expectation.Expectation.{Expectation}
-use Rattle.mr_explore.specs.Exploring.{Fails, IsTimed, Made, MadeOne, MadeRun, Makes, MakesOne, NoneMeets, Remaining, as_found, came, fault_of, is_stalled, journal_of, meets_goal, outcome_of}
+use Rattle.mr_explore.specs.Exploring.{Fails, IsTimed, Made, MadeOne, MadeRun, Makes, MakesOne, NoneMeets, Remaining, as_found, came, fault_of, is_cut, is_stalled, journal_of, meets_goal, outcome_of}
 use Rattle.mr_explore.specs.Runs.{Exploring}
 
 pub walk_failed : (goal : Option (List Expectation)) (x : Remaining) (left : List (Found Exploring)) (f : WalkFault) (new : List (Found Exploring)) → x.left ≡ left → Takes left (Err f) new → Fails 1 goal x (fault_of f)
@@ -32,13 +32,13 @@ none_left walk new f is h = subst (λ (g : Option (Ended Exploring)). Takes walk
 
 -- a limit forbids its last fault
 pub came_past : (m : MadeRun) → m.run.past_limit ≡ true → came m ≡ ToLimit
-came_past m past = ap (λ (b : Bool). if b then ToLimit else ToEnd (record { end = outcome_of m.run.config (world_in (journal_of m.run)); faults = m.faults; stalled = is_stalled m.run; events = m.run.played.events })) past
+came_past m past = ap (λ (b : Bool). if b then ToLimit else ToEnd (is_cut m.run) (record { end = outcome_of m.run.config (world_in (journal_of m.run)); faults = m.faults; stalled = is_stalled m.run; events = m.run.played.events })) past
 
 -- it came to this end
-pub came_to : (m : MadeRun) (end : Outcome) (stalled : Bool) → m.run.past_limit ≡ false → end ≡ outcome_of m.run.config (world_in (journal_of m.run)) → stalled ≡ is_stalled m.run → came m ≡ ToEnd (record { end = end; faults = m.faults; stalled = stalled; events = m.run.played.events })
-came_to m end stalled none is waits =
-    ap (λ (b : Bool). if b then ToLimit else ToEnd (record { end = outcome_of m.run.config (world_in (journal_of m.run)); faults = m.faults; stalled = is_stalled m.run; events = m.run.played.events })) none
-    ∙ (λ i. ToEnd (record { end = sym is i; faults = m.faults; stalled = sym waits i; events = m.run.played.events }))
+pub came_to : (m : MadeRun) (end : Outcome) (stalled cut : Bool) → m.run.past_limit ≡ false → end ≡ outcome_of m.run.config (world_in (journal_of m.run)) → stalled ≡ is_stalled m.run → cut ≡ is_cut m.run → came m ≡ ToEnd cut (record { end = end; faults = m.faults; stalled = stalled; events = m.run.played.events })
+came_to m end stalled cut none is waits goes =
+    ap (λ (b : Bool). if b then ToLimit else ToEnd (is_cut m.run) (record { end = outcome_of m.run.config (world_in (journal_of m.run)); faults = m.faults; stalled = is_stalled m.run; events = m.run.played.events })) none
+    ∙ (λ i. ToEnd (sym goes i) (record { end = sym is i; faults = m.faults; stalled = sym waits i; events = m.run.played.events }))
 
 -- ---- lists
 

@@ -1,13 +1,15 @@
 -- How a run goes on by itself.
-use Rattle.std.proofs.Common.{◌≡◌, Bool, true, false, [], Option, Some, None, Result, Ok, Err, IfOk, refl, sym, ap, subst, ◌∙◌}
+use Rattle.std.proofs.Common.{◌≡◌, ◌||◌, Bool, true, false, not, [], Option, Some, None, Result, Ok, Err, IfOk, refl, sym, ap, subst, ◌∙◌}
 use Rattle.std.specs.declared.alloc.AllocError.{AllocError}
-use Rattle.mr_explore_search.specs.Steps.{Goes, Ends, Full, GoesOn}
+use Rattle.mr_explore_search.specs.Steps.{Onward, Goes, Ends, Full, GoesOn}
 use Rattle.mr_explore_faults.specs.declared.fault.Fault.{Fault}
 use Rattle.mr_play.specs.mr_world.specs.Journal.{world_in}
 use Rattle.mr_play.specs.declared.player.Player.{Player}
+use Rattle.mr_play.specs.Played.{Played}
 use Rattle.mr_play.specs.Players.{SameJob, state_in}
 use Rattle.mr_explore.specs.declared.tried.Tried.{Tried}
 use Rattle.mr_explore.specs.declared.tried.Tried.TheVariants as tried
+use Rattle.mr_explore.specs.Exploring.{goes_on, is_cut}
 use Rattle.mr_explore.specs.Faults.{NotPermitted}
 use Rattle.mr_explore.specs.Runs.{Exploring, befallen_with, explored, onward_with, with}
 use Rattle.mr_explore.specs.inner.Players.{Fares, FaresAs, GoesAs, befallen_in, faults_in, onward_in, view_as, view_with}
@@ -23,6 +25,32 @@ viewed deep old new false h = ap (onward_with (view_as deep old)) h.1 ∙ ap (λ
 
 pub viewed_full : (deep : Bool) (old : Player) → onward_in deep old ≡ Full → explored.onward (view_as deep old) ≡ Full
 viewed_full deep old h = ap (onward_with (view_as deep old)) h
+
+-- ---- whether it goes on
+
+pub goes_if : (said : Onward Played) (old new : Player) (went : Bool) → GoesAs said old (Ok went) new → went ≡ goes_on said
+goes_if said old new true h = sym (ap goes_on h.1)
+goes_if said old new false h = sym (ap goes_on h.1)
+
+pub goes_to_limit : (said : Onward Played) → said ≡ Full → true ≡ goes_on said
+goes_to_limit said h = sym (ap goes_on h)
+
+goes_as : (e : Exploring) (o : Onward Played) → goes_on o ≡ goes_on (onward_with e o)
+goes_as e (Goes s) = refl
+goes_as e (Ends s) = refl
+goes_as e Full = refl
+
+pub not_cut : (past deep : Bool) (p : Player) → (past || not deep) ≡ true → is_cut (view_with past deep p) ≡ false
+not_cut true true p is = refl
+not_cut true false p is = refl
+not_cut false true p is = absurd (cc)
+not_cut false false p is = refl
+
+pub is_cut_by : (past deep : Bool) (p : Player) (r : Result Bool AllocError) → past ≡ false → deep ≡ true → IfOk r (λ on. on ≡ goes_on (onward_in true p)) → IfOk r (λ cut. cut ≡ is_cut (view_with past deep p))
+is_cut_by true deep p r goes is h = absurd (cc)
+is_cut_by false false p r goes is h = absurd (cc)
+is_cut_by false true p (Ok on) goes is h = h ∙ goes_as (view_as true p) (onward_in true p)
+is_cut_by false true p (Err e) goes is h = h
 
 -- ---- a fault that is tried
 

@@ -14,7 +14,7 @@ use Rattle.mr_explore_ends.specs.Text as ends
 use Rattle.mr_explore.specs.declared.asked.Asked.{Asked}
 use Rattle.mr_explore.specs.Ends.{LeadToEnds, LeadsTo, TellFails, TellsEnds}
 use Rattle.mr_explore.specs.Explored.{ExploredFails, PrintsExplored, found_in, goal_of}
-use Rattle.mr_explore.specs.inner.Checks.{IsUnchecked, IsUnsaid}
+use Rattle.mr_explore.specs.Checks.{IsUnchecked, IsUnsaid}
 use Rattle.mr_explore.specs.Exploring.{Begins, ExploreFails, Fails, IsFullBehind, Made, Remaining, came, found_of}
 
 -- ---- each script leads to its end

@@ -1,5 +1,5 @@
 -- What an exploration promises.
-use Rattle.std.specs.Prelude.{◌≡◌, ◌≤◌, ◌<◌, ◌⊎◌, ℕ, Bool, true, false, List, [], ◌∷◌, ◌++◌, length, map, Option, Some, None, Result, Ok, Err, if◌then◌else◌}
+use Rattle.std.specs.Prelude.{◌≡◌, ◌≤◌, ◌<◌, ◌⊎◌, ◌&&◌, ℕ, Bool, true, false, List, [], ◌∷◌, ◌++◌, length, map, Option, Some, None, Result, Ok, Err, if◌then◌else◌}
 use Rattle.std.specs.List.{flat_map, list_any}
 use Rattle.mr_sim_commands.specs.declared.fault.SimFault.{SimFault}
 use Rattle.mr_sim_commands.specs.declared.fault.SimFault.TheVariants as fault
@@ -14,6 +14,7 @@ use Rattle.mr_world_model.specs.World.{World}
 use Rattle.mr_world_model.specs.Results.{outcome, visible}
 use Rattle.mr_explore_search.specs.declared.fault.WalkFault.{WalkFault}
 use Rattle.mr_explore_search.specs.declared.fault.WalkFault.TheVariants as walk_fault
+use Rattle.mr_explore_search.specs.Steps.{Onward, Goes, Ends, Full}
 use Rattle.mr_explore_search.specs.Runs.{Found, Run, PassesLimit}
 use Rattle.mr_explore_search.specs.Taking.{no_more}
 use Rattle.mr_script.specs.declared.expectation.Expectation.{Expectation}
@@ -22,7 +23,7 @@ use Rattle.mr_explore_ends.specs.Outcomes.{Outcome}
 use Rattle.mr_explore_ends.specs.Table.{Came, ToEnd, ToLimit, Table, all_noted, empty}
 use Rattle.mr_explore_ends.specs.Text as ends
 use Rattle.mr_explore.specs.Faults.{goes_in_vain}
-use Rattle.mr_explore.specs.Runs.{CannotStart, Exploring, IsRunOf, runs_with}
+use Rattle.mr_explore.specs.Runs.{CannotStart, Exploring, IsRunOf, explored, runs_with}
 
 -- ---- runs that were made
 
@@ -45,11 +46,21 @@ outcome_of cfg w = record { winners = won_in cfg w; marker = is_file (entry_at w
 abbrev pub is_stalled : Exploring → Bool
 is_stalled e = goes_in_vain (job_as e.job) e.config (within e.config) e.played
 
--- what a table knows of it: its end; or that its last fault would pass a limit
+-- a run goes on: it makes a step more, or that would pass a limit
+abbrev pub goes_on : {S : Type 0} → Onward S → Bool
+goes_on (Goes s) = true
+goes_on (Ends s) = false
+goes_on Full = true
+
+-- It was cut: it is deep, and goes on. No other run is: it may make as many events as a world takes.
+abbrev pub is_cut : Exploring → Bool
+is_cut e = e.deep && goes_on (explored.onward e)
+
+-- what a table knows of it: its end, and whether it was cut there; or that its last fault would pass a limit
 abbrev pub came : MadeRun → Came
 came m =
     if m.run.past_limit then ToLimit
-    else ToEnd (record { end = outcome_of m.run.config (world_in (journal_of m.run)); faults = m.faults; stalled = is_stalled m.run; events = m.run.played.events })
+    else ToEnd (is_cut m.run) (record { end = outcome_of m.run.config (world_in (journal_of m.run)); faults = m.faults; stalled = is_stalled m.run; events = m.run.played.events })
 
 -- ---- the end that is sought
 
@@ -59,7 +70,7 @@ is_sought None end = false
 is_sought (Some goal) end = meets goal end
 
 abbrev pub comes_to : Option (List Expectation) → Came → Bool
-comes_to goal (ToEnd reached) = is_sought goal reached.end
+comes_to goal (ToEnd cut reached) = is_sought goal reached.end
 comes_to goal ToLimit = false
 
 abbrev pub meets_goal : Option (List Expectation) → MadeRun → Bool

@@ -1,4 +1,3 @@
 -- Words for private contracts and for proofs. No public clause cites them.
 pub mod Players
-pub mod Checks
 pub mod Winners

@@ -202,9 +202,10 @@ pub fn note(
     }
     let world = ended.run.world();
     let stalled = ended.run.is_stalled(alloc)?;
+    let cut = ended.run.is_cut(alloc)?;
     let end = winners.outcome_of(alloc, world)?;
     let met = is_sought(goal, &end);
-    table.note(alloc, end, ended.faults, stalled, world.journal())?;
+    table.note(alloc, end, ended.faults, stalled, cut, world.journal())?;
     Ok(met)
 }
 

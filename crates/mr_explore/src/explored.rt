@@ -1,9 +1,9 @@
 //! A job's run that goes on as a calm, and that faults may befall.
 ghost use Rattle.std.specs.Prelude.{◌≡◌, Bool, Some, IfOk, IfErr};
 ghost use Rattle.std.specs.Option.{option_map};
-ghost use Rattle.mr_play.specs.Players.{state_in};
+ghost use Rattle.mr_play.specs.Players.{job_in, state_in};
 ghost use Rattle.mr_explore_search.specs.Steps.{GoesOn};
-ghost use Rattle.mr_explore.specs.Exploring.{ExploreFails, is_stalled};
+ghost use Rattle.mr_explore.specs.Exploring.{ExploreFails, is_cut, is_stalled};
 ghost use Rattle.mr_explore.specs.Runs.{IsRunOf, StartsFrom, explored, newest_in, start_first, with};
 ghost use Rattle.mr_explore.specs.inner.Players.{CannotBegin, FaresAs, view_as, view_of, view_with};
 
@@ -82,6 +82,22 @@ impl Explored {
         &self.player.world
     }
 
+    /// Its player: the job, the world, and how far the run is.
+    pub fn player(&self) -> &Player
+        ensures job { job_in result.now ≡ self.now.job }
+        ensures config { result.now.world.config ≡ self.now.config }
+        ensures played { state_in result.now ≡ self.now.played }
+    {
+        &self.player
+    }
+
+    /// Whether it is deep: it goes on where it makes no progress.
+    pub fn is_deep(&self) -> bool
+        ensures { result ≡ self.now.deep }
+    {
+        self.deep
+    }
+
     /// Whether a limit forbids its last fault, so that nothing comes of it.
     pub fn passes_limit(&self) -> bool
         ensures { result ≡ self.now.past_limit }
@@ -94,6 +110,13 @@ impl Explored {
         ensures { IfOk result (λ stalled. stalled ≡ is_stalled self.now) }
     {
         is_in_vain(alloc, &self.player)
+    }
+
+    /// Whether it was cut where it is: it is deep, and goes on. Its only fault is an allocation failure.
+    pub(crate) fn is_cut(&self, alloc: Global) -> Result<bool, AllocError>
+        ensures { IfOk result (λ cut. cut ≡ is_cut self.now) }
+    {
+        is_cut(alloc, &self.player, self.past_limit, self.deep)
     }
 }
 
@@ -188,6 +211,17 @@ fn go_on(
         return Ok(false);
     }
     go_further(alloc, player, deep)
+}
+
+// Whether it is deep and goes on, and no limit forbids its last fault.
+#[tactic(auto, using(crate::proofs::Onwards::not_cut))]
+fn is_cut(alloc: Global, player: &Player, past_limit: bool, deep: bool) -> Result<bool, AllocError>
+    ensures { IfOk result (λ cut. cut ≡ is_cut (view_with past_limit deep player.now)) }
+{
+    if past_limit || !deep {
+        return Ok(false);
+    }
+    going::goes_on(alloc, player)
 }
 
 // It makes an event more by itself; whether there was one.

@@ -1,6 +1,7 @@
 //! A run goes on by itself.
-ghost use Rattle.std.specs.Prelude.{◌≡◌, ◌&&◌, not, IfOk};
+ghost use Rattle.std.specs.Prelude.{◌≡◌, ◌&&◌, not, true, IfOk};
 ghost use Rattle.mr_explore.specs.Faults.{onward_by};
+ghost use Rattle.mr_explore.specs.Exploring.{goes_on};
 ghost use Rattle.mr_explore.specs.inner.Players.{GoesAs, calm_in, onward_in, vain_in};
 ghost use Rattle.mr_play.specs.Players.{state_in};
 
@@ -16,6 +17,28 @@ pub fn go_further(alloc: Global, player: &mut Player, deep: bool) -> Result<bool
         return Ok(false);
     }
     calm_further(alloc, player)
+}
+
+/// Whether the run goes on where it is, if it is deep.
+pub fn goes_on(alloc: Global, player: &Player) -> Result<bool, AllocError>
+    ensures { IfOk result (λ on. on ≡ goes_on (onward_in true player.now)) }
+{
+    let mut ahead = player.fork(alloc)?;
+    ahead_goes_on(alloc, &mut ahead)
+}
+
+// The same. The player makes the event.
+#[tactic(auto, using(crate::proofs::Onwards::goes_if, crate::proofs::Onwards::goes_to_limit))]
+fn ahead_goes_on(alloc: Global, ahead: &mut Player) -> Result<bool, AllocError>
+    ensures { IfOk result (λ on. on ≡ goes_on (onward_in true ahead.old)) }
+{
+    match go_further(alloc, ahead, true) {
+        Ok(went) => Ok(went),
+        Err(fault) => match fault {
+            PlayerFault::Full => Ok(true),
+            PlayerFault::NoMemory => Err(AllocError),
+        },
+    }
 }
 
 // Whether the run goes on in vain, and is not deep.

@@ -4,9 +4,9 @@ ghost use Rattle.std.specs.List.{AllByRecursion};
 ghost use Rattle.mr_play.specs.Text.{PrintsPlay, job_line};
 ghost use Rattle.mr_play.specs.mr_world.specs.Limits.{within};
 ghost use Rattle.mr_explore.specs.Ends.{LeadToEnds, LeadsTo};
-ghost use Rattle.mr_explore.specs.inner.Checks.{IsUnchecked};
+ghost use Rattle.mr_explore.specs.Checks.{IsUnchecked};
 
-use mr_explore_ends::{Row, Table};
+use mr_explore_ends::{Outcome, Row, Table};
 use mr_play::{Printed, play};
 use mr_script::split_once;
 use mr_sim_commands::SimFault;
@@ -38,8 +38,23 @@ fn check_row(alloc: Global, input: &[u8], row: &Row) -> Result<(), SimFault>
     ensures leads { OnOk result (LeadsTo input.now row.now.script.items row.now.end) }
     ensures fault { IfErr result IsUnchecked }
 {
-    let text = behind_job(alloc, input, &row.script)?;
-    let end = row.end.text(alloc)?;
+    check_script(alloc, input, &row.script, &row.end)
+}
+
+/// Plays a script behind the job text of an input: it leads to this end.
+///
+/// It fails as `check_scripts` does.
+pub fn check_script(
+    alloc: Global,
+    input: &[u8],
+    script: &[u8],
+    end: &Outcome,
+) -> Result<(), SimFault>
+    ensures leads { OnOk result (LeadsTo input.now script.now end.now) }
+    ensures fault { IfErr result IsUnchecked }
+{
+    let text = behind_job(alloc, input, script)?;
+    let end = end.text(alloc)?;
     let printed = printed_of(alloc, &text)?;
     if printed.text.as_slice() == end.as_slice() {
         Ok(())

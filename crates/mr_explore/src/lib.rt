@@ -21,6 +21,7 @@
 //!   behind them is reckoned in the README, and not proved; so an end tells how many of its runs are such (`is_stalled`).
 //!   Where a number of events is told (`Asked::deep`), a run goes on there too, and makes at most so many by itself: behind
 //!   the script, behind each fault, and behind each packet that comes late (`runs_with`).
+//!   It is cut there. One that would go on is counted (`is_cut` of `specs/Exploring`), and then the runs are not all.
 //! - **What a limit forbids is told.** A fault that is permitted and would pass a limit makes a run that has ended, and
 //!   has no end (`past_limit`, `Fate` of `specs/Faults`). It is counted, and then the runs are not all.
 //! - **The runs that are made are exactly those of the definition, in its order, each once** (`Exploration::new`,
@@ -58,9 +59,10 @@ pub use explored::Explored;
 pub use laws::{
     asking_shows_nothing, explored_or_refused, one_explored_text, outcomes_are_printed,
 };
-pub use leading::check_scripts;
+pub use leading::{check_script, check_scripts};
 pub use mr_explore_ends::{Outcome, Row, Table, best_of, read_goal};
 pub use mr_explore_faults::Fault;
 pub use output::{explore_output, explored_text};
+pub use sequential::sequential_of;
 pub use watch::{Unwatched, Watch};
 pub use winners::Winners;

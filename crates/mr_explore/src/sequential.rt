@@ -4,7 +4,7 @@ ghost use Rattle.std.specs.Option.{option_map};
 ghost use Rattle.mr_sim_commands.specs.job.Text.{submission_of};
 ghost use Rattle.mr_play.specs.Text.{IsBadPlayJob, job_line};
 ghost use Rattle.mr_explore.specs.Ends.{AreFilesOf, IsSequentialOf};
-ghost use Rattle.mr_explore.specs.inner.Checks.{IsUnsaid};
+ghost use Rattle.mr_explore.specs.Checks.{IsUnsaid};
 
 use crate::leading::job_line_of;
 use mr_explore_ends::Sequential;

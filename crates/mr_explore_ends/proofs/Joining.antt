@@ -324,26 +324,32 @@ noted_all c (x ∷ xs) es h = by (same_outcome x.end c.end) refl (noted_all c xs
 record IsJoined (t u v : Table) : Type 0 where
   pub runs : v.runs ≡ more t.runs u.runs
   pub past_limit : v.past_limit ≡ more t.past_limit u.past_limit
+  pub cut : v.cut ≡ more t.cut u.cut
   pub ends : v.ends ≡ all_joined u.ends t.ends
 
 -- so it stays, whatever runs are noted in both
 noted_both : (cs : List Came) (t u v : Table) → AreApart u.ends → IsJoined t u v → IsJoined t (all_noted cs u) (all_noted cs v)
 noted_both [] t u v h j = j
-noted_both (ToEnd c ∷ cs) t u v h j =
-    noted_both cs t (noted (ToEnd c) u) (noted (ToEnd c) v) (apart_noted c u.ends h)
-    (record { runs = ap one_more j.runs ∙ one_more_of t.runs u.runs; past_limit = j.past_limit; ends = ap (noted_in c) j.ends ∙ sym (noted_all c u.ends t.ends h) })
+noted_both (ToEnd cut c ∷ cs) t u v h j =
+    noted_both cs t (noted (ToEnd cut c) u) (noted (ToEnd cut c) v) (apart_noted c u.ends h) (record {
+      runs = ap one_more j.runs ∙ one_more_of t.runs u.runs;
+      past_limit = j.past_limit;
+      cut = ap (one_more_if cut) j.cut ∙ one_more_of_if cut t.cut u.cut;
+      ends = ap (noted_in c) j.ends ∙ sym (noted_all c u.ends t.ends h);
+    })
 noted_both (ToLimit ∷ cs) t u v h j =
     noted_both cs t (noted ToLimit u) (noted ToLimit v) h
-    (record { runs = ap one_more j.runs ∙ one_more_of t.runs u.runs; past_limit = ap one_more j.past_limit ∙ one_more_of t.past_limit u.past_limit; ends = j.ends })
+    (record { runs = ap one_more j.runs ∙ one_more_of t.runs u.runs; past_limit = ap one_more j.past_limit ∙ one_more_of t.past_limit u.past_limit; cut = j.cut; ends = j.ends })
 
 -- the runs of one table are noted behind those of another
-pub tables_joined : (cs : List Came) (t u new : Table) → u ≡ table_of cs → new.runs ≡ more t.runs u.runs → new.past_limit ≡ more t.past_limit u.past_limit → new.ends ≡ all_joined u.ends t.ends → new ≡ all_noted cs t
-tables_joined cs t u new is runs past_limit ends =
-    let all = noted_both cs t empty t tt (record { runs = refl; past_limit = refl; ends = refl }) in
+pub tables_joined : (cs : List Came) (t u new : Table) → u ≡ table_of cs → new.runs ≡ more t.runs u.runs → new.past_limit ≡ more t.past_limit u.past_limit → new.cut ≡ more t.cut u.cut → new.ends ≡ all_joined u.ends t.ends → new ≡ all_noted cs t
+tables_joined cs t u new is runs past_limit cut ends =
+    let all = noted_both cs t empty t tt (record { runs = refl; past_limit = refl; cut = refl; ends = refl }) in
     let one : new.runs ≡ (all_noted cs t).runs = runs ∙ (ap (λ (x : Table). more t.runs x.runs) is ∙ sym all.runs) in
     let two : new.past_limit ≡ (all_noted cs t).past_limit = past_limit ∙ (ap (λ (x : Table). more t.past_limit x.past_limit) is ∙ sym all.past_limit) in
-    let three : new.ends ≡ (all_noted cs t).ends = ends ∙ (ap (λ (x : Table). all_joined x.ends t.ends) is ∙ sym all.ends) in
-    λ i. record { runs = one i; past_limit = two i; ends = three i }
+    let three : new.cut ≡ (all_noted cs t).cut = cut ∙ (ap (λ (x : Table). more t.cut x.cut) is ∙ sym all.cut) in
+    let four : new.ends ≡ (all_noted cs t).ends = ends ∙ (ap (λ (x : Table). all_joined x.ends t.ends) is ∙ sym all.ends) in
+    λ i. record { runs = one i; past_limit = two i; cut = three i; ends = four i }
 
 -- ---- the rows of the code
 

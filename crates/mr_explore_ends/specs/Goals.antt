@@ -63,7 +63,7 @@ AreExpected (line ∷ lines) (e ∷ es) = IsExpected line e × AreExpected lines
 AreExpected [] (e ∷ es) = ⊥
 AreExpected (line ∷ lines) [] = ⊥
 
--- a text is this goal: a comma, and a blank behind it, part its lines, which are those that `play` may print of winners, the marker or the outcome
+-- a text is this goal: its lines have commas between, and a blank may be before each; they are those that `play` may print of winners, the marker or the outcome
 abbrev pub IsGoal : List ℕ → List Expectation → Type 0
 IsGoal text goal = AreExpected (cut_at 44 text) goal
 

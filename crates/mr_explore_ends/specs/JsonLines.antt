@@ -40,9 +40,9 @@ abbrev pub end_line : Sequential → End → List ℕ
 end_line s e = line_of (end_object s e)
 
 -- how many runs were made, with how many faults at most, whether these are all, how many of them would pass a limit, how many
--- ends came, and whether the files are right where the marker is
+-- were cut, how many ends came, and whether the files are right where the marker is
 abbrev pub runs_members : Sequential → Found → List Member
-runs_members s f = (codes "runs", count f.table.runs) ∷ (codes "faults", count f.faults) ∷ (codes "all", boolean (are_all f)) ∷ (codes "past_limit", count f.table.past_limit) ∷ (codes "ends", count (length f.table.ends)) ∷ (codes "sequential", boolean (marked_are_sequential s f.table.ends)) ∷ []
+runs_members s f = (codes "runs", count f.table.runs) ∷ (codes "faults", count f.faults) ∷ (codes "all", boolean (are_all f)) ∷ (codes "past_limit", count f.table.past_limit) ∷ (codes "cut", count f.table.cut) ∷ (codes "ends", count (length f.table.ends)) ∷ (codes "sequential", boolean (marked_are_sequential s f.table.ends)) ∷ []
 
 abbrev pub runs_line : Sequential → Found → List ℕ
 runs_line s f = line_of (object_of (runs_members s f))

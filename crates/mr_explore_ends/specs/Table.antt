@@ -12,9 +12,9 @@ pub record Reached : Type 0 where
   pub stalled : Bool
   pub events : List Event
 
--- what came of a run: an end; or none, since its last fault would pass a limit
+-- what came of a run: an end, at which it was cut where it would go on; or none, since its last fault would pass a limit
 pub data Came : Type 0 where
-  ToEnd : Reached → Came
+  ToEnd : (cut : Bool) → Reached → Came
   ToLimit : Came
 
 -- an end, how many runs came to it, and how many of these were ended since they make no progress. Of the first shortest
@@ -55,18 +55,20 @@ abbrev pub noted_in : Reached → List End → List End
 noted_in c [] = opened c ∷ []
 noted_in c (e ∷ es) = if same_outcome e.end c.end then met c.faults c.stalled c.events e ∷ es else e ∷ noted_in c es
 
--- how many runs were made, how many of them came to no end since their last fault would pass a limit, and the ends that came
+-- how many runs were made, how many of them came to no end since their last fault would pass a limit, how many were cut, and
+-- the ends that came
 pub record Table : Type 0 where
   pub runs : ℕ
   pub past_limit : ℕ
+  pub cut : ℕ
   pub ends : List End
 
 abbrev pub noted : Came → Table → Table
-noted (ToEnd c) t = record t { runs = one_more t.runs; ends = noted_in c t.ends }
+noted (ToEnd cut c) t = record t { runs = one_more t.runs; cut = one_more_if cut t.cut; ends = noted_in c t.ends }
 noted ToLimit t = record t { runs = one_more t.runs; past_limit = one_more t.past_limit }
 
 abbrev pub empty : Table
-empty = record { runs = 0; past_limit = 0; ends = [] }
+empty = record { runs = 0; past_limit = 0; cut = 0; ends = [] }
 
 -- runs that were made behind others
 abbrev pub all_noted : List Came → Table → Table

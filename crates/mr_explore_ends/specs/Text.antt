@@ -41,20 +41,35 @@ pub record Found : Type 0 where
   pub faults : ℕ
   pub whole : Bool
 
--- the runs of the table are all: none is left to be made, and none would pass a limit
+-- the runs of the table are all: none is left to be made, none would pass a limit, and none was cut
 abbrev pub are_all : Found → Bool
-are_all f = f.whole && (f.table.past_limit == 0)
+are_all f = f.whole && ((f.table.past_limit == 0) && (f.table.cut == 0))
 
 abbrev pub past_limit_text : ℕ → List ℕ
-past_limit_text n = if n == 0 then [] else codes " (" ++ decimal n ++ codes " would pass a limit)"
+past_limit_text n = decimal n ++ codes " would pass a limit"
 
-abbrev pub if_not_all : Bool → ℕ → List ℕ
-if_not_all true past = []
-if_not_all false past = codes ", not all" ++ past_limit_text past
+abbrev pub cut_text : ℕ → List ℕ
+cut_text n = decimal n ++ (if n == 1 then codes " was cut" else codes " were cut")
 
--- how many runs were made, with how many faults at most, whether these are all, and how many of them would pass a limit
+-- some would pass a limit, and maybe some were cut
+abbrev pub both_text : (past cut : ℕ) → List ℕ
+both_text past cut = past_limit_text past ++ (if cut == 0 then [] else codes ", " ++ cut_text cut)
+
+abbrev pub counts_text : (past cut : ℕ) → List ℕ
+counts_text past cut = if past == 0 then cut_text cut else both_text past cut
+
+-- how many would pass a limit, and how many were cut, if any did or was
+abbrev pub why_text : (past cut : ℕ) → List ℕ
+why_text past cut = if (past == 0) && (cut == 0) then [] else codes " (" ++ counts_text past cut ++ codes ")"
+
+abbrev pub if_not_all : Bool → (past cut : ℕ) → List ℕ
+if_not_all true past cut = []
+if_not_all false past cut = codes ", not all" ++ why_text past cut
+
+-- how many runs were made, with how many faults at most, whether these are all, how many of them would pass a limit, and how
+-- many were cut
 abbrev pub runs_text : Found → List ℕ
-runs_text f = counting (codes "# ") f.table.runs (codes " run") ++ counting (codes " with at most ") f.faults (codes " fault") ++ if_not_all (are_all f) f.table.past_limit
+runs_text f = counting (codes "# ") f.table.runs (codes " run") ++ counting (codes " with at most ") f.faults (codes " fault") ++ if_not_all (are_all f) f.table.past_limit f.table.cut
 
 -- whether a reader sees no file, just those of the sequential execution, or others
 abbrev pub seen_line : Sequential → Outcome → List ℕ

@@ -82,8 +82,8 @@ fn without_blank(line: &[u8]) -> &[u8]
     }
 }
 
-/// The goal that a text is, as `marker yes, outcome failed`: lines that `play` may print of winners, the marker or the outcome, with a comma and a blank
-/// between. None is answered where one of them is no such line. It fails where there is no memory.
+/// The goal that a text is, as `marker yes, outcome failed`: lines that `play` may print of winners, the marker or the outcome, with commas between, and
+/// before each a blank or none. None is answered where one of them is no such line. It fails where there is no memory.
 pub fn read_goal(alloc: Global, text: &str) -> Result<Option<Vec<Expectation>>, AllocError>
     ensures some { IfOk result (λ read. IfSome read (λ goal. IsGoal text.now goal.items)) }
     ensures none { IfOk result (λ read. IfNone read (IsNoGoal text.now)) }

@@ -241,6 +241,7 @@ fn runs_value(
     put_count(&mut object, alloc, "faults", u64::from(found.faults))?;
     put_flag(&mut object, alloc, "all", are_all(found))?;
     put_count(&mut object, alloc, "past_limit", found.table.past_limit())?;
+    put_count(&mut object, alloc, "cut", found.table.cut())?;
     put_count(&mut object, alloc, "ends", found.table.rows().len() as u64)?;
     let sequential = marked_are_sequential(found.table, sequential);
     put_flag(&mut object, alloc, "sequential", sequential)?;

@@ -5,8 +5,8 @@
 //! - **`Table::note`** notes a run that was made, exactly as the definition says (`noted` of `specs/Table`). An end
 //!   that came before counts one run more. Its script becomes that of the new run where this has fewer faults than
 //!   the shortest so far, or as many faults and fewer events. So of several runs that are as short the first is kept.
-//!   An end counts which of its runs were ended since they make no progress, the table those that would pass a limit
-//!   (`Table::pass_limit`); where one would, the runs are not told as all (`are_all` of `specs/Text`).
+//!   An end counts which of its runs were ended since they make no progress, the table those that were cut, and those that
+//!   would pass a limit (`Table::pass_limit`); where one was or would, the runs are not told as all (`are_all` of `specs/Text`).
 //!   An end that is new stands behind the others. A failed allocation leaves the table as it was.
 //! - **`best_of`** answers, of the ends that are as each line of a goal says, the first of those with the fewest faults and
 //!   events. It answers none where none is.

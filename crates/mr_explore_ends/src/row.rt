@@ -99,8 +99,8 @@ pub(crate) fn sum(count: u64, behind: u64) -> u64
     count.saturating_add(behind)
 }
 
-// One more, if so it is.
-fn one_more_if(more: bool, count: u64) -> u64
+/// One more, if so it is.
+pub(crate) fn one_more_if(more: bool, count: u64) -> u64
     ensures { result ≡ one_more_if more count }
 {
     if more { count.saturating_add(1) } else { count }

@@ -7,18 +7,19 @@ ghost use Rattle.mr_explore_ends.specs.inner.Joined.{all_joined, joined_in};
 ghost use Rattle.mr_explore_ends.specs.inner.Rows.{place_from};
 
 use crate::outcome::Outcome;
-use crate::row::{Row, sum};
+use crate::row::{Row, one_more_if, sum};
 use mr_world_events::Event;
 use std::alloc::{AllocError, Global};
 use std::marker::Model;
 
 /// The ends of the runs that were made, in the order in which they came first. Contracts see it as how many runs were made, how many of them would
-/// pass a limit, and these ends.
+/// pass a limit, how many were cut, and these ends.
 #[derive(Debug, Drop)]
 pub struct Table {
     rows: Vec<Row>,
     runs: u64,
     past_limit: u64,
+    cut: u64,
 }
 
 impl Model for Table {
@@ -28,7 +29,7 @@ impl Model for Table {
 
     ghost Value = { ends.Table };
 
-    ghost view = { λ t. record { runs = t.runs; past_limit = t.past_limit; ends = map as_end t.rows.items } };
+    ghost view = { λ t. record { runs = t.runs; past_limit = t.past_limit; cut = t.cut; ends = map as_end t.rows.items } };
 }
 
 impl Table {
@@ -40,24 +41,27 @@ impl Table {
             rows: Vec::new(alloc),
             runs: 0,
             past_limit: 0,
+            cut: 0,
         }
     }
 
-    /// A run was made that came to this end, with this many faults and these events; `stalled` tells whether it was ended since it makes no progress. It
-    /// fails where there is no memory, and leaves the table as it was.
+    /// A run was made that came to this end, with this many faults and these events; `stalled` tells whether it was ended since it makes no progress,
+    /// and `cut` whether it was cut where it would go on. It fails where there is no memory, and leaves the table as it was.
     pub fn note(
         &mut self,
         alloc: Global,
         end: Outcome,
         faults: u32,
         stalled: bool,
+        cut: bool,
         events: &[Event],
     ) -> Result<(), AllocError>
-        ensures noted { OnOk result (self.new ≡ noted (ToEnd (record { end = end; faults = faults; stalled = stalled; events = events.now })) self.old) }
+        ensures noted { OnOk result (self.new ≡ noted (ToEnd cut (record { end = end; faults = faults; stalled = stalled; events = events.now })) self.old) }
         ensures stays { OnErr result (self.new ≡ self.old) }
     {
         note_in(alloc, &mut self.rows, end, faults, stalled, events)?;
         self.runs = self.runs.saturating_add(1);
+        self.cut = one_more_if(cut, self.cut);
         Ok(())
     }
 
@@ -77,12 +81,15 @@ impl Table {
             rows,
             runs,
             past_limit,
+            cut,
         } = behind;
         let runs = sum(self.runs, runs);
         let past_limit = sum(self.past_limit, past_limit);
+        let cut = sum(self.cut, cut);
         join_rows(&mut self.rows, rows)?;
         self.runs = runs;
         self.past_limit = past_limit;
+        self.cut = cut;
         Ok(())
     }
 
@@ -105,6 +112,13 @@ impl Table {
         ensures { result ≡ self.now.past_limit }
     {
         self.past_limit
+    }
+
+    /// How many of them were cut where they would go on. They are counted so too.
+    pub fn cut(&self) -> u64
+        ensures { result ≡ self.now.cut }
+    {
+        self.cut
     }
 }
 

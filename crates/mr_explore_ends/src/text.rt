@@ -4,7 +4,7 @@ ghost use Rattle.std.specs.List.{flat_map, range_with_len};
 ghost use Rattle.std.specs.Option.{option_map};
 ghost use Rattle.mr_explore_ends.specs.Founds.{as_found};
 ghost use Rattle.mr_explore_ends.specs.Rows.{as_end};
-ghost use Rattle.mr_explore_ends.specs.Text.{all_text, are_all, best_text, counting, end_text, ends_text, explored_text, found_text, if_not_all, marked_line, past_limit_text, runs_lines, runs_text, seen_line, shortest_line, stalled_line, text_if};
+ghost use Rattle.mr_explore_ends.specs.Text.{all_text, are_all, best_text, both_text, counting, counts_text, cut_text, end_text, ends_text, explored_text, found_text, if_not_all, marked_line, past_limit_text, runs_lines, runs_text, seen_line, shortest_line, stalled_line, text_if, why_text};
 
 use crate::best::best_of;
 use crate::outcome::Outcome;
@@ -27,11 +27,11 @@ pub struct Found<'a> {
     pub whole: bool,
 }
 
-/// Whether the runs of the table are all: none is left to be made, and none would pass a limit.
+/// Whether the runs of the table are all: none is left to be made, none would pass a limit, and none was cut.
 pub(crate) fn are_all(found: &Found<'_>) -> bool
     ensures { result ≡ are_all (as_found found.now) }
 {
-    found.whole && found.table.past_limit() == 0
+    found.whole && found.table.past_limit() == 0 && found.table.cut() == 0
 }
 
 /// The ends that came, those of the fewest faults first; or of those that meet a goal the best. It fails where there is no memory.
@@ -155,35 +155,81 @@ fn put_best_end(
     }
 }
 
-// How many runs were made, with how many faults at most, whether these are all, and how many of them would pass a limit.
+// How many runs were made, with how many faults at most, whether these are all, how many of them would pass a limit, and how many were cut.
 fn put_runs(out: &mut Vec<u8>, found: &Found<'_>) -> Result<(), AllocError>
     ensures { OnOk result (out.new.items ≡ out.old.items ++ runs_text (as_found found.now)) }
 {
     put_count(out, b"# ", found.table.runs(), b" run")?;
     put_count(out, b" with at most ", u64::from(found.faults), b" fault")?;
-    put_if_not_all(out, are_all(found), found.table.past_limit())
+    put_if_not_all(
+        out,
+        are_all(found),
+        found.table.past_limit(),
+        found.table.cut(),
+    )
 }
 
-fn put_if_not_all(out: &mut Vec<u8>, all: bool, past_limit: u64) -> Result<(), AllocError>
-    ensures { OnOk result (out.new.items ≡ out.old.items ++ if_not_all all past_limit) }
+fn put_if_not_all(out: &mut Vec<u8>, all: bool, past_limit: u64, cut: u64) -> Result<(), AllocError>
+    ensures { OnOk result (out.new.items ≡ out.old.items ++ if_not_all all past_limit cut) }
 {
     if all {
         return Ok(());
     }
     out.extend_from_slice(b", not all")?;
-    put_past_limit(out, past_limit)
+    put_why(out, past_limit, cut)
+}
+
+fn put_why(out: &mut Vec<u8>, past_limit: u64, cut: u64) -> Result<(), AllocError>
+    ensures { OnOk result (out.new.items ≡ out.old.items ++ why_text past_limit cut) }
+{
+    if past_limit == 0 && cut == 0 {
+        return Ok(());
+    }
+    out.extend_from_slice(b" (")?;
+    put_counts(out, past_limit, cut)?;
+    out.extend_from_slice(b")")
+}
+
+fn put_counts(out: &mut Vec<u8>, past_limit: u64, cut: u64) -> Result<(), AllocError>
+    ensures { OnOk result (out.new.items ≡ out.old.items ++ counts_text past_limit cut) }
+{
+    if past_limit == 0 {
+        put_cut(out, cut)
+    } else {
+        put_both(out, past_limit, cut)
+    }
+}
+
+// Some would pass a limit, and maybe some were cut.
+fn put_both(out: &mut Vec<u8>, past_limit: u64, cut: u64) -> Result<(), AllocError>
+    ensures { OnOk result (out.new.items ≡ out.old.items ++ both_text past_limit cut) }
+{
+    put_past_limit(out, past_limit)?;
+    if cut == 0 {
+        return Ok(());
+    }
+    out.extend_from_slice(b", ")?;
+    put_cut(out, cut)
 }
 
 fn put_past_limit(out: &mut Vec<u8>, past_limit: u64) -> Result<(), AllocError>
     ensures { OnOk result (out.new.items ≡ out.old.items ++ past_limit_text past_limit) }
 {
-    if past_limit == 0 {
-        return Ok(());
-    }
-    out.extend_from_slice(b" (")?;
     let mut digits = Buffer::new();
     out.extend_from_slice(digits.format(past_limit).as_bytes())?;
-    out.extend_from_slice(b" would pass a limit)")
+    out.extend_from_slice(b" would pass a limit")
+}
+
+fn put_cut(out: &mut Vec<u8>, cut: u64) -> Result<(), AllocError>
+    ensures { OnOk result (out.new.items ≡ out.old.items ++ cut_text cut) }
+{
+    let mut digits = Buffer::new();
+    out.extend_from_slice(digits.format(cut).as_bytes())?;
+    if cut == 1 {
+        out.extend_from_slice(b" was cut")
+    } else {
+        out.extend_from_slice(b" were cut")
+    }
 }
 
 // One end.

@@ -49,7 +49,7 @@ one_more : (n m : ℕ) → n + 1 ≤ m → min (n + 1) m ≡ n + 1
 one_more n m few = omega (arith, few)
 
 noted_runs : (c : Came) (t : Table) → (noted c t).runs ≡ min (t.runs + 1) (2 ^ 64 - 1)
-noted_runs (ToEnd r) t = refl
+noted_runs (ToEnd cut r) t = refl
 noted_runs ToLimit t = refl
 
 pub runs_after : (cs : List Came) (t : Table) → t.runs + length cs ≤ 2 ^ 64 - 1 → (all_noted cs t).runs ≡ t.runs + length cs

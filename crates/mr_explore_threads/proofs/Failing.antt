@@ -6,7 +6,7 @@ use Rattle.mr_sim_commands.specs.declared.fault.SimFault.TheVariants as fault
 use Rattle.mr_explore.specs.declared.asked.Asked.{Asked}
 use Rattle.mr_explore.specs.Explored.{ExploredFails}
 use Rattle.mr_explore.specs.Exploring.{ExploreFails}
-use Rattle.mr_explore.specs.inner.Checks.{IsUnchecked}
+use Rattle.mr_explore.specs.Checks.{IsUnchecked}
 use Rattle.mr_explore.proofs.Printing.{begins_fails}
 
 -- a fault is carried on

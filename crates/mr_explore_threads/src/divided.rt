@@ -8,7 +8,7 @@ ghost use Rattle.mr_explore_search.specs.Runs.{Found};
 ghost use Rattle.mr_explore_threads.specs.inner.Counting.{Advances, IsCounted, IsCountedAt};
 ghost use Rattle.mr_explore.specs.Exploring.{Begins, ExploreFails, Remaining};
 ghost use Rattle.mr_explore.specs.Runs.{Exploring};
-ghost use Rattle.mr_explore.specs.inner.Checks.{IsUnchecked};
+ghost use Rattle.mr_explore.specs.Checks.{IsUnchecked};
 ghost use Rattle.mr_explore_threads.specs.inner.Counts.{remaining};
 
 use crate::counting::{Counted, count_by_threads};

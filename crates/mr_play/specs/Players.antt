@@ -18,6 +18,7 @@ use Rattle.mr_play.specs.declared.calm.Coming.{Coming}
 use Rattle.mr_play.specs.declared.calm.Coming.TheVariants as coming
 use Rattle.mr_sim_commands.specs.declared.fault.SimFault.{SimFault}
 use Rattle.mr_sim_commands.specs.declared.fault.SimFault.TheVariants as sim
+use Rattle.mr_sim_commands.specs.declared.job.submission.JobKind.{JobKind}
 use Rattle.mr_play.specs.declared.fault.PlayerFault.{PlayerFault}
 use Rattle.mr_play.specs.declared.fault.PlayerFault.TheVariants as fault
 use Rattle.mr_play.specs.declared.player.Player.{Player}
@@ -29,6 +30,10 @@ use Rattle.mr_play.specs.Played.{Played, Next, calmed, calms, computing, taken}
 
 abbrev pub state_in : Player → Played
 state_in p = record { events = p.world.events; cursor = p.cursor; dropped = p.dropped.keys; stepped = p.stepped; told = p.told.items; met = p.met }
+
+-- what its job computes
+abbrev pub job_in : Player → JobKind
+job_in p = p.job
 
 abbrev pub cluster_in : Player → World
 cluster_in p = world_in p.world

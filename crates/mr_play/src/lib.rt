@@ -10,8 +10,8 @@
 //! is no such run, since an event or a work passes a limit. An allocation failure may come at any of these.
 //!
 //! **A player** (`played`): a job's world in which the script was played. Its text is what `play` prints, its world is the cluster of which it is
-//! printed, and it knows which line made which events (`stretches` of `specs/Sources`; `HasPrinted`). The crate above shows more of it. `cursor`, `dropped` and
-//! `stepped` are what it holds of the calms, exactly. Whoever takes it further is told of two faults alone (`PlayerFault`): no memory, or a limit of the world. What takes memory alone answers `AllocError`.
+//! printed, and it knows which line made which events (`stretches` of `specs/Sources`; `HasPrinted`). The crate above shows more of it. `job` is what it computes, and `cursor`,
+//! `dropped` and `stepped` are what it holds of the calms, exactly. Whoever takes it further is told of two faults alone (`PlayerFault`): no memory, or a limit of the world. What takes memory alone answers `AllocError`.
 //!
 //! **What stands beside the text** (`shown_text`, by `HasText`): before it what is handed in; behind it the history, where that is asked for. The history
 //! has, for each generation that was started, in order, its head line `== history K LENGTH` and all bytes that are stable in its segment, a torn end too.

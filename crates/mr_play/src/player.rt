@@ -2,7 +2,7 @@
 ghost use Rattle.std.specs.Prelude.{◌≡◌, [], ◌∷◌, ◌++◌, length, Some, OnOk, IfOk, IfErr};
 ghost use Rattle.mr_play.specs.Text.{config_of, job_as};
 ghost use Rattle.mr_play.specs.Played.{begun, computing, expecting, losing, made, most_of, obeyed, played, stepped_by, stop_of};
-ghost use Rattle.mr_play.specs.Players.{calm_of, cluster_in, state_in, Goes, GoesNoting, IsEvent, Applies};
+ghost use Rattle.mr_play.specs.Players.{calm_of, cluster_in, job_in, state_in, Goes, GoesNoting, IsEvent, Applies};
 ghost use Rattle.mr_play.specs.Sources.{is_calm, stretch_of, stretches};
 ghost use Rattle.mr_sim_commands.specs.job.Submission.{IsWithinLimits};
 ghost use Rattle.mr_world.specs.Limits.{within};
@@ -70,6 +70,13 @@ impl Player {
             notes: Vec::new(alloc),
             idle_keys: setup.idle_keys,
         })
+    }
+
+    /// What the job computes.
+    pub fn job(&self) -> JobKind
+        ensures { result ≡ job_in self.now }
+    {
+        self.job
     }
 
     /// How many packets of the bag the calms have delivered or passed over.

@@ -1,11 +1,12 @@
 -- Whether a job has what a goal names.
-use Rattle.std.proofs.Common.{◌≡◌, ℕ, Bool, true, false, List, Result, Ok, Err, IfOk, IfErr, sym, ap, subst, ◌∙◌}
+use Rattle.std.proofs.Common.{◌≡◌, ℕ, Bool, true, false, List, Result, Ok, Err, IfOk, IfErr, inl, sym, ap, subst, ◌∙◌}
 use Rattle.mr_sim_commands.specs.declared.fault.JobTextFault.{JobTextFault}
 use Rattle.mr_sim_commands.specs.declared.fault.SimFault.{SimFault}
 use Rattle.mr_sim_commands.specs.declared.fault.SimFault.TheVariants.{NoMemory, Read, Write, TooLong, BadCommand, BadRecord, Job, Refused, Full, JobFailed, TurnsSpent, JournalMismatch, Thread}
 use Rattle.mr_sim_commands.specs.declared.job.submission.Submission.{Submission}
 use Rattle.mr_sim_commands.specs.job.Text.{submission_of, Fails}
-use Rattle.mr_trace.specs.mr_play.specs.Text.{job_line}
+use Rattle.mr_trace.specs.mr_play.specs.Text.{PlayFails, job_line}
+use Rattle.mr_trace.specs.mr_world.specs.Limits.{within}
 use Rattle.mr_explore.specs.declared.asked.Asked.{Asked}
 use Rattle.mr_explore.specs.Explored.{ExploredFails, PrintsExplored, goal_of}
 use Rattle.mr_sim.specs.Goals.{Names, PrintsSought, SoughtFails, can_meet}
@@ -56,6 +57,23 @@ fails_sought asked input (Err JobFailed) h = h
 fails_sought asked input (Err TurnsSpent) h = h
 fails_sought asked input (Err JournalMismatch) h = h
 fails_sought asked input (Err Thread) h = h
+
+-- the script is played once more
+pub fails_played : {A : Type 0} (asked : Asked) (input : List ℕ) (r : Result A SimFault) → IfErr r (PlayFails within input) → IfErr r (SoughtFails asked input)
+fails_played asked input (Ok v) h = h
+fails_played asked input (Err NoMemory) h = h
+fails_played asked input (Err Read) h = absurd h
+fails_played asked input (Err Write) h = absurd h
+fails_played asked input (Err TooLong) h = absurd h
+fails_played asked input (Err (BadCommand n)) h = h
+fails_played asked input (Err (BadRecord n)) h = absurd h
+fails_played asked input (Err (Job e)) h = h
+fails_played asked input (Err Refused) h = absurd h
+fails_played asked input (Err Full) h = inl h
+fails_played asked input (Err JobFailed) h = absurd h
+fails_played asked input (Err TurnsSpent) h = absurd h
+fails_played asked input (Err JournalMismatch) h = absurd h
+fails_played asked input (Err Thread) h = absurd h
 
 ok_is : (x y : Submission) → ◌≡◌ {A = Result Submission JobTextFault} (Ok x) (Ok y) → x ≡ y
 ok_is x y e = cc

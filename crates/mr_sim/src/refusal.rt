@@ -151,10 +151,7 @@ fn line_help(kind: InputKind, line: &[u8]) -> Option<Help> {
 
 // What was expected in a job text, which is the whole input or its first line.
 fn job_help(alloc: Global, kind: InputKind, input: &[u8], fault: JobTextFault) -> JobHint {
-    match kind {
-        InputKind::JobText => JobHint::of(alloc, input, fault, false),
-        _ => JobHint::of(alloc, line_at(input, 1), fault, true),
-    }
+    JobHint::of(alloc, input, fault, kind != InputKind::JobText)
 }
 
 // Which line of a split the job refuses, or which winner of a goal can't be.

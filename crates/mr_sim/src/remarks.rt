@@ -1,5 +1,7 @@
 //! What is to be told of a run beside its output: whether it was as its script expects, and what is to be noted of it.
 ghost use Rattle.std.specs.Prelude.{◌≡◌, IfOk, IfErr};
+ghost use Rattle.mr_trace.specs.mr_play.specs.Text.{PlayFails};
+ghost use Rattle.mr_trace.specs.mr_world.specs.Limits.{within};
 ghost use Rattle.mr_sim.specs.Expected.{ending_of};
 
 use crate::ending::Ending;
@@ -57,6 +59,8 @@ pub(crate) fn noted(alloc: Global, mut printed: Printed) -> Result<Printed, SimF
 
 /// What was printed of the runs of a job text and a script, with a note for each line of which `play` would tell: an event that is refused, an expectation
 /// that is not met, or a calm that ended otherwise than the line asks.
+///
+/// Its faults are those of `mr_play::played`. Where something was printed of the input, only `NoMemory` comes.
 pub(crate) fn noted_lines(
     alloc: Global,
     input: &[u8],
@@ -64,14 +68,10 @@ pub(crate) fn noted_lines(
 ) -> Result<Printed, SimFault>
     ensures text { IfOk result (λ v. v.text ≡ printed.text) }
     ensures met { IfOk result (λ v. v.met ≡ printed.met) }
-    ensures memory { IfErr result (λ e. e ≡ SimFault.NoMemory) }
+    ensures fault { IfErr result (PlayFails within input.now) }
 {
-    match played(alloc, input) {
-        Ok(player) => Ok(with_lines(printed, player)?),
-        Err(SimFault::NoMemory) => Err(SimFault::NoMemory),
-        // (the script was played before, so no other fault comes)
-        Err(_) => Ok(printed),
-    }
+    let player = played(alloc, input)?;
+    Ok(with_lines(printed, player)?)
 }
 
 // The same, of who played it.

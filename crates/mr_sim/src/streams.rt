@@ -121,6 +121,7 @@ fn hosted<H: AllocGlobal + Eprint + Clock + Threads + Wait + Sync>(
 }
 
 // What `explore` prints, by as many threads as are asked for, else by one for each processor; with notes on lines of the script.
+#[tactic(auto, using(crate::proofs::Sought::fails_played))]
 fn explored_with<H: AllocGlobal + Eprint + Clock + Threads + Sync>(
     rt: &H,
     input: &[u8],
@@ -135,7 +136,7 @@ fn explored_with<H: AllocGlobal + Eprint + Clock + Threads + Sync>(
     let watch = OnStandardError::new(rt, progress);
     let threads = threads_of(rt, jobs);
     let printed = explored_by_threads(rt, rt.alloc(), threads, input, asked, &watch)?;
-    Ok(noted_lines(rt.alloc(), input, printed)?)
+    noted_lines(rt.alloc(), input, printed)
 }
 
 // How many threads are asked for, or how many processors there are; 1 where that can't be told.

@@ -23,11 +23,11 @@ Behind a fault the run goes on as the calm of the newest master. Runs of fewer f
 An event of the script that is refused, an expectation that is not met, and a calm that ends otherwise than its line asks
 are told on standard error, with their lines. A GOAL is refused that names a reduce which the job does not have, or an attempt
 of another task as the winner of a reduce.
-Writes how many runs there are, `not all` where some were not made or would pass a limit, and each end that came of them, those
-that need fewer faults first: how many runs have it, how many of these were ended since they make no progress (all who live only
-ask their masters, and hear nothing, or no), what `play` prints of it, whether the files that a reader sees are those of `seq`, and
-of the scripts that lead to it with the fewest faults the first shortest one. Behind the job text it is an input of `play`: each
-script was played before it is shown.
+Writes how many runs there are, `not all` where some were not made, would pass a limit, or were cut, and each end that came of
+them, those that need fewer faults first: how many runs have it, how many of these were ended since they make no progress (all
+who live only ask their masters, and hear nothing, or no), what `play` prints of it, whether the files that a reader sees are
+those of `seq`, and of the scripts that lead to it with the fewest faults the first shortest one. Behind the job text it is an
+input of `play`: each script was played before it is shown.
 
 Example, where one.job is a job text alone, and its line has an end:
   mrsim explore --find \"marker yes, outcome failed\" one.job > script
@@ -36,7 +36,7 @@ As JSON, which ends have the marker:
   mrsim explore --json one.job | grep '\"marker\":true'";
 
 const DEEP_HELP: &str =
-    "Ends no run for making no progress: each makes at most EVENTS events by itself, behind the script, a fault or a late packet";
+    "Ends no run for making no progress: each makes at most EVENTS events by itself, behind the script, a fault or a late packet, and is cut there";
 
 const FAULTS_HELP: &str = "How many faults a run has at most, 0 to 4 (default 1)";
 

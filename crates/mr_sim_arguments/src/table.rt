@@ -44,7 +44,7 @@ impl Word {
         ..Word::FLAG
     };
 
-    // The word as clap takes it.
+    // The word as clap takes it. A number below zero behind it is its value, and refused as that.
     fn to_arg<'a>(&self, alloc: Global) -> Result<Arg<'a>, AllocError> {
         Arg::new(alloc, self.name)
             .long(self.name)
@@ -52,6 +52,7 @@ impl Word {
             .action(self.action)
             .value_names(self.value_names)
             .value_parser(self.bounds)
+            .allow_negative_numbers(!self.value_names.is_empty())
             .conflicts_with_all(self.rules_out)?
             .requires_all(self.needs)
     }

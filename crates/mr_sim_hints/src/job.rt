@@ -3,6 +3,7 @@
 use crate::near::is_near;
 use arrayvec::ArrayString;
 use mr_jobs::MaxByKey;
+use mr_script::split_once;
 use mr_sim_commands::{JobKind, JobTextFault, read_job_text};
 use mr_user::{Job, MAX_SPLIT_LEN, UserFault};
 use serde_json::Value;
@@ -25,8 +26,8 @@ pub enum JobTrouble {
     ByteOrderMark,
     /// It is no JSON, as is seen at this line and column, both from 1.
     NoJson { line: usize, column: usize },
-    /// The first line is a line of a script.
-    NoJobText,
+    /// The first line is a line of a script; and whether it is the only line.
+    NoJobText { is_alone: bool },
     /// The key is missing.
     NoKey,
     /// The key is missing, and this one is there.
@@ -82,10 +83,10 @@ pub struct JobHint {
 }
 
 impl JobHint {
-    /// What is to be told of a job text with this fault. Where `is_line` says so the text is the first line of a script. Where there is
-    /// no memory less is told.
-    pub fn of(alloc: Global, text: &[u8], fault: JobTextFault, is_line: bool) -> JobHint {
-        let trouble = match trouble_of(alloc, text, fault, is_line) {
+    /// What is to be told of the job text of an input with this fault. Where `is_line` says so it is the first line, and a script may stand
+    /// behind it. Where there is no memory less is told.
+    pub fn of(alloc: Global, input: &[u8], fault: JobTextFault, is_line: bool) -> JobHint {
+        let trouble = match trouble_of(alloc, input, fault, is_line) {
             Ok(trouble) => trouble,
             Err(_) => JobTrouble::Bad,
         };
@@ -97,19 +98,30 @@ impl JobHint {
     }
 }
 
+// The job text of an input, and the script behind it, if it is the first line.
+fn parts_of(input: &[u8], is_line: bool) -> (&[u8], &[u8]) {
+    match split_once(input, b'\n') {
+        Some((text, script)) if is_line => (text, script),
+        _ => (input, &b""[..]),
+    }
+}
+
 fn trouble_of(
     alloc: Global,
-    text: &[u8],
+    input: &[u8],
     fault: JobTextFault,
     is_line: bool,
 ) -> Result<JobTrouble, AllocError> {
+    let (text, script) = parts_of(input, is_line);
     if text.starts_with(b"\xef\xbb\xbf") {
         return Ok(JobTrouble::ByteOrderMark);
     }
     match Value::from_slice(alloc, text) {
         Ok(value) => trouble_in(alloc, &value, fault),
         Err(error) if error.is_memory() => Err(AllocError),
-        Err(_) if is_line && !text.starts_with(b"{") => Ok(JobTrouble::NoJobText),
+        Err(_) if is_line && !text.starts_with(b"{") => Ok(JobTrouble::NoJobText {
+            is_alone: script.is_empty(),
+        }),
         Err(error) => Ok(JobTrouble::NoJson {
             line: error.line(),
             column: error.column(),
@@ -207,9 +219,7 @@ impl fmt::Display for JobHint {
         match self.trouble {
             JobTrouble::ByteOrderMark => f.write_str("it begins with a byte order mark: ")?,
             JobTrouble::NoJson { line, column } => write!(f, "line {line}, column {column}: ")?,
-            JobTrouble::NoJobText => f.write_str(
-                "line 1 is no job text, and a script begins on line 2: ",
-            )?,
+            JobTrouble::NoJobText { is_alone } => f.write_str(no_job_text(is_alone))?,
             JobTrouble::NoKey => write!(f, "there is no key \"{fault}\": ")?,
             JobTrouble::Misspelt(near) => {
                 write!(f, "there is no key \"{fault}\", but there is \"{near}\": ")?
@@ -224,6 +234,15 @@ impl fmt::Display for JobHint {
             f.write_str(", all of it on line 1")?;
         }
         Ok(())
+    }
+}
+
+// What is told of a first line that is no job text.
+fn no_job_text(is_alone: bool) -> &'static str {
+    if is_alone {
+        "line 1 is no job text: "
+    } else {
+        "line 1 is no job text, and a script begins on line 2: "
     }
 }
 

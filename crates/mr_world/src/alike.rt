@@ -14,6 +14,8 @@ use mr_world_state::{Parts, WorldFault};
 /// only fault is an allocation failure.
 pub fn are_alike(parts: &Parts, others: &Parts) -> Result<bool, WorldFault>
     ensures alike { IfOk result (λ alike. IsTrue alike → (w u : World) → Standing parts.now w → Standing others.now u → Alike parts.now.config w u) }
+    ensures config { IfOk result (λ alike. IsTrue alike → parts.now.config ≡ others.now.config) }
+    ensures history { IfOk result (λ alike. IsTrue alike → parts.now.history ≡ others.now.history) }
     ensures memory { IfErr result (λ fault. fault ≡ WorldFault.NoMemory) }
 {
     if !is_one(outcome(parts), outcome(others)) {

@@ -85,8 +85,9 @@
 //!   `mr_world_files::jobs_have_their_laws` holds of each world;
 //! - `World::copy` gives a world of its own with the same config and the same journal, from where it goes on by itself.
 //!   It refuses for want of memory alone;
-//! - `World::is_alike` answers true only of worlds that are alike (`Alike` of mr_world_alike): from there the same
-//!   events lead both to the same ends. `launches` tells how many containers were launched;
+//! - `World::is_alike` answers true only of worlds that are alike (`Alike` of mr_world_alike), of one config, and whose
+//!   histories have the same bytes: from there the same events lead both to the same ends. How near each is to a limit
+//!   it does not tell. `launches` tells how many containers were launched;
 //! - `apply` refuses an event with the first reason why it is not permitted, else `Full` where it would pass a limit,
 //!   else `NoMemory`. Then nothing has changed. Else the event is the journal's last, the world after it is the
 //!   definitions', and the packets that it added are told (`Applies`);

@@ -334,11 +334,14 @@ impl World {
 
 // What programs read of worlds that go on as others do
 impl World {
-    /// Whether this world and another were found to be alike: then the same events lead both to the same ends. What
-    /// was sent is not compared, but for the outcome, nor how the worlds came there. Its only fault is an allocation
-    /// failure.
+    /// Whether this world and another were found to be alike: then they have one config, the bytes of their histories
+    /// are the same, and the same events lead both to the same ends. What was sent is not compared, but for the
+    /// outcome, nor how many containers were launched, nor how the worlds came there: how near each is to a limit is
+    /// not told. Its only fault is an allocation failure.
     pub fn is_alike(&self, other: &World) -> Result<bool, WorldFault>
         ensures alike { IfOk result (λ alike. IsTrue alike → Alike self.now.config (world_in self.now) (world_in other.now)) }
+        ensures config { IfOk result (λ alike. IsTrue alike → self.now.config ≡ other.now.config) }
+        ensures history { IfOk result (λ alike. IsTrue alike → history_in self.now ≡ history_in other.now) }
         ensures memory { IfErr result (λ fault. fault ≡ WorldFault.NoMemory) }
     {
         are_alike(&self.parts, &other.parts)

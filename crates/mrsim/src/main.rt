@@ -28,6 +28,10 @@ use std::{env, io};
 const GOAL_HELP: &str =
     "expected lines of winners, the marker and the outcome, as \"marker yes, outcome failed\"";
 
+// The same, where the goal names files.
+const FILES_HELP: &str =
+    "files can't be sought: expected lines of winners, the marker and the outcome, as \"marker yes, outcome failed\"";
+
 // The exit code of a program that ended so, when it has said what failed.
 fn code_of(rt: &impl Eprint, ending: Ending) -> ExitCode
     ensures { exit_status result ≡ exit_status_of ending }
@@ -144,6 +148,15 @@ fn refuse_goal(rt: &impl Eprint, word: &str, why: &str) -> Ending
     Ending::RefusedWords
 }
 
+// What a goal is, in place of this one.
+fn goal_help(word: &str) -> &'static str {
+    if word.find("file").is_some() || word.find("==").is_some() {
+        FILES_HELP
+    } else {
+        GOAL_HELP
+    }
+}
+
 // The end that is sought, if one is. Where no end can be so, the program ends, when it has said so.
 fn goal_of(
     rt: &(impl AllocGlobal + Eprint),
@@ -156,7 +169,7 @@ fn goal_of(
     };
     match read_goal(rt.alloc(), word) {
         Ok(Some(goal)) => sought(rt, word, goal),
-        Ok(None) => Err(refuse_goal(rt, word, GOAL_HELP)),
+        Ok(None) => Err(refuse_goal(rt, word, goal_help(word))),
         Err(_) => Err(Ending::Failed(SimFault::NoMemory)),
     }
 }

@@ -8,4 +8,5 @@ returns c = λ made is.
     tables_joined made c.args.self.now c.args.behind _ is
     (c.sum-runs.ensures ∙ (λ i. more (c.self.view_is i).runs (c.behind.view_is i).runs))
     (c.sum-past_limit.ensures ∙ (λ i. more (c.self.view_is i).past_limit (c.behind.view_is i).past_limit))
+    (c.sum-cut.ensures ∙ (λ i. more (c.self.view_is i).cut (c.behind.view_is i).cut))
     (c.in_ok-join_rows.ensures ∙ (λ i. all_joined (c.behind.view_is i).ends (c.self.view_is i).ends))
