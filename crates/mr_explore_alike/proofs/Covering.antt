@@ -1,29 +1,29 @@
 -- Whatever comes of a run comes of one that is like it.
-use Rattle.std.proofs.Common.{◌≡◌, ◌<◌, ℕ, zero, suc, Bool, true, false, List, ◌++◌, length, remove, option_to_list, sym, subst, arith}
+use Rattle.std.proofs.Common.{◌≡◌, ◌<◌, ℕ, zero, suc, Bool, true, List, ◌++◌, length, remove, option_to_list, sym, subst, arith}
 use Rattle.mr_explore_search.specs.Steps.{Steps}
 use Rattle.mr_explore_search.specs.Runs.{Found, Run, PassesLimit}
 use Rattle.mr_explore_search.specs.Laws.{Departs, Has_ended, Has_made_all, Would_pass, Went, Was_befallen, Came_later}
 use Rattle.mr_explore_alike.specs.Likens.{Likens, Covers, AlikeDepartAlike}
 use Rattle.mr_explore_alike.proofs.Void.{either, itself, true-is-not-false}
 
-module _ {S F : Type 0} (steps : Steps S F) (rest size : S → ℕ) (void : S → Bool) (like : S → List F → S → List F → Type 0) (ends : S → S → Type 0) where
+module _ {S F : Type 0} (steps : Steps S F) (rest : S → ℕ) (before : S → S → Bool) (void : S → Bool) (like : S → List F → S → List F → Type 0) (ends : S → S → Type 0) where
   -- behind one thing more
   behind : (most other n ripe left m b l : ℕ) (p q : List F) (t u : S) (r : Found S)
-      → ((x : S) → Departs steps most other m b l q u (Run other x) → Departs steps most other n ripe left p t (Run other x)) → Covers steps rest size void like ends most other m b l q u r → Covers steps rest size void like ends most other n ripe left p t r
+      → ((x : S) → Departs steps most other m b l q u (Run other x) → Departs steps most other n ripe left p t (Run other x)) → Covers steps rest before void like ends most other m b l q u r → Covers steps rest before void like ends most other n ripe left p t r
   behind most other n ripe left m b l p q t u (Run k s) f c = λ v. let d = c v in (d.0, f d.0 d.1, d.2)
   behind most other n ripe left m b l p q t u PassesLimit f c = tt
 
   -- with as many things that were put off
-  as-long : (most other n left a b : ℕ) (p : List F) (t : S) (r : Found S) → a ≡ b → Covers steps rest size void like ends most other n a left p t r → Covers steps rest size void like ends most other n b left p t r
-  as-long most other n left a b p t r e c = subst (λ (z : ℕ). Covers steps rest size void like ends most other n z left p t r) e c
+  as-long : (most other n left a b : ℕ) (p : List F) (t : S) (r : Found S) → a ≡ b → Covers steps rest before void like ends most other n a left p t r → Covers steps rest before void like ends most other n b left p t r
+  as-long most other n left a b p t r e c = subst (λ (z : ℕ). Covers steps rest before void like ends most other n z left p t r) e c
 
   -- what comes of a void run need not be covered
-  of-void : (most total other m k a n ripe left : ℕ) (os p : List F) (v t : S) (q : Found S) → Likens steps rest size void like ends most → void v ≡ true → Departs steps most total m k a os v q → Covers steps rest size void like ends most other n ripe left p t q
+  of-void : (most total other m k a n ripe left : ℕ) (os p : List F) (v t : S) (q : Found S) → Likens steps rest before void like ends most → void v ≡ true → Departs steps most total m k a os v q → Covers steps rest before void like ends most other n ripe left p t q
   of-void most total other m k a n ripe left os p v t q l e d =
-      subst (λ (z : Found S). Covers steps rest size void like ends most other n ripe left p t z) (sym (itself steps most total m k a os v q (l.nothing v e) d)) (λ f. absurd (true-is-not-false e f))
+      subst (λ (z : Found S). Covers steps rest before void like ends most other n ripe left p t z) (sym (itself steps most total m k a os v q (l.nothing v e) d)) (λ f. absurd (true-is-not-false e f))
 
-  covers : (most total other m k a there : ℕ) (os p : List F) (v t : S) (q : Found S) → Likens steps rest size void like ends most → like v os t p → rest v < a → rest t < there
-      → Departs steps most total m k a os v q → Covers steps rest size void like ends most other m k there p t q
+  covers : (most total other m k a there : ℕ) (os p : List F) (v t : S) (q : Found S) → Likens steps rest before void like ends most → like v os t p → rest v < a → rest t < there
+      → Departs steps most total m k a os v q → Covers steps rest before void like ends most other m k there p t q
   covers most total other m k a zero os p v t q l e few less d = absurd (omega (arith, less))
   covers most total other m k a (suc there) os p v t q l e few less (Has_ended ripe left o s s' w) =
       let x = l.stops s t s' o p e w in λ _. (x.there, Has_ended ripe there p t x.there x.stops, x.one)
@@ -55,5 +55,5 @@ module _ {S F : Type 0} (steps : Steps S F) (rest size : S → ℕ) (void : S �
       (as-long most other n most (length (remove o place)) (length (remove p place)) (remove p place) x.there r (l.owed s' x.there (remove o place) (remove p place) x.still)
       (covers most total other n (length (remove o place)) most most (remove o place) (remove p place) s' x.there r l x.still x.few x.few_there d)))
 
-  pub depart_alike : AlikeDepartAlike steps rest size void like ends
+  pub depart_alike : AlikeDepartAlike steps rest before void like ends
   depart_alike most total other n ripe left there o p s t r l e few less d = covers most total other n ripe left there o p s t r l e few less d

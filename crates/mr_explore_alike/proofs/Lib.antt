@@ -1,3 +1,4 @@
 pub mod Void
 pub mod Covering
 pub mod Leaving
+pub mod Least

@@ -1,7 +1,7 @@
 -- Of a void run it comes itself, and nothing else.
-use Rattle.std.proofs.Common.{◌≡◌, ℕ, suc, Bool, true, false, List, Some, None, refl, sym, subst}
-use Rattle.mr_explore_search.specs.Steps.{Goes, Ends, Full, Steps}
-use Rattle.mr_explore_search.specs.Runs.{Found, Run, PassesLimit}
+use Rattle.std.proofs.Common.{◌≡◌, ℕ, Bool, true, false, List, None, refl}
+use Rattle.mr_explore_search.specs.Steps.{Ends, Steps}
+use Rattle.mr_explore_search.specs.Runs.{Found, Run}
 use Rattle.mr_explore_search.specs.Laws.{Departs, Has_ended, Has_made_all, Would_pass, Went, Was_befallen, Came_later}
 
 pub true-is-not-false : {b : Bool} → b ≡ true → b ≡ false → ⊥

@@ -1,5 +1,5 @@
--- Which runs of a walk need not be made, and that no end and no shortest script is lost without them (our own profile).
-use Rattle.std.specs.Prelude.{◌≡◌, ◌<◌, ◌≤◌, ◌⊎◌, ℕ, suc, Bool, false, List, [], ◌++◌, length, remove, slice_get, Some, option_to_list}
+-- Which runs of a walk need not be made, and that no end and no least script is lost without them (our own profile).
+use Rattle.std.specs.Prelude.{◌≡◌, ◌<◌, ◌≤◌, ◌⊎◌, ℕ, suc, Bool, true, false, List, [], ◌++◌, length, remove, slice_get, Some, option_to_list}
 use Rattle.mr_explore_search.specs.Steps.{Goes, Ends, Steps}
 use Rattle.mr_explore_search.specs.Runs.{Found, Run}
 use Rattle.mr_explore_search.specs.Laws.{In, IsOneBy}
@@ -12,18 +12,20 @@ pub record Here (S F : Type 0) : Type 0 where
   pub owed : List F
   pub run : S
 
-module _ {S F : Type 0} (steps : Steps S F) (rest size : S → ℕ) (void : S → Bool) (like : S → List F → S → List F → Type 0) (ends : S → S → Type 0) where
-  -- u, of j faults, is no longer than s, of k faults: it has fewer faults, or as many and no longer script
-  abbrev pub IsNoLonger : (j : ℕ) → S → (k : ℕ) → S → Type 0
-  IsNoLonger j u k s = (j < k) ⊎ ((j ≡ k) × (size u ≤ size s))
+-- of two runs: whether the script of the first comes before that of the second
+module _ {S : Type 0} (before : S → S → Bool) where
+  -- u, of j faults, is earlier than s, of k faults: it has fewer faults, or as many and its script comes before that of s
+  abbrev pub IsEarlier : (j : ℕ) → S → (k : ℕ) → S → Type 0
+  IsEarlier j u k s = (j < k) ⊎ ((j ≡ k) × (before u s ≡ true))
 
-  -- a made run that is no longer was at a place that is like this one
+module _ {S F : Type 0} (steps : Steps S F) (rest : S → ℕ) (before : S → S → Bool) (void : S → Bool) (like : S → List F → S → List F → Type 0) (ends : S → S → Type 0) where
+  -- a made run that is earlier was at a place that is like this one, where as much may come
   pub record IsCovered (made : List (Here S F)) (k ripe : ℕ) (o : List F) (s : S) : Type 0 where
     pub by : Here S F
     pub made_by : In by made
     pub alike : like s o by.run by.owed
     pub ripe_there : ripe ≤ by.ripe
-    pub no_longer : IsNoLonger by.faults by.run k s
+    pub earlier : IsEarlier before by.faults by.run k s
 
   -- a place is made, or a made one is like it
   abbrev pub IsTaken : (made : List (Here S F)) (k ripe : ℕ) (o : List F) (s : S) → Type 0
@@ -39,16 +41,20 @@ module _ {S F : Type 0} (steps : Steps S F) (rest size : S → ℕ) (void : S �
     pub comes : (h : Here S F) (place : ℕ) (f : F) (t : S) → In h made → place < h.ripe → slice_get h.owed place ≡ Some f → steps.befallen f h.run ≡ Some t → void t ≡ false
         → IsTaken made h.faults (length (remove h.owed place)) (remove h.owed place) t
 
-  -- the run of k faults that came to s is one, or there is another one that is no longer and came to the same end
-  pub record IsFound (found : List (Found S)) (k : ℕ) (s : S) : Type 0 where
+  -- an earlier run is found that came to the same end as s, which has k faults
+  pub record IsFoundEarlier (found : List (Found S)) (k : ℕ) (s : S) : Type 0 where
     pub faults : ℕ
     pub run : S
     pub found_so : In (Run faults run) found
     pub one : ends s run
-    pub no_longer : IsNoLonger faults run k s
+    pub earlier : IsEarlier before faults run k s
 
-  -- of all runs that depart at `budget` places at most, and are not void, each end is found, and a shortest script to it
+  -- that very run is found, or an earlier one that came to the same end
+  abbrev pub IsFound : (found : List (Found S)) (k : ℕ) (s : S) → Type 0
+  IsFound found k s = In (Run k s) found ⊎ IsFoundEarlier found k s
+
+  -- of all runs that depart at `budget` places at most, and are not void, each one is found, or an earlier one that came to the same end
   abbrev pub NoEndIsLost : Type 0
-  NoEndIsLost = (most budget : ℕ) (made : List (Here S F)) (found : List (Found S)) (first : S) → Likens steps rest size void like ends most → like first [] first [] → rest first < most
-      → IsEnough budget made found → In (record { faults = 0; ripe = 0; owed = []; run = first }) made
+  NoEndIsLost = (most budget : ℕ) (made : List (Here S F)) (found : List (Found S)) (first : S) → Likens steps rest before void like ends most → like first [] first [] → rest first < most
+      → IsEnough budget made found → IsTaken made 0 0 [] first
       → (k : ℕ) (s : S) → IsOneBy steps most budget first (Run k s) → void s ≡ false → IsFound found k s

@@ -15,7 +15,7 @@ plain_winner : (won : Option Attempt) → has_float (winner_data won) ≡ false
 plain_winner None = refl
 plain_winner (Some a) = refl
 
-plain_winners : (all : List (Option Attempt)) → items_have_float (items_of (map winner_data all)) ≡ false
+pub plain_winners : (all : List (Option Attempt)) → items_have_float (items_of (map winner_data all)) ≡ false
 plain_winners [] = refl
 plain_winners (won ∷ all) = neither (has_float (winner_data won)) (items_have_float (items_of (map winner_data all))) (plain_winner won) (plain_winners all)
 

@@ -43,12 +43,12 @@ parts_Decide a b =
     (Decides-and (option_eq beq a.outcome b.outcome) _ (option_Decides booleans_Decides a.outcome b.outcome)
     (Decides-and (pointwise (option_eq same_attempt) a.winners b.winners) (bytes_eq a.files b.files) (slice_eq-Decides (option_Decides attempts_Decides) a.winners b.winners _ refl) (bytes_eq-Decides a.files b.files)))
 
-same-is : (a b : Outcome) → same_outcome a b ≡ true → a ≡ b
+pub same-is : (a b : Outcome) → same_outcome a b ≡ true → a ≡ b
 same-is a b e =
     let p = (parts_Decide a b).0 e in
     λ i. record { winners = p.1.1.0 i; marker = p.0 i; outcome = p.1.0 i; files = p.1.1.1 i }
 
-same-itself : (a : Outcome) → same_outcome a a ≡ true
+pub same-itself : (a : Outcome) → same_outcome a a ≡ true
 same-itself a = (parts_Decide a a).1 (refl, (refl, (refl, refl)))
 
 -- ---- the shorter of three

@@ -1,5 +1,5 @@
 pub mod Choosing
-mod EndObjects
-mod Joining
+pub mod EndObjects
+pub mod Joining
 mod Noting
 mod Pieces

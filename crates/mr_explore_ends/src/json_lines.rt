@@ -139,8 +139,8 @@ fn end_value(alloc: Global, row: &Row, sequential: &Sequential) -> Result<Value,
     Ok(into_value(object))
 }
 
-// What is printed of an end.
-fn put_read(
+/// What is printed of an end, as members of an object. It fails where there is no memory.
+pub fn put_read(
     object: &mut Object,
     alloc: Global,
     end: &Outcome,

@@ -31,9 +31,9 @@ mod text;
 
 pub use best::best_of;
 pub use goal::{is_contrary, meets, read_goal};
-pub use json_lines::put_ends;
+pub use json_lines::{put_ends, put_read};
 pub use outcome::Outcome;
 pub use row::Row;
 pub use sequential::Sequential;
 pub use table::Table;
-pub use text::{Found, put_found};
+pub use text::{Found, put_count, put_found, put_marked, put_seen};

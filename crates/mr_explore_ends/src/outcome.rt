@@ -56,7 +56,7 @@ impl Outcome {
     }
 
     /// Whether the success marker is there.
-    pub(crate) fn marker(&self) -> bool
+    pub fn marker(&self) -> bool
         ensures { result ≡ self.now.marker }
     {
         self.marker
@@ -89,7 +89,7 @@ impl Outcome {
     }
 
     /// Whether another is the same in each part.
-    pub(crate) fn is_same(&self, other: &Outcome) -> bool
+    pub fn is_same(&self, other: &Outcome) -> bool
         ensures { result ≡ same_outcome self.now other.now }
     {
         are_flags(self.marker(), other.marker())

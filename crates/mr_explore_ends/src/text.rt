@@ -66,8 +66,8 @@ fn put_all(
     put_by_faults(out, alloc, found.table, found.faults, sequential)
 }
 
-// Whether the files are right where the marker is.
-fn put_marked(out: &mut Vec<u8>, are_sequential: bool) -> Result<(), AllocError>
+/// Whether the files are right where the marker is. It fails where there is no memory.
+pub fn put_marked(out: &mut Vec<u8>, are_sequential: bool) -> Result<(), AllocError>
     ensures { OnOk result (out.new.items ≡ out.old.items ++ marked_line are_sequential) }
 {
     if are_sequential {
@@ -282,8 +282,8 @@ fn put_stalled(out: &mut Vec<u8>, stalled: u64) -> Result<(), AllocError>
     out.extend_from_slice(b"\n")
 }
 
-// Whether a reader sees no file, just those of the sequential execution, or others.
-fn put_seen(out: &mut Vec<u8>, end: &Outcome, sequential: &Sequential) -> Result<(), AllocError>
+/// Whether a reader sees no file, just those of the sequential execution, or others. It fails where there is no memory.
+pub fn put_seen(out: &mut Vec<u8>, end: &Outcome, sequential: &Sequential) -> Result<(), AllocError>
     ensures { OnOk result (out.new.items ≡ out.old.items ++ seen_line sequential.now end.now) }
 {
     if end.files().is_empty() {
@@ -295,9 +295,9 @@ fn put_seen(out: &mut Vec<u8>, end: &Outcome, sequential: &Sequential) -> Result
     }
 }
 
-// Words, a number, and what is counted.
+/// Words, a number, and what is counted. It fails where there is no memory.
 #[tactic(auto, unfolding(crate::specs::Text::counting))]
-fn put_count(
+pub fn put_count(
     out: &mut Vec<u8>,
     before: &[u8],
     number: u64,

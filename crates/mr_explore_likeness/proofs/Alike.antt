@@ -1,37 +1,36 @@
 -- Runs that are alike: whatever comes of the first comes of the second.
-use Rattle.std.proofs.Common.{ℕ, ◌-◌, ◌≤◌, ◌<◌, ◌≡◌, inl, inr, refl, sym, ◌∙◌, ap, subst, arith, Bool, true, false, List, [], ◌∷◌, ◌++◌, length, length-append, map, remove, slice_get, Option, Some, None, is_some, option_to_list}
+use Rattle.std.proofs.Common.{ℕ, ◌-◌, ◌≤◌, ◌<◌, ◌≡◌, refl, sym, ◌∙◌, ap, subst, arith, Bool, true, false, List, ◌++◌, length, length-append, map, remove, slice_get, Option, Some, None, is_some, option_to_list}
 use Rattle.std.specs.List.{flat_map, range_with_len}
 use Rattle.std.proofs.lemmas.Bool.{true≢false}
 use Rattle.mr_sim_commands.specs.declared.job.submission.JobKind.{JobKind}
 use Rattle.mr_world_model.specs.Ids.{reduce_of}
-use Rattle.mr_world_model.specs.Packets.{Config, Envelope}
+use Rattle.mr_world_model.specs.Packets.{Config}
 use Rattle.mr_world_model.specs.World.{Event}
 use Rattle.mr_world_model.specs.Sequential.{Job}
-use Rattle.mr_world_alike.proofs.Agreeing.{equivalence}
 use Rattle.mr_world_alike.proofs.Worlds.{ends_are_one}
 use Rattle.mr_world_state.specs.Limits.{within}
 use Rattle.mr_world.specs.declared.limits.TheConstants.{MAX_EVENTS}
 use Rattle.mr_play.specs.Played.{Played}
 use Rattle.mr_play.specs.Text.{job_as}
-use Rattle.mr_play_alike.specs.Plays.{SamePlay}
 use Rattle.mr_play.specs.WorldText.{visible_text}
 use Rattle.mr_explore_search.specs.Steps.{Onward, Goes, Ends, Full, Steps}
 use Rattle.mr_explore_search.specs.Laws.{In}
 use Rattle.mr_explore_alike.specs.Likens.{GoesToo, EndsToo, BefallsToo, ComesToo}
 use Rattle.mr_explore_faults.specs.declared.fault.Fault.{Fault}
-use Rattle.mr_explore_faults.specs.declared.fault.Fault.TheVariants as fault
 use Rattle.mr_explore_faults.specs.Kinds.{later}
+use Rattle.mr_script_order.specs.Order.{sooner}
+use Rattle.mr_script_order.proofs.Ordered.{stays}
 use Rattle.mr_explore.specs.Exploring.{outcome_of}
 use Rattle.mr_explore.specs.Faults.{Fate, Happens, NotPermitted, PastLimit, befallen, most_events}
 use Rattle.mr_explore.specs.Runs.{Exploring, befallen_with, explored, onward_with}
-use Rattle.mr_explore_likeness.specs.Owed.{AreOneLater, IsOneLater}
-use Rattle.mr_explore_likeness.specs.Plays.{IsNoNearer, IsOnePacket, LikePlays, cluster}
-use Rattle.mr_explore_likeness.specs.Runs.{like, rest, size, void}
+use Rattle.mr_explore_likeness.specs.Owed.{AreOneLater}
+use Rattle.mr_explore_likeness.specs.Plays.{LikePlays, cluster}
+use Rattle.mr_explore_likeness.specs.Runs.{before, like, rest, void}
 use Rattle.mr_explore_likeness.proofs.Befalling.{BefellBoth, SameFate, laters-on, more-later}
-use Rattle.mr_explore_likeness.proofs.Calms.{CameOn}
+use Rattle.mr_explore_likeness.proofs.Calms.{CameOn, as-many-events}
 use Rattle.mr_explore_likeness.proofs.Going.{SameOnward, WentOn}
 use Rattle.mr_explore_likeness.proofs.Listing.{IsOneFault}
-use Rattle.mr_explore_likeness.proofs.Moves.{Moves, as-many, both-without, laters-since}
+use Rattle.mr_explore_likeness.proofs.Moves.{Moves, both-without, laters-since}
 
 -- ---- answers
 
@@ -68,91 +67,6 @@ is-end (Goes s) = false
 is-end (Ends s) = true
 is-end Full = false
 
--- ---- one is like another one, which is like a third one
-
-one-through : (xs ys zs : List Envelope) (m n k i j l : ℕ) → IsOnePacket xs ys m n i j → IsOnePacket ys zs n k j l → IsOnePacket xs zs m k i l
-one-through xs ys zs m n k i j l (inl a) (inl b) = inl (a.0, b.1, a.2 ∙ b.2)
-one-through xs ys zs m n k i j l (inl a) (inr b) = let x = a.1 in let y = b.1 in absurd (omega (arith, x, y))
-one-through xs ys zs m n k i j l (inr a) (inl b) = let x = a.2 in let y = b.0 in absurd (omega (arith, x, y))
-one-through xs ys zs m n k i j l (inr a) (inr b) = let x = a.2 in let y = b.1 in let z = b.2 in inr (a.0, a.1, omega (arith, x, y, z))
-
-later-through : (xs ys zs : List Envelope) (m n k : ℕ) (f g h : Fault) → IsOneLater xs ys m n f g → IsOneLater ys zs n k g h → IsOneLater xs zs m k f h
-later-through xs ys zs m n k (fault.Late i) (fault.Late j) (fault.Late l) a b = one-through xs ys zs m n k i j l a b
-later-through xs ys zs m n k (fault.Late i) (fault.Late j) h a b = absurd b
-later-through xs ys zs m n k (fault.Late i) g h a b = absurd a
-later-through xs ys zs m n k fault.Next fault.Next fault.Next a b = tt
-later-through xs ys zs m n k fault.Next fault.Next h a b = absurd b
-later-through xs ys zs m n k fault.Next g h a b = absurd a
-later-through xs ys zs m n k f g h a b = absurd a
-
-laters-through : (xs ys zs : List Envelope) (m n k : ℕ) (o p q : List Fault) → AreOneLater xs ys m n o p → AreOneLater ys zs n k p q → AreOneLater xs zs m k o q
-laters-through xs ys zs m n k [] [] [] a b = tt
-laters-through xs ys zs m n k [] [] (h ∷ hs) a b = absurd b
-laters-through xs ys zs m n k [] (g ∷ gs) q a b = absurd a
-laters-through xs ys zs m n k (f ∷ fs) [] q a b = absurd a
-laters-through xs ys zs m n k (f ∷ fs) (g ∷ gs) [] a b = absurd b
-laters-through xs ys zs m n k (f ∷ fs) (g ∷ gs) (h ∷ hs) a b = (later-through xs ys zs m n k f g h a.0 b.0, laters-through xs ys zs m n k fs gs hs a.1 b.1)
-
-limits-through : (cfg : Config) (s t u : Played) → IsNoNearer cfg s t → IsNoNearer cfg t u → IsNoNearer cfg s u
-limits-through cfg s t u a b =
-    let x = a.events in
-    let y = b.events in
-    let v = a.packets in
-    let w = b.packets in
-    let p = a.launches in
-    let q = b.launches in
-    record { events = omega (arith, x, y); packets = omega (arith, v, w); launches = omega (arith, p, q) }
-
-module _ (level : Bool) (job : Job) (cfg : Config) where
-  same-through : (s t u : Played) → SamePlay job cfg (within cfg) s t → SamePlay job cfg (within cfg) t u → SamePlay job cfg (within cfg) s u
-  same-through s t u a b = record {
-    alike = equivalence.through cfg (cluster cfg s) (cluster cfg t) (cluster cfg u) a.alike b.alike;
-    packets = record {
-      from = a.packets.from;
-      to = b.packets.to;
-      ahead = a.packets.ahead ∙ b.packets.ahead;
-      are_sent = a.packets.are_sent;
-      delivered = λ x w. b.packets.delivered x (a.packets.delivered x w);
-    };
-    dropped = λ i. a.dropped i ∙ b.dropped i;
-    stepped = a.stepped ∙ b.stepped;
-  }
-
-  plays-through : (s t u : Played) → LikePlays level job cfg s t → LikePlays level job cfg t u → LikePlays level job cfg s u
-  plays-through s t u a b = record {
-    same = same-through s t u a.same b.same;
-    delivered = λ i q.
-        let d = a.delivered i q in
-        let e = b.delivered d.0 d.1 in
-        (e.0, e.1, one-through (cluster cfg s).bag (cluster cfg t).bag (cluster cfg u).bag s.cursor t.cursor u.cursor i d.0 e.0 d.2 e.2);
-    asking = a.asking ∙ b.asking;
-    history = a.history ∙ b.history;
-    no_nearer = limits-through cfg s t u a.no_nearer b.no_nearer;
-    no_farther = λ l. limits-through cfg u t s (b.no_farther l) (a.no_farther l);
-  }
-
-pub through : (level : Bool) (s t u : Exploring) (o p q : List Fault) → like level s o t p → like level t p u q → like level s o u q
-through level s t u o p q e f =
-    let plays : LikePlays level (job_as s.job) s.config t.played u.played =
-    subst (λ (k : JobKind). LikePlays level (job_as k) s.config t.played u.played) (sym e.job) (subst (λ (c : Config). LikePlays level (job_as t.job) c t.played u.played) (sym e.config) f.plays) in
-    let owed : AreOneLater (cluster s.config t.played).bag (cluster s.config u.played).bag t.played.cursor u.played.cursor p q =
-    subst (λ (c : Config). AreOneLater (cluster c t.played).bag (cluster c u.played).bag t.played.cursor u.played.cursor p q) (sym e.config) f.owed in
-    record {
-      job = e.job ∙ f.job;
-      config = e.config ∙ f.config;
-      goes = e.goes;
-      goes_too = f.goes_too;
-      shallow = e.shallow;
-      shallow_too = f.shallow_too;
-      begun = e.begun;
-      begun_too = f.begun_too;
-      plays = plays-through level (job_as s.job) s.config s.played t.played u.played e.plays plays;
-      owed = laters-through (cluster s.config s.played).bag (cluster s.config t.played).bag (cluster s.config u.played).bag s.played.cursor t.played.cursor u.played.cursor o p q e.owed owed;
-    }
-
-pub as-many-owed : (level : Bool) (s t : Exploring) (o p : List Fault) → like level s o t p → length o ≡ length p
-as-many-owed level s t o p e = as-many (cluster s.config s.played).bag (cluster s.config t.played).bag s.played.cursor t.played.cursor o p e.owed
-
 -- ---- runs of one job
 
 most-events-are : most_events ≡ MAX_EVENTS
@@ -171,6 +85,12 @@ pub one-outcome : (level : Bool) (job : Job) (cfg : Config) (s t : Played) → L
 one-outcome level job cfg s t e =
     let x = ends_are_one cfg (within cfg) s.events t.events e.same.alike in
     λ i. record { winners = map (λ r. x.winners (reduce_of cfg.job r) i) (range_with_len 0 cfg.reduces); marker = x.marked i; outcome = x.told i; files = flat_map visible_text (x.files i) }
+
+-- a script that comes before another one does so where both went on by as many events
+stays-sooner : (cfg : Config) (s t a b : Played) (es fs : List Event) → Moves cfg s t a b es fs → length es ≡ length fs → sooner t.events s.events ≡ true → sooner b.events a.events ≡ true
+stays-sooner cfg s t a b es fs m l q =
+    subst (λ (xs : List Event). sooner xs a.events ≡ true) (sym m.events_there)
+    (subst (λ (ys : List Event). sooner (t.events ++ fs) ys ≡ true) (sym m.events) (stays.behind t.events s.events fs es (sym l) q))
 
 -- a run that no limit stops
 abbrev pub as-run : JobKind → Config → Played → Exploring
@@ -206,19 +126,18 @@ module _ (level : Bool) (on : Exploring → Onward Exploring) (tried : Exploring
   -- ---- they go on
 
   abbrev Going : Played → Exploring → List Fault → Played → List Fault → Type 0
-  Going s s' o t p = GoesToo steps rest size void (like level) one-end (at s) s' o (at t) p
+  Going s s' o t p = GoesToo steps rest before void (like level) one-end (at s) s' o (at t) p
 
   went : (s t a b : Played) (o p : List Fault) → Both level job cfg s t o p → WentOn level (job_as job) cfg s t a b → on (at t) ≡ Goes (at b) → Going s (at a) o t p
   went s t a b o p e w g =
       let c = w.came in
-      let n = c.still.no_nearer in
       record {
         there = at b;
         goes = g;
         still = like-at a b o p (both-on s t a b o p o p c.es c.fs e c.moves c.still (laters-since cfg s t a b c.es c.fs e.plays.same.packets c.moves o p e.owed));
         fewer = fewer-left (length s.events) (length a.events) w.more (c.room w.more);
         fewer_there = fewer-left (length t.events) (length b.events) w.more_there (c.room_there w.more_there);
-        no_longer = λ l. n.events;
+        stays_before = stays-sooner cfg s t a b c.es c.fs c.moves (as-many-events s.cursor t.cursor c.es c.fs c.shifted);
       }
 
   pub goes-by : (s t : Played) (o p : List Fault) → Both level job cfg s t o p → (v w : Onward Played) → on (at t) ≡ onward_with (at t) w → SameOnward level (job_as job) cfg s t v w → (s' : Exploring) → onward_with (at s) v ≡ Goes s' → Going s s' o t p
@@ -231,16 +150,15 @@ module _ (level : Bool) (on : Exploring → Onward Exploring) (tried : Exploring
   -- ---- they end
 
   abbrev Ending : Played → Exploring → Played → Type 0
-  Ending s s' t = EndsToo steps rest size void (like level) one-end (at s) s' (at t)
+  Ending s s' t = EndsToo steps rest before void (like level) one-end (at s) s' (at t)
 
   ended : (s t a b : Played) → CameOn level (job_as job) cfg s t a b → one-end (at a) (at b) → on (at t) ≡ Ends (at b) → Ending s (at a) t
   ended s t a b c one g =
-      let n = c.still.no_nearer in
       record {
         there = at b;
         stops = g;
         one = one;
-        no_longer = λ l. n.events;
+        stays_before = stays-sooner cfg s t a b c.es c.fs c.moves (as-many-events s.cursor t.cursor c.es c.fs c.shifted);
       }
 
   pub ends-by : (s t : Played) → ((a b : Played) → LikePlays level (job_as job) cfg a b → one-end (at a) (at b)) → (v w : Onward Played) → on (at t) ≡ onward_with (at t) w → SameOnward level (job_as job) cfg s t v w → (s' : Exploring) → onward_with (at s) v ≡ Ends s' → Ending s s' t
@@ -253,16 +171,15 @@ module _ (level : Bool) (on : Exploring → Onward Exploring) (tried : Exploring
   -- ---- something befalls them
 
   abbrev Befalling : Played → Exploring → List Fault → Played → List Fault → Type 0
-  Befalling s s' o t p = BefallsToo steps rest size void (like level) one-end most_events (at s) s' o (at t) p
+  Befalling s s' o t p = BefallsToo steps rest before void (like level) one-end most_events (at s) s' o (at t) p
 
   abbrev Coming : Played → Exploring → List Fault → ℕ → Played → List Fault → Type 0
-  Coming s s' o place t p = ComesToo steps rest size void (like level) one-end most_events (at s) s' o place (at t) p
+  Coming s s' o place t p = ComesToo steps rest before void (like level) one-end most_events (at s) s' o place (at t) p
 
   befell : (s t a b : Played) (o p : List Fault) (f g : Fault) → Both level job cfg s t o p → In g (tried (at t)) → IsOneFault (cluster cfg s).bag (cluster cfg t).bag s.cursor t.cursor f g
       → BefellBoth level (job_as job) cfg s t a b → befallen (job_as job) cfg (within cfg) g t ≡ Happens b → Befalling s (at a) (o ++ option_to_list (later f)) t p
   befell s t a b o p f g e i one c h =
       let both = both-on s t a b o p (o ++ option_to_list (later f)) (p ++ option_to_list (later g)) c.es c.fs e c.moves c.still (more-later level (job_as job) cfg s t e.plays a b c o p f g e.owed one) in
-      let n = c.still.no_nearer in
       record {
         fault = g;
         may = i;
@@ -271,7 +188,7 @@ module _ (level : Bool) (on : Exploring → Onward Exploring) (tried : Exploring
         still = like-at a b (o ++ option_to_list (later f)) (p ++ option_to_list (later g)) both;
         few = few-left (length a.events) both.begun;
         few_there = few-left (length b.events) both.begun_too;
-        no_longer = λ l. n.events;
+        stays_before = stays-sooner cfg s t a b c.es c.fs c.moves c.as_many;
       }
 
   pub befalls-by : (s t : Played) (o p : List Fault) (f g : Fault) → Both level job cfg s t o p → In g (tried (at t)) → IsOneFault (cluster cfg s).bag (cluster cfg t).bag s.cursor t.cursor f g
@@ -287,7 +204,6 @@ module _ (level : Bool) (on : Exploring → Onward Exploring) (tried : Exploring
   came s t a b o p place f g e i c h =
       let owed = both-without (cluster cfg a).bag (cluster cfg b).bag a.cursor b.cursor place o p (laters-on level (job_as job) cfg s t e.plays a b c o p e.owed) in
       let both = both-on s t a b o p (remove o place) (remove p place) c.es c.fs e c.moves c.still owed in
-      let n = c.still.no_nearer in
       record {
         fault = g;
         owed = i;
@@ -296,7 +212,7 @@ module _ (level : Bool) (on : Exploring → Onward Exploring) (tried : Exploring
         still = like-at a b (remove o place) (remove p place) both;
         few = few-left (length a.events) both.begun;
         few_there = few-left (length b.events) both.begun_too;
-        no_longer = λ l. n.events;
+        stays_before = stays-sooner cfg s t a b c.es c.fs c.moves c.as_many;
       }
 
   pub comes-by : (s t : Played) (o p : List Fault) (place : ℕ) (f g : Fault) → Both level job cfg s t o p → slice_get p place ≡ Some g

@@ -1,5 +1,5 @@
 -- The same fault makes alike plays of alike plays: where it happens to the first, no limit forbids it in the second.
-use Rattle.std.proofs.Common.{ℕ, suc, ◌+◌, ◌≡◌, inr, refl, sym, ◌∙◌, ap, subst, arith, Bool, true, false, nat_lt, List, [], ◌∷◌, ◌++◌, Option, Some, None, is_none, option_to_list, if◌then◌else◌}
+use Rattle.std.proofs.Common.{ℕ, suc, ◌+◌, ◌≡◌, inr, refl, sym, ◌∙◌, ap, subst, arith, Bool, true, false, nat_lt, List, [], ◌∷◌, ◌++◌, length, length-append, Option, Some, None, is_none, option_to_list, if◌then◌else◌}
 use Rattle.std.proofs.lemmas.Bool.{true≢false}
 use Rattle.std.proofs.lemmas.List.{append-nil}
 use Rattle.mr_ids.specs.declared.id.TheConstants.{MAX_APP_ATTEMPTS}
@@ -38,6 +38,7 @@ module _ (level : Bool) (job : Job) (cfg : Config) where
     pub es : List Event
     pub fs : List Event
     pub moves : Moves cfg s t s' t' es fs
+    pub as_many : length es ≡ length fs
 
   -- where it happens to the first, it happens to the second
   abbrev pub SameFate : Played → Played → Fate → Fate → Type 0
@@ -69,6 +70,7 @@ module _ (level : Bool) (job : Job) (cfg : Config) where
             es = e ∷ [];
             fs = f ∷ [];
             moves = took-moves level job cfg s t o e f one (stepped_by job cfg (within cfg) e s.stepped) (stepped_by job cfg (within cfg) f t.stepped) l n p q;
+            as_many = refl;
           }
       by None None n d true false p q = absurd (true≢false (sym (fits-too level job cfg s t o e f one n p) ∙ q))
       by None None n d false c p q = tt
@@ -82,9 +84,12 @@ module _ (level : Bool) (job : Job) (cfg : Config) where
       by true = happening-both s t o (Start (suc k) kept) (Start (suc k) kept) refl
       by false = tt
 
+  as-many-both : (es fs gs hs : List Event) → length es ≡ length fs → length gs ≡ length hs → length (es ++ gs) ≡ length (fs ++ hs)
+  as-many-both es fs gs hs a b = length-append es gs ∙ ((λ i. a i + b i) ∙ sym (length-append fs hs))
+
   behind : (s t a b : Played) → BefellBoth s t a b → (x y : Fate) → SameFate a b x y → SameFate s t x y
   behind s t a b o (Happens x) (Happens y) c =
-      record { still = c.still; es = o.es ++ c.es; fs = o.fs ++ c.fs; moves = then-moves cfg s t a b x y o.es o.fs c.es c.fs o.moves c.moves }
+      record { still = c.still; es = o.es ++ c.es; fs = o.fs ++ c.fs; moves = then-moves cfg s t a b x y o.es o.fs c.es c.fs o.moves c.moves; as_many = as-many-both o.es o.fs c.es c.fs o.as_many c.as_many }
   behind s t a b o (Happens x) NotPermitted c = absurd c
   behind s t a b o (Happens x) (PastLimit y) c = absurd c
   behind s t a b o NotPermitted y c = tt
@@ -133,6 +138,7 @@ module _ (level : Bool) (job : Job) (cfg : Config) where
           events = sym (append-nil s.events);
           events_there = sym (append-nil t.events);
         };
+        as_many = refl;
       }
 
   -- ---- faults

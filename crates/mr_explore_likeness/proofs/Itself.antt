@@ -1,7 +1,7 @@
 -- The run of an input is like itself.
-use Rattle.std.proofs.Common.{ℕ, ◌-◌, ◌≤◌, ◌≡◌, ◌≢◌, inl, inr, refl, sym, ◌∙◌, ap, subst, arith, Bool, true, false, ◌&&◌, List, [], ◌∷◌, ◌++◌, length, length-append, nat_lt, Option, Some, None, is_none, is_some, if◌then◌else◌}
+use Rattle.std.proofs.Common.{ℕ, ◌≤◌, ◌≡◌, ◌≢◌, inl, inr, refl, sym, ◌∙◌, ap, subst, arith, Bool, true, false, ◌&&◌, List, [], ◌∷◌, ◌++◌, length, length-append, nat_lt, Option, Some, None, is_none, is_some, if◌then◌else◌}
 use Rattle.std.specs.Option.{option_and_then, option_map}
-use Rattle.std.proofs.lemmas.Bool.{true≢false, ltb-true, ltb-false}
+use Rattle.std.proofs.lemmas.Bool.{true≢false}
 use Rattle.mr_sim_commands.specs.declared.job.submission.JobKind.{JobKind}
 use Rattle.mr_packet.specs.declared.packet.ContainerId.{ContainerId}
 use Rattle.mr_script.specs.declared.command.Command.{Command}
@@ -25,9 +25,10 @@ use Rattle.mr_play_alike.specs.Plays.{SamePlay}
 use Rattle.mr_play_alike.proofs.Calming.{calm_alike, take_alike}
 use Rattle.mr_explore.specs.Faults.{told}
 use Rattle.mr_explore.specs.Runs.{Exploring, IsRunOf, StartsFrom, with}
-use Rattle.mr_explore_likeness.specs.Plays.{IsOnePacket, LikePlays, cluster}
+use Rattle.mr_explore_likeness.specs.Plays.{cluster}
 use Rattle.mr_explore_likeness.specs.Runs.{like}
 use Rattle.mr_explore_likeness.proofs.Alike.{as-run}
+use Rattle.mr_explore_likeness.proofs.Preorder.{likes-itself}
 
 same-itself : (w : World) (e : Event) → IsSame w w e e
 same-itself w (Deliver i) = refl
@@ -126,24 +127,8 @@ module _ (job : Job) (cfg : Config) where
   has-begun [] n = absurd (n (no-fence [] refl))
   has-begun (e ∷ es) n = omega arith
 
-  -- ---- so are the plays
-
-  likes-itself : (level : Bool) (s : Played) → Self s → LikePlays level job cfg s s
-  likes-itself level s o = record {
-    same = o;
-    delivered = λ i q. (i, q, place i (nat_lt i s.cursor) refl);
-    asking = refl;
-    history = refl;
-    no_nearer = record { events = omega arith; packets = omega arith; launches = omega arith };
-    no_farther = λ l. record { events = omega arith; packets = omega arith; launches = omega arith };
-  }
-    where
-      place : (i : ℕ) (b : Bool) → nat_lt i s.cursor ≡ b → IsOnePacket (W s).bag (W s).bag s.cursor s.cursor i i
-      place i true e = let l = ltb-true i s.cursor e in inl (l, l, refl)
-      place i false e = let l = ltb-false i s.cursor e in inr (i - s.cursor, omega (arith, l), omega (arith, l))
-
 run-itself : (level : Bool) (job : JobKind) (cfg : Config) (s : Played) → SamePlay (job_as job) cfg (within cfg) s s → 1 ≤ length s.events → like level (as-run job cfg s) [] (as-run job cfg s) []
-run-itself level job cfg s o l = record { job = refl; config = refl; goes = refl; goes_too = refl; shallow = refl; shallow_too = refl; begun = l; begun_too = l; plays = likes-itself (job_as job) cfg level s o; owed = tt }
+run-itself level job cfg s o l = record { job = refl; config = refl; goes = refl; goes_too = refl; shallow = refl; shallow_too = refl; begun = l; begun_too = l; plays = likes-itself level (job_as job) cfg s o; owed = tt }
 
 this-run : (s t : Exploring) → Some s ≡ Some t → s ≡ t
 this-run s t q = ap (or-this s) q

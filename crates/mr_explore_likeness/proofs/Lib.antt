@@ -8,8 +8,10 @@ pub mod Looking
 pub mod Going
 pub mod Listing
 pub mod Befalling
+pub mod Preorder
 pub mod Alike
 pub mod Whole
 pub mod Wary
 pub mod Itself
 pub mod Losing
+pub mod Scripts

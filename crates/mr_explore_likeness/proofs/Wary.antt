@@ -18,14 +18,15 @@ use Rattle.mr_explore.specs.Faults.{asks_on, befallen, calm, goes_in_vain, most_
 use Rattle.mr_explore.specs.Runs.{Exploring, befallen_with, explored, onward_with}
 use Rattle.mr_explore_likeness.specs.Careful.{cannot_look, careful, ends_careful, onward_careful, unless_full}
 use Rattle.mr_explore_likeness.specs.Plays.{LikePlays, cluster}
-use Rattle.mr_explore_likeness.specs.Runs.{like, rest, size, void}
-use Rattle.mr_explore_likeness.proofs.Alike.{Both, as-many-owed, as-run, befalls-by, comes-by, ends-by, goes-by, one-outcome, that-at, this-at, through}
+use Rattle.mr_explore_likeness.specs.Runs.{before, like, rest, void}
+use Rattle.mr_explore_likeness.proofs.Alike.{Both, as-run, befalls-by, comes-by, ends-by, goes-by, one-outcome, that-at, this-at}
 use Rattle.mr_explore_likeness.proofs.Befalling.{as-fault, same-fate}
 use Rattle.mr_explore_likeness.proofs.Calms.{SameCame, calm-same}
 use Rattle.mr_explore_likeness.proofs.Going.{SameOnward, next-same, onward-same}
 use Rattle.mr_explore_likeness.proofs.Listing.{other-fault}
 use Rattle.mr_explore_likeness.proofs.Looking.{LooksOn, vain-same, wait-same}
 use Rattle.mr_explore_likeness.proofs.Moves.{other-at}
+use Rattle.mr_explore_likeness.proofs.Preorder.{as-many-owed, itself, scripts-in-order, through}
 
 -- what is tried
 abbrev tried : Exploring → List Fault
@@ -100,18 +101,18 @@ module _ (job : JobKind) (cfg : Config) where
   on-stuck : (s : Played) → stuck s ≡ true → onward_careful (at s) ≡ Full
   on-stuck s n = λ i. if n i then Full else onward_with (at s) (onward (job_as job) cfg (within cfg) false s)
 
-  goes-at : (s t : Played) (o p : List Fault) → Both false job cfg s t o p → (s' : Exploring) → onward_careful (at s) ≡ Goes s' → GoesToo careful rest size void (like false) ends_careful (at s) s' o (at t) p
+  goes-at : (s t : Played) (o p : List Fault) → Both false job cfg s t o p → (s' : Exploring) → onward_careful (at s) ≡ Goes s' → GoesToo careful rest before void (like false) ends_careful (at s) s' o (at t) p
   goes-at s t o p e s' q = by (stuck s) refl
     where
-      by : (b : Bool) → stuck s ≡ b → GoesToo careful rest size void (like false) ends_careful (at s) s' o (at t) p
+      by : (b : Bool) → stuck s ≡ b → GoesToo careful rest before void (like false) ends_careful (at s) s' o (at t) p
       by true n = absurd (true≢false (ap is-full (sym (on-stuck s n) ∙ q)))
       by false n =
           goes-by false onward_careful tried ends_careful job cfg s t o p e (onward (job_as job) cfg (within cfg) false s) (onward (job_as job) cfg (within cfg) false t) (on-is t (none-stuck s t e.plays n)) (on-same s t e.plays n) s' (sym (on-is s n) ∙ q)
 
-  stops-at : (s t : Played) (o p : List Fault) → Both false job cfg s t o p → (s' : Exploring) → onward_careful (at s) ≡ Ends s' → EndsToo careful rest size void (like false) ends_careful (at s) s' (at t)
+  stops-at : (s t : Played) (o p : List Fault) → Both false job cfg s t o p → (s' : Exploring) → onward_careful (at s) ≡ Ends s' → EndsToo careful rest before void (like false) ends_careful (at s) s' (at t)
   stops-at s t o p e s' q = by (stuck s) refl
     where
-      by : (b : Bool) → stuck s ≡ b → EndsToo careful rest size void (like false) ends_careful (at s) s' (at t)
+      by : (b : Bool) → stuck s ≡ b → EndsToo careful rest before void (like false) ends_careful (at s) s' (at t)
       by true n = absurd (true≢false (ap is-full (sym (on-stuck s n) ∙ q)))
       by false n =
           ends-by false onward_careful tried ends_careful job cfg s t one-end (onward (job_as job) cfg (within cfg) false s) (onward (job_as job) cfg (within cfg) false t) (on-is t (none-stuck s t e.plays n)) (on-same s t e.plays n) s' (sym (on-is s n) ∙ q)
@@ -148,7 +149,7 @@ module _ (job : JobKind) (cfg : Config) where
       by false (Ends x) Full n f c = absurd c
 
   befalls-at : (s t : Played) (o p : List Fault) (f : Fault) → Both false job cfg s t o p → In f (tried (at s)) → (s' : Exploring) → explored.befallen f (at s) ≡ Some s' → void s' ≡ false
-      → BefallsToo careful rest size void (like false) ends_careful most_events (at s) s' (o ++ option_to_list (explored.later f)) (at t) p
+      → BefallsToo careful rest before void (like false) ends_careful most_events (at s) s' (o ++ option_to_list (explored.later f)) (at t) p
   befalls-at s t o p f e i s' q n =
       let a = is-open s f i in
       let next = next-same false (job_as job) cfg s t (onward (job_as job) cfg (within cfg) false s) (onward (job_as job) cfg (within cfg) false t) (on-same s t e.plays a.looks_on) (λ g. absurd (a.not_full g)) in
@@ -157,7 +158,7 @@ module _ (job : JobKind) (cfg : Config) where
       (same-fate false (job_as job) cfg s t e.plays f r.other r.one) s' q n
 
   comes-at : (s t : Played) (o p : List Fault) (place : ℕ) (f : Fault) → Both false job cfg s t o p → slice_get o place ≡ Some f → (s' : Exploring) → explored.befallen f (at s) ≡ Some s' → void s' ≡ false
-      → ComesToo careful rest size void (like false) ends_careful most_events (at s) s' (remove o place) place (at t) p
+      → ComesToo careful rest before void (like false) ends_careful most_events (at s) s' (remove o place) place (at t) p
   comes-at s t o p place f e i s' q n =
       let r = other-at (cluster cfg s).bag (cluster cfg t).bag s.cursor t.cursor place o p f e.owed i in
       let one = as-fault (cluster cfg s).bag (cluster cfg t).bag s.cursor t.cursor f r.other r.one in
@@ -180,20 +181,20 @@ module _ (s t : Exploring) (o p : List Fault) (e : like false s o t p) where
   both : Both false s.job s.config s.played t.played o p
   both = both-of false s t o p e
 
-  goes-on : (s' : Exploring) → onward_careful s ≡ Goes s' → GoesToo careful rest size void (like false) ends_careful s s' o t p
-  goes-on s' = of-both (λ x y. onward_careful x ≡ Goes s' → GoesToo careful rest size void (like false) ends_careful x s' o y p) (goes-at s.job s.config s.played t.played o p both s')
+  goes-on : (s' : Exploring) → onward_careful s ≡ Goes s' → GoesToo careful rest before void (like false) ends_careful s s' o t p
+  goes-on s' = of-both (λ x y. onward_careful x ≡ Goes s' → GoesToo careful rest before void (like false) ends_careful x s' o y p) (goes-at s.job s.config s.played t.played o p both s')
 
-  stops-too : (s' : Exploring) → onward_careful s ≡ Ends s' → EndsToo careful rest size void (like false) ends_careful s s' t
-  stops-too s' = of-both (λ x y. onward_careful x ≡ Ends s' → EndsToo careful rest size void (like false) ends_careful x s' y) (stops-at s.job s.config s.played t.played o p both s')
+  stops-too : (s' : Exploring) → onward_careful s ≡ Ends s' → EndsToo careful rest before void (like false) ends_careful s s' t
+  stops-too s' = of-both (λ x y. onward_careful x ≡ Ends s' → EndsToo careful rest before void (like false) ends_careful x s' y) (stops-at s.job s.config s.played t.played o p both s')
 
-  befalls-both : (s' : Exploring) (f : Fault) → In f (tried s) → explored.befallen f s ≡ Some s' → void s' ≡ false → BefallsToo careful rest size void (like false) ends_careful most_events s s' (o ++ option_to_list (explored.later f)) t p
+  befalls-both : (s' : Exploring) (f : Fault) → In f (tried s) → explored.befallen f s ≡ Some s' → void s' ≡ false → BefallsToo careful rest before void (like false) ends_careful most_events s s' (o ++ option_to_list (explored.later f)) t p
   befalls-both s' f =
-      of-both (λ x y. In f (tried x) → explored.befallen f x ≡ Some s' → void s' ≡ false → BefallsToo careful rest size void (like false) ends_careful most_events x s' (o ++ option_to_list (explored.later f)) y p)
+      of-both (λ x y. In f (tried x) → explored.befallen f x ≡ Some s' → void s' ≡ false → BefallsToo careful rest before void (like false) ends_careful most_events x s' (o ++ option_to_list (explored.later f)) y p)
       (λ i q n. befalls-at s.job s.config s.played t.played o p f both i s' q n)
 
-  comes-both : (s' : Exploring) (place : ℕ) (f : Fault) → slice_get o place ≡ Some f → explored.befallen f s ≡ Some s' → void s' ≡ false → ComesToo careful rest size void (like false) ends_careful most_events s s' (remove o place) place t p
+  comes-both : (s' : Exploring) (place : ℕ) (f : Fault) → slice_get o place ≡ Some f → explored.befallen f s ≡ Some s' → void s' ≡ false → ComesToo careful rest before void (like false) ends_careful most_events s s' (remove o place) place t p
   comes-both s' place f i =
-      of-both (λ x y. explored.befallen f x ≡ Some s' → void s' ≡ false → ComesToo careful rest size void (like false) ends_careful most_events x s' (remove o place) place y p)
+      of-both (λ x y. explored.befallen f x ≡ Some s' → void s' ≡ false → ComesToo careful rest before void (like false) ends_careful most_events x s' (remove o place) place y p)
       (λ q n. comes-at s.job s.config s.played t.played o p place f both i s' q n)
 
 -- a run that a limit stops
@@ -203,9 +204,11 @@ nothing-comes s e = (
   λ f i. if e i then None else befallen_with s (befallen (job_as s.job) s.config (within s.config) f s.played),
 )
 
-pub wary_likens : Likens careful rest size void (like false) ends_careful most_events
+pub wary_likens : Likens careful rest before void (like false) ends_careful most_events
 wary_likens = record {
+  in_order = scripts-in-order;
   owed = as-many-owed false;
+  itself = itself false;
   through = through false;
   goes = λ s t s' o p e q. goes-on s t o p e s' q;
   stops = λ s t s' o p e q. stops-too s t o p e s' q;

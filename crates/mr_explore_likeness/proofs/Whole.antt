@@ -12,13 +12,14 @@ use Rattle.mr_explore_faults.specs.declared.fault.Fault.{Fault}
 use Rattle.mr_explore.specs.Faults.{befallen, most_events, next_event, onward}
 use Rattle.mr_explore.specs.Runs.{Exploring, befallen_with, explored, onward_with}
 use Rattle.mr_explore_likeness.specs.Plays.{LikePlays, cluster}
-use Rattle.mr_explore_likeness.specs.Runs.{ends, like, rest, size, void}
-use Rattle.mr_explore_likeness.proofs.Alike.{Both, as-many-owed, as-run, befalls-by, comes-by, ends-by, goes-by, one-outcome, that-at, this-at, through}
+use Rattle.mr_explore_likeness.specs.Runs.{before, ends, like, rest, void}
+use Rattle.mr_explore_likeness.proofs.Alike.{Both, as-run, befalls-by, comes-by, ends-by, goes-by, one-outcome, that-at, this-at}
 use Rattle.mr_explore_likeness.proofs.Befalling.{as-fault, same-fate}
 use Rattle.mr_explore_likeness.proofs.Going.{SameOnward, SameNextEvent, next-same, onward-same}
 use Rattle.mr_explore_likeness.proofs.Listing.{other-fault}
 use Rattle.mr_explore_likeness.proofs.Looking.{vain-same}
 use Rattle.mr_explore_likeness.proofs.Moves.{other-at}
+use Rattle.mr_explore_likeness.proofs.Preorder.{as-many-owed, itself, scripts-in-order, through}
 
 -- the same of plays
 both-of : (level : Bool) (s t : Exploring) (o p : List Fault) → like level s o t p → Both level s.job s.config s.played t.played o p
@@ -37,11 +38,11 @@ module _ (job : JobKind) (cfg : Config) where
   one-end : (s t : Played) → Plays s t → ends (at s) (at t)
   one-end s t e = record { outcome = one-outcome true (job_as job) cfg s t e; stalled = vain-same true (job_as job) cfg s t e (λ w n. refl) }
 
-  goes-at : (s t : Played) (o p : List Fault) → Both true job cfg s t o p → (s' : Exploring) → explored.onward (at s) ≡ Goes s' → GoesToo explored rest size void (like true) ends (at s) s' o (at t) p
+  goes-at : (s t : Played) (o p : List Fault) → Both true job cfg s t o p → (s' : Exploring) → explored.onward (at s) ≡ Goes s' → GoesToo explored rest before void (like true) ends (at s) s' o (at t) p
   goes-at s t o p e s' q =
       goes-by true explored.onward explored.faults ends job cfg s t o p e (onward (job_as job) cfg (within cfg) false s) (onward (job_as job) cfg (within cfg) false t) refl (on-same s t e.plays) s' q
 
-  stops-at : (s t : Played) (o p : List Fault) → Both true job cfg s t o p → (s' : Exploring) → explored.onward (at s) ≡ Ends s' → EndsToo explored rest size void (like true) ends (at s) s' (at t)
+  stops-at : (s t : Played) (o p : List Fault) → Both true job cfg s t o p → (s' : Exploring) → explored.onward (at s) ≡ Ends s' → EndsToo explored rest before void (like true) ends (at s) s' (at t)
   stops-at s t o p e s' q =
       ends-by true explored.onward explored.faults ends job cfg s t one-end (onward (job_as job) cfg (within cfg) false s) (onward (job_as job) cfg (within cfg) false t) refl (on-same s t e.plays) s' q
 
@@ -49,14 +50,14 @@ module _ (job : JobKind) (cfg : Config) where
   next-at s t e = next-same true (job_as job) cfg s t (onward (job_as job) cfg (within cfg) false s) (onward (job_as job) cfg (within cfg) false t) (on-same s t e) (λ q. refl)
 
   befalls-at : (s t : Played) (o p : List Fault) (f : Fault) → Both true job cfg s t o p → In f (explored.faults (at s)) → (s' : Exploring) → explored.befallen f (at s) ≡ Some s' → void s' ≡ false
-      → BefallsToo explored rest size void (like true) ends most_events (at s) s' (o ++ option_to_list (explored.later f)) (at t) p
+      → BefallsToo explored rest before void (like true) ends most_events (at s) s' (o ++ option_to_list (explored.later f)) (at t) p
   befalls-at s t o p f e i s' q n =
       let r = other-fault true (job_as job) cfg s t e.plays (next_event (job_as job) cfg (within cfg) false s) (next_event (job_as job) cfg (within cfg) false t) (next-at s t e.plays) f i in
       befalls-by true explored.onward explored.faults ends job cfg s t o p f r.other e r.is_in r.one (befallen (job_as job) cfg (within cfg) f s) (befallen (job_as job) cfg (within cfg) r.other t) refl
       (same-fate true (job_as job) cfg s t e.plays f r.other r.one) s' q n
 
   comes-at : (s t : Played) (o p : List Fault) (place : ℕ) (f : Fault) → Both true job cfg s t o p → slice_get o place ≡ Some f → (s' : Exploring) → explored.befallen f (at s) ≡ Some s' → void s' ≡ false
-      → ComesToo explored rest size void (like true) ends most_events (at s) s' (remove o place) place (at t) p
+      → ComesToo explored rest before void (like true) ends most_events (at s) s' (remove o place) place (at t) p
   comes-at s t o p place f e i s' q n =
       let r = other-at (cluster cfg s).bag (cluster cfg t).bag s.cursor t.cursor place o p f e.owed i in
       let one = as-fault (cluster cfg s).bag (cluster cfg t).bag s.cursor t.cursor f r.other r.one in
@@ -79,20 +80,20 @@ module _ (s t : Exploring) (o p : List Fault) (e : like true s o t p) where
   both : Both true s.job s.config s.played t.played o p
   both = both-of true s t o p e
 
-  goes-on : (s' : Exploring) → explored.onward s ≡ Goes s' → GoesToo explored rest size void (like true) ends s s' o t p
-  goes-on s' = of-both (λ x y. explored.onward x ≡ Goes s' → GoesToo explored rest size void (like true) ends x s' o y p) (goes-at s.job s.config s.played t.played o p both s')
+  goes-on : (s' : Exploring) → explored.onward s ≡ Goes s' → GoesToo explored rest before void (like true) ends s s' o t p
+  goes-on s' = of-both (λ x y. explored.onward x ≡ Goes s' → GoesToo explored rest before void (like true) ends x s' o y p) (goes-at s.job s.config s.played t.played o p both s')
 
-  stops-too : (s' : Exploring) → explored.onward s ≡ Ends s' → EndsToo explored rest size void (like true) ends s s' t
-  stops-too s' = of-both (λ x y. explored.onward x ≡ Ends s' → EndsToo explored rest size void (like true) ends x s' y) (stops-at s.job s.config s.played t.played o p both s')
+  stops-too : (s' : Exploring) → explored.onward s ≡ Ends s' → EndsToo explored rest before void (like true) ends s s' t
+  stops-too s' = of-both (λ x y. explored.onward x ≡ Ends s' → EndsToo explored rest before void (like true) ends x s' y) (stops-at s.job s.config s.played t.played o p both s')
 
-  befalls-both : (s' : Exploring) (f : Fault) → In f (explored.faults s) → explored.befallen f s ≡ Some s' → void s' ≡ false → BefallsToo explored rest size void (like true) ends most_events s s' (o ++ option_to_list (explored.later f)) t p
+  befalls-both : (s' : Exploring) (f : Fault) → In f (explored.faults s) → explored.befallen f s ≡ Some s' → void s' ≡ false → BefallsToo explored rest before void (like true) ends most_events s s' (o ++ option_to_list (explored.later f)) t p
   befalls-both s' f =
-      of-both (λ x y. In f (explored.faults x) → explored.befallen f x ≡ Some s' → void s' ≡ false → BefallsToo explored rest size void (like true) ends most_events x s' (o ++ option_to_list (explored.later f)) y p)
+      of-both (λ x y. In f (explored.faults x) → explored.befallen f x ≡ Some s' → void s' ≡ false → BefallsToo explored rest before void (like true) ends most_events x s' (o ++ option_to_list (explored.later f)) y p)
       (λ i q n. befalls-at s.job s.config s.played t.played o p f both i s' q n)
 
-  comes-both : (s' : Exploring) (place : ℕ) (f : Fault) → slice_get o place ≡ Some f → explored.befallen f s ≡ Some s' → void s' ≡ false → ComesToo explored rest size void (like true) ends most_events s s' (remove o place) place t p
+  comes-both : (s' : Exploring) (place : ℕ) (f : Fault) → slice_get o place ≡ Some f → explored.befallen f s ≡ Some s' → void s' ≡ false → ComesToo explored rest before void (like true) ends most_events s s' (remove o place) place t p
   comes-both s' place f i =
-      of-both (λ x y. explored.befallen f x ≡ Some s' → void s' ≡ false → ComesToo explored rest size void (like true) ends most_events x s' (remove o place) place y p)
+      of-both (λ x y. explored.befallen f x ≡ Some s' → void s' ≡ false → ComesToo explored rest before void (like true) ends most_events x s' (remove o place) place y p)
       (λ q n. comes-at s.job s.config s.played t.played o p place f both i s' q n)
 
 -- a run that a limit stops
@@ -102,9 +103,11 @@ nothing-comes s e = (
   λ f i. if e i then None else befallen_with s (befallen (job_as s.job) s.config (within s.config) f s.played),
 )
 
-pub level_likens : Likens explored rest size void (like true) ends most_events
+pub level_likens : Likens explored rest before void (like true) ends most_events
 level_likens = record {
+  in_order = scripts-in-order;
   owed = as-many-owed true;
+  itself = itself true;
   through = through true;
   goes = λ s t s' o p e q. goes-on s t o p e s' q;
   stops = λ s t s' o p e q. stops-too s t o p e s' q;

@@ -5,6 +5,7 @@ use Rattle.mr_explore_faults.specs.declared.fault.Fault.{Fault}
 use Rattle.mr_explore.specs.Exploring.{is_stalled, outcome_of}
 use Rattle.mr_explore.specs.Faults.{most_events}
 use Rattle.mr_explore.specs.Runs.{Exploring}
+use Rattle.mr_script_order.specs.Order.{sooner}
 use Rattle.mr_explore_likeness.specs.Owed.{AreOneLater}
 use Rattle.mr_explore_likeness.specs.Plays.{LikePlays, cluster}
 
@@ -12,9 +13,9 @@ use Rattle.mr_explore_likeness.specs.Plays.{LikePlays, cluster}
 abbrev pub rest : Exploring → ℕ
 rest e = most_events - length e.played.events
 
--- how long its script is
-abbrev pub size : Exploring → ℕ
-size e = length e.played.events
+-- its script comes before that of another one
+abbrev pub before : Exploring → Exploring → Bool
+before s t = sooner s.played.events t.played.events
 
 -- a limit forbids its last fault
 abbrev pub void : Exploring → Bool

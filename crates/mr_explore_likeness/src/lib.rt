@@ -8,12 +8,16 @@
 //!
 //! - of runs that are as near to each limit, as mr_explore's definitions make them go on (`level_runs_liken`);
 //! - of runs of which the second may have more room, where a run passes a limit as soon as the look-ahead for one that goes on
-//!   in vain does (`careful_runs_liken`).
+//!   in vain does (`careful_runs_liken`). Those are some of the exploration's runs (`careful_runs_are_runs`).
 //!
 //! The run of an input is like itself (`runs_are_like_themselves`).
 //!
-//! So a search of mr_explore's runs may leave out each run of which one that is like it and no longer was made: it finds each end
-//! of all runs of which no look-ahead passes a limit, and a shortest script to it (`no_careful_end_is_lost`).
+//! A run is earlier than another one where it has fewer faults, or as many, and its script comes before in the order of
+//! mr_script_order. So a search of mr_explore's runs may leave out each run of which one that is like it and earlier was made. Of
+//! all runs of which no look-ahead passes a limit it then finds each one, or an earlier one that came to the same end
+//! (`no_careful_end_is_lost`), and none of them is earlier than the least that it finds with that end
+//! (`no_careful_run_is_earlier`). The least of all runs to an end has one script (`least_runs_have_one_script`). Searches that
+//! leave out only runs that are as near to each limit find that one, whichever they left out (`searches_find_one_script`).
 //!
 //! There is no code in this crate: each law is the contract of a function that does nothing.
 //!
@@ -40,18 +44,18 @@ ghost use Rattle.mr_explore.specs.Faults.{most_events};
 ghost use Rattle.mr_explore.specs.Runs.{explored};
 ghost use Rattle.mr_explore_alike.specs.Likens.{Likens};
 ghost use Rattle.mr_explore_likeness.specs.Careful.{careful, ends_careful};
-ghost use Rattle.mr_explore_likeness.specs.Losing.{NoCarefulEndIsLost, RunsAreLikeThemselves};
-ghost use Rattle.mr_explore_likeness.specs.Runs.{ends, like, rest, size, void};
+ghost use Rattle.mr_explore_likeness.specs.Losing.{CarefulRunsAreRuns, LeastRunsHaveOneScript, NoCarefulEndIsLost, NoCarefulRunIsEarlier, RunsAreLikeThemselves, SearchesFindOneScript};
+ghost use Rattle.mr_explore_likeness.specs.Runs.{before, ends, like, rest, void};
 
 /// Runs of an exploration that are alike and as near to each limit: whatever comes of one comes of the other.
 pub fn level_runs_liken()
-    ensures { Likens explored rest size void (like true) ends most_events }
+    ensures { Likens explored rest before void (like true) ends most_events }
 {}
 
 /// Runs that are alike, of which the second is nowhere nearer to a limit: whatever comes of the first comes of the second, where a run
 /// passes a limit as soon as the look-ahead for one that goes on in vain does.
 pub fn careful_runs_liken()
-    ensures { Likens careful rest size void (like false) ends_careful most_events }
+    ensures { Likens careful rest before void (like false) ends_careful most_events }
 {}
 
 /// The run of an input is like itself.
@@ -59,8 +63,29 @@ pub fn runs_are_like_themselves()
     ensures { RunsAreLikeThemselves }
 {}
 
-/// Where a run of an exploration is left out only if a run that is like it and no longer was made, each end of all runs is found of which no
-/// look-ahead passes a limit, and a shortest script to it.
+/// A run that goes on so is one of the exploration's.
+pub fn careful_runs_are_runs()
+    ensures { CarefulRunsAreRuns }
+{}
+
+/// Where a run of an exploration is left out only if an earlier one that is like it was made, of all runs of which no look-ahead passes a
+/// limit each one is found, or an earlier one that came to the same end.
 pub fn no_careful_end_is_lost()
     ensures { NoCarefulEndIsLost }
+{}
+
+/// None of these runs is then earlier than the least that is found with the same end.
+pub fn no_careful_run_is_earlier()
+    ensures { NoCarefulRunIsEarlier }
+{}
+
+/// Two runs with one end, to which none of all runs is earlier, have as many faults, and one script.
+pub fn least_runs_have_one_script()
+    ensures { LeastRunsHaveOneScript }
+{}
+
+/// Of two searches that leave out runs that are like an earlier one and as near to each limit, the least that they find with one end have as
+/// many faults, and one script.
+pub fn searches_find_one_script()
+    ensures { SearchesFindOneScript }
 {}

@@ -1,2 +1,3 @@
--- The run of the tests.
+-- The runs of the tests.
 pub mod Counting
+pub mod Trials

@@ -1,6 +1,13 @@
-//! Tests of walks over runs.
+//! Tests of walks and searches over runs, of runs that are compared, and of the least scripts to their ends.
 #![tactic(auto)]
 
 mod counting;
 #[cfg(test)]
+mod least;
+#[cfg(test)]
+mod likeness;
+#[cfg(test)]
+mod places;
+#[cfg(test)]
 mod runs;
+mod trial;

@@ -1,0 +1,6 @@
+mod Asked
+mod Came
+mod Dropped
+mod Gathering
+mod Later
+mod Ones

@@ -1,0 +1,80 @@
+//! Runs of an exploration that can be compared with each other.
+ghost use Rattle.std.specs.Prelude.{◌≡◌};
+ghost use Rattle.mr_explore.specs.Runs.{explored};
+
+use mr_explore::{Explored, Fault};
+use mr_explore_search::{Run, WalkFault};
+use std::alloc::Global;
+use std::collections::LinkedList;
+use std::marker::Model;
+
+/// A run of a job that can be compared with others. Contracts see what they see of an `Explored`.
+#[derive(Drop)]
+pub struct Compared {
+    run: Explored,
+}
+
+impl Model for Compared {
+    ghost use Rattle.mr_explore.specs.Runs.{Exploring};
+
+    ghost Value = { Exploring };
+
+    ghost view = { λ c. c.run };
+}
+
+impl Compared {
+    /// The same run, to be compared with others.
+    pub fn new(run: Explored) -> Compared
+        ensures { result ≡ run }
+    {
+        Compared { run }
+    }
+
+    /// The same run.
+    pub fn into_run(self) -> Explored
+        ensures { result ≡ self }
+    {
+        let Compared { run } = self;
+        run
+    }
+
+    /// The same run.
+    pub fn run(&self) -> &Explored
+        ensures { result.now ≡ self.now }
+    {
+        &self.run
+    }
+}
+
+impl Run for Compared {
+    type Fault = Fault;
+
+    ghost steps = { explored };
+
+    fn fork(&self, alloc: Global) -> Result<Compared, WalkFault> {
+        match self.run.fork(alloc) {
+            Ok(run) => Ok(Compared { run }),
+            Err(fault) => Err(fault),
+        }
+    }
+
+    fn go_on(&mut self, alloc: Global) -> Result<bool, WalkFault> {
+        self.run.go_on(alloc)
+    }
+
+    fn faults(&self, alloc: Global) -> Result<LinkedList<Fault>, WalkFault> {
+        self.run.faults(alloc)
+    }
+
+    fn may_befall(&self, fault: &Fault) -> Result<bool, WalkFault> {
+        self.run.may_befall(fault)
+    }
+
+    fn later(&self, fault: &Fault) -> Option<Fault> {
+        self.run.later(fault)
+    }
+
+    fn befall(&mut self, alloc: Global, fault: Fault) -> Result<bool, WalkFault> {
+        self.run.befall(alloc, fault)
+    }
+}

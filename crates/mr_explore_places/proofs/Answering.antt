@@ -1,0 +1,88 @@
+-- What a search answers.
+use Rattle.std.proofs.Common.{◌≡◌, inl, inr, ℕ, Bool, List, [], ◌∷◌, ◌++◌, Option, Some, None, Result, Ok, Err, refl, sym, ◌∙◌, ap, subst}
+use Rattle.mr_explore_search.specs.Steps.{Steps}
+use Rattle.mr_explore_search.specs.Runs.{Found, Run}
+use Rattle.mr_explore_search.specs.declared.ended.Ended.{Ended}
+use Rattle.mr_explore_search.specs.declared.fault.WalkFault.{WalkFault}
+use Rattle.mr_explore_alike.specs.Leaving.{Here}
+use Rattle.mr_explore_places.specs.Places.{IsOnItsWay, beginning}
+use Rattle.mr_explore_places.specs.Keeping.{IsHeld}
+use Rattle.mr_explore_places.specs.Levels.{IsLeft}
+use Rattle.mr_explore_places.specs.Searching.{HasDone, HasSearched, Seeks, SeeksApart}
+use Rattle.mr_explore_places.specs.State.{Answers, AnswersApart, HasFound, IsPart, State, fault_of, whole}
+use Rattle.mr_explore_places.specs.declared.bounds.Bounds.{Bounds}
+use Rattle.mr_explore_places.specs.declared.level.Level.{Level}
+use Rattle.mr_explore_places.specs.declared.level.Level.TheVariants as level
+use Rattle.mr_explore_places.specs.declared.part.Next.{Next}
+use Rattle.mr_explore_places.specs.declared.part.Next.TheVariants as next
+use Rattle.mr_explore_places.specs.declared.stores.Stores.{Stores}
+use Rattle.mr_explore_places.proofs.Ways.{begins}
+use Rattle.mr_explore_places.proofs.Leading.{left_behind}
+use Rattle.mr_explore_places.proofs.Doing.{nothing_done}
+
+module _ {S F : Type 0} (steps : Steps S F) (rest : S → ℕ) (before : S → S → Bool) (void : S → Bool) (like : S → List F → S → List F → Type 0) (ends : S → S → Type 0) where
+  pub starts : (bounds : Bounds) (run : S) (kept : Stores S F) (h : Here S F) (ls left : List (Level S F)) → left ≡ level.Begin h ∷ ls → h ≡ beginning run → ls ≡ [] → ((x : Here S F) → IsHeld kept x → ⊥)
+      → HasFound steps rest before void like ends bounds run (whole run) [] [] (record { bounds = bounds; kept = kept; left = left; fault = None })
+  starts bounds run kept h ls left e first none empty =
+      (refl, refl, ([], subst (λ (z : List (Level S F)). HasDone steps rest before void like ends bounds.faults bounds.steps run (whole run) [] (z ++ []) [] []) (sym is) nothing, λ x i. absurd (empty x i))) where
+        is : left ≡ whole run
+        is = e ∙ (ap (λ (z : Here S F). level.Begin z ∷ ls) first ∙ ap (λ (z : List (Level S F)). level.Begin (beginning run) ∷ z) none)
+
+        way : (x : Here S F) → IsLeft steps bounds.faults (whole run) x → IsOnItsWay steps bounds.faults bounds.steps run bounds.steps x
+        way x (inl q) = subst (λ (z : Here S F). IsOnItsWay steps bounds.faults bounds.steps run bounds.steps z) q (begins steps bounds.faults bounds.steps run)
+        way x (inr i) = absurd i
+
+        nothing : HasDone steps rest before void like ends bounds.faults bounds.steps run (whole run) [] (whole run) [] []
+        nothing = nothing_done steps rest before void like ends bounds.faults bounds.steps run (whole run) way
+
+  pub answered : (s now t : State S F) (r : Result (Option (Ended S)) WalkFault) → s ≡ now → Seeks steps rest before void like ends s.bounds.faults s.bounds.steps s.kept s.left r t.kept t.left → t.bounds ≡ s.bounds → t.fault ≡ fault_of r
+      → (bounds : Bounds) (first : S) (parts given : List (Level S F)) (found : List (Found S)) → HasFound steps rest before void like ends bounds first parts given found now → Answers steps rest before void like ends bounds first parts given found r t
+  answered s now t r q seek same fault bounds first parts given found h = by r seek fault where
+    old : HasFound steps rest before void like ends bounds first parts given found s
+    old = subst (λ (z : State S F). HasFound steps rest before void like ends bounds first parts given found z) (sym q) h
+
+    sought : (r : Result (Option (Ended S)) WalkFault) → Seeks steps rest before void like ends s.bounds.faults s.bounds.steps s.kept s.left r t.kept t.left → Seeks steps rest before void like ends bounds.faults bounds.steps s.kept s.left r t.kept t.left
+    sought r k = subst (λ (b : Bounds). Seeks steps rest before void like ends b.faults b.steps s.kept s.left r t.kept t.left) old.0 k
+
+    by : (r : Result (Option (Ended S)) WalkFault) → Seeks steps rest before void like ends s.bounds.faults s.bounds.steps s.kept s.left r t.kept t.left → t.fault ≡ fault_of r → Answers steps rest before void like ends bounds first parts given found r t
+    by (Ok (Some e)) k f = let d = sought (Ok (Some e)) k first parts given found old.2 in ((same ∙ old.0, f, d), d.1.runs (Run e.faults e.run) (inl refl))
+    by (Ok None) k f =
+        let d = sought (Ok None) k first parts given found old.2 in
+        ((same ∙ old.0, f, subst (λ (z : List (Level S F)). HasSearched steps rest before void like ends bounds.faults bounds.steps first parts t.kept (z ++ given) found) (sym d.1) d.0), (d.0.0, d.0.1))
+    by (Err x) k f = (f, sought (Err x) k first parts given found old.2)
+
+  pub starts_part : (bounds : Bounds) (kept : Stores S F) (l part : Level S F) (ls left : List (Level S F)) → left ≡ l ∷ ls → l ≡ part → ls ≡ [] → ((x : Here S F) → IsHeld kept x → ⊥)
+      → (first : S) → IsPart steps bounds first part → HasFound steps rest before void like ends bounds first (part ∷ []) [] [] (record { bounds = bounds; kept = kept; left = left; fault = None })
+  starts_part bounds kept l part ls left e same none empty first ways =
+      (refl, refl, ([], subst (λ (z : List (Level S F)). HasDone steps rest before void like ends bounds.faults bounds.steps first (part ∷ []) [] (z ++ []) [] []) (sym is) nothing, λ x i. absurd (empty x i))) where
+        is : left ≡ part ∷ []
+        is = e ∙ (ap (λ (z : Level S F). z ∷ ls) same ∙ ap (λ (z : List (Level S F)). part ∷ z) none)
+
+        way : (x : Here S F) → IsLeft steps bounds.faults (part ∷ []) x → IsOnItsWay steps bounds.faults bounds.steps first bounds.steps x
+        way x (inl i) = ways x i
+        way x (inr i) = absurd i
+
+        nothing : HasDone steps rest before void like ends bounds.faults bounds.steps first (part ∷ []) [] (part ∷ []) [] []
+        nothing = nothing_done steps rest before void like ends bounds.faults bounds.steps first (part ∷ []) way
+
+  pub answered_apart : (s now t : State S F) (r : Result (Option (Next S F)) WalkFault) → s ≡ now → SeeksApart steps rest before void like ends s.bounds.faults s.bounds.steps s.kept s.left r t.kept t.left → t.bounds ≡ s.bounds
+      → t.fault ≡ fault_of r → (bounds : Bounds) (first : S) (parts given : List (Level S F)) (found : List (Found S)) → HasFound steps rest before void like ends bounds first parts given found now
+      → AnswersApart steps rest before void like ends bounds first parts given found r t
+  answered_apart s now t r q seek same fault bounds first parts given found h = by r seek fault where
+    old : HasFound steps rest before void like ends bounds first parts given found s
+    old = subst (λ (z : State S F). HasFound steps rest before void like ends bounds first parts given found z) (sym q) h
+
+    sought : (r : Result (Option (Next S F)) WalkFault) → SeeksApart steps rest before void like ends s.bounds.faults s.bounds.steps s.kept s.left r t.kept t.left
+        → SeeksApart steps rest before void like ends bounds.faults bounds.steps s.kept s.left r t.kept t.left
+    sought r k = subst (λ (b : Bounds). SeeksApart steps rest before void like ends b.faults b.steps s.kept s.left r t.kept t.left) old.0 k
+
+    by : (r : Result (Option (Next S F)) WalkFault) → SeeksApart steps rest before void like ends s.bounds.faults s.bounds.steps s.kept s.left r t.kept t.left → t.fault ≡ fault_of r
+        → AnswersApart steps rest before void like ends bounds first parts given found r t
+    by (Ok (Some (next.Run e))) k f = let d = sought (Ok (Some (next.Run e))) k first parts given found old.2 in ((same ∙ old.0, f, d), d.1.runs (Run e.faults e.run) (inl refl))
+    by (Ok (Some (next.Part l))) k f =
+        let d = sought (Ok (Some (next.Part l))) k first parts given found old.2 in
+        ((same ∙ old.0, f, d), λ x i. d.1.on_way x (left_behind steps bounds.faults t.left (l ∷ given) x (inl i)))
+    by (Ok None) k f =
+        let d = sought (Ok None) k first parts given found old.2 in
+        ((same ∙ old.0, f, subst (λ (z : List (Level S F)). HasSearched steps rest before void like ends bounds.faults bounds.steps first parts t.kept (z ++ given) found) (sym d.1) d.0), (d.0.0, d.0.1))
+    by (Err x) k f = (f, sought (Err x) k first parts given found old.2)

@@ -1,0 +1,159 @@
+-- Runs begin, and turns are made.
+use Rattle.std.proofs.Common.{◌≡◌, ◌-◌, inl, ℕ, suc, Bool, true, false, List, [], ◌∷◌, ◌++◌, Option, Some, None, Result, Ok, Err, IsErrAnd, refl, sym, ◌∙◌, ap, subst, arith}
+use Rattle.std.proofs.lemmas.Result.{err_from_is_err_and}
+use Rattle.mr_explore_search.specs.Steps.{IsNotFull, Steps}
+use Rattle.mr_explore_search.specs.Runs.{Found, Run}
+use Rattle.mr_explore_search.specs.Laws.{IsOneBy}
+use Rattle.mr_explore_search.specs.declared.ended.Ended.{Ended}
+use Rattle.mr_explore_search.specs.declared.fault.WalkFault.{WalkFault}
+use Rattle.mr_explore_search.specs.declared.fault.WalkFault.TheVariants as fault
+use Rattle.mr_explore_alike.specs.Leaving.{Here}
+use Rattle.mr_explore_places.specs.Places.{IsOnItsWay}
+use Rattle.mr_explore_places.specs.Keeping.{Visits}
+use Rattle.mr_explore_places.specs.Levels.{AreFaultsOf, AreLateOf, LeadAlike, laid, with_faults, with_late}
+use Rattle.mr_explore_places.specs.Going.{Stops, Tells}
+use Rattle.mr_explore_places.specs.Searching.{FollowedTo, Follows, HasDone, HasSearched, Seeks, SeeksApart, Turns, with_ended}
+use Rattle.mr_explore_places.specs.declared.following.Trail.{Trail}
+use Rattle.mr_explore_places.specs.declared.level.Coming.{Coming}
+use Rattle.mr_explore_places.specs.declared.level.Level.{Level}
+use Rattle.mr_explore_places.specs.declared.level.Level.TheVariants as level
+use Rattle.mr_explore_places.specs.declared.level.Trying.{Trying}
+use Rattle.mr_explore_places.specs.declared.part.Next.{Next}
+use Rattle.mr_explore_places.specs.declared.part.Next.TheVariants as next
+use Rattle.mr_explore_places.specs.declared.stores.Stores.{Stores}
+use Rattle.mr_explore_places.proofs.Ways.{is_one, would_pass}
+use Rattle.mr_explore_places.proofs.Leading.{alike_given, given_away, laid_as}
+use Rattle.mr_explore_places.proofs.Doing.{found_more, led_alike, passed_over, stood_for, taken_up}
+use Rattle.mr_explore_places.proofs.Trails.{is_covered, made_one, made_still}
+
+-- what comes on top of levels comes on top of them and of those that are given away
+pushed_given : {S F : Type 0} (trying : Option (Trying S F)) (coming : Option (Coming S F)) (n : ℕ) (old given : List (Level S F)) → with_faults trying n (with_late coming n (old ++ given)) ≡ with_faults trying n (with_late coming n old) ++ given
+pushed_given None None n old given = refl
+pushed_given None (Some l) n old given = refl
+pushed_given (Some t) None n old given = refl
+pushed_given (Some t) (Some l) n old given = refl
+
+-- no limit was passed
+pub not_full : {S F : Type 0} (steps : Steps S F) (budget most : ℕ) (first : S) (f : WalkFault) → IsNotFull f → Stops steps budget most first f
+not_full steps budget most first fault.NoMemory h = tt
+not_full steps budget most first fault.Full h = absurd h
+not_full steps budget most first fault.Mismatch h = tt
+
+module _ {S F : Type 0} (steps : Steps S F) (rest : S → ℕ) (before : S → S → Bool) (void : S → Bool) (like : S → List F → S → List F → Type 0) (ends : S → S → Type 0) (budget most : ℕ) where
+  abbrev Searched : (first : S) (parts : List (Level S F)) (kept : Stores S F) (left : List (Level S F)) (found : List (Found S)) → Type 0
+  Searched first parts kept left found = HasSearched steps rest before void like ends budget most first parts kept left found
+
+  abbrev Turn : Level S F → Stores S F → List (Level S F) → Result (Option (Ended S)) WalkFault → Stores S F → List (Level S F) → Type 0
+  Turn l old-kept old r kept new = Turns steps rest before void like ends budget most l old-kept old r kept new
+
+  -- a call was refused for another reason than a limit
+  pub refused : (l : Level S F) (old-kept kept : Stores S F) (old new : List (Level S F)) (x : WalkFault) (r : Result (Option (Ended S)) WalkFault) → IsNotFull x → IsErrAnd r (λ y. y ≡ x) → Turn l old-kept old r kept new
+  refused l old-kept kept old new x r h failed =
+      let z = err_from_is_err_and r failed in
+      subst (λ (y : Result (Option (Ended S)) WalkFault). Turn l old-kept old y kept new) (sym z.1) (λ first parts given found s. not_full steps budget most first z.0 (subst (λ (g : WalkFault). IsNotFull g) (sym z.2) h))
+
+  -- levels that lead to the same places
+  pub turned_alike : (l : Level S F) (kept : Stores S F) (old new : List (Level S F)) → LeadAlike steps budget (l ∷ old) new → Turn l kept old (Ok None) kept new
+  turned_alike l kept old new e first parts given found s =
+      (s.0, led_alike steps rest before void like ends budget most first parts [] (l ∷ old ++ given) (new ++ given) s.0 found (alike_given steps budget (l ∷ old) new given e) s.1, s.2)
+
+  -- a kept place stands for the one where a run begins
+  pub begin_covered : (p : Here S F) (old-kept kept : Stores S F) (old : List (Level S F)) → Visits before like old-kept p false kept → Turn (level.Begin p) old-kept old (Ok None) kept old
+  begin_covered p old-kept kept old v first parts given found s =
+      let d = taken_up steps rest before void like ends budget most first parts p (old ++ given) s.0 found s.1 in (
+        s.0,
+        stood_for steps rest before void like ends budget most first parts p (old ++ given) s.0 found (is_covered steps rest before void like ends old-kept s.0 p s.2 v.0) d,
+        made_still steps rest before void like ends old-kept kept s.0 p s.2 v,
+      )
+
+  -- a run that begins is followed
+  started : (p : Here S F) (old-kept mid kept : Stores S F) (old : List (Level S F)) (r : Result (Trail S) WalkFault) → Visits before like old-kept p true mid → Follows steps rest before void like ends budget most p mid r kept
+      → (first : S) (parts given : List (Level S F)) (found : List (Found S)) → Searched first parts old-kept (level.Begin p ∷ old ++ given) found → FollowedTo steps rest before void like ends budget most first parts p (old ++ given) found r kept
+  started p old-kept mid kept old r v f first parts given found s =
+      f first parts (old ++ given) s.0 found (s.1.on_way p (inl refl)) (taken_up steps rest before void like ends budget most first parts p (old ++ given) s.0 found s.1)
+      (made_one steps rest before void like ends old-kept mid s.0 p s.2 v)
+
+  pub begin_stops : (p : Here S F) (old-kept mid kept : Stores S F) (old new : List (Level S F)) (x : WalkFault) (r : Result (Option (Ended S)) WalkFault) → Visits before like old-kept p true mid
+      → Follows steps rest before void like ends budget most p mid (Err x) kept → IsErrAnd r (λ y. y ≡ x) → Turn (level.Begin p) old-kept old r kept new
+  begin_stops p old-kept mid kept old new x r v f failed =
+      let z = err_from_is_err_and r failed in
+      subst (λ (y : Result (Option (Ended S)) WalkFault). Turn (level.Begin p) old-kept old y kept new) (sym z.1)
+      (λ first parts given found s. subst (λ (g : WalkFault). Stops steps budget most first g) (sym z.2) (started p old-kept mid kept old (Err x) v f first parts given found s))
+
+  pub begin_done : (p : Here S F) (old-kept mid kept : Stores S F) (old new : List (Level S F)) (trail : Trail S) (trying : Option (Trying S F)) (coming : Option (Coming S F)) → Visits before like old-kept p true mid
+      → Follows steps rest before void like ends budget most p mid (Ok trail) kept → AreFaultsOf steps budget p trying → AreLateOf p coming → new ≡ with_faults trying trail.beyond (with_late coming trail.beyond old)
+      → Turn (level.Begin p) old-kept old (Ok trail.ended) kept new
+  begin_done p old-kept mid kept old new trail trying coming v f t c is first parts given found s =
+      let h = started p old-kept mid kept old (Ok trail) v f first parts given found s in
+      let alike = laid_as steps budget trail.beyond p (old ++ given) trying coming t c in
+      let d = led_alike steps rest before void like ends budget most first parts [] (laid steps budget (suc trail.beyond) p (old ++ given)) (with_faults trying trail.beyond (with_late coming trail.beyond (old ++ given))) h.0 (with_ended steps rest before void like ends budget most trail.ended found) alike h.1 in
+      let lists : with_faults trying trail.beyond (with_late coming trail.beyond (old ++ given)) ≡ new ++ given = pushed_given trying coming trail.beyond old given ∙ ap (λ (z : List (Level S F)). z ++ given) (sym is) in
+      (h.0, subst (λ (z : List (Level S F)). HasDone steps rest before void like ends budget most first parts [] z h.0 (with_ended steps rest before void like ends budget most trail.ended found)) lists d, h.2)
+
+  -- a void run is told
+  pub told_void : (p : Here S F) (kept : Stores S F) (old : List (Level S F)) (r : Result (Option (Ended S)) WalkFault) → void p.run ≡ true → Tells steps most p r → Turn (level.Begin p) kept old r kept old
+  told_void p kept old (Ok (Some e)) nothing w = λ first parts given found s.
+      let some = w.0 in
+      let left : most ≡ suc (most - 1) = omega (arith, some) in
+      let way = subst (λ (z : ℕ). IsOnItsWay steps budget most first z p) left (s.1.on_way p (inl refl)) in
+      let one = subst (λ (z : ℕ). IsOneBy steps most budget first (Run z e.run)) (sym w.2) (is_one steps budget most first (most - 1) p e.run way w.1) in
+      let d = passed_over steps rest before void like ends budget most first parts p (old ++ given) s.0 found nothing s.1 in
+      (s.0, found_more steps rest before void like ends budget most first parts (Run e.faults e.run) [] (old ++ given) s.0 found one d, s.2)
+  told_void p kept old (Ok None) nothing w = absurd w
+  told_void p kept old (Err fault.NoMemory) nothing w = λ first parts given found s. tt
+  told_void p kept old (Err fault.Full) nothing w = λ first parts given found s.
+      let some = w.0 in
+      let left : most ≡ suc (most - 1) = omega (arith, some) in
+      would_pass steps budget most first (most - 1) p (subst (λ (z : ℕ). IsOnItsWay steps budget most first z p) left (s.1.on_way p (inl refl))) w.1
+  told_void p kept old (Err fault.Mismatch) nothing w = λ first parts given found s. tt
+
+  -- ---- turns are made
+
+  abbrev pub IsSoughtTo : (old-kept : Stores S F) (old : List (Level S F)) (kept : Stores S F) (left : List (Level S F)) → Type 0
+  IsSoughtTo old-kept old kept left = (first : S) (parts given : List (Level S F)) (found : List (Found S)) → Searched first parts old-kept (old ++ given) found → Searched first parts kept (left ++ given) found
+
+  abbrev Seek : Stores S F → List (Level S F) → Result (Option (Ended S)) WalkFault → Stores S F → List (Level S F) → Type 0
+  Seek old-kept old r kept new = Seeks steps rest before void like ends budget most old-kept old r kept new
+
+  module _ (old-kept : Stores S F) (old : List (Level S F)) (mid kept : Stores S F) (l : Level S F) (left ls new : List (Level S F)) (is : left ≡ l ∷ ls) (f : IsSoughtTo old-kept old mid left) where
+    pub at_level : (first : S) (parts given : List (Level S F)) (found : List (Found S)) → Searched first parts old-kept (old ++ given) found → Searched first parts mid (l ∷ ls ++ given) found
+    at_level first parts given found s = subst (λ (z : List (Level S F)). Searched first parts mid (z ++ given) found) is (f first parts given found s)
+
+    pub seeks_on : Turn l mid ls (Ok None) kept new → IsSoughtTo old-kept old kept new
+    seeks_on t first parts given found s = t first parts given found (at_level first parts given found s)
+
+    pub seeks_run : (e : Ended S) → Turn l mid ls (Ok (Some e)) kept new → Seek old-kept old (Ok (Some e)) kept new
+    seeks_run e t first parts given found s = t first parts given found (at_level first parts given found s)
+
+    pub seeks_stopped : (x : WalkFault) (r : Result (Option (Ended S)) WalkFault) → Turn l mid ls (Err x) kept new → IsErrAnd r (λ y. y ≡ x) → Seek old-kept old r kept new
+    seeks_stopped x r t failed =
+        let z = err_from_is_err_and r failed in
+        subst (λ (y : Result (Option (Ended S)) WalkFault). Seek old-kept old y kept new) (sym z.1)
+        (λ first parts given found s. subst (λ (g : WalkFault). Stops steps budget most first g) (sym z.2) (t first parts given found (at_level first parts given found s)))
+
+  pub seeks_none : (old-kept kept : Stores S F) (old left new : List (Level S F)) → left ≡ [] → new ≡ [] → IsSoughtTo old-kept old kept left → Seek old-kept old (Ok None) kept new
+  seeks_none old-kept kept old left new is none f first parts given found s = (subst (λ (z : List (Level S F)). Searched first parts kept (z ++ given) found) is (f first parts given found s), none)
+
+  -- ---- and parts are given away
+
+  abbrev pub SeekApart : Stores S F → List (Level S F) → Result (Option (Next S F)) WalkFault → Stores S F → List (Level S F) → Type 0
+  SeekApart old-kept old r kept new = SeeksApart steps rest before void like ends budget most old-kept old r kept new
+
+  module _ (old-kept : Stores S F) (old : List (Level S F)) (mid kept : Stores S F) (l : Level S F) (left ls new : List (Level S F)) (is : left ≡ l ∷ ls) (f : IsSoughtTo old-kept old mid left) where
+    pub apart_part : (p : Level S F) → p ≡ l → SeekApart old-kept old (Ok (Some (next.Part p))) mid ls
+    apart_part p same first parts given found s =
+        let t = at_level old-kept old mid mid l left ls ls is f first parts given found s in
+        let d = led_alike steps rest before void like ends budget most first parts [] (l ∷ ls ++ given) (ls ++ l ∷ given) t.0 found (given_away steps budget l ls given) t.1 in
+        subst (λ (z : Level S F). Searched first parts mid (ls ++ z ∷ given) found) (sym same) (t.0, d, t.2)
+
+    pub apart_run : (e : Ended S) → Turn l mid ls (Ok (Some e)) kept new → SeekApart old-kept old (Ok (Some (next.Run e))) kept new
+    apart_run e t first parts given found s = t first parts given found (at_level old-kept old mid kept l left ls new is f first parts given found s)
+
+    pub apart_stopped : (x : WalkFault) (r : Result (Option (Next S F)) WalkFault) → Turn l mid ls (Err x) kept new → IsErrAnd r (λ y. y ≡ x) → SeekApart old-kept old r kept new
+    apart_stopped x r t failed =
+        let z = err_from_is_err_and r failed in
+        subst (λ (y : Result (Option (Next S F)) WalkFault). SeekApart old-kept old y kept new) (sym z.1)
+        (λ first parts given found s. subst (λ (g : WalkFault). Stops steps budget most first g) (sym z.2) (t first parts given found (at_level old-kept old mid kept l left ls new is f first parts given found s)))
+
+  pub apart_none : (old-kept kept : Stores S F) (old left new : List (Level S F)) → left ≡ [] → new ≡ [] → IsSoughtTo old-kept old kept left → SeekApart old-kept old (Ok None) kept new
+  apart_none old-kept kept old left new is none f first parts given found s = seeks_none old-kept kept old left new is none f first parts given found s

@@ -1,0 +1,98 @@
+-- What is known where all was found: the laws.
+use Rattle.std.proofs.Common.{◌≡◌, ◌⊎◌, inl, inr, ℕ, Bool, true, false, List, [], ◌∷◌, ◌++◌, refl, sym, subst}
+use Rattle.mr_explore_search.specs.Steps.{Goes, Ends, Steps}
+use Rattle.mr_explore_search.specs.Runs.{Found, Run}
+use Rattle.mr_explore_search.specs.Laws.{In, IsOneBy}
+use Rattle.mr_explore_alike.specs.Leaving.{Here, IsTaken}
+use Rattle.mr_explore_alike.proofs.Leaving.{no_end}
+use Rattle.mr_explore_alike.proofs.Void.{either, itself, true-is-not-false}
+use Rattle.mr_explore_places.specs.Places.{DepartsByFault, DepartsLate, beginning, behind_step}
+use Rattle.mr_explore_places.specs.Levels.{IsLeft}
+use Rattle.mr_explore_places.specs.Searching.{HasDone, WillBeTaken}
+use Rattle.mr_explore_places.specs.State.{whole}
+use Rattle.mr_explore_places.specs.Laws.{EachEndIsFound, PartsAreJoined}
+use Rattle.mr_explore_places.specs.declared.level.Level.{Level}
+use Rattle.mr_explore_places.proofs.Lists.{in_either, in_left, in_right}
+use Rattle.mr_explore_places.proofs.Doing.{enough, parts_taken}
+
+same_run : {S : Type 0} (k n : ℕ) (s t : S) → Run k s ≡ Run n t → s ≡ t
+same_run k n s t e = cc
+
+module _ {S F : Type 0} (steps : Steps S F) (rest : S → ℕ) (before : S → S → Bool) (void : S → Bool) (like : S → List F → S → List F → Type 0) (ends : S → S → Type 0) where
+  pub each_found : EachEndIsFound steps rest before void like ends
+  each_found bounds first found l alike few h k s one real =
+      either (void first)
+      (λ nothing.
+      let same = same_run k one.0 s first (itself steps bounds.steps one.0 one.0 0 bounds.steps [] first (Run k s) (l.nothing first nothing) one.2) in
+      absurd (true-is-not-false (subst (λ (z : S). void z ≡ true) (sym same) nothing) real))
+      (λ alive.
+      no_end steps rest before void like ends bounds.steps bounds.faults h.0 found first l alike few (enough steps rest before void like ends bounds.faults bounds.steps first (whole first) h.0 found h.1)
+      (parts_taken steps rest before void like ends bounds.faults bounds.steps first (whole first) h.0 found h.1 (beginning first) (inl refl) alive) k s one real)
+
+  module _ (budget most : ℕ) (first : S) (parts given : List (Level S F)) (part : Level S F) (made new : List (Here S F)) (found more : List (Found S)) where
+    abbrev Taken : List (Here S F) → Here S F → Type 0
+    Taken all x = IsTaken steps rest before void like ends all x.faults x.ripe x.owed x.run
+
+    abbrev Will : List (Here S F) → Here S F → Type 0
+    Will all x = WillBeTaken steps rest before void like ends budget most [] all x
+
+    taken-more : (all : List (Here S F)) → ((h : Here S F) → In h all → In h (new ++ made)) → (x : Here S F) → Taken all x → Taken (new ++ made) x
+    taken-more all f x (inl i) = inl (f x i)
+    taken-more all f x (inr c) = inr (record {
+      by = c.by;
+      made_by = f c.by c.made_by;
+      alike = c.alike;
+      ripe_there = c.ripe_there;
+      earlier = c.earlier;
+    })
+
+    old : (x : Here S F) → Will made x → Will (new ++ made) x
+    old x (inl t) = inl (taken-more made (λ h i. in_right h new made i) x t)
+    old x (inr i) = absurd i
+
+    of-part : (x : Here S F) → Will new x → Will (new ++ made) x
+    of-part x (inl t) = inl (taken-more new (λ h i. in_left h new made i) x t)
+    of-part x (inr i) = absurd i
+
+    pub joined : HasDone steps rest before void like ends budget most first parts [] (part ∷ given) made found → HasDone steps rest before void like ends budget most first (part ∷ []) [] [] new more
+        → HasDone steps rest before void like ends budget most first parts [] given (new ++ made) (more ++ found)
+    joined d e = record {
+      on_way = λ x i. d.on_way x (inr i);
+      runs = λ r i. one r (in_either r more found i);
+      began = λ x i v. turned x v (d.began x i v);
+      goes = λ h t i w. goes h t w (in_either h new made i);
+      ended = λ h t i w. ended h t w (in_either h new made i);
+      befalls = λ h x i j v. befalls h x j v (in_either h new made i);
+      comes = λ h x i j v. comes h x j v (in_either h new made i);
+    } where
+      all : (x : Here S F) → Will new x ⊎ IsLeft steps budget [] x → Will (new ++ made) x
+      all x (inl i) = of-part x i
+      all x (inr i) = absurd i
+
+      turned : (x : Here S F) → void x.run ≡ false → Will made x ⊎ IsLeft steps budget (part ∷ given) x → Will (new ++ made) x ⊎ IsLeft steps budget given x
+      turned x v (inl i) = inl (old x i)
+      turned x v (inr (inl i)) = inl (all x (e.began x (inl i) v))
+      turned x v (inr (inr i)) = inr i
+
+      one : (r : Found S) → In r more ⊎ In r found → IsOneBy steps most budget first r
+      one r (inl i) = e.runs r i
+      one r (inr i) = d.runs r i
+
+      goes : (h : Here S F) (t : S) → steps.onward h.run ≡ Goes t → In h new ⊎ In h made → Will (new ++ made) (behind_step h t)
+      goes h t w (inl i) = of-part (behind_step h t) (e.goes h t i w)
+      goes h t w (inr i) = old (behind_step h t) (d.goes h t i w)
+
+      ended : (h : Here S F) (t : S) → steps.onward h.run ≡ Ends t → In h new ⊎ In h made → In (Run h.faults t) (more ++ found)
+      ended h t w (inl i) = in_left (Run h.faults t) more found (e.ended h t i w)
+      ended h t w (inr i) = in_right (Run h.faults t) more found (d.ended h t i w)
+
+      befalls : (h x : Here S F) → DepartsByFault steps budget x h → void x.run ≡ false → In h new ⊎ In h made → Will (new ++ made) x ⊎ IsLeft steps budget given x
+      befalls h x j v (inl i) = inl (all x (e.befalls h x i j v))
+      befalls h x j v (inr i) = turned x v (d.befalls h x i j v)
+
+      comes : (h x : Here S F) → DepartsLate steps x h → void x.run ≡ false → In h new ⊎ In h made → Will (new ++ made) x ⊎ IsLeft steps budget given x
+      comes h x j v (inl i) = inl (all x (e.comes h x i j v))
+      comes h x j v (inr i) = turned x v (d.comes h x i j v)
+
+  pub parts_joined : PartsAreJoined steps rest before void like ends
+  parts_joined bounds first parts given part found more d e = (e.0 ++ d.0, joined bounds.faults bounds.steps first parts given part d.0 e.0 found more d.1 e.1)

@@ -1,0 +1,10 @@
+pub mod Lists
+pub mod Ways
+pub mod Within
+pub mod Leading
+pub mod Doing
+pub mod Slots
+pub mod Trails
+pub mod Begun
+pub mod Joining
+pub mod Answering

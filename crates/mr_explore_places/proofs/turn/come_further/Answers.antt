@@ -1,0 +1,18 @@
+use Rattle.std.proofs.Common.{◌≡◌, ◌∷◌, ◌-◌, suc, Bool, List, refl, subst, sym, ap, ◌∙◌, arith}
+use Rattle.mr_explore_places.specs.Going.{GoesTo}
+use Rattle.mr_explore_places.specs.Levels.{LeadAlike}
+use Rattle.mr_explore_places.specs.declared.level.Level.{Level}
+use Rattle.mr_explore_places.specs.declared.level.Level.TheVariants.{Late}
+use Rattle.mr_explore_places.specs.declared.level.Coming.{Coming}
+use Rattle.mr_explore_places.proofs.Leading.{came_further}
+use Rattle.mr_explore_places.proofs.turn.come_further.Goals as goal
+
+pub returns-clause-leads : goal.returns-clause-leads
+returns-clause-leads g c = λ budget.
+    let old-beyond = ap (λ (l : Coming g.row.R.Denot g.row.R-Fault.Denot). l.beyond) c.level.view_is in
+    let more : c.args.level.beyond ≡ suc (c.args.level.beyond - 1) = omega (arith, old-beyond, c.if-level-eq0.false) in
+    let goes = subst (λ (b : Bool). GoesTo g.R.Run.steps c.args.level.place b c.goes_on.new.place) c.if-not-branch.false c.in_ok-goes_on.ensures.goes in
+    let items : c.push_front.new.self ≡ Late (record { place = c.goes_on.new.place; late = c.goes_on.new.place.ripe; beyond = c.args.level.beyond - 1 }) ∷ c.args.levels.now =
+    c.in_ok-push_front.ensures.items ∙ ap (λ (l : Coming g.row.R.Denot g.row.R-Fault.Denot). Late (record { place = l.place; late = l.place.ripe; beyond = l.beyond - 1 }) ∷ c.args.levels.now) c.level-2.view_is in
+    subst (λ (z : List (Level g.row.R.Denot g.row.R-Fault.Denot)). LeadAlike g.R.Run.steps budget (Late c.args.level ∷ c.args.levels.now) z) (sym items)
+    (came_further g.R.Run.steps budget c.args.level c.args.levels.now c.goes_on.new.place c.goes_on.new.place.ripe (c.args.level.beyond - 1) c.requires more goes refl)

@@ -1,0 +1,10 @@
+-- What a search over the places of runs does. Places is where runs lead, Covering which places stand for others, Keeping what is kept, Levels what is left, Going what
+-- is answered where runs go on, Searching what a search has done, and Laws what is known where it has found all.
+pub mod Places
+pub mod Covering
+pub mod Keeping
+pub mod Levels
+pub mod Going
+pub mod Searching
+pub mod State
+pub mod Laws

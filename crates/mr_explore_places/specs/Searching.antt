@@ -1,0 +1,81 @@
+-- What a search has done, and what its calls answer (our own profile).
+use Rattle.std.specs.Prelude.{◌≡◌, ◌⊎◌, ℕ, suc, Bool, false, List, [], ◌∷◌, ◌++◌, Option, Some, None, Result, Ok, Err}
+use Rattle.mr_explore_search.specs.Steps.{Goes, Ends, Steps}
+use Rattle.mr_explore_search.specs.Runs.{Found, Run}
+use Rattle.mr_explore_search.specs.Laws.{In, IsOneBy}
+use Rattle.mr_explore_search.specs.declared.ended.Ended.{Ended}
+use Rattle.mr_explore_search.specs.declared.fault.WalkFault.{WalkFault}
+use Rattle.mr_explore_alike.specs.Leaving.{Here, IsTaken}
+use Rattle.mr_explore_places.specs.Places.{DepartsByFault, DepartsLate, IsOnItsWay, behind_step}
+use Rattle.mr_explore_places.specs.Going.{Stops}
+use Rattle.mr_explore_places.specs.Levels.{IsLeft, laid}
+use Rattle.mr_explore_places.specs.Keeping.{AreMade}
+use Rattle.mr_explore_places.specs.declared.level.Level.{Level}
+use Rattle.mr_explore_places.specs.declared.stores.Stores.{Stores}
+use Rattle.mr_explore_places.specs.declared.part.Next.{Next}
+use Rattle.mr_explore_places.specs.declared.part.Next.TheVariants as next
+use Rattle.mr_explore_places.specs.declared.following.Trail.{Trail}
+
+module _ {S F : Type 0} (steps : Steps S F) (rest : S → ℕ) (before : S → S → Bool) (void : S → Bool) (like : S → List F → S → List F → Type 0) (ends : S → S → Type 0) (budget most : ℕ) where
+  -- it is taken, or it is one of the next
+  abbrev pub WillBeTaken : (next made : List (Here S F)) → Here S F → Type 0
+  WillBeTaken next made x = IsTaken steps rest before void like ends made x.faults x.ripe x.owed x.run ⊎ In x next
+
+  -- What a search has done that had these levels before it at first, which are parts of a search from the first run. It made these places, found these runs, and has
+  -- these places next and these levels left. Each place to which a made one leads, or a level of those at first, is taken, or is one of the next, or is left.
+  pub record HasDone (first : S) (parts : List (Level S F)) (next : List (Here S F)) (left : List (Level S F)) (made : List (Here S F)) (found : List (Found S)) : Type 0 where
+    pub on_way : (x : Here S F) → IsLeft steps budget left x → IsOnItsWay steps budget most first most x
+    pub runs : (r : Found S) → In r found → IsOneBy steps most budget first r
+    pub began : (x : Here S F) → IsLeft steps budget parts x → void x.run ≡ false → WillBeTaken next made x ⊎ IsLeft steps budget left x
+    pub goes : (h : Here S F) (t : S) → In h made → steps.onward h.run ≡ Goes t → WillBeTaken next made (behind_step h t)
+    pub ended : (h : Here S F) (t : S) → In h made → steps.onward h.run ≡ Ends t → In (Run h.faults t) found
+    pub befalls : (h x : Here S F) → In h made → DepartsByFault steps budget x h → void x.run ≡ false → WillBeTaken next made x ⊎ IsLeft steps budget left x
+    pub comes : (h x : Here S F) → In h made → DepartsLate steps x h → void x.run ≡ false → WillBeTaken next made x ⊎ IsLeft steps budget left x
+
+  -- the same, with any places that were made: those that are kept are among them
+  abbrev pub HasSearched : (first : S) (parts : List (Level S F)) (kept : Stores S F) (left : List (Level S F)) (found : List (Found S)) → Type 0
+  HasSearched first parts kept left found = (made : List (Here S F)) × HasDone first parts [] left made found × AreMade kept made
+
+  -- ---- what the calls promise
+
+  -- a run was found, if one was
+  abbrev pub with_ended : Option (Ended S) → List (Found S) → List (Found S)
+  with_ended None found = found
+  with_ended (Some e) found = Run e.faults e.run ∷ found
+
+  -- a run is followed so far: each of its places is made
+  abbrev pub FollowedTo : (first : S) (parts : List (Level S F)) (origin : Here S F) (left : List (Level S F)) (found : List (Found S)) → Result (Trail S) WalkFault → Stores S F → Type 0
+  FollowedTo first parts origin left found (Ok trail) new = HasSearched first parts new (laid steps budget (suc trail.beyond) origin left) (with_ended trail.ended found)
+  FollowedTo first parts origin left found (Err f) new = Stops steps budget most first f
+
+  abbrev pub Follows : (origin : Here S F) → Stores S F → Result (Trail S) WalkFault → Stores S F → Type 0
+  Follows origin old result new = (first : S) (parts left : List (Level S F)) (made : List (Here S F)) (found : List (Found S)) → IsOnItsWay steps budget most first most origin
+      → HasDone first parts (origin ∷ []) left made found → AreMade old (origin ∷ made) → FollowedTo first parts origin left found result new
+
+  -- a turn was made: a run was found, or none was
+  abbrev pub Turned : (first : S) (parts : List (Level S F)) (given : List (Level S F)) (found : List (Found S)) → Result (Option (Ended S)) WalkFault → Stores S F → List (Level S F) → Type 0
+  Turned first parts given found (Ok o) kept left = HasSearched first parts kept (left ++ given) (with_ended o found)
+  Turned first parts given found (Err f) kept left = Stops steps budget most first f
+
+  -- the level that came next makes a turn; others, which are given away, stay
+  abbrev pub Turns : Level S F → Stores S F → List (Level S F) → Result (Option (Ended S)) WalkFault → Stores S F → List (Level S F) → Type 0
+  Turns l old-kept old result kept left = (first : S) (parts given : List (Level S F)) (found : List (Found S)) → HasSearched first parts old-kept (l ∷ old ++ given) found → Turned first parts given found result kept left
+
+  -- turns are made until a run was found; where none was, nothing is left
+  abbrev pub Sought : (first : S) (parts : List (Level S F)) (given : List (Level S F)) (found : List (Found S)) → Result (Option (Ended S)) WalkFault → Stores S F → List (Level S F) → Type 0
+  Sought first parts given found (Ok None) kept left = HasSearched first parts kept given found × (left ≡ [])
+  Sought first parts given found (Ok (Some e)) kept left = HasSearched first parts kept (left ++ given) (Run e.faults e.run ∷ found)
+  Sought first parts given found (Err f) kept left = Stops steps budget most first f
+
+  abbrev pub Seeks : Stores S F → List (Level S F) → Result (Option (Ended S)) WalkFault → Stores S F → List (Level S F) → Type 0
+  Seeks old-kept old result kept left = (first : S) (parts given : List (Level S F)) (found : List (Found S)) → HasSearched first parts old-kept (old ++ given) found → Sought first parts given found result kept left
+
+  -- the same, until a run was found, or a part comes next, which is given away
+  abbrev pub SoughtApart : (first : S) (parts : List (Level S F)) (given : List (Level S F)) (found : List (Found S)) → Result (Option (Next S F)) WalkFault → Stores S F → List (Level S F) → Type 0
+  SoughtApart first parts given found (Ok None) kept left = HasSearched first parts kept given found × (left ≡ [])
+  SoughtApart first parts given found (Ok (Some (next.Run e))) kept left = HasSearched first parts kept (left ++ given) (Run e.faults e.run ∷ found)
+  SoughtApart first parts given found (Ok (Some (next.Part l))) kept left = HasSearched first parts kept (left ++ l ∷ given) found
+  SoughtApart first parts given found (Err f) kept left = Stops steps budget most first f
+
+  abbrev pub SeeksApart : Stores S F → List (Level S F) → Result (Option (Next S F)) WalkFault → Stores S F → List (Level S F) → Type 0
+  SeeksApart old-kept old result kept left = (first : S) (parts given : List (Level S F)) (found : List (Found S)) → HasSearched first parts old-kept (old ++ given) found → SoughtApart first parts given found result kept left

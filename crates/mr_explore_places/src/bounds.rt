@@ -1,0 +1,16 @@
+//! How far a search goes.
+
+/// How far a search goes, and how many places it keeps. What it finds is the same for all numbers but `faults` and `steps`, save that it may find an end again.
+#[derive(Clone, Copy, Debug)]
+pub struct Bounds {
+    /// How many faults a run has at most.
+    pub faults: u32,
+    /// How many steps a run makes by itself at most, behind each departure.
+    pub steps: u64,
+    /// In how many rows places are kept from which something may depart.
+    pub rows: usize,
+    /// In how many rows places are kept of runs that depart no more.
+    pub last_rows: usize,
+    /// A run that departs no more is looked up behind its last departure, and then only where it has made a multiple of so many steps; nowhere if this is 0.
+    pub meet: u64,
+}

@@ -1,0 +1,50 @@
+-- The order of scripts, that is of lists of events (our own profile): the one of fewer events comes first. Of two that are as long the first event that
+-- differs decides, by its numbers.
+use Rattle.std.specs.Prelude.{ℕ, Bool, List, [], ◌∷◌, length}
+use Rattle.std.specs.Cmp.Lexicographic.{slice_cmp}
+use Rattle.std.specs.Ordering.{is_lt, nat_cmp, ordering_then}
+use Rattle.std.specs.declared.cmp.Ordering.{Ordering}
+use Rattle.mr_ids.specs.declared.id.TaskKind.{TaskKind}
+use Rattle.mr_ids.specs.declared.id.TaskKind.TheVariants as kind
+use Rattle.mr_world_events.specs.declared.event.Event.{Event}
+use Rattle.mr_world_events.specs.declared.event.Event.TheVariants.{Start, Crash, Duty, LaunchOn, Deliver, ContainerStep, Computed, Die, NodeRestart, Expire}
+use Rattle.mr_world_events.specs.declared.event.Weather.{Weather}
+use Rattle.mr_world_events.specs.declared.event.Weather.TheVariants.{Calm, Unavailable, Unanswered}
+
+-- ---- what is said, as numbers
+
+abbrev pub weather_number : Weather → ℕ
+weather_number Calm = 0
+weather_number Unavailable = 1
+weather_number Unanswered = 2
+
+abbrev pub kind_number : TaskKind → ℕ
+kind_number kind.Map = 0
+kind_number kind.Reduce = 1
+
+-- an event: the number of its kind, and then what it says. No two events have the same numbers
+abbrev pub numbers : Event → List ℕ
+numbers (Start generation kept) = 0 ∷ generation ∷ kept ∷ []
+numbers (Crash generation kept) = 1 ∷ generation ∷ kept ∷ []
+numbers (Duty generation weather) = 2 ∷ generation ∷ weather_number weather ∷ []
+numbers (LaunchOn generation task node) = 3 ∷ generation ∷ task.job.start ∷ task.job.number ∷ kind_number task.kind ∷ task.number ∷ node ∷ []
+numbers (Deliver packet) = 4 ∷ packet ∷ []
+numbers (ContainerStep c weather) = 5 ∷ c.app ∷ c.number ∷ weather_number weather ∷ []
+numbers (Computed c bytes) = 6 ∷ c.app ∷ c.number ∷ length bytes ∷ bytes
+numbers (Die c) = 7 ∷ c.app ∷ c.number ∷ []
+numbers (NodeRestart node) = 8 ∷ node ∷ []
+numbers (Expire generation node) = 9 ∷ generation ∷ node ∷ []
+
+-- ---- the order
+
+-- two events, by their numbers from left to right
+abbrev pub event_cmp : Event → Event → Ordering
+event_cmp a b = slice_cmp nat_cmp (numbers a) (numbers b)
+
+-- two scripts: by how many events they have, and then by the first event that differs
+abbrev pub script_cmp : List Event → List Event → Ordering
+script_cmp a b = ordering_then (nat_cmp (length a) (length b)) (slice_cmp event_cmp a b)
+
+-- a script comes before another: it has fewer events, or as many, and the first event that differs is the lesser one
+unfoldable pub sooner : List Event → List Event → Bool
+sooner a b = is_lt (script_cmp a b)

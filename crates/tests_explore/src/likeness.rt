@@ -1,0 +1,84 @@
+//! Which runs of a job are found to be like each other.
+
+use mr_explore::Explored;
+use mr_explore_compared::{is_like, mark};
+use std::alloc::Global;
+use std::process::Abort;
+
+// Two maps, each in a container that has not made a step.
+const LAUNCHED: &[u8] =
+    b"{\"id\":\"job_200707121733_0003\",\"job\":\"wordcount\",\"reduces\":1,\"splits\":[\"a b\",\"b a\"]}\nstart 1 0\ncalm 1 before step\n";
+
+// The same job on other nodes.
+const ELSEWHERE: &[u8] =
+    b"{\"id\":\"job_200707121733_0003\",\"job\":\"wordcount\",\"reduces\":1,\"splits\":[\"a b\",\"b a\"],\"nodes\":5}\nstart 1 0\ncalm 1 before step\n";
+
+// Both maps compute, in both orders, and the first one goes on.
+const MAPS: &[u8] = b"compute 1.0\ncompute 1.1\nstep 1.0\n";
+
+const MAPS_TURNED: &[u8] = b"compute 1.1\ncompute 1.0\nstep 1.0\n";
+
+// The run that lines lead to behind others.
+fn run_of(rt: &impl Abort, alloc: Global, before: &[u8], lines: &[u8]) -> Explored {
+    let mut input = Vec::from_slice(alloc, before).expect(rt, "no memory");
+    input.extend_from_slice(lines).expect(rt, "no memory");
+    Explored::new(alloc, &input).expect(rt, "no run")
+}
+
+// Whether the run of the first lines is found to be like that of the others.
+fn compared(rt: &impl Abort, alloc: Global, before: &[u8], lines: &[u8], others: &[u8]) -> bool {
+    let run = run_of(rt, alloc, LAUNCHED, lines);
+    let other = run_of(rt, alloc, before, others);
+    let known = is_like(&run, &[], &other, &[]).expect(rt, "not compared");
+    if known {
+        let one = mark(&run, &[]).expect(rt, "no mark");
+        assert!(rt; one == mark(&other, &[]).expect(rt, "no mark"));
+    }
+    drop(run);
+    drop(other);
+    known
+}
+
+// Two events in both orders lead to runs that go on alike.
+#[test]
+fn orders_are_alike(rt: HostRuntime) {
+    let (rt, alloc) = (&rt, rt.alloc());
+    assert!(rt; compared(rt, alloc, LAUNCHED, MAPS, MAPS_TURNED));
+    assert!(rt; compared(rt, alloc, LAUNCHED, MAPS_TURNED, MAPS));
+    assert!(rt; compared(rt, alloc, LAUNCHED, b"", b""));
+}
+
+// Where one thing differs they are not found alike.
+#[test]
+fn others_are_not(rt: HostRuntime) {
+    let (rt, alloc) = (&rt, rt.alloc());
+    // who lives
+    assert!(rt; !compared(rt, alloc, LAUNCHED, b"die 1.0\n", b"die 1.1\n"));
+    // who stepped last
+    assert!(rt;
+        !compared(
+            rt,
+            alloc,
+            LAUNCHED,
+            b"compute 1.0\ncompute 1.1\n",
+            b"compute 1.1\ncompute 1.0\n"
+        )
+    );
+    // what was dropped, here and there
+    assert!(rt; !compared(rt, alloc, LAUNCHED, b"drop 1000\n", b""));
+    assert!(rt; !compared(rt, alloc, LAUNCHED, b"", b"drop 1000\n"));
+    // what was delivered
+    assert!(rt;
+        !compared(
+            rt,
+            alloc,
+            LAUNCHED,
+            b"restart 0\ndeliver 0\n",
+            b"restart 0\nexpire 1 0\n"
+        )
+    );
+    // how near the limits are
+    assert!(rt; !compared(rt, alloc, LAUNCHED, b"die 1.0\n", b"die 1.0\ndeliver 0\n"));
+    // the config
+    assert!(rt; !compared(rt, alloc, ELSEWHERE, b"", b""));
+}
