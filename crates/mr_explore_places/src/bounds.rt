@@ -11,6 +11,6 @@ pub struct Bounds {
     pub rows: usize,
     /// In how many rows places are kept of runs that depart no more.
     pub last_rows: usize,
-    /// A run that departs no more is looked up behind its last departure, and then only where it has made a multiple of so many steps; nowhere if this is 0.
+    /// A run that departs no more is looked up behind its last departure, and then only where its stage is a multiple of this; nowhere if this is 0.
     pub meet: u64,
 }

@@ -48,7 +48,6 @@ pub fn behind_fault<R: MarkedRun>(
                 ripe: place.owed.len(),
                 owed,
                 run,
-                steps: place.steps,
             }))
         }
         None => Ok(None),
@@ -90,7 +89,6 @@ fn behind_late<R: MarkedRun>(
                 ripe,
                 owed,
                 run,
-                steps: place.steps,
             }))
         }
         None => Ok(None),

@@ -29,7 +29,6 @@ pub fn step_on<R: MarkedRun>(
 {
     if place.run.go_on(alloc)? {
         place.ripe = place.owed.len();
-        place.steps = place.steps.wrapping_add(1);
         Ok(true)
     } else {
         Ok(false)
@@ -61,7 +60,6 @@ pub fn at_end<R: MarkedRun>(place: Place<R, R::Fault>) -> Ended<R>
         ripe: _,
         owed: _,
         run,
-        steps: _,
     } = place;
     Ended { run, faults }
 }

@@ -19,8 +19,6 @@ pub struct Place<R, F> {
     /// What its faults put off, and has not come.
     pub owed: Vec<F>,
     pub run: R,
-    /// How many steps it has made by itself. No contract speaks of it.
-    pub steps: u64,
 }
 
 impl<R, F> Model for Place<R, F> {
@@ -46,7 +44,6 @@ pub fn copy_of<R: MarkedRun>(
         ripe: place.ripe,
         owed,
         run,
-        steps: place.steps,
     })
 }
 

@@ -1,5 +1,5 @@
 //! The search.
-ghost use Rattle.std.specs.Prelude.{◌≡◌, List, [], ◌∷◌, Err, IfOk, IfErr};
+ghost use Rattle.std.specs.Prelude.{◌≡◌, List, [], ◌∷◌, Err, IfOk, IfErr, OnOk, OnErr};
 ghost use Rattle.mr_explore_search.specs.Runs.{Found};
 ghost use Rattle.mr_explore_search.specs.Steps.{IsNotFull};
 ghost use Rattle.mr_explore_search.specs.declared.fault.WalkFault.{WalkFault};
@@ -14,7 +14,7 @@ use crate::run::MarkedRun;
 use crate::stores::Stores;
 use crate::turn::{seek, seek_apart};
 use mr_explore_search::{Ended, WalkFault};
-use std::alloc::Global;
+use std::alloc::{AllocError, Global};
 use std::collections::LinkedList;
 use std::marker::Model;
 
@@ -76,6 +76,32 @@ impl<R: MarkedRun> Search<R> {
         })
     }
 
+    /// A search that has nothing before it, and has found nothing. It fails where there is no memory.
+    pub fn idle(alloc: Global, bounds: Bounds) -> Result<Search<R>, AllocError>
+        ensures { IfOk result (λ search. (first : R) → HasFound R.steps R.rest R.before R.void R.like R.ends bounds first [] [] [] search) }
+    {
+        let stores = Stores::new(alloc, &bounds)?;
+        Ok(Search {
+            levels: LinkedList::new(alloc),
+            stores,
+            bounds,
+            fault: None,
+        })
+    }
+
+    /// A part that was taken off another search with the same bounds comes before it, besides what is left of others. It keeps its places. It fails where there is no memory, or
+    /// where it has stopped, with its fault; then nothing changes.
+    pub fn take_part(&mut self, part: Part<R, R::Fault>) -> Result<(), WalkFault>
+        ensures takes { (bounds : Bounds) (first : R) (parts given : List (Level R R.Fault)) (found : List (Found R)) → HasFound R.steps R.rest R.before R.void R.like R.ends bounds first parts given found self.old → IsPart R.steps bounds first part → OnOk result (HasFound R.steps R.rest R.before R.void R.like R.ends bounds first (part ∷ parts) given found self.new) }
+        ensures stays { OnErr result (self.new ≡ self.old) }
+    {
+        if let Some(fault) = self.fault {
+            return Err(fault);
+        }
+        self.levels.push_front(part.into_level())?;
+        Ok(())
+    }
+
     /// The next run that came to its end, in the order in which they are made; no run where all that are needed were found.
     ///
     /// Refusals: `Full` where a run would pass a limit, and an allocation failure. `Mismatch` where a run is not at its end behind as many steps as the bounds say, which can't be where
@@ -118,7 +144,6 @@ fn beginning<R: MarkedRun>(alloc: Global, run: R) -> Place<R, R::Fault>
         ripe: 0,
         owed: Vec::new(alloc),
         run,
-        steps: 0,
     }
 }
 

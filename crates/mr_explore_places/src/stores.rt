@@ -181,8 +181,8 @@ fn may_depart<R: MarkedRun>(bounds: &Bounds, place: &Place<R, R::Fault>) -> bool
 }
 
 // Whether a place of a run that departs no more is looked up: at once behind its departure, and where many runs come to be alike.
-fn is_met(bounds: &Bounds, begins: bool, steps: u64) -> bool {
-    begins || (bounds.meet != 0 && steps % bounds.meet == 0)
+fn is_met(bounds: &Bounds, begins: bool, stage: u64) -> bool {
+    begins || (bounds.meet != 0 && stage % bounds.meet == 0)
 }
 
 /// A place is looked up, unless that is not worth its while; where none that is kept stands for it, it may be kept. Whether it has to be made. It begins behind
@@ -200,7 +200,7 @@ pub fn visit<R: MarkedRun>(
     if may_depart(bounds, place) {
         return visit_rows(alloc, &mut stores.departing, place);
     }
-    if is_met(bounds, begins, place.steps) {
+    if is_met(bounds, begins, place.run.stage()) {
         return visit_rows(alloc, &mut stores.last, place);
     }
     Ok(true)

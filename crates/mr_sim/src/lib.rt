@@ -23,6 +23,7 @@
 //! | `play` with the tree | the listing of what the namespace holds then |
 //! | `play` and `history` as lines of JSON | what mr_trace_json says of the run and of the segment |
 //! | `explore` | what mr_explore_ends says of the ends of all runs of the input with at most as many faults as are asked for; the job has each reduce that the goal names, and each attempt that it names is one of that reduce |
+//! | `explore --merge` | what mr_explore_least says of the ends of all these runs, each with its least script |
 //! | `threads` | what `seq` prints for the job text; what is shown of a run in its place is what mr_threads_shown says of it |
 //!
 //! **`run_streams`, from a reader to a writer**: reads all, answers, writes all. Proved, for every reader and writer that tell
@@ -90,6 +91,7 @@ pub use ending::{Ending, exit_status};
 pub use laws::printed_or_refused;
 pub use mr_explore::{Asked, Form};
 pub use mr_explore_ends::{is_contrary, read_goal};
+pub use mr_explore_merged::Question;
 pub use mr_script::Expectation;
 pub use mr_sim_commands::{JobTextFault, SimFault};
 pub use mr_threads_shown::Seen;

@@ -1,5 +1,5 @@
 //! The subcommand `explore`: every run of a job with few faults.
-use crate::names::{DEEP, FAULTS, FIND, JOBS, JSON, MOST, PROGRESS, SECONDS};
+use crate::names::{DEEP, FAULTS, FIND, JOBS, JSON, MERGE, MOST, PROGRESS, SECONDS};
 use crate::table::Word;
 use clap::builder::ValueParser;
 
@@ -29,6 +29,10 @@ who live only ask their masters, and hear nothing, or no), what `play` prints of
 those of `seq`, and of the scripts that lead to it with the fewest faults the first shortest one. Behind the job text it is an
 input of `play`: each script was played before it is shown.
 
+With --merge a run is left out that goes on as one that was made before, with fewer faults, or as many and a script that comes
+first: the shorter one, or of two as long the lesser. It writes each end of all runs with its least script, and how many faults
+and events that has, but not how many runs there are. It seeks a GOAL by 0 faults, then by 1, up to N.
+
 Example, where one.job is a job text alone, and its line has an end:
   mrsim explore --find \"marker yes, outcome failed\" one.job > script
   cat one.job script | mrsim play --diagram > end.svg
@@ -42,6 +46,9 @@ const FAULTS_HELP: &str = "How many faults a run has at most, 0 to 4 (default 1)
 
 const FIND_HELP: &str =
     "Stops at the first end that has these lines, as \"marker yes, outcome failed\", and shows it; else `none`";
+
+const MERGE_HELP: &str =
+    "Makes runs that go on alike once, and shows each end with its least script";
 
 const MOST_HELP: &str = "Makes at most RUNS runs, and shows what came of them (default: all)";
 
@@ -87,6 +94,12 @@ const WORDS: &[Word] = &[
     Word {
         name: JSON,
         help: JSON_SHOWN,
+        ..Word::FLAG
+    },
+    Word {
+        name: MERGE,
+        help: MERGE_HELP,
+        rules_out: &[DEEP, MOST, SECONDS],
         ..Word::FLAG
     },
     Word {

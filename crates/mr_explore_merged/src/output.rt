@@ -1,0 +1,176 @@
+//! The output of `explore --merge`.
+
+ghost use Rattle.std.specs.Prelude.{◌≡◌, true, map, IfOk, IfErr, OnOk};
+ghost use Rattle.std.specs.Option.{option_map};
+ghost use Rattle.mr_explore.specs.Checks.{IsUnchecked};
+ghost use Rattle.mr_explore.specs.Ends.{LeadsTo, TellFails};
+ghost use Rattle.mr_script_writer.specs.Repeating.{repeating};
+ghost use Rattle.mr_explore_least.specs.Rows.{as_arrival};
+ghost use Rattle.mr_explore_merged.specs.Merged.{IsFoundOf, LeadToEnds, MergedFails, PrintsMerged, told_text};
+
+use crate::parted::search_by_threads;
+use crate::question::Question;
+use crate::searching::search;
+use mr_explore::{Form, Watch, check_script, sequential_of};
+use mr_explore_ends::Sequential;
+use mr_explore_least::{Least, LeastTable, put_least, put_least_lines};
+use mr_script::Expectation;
+use mr_script_writer::put_script;
+use mr_sim_commands::{Printed, SimFault};
+use std::alloc::{AllocError, Global};
+use std::thread::Threads;
+
+/// What `explore --merge` prints of an input, which is a job text and a script behind it: each end of all runs of the input with at most
+/// `asked.faults` faults, and the least script to it. Where an end is sought, runs with more faults than it needs are not asked for.
+///
+/// The first bad key of the job text is told (`Job`), else the first bad line of the script (`BadCommand`). Else `Full` is told where the script,
+/// the start of the first master, or one of these runs would pass a limit of the world. `NoMemory` may come at any input. `JournalMismatch` would
+/// come where a script led to another end.
+pub fn merged_output<W: Watch>(
+    alloc: Global,
+    input: &[u8],
+    asked: &Question<'_>,
+    watch: &W,
+) -> Result<Printed, SimFault>
+    ensures ok { IfOk result (λ v. PrintsMerged asked.now input.now v.text.items) }
+    ensures met { IfOk result (λ v. v.met ≡ true) }
+    ensures fault { IfErr result (MergedFails asked.now.faults input.now) }
+{
+    let least = found_by_one(alloc, input, asked, watch)?;
+    merged_text(alloc, input, &least, asked)
+}
+
+/// The least runs of all with at most so many faults.
+#[derive(Drop)]
+pub struct LeastFound {
+    pub faults: u32,
+    pub table: LeastTable,
+}
+
+// What is found of an input by one thread.
+fn found_by_one<W: Watch>(
+    alloc: Global,
+    input: &[u8],
+    asked: &Question<'_>,
+    watch: &W,
+) -> Result<LeastFound, SimFault>
+    ensures found { IfOk result (λ found. IsFoundOf asked.now input.now found.faults found.table) }
+    ensures fault { IfErr result (MergedFails asked.now.faults input.now) }
+{
+    if let Some(goal) = asked.goal {
+        for faults in 0..asked.faults {
+            let table = search(alloc, input, faults, watch)?;
+            if table.goal(goal).is_some() {
+                return Ok(LeastFound { faults, table });
+            }
+        }
+    }
+    let table = search(alloc, input, asked.faults, watch)?;
+    Ok(LeastFound {
+        faults: asked.faults,
+        table,
+    })
+}
+
+/// What `explore --merge` prints of an input, as `merged_output` has it, by so many threads.
+///
+/// Its faults are those of `merged_output`. One thread makes all runs where fewer than two are asked for, or where a run has one fault at most.
+pub fn merged_by_threads<R: Threads + Sync, W: Watch>(
+    rt: &R,
+    alloc: Global,
+    threads: usize,
+    input: &[u8],
+    asked: &Question<'_>,
+    watch: &W,
+) -> Result<Printed, SimFault>
+    ensures ok { IfOk result (λ v. PrintsMerged asked.now input.now v.text.items) }
+    ensures met { IfOk result (λ v. v.met ≡ true) }
+    ensures fault { IfErr result (MergedFails asked.now.faults input.now) }
+{
+    let least = found_by_threads(rt, alloc, threads, input, asked, watch)?;
+    merged_text(alloc, input, &least, asked)
+}
+
+// What is found of an input by so many threads.
+fn found_by_threads<R: Threads + Sync, W: Watch>(
+    rt: &R,
+    alloc: Global,
+    threads: usize,
+    input: &[u8],
+    asked: &Question<'_>,
+    watch: &W,
+) -> Result<LeastFound, SimFault>
+    ensures found { IfOk result (λ found. IsFoundOf asked.now input.now found.faults found.table) }
+    ensures fault { IfErr result (MergedFails asked.now.faults input.now) }
+{
+    if let Some(goal) = asked.goal {
+        for faults in 0..asked.faults {
+            let table = search_by_threads(rt, alloc, threads, input, faults, watch)?;
+            if table.goal(goal).is_some() {
+                return Ok(LeastFound { faults, table });
+            }
+        }
+    }
+    let table = search_by_threads(rt, alloc, threads, input, asked.faults, watch)?;
+    Ok(LeastFound {
+        faults: asked.faults,
+        table,
+    })
+}
+
+/// What is printed of what was found. Each script was played before, and led to its end.
+pub fn merged_text(
+    alloc: Global,
+    input: &[u8],
+    found: &LeastFound,
+    asked: &Question<'_>,
+) -> Result<Printed, SimFault>
+    ensures prints { IsFoundOf asked.now input.now found.now.faults found.now.table → IfOk result (λ v. PrintsMerged asked.now input.now v.text.items) }
+    ensures met { IfOk result (λ v. v.met ≡ true) }
+    ensures fault { IfErr result (TellFails input.now) }
+{
+    check_rows(alloc, input, found.table.rows())?;
+    let (sequential, idle_keys) = sequential_of(alloc, input)?;
+    let text = told(alloc, found, &sequential, asked.goal, asked.form)?;
+    Ok(Printed::plain(alloc, text, idle_keys))
+}
+
+// Each script leads to the end that it stands beside.
+fn check_rows(alloc: Global, input: &[u8], rows: &[Least]) -> Result<(), SimFault>
+    ensures lead { OnOk result (LeadToEnds input.now (map as_arrival rows.now)) }
+    ensures fault { IfErr result IsUnchecked }
+{
+    for row in rows {
+        check_row(alloc, input, row)?;
+    }
+    Ok(())
+}
+
+fn check_row(alloc: Global, input: &[u8], row: &Least) -> Result<(), SimFault>
+    ensures leads { OnOk result (LeadsTo input.now (repeating row.now.events.items) row.now.end) }
+    ensures fault { IfErr result IsUnchecked }
+{
+    let mut script = Vec::new(alloc);
+    put_script(&mut script, &row.events)?;
+    check_script(alloc, input, &script, &row.end)
+}
+
+// What was found, in this form.
+fn told(
+    alloc: Global,
+    found: &LeastFound,
+    sequential: &Sequential,
+    goal: Option<&[Expectation]>,
+    form: Form,
+) -> Result<Vec<u8>, AllocError>
+    ensures { IfOk result (λ text. text.items ≡ told_text form sequential.now (option_map (λ g. g.now) goal.entry) found.now.faults found.now.table) }
+{
+    let mut text = Vec::new(alloc);
+    let table = &found.table;
+    let faults = found.faults;
+    match form {
+        Form::Text => put_least(&mut text, alloc, table, faults, sequential, goal)?,
+        Form::Json => put_least_lines(&mut text, alloc, table, faults, sequential, goal)?,
+    }
+    Ok(text)
+}
