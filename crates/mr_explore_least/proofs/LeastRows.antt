@@ -137,7 +137,7 @@ none_tells a (s ∷ rs) e r h same = by (is_told a s) refl (λ k. none_tells a r
 -- ---- one run more
 
 -- these runs, and one more
-abbrev With : Arrival → (Arrival → Type 0) → Arrival → Type 0
+abbrev pub With : Arrival → (Arrival → Type 0) → Arrival → Type 0
 With a Came x = Came x ⊎ (a ≡ x)
 
 pub no_two : (Came : Arrival → Type 0) (rows : List Arrival) → AreLeastOf Came rows → (r s : Arrival) → Has rows r → Has rows s → r.end ≡ s.end → r ≡ s
@@ -202,7 +202,7 @@ new_is_least Came rows a l one first =
       every x (inl c) = there x (l.every x c)
       every x (inr q) = (a, (placed_itself a (without a.end rows), ap (λ (y : Arrival). y.end) q))
 
-noted_is_least : (Came : Arrival → Type 0) (rows : List Arrival) (a : Arrival) → AreLeastOf Came rows → EachHasOneEnd (With a Came) → AreLeastOf (With a Came) (noted a rows)
+pub noted_is_least : (Came : Arrival → Type 0) (rows : List Arrival) (a : Arrival) → AreLeastOf Came rows → EachHasOneEnd (With a Came) → AreLeastOf (With a Came) (noted a rows)
 noted_is_least Came rows a l one = by (list_any (is_told a) rows) refl where
   by : (b : Bool) → list_any (is_told a) rows ≡ b → AreLeastOf (With a Came) (if b then rows else placed a (without a.end rows))
   by true e = told_is_least Came rows a l (some_tells a rows e)
@@ -211,14 +211,14 @@ noted_is_least Came rows a l one = by (list_any (is_told a) rows) refl where
 -- ---- runs in turn
 
 -- it is of the runs, and not of how they are told
-told_alike : (Came Same : Arrival → Type 0) (rows : List Arrival) → ((x : Arrival) → Came x → Same x) → ((x : Arrival) → Same x → Came x) → AreLeastOf Came rows → AreLeastOf Same rows
+pub told_alike : (Came Same : Arrival → Type 0) (rows : List Arrival) → ((x : Arrival) → Came x → Same x) → ((x : Arrival) → Same x → Came x) → AreLeastOf Came rows → AreLeastOf Same rows
 told_alike Came Same rows f g l = record { rise = l.rise; are = λ r h. f r (l.are r h); least = λ r a h c e. l.least r a h (g a c) e; every = λ a c. l.every a (g a c) }
 
-one_end_within : (Came Some : Arrival → Type 0) → ((x : Arrival) → Some x → Came x) → EachHasOneEnd Came → EachHasOneEnd Some
+pub one_end_within : (Came Some : Arrival → Type 0) → ((x : Arrival) → Some x → Came x) → EachHasOneEnd Came → EachHasOneEnd Some
 one_end_within Came Some f one a b p q e k = one a b (f a p) (f b q) e k
 
 -- these runs, and those of a list
-abbrev Both : (Arrival → Type 0) → List Arrival → Arrival → Type 0
+abbrev pub Both : (Arrival → Type 0) → List Arrival → Arrival → Type 0
 Both Came more x = Came x ⊎ Has more x
 
 in_front : (Came : Arrival → Type 0) (a : Arrival) (more : List Arrival) (x : Arrival) → (Came x ⊎ (a ≡ x)) ⊎ Has more x → Came x ⊎ ((a ≡ x) ⊎ Has more x)

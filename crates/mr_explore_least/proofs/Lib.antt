@@ -1,6 +1,6 @@
 pub mod Earlier
 mod GoalRows
 pub mod LeastRows
-mod Places
+pub mod Places
 mod RowObjects
 mod Rows

@@ -127,7 +127,7 @@ put_there row rows new i e is =
 
 -- ---- rows that are joined in turn
 
-all_noted_last : (xs : List Arrival) (a : Arrival) (rows : List Arrival) → all_noted (xs ++ a ∷ []) rows ≡ noted a (all_noted xs rows)
+pub all_noted_last : (xs : List Arrival) (a : Arrival) (rows : List Arrival) → all_noted (xs ++ a ∷ []) rows ≡ noted a (all_noted xs rows)
 all_noted_last [] a rows = refl
 all_noted_last (x ∷ xs) a rows = all_noted_last xs a (noted x rows)
 

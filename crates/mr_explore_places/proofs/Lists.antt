@@ -1,5 +1,5 @@
 -- What stands in lists.
-use Rattle.std.proofs.Common.{◌≡◌, ◌⊎◌, inl, inr, ℕ, zero, suc, List, [], ◌∷◌, ◌++◌, drop, slice_get, Some, ap}
+use Rattle.std.proofs.Common.{◌≡◌, ◌⊎◌, inl, inr, ℕ, zero, suc, List, [], ◌∷◌, ◌++◌, slice_get, Some}
 use Rattle.mr_explore_search.specs.Laws.{In}
 
 pub in_left : {A : Type 0} (x : A) (xs ys : List A) → In x xs → In x (xs ++ ys)
@@ -19,18 +19,6 @@ in_either x (z ∷ xs) ys (inr h) = by (in_either x xs ys h) where
   by (inl i) = inl (inr i)
   by (inr i) = inr i
 
--- it stands in the list, or it is the last one
-pub in_or_last : {A : Type 0} (x y : A) (xs : List A) → In x (xs ++ y ∷ []) → In x xs ⊎ (y ≡ x)
-in_or_last x y xs h = by (in_either x xs (y ∷ []) h) where
-  by : In x xs ⊎ In x (y ∷ []) → In x xs ⊎ (y ≡ x)
-  by (inl i) = inl i
-  by (inr (inl e)) = inr e
-  by (inr (inr i)) = absurd i
-
-pub not_empty : {A : Type 0} (y : A) (xs : List A) → xs ++ y ∷ [] ≡ [] → ⊥
-not_empty y [] e = cc
-not_empty y (x ∷ xs) e = cc
-
 pub same_some : {A : Type 0} (x y : A) → Some x ≡ Some y → x ≡ y
 same_some x y e = cc
 
@@ -38,8 +26,3 @@ pub got_in : {A : Type 0} (xs : List A) (n : ℕ) (x : A) → slice_get xs n ≡
 got_in [] n x e = cc
 got_in (y ∷ ys) zero x e = inl (same_some y x e)
 got_in (y ∷ ys) (suc n) x e = inr (got_in ys n x e)
-
-pub drop_at : {A : Type 0} (xs : List A) (n : ℕ) (x : A) → slice_get xs n ≡ Some x → drop n xs ≡ x ∷ drop (suc n) xs
-drop_at [] n x e = cc
-drop_at (y ∷ ys) zero x e = ap (λ z. z ∷ ys) (same_some y x e)
-drop_at (y ∷ ys) (suc n) x e = drop_at ys n x e

@@ -1,6 +1,6 @@
 //! How far a search goes.
 
-/// How far a search goes, and how many places it keeps. What it finds is the same for all numbers but `faults` and `steps`, save that it may find an end again.
+/// How far a search goes, and how many places it keeps. What is kept changes how many runs are found, and not which ends.
 #[derive(Clone, Copy, Debug)]
 pub struct Bounds {
     /// How many faults a run has at most.

@@ -13,7 +13,7 @@
 //! - No contract depends on what is kept: which places are looked up, where they lie, how many there are, and which one goes.
 //! - `Full` is answered only where a run of the definition would pass a limit (`Stops`).
 //! - After a refusal the same refusal is answered, and nothing changes.
-//! - Parts can be given away (`next_apart`), and searched by others with places of their own (`of_part`). Where the rest is done, and each part that was given
+//! - Parts can be given away (`next_apart`), copied (`Part::fork`), and searched by others with places of their own (`of_part`). Where the rest is done, and each part that was given
 //!   away, all is done (`parts_are_joined`).
 //!
 //! The search does not promise how many places it leaves out. It ends: behind 2 ^ 64 - 1 turns without a run it answers `Mismatch`.

@@ -1,8 +1,11 @@
 //! Parts of a search.
-ghost use Rattle.std.specs.Prelude.{◌≡◌};
+ghost use Rattle.std.specs.Prelude.{◌≡◌, IfOk, IfErr};
+ghost use Rattle.mr_explore_search.specs.Steps.{IsNotFull};
 
-use crate::level::Level;
-use mr_explore_search::Ended;
+use crate::level::{Level, fork_level};
+use crate::run::MarkedRun;
+use mr_explore_search::{Ended, WalkFault};
+use std::alloc::Global;
 use std::marker::Model;
 
 /// A part of a search that can be searched apart from the rest: the last faults of a run, at each of its places. Contracts see it as where it leads.
@@ -34,6 +37,17 @@ impl<R: Drop, F: Drop> Part<R, F> {
         ensures { result ≡ self }
     {
         self.level
+    }
+}
+
+impl<R: MarkedRun> Part<R, R::Fault> {
+    /// A part of its own, as this one. It fails where there is no memory, or where a run's own call fails.
+    pub fn fork(&self, alloc: Global) -> Result<Part<R, R::Fault>, WalkFault>
+        ensures is { IfOk result (λ fork. fork ≡ self.now) }
+        ensures fault { IfErr result IsNotFull }
+    {
+        let level = fork_level(alloc, &self.level)?;
+        Ok(Part { level })
     }
 }
 

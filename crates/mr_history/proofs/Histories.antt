@@ -1,44 +1,21 @@
 -- Segments by their numbers.
-use Rattle.std.proofs.Common.{◌≡◌, ◌≢◌, ◌<◌, ◌≤◌, ◌+◌, ◌-◌, ℕ, zero, suc, Bool, true, false, cond, nat_lt, nat_eq, List, [], ◌∷◌, ◌++◌, length, take, drop, map, set, get_or, replicate, refl, sym, ap, ◌∙◌, arith, append_assoc, append-nil, add-one}
-use Rattle.std.proofs.lemmas.List.{get_or-set_same, get_or-set_other, length-set, take_more}
+use Rattle.std.proofs.Common.{◌≡◌, ◌≢◌, ◌<◌, ◌≤◌, ◌-◌, ℕ, zero, suc, Bool, true, false, cond, nat_lt, nat_eq, List, [], ◌∷◌, ◌++◌, length, take, drop, map, get_or, refl, sym, ap, ◌∙◌, arith}
+use Rattle.std.proofs.lemmas.List.{get_or-set_same, get_or-set_other, length-set}
 use Rattle.std.proofs.lemmas.Bool.Decides.{nat_tests}
 use Rattle.mr_history.specs.State.{SegmentState, State}
 use Rattle.mr_history.specs.Segment.{fresh, sealed}
 use Rattle.mr_history.specs.Reading.{records_of}
-use Rattle.mr_history.specs.Calls.{records_in, segment, with_segment, with_version, raised, AreUnraised}
-
-pub replicate-more : {A : Type 0} (n : ℕ) (x : A) → replicate n x ++ x ∷ [] ≡ replicate (suc n) x
-replicate-more zero x = refl
-replicate-more (suc n) x = ap (λ l. x ∷ l) (replicate-more n x)
-
--- one segment more is changed
-changed : (f : SegmentState → SegmentState) (xs : List SegmentState) (i : ℕ) (d : SegmentState) → i < length xs → set (map f (take i xs) ++ drop i xs) i (f (get_or (map f (take i xs) ++ drop i xs) i d)) ≡ map f (take (suc i) xs) ++ drop (suc i) xs
-changed f [] i d h = absurd (omega arith)
-changed f (x ∷ xs) zero d h = refl
-changed f (x ∷ xs) (suc i) d h = ap (λ l. f x ∷ l) (changed f xs i d (omega arith))
-
-pub changed_more : (f : SegmentState → SegmentState) (xs ys : List SegmentState) (i : ℕ) (d : SegmentState) → i < length xs → ys ≡ map f (take i xs) ++ drop i xs → set ys i (f (get_or ys i d)) ≡ map f (take (i + 1) xs) ++ drop (i + 1) xs
-changed_more f xs ys i d h is = ap (λ l. set l i (f (get_or l i d))) is ∙ changed f xs i d h ∙ ap (λ n. map f (take n xs) ++ drop n xs) (sym (add-one i))
-
--- one segment more is read
-read : (xs : List SegmentState) (i : ℕ) (d : SegmentState) → i < length xs → records_in (take (suc i) xs) ≡ records_in (take i xs) ++ records_of (get_or xs i d).stable
-read [] i d h = absurd (omega arith)
-read (x ∷ xs) zero d h = append-nil (records_of x.stable)
-read (x ∷ xs) (suc i) d h = ap (λ l. records_of x.stable ++ l) (read xs i d (omega arith)) ∙ sym (append_assoc (records_of x.stable) (records_in (take i xs)) (records_of (get_or xs i d).stable))
-
-pub read_more : (xs : List SegmentState) (i : ℕ) (d : SegmentState) → i < length xs → records_in (take (i + 1) xs) ≡ records_in (take i xs) ++ records_of (get_or xs i d).stable
-read_more xs i d h = ap (λ n. records_in (take n xs)) (add-one i) ∙ read xs i d h
+use Rattle.mr_history.specs.Calls.{records_in, segment, with_segment, with_version, raised}
 
 -- where some segments tell no record, none of them does
 both_nothing : {A : Type 0} (xs ys : List A) → xs ++ ys ≡ [] → (xs ≡ []) × (ys ≡ [])
 both_nothing [] ys e = (refl, e)
 both_nothing (x ∷ xs) ys e = absurd (cc)
 
-pub own_nothing : (xs : List SegmentState) (n i : ℕ) (d : SegmentState) → i < n → i < length xs → records_in (take n xs) ≡ [] → records_of (get_or xs i d).stable ≡ []
-own_nothing [] n i d low inside e = absurd (omega arith)
-own_nothing (x ∷ xs) zero i d low inside e = absurd (omega arith)
-own_nothing (x ∷ xs) (suc n) zero d low inside e = (both_nothing (records_of x.stable) (records_in (take n xs)) e).0
-own_nothing (x ∷ xs) (suc n) (suc i) d low inside e = own_nothing xs n i d (omega arith) (omega arith) (both_nothing (records_of x.stable) (records_in (take n xs)) e).1
+pub own_nothing : (xs : List SegmentState) (i : ℕ) (d : SegmentState) → i < length xs → records_in xs ≡ [] → records_of (get_or xs i d).stable ≡ []
+own_nothing [] i d inside e = absurd (omega arith)
+own_nothing (x ∷ xs) zero d inside e = (both_nothing (records_of x.stable) (records_in xs) e).0
+own_nothing (x ∷ xs) (suc i) d inside e = own_nothing xs i d (omega arith) (both_nothing (records_of x.stable) (records_in xs) e).1
 
 -- ---- one segment is changed
 
@@ -102,14 +79,3 @@ length-raised h k kept version = by (nat_lt h.fence k) refl
     by : (b : Bool) → nat_lt h.fence k ≡ b → length (raised k kept version h).segments ≡ length h.segments
     by true e = rw e (length-set (sealed_before k kept h).segments (k - 1) (with_version version (segment h k)) ∙ length-front (sealed kept) h.segments (k - 1))
     by false e = rw e refl
-
--- of a segment above the fence one that was not written to is a copy
-pub copied_more : (h : State) (ss : List SegmentState) (s : SegmentState) (n : ℕ) → AreUnraised h → h.fence ≤ n → n < length h.segments → ss ≡ take n h.segments → s ≡ fresh 1 → ss ++ s ∷ [] ≡ take (n + 1) h.segments
-copied_more h ss s n unraised above below are is = ap (λ l. l ++ s ∷ []) are
-    ∙ (ap (λ t. take n h.segments ++ t ∷ []) (is ∙ sym there) ∙ sym (take_more h.segments n (fresh 1) below))
-  where
-    place : n + 1 - 1 ≡ n
-    place = omega arith
-
-    there : get_or h.segments n (fresh 1) ≡ fresh 1
-    there = ap (λ m. get_or h.segments m (fresh 1)) (sym place) ∙ unraised (n + 1) (omega (arith, above))

@@ -9,6 +9,7 @@ pub mod Tellings
 pub mod Replays
 pub mod Segments
 pub mod Histories
+pub mod Stored
 pub mod Comparing
 pub mod Staying
 pub mod Refusals

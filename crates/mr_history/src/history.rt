@@ -1,11 +1,12 @@
 //! The job history: a segment for each generation of the master, and the fence below which no master is heard.
-ghost use Rattle.std.specs.Prelude.{◌≡◌, ◌↔◌, ◌≤◌, ◌<◌, ◌-◌, ℕ, [], length, replicate, IfOk, IsOk, IsOkUnless, IsTrue, true, Option, if◌then◌else◌, nat_le, Some, None, take};
+ghost use Rattle.std.specs.Prelude.{◌≡◌, ◌↔◌, ◌≤◌, ◌<◌, ◌-◌, [], length, replicate, IfOk, IsOk, IsOkUnless, IsTrue, true, Option, if◌then◌else◌, nat_le, Some, None, take};
 ghost use Rattle.mr_history.specs.Line.{fits, suits, IsVersion};
 ghost use Rattle.mr_history.specs.State.{State};
 ghost use Rattle.mr_history.specs.Segment.{fresh};
 ghost use Rattle.mr_history.specs.Calls.{Append, Flush, Read, Done, Told, Makes, MakesAlways, segment, sealed_at, raised, superseded, refused, records, records_in, records_before};
 
 use crate::fault::HistoryFault;
+use crate::generations::{are_same, copied, fill, records_of_all, seal_all};
 use crate::record::{Record, Records};
 use crate::segment::Segment;
 use mr_ids::{AppAttempt, MAX_APP_ATTEMPTS};
@@ -14,8 +15,8 @@ use std::marker::Model;
 
 /// The segments of all generations, and the fence below which no master is heard.
 pub struct History {
+    // Those of the generations up to the fence. There is room for all, so that a raise takes no memory.
     segments: Vec<Segment>,
-    fence: u32,
     alloc: Global,
 }
 
@@ -25,22 +26,21 @@ impl Drop for History {
     fn drop(self) {
         let History {
             segments: _,
-            fence: _,
             alloc: _,
         } = self;
     }
 }
 
 impl Model for History {
-    ghost use Rattle.std.specs.Prelude.{◌≡◌, ◌≤◌, length};
+    ghost use Rattle.std.specs.Prelude.{◌≤◌, ◌-◌, ◌++◌, length, replicate, vec_capacity};
     ghost use Rattle.mr_history.specs.State.{State};
-    ghost use Rattle.mr_history.specs.Calls.{AreUnraised};
+    ghost use Rattle.mr_history.specs.Segment.{fresh};
 
     ghost Value = { State };
 
-    ghost view = { λ h. record { segments = h.segments.items; fence = h.fence } };
+    ghost view = { λ h. record { segments = h.segments.items ++ replicate (1000 - length h.segments.items) (fresh 1); fence = length h.segments.items } };
 
-    ghost invariant = { λ h. (length h.segments.items ≡ 1000) × (h.fence ≤ 1000) × AreUnraised (record { segments = h.segments.items; fence = h.fence }) };
+    ghost invariant = { λ h. (length h.segments.items ≤ 1000) × (1000 ≤ vec_capacity h.segments) };
 }
 
 impl History {
@@ -49,15 +49,8 @@ impl History {
         ensures made { IfOk result (λ history. history ≡ record { segments = replicate MAX_APP_ATTEMPTS (fresh 1); fence = 0 }) }
         ensures memory { IsOkUnless result HistoryFault.NoMemory }
     {
-        let mut segments = Vec::new(alloc);
-        for _ in 0..MAX_APP_ATTEMPTS {
-            segments.push(Segment::new(alloc, 1))?;
-        }
-        Ok(History {
-            segments,
-            fence: 0,
-            alloc,
-        })
+        let segments = Vec::with_capacity(alloc, MAX_APP_ATTEMPTS as usize)?;
+        Ok(History { segments, alloc })
     }
 
     /// A history of its own, with the same segments and the same fence. Its only fault is an allocation failure. A
@@ -65,16 +58,9 @@ impl History {
     pub fn copy(&self) -> Result<History, AllocError>
         ensures { IfOk result (λ history. history ≡ self.now) }
     {
-        let mut segments = Vec::with_capacity(self.alloc, MAX_APP_ATTEMPTS as usize)?;
-        for i in 0..self.fence as usize {
-            segments.push_reserved(self.segments[i].copy()?);
-        }
-        for _ in self.fence..MAX_APP_ATTEMPTS {
-            segments.push_reserved(Segment::new(self.alloc, 1));
-        }
+        let segments = copied(self.alloc, &self.segments)?;
         Ok(History {
             segments,
-            fence: self.fence,
             alloc: self.alloc,
         })
     }
@@ -83,17 +69,7 @@ impl History {
     pub fn is_same(&self, other: &History) -> bool
         ensures { IsTrue result ↔ (self.now ≡ other.now) }
     {
-        if self.fence != other.fence {
-            return false;
-        }
-        for i in 0..self.fence as usize {
-            let segment = &self.segments[i];
-            let beside = &other.segments[i];
-            if !segment.is_same(beside) {
-                return false;
-            }
-        }
-        true
+        are_same(self.segments.as_slice(), other.segments.as_slice())
     }
 
     /// The generation below which calls are refused, 0 at first.
@@ -101,14 +77,14 @@ impl History {
         ensures value { result ≡ self.now.fence }
         ensures range { result ≤ 1000 }
     {
-        self.fence
+        self.segments.len() as u32
     }
 
     /// Whether a generation has been raised to, which the other calls ask for.
     pub fn is_raised(&self, k: AppAttempt) -> bool
         ensures { result ≡ nat_le k self.now.fence }
     {
-        k.number() <= self.fence
+        k.number() <= self.fence()
     }
 
     /// The version of the segment of `k`, 1 or 2.
@@ -116,7 +92,7 @@ impl History {
         requires { k ≤ self.now.fence }
         ensures { result ≡ (segment self.now k).version }
     {
-        self.segments[place(k)].version()
+        self.started(k).version()
     }
 
     /// Sets the fence to `k`, seals every older segment, each with the first `kept` bytes of its tail, and gives the
@@ -125,14 +101,13 @@ impl History {
         requires { IsVersion version }
         ensures { self.new ≡ raised k kept version self.old }
     {
-        if k.number() <= self.fence {
+        if k.number() <= self.fence() {
             return;
         }
-        for i in 0..place(k) {
-            self.segments[i].seal(kept);
-        }
-        self.segments[place(k)].begin(version);
-        self.fence = k.number();
+        fill(&mut self.segments, self.alloc, place(k));
+        seal_all(self.segments.as_mut_slice(), kept);
+        self.segments
+            .push_reserved(Segment::new(self.alloc, version));
     }
 
     /// Adds the line of a record to the tail of the segment of `k`, as the segment's version tells it. The first record
@@ -171,7 +146,7 @@ impl History {
         ensures { result ≡ refused self.now k (Append «record».now) }
     {
         match self.superseded(k) {
-            None => self.segments[place(k)].append_refusal(record),
+            None => self.started(k).append_refusal(record),
             fault => fault,
         }
     }
@@ -182,7 +157,7 @@ impl History {
         ensures { result ≡ refused self.now k Flush }
     {
         match self.superseded(k) {
-            None => self.segments[place(k)].flush_refusal(),
+            None => self.started(k).flush_refusal(),
             fault => fault,
         }
     }
@@ -200,7 +175,7 @@ impl History {
         requires { k ≤ self.now.fence }
         ensures { result.now ≡ (segment self.now k).stable }
     {
-        self.segments[place(k)].stable()
+        self.started(k).stable()
     }
 
     /// The length of the tail of the segment of `k`.
@@ -208,7 +183,7 @@ impl History {
         requires { k ≤ self.now.fence }
         ensures { result ≡ length (segment self.now k).tail }
     {
-        self.segments[place(k)].tail()
+        self.started(k).tail()
     }
 
     /// The records of all segments before that of `k`, from stable bytes alone.
@@ -233,30 +208,34 @@ impl History {
         ensures memory { IsOkUnless result HistoryFault.NoMemory }
         ensures nothing { records self.now ≡ [] → IsOk result }
     {
-        self.first_records(self.fence as usize)
+        self.first_records(self.segments.len())
+    }
+
+    // The segment of a generation that is not above the fence.
+    fn started(&self, k: AppAttempt) -> &Segment
+        requires { k ≤ self.now.fence }
+        ensures { result.now ≡ segment self.now k }
+    {
+        &self.segments[place(k)]
     }
 
     // The records of the first `count` segments, from stable bytes alone.
     fn first_records(&self, count: usize) -> Result<Records, HistoryFault>
-        requires { count ≤ 1000 }
+        requires { count ≤ self.now.fence }
         ensures told { IfOk result (λ told. told ≡ records_in (take count self.now.segments)) }
         ensures memory { IsOkUnless result HistoryFault.NoMemory }
         ensures nothing { records_in (take count self.now.segments) ≡ [] → IsOk result }
     {
-        let mut records = Records::new(self.alloc);
-        for i in 0..count {
-            let more = self.segments[i].records()?;
-            records.extend(more.as_slice())?;
-        }
-        Ok(records)
+        records_of_all(self.alloc, &self.segments[..count])
     }
 
     // Why a call of `k` is refused for the fence.
     fn superseded(&self, k: AppAttempt) -> Option<HistoryFault>
         ensures { result ≡ superseded self.now k }
     {
-        if k.number() < self.fence {
-            Some(HistoryFault::Superseded(self.fence))
+        let fence = self.fence();
+        if k.number() < fence {
+            Some(HistoryFault::Superseded(fence))
         } else {
             None
         }
@@ -266,6 +245,7 @@ impl History {
 // Where the segment of a generation stands.
 fn place(k: AppAttempt) -> usize
     ensures place { result ≡ k - 1 }
+    ensures below { result < k }
     ensures bound { result < 1000 }
 {
     k.number() as usize - 1

@@ -50,8 +50,8 @@
 //!   `BadLine`. For each segment keeps as an invariant that its bytes are those of records that its version can tell,
 //!   with the version line before them in version 2. They are at most 2^24, and only a seal leaves a torn end (also one
 //!   within the version line). Where there is no record before the caller's segment it takes no memory (clause
-//!   `nothing`); so does `History::records` where there is none. The history keeps as an invariant that no segment
-//!   above the fence was written to.
+//!   `nothing`); so does `History::records` where there is none. The history stores the segments up to the fence alone,
+//!   with room for those of all generations.
 //! - `History::copy` gives a history of its own with the same segments and the same fence, and refuses for want of
 //!   memory alone.
 //! - `History::is_same` tells whether two histories have the same segments and the same fence, `Segment::is_same` of two
@@ -86,6 +86,7 @@
 #![tactic(auto)]
 
 mod fault;
+mod generations;
 mod history;
 mod laws;
 mod line;

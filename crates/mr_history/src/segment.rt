@@ -4,7 +4,6 @@ ghost use Rattle.mr_history.specs.Line.{fits, suits, whole_line, width, InRange,
 ghost use Rattle.mr_history.specs.State.{SegmentState};
 ghost use Rattle.mr_history.specs.Segment.{fresh, opening, appended, flushed, sealed, append_refusal, growth_refusal, flush_refusal, Changes, ChangesAlways};
 ghost use Rattle.mr_history.specs.Reading.{records_of};
-ghost use Rattle.mr_history.specs.Calls.{with_version};
 
 use crate::fault::HistoryFault;
 use crate::line::{whole_line, width};
@@ -172,15 +171,6 @@ impl Segment {
         text.push_str(opening)?;
         text.push_str(&line)?;
         Ok(text)
-    }
-
-    // Sets the version of a segment in which nothing was written.
-    pub(crate) fn begin(&mut self, version: u32)
-        requires version { IsVersion version }
-        requires unwritten { self.old ≡ fresh 1 }
-        ensures { self.new ≡ with_version version self.old }
-    {
-        self.version = version;
     }
 
     /// Makes the tail stable. A sealed segment answers `Sealed`.

@@ -1,5 +1,5 @@
 -- Each change of the history's bytes is the model's change of the records that they tell.
-use Rattle.std.proofs.Common.{None, ℕ, zero, suc, ◌+◌, ◌-◌, ◌≤◌, ◌<◌, ◌≡◌, refl, sym, ◌∙◌, ap, subst, Bool, true, false, cond, List, [], ◌∷◌, ◌++◌, length, take, Some, if◌then◌else◌, nat_eq, nat_lt, arith}
+use Rattle.std.proofs.Common.{None, ℕ, zero, suc, ◌+◌, ◌-◌, ◌≤◌, ◌<◌, ◌≡◌, refl, sym, ◌∙◌, ap, subst, Bool, true, false, cond, List, [], ◌∷◌, ◌++◌, append-nil, append_assoc, length, take, Some, if◌then◌else◌, nat_eq, nat_lt, arith}
 use Rattle.std.specs.Prelude.{get_or}
 use Rattle.std.proofs.lemmas.Bool.{ne_eqb, eqb-true, eqb-false, lt-ltb, le-ltb}
 use Rattle.std.proofs.Math.Numerals.{add-one}
@@ -69,13 +69,22 @@ length-reads (JobUnsuccessful ∷ rs) t = length-reads rs t
 
 -- All segments
 
+-- one segment more is read
+read : (xs : List SegmentState) (i : ℕ) (d : SegmentState) → i < length xs → calls.records_in (take (suc i) xs) ≡ calls.records_in (take i xs) ++ records_of (get_or xs i d).stable
+read [] i d h = absurd (omega arith)
+read (x ∷ xs) zero d h = append-nil (records_of x.stable)
+read (x ∷ xs) (suc i) d h = ap (λ l. records_of x.stable ++ l) (read xs i d (omega arith)) ∙ sym (append_assoc (records_of x.stable) (calls.records_in (take i xs)) (records_of (get_or xs i d).stable))
+
+read_more : (xs : List SegmentState) (i : ℕ) (d : SegmentState) → i < length xs → calls.records_in (take (i + 1) xs) ≡ calls.records_in (take i xs) ++ records_of (get_or xs i d).stable
+read_more xs i d h = ap (λ n. calls.records_in (take n xs)) (add-one i) ∙ read xs i d h
+
 pub tells-below : (h : State) (m : History) (i : ℕ) → TellsAll h m → i ≤ length h.segments → records_below m (suc i) ≡ calls.records_in (take i h.segments)
 unfolding records_below
 tells-below h m zero o l = o.none.0
 tells-below h m (suc i) o l =
     let z : suc i - 1 ≡ i = omega arith in
     let more : calls.records_in (take (i + 1) h.segments) ≡ calls.records_in (take i h.segments) ++ records_of (calls.segment h (suc i)).stable =
-    subst (λ n. calls.records_in (take (i + 1) h.segments) ≡ calls.records_in (take i h.segments) ++ records_of (get_or h.segments n (segments.fresh 1)).stable) (sym z) (histories.read_more h.segments i (segments.fresh 1) (omega arith)) in
+    subst (λ n. calls.records_in (take (i + 1) h.segments) ≡ calls.records_in (take i h.segments) ++ records_of (get_or h.segments n (segments.fresh 1)).stable) (sym z) (read_more h.segments i (segments.fresh 1) (omega arith)) in
     ap (λ x. x ++ (m (suc i)).stable) (tells-below h m i o (omega arith))
     ∙ (ap (λ x. calls.records_in (take i h.segments) ++ x) (tells-stable (calls.segment h (suc i)) (m (suc i)) (o.each (suc i) (omega arith) l))
     ∙ sym (subst (λ n. calls.records_in (take n h.segments) ≡ calls.records_in (take i h.segments) ++ records_of (calls.segment h (suc i)).stable) (add-one i) more))

@@ -1,7 +1,9 @@
 //! Which runs of a job are found to be like each other.
 
-use mr_explore::Explored;
-use mr_explore_compared::{is_like, mark};
+use mr_explore::{Exploration, Explored, Table, Unwatched, Winners, note};
+use mr_explore_compared::{Compared, is_like, mark};
+use mr_explore_places::{Bounds, Search};
+use mr_explore_search::Ended;
 use std::alloc::Global;
 use std::process::Abort;
 
@@ -81,4 +83,63 @@ fn others_are_not(rt: HostRuntime) {
     assert!(rt; !compared(rt, alloc, LAUNCHED, b"die 1.0\n", b"die 1.0\ndeliver 0\n"));
     // the config
     assert!(rt; !compared(rt, alloc, ELSEWHERE, b"", b""));
+}
+
+// A job of a map and a reduce.
+const SMALL: &[u8] =
+    b"{\"id\":\"job_200707121733_0003\",\"job\":\"wordcount\",\"reduces\":1,\"splits\":[\"a b a\"]}\n";
+
+// How many runs come of it by a fault at most, and how many ends.
+fn all_of(rt: &impl Abort, alloc: Global) -> (u64, usize) {
+    let mut all = Exploration::new(alloc, SMALL, 1, None).expect(rt, "no exploration");
+    all.make(alloc, 10_000, None, None, &Unwatched)
+        .expect(rt, "no runs");
+    (all.table().runs(), all.table().rows().len())
+}
+
+// The same of those that a search finds which leaves runs out.
+fn found_of(rt: &impl Abort, alloc: Global) -> (u64, usize) {
+    let bounds = Bounds {
+        faults: 1,
+        steps: 1_000,
+        rows: 64,
+        last_rows: 64,
+        meet: 8,
+    };
+    let run = Compared::new(run_of(rt, alloc, SMALL, b""));
+    let mut search = Search::new(alloc, run, bounds).expect(rt, "no search");
+    let mut table = Table::new(alloc);
+    let mut winners = Winners::new(alloc);
+    for _ in 0..10_000 {
+        match search.next_run(alloc).expect(rt, "no run") {
+            Some(ended) => note_run(rt, alloc, &mut table, &mut winners, ended),
+            None => return (table.runs(), table.rows().len()),
+        }
+    }
+    panic!(rt; "too many runs")
+}
+
+fn note_run(
+    rt: &impl Abort,
+    alloc: Global,
+    table: &mut Table,
+    winners: &mut Winners,
+    ended: Ended<Compared>,
+) {
+    let Ended { run, faults } = ended;
+    let ended = Ended {
+        run: run.into_run(),
+        faults,
+    };
+    let _met = note(alloc, table, winners, &ended, None).expect(rt, "no memory");
+}
+
+// The search finds as many ends by fewer runs.
+#[test]
+fn no_end_is_left_out(rt: HostRuntime) {
+    let (rt, alloc) = (&rt, rt.alloc());
+    let (runs, ends) = all_of(rt, alloc);
+    let (found, told) = found_of(rt, alloc);
+    assert!(rt; told == ends);
+    assert!(rt; found < runs);
 }

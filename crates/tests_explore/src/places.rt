@@ -1,7 +1,7 @@
 //! The runs that a search over places finds.
 
 use crate::trial::Trial;
-use mr_explore_places::{Bounds, Search};
+use mr_explore_places::{Bounds, Next, Part, Search};
 use mr_explore_search::{Ended, Walk, WalkFault};
 use std::alloc::Global;
 use std::process::Abort;
@@ -64,36 +64,101 @@ fn by_walk(rt: &impl Abort, alloc: Global, faults: u32) -> (Vec<u64>, u64) {
     panic!(rt; "too many runs")
 }
 
-// The same by a search.
-fn by_search(rt: &impl Abort, alloc: Global, bounds: Bounds) -> (Vec<u64>, u64) {
-    let mut least = no_ends(rt, alloc);
-    let mut search = Search::new(alloc, first(), bounds).expect(rt, "no search");
+// What a search finds is noted, and it is told how many runs these are.
+fn note_all(
+    rt: &impl Abort,
+    alloc: Global,
+    least: &mut Vec<u64>,
+    mut search: Search<Trial>,
+) -> u64 {
     for count in 0..1_000_000 {
         match search.next_run(alloc).expect(rt, "no run") {
-            Some(ended) => note(&mut least, &ended),
-            None => return (least, count),
+            Some(ended) => note(least, &ended),
+            None => return count,
         }
     }
     panic!(rt; "too many runs")
 }
 
-// Whatever is kept, each end is found that has one, and its least script.
+// The same of a search that gives its parts away, each of which is then searched apart.
+fn note_by_parts(
+    rt: &impl Abort,
+    alloc: Global,
+    least: &mut Vec<u64>,
+    mut search: Search<Trial>,
+    bounds: Bounds,
+) -> u64 {
+    let mut parts = Vec::new(alloc);
+    let mut count: u64 = 0;
+    for _ in 0..1_000_000 {
+        match search.next_apart(alloc).expect(rt, "no run") {
+            Some(Next::Run(ended)) => {
+                note(least, &ended);
+                count = count.wrapping_add(1);
+            }
+            Some(Next::Part(part)) => parts.push(part).expect(rt, "no memory"),
+            None => return count.wrapping_add(note_parts(rt, alloc, least, &parts, bounds)),
+        }
+    }
+    panic!(rt; "too many runs")
+}
+
+fn note_parts(
+    rt: &impl Abort,
+    alloc: Global,
+    least: &mut Vec<u64>,
+    parts: &[Part<Trial, u32>],
+    bounds: Bounds,
+) -> u64 {
+    let mut count: u64 = 0;
+    for part in parts {
+        let fork = part.fork(alloc).expect(rt, "no part");
+        let search = Search::of_part(alloc, fork, bounds).expect(rt, "no search");
+        count = count.wrapping_add(note_all(rt, alloc, least, search));
+    }
+    count
+}
+
+// Whatever is kept, each end is found that has one, and its least script. So it is by parts.
+fn finds_all(rt: &impl Abort, alloc: Global, faults: u32, rows: usize, meet: u64) {
+    let (all, runs) = by_walk(rt, alloc, faults);
+    let bounds = bounds(faults, rows, meet);
+    let mut found = no_ends(rt, alloc);
+    let search = Search::new(alloc, first(), bounds).expect(rt, "no search");
+    assert!(rt; note_all(rt, alloc, &mut found, search) <= runs);
+    assert!(rt; found.as_slice() == all.as_slice());
+    let mut apart = no_ends(rt, alloc);
+    let search = Search::new(alloc, first(), bounds).expect(rt, "no search");
+    assert!(rt; note_by_parts(rt, alloc, &mut apart, search, bounds) <= runs);
+    assert!(rt; apart.as_slice() == all.as_slice());
+}
+
 #[test]
 fn each_end_is_found(rt: HostRuntime) {
+    let rt = &rt;
     let alloc = rt.alloc();
     for faults in 0..4 {
-        let (all, runs) = by_walk(&rt, alloc, faults);
         for rows in &[0, 1, 64] {
             for meet in &[0, 1, 3] {
-                let (found, count) = by_search(&rt, alloc, bounds(faults, *rows, *meet));
-                println!(rt; "{faults} faults, {rows} rows, meet {meet}: {count} of {runs}").expect(
-                    &rt, "io",
-                );
-                assert!(rt; count <= runs);
-                assert!(rt; found.as_slice() == all.as_slice());
+                finds_all(rt, alloc, faults, *rows, *meet);
             }
         }
     }
+}
+
+// How many runs are found.
+fn runs_found(rt: &impl Abort, alloc: Global, rows: usize) -> u64 {
+    let mut found = no_ends(rt, alloc);
+    let search = Search::new(alloc, first(), bounds(2, rows, 1)).expect(rt, "no search");
+    note_all(rt, alloc, &mut found, search)
+}
+
+// Where no place is kept, all runs are found; else fewer.
+#[test]
+fn runs_are_left_out(rt: HostRuntime) {
+    let rt = &rt;
+    assert!(rt; runs_found(rt, rt.alloc(), 0) == 206);
+    assert!(rt; runs_found(rt, rt.alloc(), 64) < 100);
 }
 
 // Where a run passes a limit, that is told, and told again.

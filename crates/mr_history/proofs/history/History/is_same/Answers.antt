@@ -1,20 +1,9 @@
-use Rattle.std.proofs.Common.{◌≡◌, ◌∙◌, length, take, ap, sym, subst, refl, arith}
-use Rattle.mr_history.specs.State.{State}
-use Rattle.mr_history.specs.Calls.{AreUnraised}
-use Rattle.mr_history.proofs.Comparing.{fronts_tell}
+use Rattle.std.proofs.Common.{◌∙◌, ap, sym}
+use Rattle.mr_history.proofs.Stored.{history_of, same_stored}
 use Rattle.mr_history.proofs.history.History.is_same.Goals as goal
 
 pub returns : goal.returns
-returns c =
-    let h : State = c.args.self.now in
-    let g : State = c.args.other.now in
-    let long : length h.segments ≡ 1000 = ap (λ (s : State). length s.segments) (sym c.self.view_is) ∙ c.self.invariant.0 in
-    let wide : length g.segments ≡ 1000 = ap (λ (s : State). length s.segments) (sym c.other.view_is) ∙ c.other.invariant.0 in
-    let above : AreUnraised h = subst AreUnraised c.self.view_is c.self.invariant.2 in
-    let over : AreUnraised g = subst AreUnraised c.other.view_is c.other.invariant.2 in
-    let own : c.self.inside.fence ≡ h.fence = ap (λ (s : State). s.fence) c.self.view_is in
-    let fence : h.fence ≡ g.fence = sym own ∙ c.if-self-other.false ∙ ap (λ (s : State). s.fence) c.other.view_is in
-    let all : c.loop-i.i ≡ c.self.inside.fence = omega arith in
-    let front : take h.fence h.segments ≡ take h.fence g.segments = subst (λ n. take n h.segments ≡ take n g.segments) (all ∙ own) c.loop-i.invariant in
-    let same = fronts_tell h g long wide above over fence front in
-    (λ _. same, λ _. refl)
+returns c = (
+  λ yes. sym c.self.view_is ∙ ap history_of (sym c.as_slice.ensures.value ∙ c.are_same.ensures.0 yes ∙ c.as_slice-2.ensures.value) ∙ c.other.view_is,
+  λ same. c.are_same.ensures.1 (c.as_slice.ensures.value ∙ same_stored c.self.inside.segments.items c.other.inside.segments.items (c.self.view_is ∙ same ∙ sym c.other.view_is) ∙ sym c.as_slice-2.ensures.value),
+)

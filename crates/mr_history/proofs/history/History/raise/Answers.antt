@@ -1,18 +1,17 @@
-use Rattle.std.proofs.Common.{◌<◌, ◌∙◌, ap, arith, length, set}
-use Rattle.std.proofs.lemmas.List.{length-set}
+use Rattle.std.proofs.Common.{◌≡◌, ◌∙◌, List, [], ◌∷◌, ◌++◌, length, drop, map, ap, arith}
+use Rattle.std.proofs.lemmas.List.{take_at}
+use Rattle.mr_history.specs.State.{SegmentState}
 use Rattle.mr_history.specs.Segment.{sealed}
-use Rattle.mr_history.proofs.Histories.{changed_more}
+use Rattle.mr_history.proofs.Stored.{raise_at}
 use Rattle.mr_history.proofs.history.History.raise.Goals as goal
 
-pub loop-i-preserved : goal.loop-i-preserved
-loop-i-preserved c =
-    let items = c.loop-i.self-inside.segments.items in
-    let bound = c.place-i-end.ensures.bound in
-    let before = c.loop-i-test.true in
-    let all = c.self.invariant.0 in
-    let in_range : c.loop-i.i < length c.self.inside.segments.items = omega arith in
-    record {
-      sealed_so_far = ap (set items c.loop-i.i) (c.seal.ensures ∙ ap (sealed c.args.kept) c.index_mut.ensures.value) ∙ changed_more (sealed c.args.kept) c.self.inside.segments.items items c.loop-i.i c.index_mut.result.now in_range c.loop-i.invariant.sealed_so_far;
-      len = length-set items c.loop-i.i c.seal.new.self ∙ c.loop-i.invariant.len;
-      fence = c.loop-i.invariant.fence;
-    }
+pub returns : goal.returns
+returns c =
+    let filled = c.fill.new.segments.items in
+    let done = c.seal_all.new.segments in
+    let slice = c.as_mut_slice.ensures.value in
+    let whole : length filled ≡ c.fill.new.segments.len = let ok = c.fill.new.segments.ok in omega arith in
+    let len : length done ≡ c.fill.new.segments.len = c.seal_all.ensures.count ∙ ap (length {A = SegmentState}) slice ∙ whole in
+    let all = c.push_reserved.ensures.items ∙ ap (λ (l : List SegmentState). l ++ c.new.result ∷ []) (take_at done (drop (length done) filled) c.fill.new.segments.len len) in
+    raise_at c.self.inside.segments.items c.args.self.now c.args.k c.args.kept c.args.version c.place.result filled done c.push_reserved.new.self.items c.new.result
+    c.self.view_is c.place.ensures.place (omega arith) (omega arith) c.fill.ensures.filled (c.seal_all.ensures.sealed ∙ ap (map (sealed c.args.kept)) slice) c.new.ensures all
