@@ -1,14 +1,14 @@
 -- What a search answers.
-use Rattle.std.proofs.Common.{◌≡◌, inl, inr, ℕ, Bool, List, [], ◌∷◌, ◌++◌, Option, Some, None, Result, Ok, Err, refl, sym, ◌∙◌, ap, subst}
+use Rattle.std.proofs.Common.{◌≡◌, ◌⊎◌, inl, inr, ℕ, Bool, false, List, [], ◌∷◌, ◌++◌, Option, Some, None, Result, Ok, Err, refl, sym, ◌∙◌, ap, subst}
 use Rattle.mr_explore_search.specs.Steps.{Steps}
 use Rattle.mr_explore_search.specs.Runs.{Found, Run}
 use Rattle.mr_explore_search.specs.declared.ended.Ended.{Ended}
 use Rattle.mr_explore_search.specs.declared.fault.WalkFault.{WalkFault}
 use Rattle.mr_explore_alike.specs.Leaving.{Here}
 use Rattle.mr_explore_places.specs.Places.{IsOnItsWay, beginning}
-use Rattle.mr_explore_places.specs.Keeping.{IsHeld}
+use Rattle.mr_explore_places.specs.Keeping.{AreMade, IsHeld}
 use Rattle.mr_explore_places.specs.Levels.{IsLeft}
-use Rattle.mr_explore_places.specs.Searching.{HasDone, HasSearched, Seeks, SeeksApart}
+use Rattle.mr_explore_places.specs.Searching.{HasDone, HasSearched, Seeks, SeeksApart, WillBeTaken}
 use Rattle.mr_explore_places.specs.State.{Answers, AnswersApart, HasFound, IsPart, State, fault_of, whole}
 use Rattle.mr_explore_places.specs.declared.bounds.Bounds.{Bounds}
 use Rattle.mr_explore_places.specs.declared.level.Level.{Level}
@@ -64,6 +64,61 @@ module _ {S F : Type 0} (steps : Steps S F) (rest : S → ℕ) (before : S → S
 
         nothing : HasDone steps rest before void like ends bounds.faults bounds.steps first (part ∷ []) [] (part ∷ []) [] []
         nothing = nothing_done steps rest before void like ends bounds.faults bounds.steps first (part ∷ []) way
+
+  -- a search that has nothing before it
+  pub starts_idle : (bounds : Bounds) (kept : Stores S F) (left : List (Level S F)) → left ≡ [] → ((x : Here S F) → IsHeld kept x → ⊥)
+      → (first : S) → HasFound steps rest before void like ends bounds first [] [] [] (record { bounds = bounds; kept = kept; left = left; fault = None })
+  starts_idle bounds kept left is empty first =
+      (refl, refl, ([], subst (λ (z : List (Level S F)). HasDone steps rest before void like ends bounds.faults bounds.steps first [] [] (z ++ []) [] []) (sym is) nothing, λ x i. absurd (empty x i))) where
+        way : (x : Here S F) → IsLeft steps bounds.faults [] x → IsOnItsWay steps bounds.faults bounds.steps first bounds.steps x
+        way x i = absurd i
+
+        nothing : HasDone steps rest before void like ends bounds.faults bounds.steps first [] [] [] [] []
+        nothing = nothing_done steps rest before void like ends bounds.faults bounds.steps first [] way
+
+  -- a part more comes before it
+  module _ (bounds : Bounds) (first : S) (parts given : List (Level S F)) (part : Level S F) (left : List (Level S F)) (made : List (Here S F)) (found : List (Found S)) (ways : IsPart steps bounds first part) where
+    abbrev DoneOf : List (Level S F) → List (Level S F) → Type 0
+    DoneOf ps ls = HasDone steps rest before void like ends bounds.faults bounds.steps first ps [] ls made found
+
+    abbrev Will : Here S F → Type 0
+    Will x = WillBeTaken steps rest before void like ends bounds.faults bounds.steps [] made x
+
+    taken_part : DoneOf parts (left ++ given) → DoneOf (part ∷ parts) (part ∷ left ++ given)
+    taken_part d = record {
+      on_way = way;
+      runs = d.runs;
+      began = begins-too;
+      goes = d.goes;
+      ended = d.ended;
+      befalls = λ h x i j v. more x (d.befalls h x i j v);
+      comes = λ h x i j v. more x (d.comes h x i j v);
+    } where
+      way : (x : Here S F) → IsLeft steps bounds.faults (part ∷ left ++ given) x → IsOnItsWay steps bounds.faults bounds.steps first bounds.steps x
+      way x (inl i) = ways x i
+      way x (inr i) = d.on_way x i
+
+      more : (x : Here S F) → Will x ⊎ IsLeft steps bounds.faults (left ++ given) x → Will x ⊎ IsLeft steps bounds.faults (part ∷ left ++ given) x
+      more x (inl w) = inl w
+      more x (inr i) = inr (inr i)
+
+      begins-too : (x : Here S F) → IsLeft steps bounds.faults (part ∷ parts) x → void x.run ≡ false → Will x ⊎ IsLeft steps bounds.faults (part ∷ left ++ given) x
+      begins-too x (inl i) v = inr (inl i)
+      begins-too x (inr i) v = more x (d.began x i v)
+
+  pub takes_part : (bounds : Bounds) (first : S) (parts given : List (Level S F)) (part l : Level S F) (found : List (Found S)) (s t : State S F) → t.bounds ≡ s.bounds → t.fault ≡ s.fault → t.kept ≡ s.kept → t.left ≡ l ∷ s.left → l ≡ part
+      → HasFound steps rest before void like ends bounds first parts given found s → IsPart steps bounds first part → HasFound steps rest before void like ends bounds first (part ∷ parts) given found t
+  takes_part bounds first parts given part l found s t b f k e same h ways =
+      let done = taken_part bounds first parts given part s.left h.2.0 found ways h.2.1 in
+      let is : t.left ≡ part ∷ s.left = e ∙ ap (λ (z : Level S F). z ∷ s.left) same in (
+        b ∙ h.0,
+        f ∙ h.1,
+        (
+          h.2.0,
+          subst (λ (z : List (Level S F)). HasDone steps rest before void like ends bounds.faults bounds.steps first (part ∷ parts) [] (z ++ given) h.2.0 found) (sym is) done,
+          subst (λ (z : Stores S F). AreMade z h.2.0) (sym k) h.2.2,
+        ),
+      )
 
   pub answered_apart : (s now t : State S F) (r : Result (Option (Next S F)) WalkFault) → s ≡ now → SeeksApart steps rest before void like ends s.bounds.faults s.bounds.steps s.kept s.left r t.kept t.left → t.bounds ≡ s.bounds
       → t.fault ≡ fault_of r → (bounds : Bounds) (first : S) (parts given : List (Level S F)) (found : List (Found S)) → HasFound steps rest before void like ends bounds first parts given found now

@@ -7,10 +7,10 @@ use Rattle.mr_explore_alike.specs.Leaving.{Here, IsTaken}
 use Rattle.mr_explore_alike.proofs.Leaving.{no_end}
 use Rattle.mr_explore_alike.proofs.Void.{either, itself, true-is-not-false}
 use Rattle.mr_explore_places.specs.Places.{DepartsByFault, DepartsLate, beginning, behind_step}
-use Rattle.mr_explore_places.specs.Levels.{IsLeft}
+use Rattle.mr_explore_places.specs.Levels.{IsLeft, LeadsTo}
 use Rattle.mr_explore_places.specs.Searching.{HasDone, WillBeTaken}
 use Rattle.mr_explore_places.specs.State.{whole}
-use Rattle.mr_explore_places.specs.Laws.{EachEndIsFound, PartsAreJoined}
+use Rattle.mr_explore_places.specs.Laws.{EachEndIsFound, GivenPartsAreJoined, PartsAreJoined}
 use Rattle.mr_explore_places.specs.declared.level.Level.{Level}
 use Rattle.mr_explore_places.proofs.Lists.{in_either, in_left, in_right}
 use Rattle.mr_explore_places.proofs.Doing.{enough, parts_taken}
@@ -29,7 +29,7 @@ module _ {S F : Type 0} (steps : Steps S F) (rest : S → ℕ) (before : S → S
       no_end steps rest before void like ends bounds.steps bounds.faults h.0 found first l alike few (enough steps rest before void like ends bounds.faults bounds.steps first (whole first) h.0 found h.1)
       (parts_taken steps rest before void like ends bounds.faults bounds.steps first (whole first) h.0 found h.1 (beginning first) (inl refl) alive) k s one real)
 
-  module _ (budget most : ℕ) (first : S) (parts given : List (Level S F)) (part : Level S F) (made new : List (Here S F)) (found more : List (Found S)) where
+  module _ (budget most : ℕ) (first : S) (parts given some others : List (Level S F)) (made new : List (Here S F)) (found more : List (Found S)) where
     abbrev Taken : List (Here S F) → Here S F → Type 0
     Taken all x = IsTaken steps rest before void like ends all x.faults x.ripe x.owed x.run
 
@@ -54,10 +54,12 @@ module _ {S F : Type 0} (steps : Steps S F) (rest : S → ℕ) (before : S → S
     of-part x (inl t) = inl (taken-more new (λ h i. in_left h new made i) x t)
     of-part x (inr i) = absurd i
 
-    pub joined : HasDone steps rest before void like ends budget most first parts [] (part ∷ given) made found → HasDone steps rest before void like ends budget most first (part ∷ []) [] [] new more
-        → HasDone steps rest before void like ends budget most first parts [] given (new ++ made) (more ++ found)
-    joined d e = record {
-      on_way = λ x i. d.on_way x (inr i);
+    -- what is left of those that are given away is left of some or of the others
+    pub joined : ((x : Here S F) → IsLeft steps budget given x → IsLeft steps budget some x ⊎ IsLeft steps budget others x) → ((x : Here S F) → IsLeft steps budget others x → IsLeft steps budget given x)
+        → HasDone steps rest before void like ends budget most first parts [] given made found → HasDone steps rest before void like ends budget most first some [] [] new more
+        → HasDone steps rest before void like ends budget most first parts [] others (new ++ made) (more ++ found)
+    joined split back d e = record {
+      on_way = λ x i. d.on_way x (back x i);
       runs = λ r i. one r (in_either r more found i);
       began = λ x i v. turned x v (d.began x i v);
       goes = λ h t i w. goes h t w (in_either h new made i);
@@ -69,10 +71,13 @@ module _ {S F : Type 0} (steps : Steps S F) (rest : S → ℕ) (before : S → S
       all x (inl i) = of-part x i
       all x (inr i) = absurd i
 
-      turned : (x : Here S F) → void x.run ≡ false → Will made x ⊎ IsLeft steps budget (part ∷ given) x → Will (new ++ made) x ⊎ IsLeft steps budget given x
+      of-given : (x : Here S F) → void x.run ≡ false → IsLeft steps budget some x ⊎ IsLeft steps budget others x → Will (new ++ made) x ⊎ IsLeft steps budget others x
+      of-given x v (inl i) = inl (all x (e.began x i v))
+      of-given x v (inr i) = inr i
+
+      turned : (x : Here S F) → void x.run ≡ false → Will made x ⊎ IsLeft steps budget given x → Will (new ++ made) x ⊎ IsLeft steps budget others x
       turned x v (inl i) = inl (old x i)
-      turned x v (inr (inl i)) = inl (all x (e.began x (inl i) v))
-      turned x v (inr (inr i)) = inr i
+      turned x v (inr i) = of-given x v (split x i)
 
       one : (r : Found S) → In r more ⊎ In r found → IsOneBy steps most budget first r
       one r (inl i) = e.runs r i
@@ -86,13 +91,46 @@ module _ {S F : Type 0} (steps : Steps S F) (rest : S → ℕ) (before : S → S
       ended h t w (inl i) = in_left (Run h.faults t) more found (e.ended h t i w)
       ended h t w (inr i) = in_right (Run h.faults t) more found (d.ended h t i w)
 
-      befalls : (h x : Here S F) → DepartsByFault steps budget x h → void x.run ≡ false → In h new ⊎ In h made → Will (new ++ made) x ⊎ IsLeft steps budget given x
+      befalls : (h x : Here S F) → DepartsByFault steps budget x h → void x.run ≡ false → In h new ⊎ In h made → Will (new ++ made) x ⊎ IsLeft steps budget others x
       befalls h x j v (inl i) = inl (all x (e.befalls h x i j v))
       befalls h x j v (inr i) = turned x v (d.befalls h x i j v)
 
-      comes : (h x : Here S F) → DepartsLate steps x h → void x.run ≡ false → In h new ⊎ In h made → Will (new ++ made) x ⊎ IsLeft steps budget given x
+      comes : (h x : Here S F) → DepartsLate steps x h → void x.run ≡ false → In h new ⊎ In h made → Will (new ++ made) x ⊎ IsLeft steps budget others x
       comes h x j v (inl i) = inl (all x (e.comes h x i j v))
       comes h x j v (inr i) = turned x v (d.comes h x i j v)
 
+  -- what is left of a list of parts is left of one of them
+  left_of_one : (budget : ℕ) (parts : List (Level S F)) (x : Here S F) → IsLeft steps budget parts x → (l : Level S F) × In l parts × LeadsTo steps budget l x
+  left_of_one budget [] x i = absurd i
+  left_of_one budget (l ∷ ls) x (inl i) = (l, inl refl, i)
+  left_of_one budget (l ∷ ls) x (inr i) = let z = left_of_one budget ls x i in (z.0, inr z.1, z.2)
+
+  one_of_left : (budget : ℕ) (parts : List (Level S F)) (l : Level S F) (x : Here S F) → In l parts → LeadsTo steps budget l x → IsLeft steps budget parts x
+  one_of_left budget [] l x i h = absurd i
+  one_of_left budget (m ∷ ls) l x (inl e) h = inl (subst (λ (z : Level S F). LeadsTo steps budget z x) (sym e) h)
+  one_of_left budget (m ∷ ls) l x (inr i) h = inr (one_of_left budget ls l x i h)
+
+  pub left_of_those : (budget : ℕ) (parts some others : List (Level S F)) → ((l : Level S F) → In l parts → In l some ⊎ In l others) → (x : Here S F) → IsLeft steps budget parts x → IsLeft steps budget some x ⊎ IsLeft steps budget others x
+  left_of_those budget parts some others f x i = let z = left_of_one budget parts x i in either-of z.0 z.2 (f z.0 z.1) where
+    either-of : (l : Level S F) → LeadsTo steps budget l x → In l some ⊎ In l others → IsLeft steps budget some x ⊎ IsLeft steps budget others x
+    either-of l h (inl j) = inl (one_of_left budget some l x j h)
+    either-of l h (inr j) = inr (one_of_left budget others l x j h)
+
+  only-left : (budget : ℕ) (ls : List (Level S F)) (x : Here S F) → IsLeft steps budget ls x ⊎ IsLeft steps budget [] x → IsLeft steps budget ls x
+  only-left budget ls x (inl i) = i
+  only-left budget ls x (inr i) = absurd i
+
+  first-or-rest : (budget : ℕ) (part : Level S F) (given : List (Level S F)) (x : Here S F) → IsLeft steps budget (part ∷ given) x → IsLeft steps budget (part ∷ []) x ⊎ IsLeft steps budget given x
+  first-or-rest budget part given x (inl i) = inl (inl i)
+  first-or-rest budget part given x (inr i) = inr i
+
   pub parts_joined : PartsAreJoined steps rest before void like ends
-  parts_joined bounds first parts given part found more d e = (e.0 ++ d.0, joined bounds.faults bounds.steps first parts given part d.0 e.0 found more d.1 e.1)
+  parts_joined bounds first parts given part found more d e =
+      (e.0 ++ d.0, joined bounds.faults bounds.steps first parts (part ∷ given) (part ∷ []) given d.0 e.0 found more (first-or-rest bounds.faults part given) (λ x i. inr i) d.1 e.1)
+
+  pub given_joined : GivenPartsAreJoined steps rest before void like ends
+  given_joined bounds first parts given some others found more f g d e = (
+    e.0 ++ d.0,
+    joined bounds.faults bounds.steps first parts given some others d.0 e.0 found more (left_of_those bounds.faults given some others f)
+        (λ x i. only-left bounds.faults given x (left_of_those bounds.faults others given [] g x i)) d.1 e.1,
+  )

@@ -1,6 +1,7 @@
 -- What is kept in rows.
 use Rattle.std.proofs.Common.{◌≡◌, ◌<◌, ◌⊎◌, inl, inr, ℕ, zero, suc, Bool, true, false, List, [], ◌∷◌, ◌++◌, length, get_or, slice_set, sym, ap, subst, arith}
 use Rattle.mr_explore_alike.specs.Leaving.{Here}
+use Rattle.mr_explore_places.specs.Covering.{OneStandsFor}
 use Rattle.mr_explore_places.specs.Keeping.{IsHeld, IsInRow, IsKept, Visits, VisitsIn}
 use Rattle.mr_explore_places.specs.declared.stores.Kept.{Kept}
 use Rattle.mr_explore_places.specs.declared.stores.Row.{Row}
@@ -53,9 +54,16 @@ module _ {S F : Type 0} (before : S → S → Bool) (like : S → List F → S �
     held x (inl i) = inl (v.1 x i)
     held x (inr i) = inr (subst (λ z. IsKept z.items x) e i)
 
-  -- among those of the other one
-  pub visits_last : (old new : Stores S F) (p : Here S F) (b : Bool) → new.departing ≡ old.departing → VisitsIn before like old.last.items p b new.last.items → Visits before like old p b new
-  visits_last old new p true e v = λ x i. held x i where
+  -- one that is kept in either store stands for it
+  pub one_departing : (s : Stores S F) (p : Here S F) → OneStandsFor before like (IsKept s.departing.items) p → OneStandsFor before like (IsHeld s) p
+  one_departing s p one = (one.0, inl one.1, one.2)
+
+  pub one_last : (s : Stores S F) (p : Here S F) → OneStandsFor before like (IsKept s.last.items) p → OneStandsFor before like (IsHeld s) p
+  one_last s p one = (one.0, inr one.1, one.2)
+
+  -- it is kept in the other store
+  pub keeps_last : (old new : Stores S F) (p : Here S F) → new.departing ≡ old.departing → ((x : Here S F) → IsKept new.last.items x → (p ≡ x) ⊎ IsKept old.last.items x) → Visits before like old p true new
+  keeps_last old new p e v = λ x i. held x i where
     by : (x : Here S F) → (p ≡ x) ⊎ IsKept old.last.items x → (p ≡ x) ⊎ IsHeld old x
     by x (inl q) = inl q
     by x (inr q) = inr (inr q)
@@ -63,7 +71,3 @@ module _ {S F : Type 0} (before : S → S → Bool) (like : S → List F → S �
     held : (x : Here S F) → IsHeld new x → (p ≡ x) ⊎ IsHeld old x
     held x (inl i) = inr (inl (subst (λ z. IsKept z.items x) e i))
     held x (inr i) = by x (v x i)
-  visits_last old new p false e v = let one = v.0 in ((one.0, inr one.1, one.2), λ x i. held x i) where
-    held : (x : Here S F) → IsHeld new x → IsHeld old x
-    held x (inl i) = inl (subst (λ z. IsKept z.items x) e i)
-    held x (inr i) = inr (v.1 x i)

@@ -1,8 +1,8 @@
 -- What is known where a search has found all (our own profile).
-use Rattle.std.specs.Prelude.{◌≡◌, ◌<◌, ℕ, Bool, false, List, [], ◌∷◌, ◌++◌}
+use Rattle.std.specs.Prelude.{◌≡◌, ◌<◌, ◌⊎◌, ℕ, Bool, false, List, [], ◌∷◌, ◌++◌}
 use Rattle.mr_explore_search.specs.Steps.{Steps}
 use Rattle.mr_explore_search.specs.Runs.{Found, Run}
-use Rattle.mr_explore_search.specs.Laws.{IsOneBy}
+use Rattle.mr_explore_search.specs.Laws.{In, IsOneBy}
 use Rattle.mr_explore_alike.specs.Likens.{Likens}
 use Rattle.mr_explore_alike.specs.Leaving.{IsFound}
 use Rattle.mr_explore_places.specs.State.{IsDone, whole}
@@ -20,3 +20,12 @@ module _ {S F : Type 0} (steps : Steps S F) (rest : S → ℕ) (before : S → S
   abbrev pub PartsAreJoined : Type 0
   PartsAreJoined = (bounds : Bounds) (first : S) (parts given : List (Level S F)) (part : Level S F) (found more : List (Found S)) → IsDone steps rest before void like ends bounds first parts (part ∷ given) found
       → IsDone steps rest before void like ends bounds first (part ∷ []) [] more → IsDone steps rest before void like ends bounds first parts given (more ++ found)
+
+  -- the parts are those of the first or of the second list
+  abbrev pub AreThoseOf : (parts some others : List (Level S F)) → Type 0
+  AreThoseOf parts some others = (l : Level S F) → In l parts → In l some ⊎ In l others
+
+  -- Where some of the parts are done that were given away, what was found of them is put to what was found of the rest. Others are still given away.
+  abbrev pub GivenPartsAreJoined : Type 0
+  GivenPartsAreJoined = (bounds : Bounds) (first : S) (parts given some others : List (Level S F)) (found more : List (Found S)) → AreThoseOf given some others → AreThoseOf others given []
+      → IsDone steps rest before void like ends bounds first parts given found → IsDone steps rest before void like ends bounds first some [] more → IsDone steps rest before void like ends bounds first parts others (more ++ found)

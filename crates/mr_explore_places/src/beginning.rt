@@ -116,7 +116,7 @@ fn begin_at<R: MarkedRun>(
 ) -> Result<Option<Ended<R>>, WalkFault>
     ensures { Turns R.steps R.rest R.before R.void R.like R.ends bounds.now.faults bounds.now.steps (Begin place) stores.old levels.old result stores.new levels.new }
 {
-    if !visit(alloc, stores, bounds, &place, true)? {
+    if !visit(alloc, stores, bounds, &place)? {
         return Ok(None);
     }
     let trying = trying_of(alloc, bounds.faults, &place)?;

@@ -5,12 +5,12 @@
 pub struct Bounds {
     /// How many faults a run has at most.
     pub faults: u32,
-    /// How many steps a run makes by itself at most, behind each departure.
+    /// How many steps a run makes by itself at most, behind each departure. One that is not at its end then is a mismatch, though the definition calls that its end.
     pub steps: u64,
     /// In how many rows places are kept from which something may depart.
     pub rows: usize,
     /// In how many rows places are kept of runs that depart no more.
     pub last_rows: usize,
-    /// A run that departs no more is looked up behind its last departure, and then only where it has made a multiple of so many steps; nowhere if this is 0.
+    /// A run that departs no more is kept only where its stage is a multiple of this; nowhere if this is 0.
     pub meet: u64,
 }

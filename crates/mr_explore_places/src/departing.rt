@@ -48,7 +48,7 @@ pub fn behind_fault<R: MarkedRun>(
                 ripe: place.owed.len(),
                 owed,
                 run,
-                steps: place.steps,
+                steps: 0,
             }))
         }
         None => Ok(None),
@@ -90,7 +90,7 @@ fn behind_late<R: MarkedRun>(
                 ripe,
                 owed,
                 run,
-                steps: place.steps,
+                steps: 0,
             }))
         }
         None => Ok(None),

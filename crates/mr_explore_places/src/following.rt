@@ -84,7 +84,7 @@ pub fn follow<R: MarkedRun>(
                 ended: Some(ended),
             });
         }
-        if !visit(alloc, stores, bounds, &place, false)? {
+        if !visit(alloc, stores, bounds, &place)? {
             return Ok(Trail {
                 beyond,
                 ended: None,

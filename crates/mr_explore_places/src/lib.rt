@@ -14,7 +14,8 @@
 //! - `Full` is answered only where a run of the definition would pass a limit (`Stops`).
 //! - After a refusal the same refusal is answered, and nothing changes.
 //! - Parts can be given away (`next_apart`), copied (`Part::fork`), and searched by others with places of their own (`of_part`). Where the rest is done, and each part that was given
-//!   away, all is done (`parts_are_joined`).
+//!   away, all is done (`parts_are_joined`). A search can take one part after another (`take_part`), and keeps its places
+//!   (`given_parts_are_joined`).
 //!
 //! The search does not promise how many places it leaves out. It ends: behind 2 ^ 64 - 1 turns without a run it answers `Mismatch`.
 //!
@@ -43,7 +44,7 @@ mod stores;
 mod turn;
 
 pub use bounds::Bounds;
-pub use laws::{each_end_is_found, parts_are_joined};
+pub use laws::{each_end_is_found, given_parts_are_joined, parts_are_joined};
 pub use part::{Next, Part};
 pub use run::MarkedRun;
 pub use search::Search;

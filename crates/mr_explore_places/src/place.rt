@@ -19,7 +19,7 @@ pub struct Place<R, F> {
     /// What its faults put off, and has not come.
     pub owed: Vec<F>,
     pub run: R,
-    /// How many steps it has made by itself. No contract speaks of it.
+    /// How many steps it made by itself behind its last departure. No contract speaks of it.
     pub steps: u64,
 }
 

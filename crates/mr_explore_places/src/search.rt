@@ -1,5 +1,5 @@
 //! The search.
-ghost use Rattle.std.specs.Prelude.{◌≡◌, List, [], ◌∷◌, Err, IfOk, IfErr};
+ghost use Rattle.std.specs.Prelude.{◌≡◌, List, [], ◌∷◌, None, Err, IfOk, IfErr, OnOk, OnErr};
 ghost use Rattle.mr_explore_search.specs.Runs.{Found};
 ghost use Rattle.mr_explore_search.specs.Steps.{IsNotFull};
 ghost use Rattle.mr_explore_search.specs.declared.fault.WalkFault.{WalkFault};
@@ -14,7 +14,7 @@ use crate::run::MarkedRun;
 use crate::stores::Stores;
 use crate::turn::{seek, seek_apart};
 use mr_explore_search::{Ended, WalkFault};
-use std::alloc::Global;
+use std::alloc::{AllocError, Global};
 use std::collections::LinkedList;
 use std::marker::Model;
 
@@ -40,6 +40,22 @@ impl<R: MarkedRun> Model for Search<R> {
 }
 
 impl<R: MarkedRun> Search<R> {
+    // It has these levels before it, and has not stopped.
+    fn over(
+        levels: LinkedList<Level<R, R::Fault>>,
+        stores: Stores<R, R::Fault>,
+        bounds: Bounds,
+    ) -> Search<R>
+        ensures { result ≡ record { bounds = bounds; kept = stores; left = levels; fault = None } }
+    {
+        Search {
+            levels,
+            stores,
+            bounds,
+            fault: None,
+        }
+    }
+
     /// A search over the runs that come of this one. It has found none yet. It fails where there is no memory.
     pub fn new(alloc: Global, run: R, bounds: Bounds) -> Result<Search<R>, WalkFault>
         ensures starts { IfOk result (λ search. HasFound R.steps R.rest R.before R.void R.like R.ends bounds run (whole run) [] [] search) }
@@ -48,12 +64,7 @@ impl<R: MarkedRun> Search<R> {
         let stores = Stores::new(alloc, &bounds)?;
         let mut levels = LinkedList::new(alloc);
         levels.push_front(Level::Begin(beginning(alloc, run)))?;
-        Ok(Search {
-            levels,
-            stores,
-            bounds,
-            fault: None,
-        })
+        Ok(Search::over(levels, stores, bounds))
     }
 
     /// A search over a part that was taken off another search with the same bounds, with places of its own. It has found none yet. It fails where there is no memory.
@@ -68,12 +79,30 @@ impl<R: MarkedRun> Search<R> {
         let stores = Stores::new(alloc, &bounds)?;
         let mut levels = LinkedList::new(alloc);
         levels.push_front(part.into_level())?;
-        Ok(Search {
-            levels,
-            stores,
-            bounds,
-            fault: None,
-        })
+        Ok(Search::over(levels, stores, bounds))
+    }
+
+    /// A search that has nothing before it, and has found nothing. It fails where there is no memory.
+    pub fn idle(alloc: Global, bounds: Bounds) -> Result<Search<R>, AllocError>
+        ensures { IfOk result (λ search. (first : R) → HasFound R.steps R.rest R.before R.void R.like R.ends bounds first [] [] [] search) }
+    {
+        let stores = Stores::new(alloc, &bounds)?;
+        let levels = LinkedList::new(alloc);
+        Ok(Search::over(levels, stores, bounds))
+    }
+
+    /// A part that was taken off another search with the same bounds comes before it, besides what is left of others. It keeps its places. It fails where there is no memory, or
+    /// where it has stopped, with its fault; then nothing changes.
+    pub fn take_part(&mut self, part: Part<R, R::Fault>) -> Result<(), WalkFault>
+        ensures takes { (bounds : Bounds) (first : R) (parts given : List (Level R R.Fault)) (found : List (Found R)) → HasFound R.steps R.rest R.before R.void R.like R.ends bounds first parts given found self.old → IsPart R.steps bounds first part → OnOk result (HasFound R.steps R.rest R.before R.void R.like R.ends bounds first (part ∷ parts) given found self.new) }
+        ensures stays { OnErr result (self.new ≡ self.old) }
+        ensures again { (fault : WalkFault) → HasStopped self.old fault → result ≡ Err fault }
+    {
+        if let Some(fault) = self.fault {
+            return Err(fault);
+        }
+        self.levels.push_front(part.into_level())?;
+        Ok(())
     }
 
     /// The next run that came to its end, in the order in which they are made; no run where all that are needed were found.

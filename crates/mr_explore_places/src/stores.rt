@@ -1,5 +1,5 @@
 //! The places that are kept.
-ghost use Rattle.std.specs.Prelude.{◌≡◌, ◌<◌, ◌⊎◌, IsTrue, IfOk, IfErr, OnOk};
+ghost use Rattle.std.specs.Prelude.{◌≡◌, ◌<◌, ◌⊎◌, IsTrue, IfOk, IfErr, IfSome, OnOk};
 ghost use Rattle.std.specs.Vec.{vec_len};
 ghost use Rattle.mr_explore_search.specs.Steps.{IsNotFull};
 ghost use Rattle.mr_explore_alike.specs.Leaving.{Here};
@@ -14,6 +14,12 @@ use std::alloc::{AllocError, Global};
 
 // A row holds so many places at most.
 const ROW_ROOM: usize = 4;
+
+// A run that departs no more is looked up behind its last departure and at so many steps from there on: there it mostly meets one that departed elsewhere.
+const FIRST_STEPS: u64 = 3;
+
+// Further on it is looked up at each step of so many: a run that is met is left out a few steps later than it could be.
+const STRIDE: u64 = 4;
 
 /// A place that is kept, and its mark.
 #[derive(Drop)]
@@ -137,24 +143,63 @@ fn keep_at<R: MarkedRun>(
     keep(&mut row.kept, new)
 }
 
-// A place is looked up in the row that stands at `at`; where none stands for it, it is kept there. Whether it has to be made.
-fn visit_row<R: MarkedRun>(
+// In which of so many rows a place with this mark lies.
+fn row_of(mark: u64, count: usize) -> Option<usize>
+    ensures { IfSome result (λ at. at < count) }
+{
+    if count == 0 {
+        return None;
+    }
+    Some((mark % count as u64) as usize)
+}
+
+// Whether a place of these rows that has this mark stands for this one.
+fn covers_in<R: MarkedRun>(
+    alloc: Global,
+    rows: &[Row<R, R::Fault>],
+    mark: u64,
+    place: &Place<R, R::Fault>,
+) -> Result<bool, WalkFault>
+    ensures stands { IfOk result (λ covers. IsTrue covers → OneStandsFor R.before R.like (IsKept rows.now) place.now) }
+    ensures fault { IfErr result IsNotFull }
+{
+    match row_of(mark, rows.len()) {
+        Some(at) => covers_at(alloc, rows, at, mark, place),
+        None => Ok(false),
+    }
+}
+
+// A copy of a place comes into the row that stands at `at`.
+fn keep_copy<R: MarkedRun>(
     alloc: Global,
     rows: &mut Vec<Row<R, R::Fault>>,
     at: usize,
     mark: u64,
     place: &Place<R, R::Fault>,
-) -> Result<bool, WalkFault>
+) -> Result<(), WalkFault>
     requires { at < vec_len rows.old }
-    ensures visits { IfOk result (λ makes. VisitsIn R.before R.like rows.old.items place.now makes rows.new.items) }
+    ensures keeps { OnOk result ((h : Here R R.Fault) → IsKept rows.new.items h → (place.now ≡ h) ⊎ IsKept rows.old.items h) }
     ensures fault { IfErr result IsNotFull }
 {
-    if covers_at(alloc, rows, at, mark, place)? {
-        return Ok(false);
-    }
     let copy = copy_of(alloc, place)?;
     keep_at(rows, at, Kept { mark, place: copy })?;
-    Ok(true)
+    Ok(())
+}
+
+// A copy of a place comes into the row that its mark tells, if there are rows.
+fn keep_in<R: MarkedRun>(
+    alloc: Global,
+    rows: &mut Vec<Row<R, R::Fault>>,
+    mark: u64,
+    place: &Place<R, R::Fault>,
+) -> Result<(), WalkFault>
+    ensures keeps { OnOk result ((h : Here R R.Fault) → IsKept rows.new.items h → (place.now ≡ h) ⊎ IsKept rows.old.items h) }
+    ensures fault { IfErr result IsNotFull }
+{
+    match row_of(mark, rows.len()) {
+        Some(at) => keep_copy(alloc, rows, at, mark, place),
+        None => Ok(()),
+    }
 }
 
 // A place is looked up among these; where none stands for it, it is kept. Whether it has to be made.
@@ -166,13 +211,28 @@ fn visit_rows<R: MarkedRun>(
     ensures visits { IfOk result (λ makes. VisitsIn R.before R.like rows.old.items place.now makes rows.new.items) }
     ensures fault { IfErr result IsNotFull }
 {
-    let count = rows.len();
-    if count == 0 {
+    let mark = place.run.mark(alloc, &place.owed)?;
+    if covers_in(alloc, rows, mark, place)? {
+        return Ok(false);
+    }
+    keep_in(alloc, rows, mark, place)?;
+    Ok(true)
+}
+
+// Whether a kept place that has this mark stands for this one.
+fn covers_any<R: MarkedRun>(
+    alloc: Global,
+    stores: &Stores<R, R::Fault>,
+    mark: u64,
+    place: &Place<R, R::Fault>,
+) -> Result<bool, WalkFault>
+    ensures stands { IfOk result (λ covers. IsTrue covers → OneStandsFor R.before R.like (IsHeld stores.now) place.now) }
+    ensures fault { IfErr result IsNotFull }
+{
+    if covers_in(alloc, &stores.last, mark, place)? {
         return Ok(true);
     }
-    let mark = place.run.mark(alloc, &place.owed)?;
-    let at = (mark % count as u64) as usize;
-    visit_row(alloc, rows, at, mark, place)
+    covers_in(alloc, &stores.departing, mark, place)
 }
 
 // Whether something may depart from a place.
@@ -180,28 +240,54 @@ fn may_depart<R: MarkedRun>(bounds: &Bounds, place: &Place<R, R::Fault>) -> bool
     place.faults < bounds.faults || !place.owed.is_empty()
 }
 
-// Whether a place of a run that departs no more is looked up: at once behind its departure, and where many runs come to be alike.
-fn is_met(bounds: &Bounds, begins: bool, steps: u64) -> bool {
-    begins || (bounds.meet != 0 && steps % bounds.meet == 0)
+// Whether a place of a run that departs no more is kept: where many runs come to be alike, and not behind its departure, since most of these are never met.
+fn is_kept<R: MarkedRun>(bounds: &Bounds, place: &Place<R, R::Fault>) -> bool {
+    place.steps != 0 && bounds.meet != 0 && place.run.stage() % bounds.meet == 0
 }
 
-/// A place is looked up, unless that is not worth its while; where none that is kept stands for it, it may be kept. Whether it has to be made. It begins behind
-/// a departure, or not.
+// Whether one that is not kept is looked up.
+fn is_sought<R: MarkedRun>(place: &Place<R, R::Fault>) -> bool {
+    place.steps <= FIRST_STEPS || place.steps % STRIDE == 0
+}
+
+// A place of a run that departs no more is looked up among all, or not; where none stands for it, it may be kept. Whether it has to be made.
+fn visit_last<R: MarkedRun>(
+    alloc: Global,
+    stores: &mut Stores<R, R::Fault>,
+    bounds: &Bounds,
+    place: &Place<R, R::Fault>,
+) -> Result<bool, WalkFault>
+    ensures visits { IfOk result (λ makes. Visits R.before R.like stores.old place.now makes stores.new) }
+    ensures fault { IfErr result IsNotFull }
+{
+    let keeps = is_kept(bounds, place);
+    if !keeps && !is_sought(place) {
+        return Ok(true);
+    }
+    let mark = place.run.mark(alloc, &place.owed)?;
+    if covers_any(alloc, stores, mark, place)? {
+        return Ok(false);
+    }
+    if !keeps {
+        return Ok(true);
+    }
+    keep_in(alloc, &mut stores.last, mark, place)?;
+    Ok(true)
+}
+
+/// A place is looked up, unless that is not worth its while; where none that is kept stands for it, it may be kept. Whether it has to be made.
 pub fn visit<R: MarkedRun>(
     alloc: Global,
     stores: &mut Stores<R, R::Fault>,
     bounds: &Bounds,
     place: &Place<R, R::Fault>,
-    begins: bool,
 ) -> Result<bool, WalkFault>
     ensures visits { IfOk result (λ makes. Visits R.before R.like stores.old place.now makes stores.new) }
     ensures fault { IfErr result IsNotFull }
 {
     if may_depart(bounds, place) {
-        return visit_rows(alloc, &mut stores.departing, place);
+        visit_rows(alloc, &mut stores.departing, place)
+    } else {
+        visit_last(alloc, stores, bounds, place)
     }
-    if is_met(bounds, begins, place.steps) {
-        return visit_rows(alloc, &mut stores.last, place);
-    }
-    Ok(true)
 }

@@ -22,28 +22,28 @@ nth (x ∷ xs) zero = x
 nth (x ∷ xs) (suc n) = nth xs n
 
 abbrev weather_of : ℕ → Weather
-weather_of n = if n == 0 then Calm else if n == 1 then Unavailable else Unanswered
+weather_of n = if n == 0 then Unavailable else if n == 1 then Unanswered else Calm
 
 abbrev kind_of : ℕ → TaskKind
 kind_of n = if n == 0 then kind.Map else kind.Reduce
 
 abbrev event_of : List ℕ → Event
 event_of ns =
-    if nth ns 0 == 0 then Start (nth ns 1) (nth ns 2)
-    else if nth ns 0 == 1 then Crash (nth ns 1) (nth ns 2)
-    else if nth ns 0 == 2 then Duty (nth ns 1) (weather_of (nth ns 2))
-    else if nth ns 0 == 3 then LaunchOn (nth ns 1) (record { job = record { start = nth ns 2; number = nth ns 3 }; kind = kind_of (nth ns 4); number = nth ns 5 }) (nth ns 6)
-    else if nth ns 0 == 4 then Deliver (nth ns 1)
-    else if nth ns 0 == 5 then ContainerStep (record { app = nth ns 1; number = nth ns 2 }) (weather_of (nth ns 3))
-    else if nth ns 0 == 6 then Computed (record { app = nth ns 1; number = nth ns 2 }) (drop 4 ns)
-    else if nth ns 0 == 7 then Die (record { app = nth ns 1; number = nth ns 2 })
-    else if nth ns 0 == 8 then NodeRestart (nth ns 1)
-    else Expire (nth ns 1) (nth ns 2)
+    if nth ns 0 == 0 then Crash (nth ns 1) (nth ns 2)
+    else if nth ns 0 == 1 then Start (nth ns 1) (nth ns 2)
+    else if nth ns 0 == 2 then Die (record { app = nth ns 1; number = nth ns 2 })
+    else if nth ns 0 == 3 then NodeRestart (nth ns 1)
+    else if nth ns 0 == 4 then Expire (nth ns 1) (nth ns 2)
+    else if nth ns 0 == 5 then LaunchOn (nth ns 1) (record { job = record { start = nth ns 2; number = nth ns 3 }; kind = kind_of (nth ns 4); number = nth ns 5 }) (nth ns 6)
+    else if nth ns 0 == 6 then Deliver (nth ns 1)
+    else if nth ns 0 == 7 then Duty (nth ns 1) (weather_of (nth ns 2))
+    else if nth ns 0 == 8 then ContainerStep (record { app = nth ns 1; number = nth ns 2 }) (weather_of (nth ns 3))
+    else Computed (record { app = nth ns 1; number = nth ns 2 }) (drop 4 ns)
 
 same_weather : (w : Weather) → weather_of (weather_number w) ≡ w
-same_weather Calm = refl
 same_weather Unavailable = refl
 same_weather Unanswered = refl
+same_weather Calm = refl
 
 same_kind : (k : TaskKind) → kind_of (kind_number k) ≡ k
 same_kind kind.Map = refl

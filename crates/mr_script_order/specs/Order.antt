@@ -14,26 +14,26 @@ use Rattle.mr_world_events.specs.declared.event.Weather.TheVariants.{Calm, Unava
 -- ---- what is said, as numbers
 
 abbrev pub weather_number : Weather → ℕ
-weather_number Calm = 0
-weather_number Unavailable = 1
-weather_number Unanswered = 2
+weather_number Unavailable = 0
+weather_number Unanswered = 1
+weather_number Calm = 2
 
 abbrev pub kind_number : TaskKind → ℕ
 kind_number kind.Map = 0
 kind_number kind.Reduce = 1
 
--- an event: the number of its kind, and then what it says. No two events have the same numbers
+-- an event: the number of its kind, and then what it says. No two events have the same numbers. What goes wrong comes before what goes well
 abbrev pub numbers : Event → List ℕ
-numbers (Start generation kept) = 0 ∷ generation ∷ kept ∷ []
-numbers (Crash generation kept) = 1 ∷ generation ∷ kept ∷ []
-numbers (Duty generation weather) = 2 ∷ generation ∷ weather_number weather ∷ []
-numbers (LaunchOn generation task node) = 3 ∷ generation ∷ task.job.start ∷ task.job.number ∷ kind_number task.kind ∷ task.number ∷ node ∷ []
-numbers (Deliver packet) = 4 ∷ packet ∷ []
-numbers (ContainerStep c weather) = 5 ∷ c.app ∷ c.number ∷ weather_number weather ∷ []
-numbers (Computed c bytes) = 6 ∷ c.app ∷ c.number ∷ length bytes ∷ bytes
-numbers (Die c) = 7 ∷ c.app ∷ c.number ∷ []
-numbers (NodeRestart node) = 8 ∷ node ∷ []
-numbers (Expire generation node) = 9 ∷ generation ∷ node ∷ []
+numbers (Crash generation kept) = 0 ∷ generation ∷ kept ∷ []
+numbers (Start generation kept) = 1 ∷ generation ∷ kept ∷ []
+numbers (Die c) = 2 ∷ c.app ∷ c.number ∷ []
+numbers (NodeRestart node) = 3 ∷ node ∷ []
+numbers (Expire generation node) = 4 ∷ generation ∷ node ∷ []
+numbers (LaunchOn generation task node) = 5 ∷ generation ∷ task.job.start ∷ task.job.number ∷ kind_number task.kind ∷ task.number ∷ node ∷ []
+numbers (Deliver packet) = 6 ∷ packet ∷ []
+numbers (Duty generation weather) = 7 ∷ generation ∷ weather_number weather ∷ []
+numbers (ContainerStep c weather) = 8 ∷ c.app ∷ c.number ∷ weather_number weather ∷ []
+numbers (Computed c bytes) = 9 ∷ c.app ∷ c.number ∷ length bytes ∷ bytes
 
 -- ---- the order
 

@@ -1,11 +1,12 @@
 //! Which of two scripts comes first.
-ghost use Rattle.std.specs.Prelude.{◌≡◌};
+ghost use Rattle.std.specs.Prelude.{◌≡◌, [], ◌∷◌};
 ghost use Rattle.std.specs.Cmp.Lexicographic.{slice_cmp};
 ghost use Rattle.std.specs.Ordering.{nat_cmp};
 ghost use Rattle.mr_script_order.specs.Order.{event_cmp, kind_number, script_cmp, sooner, weather_number};
 ghost use Rattle.mr_script_order.specs.inner.Words.{bytes_of, words};
 
-use mr_ids::TaskKind;
+use mr_ids::{TaskId, TaskKind};
+use mr_packet::ContainerId;
 use mr_world_events::{Event, Weather};
 use std::cmp::Ordering;
 
@@ -62,69 +63,66 @@ fn words(event: &Event) -> [u64; 7]
     ensures { result ≡ words event.now }
 {
     match *event {
-        Event::Start { generation, kept } => [0, u64::from(generation), kept, 0, 0, 0, 0],
-        Event::Crash { generation, kept } => [1, u64::from(generation), kept, 0, 0, 0, 0],
-        Event::Duty {
-            generation,
-            weather,
-        } => [
-            2,
-            u64::from(generation),
-            weather_number(weather),
-            0,
-            0,
-            0,
-            0,
-        ],
+        Event::Crash { generation, kept } => of_two(0, u64::from(generation), kept),
+        Event::Start { generation, kept } => of_two(1, u64::from(generation), kept),
+        Event::Die { container } => of_container(2, container, 0),
+        Event::NodeRestart { node } => of_two(3, u64::from(node), 0),
+        Event::Expire { generation, node } => of_two(4, u64::from(generation), u64::from(node)),
         Event::LaunchOn {
             generation,
             task,
             node,
-        } => [
-            3,
-            u64::from(generation),
-            task.job.start,
-            u64::from(task.job.number),
-            kind_number(task.kind),
-            u64::from(task.number),
-            u64::from(node),
-        ],
-        Event::Deliver { packet } => [4, packet, 0, 0, 0, 0, 0],
-        Event::ContainerStep { container, weather } => [
-            5,
-            u64::from(container.app.number()),
-            u64::from(container.number),
-            weather_number(weather),
-            0,
-            0,
-            0,
-        ],
+        } => of_launch(5, generation, task, node),
+        Event::Deliver { packet } => of_two(6, packet, 0),
+        Event::Duty {
+            generation,
+            weather,
+        } => of_two(7, u64::from(generation), weather_number(weather)),
+        Event::ContainerStep { container, weather } => {
+            of_container(8, container, weather_number(weather))
+        }
         Event::Computed {
             container,
             ref bytes,
-        } => [
-            6,
-            u64::from(container.app.number()),
-            u64::from(container.number),
-            bytes.len() as u64,
-            0,
-            0,
-            0,
-        ],
-        Event::Die { container } => [
-            7,
-            u64::from(container.app.number()),
-            u64::from(container.number),
-            0,
-            0,
-            0,
-            0,
-        ],
-        Event::NodeRestart { node } => [8, u64::from(node), 0, 0, 0, 0, 0],
-        Event::Expire { generation, node } => {
-            [9, u64::from(generation), u64::from(node), 0, 0, 0, 0]
-        }
+        } => of_container(9, container, bytes.len() as u64),
     }
+}
+
+// A kind and two numbers.
+fn of_two(kind: u64, first: u64, second: u64) -> [u64; 7]
+    ensures { result ≡ kind ∷ first ∷ second ∷ 0 ∷ 0 ∷ 0 ∷ 0 ∷ [] }
+{
+    [kind, first, second, 0, 0, 0, 0]
+}
+
+// A kind, a container, and one number more.
+fn of_container(kind: u64, container: ContainerId, more: u64) -> [u64; 7]
+    ensures { result ≡ kind ∷ container.app ∷ container.number ∷ more ∷ 0 ∷ 0 ∷ 0 ∷ [] }
+{
+    [
+        kind,
+        u64::from(container.app.number()),
+        u64::from(container.number),
+        more,
+        0,
+        0,
+        0,
+    ]
+}
+
+// A kind, and a task that is launched on a node.
+fn of_launch(kind: u64, generation: u32, task: TaskId, node: u32) -> [u64; 7]
+    ensures { result ≡ kind ∷ generation ∷ task.job.start ∷ task.job.number ∷ kind_number task.kind ∷ task.number ∷ node ∷ [] }
+{
+    [
+        kind,
+        u64::from(generation),
+        task.job.start,
+        u64::from(task.job.number),
+        kind_number(task.kind),
+        u64::from(task.number),
+        u64::from(node),
+    ]
 }
 
 // What was computed, if that is what happens.
@@ -141,9 +139,9 @@ fn weather_number(weather: Weather) -> u64
     ensures { result ≡ weather_number weather }
 {
     match weather {
-        Weather::Calm => 0,
-        Weather::Unavailable => 1,
-        Weather::Unanswered => 2,
+        Weather::Unavailable => 0,
+        Weather::Unanswered => 1,
+        Weather::Calm => 2,
     }
 }
 

@@ -1,3 +1,4 @@
 -- The runs of the tests.
 pub mod Counting
 pub mod Trials
+pub mod Trips

@@ -43,6 +43,13 @@ fn duty(weather: Weather) -> Event {
     }
 }
 
+fn crash() -> Event {
+    Event::Crash {
+        generation: 9,
+        kept: 9,
+    }
+}
+
 // Fewer events come first. Of as many, 9 comes before 10, and what follows is no matter.
 #[test]
 fn scripts_in_order(rt: HostRuntime) {
@@ -57,9 +64,10 @@ fn scripts_in_order(rt: HostRuntime) {
     );
     in_turn(rt, &[launch(1, 7)], &[launch(2, 0)]);
     in_turn(rt, &[launch(2, 0)], &[launch(2, 7)]);
-    in_turn(rt, &[duty(Weather::Calm)], &[duty(Weather::Unanswered)]);
-    in_turn(rt, &[duty(Weather::Unanswered)], &[launch(0, 0)]);
+    in_turn(rt, &[duty(Weather::Unanswered)], &[duty(Weather::Calm)]);
+    in_turn(rt, &[launch(9, 9)], &[duty(Weather::Unavailable)]);
     in_turn(rt, &[launch(9, 9)], &[deliver(0)]);
+    in_turn(rt, &[crash()], &[launch(0, 0)]);
     assert!(rt; !is_sooner(&[deliver(4)], &[deliver(4)]));
 }
 

@@ -1,4 +1,4 @@
-//! Tests of walks and searches over runs, of runs that are compared, and of the least scripts to their ends.
+//! Tests of walks and searches over runs, of runs that are compared or noted, and of the least scripts to their ends.
 #![tactic(auto)]
 
 mod counting;
@@ -7,7 +7,10 @@ mod least;
 #[cfg(test)]
 mod likeness;
 #[cfg(test)]
+mod noted;
+#[cfg(test)]
 mod places;
 #[cfg(test)]
 mod runs;
 mod trial;
+mod trip;

@@ -69,7 +69,7 @@ fn note_all(
     rt: &impl Abort,
     alloc: Global,
     least: &mut Vec<u64>,
-    mut search: Search<Trial>,
+    search: &mut Search<Trial>,
 ) -> u64 {
     for count in 0..1_000_000 {
         match search.next_run(alloc).expect(rt, "no run") {
@@ -113,24 +113,56 @@ fn note_parts(
     let mut count: u64 = 0;
     for part in parts {
         let fork = part.fork(alloc).expect(rt, "no part");
-        let search = Search::of_part(alloc, fork, bounds).expect(rt, "no search");
-        count = count.wrapping_add(note_all(rt, alloc, least, search));
+        let mut search = Search::of_part(alloc, fork, bounds).expect(rt, "no search");
+        count = count.wrapping_add(note_all(rt, alloc, least, &mut search));
     }
     count
 }
 
-// Whatever is kept, each end is found that has one, and its least script. So it is by parts.
+// The same, where one other search takes the parts, and keeps its places. Some parts it searches at once, others with those that come behind them.
+fn note_by_another(
+    rt: &impl Abort,
+    alloc: Global,
+    least: &mut Vec<u64>,
+    mut search: Search<Trial>,
+    bounds: Bounds,
+) -> u64 {
+    let mut other = Search::idle(alloc, bounds).expect(rt, "no search");
+    let mut count: u64 = 0;
+    for turn in 0..1_000_000_u64 {
+        match search.next_apart(alloc).expect(rt, "no run") {
+            Some(Next::Run(ended)) => {
+                note(least, &ended);
+                count = count.wrapping_add(1);
+            }
+            Some(Next::Part(part)) => {
+                other.take_part(part).expect(rt, "no memory");
+                if turn % 2 == 0 {
+                    count = count.wrapping_add(note_all(rt, alloc, least, &mut other));
+                }
+            }
+            None => return count.wrapping_add(note_all(rt, alloc, least, &mut other)),
+        }
+    }
+    panic!(rt; "too many runs")
+}
+
+// Whatever is kept, each end is found that has one, and its least script. So it is by parts, whoever searches them.
 fn finds_all(rt: &impl Abort, alloc: Global, faults: u32, rows: usize, meet: u64) {
     let (all, runs) = by_walk(rt, alloc, faults);
     let bounds = bounds(faults, rows, meet);
     let mut found = no_ends(rt, alloc);
-    let search = Search::new(alloc, first(), bounds).expect(rt, "no search");
-    assert!(rt; note_all(rt, alloc, &mut found, search) <= runs);
+    let mut search = Search::new(alloc, first(), bounds).expect(rt, "no search");
+    assert!(rt; note_all(rt, alloc, &mut found, &mut search) <= runs);
     assert!(rt; found.as_slice() == all.as_slice());
     let mut apart = no_ends(rt, alloc);
     let search = Search::new(alloc, first(), bounds).expect(rt, "no search");
     assert!(rt; note_by_parts(rt, alloc, &mut apart, search, bounds) <= runs);
     assert!(rt; apart.as_slice() == all.as_slice());
+    let mut shared = no_ends(rt, alloc);
+    let search = Search::new(alloc, first(), bounds).expect(rt, "no search");
+    assert!(rt; note_by_another(rt, alloc, &mut shared, search, bounds) <= runs);
+    assert!(rt; shared.as_slice() == all.as_slice());
 }
 
 #[test]
@@ -149,8 +181,8 @@ fn each_end_is_found(rt: HostRuntime) {
 // How many runs are found.
 fn runs_found(rt: &impl Abort, alloc: Global, rows: usize) -> u64 {
     let mut found = no_ends(rt, alloc);
-    let search = Search::new(alloc, first(), bounds(2, rows, 1)).expect(rt, "no search");
-    note_all(rt, alloc, &mut found, search)
+    let mut search = Search::new(alloc, first(), bounds(2, rows, 1)).expect(rt, "no search");
+    note_all(rt, alloc, &mut found, &mut search)
 }
 
 // Where no place is kept, all runs are found; else fewer.
@@ -161,9 +193,21 @@ fn runs_are_left_out(rt: HostRuntime) {
     assert!(rt; runs_found(rt, rt.alloc(), 64) < 100);
 }
 
-// Where a run passes a limit, that is told, and told again.
+// A part of a search: the faults along its first run.
+fn first_part(rt: &impl Abort, alloc: Global) -> Part<Trial, u32> {
+    let mut search = Search::new(alloc, first(), bounds(1, 4, 1)).expect(rt, "no search");
+    for _ in 0..2 {
+        if let Some(Next::Part(part)) = search.next_apart(alloc).expect(rt, "no run") {
+            return part;
+        }
+    }
+    panic!(rt; "no part")
+}
+
+// Where a run passes a limit, that is told, and told again. No part is taken then.
 #[test]
 fn limit_is_told(rt: HostRuntime) {
+    let rt = &rt;
     let alloc = rt.alloc();
     let run = Trial {
         at: 0,
@@ -171,9 +215,69 @@ fn limit_is_told(rt: HostRuntime) {
         size: 0,
         limit: 3,
     };
-    let mut search = Search::new(alloc, run, bounds(1, 4, 1)).expect(&rt, "no search");
+    let mut search = Search::new(alloc, run, bounds(1, 4, 1)).expect(rt, "no search");
     assert!(rt; matches!(search.next_run(alloc), Err(WalkFault::Full)));
     assert!(rt; matches!(search.next_run(alloc), Err(WalkFault::Full)));
+    let part = first_part(rt, alloc);
+    assert!(rt; matches!(search.take_part(part), Err(WalkFault::Full)));
+    assert!(rt; matches!(search.next_apart(alloc), Err(WalkFault::Full)));
+}
+
+// A search that has nothing before it finds nothing.
+#[test]
+fn idle_search_finds_nothing(rt: HostRuntime) {
+    let rt = &rt;
+    let alloc = rt.alloc();
+    let mut search: Search<Trial> = Search::idle(alloc, bounds(2, 4, 1)).expect(rt, "no search");
+    assert!(rt; search.next_run(alloc).expect(rt, "no run").is_none());
+    assert!(rt; search.next_apart(alloc).expect(rt, "no run").is_none());
+}
+
+// The least script to each end, as a search notes it that takes all parts of another one, or why there was none.
+fn by_two(alloc: Global, bounds: Bounds) -> Result<Vec<u64>, WalkFault> {
+    let mut least = Vec::new(alloc);
+    for _ in 0..11 {
+        least.push(NEVER)?;
+    }
+    let mut search = Search::new(alloc, first(), bounds)?;
+    let mut other = Search::idle(alloc, bounds)?;
+    for _ in 0..1_000_000 {
+        match search.next_apart(alloc)? {
+            Some(Next::Run(ended)) => note(&mut least, &ended),
+            Some(Next::Part(part)) => other.take_part(part)?,
+            None => return with_rest(alloc, least, other),
+        }
+    }
+    Err(WalkFault::Mismatch)
+}
+
+// The same, and what this search finds.
+fn with_rest(
+    alloc: Global,
+    mut least: Vec<u64>,
+    mut search: Search<Trial>,
+) -> Result<Vec<u64>, WalkFault> {
+    for _ in 0..1_000_000 {
+        match search.next_run(alloc)? {
+            Some(ended) => note(&mut least, &ended),
+            None => return Ok(least),
+        }
+    }
+    Err(WalkFault::Mismatch)
+}
+
+// The least script to each end by two faults at most, as another program finds it that makes all runs.
+const LEAST: [u64; 11] = [
+    4, 1_005, 2_006, 1_005, 2_006, 1_006, 2_005, NEVER, 2_007, 2_007, 2_008,
+];
+
+// Where memory is refused, that is told, and nothing else is. (To be run with each allocation refused in turn.)
+#[test]
+fn refused_memory_is_told(rt: HostRuntime) {
+    match by_two(rt.alloc(), bounds(2, 8, 3)) {
+        Ok(least) => assert!(rt; least.as_slice() == LEAST.as_slice()),
+        Err(fault) => assert!(rt; fault == WalkFault::NoMemory),
+    }
 }
 
 // A run that is not at its end behind as many steps as are told is a mismatch.

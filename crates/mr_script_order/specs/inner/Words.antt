@@ -6,16 +6,16 @@ use Rattle.mr_script_order.specs.Order.{kind_number, weather_number}
 
 -- the numbers before computed bytes, seven with zeros behind them
 abbrev pub words : Event → List ℕ
-words (Start generation kept) = 0 ∷ generation ∷ kept ∷ 0 ∷ 0 ∷ 0 ∷ 0 ∷ []
-words (Crash generation kept) = 1 ∷ generation ∷ kept ∷ 0 ∷ 0 ∷ 0 ∷ 0 ∷ []
-words (Duty generation weather) = 2 ∷ generation ∷ weather_number weather ∷ 0 ∷ 0 ∷ 0 ∷ 0 ∷ []
-words (LaunchOn generation task node) = 3 ∷ generation ∷ task.job.start ∷ task.job.number ∷ kind_number task.kind ∷ task.number ∷ node ∷ []
-words (Deliver packet) = 4 ∷ packet ∷ 0 ∷ 0 ∷ 0 ∷ 0 ∷ 0 ∷ []
-words (ContainerStep c weather) = 5 ∷ c.app ∷ c.number ∷ weather_number weather ∷ 0 ∷ 0 ∷ 0 ∷ []
-words (Computed c bytes) = 6 ∷ c.app ∷ c.number ∷ length bytes ∷ 0 ∷ 0 ∷ 0 ∷ []
-words (Die c) = 7 ∷ c.app ∷ c.number ∷ 0 ∷ 0 ∷ 0 ∷ 0 ∷ []
-words (NodeRestart node) = 8 ∷ node ∷ 0 ∷ 0 ∷ 0 ∷ 0 ∷ 0 ∷ []
-words (Expire generation node) = 9 ∷ generation ∷ node ∷ 0 ∷ 0 ∷ 0 ∷ 0 ∷ []
+words (Crash generation kept) = 0 ∷ generation ∷ kept ∷ 0 ∷ 0 ∷ 0 ∷ 0 ∷ []
+words (Start generation kept) = 1 ∷ generation ∷ kept ∷ 0 ∷ 0 ∷ 0 ∷ 0 ∷ []
+words (Die c) = 2 ∷ c.app ∷ c.number ∷ 0 ∷ 0 ∷ 0 ∷ 0 ∷ []
+words (NodeRestart node) = 3 ∷ node ∷ 0 ∷ 0 ∷ 0 ∷ 0 ∷ 0 ∷ []
+words (Expire generation node) = 4 ∷ generation ∷ node ∷ 0 ∷ 0 ∷ 0 ∷ 0 ∷ []
+words (LaunchOn generation task node) = 5 ∷ generation ∷ task.job.start ∷ task.job.number ∷ kind_number task.kind ∷ task.number ∷ node ∷ []
+words (Deliver packet) = 6 ∷ packet ∷ 0 ∷ 0 ∷ 0 ∷ 0 ∷ 0 ∷ []
+words (Duty generation weather) = 7 ∷ generation ∷ weather_number weather ∷ 0 ∷ 0 ∷ 0 ∷ 0 ∷ []
+words (ContainerStep c weather) = 8 ∷ c.app ∷ c.number ∷ weather_number weather ∷ 0 ∷ 0 ∷ 0 ∷ []
+words (Computed c bytes) = 9 ∷ c.app ∷ c.number ∷ length bytes ∷ 0 ∷ 0 ∷ 0 ∷ []
 
 -- what was computed
 abbrev pub bytes_of : Event → List ℕ

@@ -1,0 +1,18 @@
+//! Laws of the definitions: these functions do nothing.
+ghost use Rattle.mr_explore_merged.specs.Laws.{MergedOrRefused, OneTextIsPrinted};
+
+use mr_explore::explored_or_refused;
+use mr_sim_commands::one_seq_text;
+
+/// Of an input of which no run comes near a limit one text is printed at most.
+pub fn one_merged_text()
+    ensures { OneTextIsPrinted }
+{
+    one_seq_text();
+    explored_or_refused();
+}
+
+/// Nothing is printed of an input whose job text or script is refused.
+pub fn merged_or_refused()
+    ensures { MergedOrRefused }
+{}

@@ -1,0 +1,51 @@
+//! Each end of all runs of an input with few faults, and its least script.
+//!
+//! It is what `explore --merge` would print: runs that go on alike are made once. No program uses it yet.
+//!
+//! # What is proved
+//!
+//! - **What is printed** (`merged_output`, for every input): exactly the text of the definitions (`PrintsMerged` of `specs/Merged`), byte
+//!   for byte. Each row is of a run of the definition with at most as many faults as are asked for. Each such run of which no look-ahead passes a limit has a
+//!   row with its end, and does not come before that row's run. The rows rise.
+//! - **Where an end is sought** the text tells the least number of faults with which it is met (`AreEnough`).
+//! - **Each script leads to the end beside it**, by `play`'s own definition (`LeadToEnds`).
+//! - Of an input of which no run comes near a limit one text is printed (`one_merged_text`).
+//! - Nothing is printed of an input that is refused (`merged_or_refused`).
+//!
+//! Only tried: that fewer runs are made than there are.
+//!
+//! # Choices
+//!
+//! - **A run is left out** where another one was made that is like it and earlier: it has fewer faults, or as many, and its script comes before
+//!   (mr_explore_compared, mr_explore_places).
+//! - **What is kept**: 4,096 rows of four places from which something may depart, and as many of runs that depart no more, where their script has a
+//!   multiple of 32 events. Other numbers change how long it takes, and nothing else.
+//! - **A place holds a whole run.** The number of rows does not look at how large that is: behind a script that starts 1,000 masters a search by one fault
+//!   took 6.4 GB.
+//! - **A goal** is sought by 0 faults, then by 1, and so on. A job with one split has 1, 1,148 and 847,413 runs with at most 0, 1 and 2 faults, so the
+//!   earlier searches cost little.
+//! - **A run that a limit ends** is told as of `explore`: the ends are then `not` those `of all runs`.
+//!
+//! # How it is proved
+//!
+//! - **`MergedRun` hands each call on** to a `Compared`. It is there since neither that type nor the trait `NotedRun` is this crate's.
+//! - **`proofs/LeastTold` is of any runs**: it leads from the runs that a table tells of (`Tells` of mr_explore_noted) to what its rows tell of all runs
+//!   (`AreLeast` of `specs/Least`). A found run that is void has no row, so `proofs/Alive` shows first that what was made and found is enough without such.
+//! - **`proofs/Found` is of an exploration's runs.** `each_end_is_found` of mr_explore_places does not serve here: near a limit a run may not go on as one
+//!   that is like it does. `no_careful_end_is_lost` of mr_explore_likeness speaks of the runs of which no look ahead passes a limit.
+//! - **Runs with the same events come to one end** (`proofs/Configs`), since a run keeps its config.
+//! - **`JournalMismatch` has no reason** in `MergedFails`: a script that is played leads to the end beside it, or is refused, and that it is not refused is
+//!   not proved. mr_explore leaves it open likewise.
+#![tactic(auto)]
+
+mod finding;
+mod laws;
+mod output;
+mod question;
+mod run;
+mod searching;
+mod watching;
+
+pub use laws::{merged_or_refused, one_merged_text};
+pub use output::merged_output;
+pub use question::Question;

@@ -1,0 +1,105 @@
+//! The output of `explore --merge`.
+
+ghost use Rattle.std.specs.Prelude.{◌≡◌, true, IfOk, IfErr, OnOk};
+ghost use Rattle.std.specs.List.{AllByRecursion};
+ghost use Rattle.std.specs.Option.{option_map};
+ghost use Rattle.mr_explore.specs.Checks.{IsUnchecked};
+ghost use Rattle.mr_explore.specs.Ends.{LeadsTo};
+ghost use Rattle.mr_script_writer.specs.Repeating.{repeating};
+ghost use Rattle.mr_explore_merged.specs.Merged.{IsFoundOf, LeadToEnds, MergedFails, PrintsMerged, sought, told_text};
+
+use crate::finding::{LeastFound, found};
+use crate::question::Question;
+use mr_explore::{Form, Watch, check_script, sequential_of};
+use mr_explore_ends::Sequential;
+use mr_explore_least::{Least, LeastTable, put_least, put_least_lines};
+use mr_script::Expectation;
+use mr_script_writer::put_script;
+use mr_sim_commands::{Printed, SimFault};
+use std::alloc::{AllocError, Global};
+
+/// What `explore --merge` prints of an input, which is a job text and a script behind it: each end of all runs of the input with at most
+/// `asked.faults` faults, and the least script to it. Where an end is sought, runs with more faults than it needs are not asked for.
+///
+/// The first bad key of the job text is told (`Job`), else the first bad line of the script (`BadCommand`). Else `Full` is told where the script,
+/// the start of the first master, or one of these runs would pass a limit of the world. `NoMemory` may come at any input. `JournalMismatch` would
+/// come where a script led to another end.
+pub fn merged_output<W: Watch>(
+    alloc: Global,
+    input: &[u8],
+    asked: &Question<'_>,
+    watch: &W,
+) -> Result<Printed, SimFault>
+    ensures ok { IfOk result (λ v. PrintsMerged asked.now input.now v.text.items) }
+    ensures met { IfOk result (λ v. v.met ≡ true) }
+    ensures fault { IfErr result (MergedFails asked.now.faults input.now) }
+{
+    let least = found(alloc, input, asked, watch)?;
+    merged_text(alloc, input, &least, asked)
+}
+
+// What is printed of what was found. Each script was played before, and led to its end.
+fn merged_text(
+    alloc: Global,
+    input: &[u8],
+    found: &LeastFound,
+    asked: &Question<'_>,
+) -> Result<Printed, SimFault>
+    requires { IsFoundOf asked.now.faults (sought asked.now) input.now found.now.faults found.now.table }
+    ensures ok { IfOk result (λ v. PrintsMerged asked.now input.now v.text.items) }
+    ensures met { IfOk result (λ v. v.met ≡ true) }
+    ensures fault { IfErr result (MergedFails asked.now.faults input.now) }
+{
+    check_table(alloc, input, &found.table)?;
+    let (sequential, idle_keys) = sequential_of(alloc, input)?;
+    let text = told(alloc, found, &sequential, asked.goal, asked.form)?;
+    Ok(Printed::plain(alloc, text, idle_keys))
+}
+
+// Each script leads to the end that it stands beside.
+fn check_table(alloc: Global, input: &[u8], table: &LeastTable) -> Result<(), SimFault>
+    ensures lead { OnOk result (LeadToEnds input.now table.now.rows) }
+    ensures fault { IfErr result IsUnchecked }
+{
+    check_rows(alloc, input, table.rows())
+}
+
+// The same, of rows.
+fn check_rows(alloc: Global, input: &[u8], rows: &[Least]) -> Result<(), SimFault>
+    ensures lead { OnOk result (AllByRecursion (λ row. LeadsTo input.now (repeating row.events.items) row.end) rows.now) }
+    ensures fault { IfErr result IsUnchecked }
+{
+    for row in rows {
+        check_row(alloc, input, row)?;
+    }
+    Ok(())
+}
+
+fn check_row(alloc: Global, input: &[u8], row: &Least) -> Result<(), SimFault>
+    ensures leads { OnOk result (LeadsTo input.now (repeating row.now.events.items) row.now.end) }
+    ensures fault { IfErr result IsUnchecked }
+{
+    let mut script = Vec::new(alloc);
+    put_script(&mut script, &row.events)?;
+    check_script(alloc, input, &script, &row.end)
+}
+
+// What was found, in this form.
+fn told(
+    alloc: Global,
+    found: &LeastFound,
+    sequential: &Sequential,
+    goal: Option<&[Expectation]>,
+    form: Form,
+) -> Result<Vec<u8>, AllocError>
+    ensures { IfOk result (λ text. text.items ≡ told_text form sequential.now (option_map (λ g. g.now) goal.entry) found.now.faults found.now.table) }
+{
+    let mut text = Vec::new(alloc);
+    let table = &found.table;
+    let faults = found.faults;
+    match form {
+        Form::Text => put_least(&mut text, alloc, table, faults, sequential, goal)?,
+        Form::Json => put_least_lines(&mut text, alloc, table, faults, sequential, goal)?,
+    }
+    Ok(text)
+}

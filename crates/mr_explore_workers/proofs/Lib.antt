@@ -1,0 +1,4 @@
+pub mod Sharing
+pub mod Dividing
+pub mod Bounding
+pub mod Searching
