@@ -3,7 +3,7 @@ use Rattle.std.specs.Prelude.{ℕ, List}
 use Rattle.mr_sim_commands.specs.declared.fault.SimFault.{SimFault}
 use Rattle.mr_sim_commands.specs.declared.fault.SimFault.TheVariants.{NoMemory, Read, Write, TooLong, BadCommand, BadRecord, Job, Refused, Full, JobFailed, TurnsSpent, JournalMismatch, Thread}
 use Rattle.mr_sim.specs.declared.subcommand.Command.{Command}
-use Rattle.mr_sim.specs.declared.subcommand.Command.TheVariants.{Threads, ThreadsSeen, Explore}
+use Rattle.mr_sim.specs.declared.subcommand.Command.TheVariants.{Threads, ThreadsSeen, Explore, ExploreMerged}
 use Rattle.mr_explore.specs.Exploring.{IsTimed}
 use Rattle.mr_sim.specs.Printed.{IsWithin, Prints, Refuses}
 
@@ -13,18 +13,21 @@ RunsThreads (Threads turns hold) = Unit {0}
 RunsThreads (ThreadsSeen turns hold seen) = Unit {0}
 RunsThreads _ = ⊥
 
--- threads run a job; or runs are made for a time, which may pass before one that would pass a limit
-abbrev pub DependsOnTime : Command → Type 0
-DependsOnTime (Threads turns hold) = Unit {0}
-DependsOnTime (ThreadsSeen turns hold seen) = Unit {0}
-DependsOnTime (Explore asked progress jobs) = IsTimed asked.seconds
-DependsOnTime _ = ⊥
+-- Where there is a text, a limit may be told instead: threads run a job; or runs are made for a time, which may pass before one that would pass a limit; or
+-- runs are left out, of which one would pass a limit.
+abbrev pub NeedNotBeFull : Command → Type 0
+NeedNotBeFull (Threads turns hold) = Unit {0}
+NeedNotBeFull (ThreadsSeen turns hold seen) = Unit {0}
+NeedNotBeFull (Explore asked progress jobs) = IsTimed asked.seconds
+NeedNotBeFull (ExploreMerged asked progress jobs) = Unit {0}
+NeedNotBeFull _ = ⊥
 
 -- the events of runs are made once more
 abbrev pub MakesRunsAgain : Command → Type 0
 MakesRunsAgain (Threads turns hold) = Unit {0}
 MakesRunsAgain (ThreadsSeen turns hold seen) = Unit {0}
 MakesRunsAgain (Explore asked progress jobs) = Unit {0}
+MakesRunsAgain (ExploreMerged asked progress jobs) = Unit {0}
 MakesRunsAgain _ = ⊥
 
 -- A fault that is not of the input itself. Where threads run a job, it depends on the schedule whether it fails, and whether there is a run.
@@ -37,7 +40,7 @@ IsOutside command (BadCommand n) = ⊥
 IsOutside command (BadRecord n) = ⊥
 IsOutside command (Job e) = ⊥
 IsOutside command Refused = ⊥
-IsOutside command Full = DependsOnTime command
+IsOutside command Full = NeedNotBeFull command
 IsOutside command JobFailed = RunsThreads command
 IsOutside command TurnsSpent = RunsThreads command
 IsOutside command JournalMismatch = MakesRunsAgain command
