@@ -11,3 +11,4 @@ pub mod Attending
 pub mod Addressees
 pub mod Asking
 pub mod Compared
+pub mod Sharing

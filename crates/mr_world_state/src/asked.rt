@@ -9,6 +9,7 @@ ghost use Rattle.mr_world_stores.specs.Calls.{answer_of};
 use crate::duty::Due;
 use crate::fault::WorldFault;
 use crate::parts::Parts;
+use crate::shared::Shared;
 use mr_container::Reply;
 use mr_ids::AppAttempt;
 use mr_master_model::{StoreAnswer, StoreCall};
@@ -82,7 +83,11 @@ impl Parts {
 }
 
 // A container's call, with what it hears in this weather.
-fn heard(names: &Namespace, call: ContainerCall, weather: Weather) -> Result<Asked, AllocError>
+fn heard(
+    names: &Shared<Namespace>,
+    call: ContainerCall,
+    weather: Weather,
+) -> Result<Asked, AllocError>
     ensures { IfOk result (λ asked. asked ≡ Asked.Container call.caller call.op (heard_in weather (answer_of names.now call).0)) }
 {
     let reply = match weather {

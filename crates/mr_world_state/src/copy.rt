@@ -8,6 +8,7 @@ ghost use Rattle.mr_world_state.specs.inner.Masters.{AreCopied};
 
 use crate::masters::Masters;
 use crate::parts::Parts;
+use crate::shared::Shared;
 use mr_history::History;
 use mr_names::Namespace;
 use mr_packet::Bag;
@@ -17,8 +18,8 @@ use std::alloc::AllocError;
 // The stores and the bag.
 #[derive(Drop)]
 struct Stores {
-    names: Namespace,
-    history: History,
+    names: Shared<Namespace>,
+    history: Shared<History>,
     bag: Bag,
 }
 
@@ -37,8 +38,8 @@ impl Parts {
         ensures history { IfOk result (λ parts. parts.history ≡ self.now.history) }
         ensures stands { IfOk result (λ parts. (w : World) → Standing self.now w → Standing parts w) }
     {
-        let config = self.config.copy()?;
-        let layout = self.layout.copy()?;
+        let config = self.config.share()?;
+        let layout = self.layout.share()?;
         let stores = self.copy_stores()?;
         let machines = self.copy_machines()?;
         Ok(Parts {
@@ -60,8 +61,8 @@ impl Parts {
         ensures bag { IfOk result (λ stores. stores.bag.packets ≡ self.now.bag.packets) }
     {
         Ok(Stores {
-            names: self.names.copy()?,
-            history: self.history.copy()?,
+            names: self.names.share()?,
+            history: self.history.share()?,
             bag: self.bag.copy()?,
         })
     }

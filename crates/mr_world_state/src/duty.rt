@@ -12,6 +12,7 @@ use crate::fault::WorldFault;
 use crate::foretell::foretell;
 use crate::next_call::next_call;
 use crate::parts::Parts;
+use crate::shared::Shared;
 use mr_history::History;
 use mr_ids::AppAttempt;
 use mr_master::{Duty as StoreDuty, MasterMachine};
@@ -86,8 +87,8 @@ impl Parts {
 
 // The duty of the master with this machine and this generation, if it has one, and no store is full.
 fn find_duty(
-    names: &Namespace,
-    history: &History,
+    names: &Shared<Namespace>,
+    history: &Shared<History>,
     machine: &MasterMachine,
     app: AppAttempt,
     weather: Weather,

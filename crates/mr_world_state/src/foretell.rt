@@ -6,6 +6,7 @@ ghost use Rattle.mr_world_state.specs.inner.Asking.{answer_to, passes, IsRanged}
 ghost use Rattle.mr_world_state.specs.Standing.{Refuses};
 
 use crate::fault::WorldFault;
+use crate::shared::Shared;
 use mr_history::History;
 use mr_ids::AppAttempt;
 use mr_master_model::{StoreAnswer, StoreCall};
@@ -16,8 +17,8 @@ use mr_world_stores::{finds_full, is_made, master_answer, tell_ranges};
 /// What a master will be told of its store call in this weather. Refused `Full` where the call is made and finds a store
 /// full.
 pub fn foretell(
-    names: &Namespace,
-    history: &History,
+    names: &Shared<Namespace>,
+    history: &Shared<History>,
     app: AppAttempt,
     call: &StoreCall,
     weather: Weather,

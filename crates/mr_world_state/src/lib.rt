@@ -60,6 +60,7 @@ mod restart;
 mod room;
 mod same;
 mod send;
+mod shared;
 mod start;
 mod step;
 
@@ -70,3 +71,4 @@ pub use limits::MAX_CONTAINERS;
 pub use masters::Masters;
 pub use mr_master;
 pub use parts::Parts;
+pub use shared::Shared;

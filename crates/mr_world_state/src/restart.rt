@@ -42,9 +42,9 @@ impl Parts {
         if incarnation == u32::MAX {
             return Err(WorldFault::Full);
         }
-        let newest = self.names.fence();
+        let newest = self.fence();
         self.check_room(self.masters.count_alive(newest))?;
-        let alloc = self.layout.dest.allocator();
+        let alloc = self.allocator();
         let packets = self
             .masters
             .told_of_node(alloc, newest, n, incarnation + 1)?;
