@@ -1,6 +1,6 @@
 //! Each end of all runs of an input with few faults, and its least script.
 //!
-//! It is what `explore --merge` would print: runs that go on alike are made once. No program uses it yet.
+//! It is what an option `--merge` of `explore` would print: runs that go on alike are made once. No program has that option yet.
 //!
 //! # What is proved
 //!
@@ -12,7 +12,8 @@
 //! - Of an input of which no run comes near a limit one text is printed (`one_merged_text`).
 //! - Nothing is printed of an input that is refused (`merged_or_refused`).
 //!
-//! Only tried: that fewer runs are made than there are.
+//! Neither proved nor tested yet: that it succeeds where there is memory, that fewer runs are made than there are, and that `not` is told wherever a run would
+//! pass a limit (where it is told, one would).
 //!
 //! # Choices
 //!
@@ -24,7 +25,7 @@
 //!   took 6.4 GB.
 //! - **A goal** is sought by 0 faults, then by 1, and so on. A job with one split has 1, 1,148 and 847,413 runs with at most 0, 1 and 2 faults, so the
 //!   earlier searches cost little.
-//! - **A run that a limit ends** is told as of `explore`: the ends are then `not` those `of all runs`.
+//! - **A run that a limit ends** is told as of `explore`, where one was found: the ends are then `not` those `of all runs`.
 //!
 //! # How it is proved
 //!
